@@ -1,0 +1,6 @@
+//! The commands: from the words of a command line, the files of a depot to the text on a sink.
+#![tactic(auto)]
+
+mod status;
+
+pub use status::{InputFault, OverFault, Status};

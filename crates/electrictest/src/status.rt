@@ -1,0 +1,63 @@
+//! How a command ended.
+
+ghost use Rattle.std.specs.Prelude.{◌≡◌};
+ghost use Rattle.electrictest.specs.Codes.{code_of};
+
+use et_base::{Items, Text};
+
+/// How a command ended.
+#[derive(Debug, Drop)]
+pub enum Status {
+    /// The text was written, and each test that ran passed.
+    Done,
+    /// The text was written; a test did not pass.
+    NotPassed,
+    /// The words are in no form.
+    Words,
+    /// The input was refused.
+    Input(InputFault),
+    /// Memory was refused; nothing was written.
+    NoMemory,
+    /// The depot failed at the file of this name.
+    Depot { name: Text },
+    /// The sink failed; a prefix of the text was written.
+    Sink,
+    /// A test or the suite passed its number of units.
+    Over(OverFault),
+}
+
+/// Why the input was refused.
+#[derive(Debug, Drop)]
+pub enum InputFault {
+    /// The depot has no file of this name.
+    Absent { name: Text },
+    /// The file of this name is in a form that isn't served yet.
+    NotYet { name: Text },
+}
+
+/// Which number of units was passed.
+#[derive(Debug, Drop)]
+pub enum OverFault {
+    /// The test passed its budget, which is given; the list is empty unless workers ran other tests before it.
+    OverBudget { name: Text, budget: u64, list: Items<u32> },
+    /// The test passed what was left of the whole suite's units.
+    OverSuite { name: Text },
+}
+
+impl Status {
+    /// The exit status of a process that ends so.
+    pub fn code(&self) -> u8
+        ensures { result ≡ code_of self.now }
+    {
+        match self {
+            Status::Done => 0,
+            Status::NotPassed => 1,
+            Status::Words => 2,
+            Status::Input(_) => 3,
+            Status::NoMemory => 4,
+            Status::Depot { .. } => 5,
+            Status::Sink => 6,
+            Status::Over(_) => 7,
+        }
+    }
+}
