@@ -1,0 +1,2 @@
+pub mod Utf
+pub mod UtfReading
