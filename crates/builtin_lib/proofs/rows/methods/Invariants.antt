@@ -1,0 +1,6 @@
+use Rattle.std.proofs.Common.{◌≡◌, take, map}
+use Rattle.builtin_lib.specs.Rows.{method_of}
+use Rattle.builtin_lib.proofs.rows.methods.Given as goal
+
+abbrev pub invariant-loop-row : goal.invariant-loop-row
+invariant-loop-row l = l.made.items ≡ map method_of (take l.row-index l.rows)

@@ -1,0 +1,36 @@
+//! The built-in classes: those of the Java library that the machine serves, and `electric/Files` and `electric/Env`.
+#![tactic(auto)]
+
+ghost use Rattle.std.specs.Prelude.{◌≡◌, IfOk};
+ghost use Rattle.builtin_lib.specs.Table.{builtin_classes};
+ghost use Rattle.builtin_lib.specs.Rows.{native_among};
+
+mod rows;
+mod tables;
+
+use et_base::{Items, NoMemory, Units};
+use jvm_model::{ClassDef, Native};
+use std::alloc::Global;
+use tables::CLASSES;
+
+/// The built-in classes with their fields and methods, each after its superclass.
+#[tactic(auto, unfolding(crate::specs::Table::builtin_classes))]
+pub fn builtins(alloc: Global) -> Result<Items<ClassDef>, NoMemory>
+    ensures { IfOk result (λ classes. classes ≡ builtin_classes) }
+{
+    rows::classes(alloc, &CLASSES)
+}
+
+/// The built-in method of a class, name and descriptor, `None` exactly where the built-in classes lack it. It takes no
+/// memory.
+#[tactic(auto, unfolding(crate::specs::Table::builtin_classes))]
+pub fn native_of(class: &Units, name: &Units, descriptor: &Units) -> Option<Native>
+    ensures { result ≡ native_among builtin_classes class.now name.now descriptor.now }
+{
+    rows::class_native(
+        &CLASSES,
+        class.as_slice(),
+        name.as_slice(),
+        descriptor.as_slice(),
+    )
+}

@@ -1,0 +1,633 @@
+//! The built-in classes as tables.
+
+use crate::rows::{ClassRow, FieldRow, MethodRow};
+use jvm_model::{Native, Value};
+
+const PUBLIC: u16 = 0x0001;
+
+const PRIVATE: u16 = 0x0002;
+
+const STATIC: u16 = 0x0009;
+
+const ABSTRACT: u16 = 0x0401;
+
+const OBJECT_METHODS: [MethodRow; 3] = [
+    MethodRow {
+        name: b"<init>",
+        descriptor: b"()V",
+        flags: PUBLIC,
+        native: Native::ObjectInit,
+    },
+    MethodRow {
+        name: b"equals",
+        descriptor: b"(Ljava/lang/Object;)Z",
+        flags: PUBLIC,
+        native: Native::ObjectEquals,
+    },
+    MethodRow {
+        name: b"hashCode",
+        descriptor: b"()I",
+        flags: PUBLIC,
+        native: Native::ObjectHashCode,
+    },
+];
+
+const STRING_METHODS: [MethodRow; 13] = [
+    MethodRow {
+        name: b"length",
+        descriptor: b"()I",
+        flags: PUBLIC,
+        native: Native::StringLength,
+    },
+    MethodRow {
+        name: b"isEmpty",
+        descriptor: b"()Z",
+        flags: PUBLIC,
+        native: Native::StringIsEmpty,
+    },
+    MethodRow {
+        name: b"charAt",
+        descriptor: b"(I)C",
+        flags: PUBLIC,
+        native: Native::StringCharAt,
+    },
+    MethodRow {
+        name: b"equals",
+        descriptor: b"(Ljava/lang/Object;)Z",
+        flags: PUBLIC,
+        native: Native::StringEquals,
+    },
+    MethodRow {
+        name: b"hashCode",
+        descriptor: b"()I",
+        flags: PUBLIC,
+        native: Native::StringHashCode,
+    },
+    MethodRow {
+        name: b"substring",
+        descriptor: b"(I)Ljava/lang/String;",
+        flags: PUBLIC,
+        native: Native::StringSubstringFrom,
+    },
+    MethodRow {
+        name: b"substring",
+        descriptor: b"(II)Ljava/lang/String;",
+        flags: PUBLIC,
+        native: Native::StringSubstring,
+    },
+    MethodRow {
+        name: b"concat",
+        descriptor: b"(Ljava/lang/String;)Ljava/lang/String;",
+        flags: PUBLIC,
+        native: Native::StringConcat,
+    },
+    MethodRow {
+        name: b"toString",
+        descriptor: b"()Ljava/lang/String;",
+        flags: PUBLIC,
+        native: Native::StringToString,
+    },
+    MethodRow {
+        name: b"valueOf",
+        descriptor: b"(I)Ljava/lang/String;",
+        flags: STATIC,
+        native: Native::StringOfInt,
+    },
+    MethodRow {
+        name: b"valueOf",
+        descriptor: b"(J)Ljava/lang/String;",
+        flags: STATIC,
+        native: Native::StringOfLong,
+    },
+    MethodRow {
+        name: b"valueOf",
+        descriptor: b"(Z)Ljava/lang/String;",
+        flags: STATIC,
+        native: Native::StringOfBoolean,
+    },
+    MethodRow {
+        name: b"valueOf",
+        descriptor: b"(C)Ljava/lang/String;",
+        flags: STATIC,
+        native: Native::StringOfChar,
+    },
+];
+
+const STRING_BUILDER_METHODS: [MethodRow; 9] = [
+    MethodRow {
+        name: b"<init>",
+        descriptor: b"()V",
+        flags: PUBLIC,
+        native: Native::BuilderInit,
+    },
+    MethodRow {
+        name: b"<init>",
+        descriptor: b"(Ljava/lang/String;)V",
+        flags: PUBLIC,
+        native: Native::BuilderInitString,
+    },
+    MethodRow {
+        name: b"append",
+        descriptor: b"(Ljava/lang/String;)Ljava/lang/StringBuilder;",
+        flags: PUBLIC,
+        native: Native::BuilderAppendString,
+    },
+    MethodRow {
+        name: b"append",
+        descriptor: b"(I)Ljava/lang/StringBuilder;",
+        flags: PUBLIC,
+        native: Native::BuilderAppendInt,
+    },
+    MethodRow {
+        name: b"append",
+        descriptor: b"(J)Ljava/lang/StringBuilder;",
+        flags: PUBLIC,
+        native: Native::BuilderAppendLong,
+    },
+    MethodRow {
+        name: b"append",
+        descriptor: b"(Z)Ljava/lang/StringBuilder;",
+        flags: PUBLIC,
+        native: Native::BuilderAppendBoolean,
+    },
+    MethodRow {
+        name: b"append",
+        descriptor: b"(C)Ljava/lang/StringBuilder;",
+        flags: PUBLIC,
+        native: Native::BuilderAppendChar,
+    },
+    MethodRow {
+        name: b"length",
+        descriptor: b"()I",
+        flags: PUBLIC,
+        native: Native::BuilderLength,
+    },
+    MethodRow {
+        name: b"toString",
+        descriptor: b"()Ljava/lang/String;",
+        flags: PUBLIC,
+        native: Native::BuilderToString,
+    },
+];
+
+const SYSTEM_METHODS: [MethodRow; 4] = [
+    MethodRow {
+        name: b"currentTimeMillis",
+        descriptor: b"()J",
+        flags: STATIC,
+        native: Native::SystemClock,
+    },
+    MethodRow {
+        name: b"getProperty",
+        descriptor: b"(Ljava/lang/String;)Ljava/lang/String;",
+        flags: STATIC,
+        native: Native::SystemGetProperty,
+    },
+    MethodRow {
+        name: b"setProperty",
+        descriptor: b"(Ljava/lang/String;Ljava/lang/String;)Ljava/lang/String;",
+        flags: STATIC,
+        native: Native::SystemSetProperty,
+    },
+    MethodRow {
+        name: b"clearProperty",
+        descriptor: b"(Ljava/lang/String;)Ljava/lang/String;",
+        flags: STATIC,
+        native: Native::SystemClearProperty,
+    },
+];
+
+const PRINT_STREAM_METHODS: [MethodRow; 11] = [
+    MethodRow {
+        name: b"print",
+        descriptor: b"(Ljava/lang/String;)V",
+        flags: PUBLIC,
+        native: Native::PrintString,
+    },
+    MethodRow {
+        name: b"print",
+        descriptor: b"(I)V",
+        flags: PUBLIC,
+        native: Native::PrintInt,
+    },
+    MethodRow {
+        name: b"print",
+        descriptor: b"(J)V",
+        flags: PUBLIC,
+        native: Native::PrintLong,
+    },
+    MethodRow {
+        name: b"print",
+        descriptor: b"(Z)V",
+        flags: PUBLIC,
+        native: Native::PrintBoolean,
+    },
+    MethodRow {
+        name: b"print",
+        descriptor: b"(C)V",
+        flags: PUBLIC,
+        native: Native::PrintChar,
+    },
+    MethodRow {
+        name: b"println",
+        descriptor: b"(Ljava/lang/String;)V",
+        flags: PUBLIC,
+        native: Native::PrintlnString,
+    },
+    MethodRow {
+        name: b"println",
+        descriptor: b"(I)V",
+        flags: PUBLIC,
+        native: Native::PrintlnInt,
+    },
+    MethodRow {
+        name: b"println",
+        descriptor: b"(J)V",
+        flags: PUBLIC,
+        native: Native::PrintlnLong,
+    },
+    MethodRow {
+        name: b"println",
+        descriptor: b"(Z)V",
+        flags: PUBLIC,
+        native: Native::PrintlnBoolean,
+    },
+    MethodRow {
+        name: b"println",
+        descriptor: b"(C)V",
+        flags: PUBLIC,
+        native: Native::PrintlnChar,
+    },
+    MethodRow {
+        name: b"println",
+        descriptor: b"()V",
+        flags: PUBLIC,
+        native: Native::Println,
+    },
+];
+
+const FILES_METHODS: [MethodRow; 5] = [
+    MethodRow {
+        name: b"read",
+        descriptor: b"(Ljava/lang/String;)Ljava/lang/String;",
+        flags: STATIC,
+        native: Native::FilesRead,
+    },
+    MethodRow {
+        name: b"write",
+        descriptor: b"(Ljava/lang/String;Ljava/lang/String;)V",
+        flags: STATIC,
+        native: Native::FilesWrite,
+    },
+    MethodRow {
+        name: b"append",
+        descriptor: b"(Ljava/lang/String;Ljava/lang/String;)V",
+        flags: STATIC,
+        native: Native::FilesAppend,
+    },
+    MethodRow {
+        name: b"delete",
+        descriptor: b"(Ljava/lang/String;)Z",
+        flags: STATIC,
+        native: Native::FilesDelete,
+    },
+    MethodRow {
+        name: b"exists",
+        descriptor: b"(Ljava/lang/String;)Z",
+        flags: STATIC,
+        native: Native::FilesExists,
+    },
+];
+
+const ENV_METHODS: [MethodRow; 2] = [
+    MethodRow {
+        name: b"print",
+        descriptor: b"(I)V",
+        flags: STATIC,
+        native: Native::EnvPrint,
+    },
+    MethodRow {
+        name: b"random",
+        descriptor: b"()I",
+        flags: STATIC,
+        native: Native::EnvRandom,
+    },
+];
+
+const THROWABLE_METHODS: [MethodRow; 3] = [
+    MethodRow {
+        name: b"<init>",
+        descriptor: b"()V",
+        flags: PUBLIC,
+        native: Native::ThrowableInit,
+    },
+    MethodRow {
+        name: b"<init>",
+        descriptor: b"(Ljava/lang/String;)V",
+        flags: PUBLIC,
+        native: Native::ThrowableInitString,
+    },
+    MethodRow {
+        name: b"getMessage",
+        descriptor: b"()Ljava/lang/String;",
+        flags: PUBLIC,
+        native: Native::ThrowableGetMessage,
+    },
+];
+
+const ASSERTION_ERROR_METHODS: [MethodRow; 6] = [
+    MethodRow {
+        name: b"<init>",
+        descriptor: b"()V",
+        flags: PUBLIC,
+        native: Native::ThrowableInit,
+    },
+    MethodRow {
+        name: b"<init>",
+        descriptor: b"(Ljava/lang/Object;)V",
+        flags: PUBLIC,
+        native: Native::AssertionInitObject,
+    },
+    MethodRow {
+        name: b"<init>",
+        descriptor: b"(I)V",
+        flags: PUBLIC,
+        native: Native::AssertionInitInt,
+    },
+    MethodRow {
+        name: b"<init>",
+        descriptor: b"(J)V",
+        flags: PUBLIC,
+        native: Native::AssertionInitLong,
+    },
+    MethodRow {
+        name: b"<init>",
+        descriptor: b"(Z)V",
+        flags: PUBLIC,
+        native: Native::AssertionInitBoolean,
+    },
+    MethodRow {
+        name: b"<init>",
+        descriptor: b"(C)V",
+        flags: PUBLIC,
+        native: Native::AssertionInitChar,
+    },
+];
+
+// The constructors of every throwable class but `AssertionError` and `Throwable`.
+const THROWABLE_CONSTRUCTORS: [MethodRow; 2] = [
+    MethodRow {
+        name: b"<init>",
+        descriptor: b"()V",
+        flags: PUBLIC,
+        native: Native::ThrowableInit,
+    },
+    MethodRow {
+        name: b"<init>",
+        descriptor: b"(Ljava/lang/String;)V",
+        flags: PUBLIC,
+        native: Native::ThrowableInitString,
+    },
+];
+
+const SYSTEM_FIELDS: [FieldRow; 1] = [FieldRow {
+    name: b"out",
+    descriptor: b"Ljava/io/PrintStream;",
+    flags: STATIC,
+    opening: Value::Lit(0),
+}];
+
+const THROWABLE_FIELDS: [FieldRow; 1] = [FieldRow {
+    name: b"message",
+    descriptor: b"Ljava/lang/String;",
+    flags: PRIVATE,
+    opening: Value::Null,
+}];
+
+/// The built-in classes, each after its superclass.
+pub const CLASSES: [ClassRow; 32] = [
+    ClassRow {
+        name: b"java/lang/Object",
+        flags: PUBLIC,
+        superclass: None,
+        fields: &[],
+        methods: &OBJECT_METHODS,
+    },
+    ClassRow {
+        name: b"java/lang/String",
+        flags: PUBLIC,
+        superclass: Some(b"java/lang/Object"),
+        fields: &[],
+        methods: &STRING_METHODS,
+    },
+    ClassRow {
+        name: b"java/lang/StringBuilder",
+        flags: PUBLIC,
+        superclass: Some(b"java/lang/Object"),
+        fields: &[],
+        methods: &STRING_BUILDER_METHODS,
+    },
+    ClassRow {
+        name: b"java/lang/System",
+        flags: PUBLIC,
+        superclass: Some(b"java/lang/Object"),
+        fields: &SYSTEM_FIELDS,
+        methods: &SYSTEM_METHODS,
+    },
+    ClassRow {
+        name: b"java/io/PrintStream",
+        flags: PUBLIC,
+        superclass: Some(b"java/lang/Object"),
+        fields: &[],
+        methods: &PRINT_STREAM_METHODS,
+    },
+    ClassRow {
+        name: b"electric/Files",
+        flags: PUBLIC,
+        superclass: Some(b"java/lang/Object"),
+        fields: &[],
+        methods: &FILES_METHODS,
+    },
+    ClassRow {
+        name: b"electric/Env",
+        flags: PUBLIC,
+        superclass: Some(b"java/lang/Object"),
+        fields: &[],
+        methods: &ENV_METHODS,
+    },
+    ClassRow {
+        name: b"java/lang/Throwable",
+        flags: PUBLIC,
+        superclass: Some(b"java/lang/Object"),
+        fields: &THROWABLE_FIELDS,
+        methods: &THROWABLE_METHODS,
+    },
+    ClassRow {
+        name: b"java/lang/Error",
+        flags: PUBLIC,
+        superclass: Some(b"java/lang/Throwable"),
+        fields: &[],
+        methods: &THROWABLE_CONSTRUCTORS,
+    },
+    ClassRow {
+        name: b"java/lang/Exception",
+        flags: PUBLIC,
+        superclass: Some(b"java/lang/Throwable"),
+        fields: &[],
+        methods: &THROWABLE_CONSTRUCTORS,
+    },
+    ClassRow {
+        name: b"java/lang/AssertionError",
+        flags: PUBLIC,
+        superclass: Some(b"java/lang/Error"),
+        fields: &[],
+        methods: &ASSERTION_ERROR_METHODS,
+    },
+    ClassRow {
+        name: b"java/lang/LinkageError",
+        flags: PUBLIC,
+        superclass: Some(b"java/lang/Error"),
+        fields: &[],
+        methods: &THROWABLE_CONSTRUCTORS,
+    },
+    ClassRow {
+        name: b"java/lang/VirtualMachineError",
+        flags: ABSTRACT,
+        superclass: Some(b"java/lang/Error"),
+        fields: &[],
+        methods: &THROWABLE_CONSTRUCTORS,
+    },
+    ClassRow {
+        name: b"java/lang/ExceptionInInitializerError",
+        flags: PUBLIC,
+        superclass: Some(b"java/lang/LinkageError"),
+        fields: &[],
+        methods: &THROWABLE_CONSTRUCTORS,
+    },
+    ClassRow {
+        name: b"java/lang/NoClassDefFoundError",
+        flags: PUBLIC,
+        superclass: Some(b"java/lang/LinkageError"),
+        fields: &[],
+        methods: &THROWABLE_CONSTRUCTORS,
+    },
+    ClassRow {
+        name: b"java/lang/IncompatibleClassChangeError",
+        flags: PUBLIC,
+        superclass: Some(b"java/lang/LinkageError"),
+        fields: &[],
+        methods: &THROWABLE_CONSTRUCTORS,
+    },
+    ClassRow {
+        name: b"java/lang/AbstractMethodError",
+        flags: PUBLIC,
+        superclass: Some(b"java/lang/IncompatibleClassChangeError"),
+        fields: &[],
+        methods: &THROWABLE_CONSTRUCTORS,
+    },
+    ClassRow {
+        name: b"java/lang/InstantiationError",
+        flags: PUBLIC,
+        superclass: Some(b"java/lang/IncompatibleClassChangeError"),
+        fields: &[],
+        methods: &THROWABLE_CONSTRUCTORS,
+    },
+    ClassRow {
+        name: b"java/lang/StackOverflowError",
+        flags: PUBLIC,
+        superclass: Some(b"java/lang/VirtualMachineError"),
+        fields: &[],
+        methods: &THROWABLE_CONSTRUCTORS,
+    },
+    ClassRow {
+        name: b"java/lang/RuntimeException",
+        flags: PUBLIC,
+        superclass: Some(b"java/lang/Exception"),
+        fields: &[],
+        methods: &THROWABLE_CONSTRUCTORS,
+    },
+    ClassRow {
+        name: b"java/lang/ArithmeticException",
+        flags: PUBLIC,
+        superclass: Some(b"java/lang/RuntimeException"),
+        fields: &[],
+        methods: &THROWABLE_CONSTRUCTORS,
+    },
+    ClassRow {
+        name: b"java/lang/ArrayStoreException",
+        flags: PUBLIC,
+        superclass: Some(b"java/lang/RuntimeException"),
+        fields: &[],
+        methods: &THROWABLE_CONSTRUCTORS,
+    },
+    ClassRow {
+        name: b"java/lang/ClassCastException",
+        flags: PUBLIC,
+        superclass: Some(b"java/lang/RuntimeException"),
+        fields: &[],
+        methods: &THROWABLE_CONSTRUCTORS,
+    },
+    ClassRow {
+        name: b"java/lang/NegativeArraySizeException",
+        flags: PUBLIC,
+        superclass: Some(b"java/lang/RuntimeException"),
+        fields: &[],
+        methods: &THROWABLE_CONSTRUCTORS,
+    },
+    ClassRow {
+        name: b"java/lang/NullPointerException",
+        flags: PUBLIC,
+        superclass: Some(b"java/lang/RuntimeException"),
+        fields: &[],
+        methods: &THROWABLE_CONSTRUCTORS,
+    },
+    ClassRow {
+        name: b"java/lang/IndexOutOfBoundsException",
+        flags: PUBLIC,
+        superclass: Some(b"java/lang/RuntimeException"),
+        fields: &[],
+        methods: &THROWABLE_CONSTRUCTORS,
+    },
+    ClassRow {
+        name: b"java/lang/IllegalArgumentException",
+        flags: PUBLIC,
+        superclass: Some(b"java/lang/RuntimeException"),
+        fields: &[],
+        methods: &THROWABLE_CONSTRUCTORS,
+    },
+    ClassRow {
+        name: b"java/lang/IllegalStateException",
+        flags: PUBLIC,
+        superclass: Some(b"java/lang/RuntimeException"),
+        fields: &[],
+        methods: &THROWABLE_CONSTRUCTORS,
+    },
+    ClassRow {
+        name: b"java/lang/UnsupportedOperationException",
+        flags: PUBLIC,
+        superclass: Some(b"java/lang/RuntimeException"),
+        fields: &[],
+        methods: &THROWABLE_CONSTRUCTORS,
+    },
+    ClassRow {
+        name: b"java/lang/ArrayIndexOutOfBoundsException",
+        flags: PUBLIC,
+        superclass: Some(b"java/lang/IndexOutOfBoundsException"),
+        fields: &[],
+        methods: &THROWABLE_CONSTRUCTORS,
+    },
+    ClassRow {
+        name: b"java/lang/StringIndexOutOfBoundsException",
+        flags: PUBLIC,
+        superclass: Some(b"java/lang/IndexOutOfBoundsException"),
+        fields: &[],
+        methods: &THROWABLE_CONSTRUCTORS,
+    },
+    ClassRow {
+        name: b"java/lang/NumberFormatException",
+        flags: PUBLIC,
+        superclass: Some(b"java/lang/IllegalArgumentException"),
+        fields: &[],
+        methods: &THROWABLE_CONSTRUCTORS,
+    },
+];
