@@ -1,0 +1,44 @@
+-- Raising a throwable: one step for each entry that is looked at (JVMS 2.10).
+use Rattle.std.specs.Prelude.{ℕ, List, [], ◌∷◌, Bool, true, false, cond, ◌&&◌, nat_le, nat_lt, Option, Some, None}
+use Rattle.jvm_model.specs.declared.values.Value.{Value}
+use Rattle.jvm_model.specs.declared.values.Kind.{Kind}
+use Rattle.jvm_model.specs.declared.values.Kind.TheVariants as kind
+use Rattle.jvm_model.specs.declared.values.Location.TheVariants as place
+use Rattle.jvm_model.specs.declared.outcome.Next.TheVariants.{Go, Raise}
+use Rattle.jvm_model.specs.declared.program.Body.{Body}
+use Rattle.jvm_model.specs.declared.program.Handler.{Handler}
+use Rattle.jvm_model.specs.declared.program.Program.{Program}
+use Rattle.jvm_model.specs.Access.{Access, done, read}
+use Rattle.jvm_model.specs.Builtin.{object_class}
+use Rattle.jvm_model.specs.Classes.{method_at, is_below}
+use Rattle.jvm_model.specs.Entries.{Entries, popped_entry}
+use Rattle.jvm_model.specs.Rows.{Answer, answer, on_object, goes_to}
+
+-- the class of an object; an array is of class Object
+abbrev pub class_of : Kind → ℕ
+class_of (kind.Class c) = c
+class_of (kind.Array dims b) = object_class
+
+abbrev pub catches : Program → Option ℕ → ℕ → Bool
+catches p None c = true
+catches p (Some d) c = is_below p c d
+
+abbrev pub handler_in : Program → List Handler → ℕ → ℕ → Option ℕ
+handler_in p [] pc c = None
+handler_in p (h ∷ hs) pc c = cond (nat_le h.from pc && (nat_lt pc h.to && catches p h.catches c)) (Some h.at) (handler_in p hs pc c)
+
+abbrev pub handlers_of : Option Body → List Handler
+handlers_of None = []
+handlers_of (Some b) = b.handlers
+
+-- the place of the first handler of the method whose range holds pc and whose class is c's or above it
+unfoldable pub handler_for : Program → ℕ → ℕ → ℕ → Option ℕ
+handler_for p m pc c = handler_in p (handlers_of (method_at p m).body) pc c
+
+abbrev pub handled : Value → Entries → Option ℕ → Access (Answer Entries)
+handled v s None = done (answer (Raise v) (popped_entry s))
+handled v s (Some pc) = goes_to pc s (v ∷ [])
+
+-- a throwable is raised into the method frame at the top: it's handled there, or the frame is popped
+unfoldable pub row_raise : Program → Value → Entries → Access (Answer Entries)
+row_raise p v s = on_object s v (λ o. read (place.Head o) (λ h. handled v s (handler_for p s.top.number s.top.pc (class_of h.kind))))

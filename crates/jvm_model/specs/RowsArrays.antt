@@ -1,0 +1,10 @@
+-- array loads and stores, arraylength (JVMS 6.5).
+use Rattle.std.specs.Prelude.{ℕ}
+use Rattle.jvm_model.specs.declared.instr.Instr.{Instr}
+use Rattle.jvm_model.specs.declared.program.Program.{Program}
+use Rattle.jvm_model.specs.Access.{Access}
+use Rattle.jvm_model.specs.Entries.{Entries}
+use Rattle.jvm_model.specs.Rows.{Answer, none_here}
+
+unfoldable pub row_arrays : Program → Instr → Entries → Access (Answer Entries)
+row_arrays p i s = none_here

@@ -1,0 +1,84 @@
+-- The state of a test beside the world, and what a step makes of it.
+use Rattle.std.specs.Prelude.{ℕ, ℤ, List, [], ◌∷◌, get_or, ◌-◌, Option, Some, None, pos}
+use Rattle.jvm_model.specs.declared.values.Value.{Value}
+use Rattle.jvm_model.specs.declared.outcome.Own.{Own}
+use Rattle.jvm_model.specs.declared.outcome.Verdict.{Verdict}
+use Rattle.jvm_model.specs.declared.program.Program.{Program}
+use Rattle.jvm_model.specs.declared.program.TestEntry.{TestEntry}
+use Rattle.jvm_model.specs.Access.{Access, done}
+use Rattle.jvm_model.specs.Entries.{EntryKind, absent, in_method, in_class, Entries, no_entries}
+
+-- What the driver does when no entry is left.
+pub data Stage : Type 0 where
+  -- a static method is called, or the object is made
+  first : Stage
+  -- `<init>` is called on the object
+  made : ℕ → Stage
+  -- setUp is called, where there is one
+  built : ℕ → Stage
+  -- the method is called
+  set_up : ℕ → Stage
+  -- tearDown is called, where there is one; the method threw this
+  called : ℕ → Option Value → Stage
+  -- the test is judged by this throwable, or passed
+  last : Option Value → Stage
+
+-- All of a test's state but the world; its units are counted by the run.
+pub record State : Type 0 where
+  -- the number of the test, from 1
+  pub test : ℕ
+  pub entries : Entries
+  pub stage : Stage
+  -- the throwable that is being raised
+  pub raised : Option Value
+  pub own : Own
+
+-- What a step makes: the next state, the end of the test with its verdict and output, or nothing, as there is no row.
+pub data Turn : Type 0 where
+  next : State → Turn
+  ended : Verdict → List ℕ → Turn
+  no_turn : Turn
+
+abbrev pub no_test : TestEntry
+no_test = record { class = 0; method = 0; clock = pos 0; seed = 0; budget = 0 }
+
+-- the test n, numbered from 1
+abbrev pub test_at : Program → ℕ → TestEntry
+test_at p n = get_or p.tests (n - 1) no_test
+
+-- the start state of a test
+abbrev pub started : Program → ℕ → State
+started p n = record {
+  test = n;
+  entries = no_entries;
+  stage = first;
+  raised = None;
+  own = record { output = []; clock = (test_at p n).clock; random = (test_at p n).seed };
+}
+
+-- the first throwable decides
+abbrev pub or_first : Option Value → Value → Option Value
+or_first None v = Some v
+or_first (Some u) v = Some u
+
+-- where a throwable comes out of what a stage called or made
+abbrev pub thrown_at : Stage → Value → Stage
+thrown_at first v = last (Some v)
+thrown_at (made o) v = last (Some v)
+thrown_at (built o) v = last (Some v)
+thrown_at (set_up o) v = last (Some v)
+thrown_at (called o u) v = called o (or_first u v)
+thrown_at (last u) v = last (or_first u v)
+
+-- a throwable is raised into the top entry, or comes to the driver where none is left
+abbrev pub raised_in : EntryKind → Value → State → State
+raised_in absent v s = record s { raised = None; stage = thrown_at s.stage v }
+raised_in in_method v s = record s { raised = Some v }
+raised_in (in_class b) v s = record s { raised = Some v }
+
+abbrev pub raise : Value → State → State
+raise v s = raised_in s.entries.top.kind v s
+
+-- the state with these entries, and nothing raised
+abbrev pub with_entries : State → Entries → State
+with_entries s t = record s { entries = t; raised = None }
