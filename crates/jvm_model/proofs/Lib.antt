@@ -1,0 +1,2 @@
+mod ExampleParts
+mod Examples
