@@ -1,2 +1,6 @@
 pub mod Counts
 pub mod Depot
+pub mod MemoryDepot
+pub mod MemorySink
+pub mod QuietSink
+pub mod Sink

@@ -1,8 +1,9 @@
 //! Where texts are written to.
 
-ghost use Rattle.std.specs.Prelude.{◌≡◌, ◌-◌, ◌<◌, ◌≤◌, ◌++◌, List, ℕ, length, take, Option, option_map, IfOk, IfSome};
+ghost use Rattle.std.specs.Prelude.{◌≡◌, ◌≤◌, ◌<◌, List, ℕ, length, take, Option, IfOk};
 ghost use Rattle.std.specs.Result.{result_unwrap_or};
 ghost use Rattle.outside.specs.Counts.{Rose};
+ghost use Rattle.outside.specs.Sink.{appended, lowered, HasRoom};
 
 /// The sink failed, which its count of faults shows. Nothing of the piece was taken.
 #[derive(Clone, Copy, Debug, PartialEq, Eq)]
@@ -25,13 +26,11 @@ pub trait Sink {
         requires { 0 < length piece.now }
 
         ensures within { IfOk result (λ taken. taken ≤ length piece.now) }
-        ensures told { told self.new ≡
-            option_map (λ bytes. bytes ++ take (result_unwrap_or result 0) piece.now) (told self.old) }
+        ensures told { told self.new ≡ appended (told self.old) (take (result_unwrap_or result 0) piece.now) }
 
         ensures faults { faults self.old ≤ faults self.new }
         ensures none_taken { result_unwrap_or result 0 ≡ 0 → Rose (faults self.old) (faults self.new) }
 
-        ensures room { room self.new ≡ option_map (λ left. left - result_unwrap_or result 0) (room self.old) }
-        ensures holds { IfSome (room self.old) (λ left.
-            length piece.now ≤ left → faults self.new ≡ faults self.old) };
+        ensures room { room self.new ≡ lowered (room self.old) (result_unwrap_or result 0) }
+        ensures has_room { HasRoom (room self.old) (length piece.now) → faults self.new ≡ faults self.old };
 }

@@ -1,0 +1,136 @@
+-- What a sink took of a text so far.
+use Rattle.std.proofs.Common.{◌≡◌, ◌≤◌, ◌<◌, ◌+◌, ◌-◌, ◌++◌, inl, inr, ℕ, List, [], length, Option, Some, None, refl, ap, sym, subst, ◌∙◌, arith, append_assoc, append-nil, length-append, ◌^◌, Result, Ok, Err, IfOk, OnOk, OnErr, IsErr, min}
+use Rattle.std.specs.Result.{result_unwrap_or}
+use Rattle.outside.specs.Counts.{Rose}
+use Rattle.outside.specs.Sink.{appended, lowered, HasRoom}
+
+-- From old to new the sink took a front of the text, and the rest is left.
+pub record Took {S : Type 0} (told : S → Option (List ℕ)) (room : S → Option ℕ) (faults : S → ℕ) (old new : S) (text rest : List ℕ) : Type 0 where
+  pub front : List ℕ
+  pub whole : text ≡ front ++ rest
+  pub bytes : told new ≡ appended (told old) front
+  pub left : room new ≡ lowered (room old) (length front)
+  pub later : faults old ≤ faults new
+  pub quiet : HasRoom (room old) (length text) → faults new ≡ faults old
+
+pub appended-nil : (told : Option (List ℕ)) → appended told [] ≡ told
+unfolding appended
+appended-nil None = refl
+appended-nil (Some bytes) = ap (λ all. Some all) (append-nil bytes)
+
+pub appended-appended : (told : Option (List ℕ)) (xs ys : List ℕ) → appended (appended told xs) ys ≡ appended told (xs ++ ys)
+unfolding appended
+appended-appended None xs ys = refl
+appended-appended (Some bytes) xs ys = ap (λ all. Some all) (append_assoc bytes xs ys)
+
+pub lowered-zero : (room : Option ℕ) → lowered room 0 ≡ room
+unfolding lowered
+lowered-zero None = refl
+lowered-zero (Some left) = let e : left - 0 ≡ left = omega arith in ap (λ n. Some n) e
+
+pub lowered-lowered : (room : Option ℕ) (m n : ℕ) → lowered (lowered room m) n ≡ lowered room (m + n)
+unfolding lowered
+lowered-lowered None m n = refl
+lowered-lowered (Some left) m n = let e : (left - m) - n ≡ left - (m + n) = omega arith in ap (λ n. Some n) e
+
+-- room for all of it is room for the rest
+pub HasRoom-lowered : (room : Option ℕ) (m n : ℕ) → HasRoom room (m + n) → HasRoom (lowered room m) n
+unfolding lowered HasRoom
+HasRoom-lowered None m n h = h
+HasRoom-lowered (Some left) m n h = omega arith
+
+pub HasRoom-less : (room : Option ℕ) (m n : ℕ) → m ≤ n → HasRoom room n → HasRoom room m
+unfolding HasRoom
+HasRoom-less None m n le h = h
+HasRoom-less (Some left) m n le h = omega arith
+
+-- a count that rose late rose
+pub rose_later : (a b c : ℕ) → a ≤ b → Rose b c → Rose a c
+rose_later a b c le (inl lt) = inl (omega arith)
+rose_later a b c le (inr top) = inr top
+
+-- a count that rose doesn't fall again
+pub rose_earlier : (a b c : ℕ) → a ≤ b → b ≤ c → Rose a b → Rose a c
+rose_earlier a b c first later (inl lt) = inl (omega arith)
+rose_earlier a b c first later (inr top) = grind arith
+
+-- nothing taken so far
+pub took_none : {S : Type 0} (told : S → Option (List ℕ)) (room : S → Option ℕ) (faults : S → ℕ) (s : S) (text : List ℕ) → Took told room faults s s text text
+took_none told room faults s text = record {
+  front = [];
+  whole = refl;
+  bytes = sym (appended-nil (told s));
+  left = sym (lowered-zero (room s));
+  later = omega arith;
+  quiet = λ _. refl;
+}
+
+-- room for the whole text was room for the rest
+pub room_for_rest : {S : Type 0} (told : S → Option (List ℕ)) (room : S → Option ℕ) (faults : S → ℕ) (old mid : S) (text rest : List ℕ)
+    → Took told room faults old mid text rest → HasRoom (room old) (length text) → HasRoom (room mid) (length rest)
+room_for_rest told room faults old mid text rest so_far h =
+    let fits : HasRoom (room old) (length so_far.front + length rest) =
+    subst (λ n. HasRoom (room old) n) (ap (λ t. length t) so_far.whole ∙ length-append so_far.front rest) h in
+    subst (λ r. HasRoom r (length rest)) (sym so_far.left) (HasRoom-lowered (room old) (length so_far.front) (length rest) fits)
+
+-- a count that stays where the rest has room stays where the text has room
+pub quiet_after : {S : Type 0} (told : S → Option (List ℕ)) (room : S → Option ℕ) (faults : S → ℕ) (old mid new : S) (text rest : List ℕ)
+    → Took told room faults old mid text rest → (HasRoom (room mid) (length rest) → faults new ≡ faults mid)
+    → HasRoom (room old) (length text) → faults new ≡ faults old
+quiet_after told room faults old mid new text rest so_far quiet h =
+    quiet (room_for_rest told room faults old mid text rest so_far h) ∙ so_far.quiet h
+
+-- a further piece was taken from the rest's front
+pub took_more : {S : Type 0} (told : S → Option (List ℕ)) (room : S → Option ℕ) (faults : S → ℕ) (old mid new : S) (text rest piece after : List ℕ)
+    → Took told room faults old mid text rest
+    → rest ≡ piece ++ after
+    → told new ≡ appended (told mid) piece
+    → room new ≡ lowered (room mid) (length piece)
+    → faults mid ≤ faults new
+    → (HasRoom (room mid) (length rest) → faults new ≡ faults mid)
+    → Took told room faults old new text after
+took_more told room faults old mid new text rest piece after so_far cut bytes left later quiet = record {
+  front = so_far.front ++ piece;
+  whole = so_far.whole ∙ ap (λ r. so_far.front ++ r) cut ∙ sym (append_assoc so_far.front piece after);
+  bytes = bytes ∙ ap (λ t. appended t piece) so_far.bytes ∙ appended-appended (told old) so_far.front piece;
+  left = left ∙ ap (λ r. lowered r (length piece)) so_far.left ∙ lowered-lowered (room old) (length so_far.front) (length piece) ∙ ap (λ n. lowered (room old) n) (sym (length-append so_far.front piece));
+  later = omega (arith, so_far.later, later);
+  quiet = quiet_after told room faults old mid new text rest so_far quiet;
+}
+
+-- a last piece was taken in part
+pub took_part : {S : Type 0} (told : S → Option (List ℕ)) (room : S → Option ℕ) (faults : S → ℕ) (old mid new : S) (text rest piece after front back : List ℕ)
+    → Took told room faults old mid text rest
+    → rest ≡ piece ++ after
+    → piece ≡ front ++ back
+    → told new ≡ appended (told mid) front
+    → (all : List ℕ) × (none : List ℕ) × (text ≡ all ++ none) × (told new ≡ appended (told old) all)
+took_part told room faults old mid new text rest piece after front back so_far cut part bytes = (
+  so_far.front ++ front,
+  back ++ after,
+  so_far.whole ∙ ap (λ r. so_far.front ++ r) (cut ∙ ap (λ p. p ++ after) part ∙ append_assoc front back after) ∙ sym (append_assoc so_far.front front (back ++ after)),
+  bytes ∙ ap (λ t. appended t front) so_far.bytes ∙ appended-appended (told old) so_far.front front,
+)
+
+-- a count that stayed below the greatest u64 didn't rise
+pub not_rose : (a b : ℕ) → b ≡ a → a < 2 ^ 64 - 1 → Rose a b → ⊥
+not_rose a b same below (inl lt) = omega arith
+not_rose a b same below (inr top) = omega arith
+
+pub on_err : {T E P : Type 0} (r : Result T E) → P → OnErr r P
+on_err (Ok x) p = tt
+on_err (Err e) p = p
+
+-- what is at most a length
+pub within_min : {E : Type 0} (r : Result ℕ E) (most size : ℕ) → IfOk r (λ taken. taken ≡ min most size) → IfOk r (λ taken. taken ≤ size)
+within_min (Ok taken) most size h = omega (arith, h)
+within_min (Err e) most size h = tt
+
+-- nothing was taken at an error alone
+pub none_at_err : {E P : Type 0} (r : Result ℕ E) → IfOk r (λ taken. 0 < taken) → OnErr r P → result_unwrap_or r 0 ≡ 0 → P
+none_at_err (Ok taken) some err none = absurd (omega (arith, some, none))
+none_at_err (Err e) some err none = err
+
+pub at_ok : {T E P Q : Type 0} (r : Result T E) → (IsErr r → Q) → (Q → ⊥) → OnOk r P → P
+at_ok (Ok x) why not_so ok = ok
+at_ok (Err e) why not_so ok = absurd (not_so (why refl))

@@ -1,0 +1,68 @@
+//! A text on a sink, line by line.
+
+ghost use Rattle.std.specs.Prelude.{◌≡◌, ◌<◌, ◌≤◌, ◌-◌, ◌^◌, ◌++◌, List, ℕ, length, IsOk, OnOk, OnErr};
+ghost use Rattle.outside.specs.Counts.{Rose};
+ghost use Rattle.outside.specs.Sink.{appended, lowered, HasRoom};
+
+use crate::{Sink, SinkFailed};
+
+/// Offers a text to a sink line by line: each line with its line feed is one piece, and where less was taken the rest
+/// of the piece is offered again. An error comes only where the sink's count of faults rose in this call; the sink then
+/// has taken a prefix of the text.
+pub fn write_text<S: Sink>(sink: &mut S, text: &[u8]) -> Result<(), SinkFailed>
+    ensures written { OnOk result (S.told sink.new ≡ appended (S.told sink.old) text.now) }
+    ensures prefix { OnErr result ((front : List ℕ) × (back : List ℕ)
+        × (text.now ≡ front ++ back) × (S.told sink.new ≡ appended (S.told sink.old) front)) }
+
+    ensures faults { S.faults sink.old ≤ S.faults sink.new }
+    ensures failed { OnErr result (Rose (S.faults sink.old) (S.faults sink.new)) }
+
+    // A told room that holds the text keeps the count, so the text is written.
+    ensures has_room { HasRoom (S.room sink.old) (length text.now) → S.faults sink.new ≡ S.faults sink.old }
+    ensures fits { HasRoom (S.room sink.old) (length text.now) → S.faults sink.old < 2 ^ 64 - 1 → IsOk result }
+    ensures room { OnOk result (S.room sink.new ≡ lowered (S.room sink.old) (length text.now)) }
+{
+    let mut rest = text;
+    while !rest.is_empty() {
+        let (line, after) = rest.split_at(line_len(rest));
+        write_piece(sink, line)?;
+        rest = after;
+    }
+    Ok(())
+}
+
+/// How long the first line is, with its line feed where it has one.
+fn line_len(text: &[u8]) -> usize
+    requires { 0 < length text.now }
+    ensures some { 0 < result }
+    ensures within { result ≤ length text.now }
+{
+    match text.iter().position(|&byte| byte == b'\n') {
+        Some(at) => at + 1,
+        None => text.len(),
+    }
+}
+
+/// Offers a piece until the sink has taken all of it, or failed.
+fn write_piece<S: Sink>(sink: &mut S, piece: &[u8]) -> Result<(), SinkFailed>
+    ensures written { OnOk result (S.told sink.new ≡ appended (S.told sink.old) piece.now) }
+    ensures prefix { OnErr result ((front : List ℕ) × (back : List ℕ)
+        × (piece.now ≡ front ++ back) × (S.told sink.new ≡ appended (S.told sink.old) front)) }
+
+    ensures faults { S.faults sink.old ≤ S.faults sink.new }
+    ensures failed { OnErr result (Rose (S.faults sink.old) (S.faults sink.new)) }
+
+    ensures has_room { HasRoom (S.room sink.old) (length piece.now) → S.faults sink.new ≡ S.faults sink.old }
+    ensures room { OnOk result (S.room sink.new ≡ lowered (S.room sink.old) (length piece.now)) }
+{
+    let mut rest = piece;
+    while !rest.is_empty() {
+        let taken = sink.write(rest).unwrap_or(0);
+        if taken == 0 {
+            return Err(SinkFailed {});
+        }
+        let (_, after) = rest.split_at(taken);
+        rest = after;
+    }
+    Ok(())
+}
