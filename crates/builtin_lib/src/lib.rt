@@ -2,7 +2,7 @@
 #![tactic(auto)]
 
 ghost use Rattle.std.specs.Prelude.{◌≡◌, IfOk};
-ghost use Rattle.builtin_lib.specs.Table.{builtin_classes};
+ghost use Rattle.jvm_model.specs.Library.{builtin_defs};
 ghost use Rattle.builtin_lib.specs.Rows.{native_among};
 
 mod rows;
@@ -14,18 +14,18 @@ use std::alloc::Global;
 use tables::CLASSES;
 
 /// The built-in classes with their fields and methods, each after its superclass.
-#[tactic(auto, unfolding(crate::specs::Table::builtin_classes))]
+#[tactic(auto, unfolding(jvm_model::specs::Library::builtin_defs))]
 pub fn builtins(alloc: Global) -> Result<Items<ClassDef>, NoMemory>
-    ensures { IfOk result (λ classes. classes ≡ builtin_classes) }
+    ensures { IfOk result (λ classes. classes ≡ builtin_defs) }
 {
     rows::classes(alloc, &CLASSES)
 }
 
 /// The built-in method of a class, name and descriptor, `None` exactly where the built-in classes lack it. It takes no
 /// memory.
-#[tactic(auto, unfolding(crate::specs::Table::builtin_classes))]
+#[tactic(auto, unfolding(jvm_model::specs::Library::builtin_defs))]
 pub fn native_of(class: &Units, name: &Units, descriptor: &Units) -> Option<Native>
-    ensures { result ≡ native_among builtin_classes class.now name.now descriptor.now }
+    ensures { result ≡ native_among builtin_defs class.now name.now descriptor.now }
 {
     rows::class_native(
         &CLASSES,
