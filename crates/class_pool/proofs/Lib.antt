@@ -1,0 +1,5 @@
+pub mod Loops
+pub mod Laws
+pub mod PoolSteps
+pub mod PoolLaw
+pub mod WriteLaw

@@ -1,0 +1,6 @@
+pub mod Reading
+pub mod Loops
+pub mod Grammar
+pub mod Utf
+pub mod Pool
+pub mod PoolGrammar

@@ -1,0 +1,23 @@
+use Rattle.std.proofs.Common.{arith, ap, length}
+use Rattle.std.proofs.lemmas.Result.{err_from_is_err_and}
+use Rattle.class_reader.specs.Class.{method_at}
+use Rattle.std.proofs.lemmas.Grind.{common_steps}
+use Rattle.class_pool.proofs.Loops.{counted_on, counted_fails, counted_done}
+use Rattle.class_reader.proofs.members.methods_counted.Goals as goal
+
+pub returns-in_err-method : goal.returns-in_err-method
+returns-in_err-method c =
+    let p = err_from_is_err_and c.from_residual.result c.from_residual.ensures.1 in
+    rw (p.1, p.2) (counted_fails c.in_err-method.field-0.0 (λ before _ b. method_at c.args.pool.now before b) c.loop-i.methods _ c.loop-i.i c.loop-i.rest.now _ c.loop-i-test.true (rw (← c.as_slice.ensures) c.in_err-method.ensures) c.loop-i.invariant.so_far)
+
+pub loop-i-preserved : goal.loop-i-preserved
+loop-i-preserved c = record {
+  so_far = rw c.in_ok-push.ensures.pushed (counted_on (λ before _ b. method_at c.args.pool.now before b) c.loop-i.methods _ c.loop-i.i c.loop-i.rest.now (c.in_ok-method.method, c.in_ok-method.next.now) _ c.loop-i-test.true (rw (← c.as_slice.ensures) c.in_ok-method.ensures) c.loop-i.invariant.so_far);
+  len = grind (arith, common_steps, c.in_ok-push.ensures.pushed, c.loop-i.invariant.len);
+}
+
+pub method_of-requires : goal.method_of-requires
+method_of-requires c = omega (arith, c.loop-i.invariant.len, ap length c.as_slice.ensures)
+
+pub returns : goal.returns
+returns c = counted_done (λ before _ b. method_at c.args.pool.now before b) c.loop-i.methods _ c.loop-i.i c.loop-i.rest.now _ (omega arith) c.loop-i.invariant.so_far

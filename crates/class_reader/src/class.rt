@@ -1,0 +1,254 @@
+//! Class files (JVMS 4.1).
+
+ghost use Rattle.std.specs.Prelude.{◌≡◌, ◌<◌, ◌^◌, length, IfOk, Ok, [], List, Option};
+ghost use Rattle.class_pool.specs.Pool.{is_class};
+ghost use Rattle.class_pool.specs.Reading.{Gives};
+ghost use Rattle.class_pool.specs.Loops.{counted};
+ghost use Rattle.class_reader.specs.declared.parts.ClassParts.{ClassParts};
+ghost use Rattle.class_reader.specs.Class.{index_at, head_at, interfaces_at, members_at, body_at, class_at};
+ghost use Rattle.class_reader.specs.ClassGrammar.{class_bytes};
+ghost use Rattle.class_reader.specs.Faults.{shown, class_of, Answers};
+
+use crate::attributes::after_all;
+use crate::fault::{ClassFault, shown};
+use crate::members::{fields_of, methods_of};
+use crate::names::{class_at, own_class_at};
+use crate::parts::{ClassFile, ClassParts, MemberPart};
+use class_pool::fault::wants;
+use class_pool::fields::{u16_at, u32_at};
+use class_pool::{Fault, Pool, ReadError};
+use et_base::Items;
+use std::alloc::Global;
+
+#[tactic(auto, unfolding(crate::specs::Class::head_at))]
+fn head_of(bytes: &[u8]) -> Result<((u16, u16), &[u8]), ReadError>
+    ensures { Gives (λ x. ((x.0.0, x.0.1), x.1.now)) result (head_at bytes.now) }
+{
+    let (magic, rest) = u32_at(bytes)?;
+    wants(magic == 0xCAFE_BABE, Fault::BadMagic)?;
+    let (minor, rest) = u16_at(rest)?;
+    let (major, rest) = u16_at(rest)?;
+    wants(50 <= major && major <= 52, Fault::BadVersion(major))?;
+    Ok(((minor, major), rest))
+}
+
+fn interfaces_counted<'a>(
+    alloc: Global,
+    pool: &Pool,
+    count: u16,
+    bytes: &'a [u8],
+) -> Result<(Items<u16>, &'a [u8]), ReadError>
+    ensures { Gives (λ x. (x.0, x.1.now)) result (counted (λ _ _ b. index_at is_class pool.now b) [] count bytes.now) }
+{
+    let mut interfaces = Items::new(alloc);
+    let mut rest = bytes;
+    for i in 0..count {
+        let (index, next) = class_at(pool, rest)?;
+        interfaces.push(index)?;
+        rest = next;
+    }
+    Ok((interfaces, rest))
+}
+
+#[tactic(auto, unfolding(crate::specs::Class::interfaces_at))]
+fn interfaces_of<'a>(
+    alloc: Global,
+    pool: &Pool,
+    bytes: &'a [u8],
+) -> Result<(Items<u16>, &'a [u8]), ReadError>
+    ensures { Gives (λ x. (x.0, x.1.now)) result (interfaces_at pool.now bytes.now) }
+{
+    let (count, rest) = u16_at(bytes)?;
+    interfaces_counted(alloc, pool, count, rest)
+}
+
+#[tactic(auto, unfolding(crate::specs::Class::members_at))]
+fn members_of<'a>(
+    alloc: Global,
+    pool: &Pool,
+    bytes: &'a [u8],
+) -> Result<((Items<MemberPart>, Items<MemberPart>), &'a [u8]), ReadError>
+    ensures { Gives (λ x. ((x.0.0, x.0.1), x.1.now)) result (members_at pool.now bytes.now) }
+{
+    let (fields, rest) = fields_of(alloc, pool, bytes)?;
+    let (methods, rest) = methods_of(alloc, pool, rest)?;
+    let (_, rest) = after_all(pool, rest)?;
+    Ok(((fields, methods), rest))
+}
+
+#[tactic(auto, unfolding(crate::specs::Class::body_at))]
+fn body_of(
+    alloc: Global,
+    minor: u16,
+    major: u16,
+    pool: Pool,
+    bytes: &[u8],
+) -> Result<(ClassParts, &[u8]), ReadError>
+    ensures { Gives (λ x. (x.0, x.1.now)) result (body_at (minor, major) pool bytes.now) }
+{
+    let (flags, rest) = u16_at(bytes)?;
+    let (this_class, rest) = own_class_at(&pool, rest)?;
+    let (super_class, rest) = class_at(&pool, rest)?;
+    let (interfaces, rest) = interfaces_of(alloc, &pool, rest)?;
+    let ((fields, methods), rest) = members_of(alloc, &pool, rest)?;
+    Ok((
+        ClassParts {
+            minor,
+            major,
+            pool,
+            flags,
+            this_class,
+            super_class,
+            interfaces,
+            fields,
+            methods,
+        },
+        rest,
+    ))
+}
+
+#[tactic(auto, unfolding(crate::specs::Class::class_at))]
+fn parts_of(alloc: Global, bytes: &[u8]) -> Result<ClassParts, ReadError>
+    ensures { Gives (λ x. x) result (class_at bytes.now) }
+{
+    let ((minor, major), rest) = head_of(bytes)?;
+    let (pool, rest) = class_pool::pool_at(alloc, rest)?;
+    let (parts, rest) = body_of(alloc, minor, major, pool, rest)?;
+    wants(rest.len() == 0, Fault::Trailing(rest.len()))?;
+    Ok(parts)
+}
+
+/// The class file that the bytes spell, all of the bytes. Else it answers the first fault from left
+/// to right, or `NoMemory`.
+pub fn read_class(alloc: Global, bytes: &[u8]) -> Result<ClassFile, ClassFault>
+    // So each place fits.
+    requires { length bytes.now < 2 ^ 32 }
+    // What is read is spelled so.
+    ensures found { IfOk result (λ c. class_bytes bytes.now c) }
+    // What is spelled so is read, unless memory runs out.
+    ensures only { (c : ClassParts) → class_bytes bytes.now c → Answers result (Ok c) }
+    // Which fault it is.
+    ensures exact { Answers result (class_of bytes.now) }
+{
+    match parts_of(alloc, bytes) {
+        Ok(parts) => Ok(ClassFile::new(parts)),
+        Err(ReadError::Memory) => Err(ClassFault::NoMemory),
+        Err(ReadError::Fault(fault)) => Err(shown(bytes.len(), fault)),
+    }
+}
+
+#[cfg(test)]
+mod tests {
+    use super::*;
+
+    // `public class T { public static void t() {} }`
+    const RETURN: [u8; 97] = [
+        202, 254, 186, 190, 0, 0, 0, 52, 0, 8, 1, 0, 1, 84, 7, 0, 1, 1, 0, 16, 106, 97, 118, 97,
+        47, 108, 97, 110, 103, 47, 79, 98, 106, 101, 99, 116, 7, 0, 3, 1, 0, 1, 116, 1, 0, 3, 40,
+        41, 86, 1, 0, 4, 67, 111, 100, 101, 0, 33, 0, 2, 0, 4, 0, 0, 0, 0, 0, 1, 0, 9, 0, 5, 0, 6,
+        0, 1, 0, 7, 0, 0, 0, 13, 0, 0, 0, 0, 0, 0, 0, 1, 177, 0, 0, 0, 0, 0, 0,
+    ];
+
+    // Where its fields begin.
+    const FIELDS: [u32; 42] = [
+        0, 4, 6, 8, 10, 11, 13, 14, 15, 17, 18, 20, 36, 37, 39, 40, 42, 43, 44, 46, 49, 50, 52, 56,
+        58, 60, 62, 64, 66, 68, 70, 72, 74, 76, 78, 82, 84, 86, 90, 91, 93, 95,
+    ];
+
+    #[test]
+    fn reads_a_class_with_one_method(rt: HostRuntime) {
+        match read_class(rt.alloc(), &RETURN) {
+            Ok(class) => {
+                let parts = class.parts();
+                assert_eq!(rt; parts.major, 52);
+                assert_eq!(rt; parts.pool.slots().len(), 7);
+                assert_eq!(rt; parts.flags, 33);
+                assert_eq!(rt; parts.this_class, 2);
+                assert_eq!(rt; parts.super_class, 4);
+                assert_eq!(rt; parts.methods.len(), 1);
+            }
+            Err(fault) => assert_eq!(rt; fault, ClassFault::BadMagic),
+        }
+    }
+
+    // The fault of the bytes, or none.
+    fn fault_of(rt: &HostRuntime, bytes: &[u8]) -> Option<ClassFault>
+        requires { length bytes.now < 2 ^ 32 }
+    {
+        match read_class(rt.alloc(), bytes) {
+            Ok(_class) => None,
+            Err(fault) => Some(fault),
+        }
+    }
+
+    // The last field that begins at or before this place.
+    fn field_before(place: u32) -> u32 {
+        let mut at = 0;
+        for field in FIELDS {
+            if field <= place {
+                at = field;
+            }
+        }
+        at
+    }
+
+    #[test]
+    fn names_the_cut_field(rt: HostRuntime) {
+        for len in 0..97_u32 {
+            let at = field_before(len);
+            assert_eq!(rt;
+                fault_of(&rt, &RETURN[..len as usize]),
+                Some(ClassFault::Truncated { at }),
+                "cut to {len}"
+            );
+        }
+    }
+
+    #[test]
+    fn names_the_first_fault(rt: HostRuntime) {
+        let cases = [
+            (0, 1, ClassFault::BadMagic),
+            (7, 53, ClassFault::BadVersion { major: 53 }),
+            (10, 2, ClassFault::BadTag { at: 10, tag: 2 }),
+            (16, 8, ClassFault::BadIndex { at: 15 }),
+            (20, 255, ClassFault::BadUtf { at: 20 }),
+            (13, 91, ClassFault::BadIndex { at: 58 }),
+            (59, 3, ClassFault::BadIndex { at: 58 }),
+            (61, 0, ClassFault::BadIndex { at: 60 }),
+            (71, 2, ClassFault::BadIndex { at: 70 }),
+            (70, 1, ClassFault::BadIndex { at: 70 }),
+            (68, 1, ClassFault::CodeKind { at: 68 }),
+            (55, 102, ClassFault::CodeKind { at: 68 }),
+            (77, 2, ClassFault::BadIndex { at: 76 }),
+            (81, 14, ClassFault::BadLength { at: 78 }),
+            (89, 0, ClassFault::BadLength { at: 86 }),
+            (
+                90,
+                99,
+                ClassFault::Unsupported {
+                    method: 1,
+                    pc: 0,
+                    opcode: 99,
+                },
+            ),
+            (90, 184, ClassFault::CutCode { method: 1, pc: 0 }),
+        ];
+        for (i, value, fault) in cases {
+            let mut bytes = RETURN;
+            if i < 97 {
+                bytes[i] = value;
+            }
+            assert_eq!(rt;
+                fault_of(&rt, &bytes),
+                Some(fault),
+                "byte {i} set to {value}"
+            );
+        }
+        let mut longer = [0; 98];
+        longer[..97].copy_from_slice(&RETURN);
+        assert_eq!(rt;
+            fault_of(&rt, &longer),
+            Some(ClassFault::Trailing { at: 97 })
+        );
+    }
+}

@@ -1,0 +1,17 @@
+//! Class files, read exactly: what is read is spelled so, and else the first fault is named.
+#![tactic(auto)]
+
+mod attributes;
+mod class;
+mod code;
+mod fault;
+mod members;
+mod names;
+mod parts;
+
+pub use class::read_class;
+pub use fault::ClassFault;
+pub use parts::{
+    ClassFile, ClassParts, Code, CodePart, MapFrame, MapPart, MapType, MemberPart, RawHandler,
+    RawOp,
+};

@@ -1,0 +1,144 @@
+//! Fields and methods (JVMS 4.5 and 4.6).
+
+ghost use Rattle.std.specs.Prelude.{◌≡◌, ◌+◌, ◌<◌, length, [], List, Option};
+ghost use Rattle.class_pool.specs.Reading.{Gives};
+ghost use Rattle.class_pool.specs.Loops.{counted};
+ghost use Rattle.class_reader.specs.Class.{field_at, fields_at, method_at, methods_at};
+
+use crate::attributes::{field_attributes, method_attributes};
+use crate::names::{
+    field_name_at, field_type_at, fits_flags, is_repeated, method_name_at, method_type_at,
+};
+use crate::parts::MemberPart;
+use class_pool::fault::wants;
+use class_pool::fields::u16_at;
+use class_pool::{Fault, Pool, ReadError};
+use et_base::Items;
+use std::alloc::Global;
+
+#[tactic(auto, unfolding(crate::specs::Class::field_at))]
+fn field_of<'a>(
+    pool: &Pool,
+    before: &[MemberPart],
+    bytes: &'a [u8],
+) -> Result<(MemberPart, &'a [u8]), ReadError>
+    ensures { Gives (λ x. (x.0, x.1.now)) result (field_at pool.now before.now bytes.now) }
+{
+    let (flags, rest) = u16_at(bytes)?;
+    let (name, rest) = field_name_at(pool, rest)?;
+    let place = rest.len();
+    let (descriptor, rest) = field_type_at(pool, rest)?;
+    wants(
+        !is_repeated(pool, before, name, descriptor),
+        Fault::Repeated(place),
+    )?;
+    let (constant, rest) = field_attributes(pool, descriptor, rest)?;
+    Ok((
+        MemberPart {
+            flags,
+            name,
+            descriptor,
+            constant,
+            code: None,
+        },
+        rest,
+    ))
+}
+
+fn fields_counted<'a>(
+    alloc: Global,
+    pool: &Pool,
+    count: u16,
+    bytes: &'a [u8],
+) -> Result<(Items<MemberPart>, &'a [u8]), ReadError>
+    ensures { Gives (λ x. (x.0, x.1.now)) result (counted (λ before _ b. field_at pool.now before b) [] count bytes.now) }
+{
+    let mut fields = Items::new(alloc);
+    let mut rest = bytes;
+    for i in 0..count {
+        let (field, next) = field_of(pool, fields.as_slice(), rest)?;
+        fields.push(field)?;
+        rest = next;
+    }
+    Ok((fields, rest))
+}
+
+/// The fields, behind the interfaces.
+#[tactic(auto, unfolding(crate::specs::Class::fields_at))]
+pub fn fields_of<'a>(
+    alloc: Global,
+    pool: &Pool,
+    bytes: &'a [u8],
+) -> Result<(Items<MemberPart>, &'a [u8]), ReadError>
+    ensures { Gives (λ x. (x.0, x.1.now)) result (fields_at pool.now bytes.now) }
+{
+    let (count, rest) = u16_at(bytes)?;
+    fields_counted(alloc, pool, count, rest)
+}
+
+#[tactic(auto, unfolding(crate::specs::Class::method_at))]
+fn method_of<'a>(
+    alloc: Global,
+    pool: &Pool,
+    before: &[MemberPart],
+    bytes: &'a [u8],
+) -> Result<(MemberPart, &'a [u8]), ReadError>
+    requires { length before.now < 65535 }
+    ensures { Gives (λ x. (x.0, x.1.now)) result (method_at pool.now before.now bytes.now) }
+{
+    let (flags, rest) = u16_at(bytes)?;
+    let (name, rest) = method_name_at(pool, rest)?;
+    let place = rest.len();
+    let (descriptor, rest) = method_type_at(pool, flags, rest)?;
+    wants(
+        !is_repeated(pool, before, name, descriptor),
+        Fault::Repeated(place),
+    )?;
+    let number = before.len() as u32 + 1;
+    let (code, rest) = method_attributes(alloc, number, pool, rest)?;
+    wants(
+        fits_flags(flags, code.is_some()),
+        Fault::CodeKind(bytes.len()),
+    )?;
+    Ok((
+        MemberPart {
+            flags,
+            name,
+            descriptor,
+            constant: None,
+            code,
+        },
+        rest,
+    ))
+}
+
+fn methods_counted<'a>(
+    alloc: Global,
+    pool: &Pool,
+    count: u16,
+    bytes: &'a [u8],
+) -> Result<(Items<MemberPart>, &'a [u8]), ReadError>
+    ensures { Gives (λ x. (x.0, x.1.now)) result (counted (λ before _ b. method_at pool.now before b) [] count bytes.now) }
+{
+    let mut methods = Items::new(alloc);
+    let mut rest = bytes;
+    for i in 0..count {
+        let (method, next) = method_of(alloc, pool, methods.as_slice(), rest)?;
+        methods.push(method)?;
+        rest = next;
+    }
+    Ok((methods, rest))
+}
+
+/// The methods, behind the fields.
+#[tactic(auto, unfolding(crate::specs::Class::methods_at))]
+pub fn methods_of<'a>(
+    alloc: Global,
+    pool: &Pool,
+    bytes: &'a [u8],
+) -> Result<(Items<MemberPart>, &'a [u8]), ReadError>
+    ensures { Gives (λ x. (x.0, x.1.now)) result (methods_at pool.now bytes.now) }
+{
+    let (count, rest) = u16_at(bytes)?;
+    methods_counted(alloc, pool, count, rest)
+}

@@ -1,0 +1,270 @@
+//! What an index of a class file must name, place by place.
+
+ghost use Rattle.std.specs.Prelude.{◌≡◌, List, codes, bit_and, ◌==◌, Option};
+ghost use Rattle.class_pool.specs.Pool.{entry_of, is_text, is_class, is_named, has_no_dot};
+ghost use Rattle.class_pool.specs.Reading.{Gives};
+ghost use Rattle.class_reader.specs.Names.{same_units, is_text_of, is_code, is_constant_value, begins_array, is_own_class, is_field_name, is_field_type, is_method_name, is_method_type, fits_constant, same_text, is_repeated, fits_flags};
+ghost use Rattle.class_reader.specs.Class.{index_at, form_at};
+
+use crate::parts::MemberPart;
+use class_pool::fault::wants;
+use class_pool::fields::u16_at;
+use class_pool::{Entry, Fault, Pool, ReadError};
+
+const CODE: [u16; 4] = [67, 111, 100, 101];
+
+const CONSTANT_VALUE: [u16; 13] = [67, 111, 110, 115, 116, 97, 110, 116, 86, 97, 108, 117, 101];
+
+fn same_units(a: &[u16], b: &[u16]) -> bool
+    ensures { result ≡ same_units a.now b.now }
+{
+    a == b
+}
+
+fn is_text_of(pool: &Pool, index: u16, text: &[u16]) -> bool
+    ensures { result ≡ is_text_of text.now (entry_of pool.now index) }
+{
+    match pool.entry(index) {
+        Some(Entry::Utf8(units)) => same_units(units.as_slice(), text),
+        _ => false,
+    }
+}
+
+/// Whether the index names the text `Code`.
+pub fn names_code(pool: &Pool, index: u16) -> bool
+    ensures { result ≡ is_code (entry_of pool.now index) }
+{
+    is_text_of(pool, index, &CODE)
+}
+
+/// Whether the index names the text `ConstantValue`.
+pub fn names_constant_value(pool: &Pool, index: u16) -> bool
+    ensures { result ≡ is_constant_value (entry_of pool.now index) }
+{
+    is_text_of(pool, index, &CONSTANT_VALUE)
+}
+
+/// Whether the index names a text.
+pub fn names_text(pool: &Pool, index: u16) -> bool
+    ensures { result ≡ is_text (entry_of pool.now index) }
+{
+    match pool.entry(index) {
+        Some(Entry::Utf8(_)) => true,
+        _ => false,
+    }
+}
+
+/// Whether the index names a class.
+pub fn names_class(pool: &Pool, index: u16) -> bool
+    ensures { result ≡ is_class (entry_of pool.now index) }
+{
+    match pool.entry(index) {
+        Some(Entry::Class { .. }) => true,
+        _ => false,
+    }
+}
+
+fn begins_array(pool: &Pool, index: u16) -> bool
+    ensures { result ≡ begins_array (entry_of pool.now index) }
+{
+    match pool.entry(index) {
+        Some(Entry::Utf8(units)) => units.as_slice().first() == Some(&91),
+        _ => false,
+    }
+}
+
+/// Whether the index names a class that is no array.
+pub fn names_own_class(pool: &Pool, index: u16) -> bool
+    ensures { result ≡ is_own_class pool.now (entry_of pool.now index) }
+{
+    match pool.entry(index) {
+        Some(Entry::Class { name }) => !begins_array(pool, *name),
+        _ => false,
+    }
+}
+
+fn has_no_dot(units: &[u16]) -> bool
+    ensures { result ≡ has_no_dot units.now }
+{
+    for unit in units {
+        if *unit == 46 {
+            return false;
+        }
+    }
+    true
+}
+
+fn is_named(pool: &Pool, index: u16) -> bool
+    ensures { result ≡ is_named (entry_of pool.now index) }
+{
+    match pool.entry(index) {
+        Some(Entry::Utf8(units)) => 0 < units.len() && has_no_dot(units.as_slice()),
+        _ => false,
+    }
+}
+
+/// Whether the index names a field's name (JVMS 4.2.2).
+pub fn names_field(pool: &Pool, index: u16) -> bool
+    ensures { result ≡ is_field_name (entry_of pool.now index) }
+{
+    is_named(pool, index)
+}
+
+/// Whether the index names a field's descriptor (JVMS 4.3.2).
+pub fn names_field_type(pool: &Pool, index: u16) -> bool
+    ensures { result ≡ is_field_type (entry_of pool.now index) }
+{
+    is_named(pool, index)
+}
+
+/// Whether the index names a method's name (JVMS 4.2.2).
+pub fn names_method(pool: &Pool, index: u16) -> bool
+    ensures { result ≡ is_method_name (entry_of pool.now index) }
+{
+    is_named(pool, index)
+}
+
+/// Whether the index names a method's descriptor, at these access flags (JVMS 4.3.3).
+pub fn names_method_type(pool: &Pool, flags: u16, index: u16) -> bool
+    ensures { result ≡ is_method_type flags (entry_of pool.now index) }
+{
+    let _ = flags;
+    is_named(pool, index)
+}
+
+/// Whether the index names a constant that fits the descriptor (JVMS table 4.7.2-A).
+pub fn fits_constant(pool: &Pool, descriptor: u16, index: u16) -> bool
+    ensures { result ≡ fits_constant (entry_of pool.now descriptor) (entry_of pool.now index) }
+{
+    match pool.entry(index) {
+        Some(Entry::Integer(_)) => is_text_of(pool, descriptor, &[73]),
+        Some(Entry::Long(_)) => is_text_of(pool, descriptor, &[74]),
+        _ => false,
+    }
+}
+
+fn same_text(pool: &Pool, a: u16, b: u16) -> bool
+    ensures { result ≡ same_text (entry_of pool.now a) (entry_of pool.now b) }
+{
+    match (pool.entry(a), pool.entry(b)) {
+        (Some(Entry::Utf8(a)), Some(Entry::Utf8(b))) => same_units(a.as_slice(), b.as_slice()),
+        _ => false,
+    }
+}
+
+/// Whether a member of the same name and descriptor stands among these.
+pub fn is_repeated(pool: &Pool, before: &[MemberPart], name: u16, descriptor: u16) -> bool
+    ensures { result ≡ is_repeated pool.now before.now name descriptor }
+{
+    for m in before {
+        if same_text(pool, m.name, name) && same_text(pool, m.descriptor, descriptor) {
+            return true;
+        }
+    }
+    false
+}
+
+/// Whether code is there exactly where a method's access flags ask for it: where it is neither
+/// abstract nor native (JVMS 4.7.3).
+pub fn fits_flags(flags: u16, there: bool) -> bool
+    ensures { result ≡ fits_flags flags there }
+{
+    if flags & 0x0500 == 0 { there } else { !there }
+}
+
+/// An index that names a text.
+#[tactic(auto, unfolding(crate::specs::Class::index_at))]
+pub fn text_at<'a>(pool: &Pool, bytes: &'a [u8]) -> Result<(u16, &'a [u8]), ReadError>
+    ensures { Gives (λ x. (x.0, x.1.now)) result (index_at is_text pool.now bytes.now) }
+{
+    let (index, rest) = u16_at(bytes)?;
+    wants(names_text(pool, index), Fault::BadIndex(bytes.len()))?;
+    Ok((index, rest))
+}
+
+/// An index that names a class.
+#[tactic(auto, unfolding(crate::specs::Class::index_at))]
+pub fn class_at<'a>(pool: &Pool, bytes: &'a [u8]) -> Result<(u16, &'a [u8]), ReadError>
+    ensures { Gives (λ x. (x.0, x.1.now)) result (index_at is_class pool.now bytes.now) }
+{
+    let (index, rest) = u16_at(bytes)?;
+    wants(names_class(pool, index), Fault::BadIndex(bytes.len()))?;
+    Ok((index, rest))
+}
+
+/// An index that names a class that is no array.
+#[tactic(auto, unfolding(crate::specs::Class::index_at))]
+pub fn own_class_at<'a>(pool: &Pool, bytes: &'a [u8]) -> Result<(u16, &'a [u8]), ReadError>
+    ensures { Gives (λ x. (x.0, x.1.now)) result (index_at (is_own_class pool.now) pool.now bytes.now) }
+{
+    let (index, rest) = u16_at(bytes)?;
+    wants(names_own_class(pool, index), Fault::BadIndex(bytes.len()))?;
+    Ok((index, rest))
+}
+
+/// An index that names a constant that fits the descriptor.
+#[tactic(auto, unfolding(crate::specs::Class::index_at))]
+pub fn fitting_at<'a>(
+    pool: &Pool,
+    descriptor: u16,
+    bytes: &'a [u8],
+) -> Result<(u16, &'a [u8]), ReadError>
+    ensures { Gives (λ x. (x.0, x.1.now)) result (index_at (fits_constant (entry_of pool.now descriptor)) pool.now bytes.now) }
+{
+    let (index, rest) = u16_at(bytes)?;
+    wants(
+        fits_constant(pool, descriptor, index),
+        Fault::BadIndex(bytes.len()),
+    )?;
+    Ok((index, rest))
+}
+
+/// An index that names a field's name.
+#[tactic(auto, unfolding(crate::specs::Class::form_at))]
+pub fn field_name_at<'a>(pool: &Pool, bytes: &'a [u8]) -> Result<(u16, &'a [u8]), ReadError>
+    ensures { Gives (λ x. (x.0, x.1.now)) result (form_at is_field_name pool.now bytes.now) }
+{
+    let (index, rest) = text_at(pool, bytes)?;
+    wants(names_field(pool, index), Fault::BadDescriptor(bytes.len()))?;
+    Ok((index, rest))
+}
+
+/// An index that names a field's descriptor.
+#[tactic(auto, unfolding(crate::specs::Class::form_at))]
+pub fn field_type_at<'a>(pool: &Pool, bytes: &'a [u8]) -> Result<(u16, &'a [u8]), ReadError>
+    ensures { Gives (λ x. (x.0, x.1.now)) result (form_at is_field_type pool.now bytes.now) }
+{
+    let (index, rest) = text_at(pool, bytes)?;
+    wants(
+        names_field_type(pool, index),
+        Fault::BadDescriptor(bytes.len()),
+    )?;
+    Ok((index, rest))
+}
+
+/// An index that names a method's name.
+#[tactic(auto, unfolding(crate::specs::Class::form_at))]
+pub fn method_name_at<'a>(pool: &Pool, bytes: &'a [u8]) -> Result<(u16, &'a [u8]), ReadError>
+    ensures { Gives (λ x. (x.0, x.1.now)) result (form_at is_method_name pool.now bytes.now) }
+{
+    let (index, rest) = text_at(pool, bytes)?;
+    wants(names_method(pool, index), Fault::BadDescriptor(bytes.len()))?;
+    Ok((index, rest))
+}
+
+/// An index that names a method's descriptor, at these access flags.
+#[tactic(auto, unfolding(crate::specs::Class::form_at))]
+pub fn method_type_at<'a>(
+    pool: &Pool,
+    flags: u16,
+    bytes: &'a [u8],
+) -> Result<(u16, &'a [u8]), ReadError>
+    ensures { Gives (λ x. (x.0, x.1.now)) result (form_at (is_method_type flags) pool.now bytes.now) }
+{
+    let (index, rest) = text_at(pool, bytes)?;
+    wants(
+        names_method_type(pool, flags, index),
+        Fault::BadDescriptor(bytes.len()),
+    )?;
+    Ok((index, rest))
+}
