@@ -6,6 +6,7 @@ mod no_memory;
 mod numbers;
 mod text;
 mod utf;
+mod utf8;
 
 pub use items::{Items, Text, Units};
 pub use no_memory::NoMemory;
@@ -18,3 +19,7 @@ pub use text::{
     push_quoted_units, push_signed, quote_bytes, quote_units,
 };
 pub use utf::{UtfFault, modified_of_units, push_modified, units_of_modified};
+pub use utf8::bytes_of_units;
+
+#[cfg(test)]
+mod tests;

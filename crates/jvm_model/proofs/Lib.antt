@@ -1,2 +1,7 @@
+pub mod Binds
+pub mod Bridges
+pub mod Locations
+pub mod Fuel
+pub mod Ranges
 mod ExampleParts
 mod Examples
