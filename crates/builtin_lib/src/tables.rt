@@ -3,13 +3,14 @@
 use crate::rows::{ClassRow, FieldRow, MethodRow};
 use jvm_model::{Native, Value};
 
-const PUBLIC: u16 = 0x0001;
+// Access flags (JVMS tables 4.1-B, 4.5-A and 4.6-A); public, which nothing here looks at, is left out.
+const NONE: u16 = 0;
 
 const PRIVATE: u16 = 0x0002;
 
-const STATIC: u16 = 0x0009;
+const STATIC: u16 = 0x0008;
 
-const ABSTRACT: u16 = 0x0401;
+const ABSTRACT: u16 = 0x0400;
 
 const OBJECT_METHODS: [MethodRow; 3] = [
     MethodRow {
