@@ -11,24 +11,22 @@ mod tables;
 use et_base::{Items, NoMemory, Units};
 use jvm_model::{ClassDef, Native};
 use std::alloc::Global;
-use tables::CLASSES;
+use tables::class_rows;
 
 /// The built-in classes with their fields and methods, each after its superclass.
-#[tactic(auto, unfolding(jvm_model::specs::Library::builtin_defs))]
 pub fn builtins(alloc: Global) -> Result<Items<ClassDef>, NoMemory>
     ensures { IfOk result (λ classes. classes ≡ builtin_defs) }
 {
-    rows::classes(alloc, &CLASSES)
+    rows::classes(alloc, class_rows())
 }
 
 /// The built-in method of a class, name and descriptor, `None` exactly where the built-in classes lack it. It takes no
 /// memory.
-#[tactic(auto, unfolding(jvm_model::specs::Library::builtin_defs))]
 pub fn native_of(class: &Units, name: &Units, descriptor: &Units) -> Option<Native>
     ensures { result ≡ native_among builtin_defs class.now name.now descriptor.now }
 {
     rows::class_native(
-        &CLASSES,
+        class_rows(),
         class.as_slice(),
         name.as_slice(),
         descriptor.as_slice(),

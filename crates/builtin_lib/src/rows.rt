@@ -126,10 +126,12 @@ pub fn classes(alloc: Global, rows: &[ClassRow]) -> Result<Items<ClassDef>, NoMe
 fn is(units: &[u16], text: &[u8]) -> bool
     ensures { result ≡ same_units units.now text.now }
 {
-    match (units, text) {
-        ([], []) => true,
-        ([unit, units @ ..], [byte, text @ ..]) => *unit == *byte as u16 && is(units, text),
-        _ => false,
+    match units {
+        [] => text.is_empty(),
+        [unit, units @ ..] => match text {
+            [] => false,
+            [byte, text @ ..] => *unit == *byte as u16 && is(units, text),
+        },
     }
 }
 

@@ -1,5 +1,9 @@
 //! The built-in classes as tables.
 
+ghost use Rattle.std.specs.Prelude.{◌≡◌, map};
+ghost use Rattle.jvm_model.specs.Library.{builtin_defs};
+ghost use Rattle.builtin_lib.specs.Rows.{class_of};
+
 use crate::rows::{ClassRow, FieldRow, MethodRow};
 use jvm_model::{Native, Value};
 
@@ -405,8 +409,7 @@ const THROWABLE_FIELDS: [FieldRow; 1] = [FieldRow {
     opening: Value::Null,
 }];
 
-/// The built-in classes, each after its superclass.
-pub const CLASSES: [ClassRow; 32] = [
+static CLASSES: [ClassRow; 32] = [
     ClassRow {
         name: b"java/lang/Object",
         flags: NONE,
@@ -632,3 +635,10 @@ pub const CLASSES: [ClassRow; 32] = [
         methods: &THROWABLE_CONSTRUCTORS,
     },
 ];
+
+/// The built-in classes, each after its superclass.
+pub fn class_rows() -> &'static [ClassRow]
+    ensures { map class_of result.now ≡ builtin_defs }
+{
+    &CLASSES
+}
