@@ -1,6 +1,7 @@
 //! A real folder as a depot.
 
-ghost use Rattle.std.specs.Prelude.{◌≡◌, ◌≤◌, length, IfOk, IsErrOf};
+ghost use Rattle.std.specs.Prelude.{◌≡◌, ◌<◌, ◌≤◌, ◌++◌, ◌∷◌, length, IfOk, IfSome, IsErrOf, string_bytes};
+ghost use Rattle.outside.specs.Counts.{Rose, raised};
 
 use crate::counts::raise;
 use crate::{Depot, DepotRefusal};
@@ -8,12 +9,16 @@ use et_base::Text;
 use std::alloc::{AllocError, Global};
 use std::fs;
 use std::io::{ErrorKind, Read};
+use std::marker::Model;
 use std::rt::Files;
 
 /// How many bytes one call reads.
 const CHUNK: usize = 16_384;
 
-/// A real folder. It doesn't tell what it holds.
+/// A real folder. It doesn't tell what it holds. Contracts see it as its count of faults.
+///
+/// `Absent` comes where the system says that no such file is there, `TooLong` once a byte past the limit was read, and
+/// `Failed` at every other failure of the outside; a name that is no UTF-8 is one of them.
 #[derive(Drop)]
 pub struct FolderDepot<'a, R: Files> {
     rt: &'a R,
@@ -22,10 +27,18 @@ pub struct FolderDepot<'a, R: Files> {
     faults: u64,
 }
 
+impl<'a, R: Files> Model for FolderDepot<'a, R> {
+    ghost use Rattle.std.specs.Prelude.{ℕ};
+
+    ghost Value = { ℕ };
+
+    ghost view = { λ d. d.faults };
+}
+
 impl<'a, R: Files> FolderDepot<'a, R> {
     /// A folder of a runtime, with no fault so far.
     pub fn new(rt: &'a R, alloc: Global, folder: String) -> FolderDepot<'a, R>
-        ensures { result.faults ≡ 0 }
+        ensures { result ≡ 0 }
     {
         FolderDepot {
             rt,
@@ -35,34 +48,38 @@ impl<'a, R: Files> FolderDepot<'a, R> {
         }
     }
 
-    /// Reads the file without counting a fault. A name that is no UTF-8 counts as a failure.
+    /// Reads the file without counting a fault.
     fn read_file(&self, name: &Text, limit: u64) -> Result<Vec<u8>, DepotRefusal>
         ensures { IfOk result (λ bytes. length bytes.items ≤ limit) }
     {
         let Ok(name) = str::from_utf8(name.as_slice()) else {
             return Err(DepotRefusal::Failed);
         };
-        let path = self.path_of(name)?;
+        let path = path_of(self.alloc, self.folder.as_str(), name)?;
         match fs::open(self.rt, path.as_str()) {
             Ok(mut file) => read_whole(self.alloc, &mut file, limit),
             Err(error) if error.kind() == ErrorKind::NotFound => Err(DepotRefusal::Absent),
             Err(_) => Err(DepotRefusal::Failed),
         }
     }
+}
 
-    /// Where the file of a name lies.
-    fn path_of(&self, name: &str) -> Result<String, AllocError> {
-        let mut path = String::from_str(self.alloc, self.folder.as_str())?;
-        path.push('/')?;
-        path.push_str(name)?;
-        Ok(path)
-    }
+/// Where the file of a name lies: the folder, a slash, the name.
+fn path_of(alloc: Global, folder: &str, name: &str) -> Result<String, AllocError>
+    ensures { IfOk result (λ path. string_bytes path ≡ folder.now ++ 47 ∷ name.now) }
+{
+    let mut path = String::from_str(alloc, folder)?;
+    path.push_str("/")?;
+    path.push_str(name)?;
+    Ok(path)
 }
 
 /// Reads to the end, and at most one byte past the limit.
 fn read_whole<F: Read>(alloc: Global, file: &mut F, limit: u64) -> Result<Vec<u8>, DepotRefusal>
     ensures within { IfOk result (λ bytes. length bytes.items ≤ limit) }
+    ensures bytes { IfOk result (λ bytes. IfSome (F.remaining file.old) (λ all. bytes.items ≡ all)) }
     ensures absent { IsErrOf result DepotRefusal.Absent → ⊥ }
+    ensures too_long { IsErrOf result DepotRefusal.TooLong → IfSome (F.remaining file.old) (λ all. limit < length all) }
 {
     let mut bytes = Vec::new(alloc);
     let mut left = limit;
@@ -88,9 +105,17 @@ impl<'a, R: Files> Depot for FolderDepot<'a, R> {
 
     ghost told = { λ _. None };
 
-    ghost faults = { λ d. d.faults };
+    ghost faults = { λ faults. faults };
 
-    fn read(&mut self, name: &Text, limit: u64) -> Result<Vec<u8>, DepotRefusal> {
+    fn read(&mut self, name: &Text, limit: u64) -> Result<Vec<u8>, DepotRefusal>
+        ensures within { IfOk result (λ bytes. length bytes.items ≤ limit) }
+
+        // It counts a fault just where it answers one.
+        ensures fault { IsErrOf result DepotRefusal.Failed → self.new ≡ raised self.old }
+        ensures no_fault { (IsErrOf result DepotRefusal.Failed → ⊥) → self.new ≡ self.old }
+        ensures rose { IsErrOf result DepotRefusal.Failed → Rose self.old self.new }
+        ensures later { self.old ≤ self.new }
+    {
         let answer = self.read_file(name, limit);
         if let Err(DepotRefusal::Failed) = &answer {
             self.faults = raise(self.faults);

@@ -1,0 +1,14 @@
+use Rattle.std.proofs.Common.{refl}
+use Rattle.outside.proofs.FolderLemmas.{untold}
+use Rattle.outside.proofs.folder_depot.FolderDepotDepot.TheImpl.Goals as goal
+
+pub read-tells : goal.read-tells
+read-tells g c = record {
+  told = refl;
+  faults = c.ensures.later;
+  within = c.ensures.within;
+  bytes = untold c.result;
+  absent = λ _. tt;
+  too_long = λ _. tt;
+  failed = c.ensures.rose;
+}
