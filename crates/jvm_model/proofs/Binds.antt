@@ -1,8 +1,8 @@
 -- What a program of accesses does that is put together by bind.
-use Rattle.std.proofs.Common.{◌≡◌, ℕ, List, ◌++◌, ◌+◌, ◌-◌, ◌≤◌, Bool, true, false, ◌&&◌, nat_le, if◌then◌else◌, refl, ap, sym, ◌∙◌, subst, arith, append_assoc}
+use Rattle.std.proofs.Common.{◌≡◌, ℕ, List, ◌++◌, ◌+◌, ◌-◌, Bool, true, false, ◌&&◌, nat_le, if◌then◌else◌, refl, ap, sym, ◌∙◌, subst, arith, append_assoc}
 use Rattle.jvm_model.specs.declared.values.Touch.{Touch}
 use Rattle.jvm_model.specs.World.{World, at, put, size, make_object, has}
-use Rattle.jvm_model.specs.Access.{Access, done, read, write, make, spend, bind, made, Ran, run}
+use Rattle.jvm_model.specs.Access.{Access, done, read, write, make, spend, bind, made, run}
 use Rattle.jvm_model.specs.View.{Counted, over, ended, counted, and_then, touched, IsSafe}
 
 and_assoc : (a b c : Bool) → (a && (b && c)) ≡ ((a && b) && c)

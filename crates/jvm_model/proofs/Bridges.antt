@@ -1,13 +1,12 @@
 -- The code's view of a program of accesses is its run.
-use Rattle.std.proofs.Common.{◌≡◌, ℕ, suc, List, [], ◌∷◌, ◌++◌, ◌+◌, ◌-◌, ◌≤◌, ◌<◌, Bool, true, false, ◌&&◌, nat_le, nat_lt, if◌then◌else◌, refl, ap, sym, ◌∙◌, subst, arith, append_assoc, append-nil, inl, inr}
+use Rattle.std.proofs.Common.{◌≡◌, ℕ, List, [], ◌∷◌, ◌++◌, ◌+◌, ◌-◌, Bool, true, ◌&&◌, nat_le, if◌then◌else◌, refl, ap, sym, ◌∙◌, arith, append_assoc, append-nil, inl, inr}
 use Rattle.std.proofs.lemmas.Bool.{cases_Bool}
 use Rattle.jvm_model.specs.declared.values.Touch.{Touch}
 use Rattle.jvm_model.specs.declared.values.Location.{Location}
 use Rattle.jvm_model.specs.declared.values.Location.TheVariants as place
 use Rattle.jvm_model.specs.World.{World, at, put, size, make_object, has}
 use Rattle.jvm_model.specs.Access.{Access, done, read, write, make, spend, bind, made, read_of, write_of, Ran, run}
-use Rattle.jvm_model.specs.View.{Counted, over, ended, counted, and_then, touched, Exists, IsSafe}
-use Rattle.jvm_model.proofs.Binds.{counted_bind}
+use Rattle.jvm_model.specs.View.{Counted, over, ended, counted, touched, Exists, IsSafe}
 
 -- what a run comes to under a number of units
 abbrev pub compared : {A : Type 0} → Ran A → ℕ → Counted A
@@ -67,7 +66,7 @@ spent_later n (write l c rest) f w left a w' left' e = spent_later n rest f (put
 spent_later n (make x k) f w left a w' left' e = spent_later n (k (size w)) f (make_object w x) left a w' left' e
 spent_later n (spend m rest) f w left a w' left' e = elim (cases_Bool (nat_le m left)) [
   | inl h ↦
-    let g : counted rest w (left - m) ≡ ended a w' left' = sym (rw h refl) ∙ e in
-    swapped n m left (λ u. counted (bind rest f) w u) h ∙ spent_later n rest f w (left - m) a w' left' g
+      let g : counted rest w (left - m) ≡ ended a w' left' = sym (rw h refl) ∙ e in
+      swapped n m left (λ u. counted (bind rest f) w u) h ∙ spent_later n rest f w (left - m) a w' left' g
   | inr h ↦ let g : over ≡ ended a w' left' = sym (rw h refl) ∙ e in absurd (cc)
 ]

@@ -1,18 +1,16 @@
 -- Small suites that are run by computation: the definitions give the verdicts, outputs and units that they should.
-use Rattle.std.proofs.Common.{◌≡◌, ℕ, List, [], ◌∷◌, ◌++◌, length, Option, Some, None, refl, pos, true, false, map}
+use Rattle.std.proofs.Common.{◌≡◌, ℕ, List, [], ◌∷◌, ◌++◌, Option, Some, None, refl, pos, map}
 use Rattle.std.specs.Prelude.{codes}
 use Rattle.std.specs.Fmt.{digits}
-use Rattle.jvm_model.specs.declared.values.Value.TheVariants.{Int, Long, Null, Lit, Obj}
+use Rattle.jvm_model.specs.declared.values.Value.TheVariants.{Int}
 use Rattle.jvm_model.specs.declared.instr.Instr.TheVariants as form
-use Rattle.jvm_model.specs.declared.instr.Op.TheVariants.{Add}
 use Rattle.jvm_model.specs.declared.outcome.Outcome.{Outcome}
 use Rattle.jvm_model.specs.declared.outcome.Verdict.TheVariants.{Passed}
 use Rattle.jvm_model.specs.declared.program.Program.{Program}
 use Rattle.jvm_model.specs.Library.{builtin_defs, builtin_classes, builtin_fields, builtin_methods}
-use Rattle.jvm_model.specs.Classes.{class_bound, own_interfaces, is_below, implements, default_interfaces, is_trivial, layout, blank, form_at, next_place}
+use Rattle.jvm_model.specs.Classes.{class_bound, own_interfaces, default_interfaces, is_trivial, form_at, next_place}
 use Rattle.jvm_model.specs.Descriptors.{parameters, return_letter}
 use Rattle.jvm_model.specs.Narrow.{narrow}
-use Rattle.jvm_model.specs.Printed.{decimal_of}
 use Rattle.jvm_model.specs.Suite.{Given, opening, tree, one_test, runs, all_tests}
 use Rattle.jvm_model.specs.Step.{step, row, row_here}
 use Rattle.jvm_model.specs.Rows.{begin}
@@ -47,5 +45,5 @@ counter_suite = program (class (codes "Counter") (2 ∷ []) (102 ∷ 103 ∷ [])
     [] (test 32 102 ∷ test 32 103 ∷ [])
 
 counter_runs : outcomes (runs counter_suite (all_tests counter_suite)) ≡ Some (passed [] 6 ∷ passed (codes "5" ++ 10 ∷ []) 8 ∷ [])
-unfolding builtin_classes builtin_fields builtin_methods builtin_defs class_bound own_interfaces default_interfaces is_trivial form_at next_place opening tree one_test runs step row row_here begin row_return hands_on drive drives drive_first judge row_moves row_statics read_static write_static row_calls calls parameters return_letter narrow decimal_of row_native digits
+unfolding builtin_classes builtin_fields builtin_methods builtin_defs class_bound own_interfaces default_interfaces is_trivial form_at next_place opening tree one_test runs step row row_here begin row_return hands_on drive drives drive_first judge row_moves row_statics read_static write_static row_calls calls parameters return_letter narrow row_native digits
 counter_runs = refl

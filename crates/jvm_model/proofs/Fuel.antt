@@ -1,13 +1,13 @@
 -- Why a test gives nothing: it met what doesn't stand or has no row, or its units pass the budget.
-use Rattle.std.proofs.Common.{get_or, ◌≡◌, ◌⊎◌, ℕ, zero, suc, ◌+◌, ◌<◌, ◌≤◌, List, Bool, true, false, ◌&&◌, cond, leb, ◌++◌, refl, sym, ◌∙◌, ap, inl, inr, arith, append_assoc, Option, Some, None}
+use Rattle.std.proofs.Common.{◌≡◌, ◌⊎◌, ℕ, zero, suc, ◌<◌, ◌≤◌, List, Bool, true, false, leb, refl, sym, ◌∙◌, ap, inl, inr, arith, Some, None}
 use Rattle.std.proofs.lemmas.Bool.{cases_Bool, leb-false}
 use Rattle.jvm_model.specs.declared.values.Touch.{Touch}
 use Rattle.jvm_model.specs.declared.program.Program.{Program}
 use Rattle.jvm_model.specs.World.{World}
-use Rattle.jvm_model.specs.Access.{Access, done, spend, bind, Ran, run}
+use Rattle.jvm_model.specs.Access.{Ran, run}
 use Rattle.jvm_model.specs.State.{State, Turn, next, ended, no_turn, started}
 use Rattle.jvm_model.specs.Step.{acts, step}
-use Rattle.jvm_model.specs.Suite.{End, finished, stuck, out_of_steps, after_step, whole, tree, Given, given_at, one_test}
+use Rattle.jvm_model.specs.Suite.{End, finished, stuck, out_of_steps, after_step, whole, tree, given_at, one_test}
 use Rattle.jvm_model.proofs.Binds.{run_bind}
 
 after_next : (p : Program) (k : ℕ) (x : Turn) (w : World) → ((t : State) (w : World) → (run (whole p k t) w).value ≡ out_of_steps → k ≤ (run (whole p k t) w).units) →

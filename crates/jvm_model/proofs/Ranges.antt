@@ -1,5 +1,5 @@
 -- Within its range a list that is extended where it is short is a list that is set.
-use Rattle.std.proofs.Common.{◌≡◌, ℕ, zero, suc, ◌<◌, List, [], ◌∷◌, length, set, Bool, true, false, nat_eq, refl, ap, arith}
+use Rattle.std.proofs.Common.{◌≡◌, ℕ, zero, suc, ◌<◌, List, [], ◌∷◌, length, set, refl, ap, arith}
 use Rattle.jvm_model.specs.World.{put_at}
 
 pub put_at_is_set : {A : Type 0} (d : A) (xs : List A) (i : ℕ) (v : A) → i < length xs → put_at d xs i v ≡ set xs i v

@@ -1,6 +1,6 @@
 -- What a method's descriptor says (JVMS 4.3.3), by the first unit of each type: B C F D I J S Z of the number types, L of
 -- a class and [ of an array.
-use Rattle.std.specs.Prelude.{ℕ, List, [], ◌∷◌, length, Bool, true, false, nat_eq}
+use Rattle.std.specs.Prelude.{ℕ, List, [], ◌∷◌, true, false, nat_eq}
 
 -- where a reader of a descriptor stands
 pub data Scan : Type 0 where

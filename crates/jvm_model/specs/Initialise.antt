@@ -1,5 +1,4 @@
 -- Steps on an initialisation entry (JVMS 5.5, the order is this project's).
-use Rattle.std.specs.Prelude.{ℕ}
 use Rattle.jvm_model.specs.declared.values.Value.{Value}
 use Rattle.jvm_model.specs.declared.program.Program.{Program}
 use Rattle.jvm_model.specs.Access.{Access}

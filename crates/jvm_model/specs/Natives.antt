@@ -1,5 +1,5 @@
 -- The built-in methods: each runs in the step that calls it.
-use Rattle.std.specs.Prelude.{ℕ, ℤ, List, [], ◌∷◌, ◌++◌, length}
+use Rattle.std.specs.Prelude.{ℕ, List, [], ◌∷◌, ◌++◌, length}
 use Rattle.jvm_model.specs.declared.values.Value.{Value}
 use Rattle.jvm_model.specs.declared.library.Native.{Native}
 use Rattle.jvm_model.specs.declared.library.Native.TheVariants as native
@@ -8,7 +8,7 @@ use Rattle.jvm_model.specs.declared.outcome.Next.TheVariants.{Go}
 use Rattle.jvm_model.specs.declared.program.Program.{Program}
 use Rattle.jvm_model.specs.Access.{Access, done, spend}
 use Rattle.jvm_model.specs.Classes.{next_place}
-use Rattle.jvm_model.specs.Printed.{decimal_of}
+use Rattle.std.specs.Fmt.{signed_decimal}
 use Rattle.jvm_model.specs.Entries.{Entries, with_stack, with_place}
 use Rattle.jvm_model.specs.Rows.{Answer, answer, none_here, popping, on_int}
 
@@ -26,5 +26,5 @@ abbrev pub printed : List ℕ → Working → Working
 printed bytes s = record s { own = record s.own { output = s.own.output ++ bytes } }
 
 unfoldable pub row_native : Program → Native → Working → Access (Answer Working)
-row_native p native.EnvPrint s = popping s.entries.top.stack (λ v vs. on_int v (λ n. let bytes = decimal_of n ++ (10 ∷ []) in spend (length bytes) (answers p (printed bytes s) vs)))
+row_native p native.EnvPrint s = popping s.entries.top.stack (λ v vs. on_int v (λ n. let bytes = signed_decimal n ++ (10 ∷ []) in spend (length bytes) (answers p (printed bytes s) vs)))
 row_native p _ s = none_here

@@ -1,15 +1,14 @@
 -- The combinators of which the rows of the table of steps are made.
-use Rattle.std.specs.Prelude.{ℕ, ℤ, List, [], ◌∷◌, length, ◌+◌, Bool, true, false, cond, nat_le, nat_eq, Option, Some, None, get_or}
+use Rattle.std.specs.Prelude.{ℕ, ℤ, List, [], ◌∷◌, cond}
 use Rattle.jvm_model.specs.declared.values.Value.{Value}
 use Rattle.jvm_model.specs.declared.values.Value.TheVariants.{Int, Long, Null, Lit, Obj}
 use Rattle.jvm_model.specs.declared.values.InitState.{InitState}
 use Rattle.jvm_model.specs.declared.values.InitState.TheVariants.{Idle, Running, Done, Erroneous}
 use Rattle.jvm_model.specs.declared.values.Location.TheVariants as place
 use Rattle.jvm_model.specs.declared.outcome.Next.{Next}
-use Rattle.jvm_model.specs.declared.outcome.Next.TheVariants.{Go, Fault, Raise, Enter, Leave}
+use Rattle.jvm_model.specs.declared.outcome.Next.TheVariants.{Go, Fault}
 use Rattle.jvm_model.specs.declared.program.Program.{Program}
-use Rattle.jvm_model.specs.World.{Object}
-use Rattle.jvm_model.specs.Access.{Access, done, read, write, make, spend, bind}
+use Rattle.jvm_model.specs.Access.{Access, done, read, write, bind}
 use Rattle.jvm_model.specs.Classes.{is_trivial, next_place, literal_at}
 use Rattle.jvm_model.specs.Entries.{Entries, with_stack, with_place, with_entry, class_entry, is_full}
 use Rattle.jvm_model.specs.Builtin.{null_pointer_exception, no_class_error, stack_overflow_error}

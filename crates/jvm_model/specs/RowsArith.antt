@@ -1,14 +1,12 @@
 -- Whole-number arithmetic (JVMS 6.5, under each instruction's name): no touch, no cost besides 1.
-use Rattle.std.specs.Prelude.{ℕ, ℤ, List, [], ◌∷◌, Bool, true, false, Option, Some, None}
-use Rattle.jvm_model.specs.declared.values.Value.{Value}
-use Rattle.jvm_model.specs.declared.values.Value.TheVariants.{Int, Long, Null, Lit, Obj}
-use Rattle.jvm_model.specs.declared.instr.Op.{Op}
-use Rattle.jvm_model.specs.declared.instr.Op.TheVariants.{Add, Sub, Mul, Div, Rem, Shl, Shr, Ushr, And, Or, Xor}
+use Rattle.std.specs.Prelude.{◌∷◌, false}
+use Rattle.jvm_model.specs.declared.values.Value.TheVariants.{Int}
+use Rattle.jvm_model.specs.declared.instr.Op.TheVariants.{Add}
 use Rattle.jvm_model.specs.declared.instr.Instr.{Instr}
 use Rattle.jvm_model.specs.declared.instr.Instr.TheVariants as form
 use Rattle.jvm_model.specs.declared.program.Program.{Program}
 use Rattle.jvm_model.specs.Access.{Access}
-use Rattle.jvm_model.specs.Whole.{add32}
+use Rattle.et_base.specs.Numbers.{add32}
 use Rattle.jvm_model.specs.Entries.{Entries}
 use Rattle.jvm_model.specs.Rows.{Answer, none_here, goes_on, popping, on_int}
 

@@ -1,12 +1,10 @@
 -- The four invoke forms (JVMS 6.5).
-use Rattle.std.specs.Prelude.{ℕ, ℤ, List, [], ◌∷◌, length, ◌+◌, Bool, true, false, cond, nat_le, Option, Some, None}
+use Rattle.std.specs.Prelude.{ℕ, length, cond, nat_le, Option, Some, None}
 use Rattle.jvm_model.specs.declared.instr.Instr.{Instr}
 use Rattle.jvm_model.specs.declared.instr.Instr.TheVariants as form
-use Rattle.jvm_model.specs.declared.outcome.Next.{Next}
 use Rattle.jvm_model.specs.declared.outcome.Next.TheVariants.{Enter}
 use Rattle.jvm_model.specs.declared.library.Native.{Native}
 use Rattle.jvm_model.specs.declared.program.Body.{Body}
-use Rattle.jvm_model.specs.declared.program.MethodRec.{MethodRec}
 use Rattle.jvm_model.specs.declared.program.Program.{Program}
 use Rattle.jvm_model.specs.Access.{Access, done, spend}
 use Rattle.jvm_model.specs.Builtin.{abstract_method_error, stack_overflow_error}

@@ -1,5 +1,4 @@
 -- getfield and putfield (JVMS 6.5).
-use Rattle.std.specs.Prelude.{ℕ}
 use Rattle.jvm_model.specs.declared.instr.Instr.{Instr}
 use Rattle.jvm_model.specs.declared.program.Program.{Program}
 use Rattle.jvm_model.specs.Access.{Access}

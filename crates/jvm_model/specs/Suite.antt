@@ -1,14 +1,13 @@
 -- One test, and lists of tests on one heap.
-use Rattle.std.specs.Prelude.{◌≡◌, ℕ, zero, suc, ◌+◌, ◌-◌, ◌<◌, ◌≤◌, List, [], ◌∷◌, map, length, Bool, true, false, cond, nat_le, nat_lt, min, Option, Some, None}
+use Rattle.std.specs.Prelude.{◌≡◌, ℕ, zero, suc, ◌+◌, ◌-◌, List, [], ◌∷◌, map, length, Bool, true, false, cond, nat_le, min, Option, Some, None}
 use Rattle.std.specs.List.{range_with_len}
-use Rattle.jvm_model.specs.declared.values.Value.{Value}
 use Rattle.jvm_model.specs.declared.values.InitState.TheVariants.{Idle}
 use Rattle.jvm_model.specs.declared.values.Touch.{Touch}
 use Rattle.jvm_model.specs.declared.outcome.Outcome.{Outcome}
 use Rattle.jvm_model.specs.declared.outcome.Verdict.{Verdict}
 use Rattle.jvm_model.specs.declared.program.Program.{Program}
 use Rattle.jvm_model.specs.World.{World}
-use Rattle.jvm_model.specs.Access.{Access, done, bind, Ran, run}
+use Rattle.jvm_model.specs.Access.{Access, done, bind, run}
 use Rattle.jvm_model.specs.State.{State, Turn, next, ended, no_turn, test_at, started}
 use Rattle.jvm_model.specs.Step.{step}
 
