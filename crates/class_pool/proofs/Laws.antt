@@ -408,3 +408,11 @@ joined_flat spell P before text (x ∷ xs) (one, more, e, s, others) =
 pub flat_joined : {A : Type 0} (spell : A → List ℕ) (P : A → Type 0) (before : List A) (xs : List A) → AllByRecursion P xs → Joined (λ _ _ t x. (t ≡ spell x) × P x) before (flat_map spell xs) xs
 flat_joined spell P before [] h = refl
 flat_joined spell P before (x ∷ xs) h = (spell x, flat_map spell xs, flat_map-cons spell x xs, (refl, h.0), flat_joined spell P (before ++ x ∷ []) xs h.1)
+
+-- ---- signed numbers
+
+pub reads_signed : (w : Width) (limit : ℕ) → limit ≡ 2 ^ bits w → IsWide w limit → Reads (Signed w) (λ bytes. number_at w bytes >>= λ n. Ok (cast_signed w n.0, n.1))
+reads_signed w limit whole wide = reads_as _ _ _
+    (λ text z (n, s, is). (s.0 ∙ ap (to_be_bytes w) (sym (of_z-to_z w n (subst (λ k. n < k) whole s.1)) ∙ ap (cast_unsigned w) (sym is)), subst (FitsSigned w) (sym is) ?))
+    (λ text z (e, fits). (cast_unsigned w z, (e, ?), sym (to_z-of_z w z fits)))
+    (reads_mapped (cast_signed w) _ _ (reads_number w limit (λ bytes. Truncated (length bytes)) wide))

@@ -3,6 +3,7 @@
 
 pub mod fault;
 pub mod fields;
+pub mod names;
 pub mod pool;
 mod utf;
 pub mod write;
