@@ -40,7 +40,8 @@ pub fn is_unqualified(units: &[u16]) -> bool
 pub fn is_special(units: &[u16]) -> bool
     ensures { result ≡ is_special units.now }
 {
-    units == [60, 105, 110, 105, 116, 62].as_slice() || units == [60, 99, 108, 105, 110, 105, 116, 62].as_slice()
+    units == [60, 105, 110, 105, 116, 62].as_slice()
+        || units == [60, 99, 108, 105, 110, 105, 116, 62].as_slice()
 }
 
 /// Whether these units are a method's name: `<init>`, `<clinit>` or an unqualified name without `<`
@@ -92,7 +93,11 @@ fn after_class(units: &[u16]) -> Option<&[u16]>
     ensures { option_map (λ x. x.now) result ≡ after_class units.now }
 {
     let end = semicolon(units)?;
-    if is_class_name(&units[..end]) { Some(&units[end + 1..]) } else { None }
+    if is_class_name(&units[..end]) {
+        Some(&units[end + 1..])
+    } else {
+        None
+    }
 }
 
 // What follows a type that is no array.
@@ -128,7 +133,11 @@ pub fn after_type(units: &[u16]) -> Option<&[u16]>
     ensures { option_map (λ x. x.now) result ≡ after_type units.now }
 {
     let dimensions = brackets(units)?;
-    if dimensions <= 255 { after_element(&units[dimensions..]) } else { None }
+    if dimensions <= 255 {
+        after_element(&units[dimensions..])
+    } else {
+        None
+    }
 }
 
 /// Whether these units are a field descriptor (JVMS 4.3.2).
