@@ -1,0 +1,4 @@
+mod Lists
+mod Given
+mod Forms
+mod Acts

@@ -1,0 +1,4 @@
+pub mod Served
+pub mod Standing
+pub mod Making
+pub mod Printed

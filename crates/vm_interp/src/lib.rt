@@ -1,0 +1,12 @@
+//! The machine: one step of a test, and steps up to its end or budget.
+#![tactic(auto)]
+
+mod cells;
+mod form;
+mod instructions;
+mod run;
+mod state;
+
+pub use form::{Form, served};
+pub use run::step;
+pub use state::{Ended, Place, RunFault, State};
