@@ -116,6 +116,7 @@ stepped_on p b s t old new i ws own n m st mv kept one within makes len straight
       };
       same_test = mv.test;
       costs = rw mv.units (omega arith);
+      ends = tt;
     }
 
 -- a step whose cost passes the budget
@@ -337,6 +338,7 @@ return_steps p b s t old i served st here mv within = record {
   };
   same_test = mv.test;
   costs = rw mv.units (omega arith);
+  ends = tt;
 }
 
 -- the call of the test's method
@@ -360,6 +362,7 @@ call_steps p b s t old served st h mv within =
       };
       same_test = mv.test;
       costs = rw mv.units (omega arith);
+      ends = tt;
     }
 
 -- the verdict
@@ -378,6 +381,7 @@ judge_steps p b s t old st h mv within = record {
   };
   same_test = mv.test;
   costs = rw mv.units (omega arith);
+  ends = tt;
 }
 
 -- the answer where the cost passed the budget

@@ -2,3 +2,4 @@ mod Lists
 mod Given
 mod Forms
 mod Acts
+mod Rests

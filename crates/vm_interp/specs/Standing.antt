@@ -1,5 +1,5 @@
 -- What this machine's state and statics stand for.
-use Rattle.std.specs.Prelude.{◌≡◌, ℕ, ℤ, ◌+◌, ◌-◌, ◌≤◌, ◌<◌, List, [], ◌∷◌, ◌++◌, length, get_or, map, drop, reverse, true, Option, Some, None}
+use Rattle.std.specs.Prelude.{◌≡◌, ℕ, suc, ℤ, ◌+◌, ◌-◌, ◌≤◌, ◌<◌, List, [], ◌∷◌, ◌++◌, length, get_or, map, drop, reverse, true, Option, Some, None}
 use Rattle.jvm_model.specs.declared.values.Value.{Value}
 use Rattle.jvm_model.specs.declared.values.Value.TheVariants.{Int, Lit, Null}
 use Rattle.jvm_model.specs.declared.outcome.Verdict.TheVariants.{Passed}
@@ -7,7 +7,8 @@ use Rattle.jvm_model.specs.declared.program.Program.{Program}
 use Rattle.jvm_model.specs.Classes.{place_after}
 use Rattle.jvm_model.specs.Entries.{in_method, Entry, Entries, no_entries, frame_of}
 use Rattle.jvm_model.specs.State.{first, last, State, Turn, next, ended, test_at}
-use Rattle.jvm_model.specs.Suite.{opening}
+use Rattle.jvm_model.specs.Suite.{Given, opening}
+use Rattle.jvm_model.specs.declared.values.Touch.{Touch}
 use Rattle.jvm_model.specs.World.{World}
 use Rattle.vm_interp.specs.declared.state.Place.{Place}
 use Rattle.vm_interp.specs.declared.state.Place.TheVariants.{Start, At, End}
@@ -16,7 +17,7 @@ use Rattle.vm_interp.specs.declared.state.Ended.{Ended}
 use Rattle.vm_interp.specs.declared.state.Ended.TheVariants.{Returned, Thrown}
 use Rattle.vm_interp.specs.declared.state.RunFault.{RunFault}
 use Rattle.vm_interp.specs.declared.state.RunFault.TheVariants as fault
-use Rattle.vm_interp.specs.Making.{Makes}
+use Rattle.vm_interp.specs.Making.{Makes, given_on}
 use Rattle.jvm_model.specs.Access.{run}
 use Rattle.jvm_model.specs.Step.{step}
 use Rattle.jvm_model.specs.declared.outcome.Own.{Own}
@@ -66,12 +67,19 @@ pub record Stands (p : Program) (s : machine.State) (values : List ℤ) (budget 
   pub within : s.units ≤ budget
   pub fits : Fits p s s.place
 
+-- a test of served code ends by its return
+abbrev pub EndsByReturn : Option Ended → Type 0
+EndsByReturn None = Unit {0}
+EndsByReturn (Some Returned) = Unit {0}
+EndsByReturn (Some (Thrown v)) = ⊥
+
 -- One step, from the first state and statics to the second: what the definition's step makes, where the code answered this.
 pub record Stepped (p : Program) (budget : ℕ) (o : Option Ended) (s : machine.State) (old : List ℤ) (t : machine.State) (new : List ℤ) : Type 0 where
   pub makes : Makes p (state_of p s) (world_of p old) (turn_of p o t) (world_of p new) (t.units - s.units)
   pub stands : Stands p t new budget
   pub same_test : t.test ≡ s.test
   pub costs : s.units < t.units
+  pub ends : EndsByReturn o
 
 -- the step's cost would bring the units above the budget
 abbrev pub Passes : Program → ℕ → machine.State → List ℤ → Type 0
@@ -97,3 +105,17 @@ pub record Moved (s t : machine.State) (to : Place) (operands : List ℤ) (own :
   pub stack : t.stack.items ≡ operands
   pub kept : t.own ≡ own
   pub units : t.units ≡ s.units + n
+
+-- What a test gives from a state on under a budget: within as many steps as units are left and one more.
+abbrev pub Rest : Program → ℕ → machine.State → List ℤ → List Touch → Option Given
+Rest p budget s values ts = given_on p budget (suc (budget - s.units)) (state_of p s) (world_of p values) ts s.units
+
+-- What it gave, beside its touches, where it ended in this state and with these statics.
+pub record Gave (p : Program) (t : machine.State) (values : List ℤ) (o : Option Given) : Type 0 where
+  pub touches : List Touch
+  pub given : o ≡ Some (record { outcome = record { verdict = Passed; output = t.own.output; units = t.units }; world = world_of p values; touches = touches })
+
+-- a test that wasn't run to its end: memory was refused, or it gives nothing under the budget
+abbrev pub Unended : ℕ → Option Given → RunFault → Type 0
+Unended test o fault.NoMemory = Unit {0}
+Unended test o (fault.OverBudget t) = (t ≡ test) × (o ≡ None)

@@ -8,5 +8,5 @@ mod run;
 mod state;
 
 pub use form::{Form, served};
-pub use run::step;
+pub use run::{run_frames, run_test, step};
 pub use state::{Ended, Place, RunFault, State};

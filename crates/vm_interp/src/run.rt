@@ -4,12 +4,14 @@ ghost use Rattle.std.specs.Prelude.{◌≡◌, ◌≢◌, ℤ, List, [], ◌+◌
 ghost use Rattle.vm_interp.specs.declared.state.RunFault.TheVariants as fault;
 ghost use Rattle.vm_interp.specs.declared.state.Place.TheVariants as stands;
 ghost use Rattle.vm_interp.specs.Served.{IsServed, body_of};
-ghost use Rattle.vm_interp.specs.Standing.{Stands, IsHere, Stepped, Refused};
+ghost use Rattle.vm_interp.specs.Standing.{Stands, IsHere, Stepped, Refused, Rest, Gave, Unended, world_of};
+ghost use Rattle.jvm_model.specs.declared.values.Touch.{Touch};
+ghost use Rattle.jvm_model.specs.Suite.{one_test};
 
 use crate::form::{Form, served};
 use crate::instructions::{add, get, give_back, print, push, put, spend};
 use crate::state::{Ended, Place, RunFault, State};
-use jvm_model::{Body, Program};
+use jvm_model::{Body, Outcome, Program, Verdict};
 use outside::Steps;
 use std::alloc::Global;
 use std::sync::ledger::Ledger;
@@ -154,4 +156,60 @@ pub fn step<L: Ledger>(
             Ok(Some(Ended::Returned))
         }
     }
+}
+
+/// Steps up to the end of the test or its budget.
+///
+/// `OverBudget` comes exactly where the test gives nothing under the budget. After a refusal the state and the statics
+/// aren't used on.
+pub fn run_frames<L: Ledger>(
+    alloc: Global,
+    state: &mut State,
+    statics: &mut [i32],
+    p: &Program,
+    budget: u64,
+    steps: &mut Steps<L>,
+) -> Result<Ended, RunFault>
+    requires served { IsServed p.now }
+    requires stands { Stands p.now state.old statics.old budget }
+    ensures gives { OnOk result (Gave p.now state.new statics.new (Rest p.now budget state.old statics.old [])) }
+    ensures counts { OnOk result (steps.new + state.old.units ≡ steps.old + state.new.units) }
+    ensures refused { IfErr result (Unended state.old.test (Rest p.now budget state.old statics.old [])) }
+{
+    let most = budget - state.units;
+    for _ in 0..most {
+        if let Some(ended) = step(alloc, state, statics, p, budget, steps)? {
+            return Ok(ended);
+        }
+    }
+    Err(RunFault::OverBudget { test: state.test })
+}
+
+/// Runs a test over the statics that earlier tests left. The outcome is that of the test in that world.
+///
+/// `OverBudget` comes exactly where the test gives no outcome under the budget.
+pub fn run_test<L: Ledger>(
+    alloc: Global,
+    p: &Program,
+    statics: &mut [i32],
+    test: u32,
+    budget: u64,
+    steps: &mut Steps<L>,
+) -> Result<Outcome, RunFault>
+    requires served { IsServed p.now }
+    requires first { 1 ≤ test }
+    requires last { test ≤ length p.now.tests }
+    requires statics { length statics.old + 2 ≡ length p.now.fields }
+    ensures gives { IfOk result (λ o. (ts : List Touch) × one_test p.now (world_of p.now statics.old) test budget
+        ≡ Some (record { outcome = o; world = world_of p.now statics.new; touches = ts })) }
+    ensures counts { IfOk result (λ o. steps.new ≡ steps.old + o.units) }
+    ensures refused { IfErr result (Unended test (one_test p.now (world_of p.now statics.old) test budget)) }
+{
+    let mut state = State::start(alloc, p, test);
+    run_frames(alloc, &mut state, statics, p, budget, steps)?;
+    Ok(Outcome {
+        verdict: Verdict::Passed,
+        output: state.own.output,
+        units: state.units,
+    })
 }

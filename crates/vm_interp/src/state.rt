@@ -1,8 +1,13 @@
 //! The state of a test beside its statics.
 
-use et_base::NoMemory;
-use jvm_model::{Own, Value};
-use std::alloc::AllocFailed;
+ghost use Rattle.std.specs.Prelude.{◌≡◌, ◌≤◌, [], length};
+ghost use Rattle.vm_interp.specs.declared.state.Place.TheVariants as places;
+ghost use Rattle.vm_interp.specs.Standing.{state_of};
+ghost use Rattle.jvm_model.specs.State.{started};
+
+use et_base::{Items, NoMemory};
+use jvm_model::{Own, Program, Value};
+use std::alloc::{AllocFailed, Global};
 
 /// Where a test stands.
 #[derive(Clone, Copy, Debug, PartialEq, Eq)]
@@ -61,4 +66,30 @@ pub struct State {
     pub stack: Vec<i32>,
     pub own: Own,
     pub units: u64,
+}
+
+impl State {
+    /// The start of a test of the program, numbered from 1.
+    pub fn start(alloc: Global, p: &Program, test: u32) -> State
+        requires first { 1 ≤ test }
+        requires last { test ≤ length p.now.tests }
+        ensures starts { state_of p.now result ≡ started p.now test }
+        ensures place { result.place ≡ places.Start }
+        ensures stack { result.stack.items ≡ [] }
+        ensures test { result.test ≡ test }
+        ensures units { result.units ≡ 0 }
+    {
+        let entry = &p.tests.as_slice()[(test - 1) as usize];
+        State {
+            test,
+            place: Place::Start,
+            stack: Vec::new(alloc),
+            own: Own {
+                output: Items::new(alloc),
+                clock: entry.clock,
+                random: entry.seed,
+            },
+            units: 0,
+        }
+    }
 }

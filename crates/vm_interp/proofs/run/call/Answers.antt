@@ -12,7 +12,7 @@ pub returns-in_err-spend-clause-refused : goal.returns-in_err-spend-clause-refus
 returns-in_err-spend-clause-refused g c =
     let n = ap (λ (z : Body). 1 + frame_cost z) c.body-body.ensures in
     refused_exit c.args.p.now c.args.budget c.args.state.now c.args.statics.now _ _ (err_from_is_err_and c.from_residual.result c.from_residual.ensures.1)
-        (refused_by c.args.p.now c.args.budget c.args.state.now c.args.statics.now _ _ _ (call_makes c.args.p.now c.args.budget c.args.state.now c.args.statics.now c.requires.served c.requires.stands c.requires.place) (omega (arith, n, c.in_err-spend.ensures.passed)) _ c.in_err-spend.ensures.over)
+    (refused_by c.args.p.now c.args.budget c.args.state.now c.args.statics.now _ _ _ (call_makes c.args.p.now c.args.budget c.args.state.now c.args.statics.now c.requires.served c.requires.stands c.requires.place) (omega (arith, n, c.in_err-spend.ensures.passed)) _ c.in_err-spend.ensures.over)
 
 pub returns-clause-goes : goal.returns-clause-goes
 returns-clause-goes g c =

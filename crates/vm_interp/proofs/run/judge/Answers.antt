@@ -8,7 +8,7 @@ use Rattle.vm_interp.proofs.run.judge.Goals as goal
 pub returns-in_err-spend-clause-refused : goal.returns-in_err-spend-clause-refused
 returns-in_err-spend-clause-refused g c =
     refused_exit c.args.p.now c.args.budget c.args.state.now c.args.statics.now _ _ (err_from_is_err_and c.from_residual.result c.from_residual.ensures.1)
-        (refused_by c.args.p.now c.args.budget c.args.state.now c.args.statics.now _ _ 1 (judge_makes c.args.p.now c.args.state.now c.args.statics.now c.requires.place) c.in_err-spend.ensures.passed _ c.in_err-spend.ensures.over)
+    (refused_by c.args.p.now c.args.budget c.args.state.now c.args.statics.now _ _ 1 (judge_makes c.args.p.now c.args.state.now c.args.statics.now c.requires.place) c.in_err-spend.ensures.passed _ c.in_err-spend.ensures.over)
 
 pub returns-clause-goes : goal.returns-clause-goes
 returns-clause-goes g c = judge_steps c.args.p.now c.args.budget c.args.state.now _ c.args.statics.now c.requires.stands c.requires.place
