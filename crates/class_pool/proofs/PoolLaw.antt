@@ -294,3 +294,10 @@ reads_pool = reads_as _ PoolText _ pool_to pool_from (reads_then (Number w16 (2 
     (λ all n rest. slots_at n rest >>= λ slots. indices_pass slots.0 (length rest) >>= λ _. names_pass slots.0 (length rest) >>= λ _. Ok slots)
     reads_16 (λ all n. reads_then (Counted SlotText [] (n - 1)) Sound (λ bytes. slots_at n bytes) (λ all slots rest. indices_pass slots (length all) >>= λ _. names_pass slots (length all) >>= λ _. Ok (slots, rest))
     (reads_counted SlotText slot_at reads_slot (n - 1) []) (λ all slots. reads_sound slots (length all))))
+
+abbrev no_bytes : List ℕ
+no_bytes = []
+
+-- bytes spell one pool at most
+pub pool_once : (text : List ℕ) (a b : List (Option Entry)) → PoolText text a → PoolText text b → a ≡ b
+pool_once text a b s t = let e : done (a, no_bytes) ≡ done (b, no_bytes) = sym (reads_pool.again text [] a s) ∙ reads_pool.again text [] b t in ap (λ (x : List (Option Entry) × List ℕ). x.0) (ok_is (a, no_bytes) (b, no_bytes) e)
