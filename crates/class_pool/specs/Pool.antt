@@ -1,5 +1,5 @@
 -- The constant pool (JVMS 4.4): how it is read, and the first fault.
-use Rattle.std.specs.Prelude.{ℕ, zero, suc, ◌+◌, ◌-◌, List, [], ◌∷◌, length, Option, Some, None, Result, Ok, Err, Bool, true, false, nat_lt, nat_le, ◌==◌, ◌&&◌, ◌||◌, slice_index_or, if◌then◌else◌}
+use Rattle.std.specs.Prelude.{ℕ, zero, suc, ◌+◌, ◌-◌, List, [], ◌∷◌, length, Option, Some, None, Result, Ok, Err, Bool, true, false, nat_lt, nat_le, ◌==◌, ◌&&◌, ◌||◌, slice_index_or, if◌then◌else◌, ◌<◌, ◌≤◌, ◌≡◌}
 use Rattle.std.specs.Int.{w8, w16, w32, w64, cast_signed}
 use Rattle.et_base.specs.Utf.{utf}
 use Rattle.et_base.specs.UtfReading.{units_read}
@@ -141,6 +141,12 @@ slot_len (Some entry) = entry_len entry
 abbrev pub entry_of : List (Option Entry) → ℕ → Option Entry
 entry_of slots zero = None
 entry_of slots (suc i) = slice_index_or slots i None
+
+-- An index names an entry: it is neither 0 nor past the end, and the one before it names no long or double (JVMS 4.4.5).
+pub record NamesEntry (slots : List (Option Entry)) (index : ℕ) : Type 0 where
+  pub some : 0 < index
+  pub within : index ≤ length slots
+  pub first : is_wide (entry_of slots (index - 1)) ≡ false
 
 abbrev pub is_text : Option Entry → Bool
 is_text (Some (Utf8 units)) = true
