@@ -7,7 +7,7 @@ use Rattle.class_pool.specs.declared.fault.Fault.TheVariants.{Truncated, BadTag,
 use Rattle.class_pool.specs.declared.pool.Entry.{Entry}
 use Rattle.class_pool.specs.declared.pool.Entry.TheVariants.{Utf8, Integer, Float, Long, Double, Class, Str, Field, Method, InterfaceMethod, NameAndType, MethodHandle, MethodType, InvokeDynamic}
 use Rattle.class_pool.specs.Reading.{◌>>=◌, number_at, run_at}
-use Rattle.class_pool.specs.Pool.{units_or, text_at, single_at, double_at, handle_at, doubles_at, singles_at, numbers_at, body_at, entry_at, slot_by, slot_at, is_second, slots_at, wrong_index, wrong_name, pass, no_place, indices_pass, names_pass, pool_at}
+use Rattle.class_pool.specs.Pool.{units_or, text_at, single_at, twin_at, handle_at, twins_at, singles_at, numbers_at, body_at, entry_at, slot_by, slot_at, is_second, slots_at, wrong_index, wrong_name, pass, no_place, indices_pass, names_pass, pool_at}
 use Rattle.class_pool.specs.Offsets.{IsPoolFault}
 use Rattle.class_pool.proofs.Faults.{Refuses, bind_refuses, refuses_then, refuses_mapped, refuses_if, refuses_never, refuses_number, refuses_run, refuses_counted}
 
@@ -30,15 +30,15 @@ text = refuses_then IsPoolFault (λ bytes. number_at w16 bytes) (λ all n rest. 
 single : (made : ℕ → Entry) → Only (single_at made)
 single made = refuses_mapped IsPoolFault made (λ bytes. number_at w16 bytes) (number w16)
 
-twin : (made : ℕ → ℕ → Entry) → Only (double_at made)
+twin : (made : ℕ → ℕ → Entry) → Only (twin_at made)
 twin made = refuses_then IsPoolFault (λ bytes. number_at w16 bytes) (λ _ a rest. number_at w16 rest >>= λ b. Ok (made a b.0, b.1)) (number w16) (λ _ a. refuses_mapped IsPoolFault (made a) (λ bytes. number_at w16 bytes) (number w16))
 
 handle : Only handle_at
 unfolding handle_at
 handle = refuses_then IsPoolFault (λ bytes. number_at w8 bytes) (λ _ a rest. number_at w16 rest >>= λ b. Ok (MethodHandle a b.0, b.1)) (number w8) (λ _ a. refuses_mapped IsPoolFault (MethodHandle a) (λ bytes. number_at w16 bytes) (number w16))
 
-twins : (tag left : ℕ) → Only (doubles_at tag left)
-unfolding doubles_at
+twins : (tag left : ℕ) → Only (twins_at tag left)
+unfolding twins_at
 twins tag left =
     refuses_if IsPoolFault (eqb tag 9) _ _ (twin Field)
     (refuses_if IsPoolFault (eqb tag 10) _ _ (twin Method)

@@ -1,5 +1,5 @@
 use crate::names::{argument_units, is_class_name, is_field_descriptor, is_method_name};
-use crate::{Entry, Pool, PoolFault, read_pool, write_pool};
+use crate::{Entry, Pool, PoolFault, put_pool, read_pool, write_pool};
 use et_base::units_of_modified;
 use std::test::Fail;
 
@@ -44,6 +44,9 @@ fn reads_and_writes_each_kind(rt: HostRuntime) -> Result<(), Fail> {
     assert!(rt; matches!(pool.entry(12), Some(Entry::Integer(-2))));
     let written = write_pool(rt.alloc(), &pool)?;
     assert!(rt; written.as_slice() == &BYTES[1..97]);
+    let mut appended = Vec::new(rt.alloc());
+    put_pool(&mut appended, &pool)?;
+    assert!(rt; appended == written);
     Ok(())
 }
 
