@@ -1,0 +1,6 @@
+pub mod Place
+pub mod Opcodes
+pub mod Judging
+pub mod Operands
+pub mod Switches
+pub mod Instructions

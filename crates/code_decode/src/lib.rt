@@ -1,0 +1,12 @@
+//! The code of a method, taken to instructions with their operands, exactly (JVMS 4.7.3, 4.9.1 and chapter 6).
+#![tactic(auto)]
+
+mod instructions;
+mod judging;
+mod opcodes;
+mod operands;
+mod place;
+mod switches;
+
+pub use instructions::RawOp;
+pub use opcodes::{Constant, Named, Shape};
