@@ -4,3 +4,4 @@ pub mod Judging
 pub mod Operands
 pub mod Switches
 pub mod Instructions
+pub mod Targets

@@ -6,7 +6,9 @@ mod judging;
 mod opcodes;
 mod operands;
 mod place;
+mod starts;
 mod switches;
 
 pub use instructions::RawOp;
+pub use starts::Starts;
 pub use opcodes::{Constant, Named, Shape};
