@@ -25,3 +25,8 @@ pub fit_fails : (error : ReadError) (method : ℕ) (test : ℤ → Bool) (ops : 
     → Fails error (judged_op method test o) → targets_fit method test (drop i ops) ≡ total → Fails error total
 fit_fails errors.Memory method test ops i o total lt e fails so_far = tt
 fit_fails (errors.Fault f) method test ops i o total lt e fails so_far = sym so_far ∙ here method test ops i o lt e ∙ ap (λ r. r >>= λ _. targets_fit method test (drop (i + 1) ops)) fails
+
+-- What fails still fails with more after it.
+pub fails_then : {A B : Type 0} (error : ReadError) (read : Result A Fault) (next : A → Result B Fault) → Fails error read → Fails error (read >>= next)
+fails_then errors.Memory read next fails = tt
+fails_then (errors.Fault f) read next fails = ap (λ r. r >>= next) fails

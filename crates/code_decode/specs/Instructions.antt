@@ -17,8 +17,8 @@ use Rattle.code_decode.specs.Judging.{constant_fit, named_fit, kind_fit}
 use Rattle.code_decode.specs.Operands.{signed_at, local_at, branch_at, increment_at, fitting_at, dimensions_at}
 use Rattle.code_decode.specs.Switches.{table_at, lookup_at}
 
-abbrev pub op : Spot → ℕ → Bool → List ℤ → RawOp
-op spot opcode wide args = record { pc = spot.pc; opcode = opcode; wide = wide; args = args }
+abbrev pub op : ℕ → ℕ → Bool → List ℤ → RawOp
+op pc opcode wide args = record { pc = pc; opcode = opcode; wide = wide; args = args }
 
 -- the operands of each form
 unfoldable pub args_at : List (Option Entry) → Spot → ℕ → Shape → List ℕ → Result (List ℤ × List ℕ) Fault
@@ -43,7 +43,7 @@ unfoldable pub shaped_at : List (Option Entry) → Spot → ℕ → Option Shape
 shaped_at slots spot opcode None bytes = Err (foreign spot opcode)
 shaped_at slots spot opcode (Some form) bytes = do
   args ← args_at slots spot opcode form bytes
-  Ok (op spot opcode false args.0, args.1)
+  Ok (op spot.pc opcode false args.0, args.1)
 
 -- the operands behind wide: a load or a store, or iinc (132)
 unfoldable pub wide_args_at : Spot → ℕ → List ℕ → Result (List ℤ × List ℕ) Fault
@@ -54,7 +54,7 @@ unfoldable pub wide_at : Spot → List ℕ → Result (RawOp × List ℕ) Fault
 wide_at spot bytes = do
   opcode ← number_or (cut spot) w8 bytes
   args ← wide_args_at spot opcode.0 opcode.1
-  Ok (op spot opcode.0 true args.0, args.1)
+  Ok (op spot.pc opcode.0 true args.0, args.1)
 
 -- an instruction; 196 is wide
 unfoldable pub op_at : List (Option Entry) → Spot → List ℕ → Result (RawOp × List ℕ) Fault

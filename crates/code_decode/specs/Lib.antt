@@ -5,3 +5,4 @@ pub mod Operands
 pub mod Switches
 pub mod Instructions
 pub mod Targets
+pub mod Decoding

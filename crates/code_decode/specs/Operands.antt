@@ -34,7 +34,7 @@ local_at w spot bytes = one_at w (λ n. pos n) spot bytes
 
 -- the place that a branch leads to
 abbrev pub branch_at : Width → Spot → List ℕ → Result (List ℤ × List ℕ) Fault
-branch_at w spot bytes = one_at w (λ n. target spot (cast_signed w n)) spot bytes
+branch_at w spot bytes = one_at w (λ n. target spot.total spot.pc (cast_signed w n)) spot bytes
 
 -- a local variable and what is added to it
 unfoldable pub increment_at : Width → Spot → List ℕ → Result (List ℤ × List ℕ) Fault

@@ -21,6 +21,6 @@ abbrev pub place : ℕ → ℤ → ℤ
 place total (pos n) = if nat_lt n total then pos n else negsuc 0
 place total (negsuc n) = negsuc 0
 
--- where a branch by this offset from its own pc leads (JVMS 6.5, goto)
-abbrev pub target : Spot → ℤ → ℤ
-target spot offset = place spot.total (pos spot.pc +ℤ offset)
+-- where a branch at pc, by this offset from there, leads in code of total bytes (JVMS 6.5, goto)
+abbrev pub target : ℕ → ℕ → ℤ → ℤ
+target total pc offset = place total (pos pc +ℤ offset)

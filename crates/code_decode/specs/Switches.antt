@@ -9,8 +9,8 @@ use Rattle.code_decode.specs.declared.place.Spot.{Spot}
 use Rattle.code_decode.specs.Place.{cut, wrong, target}
 
 -- the bytes, of any value, behind the opcode up to a pc that is a multiple of 4
-abbrev pub padding : Spot → ℕ
-padding spot = 3 - spot.pc % 4
+abbrev pub padding : ℕ → ℕ
+padding pc = 3 - pc % 4
 
 -- a signed number of four bytes
 abbrev pub word_at : Spot → List ℕ → Result (ℤ × List ℕ) Fault
@@ -22,12 +22,12 @@ word_at spot bytes = do
 abbrev pub place_at : Spot → List ℕ → Result (ℤ × List ℕ) Fault
 place_at spot bytes = do
   n ← number_or (cut spot) w32 bytes
-  Ok (target spot (cast_signed w32 n.0), n.1)
+  Ok (target spot.total spot.pc (cast_signed w32 n.0), n.1)
 
 -- the padding and the place for every other number
 unfoldable pub other_at : Spot → List ℕ → Result (ℤ × List ℕ) Fault
 other_at spot bytes = do
-  pad ← run_or (cut spot) (padding spot) bytes
+  pad ← run_or (cut spot) (padding spot.pc) bytes
   place_at spot pad.1
 
 -- the lowest and the highest number, in order

@@ -1,6 +1,7 @@
 //! The code of a method, taken to instructions with their operands, exactly (JVMS 4.7.3, 4.9.1 and chapter 6).
 #![tactic(auto)]
 
+mod decoding;
 mod instructions;
 mod judging;
 mod opcodes;
@@ -9,6 +10,7 @@ mod place;
 mod starts;
 mod switches;
 
+pub use decoding::{Code, CodeFault, code_at};
 pub use instructions::RawOp;
 pub use starts::Starts;
 pub use opcodes::{Constant, Named, Shape};

@@ -37,7 +37,7 @@ impl Spot {
 
     // Where a branch by this offset leads, or -1 outside of the code.
     pub fn target(&self, offset: i32) -> i32
-        ensures { result ≡ target self.now offset }
+        ensures { result ≡ target self.now.total self.now.pc offset }
     {
         place(self.total, self.pc as i64 + offset as i64)
     }
