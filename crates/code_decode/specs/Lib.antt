@@ -6,3 +6,4 @@ pub mod Switches
 pub mod Instructions
 pub mod Targets
 pub mod Decoding
+pub mod CodeGrammar
