@@ -6,6 +6,7 @@ ghost use Rattle.class_pool.specs.declared.fault.Fault.{Fault};
 ghost use Rattle.code_decode.specs.Targets.{Marks, is_start, is_marked, targets_fit};
 ghost use Rattle.code_decode.specs.Instructions.{ops_at};
 ghost use Rattle.code_decode.specs.Decoding.{code_at, IsOfCode, IsCodeError, Faults, Answers};
+ghost use Rattle.code_decode.specs.CodeGrammar.{CodeText};
 ghost use Rattle.code_decode.specs.declared.decoding.Code.{Code};
 
 use crate::instructions::{RawOp, ops_of};
@@ -61,6 +62,7 @@ pub fn code_at(alloc: Global, method: u32, pool: &Pool, bytes: &[u8]) -> Result<
     Ok((Code { length: bytes.len() as u32, ops }, starts))
 }
 
+// The public form of an error.
 fn code_fault(error: ReadError) -> CodeFault
     requires { IsCodeError 0 error }
     ensures { (read : Result Code Fault) → Fails error read → Faults result read }
@@ -72,5 +74,23 @@ fn code_fault(error: ReadError) -> CodeFault
         ReadError::Fault(Fault::BadOperand { pc, .. }) => CodeFault::BadOperand { pc },
         ReadError::Fault(Fault::BadTarget { pc, .. }) => CodeFault::BadTarget { pc },
         ReadError::Fault(_) => unreachable!(),
+    }
+}
+
+/// The code that these bytes are, all of them, in a class with this pool (JVMS 4.7.3, 4.9.1). It takes time in
+/// proportion to the bytes and to the names and descriptors that they mention.
+pub fn decode(alloc: Global, code: &[u8], pool: &Pool) -> Result<Code, CodeFault>
+    requires some { 0 < length code.now }
+    requires few { length code.now < 65536 }
+    // What is decoded is spelled so.
+    ensures found { IfOk result (λ c. CodeText pool.now code.now c) }
+    // What is spelled so is decoded, unless memory runs out.
+    ensures only { (c : Code) → CodeText pool.now code.now c → Answers result (Ok c) }
+    // Which fault it is.
+    ensures exact { Answers result (code_at 0 pool.now code.now) }
+{
+    match code_at(alloc, 0, pool, code) {
+        Ok((code, _starts)) => Ok(code),
+        Err(error) => Err(code_fault(error)),
     }
 }

@@ -10,7 +10,7 @@ mod place;
 mod starts;
 mod switches;
 
-pub use decoding::{Code, CodeFault, code_at};
+pub use decoding::{Code, CodeFault, code_at, decode};
 pub use instructions::RawOp;
 pub use starts::Starts;
 pub use opcodes::{Constant, Named, Shape};
