@@ -20,8 +20,8 @@ use Rattle.code_decode.specs.declared.opcodes.Shape.TheVariants as shape
 use Rattle.code_decode.specs.declared.opcodes.Named.TheVariants.{Interface, Nested}
 use Rattle.code_decode.specs.Place.{cut, wrong, foreign}
 use Rattle.code_decode.specs.Opcodes.{shape_of, takes_local}
-use Rattle.code_decode.specs.Judging.{constant_fit, named_fit, kind_fit, class_name, dimensions}
-use Rattle.code_decode.specs.Operands.{judged, one_at, local_at, increment_at, fitting_at, dimensions_at}
+use Rattle.code_decode.specs.Judging.{constant_fit, named_fit, kind_fit, class_name, dimensions, interface_units, counts_units}
+use Rattle.code_decode.specs.Operands.{judged, one_at, local_at, increment_at, fitting_at, interface_at, dimensions_at}
 use Rattle.code_decode.specs.Switches.{padding, span, word_at, place_at, other_at, ends_at, rows_at, table_at, count_at, pair_at, pairs_at, lookup_at}
 use Rattle.code_decode.specs.Instructions.{op, args_at, shaped_at, wide_args_at, wide_at, op_at, spot_at, ops_at}
 use Rattle.code_decode.specs.Targets.{is_start, leads_to, targets_fit}
@@ -108,6 +108,15 @@ named_dimensions slots spot bytes = named_then spot.method (number_or (cut spot)
       named_then spot.method (judged spot 197 fits) _ (named_judged spot 197 fits)
     (λ _. named_then spot.method (tested few (wrong spot)) _ (named_test spot.method few (wrong spot) refl) (λ _. named_ok spot.method _))))
 
+named_interface : (slots : List (Option Entry)) (spot : Spot) (bytes : List ℕ) → Named spot.method (interface_at slots spot bytes)
+unfolding interface_at
+named_interface slots spot bytes = named_then spot.method (number_or (cut spot) w16 bytes) _ (named_number spot w16 bytes)
+    (λ n. named_then spot.method (number_or (cut spot) w8 n.1) _ (named_number spot w8 n.1)
+    (λ count. named_then spot.method (number_or (cut spot) w8 count.1) _ (named_number spot w8 count.1)
+    (λ zero. let fits = named_fit Interface slots (entry_of slots n.0) in let few = counts_units (interface_units slots (entry_of slots n.0)) count.0 && eqb zero.0 0 in
+      named_then spot.method (judged spot 185 fits) _ (named_judged spot 185 fits)
+    (λ _. named_then spot.method (tested few (wrong spot)) _ (named_test spot.method few (wrong spot) refl) (λ _. named_ok spot.method _)))))
+
 -- ---- switches
 
 named_word : (spot : Spot) (bytes : List ℕ) → Named spot.method (word_at spot bytes)
@@ -168,7 +177,7 @@ named_args slots spot opcode shape.Increment bytes = named_increment w8 spot byt
 named_args slots spot opcode (shape.Near constant) bytes = named_fitting w8 _ spot opcode bytes
 named_args slots spot opcode (shape.Far constant) bytes = named_fitting w16 _ spot opcode bytes
 named_args slots spot opcode (shape.Entry named) bytes = named_fitting w16 _ spot opcode bytes
-named_args slots spot opcode shape.Interface bytes = named_fitting w16 _ spot opcode bytes
+named_args slots spot opcode shape.Interface bytes = named_interface slots spot bytes
 named_args slots spot opcode shape.Kind bytes = named_fitting w8 _ spot opcode bytes
 named_args slots spot opcode shape.Dimensions bytes = named_dimensions slots spot bytes
 named_args slots spot opcode shape.Branch bytes = named_one w16 _ spot bytes

@@ -5,9 +5,9 @@ ghost use Rattle.std.specs.Int.{w8, w16};
 ghost use Rattle.class_pool.specs.Reading.{Gives};
 ghost use Rattle.code_decode.specs.Instructions.{args_at, shaped_at, wide_args_at, wide_at, op_at, spot_at, ops_at};
 
-use crate::opcodes::{Named, Shape, shape_of, takes_local};
+use crate::opcodes::{Shape, shape_of, takes_local};
 use crate::operands::{
-    branch_of, byte_of, constant_of, dimensions_of, entry_of, far_branch_of, increment_of, kind_of, local_of, near_constant_of, short_of,
+    branch_of, byte_of, constant_of, dimensions_of, entry_of, far_branch_of, increment_of, interface_of, kind_of, local_of, near_constant_of, short_of,
     wide_increment_of, wide_local_of,
 };
 use crate::place::Spot;
@@ -45,7 +45,7 @@ fn args_of<'a>(alloc: Global, pool: &Pool, spot: &Spot, opcode: u8, shape: Shape
         Shape::Near(constant) => near_constant_of(alloc, pool, spot, opcode, constant, bytes),
         Shape::Far(constant) => constant_of(alloc, pool, spot, opcode, constant, bytes),
         Shape::Entry(named) => entry_of(alloc, pool, spot, opcode, named, bytes),
-        Shape::Interface => entry_of(alloc, pool, spot, opcode, Named::Interface, bytes),
+        Shape::Interface => interface_of(alloc, pool, spot, bytes),
         Shape::Kind => kind_of(alloc, spot, opcode, bytes),
         Shape::Dimensions => dimensions_of(alloc, pool, spot, bytes),
         Shape::Branch => branch_of(alloc, spot, bytes),

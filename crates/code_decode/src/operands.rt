@@ -7,9 +7,9 @@ ghost use Rattle.class_pool.specs.Pool.{entry_of};
 ghost use Rattle.class_pool.specs.declared.fault.ReadError.TheVariants.{Memory};
 ghost use Rattle.code_decode.specs.Judging.{named_fit, constant_fit, kind_fit};
 ghost use Rattle.code_decode.specs.Place.{target};
-ghost use Rattle.code_decode.specs.Operands.{one_at, signed_at, local_at, branch_at, increment_at, fitting_at, dimensions_at};
+ghost use Rattle.code_decode.specs.Operands.{one_at, signed_at, local_at, branch_at, increment_at, fitting_at, interface_at, dimensions_at};
 
-use crate::judging::{class_name, constant_fit, dimensions, judge, kind_fit, named_fit};
+use crate::judging::{class_name, constant_fit, counts_units, dimensions, interface_units, judge, kind_fit, named_fit};
 use crate::opcodes::{Constant, Named};
 use crate::place::Spot;
 use class_pool::fault::wants;
@@ -149,6 +149,19 @@ pub fn kind_of<'a>(alloc: Global, spot: &Spot, opcode: u8, bytes: &'a [u8]) -> R
     let (kind, rest) = u8_or(spot.cut(), bytes)?;
     judge(spot, opcode, kind_fit(kind))?;
     Ok((one(alloc, kind as i32)?, rest))
+}
+
+// An interface's method, a count and a zero.
+#[tactic(auto, unfolding(crate::specs::Operands::interface_at))]
+pub fn interface_of<'a>(alloc: Global, pool: &Pool, spot: &Spot, bytes: &'a [u8]) -> Result<(Items<i32>, &'a [u8]), ReadError>
+    ensures { Gives (λ x. (x.0, x.1.now)) result (interface_at pool.now spot.now bytes.now) }
+{
+    let (index, rest) = u16_or(spot.cut(), bytes)?;
+    let (count, rest) = u8_or(spot.cut(), rest)?;
+    let (zero, rest) = u8_or(spot.cut(), rest)?;
+    judge(spot, 185, named_fit(Named::Interface, pool, index))?;
+    wants(counts_units(interface_units(pool, index), count) && zero == 0, spot.wrong())?;
+    Ok((two(alloc, index as i32, count as i32)?, rest))
 }
 
 // An array class and a number of its dimensions.
