@@ -42,12 +42,12 @@ FittingText w fits = Then (Word w) (λ n. Tested (is_right (fits n)) (Nothing (p
 -- an interface's method, the units of its arguments with the object, and a zero
 abbrev pub InterfaceText : List (Option Entry) → List ℕ → List ℤ → Type 0
 InterfaceText slots = Then (Word w16) (λ n. Then (Word w8) (λ count. Then (Word w8) (λ zero. Tested (is_right (named_fit Interface slots (entry_of slots n)))
-  (Tested (counts_units (interface_units slots (entry_of slots n)) count && zero == 0) (Nothing (pos n ∷ pos count ∷ []))))))
+    (Tested (counts_units (interface_units slots (entry_of slots n)) count && zero == 0) (Nothing (pos n ∷ pos count ∷ []))))))
 
 -- an array class, and how many of its dimensions are made
 abbrev pub DimensionsText : List (Option Entry) → List ℕ → List ℤ → Type 0
 DimensionsText slots = Then (Word w16) (λ n. Then (Word w8) (λ count. Tested (is_right (named_fit Nested slots (entry_of slots n)))
-  (Tested (nat_lt 0 count && nat_le count (dimensions (class_name slots (entry_of slots n)))) (Nothing (pos n ∷ pos count ∷ [])))))
+    (Tested (nat_lt 0 count && nat_le count (dimensions (class_name slots (entry_of slots n)))) (Nothing (pos n ∷ pos count ∷ [])))))
 
 -- a signed number of four bytes
 abbrev pub WordText : List ℕ → ℤ → Type 0

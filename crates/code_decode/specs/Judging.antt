@@ -1,5 +1,5 @@
 -- Whether an instruction takes the pool entry, or the number, that it names.
-use Rattle.std.specs.Prelude.{ℕ, ◌+◌, List, [], length, take_while, slice_index, unwrap_or, Option, Some, None, Bool, true, false, nat_lt, ◌==◌, ◌&&◌, ◌||◌, if◌then◌else◌}
+use Rattle.std.specs.Prelude.{ℕ, ◌+◌, List, [], length, take_while, slice_index, unwrap_or, Option, Some, None, Bool, false, nat_lt, ◌==◌, ◌&&◌, ◌||◌, if◌then◌else◌}
 use Rattle.class_pool.specs.declared.pool.Entry.{Entry}
 use Rattle.class_pool.specs.declared.pool.Entry.TheVariants.{Integer, Long, Class, Str, Field, Method, InterfaceMethod, NameAndType}
 use Rattle.class_pool.specs.Pool.{entry_of, text_of, class_name_of}

@@ -1,6 +1,6 @@
 -- The operands of an instruction, by their form, and the first fault among them.
-use Rattle.std.specs.Prelude.{ℕ, ℤ, pos, ◌+◌, List, [], ◌∷◌, Option, Result, Ok, Err, nat_lt, nat_le, ◌==◌, ◌&&◌}
-use Rattle.std.specs.Int.{Width, w8, w16, w32, cast_signed}
+use Rattle.std.specs.Prelude.{ℕ, ℤ, pos, List, [], ◌∷◌, Option, Result, Ok, Err, nat_lt, nat_le, ◌==◌, ◌&&◌}
+use Rattle.std.specs.Int.{Width, w8, w16, cast_signed}
 use Rattle.class_pool.specs.declared.fault.Fault.{Fault}
 use Rattle.class_pool.specs.declared.pool.Entry.{Entry}
 use Rattle.class_pool.specs.Reading.{◌>>=◌, number_or, tested}

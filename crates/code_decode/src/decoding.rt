@@ -52,14 +52,25 @@ fn starts_of(alloc: Global, method: u32, total: usize, ops: &[RawOp]) -> Result<
 
 /// The code that these bytes are, in a method of this number, and where its instructions begin.
 #[tactic(auto, unfolding(crate::specs::Decoding::code_at))]
-pub fn code_at(alloc: Global, method: u32, pool: &Pool, bytes: &[u8]) -> Result<(Code, Starts), ReadError>
+pub fn code_at(
+    alloc: Global,
+    method: u32,
+    pool: &Pool,
+    bytes: &[u8],
+) -> Result<(Code, Starts), ReadError>
     requires { length bytes.now < 65536 }
     ensures gives { Gives (λ x. x.0) result (code_at method pool.now bytes.now) }
     ensures starts { IfOk result (λ x. Marks x.1 x.0.ops x.0.length) }
 {
     let ops = ops_of(alloc, method, pool, bytes)?;
     let starts = starts_of(alloc, method, bytes.len(), ops.as_slice())?;
-    Ok((Code { length: bytes.len() as u32, ops }, starts))
+    Ok((
+        Code {
+            length: bytes.len() as u32,
+            ops,
+        },
+        starts,
+    ))
 }
 
 // The public form of an error.
@@ -70,7 +81,10 @@ fn code_fault(error: ReadError) -> CodeFault
     match error {
         ReadError::Memory => CodeFault::NoMemory,
         ReadError::Fault(Fault::CutCode { pc, .. }) => CodeFault::CutCode { pc },
-        ReadError::Fault(Fault::Unsupported { pc, opcode, .. }) => CodeFault::Unsupported { pc, opcode },
+        ReadError::Fault(Fault::Unsupported { pc, opcode, .. }) => CodeFault::Unsupported {
+            pc,
+            opcode,
+        },
         ReadError::Fault(Fault::BadOperand { pc, .. }) => CodeFault::BadOperand { pc },
         ReadError::Fault(Fault::BadTarget { pc, .. }) => CodeFault::BadTarget { pc },
         ReadError::Fault(_) => unreachable!(),

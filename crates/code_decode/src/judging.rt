@@ -68,13 +68,21 @@ fn is_real_array(name: &[u16]) -> bool
 fn array_fit(name: &[u16]) -> Fit
     ensures { result ≡ array_fit name.now }
 {
-    if is_real_array(name) { Fit::Foreign } else { Fit::Right }
+    if is_real_array(name) {
+        Fit::Foreign
+    } else {
+        Fit::Right
+    }
 }
 
 fn made_fit(name: &[u16]) -> Fit
     ensures { result ≡ made_fit name.now }
 {
-    if 0 < dimensions(name) { Fit::Wrong } else { Fit::Right }
+    if 0 < dimensions(name) {
+        Fit::Wrong
+    } else {
+        Fit::Right
+    }
 }
 
 fn element_fit(name: &[u16]) -> Fit
@@ -92,7 +100,11 @@ fn element_fit(name: &[u16]) -> Fit
 fn nested_fit(name: &[u16]) -> Fit
     ensures { result ≡ nested_fit name.now }
 {
-    if dimensions(name) == 0 { Fit::Wrong } else { array_fit(name) }
+    if dimensions(name) == 0 {
+        Fit::Wrong
+    } else {
+        array_fit(name)
+    }
 }
 
 fn member_fit(pool: &Pool, class: u16) -> Fit
@@ -107,8 +119,11 @@ pub fn named_fit(named: Named, pool: &Pool, index: u16) -> Fit
 {
     match (named, pool.entry(index)) {
         (Named::Field, Some(Entry::Field { class, .. })) => member_fit(pool, *class),
-        (Named::Virtual | Named::Direct, Some(Entry::Method { class, .. })) => member_fit(pool, *class),
-        (Named::Direct | Named::Interface, Some(Entry::InterfaceMethod { class, .. })) => member_fit(pool, *class),
+        (Named::Virtual | Named::Direct, Some(Entry::Method { class, .. })) => member_fit(
+            pool, *class,
+        ),
+        (Named::Direct | Named::Interface, Some(Entry::InterfaceMethod { class, .. })) =>
+            member_fit(pool, *class),
         (Named::Made, Some(Entry::Class { name })) => made_fit(units_of(pool, *name)),
         (Named::Element, Some(Entry::Class { name })) => element_fit(units_of(pool, *name)),
         (Named::Tested, Some(Entry::Class { name })) => array_fit(units_of(pool, *name)),

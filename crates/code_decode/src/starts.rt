@@ -76,20 +76,30 @@ fn mark(marks: &mut Vec<bool>, pc: usize)
 fn is_place(opcode: u8, i: usize) -> bool
     ensures { result ≡ is_place opcode i }
 {
-    takes_branch(opcode) || opcode == 200 || opcode == 170 && !(i == 1 || i == 2) || opcode == 171 && i % 2 == 0
+    takes_branch(opcode)
+        || opcode == 200
+        || opcode == 170 && !(i == 1 || i == 2)
+        || opcode == 171 && i % 2 == 0
 }
 
 // Whether each place that an instruction leads to is marked.
 fn leads_to_starts(starts: &Starts, op: &RawOp) -> bool
     ensures { result ≡ leads_to (is_marked starts.now) op.now }
 {
-    op.args.as_slice().iter().enumerate().all(|(i, to)| !is_place(op.opcode, i) || starts.is_marked(*to))
+    op.args
+        .as_slice()
+        .iter()
+        .enumerate()
+        .all(|(i, to)| !is_place(op.opcode, i) || starts.is_marked(*to))
 }
 
 fn judge_op(method: u32, starts: &Starts, op: &RawOp) -> Result<(), ReadError>
     ensures { Gives nothing result (tested (leads_to (is_marked starts.now) op.now) (BadTarget method op.now.pc)) }
 {
-    wants(leads_to_starts(starts, op), Fault::BadTarget { method, pc: op.pc })
+    wants(
+        leads_to_starts(starts, op),
+        Fault::BadTarget { method, pc: op.pc },
+    )
 }
 
 // The first instruction that leads to a place where none begins.
