@@ -50,7 +50,8 @@ fn starts_of(alloc: Global, method: u32, total: usize, ops: &[RawOp]) -> Result<
     Ok(starts)
 }
 
-/// The code that these bytes are, in a method of this number, and where its instructions begin.
+/// The code that these bytes are, in a method of this number, and where its instructions begin: the form
+/// of [`decode`] inside of a class file. A fault names the method.
 #[tactic(auto, unfolding(crate::specs::Decoding::code_at))]
 pub fn code_at(
     alloc: Global,
@@ -91,8 +92,13 @@ fn code_fault(error: ReadError) -> CodeFault
     }
 }
 
-/// The code that these bytes are, all of them, in a class with this pool (JVMS 4.7.3, 4.9.1). It takes time in
-/// proportion to the bytes and to the names and descriptors that they mention.
+/// The code that these bytes are, all of them, in a class with this pool (JVMS 4.7.3, 4.9.1).
+///
+/// A fault is the first of one reading from left to right. An instruction is taken wholly (`CutCode`)
+/// before its operands are judged, from left to right (`BadOperand`, or `Unsupported` for what is outside
+/// of this project's profile); nothing behind an opcode outside of the profile is read. Where instructions
+/// lead is judged after all of them, by pc (`BadTarget`). It takes time in proportion to the bytes and to
+/// the names and descriptors that the instructions mention.
 pub fn decode(alloc: Global, code: &[u8], pool: &Pool) -> Result<Code, CodeFault>
     requires some { 0 < length code.now }
     requires few { length code.now < 65536 }
