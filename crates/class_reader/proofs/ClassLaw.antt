@@ -14,6 +14,7 @@ use Rattle.class_pool.specs.Grammar.{IsBytes, Nothing, Then, Mapped, Tested, Num
 use Rattle.class_pool.specs.PoolGrammar.{PoolText}
 use Rattle.class_pool.proofs.Laws.{bind_ok, ok_is, tested_ok, Taken, Reads, reads_nothing, reads_then, tested_then, reads_mapped, reads_if, reads_run, reads_16, reads_32, reads_counted, reads_folded, reads_sized}
 use Rattle.class_pool.proofs.PoolLaw.{reads_pool}
+use Rattle.class_reader.proofs.IndexLaw.{reads_index, reads_form}
 use Rattle.class_reader.specs.declared.parts.Code.{Code}
 use Rattle.class_reader.specs.declared.parts.CodePart.{CodePart}
 use Rattle.class_reader.specs.declared.parts.RawHandler.{RawHandler}
@@ -21,20 +22,10 @@ use Rattle.class_reader.specs.declared.parts.MemberPart.{MemberPart}
 use Rattle.class_reader.specs.declared.parts.ClassParts.{ClassParts}
 use Rattle.class_reader.specs.Code.{code_at}
 use Rattle.class_reader.specs.Names.{is_code, is_constant_value, is_own_class, is_field_name, is_field_type, is_method_name, is_method_type, fits_constant, is_repeated, fits_flags}
-use Rattle.class_reader.specs.Class.{index_at, form_at, other_at, once_at, attribute_at, attributes_at, skipped_at, all_skipped_at, constant_at, run_code_at, handlers_at, part_at, code_attribute_at, field_at, fields_at, method_at, methods_at, head_at, interfaces_at, members_at, body_at, class_at}
-use Rattle.class_reader.specs.ClassGrammar.{Short, Index, Form, OtherText, OnceText, AttributeText, AttributesText, SkippedText, AllSkippedText, ConstantText, RunText, Beside, CodeText, HandlersText, part_of, PartText, field_of, FieldText, FieldsText, method_of, MethodText, MethodsText, HeadText, InterfacesText, pair_of, MembersText, parts_of, BodyText, class_bytes}
-
--- ---- indices
-
-reads_index : (fits : Option Entry → Bool) (slots : List (Option Entry)) → Reads (Index fits slots) (index_at fits slots)
-unfolding index_at
-reads_index fits slots = reads_then _ _ (λ b. number_at w16 b) (λ all i rest. tested (fits (entry_of slots i)) (BadIndex (length all)) >>= λ _. Ok (i, rest)) reads_16
-    (λ all i. tested_then (fits (entry_of slots i)) (λ _. BadIndex (length all)) (Nothing i) (λ rest. Ok (i, rest)) (reads_nothing i))
-
-reads_form : (form : Option Entry → Bool) (slots : List (Option Entry)) → Reads (Form form slots) (form_at form slots)
-unfolding form_at
-reads_form form slots = reads_then _ _ (index_at is_text slots) (λ all i rest. tested (form (entry_of slots i)) (BadDescriptor (length all)) >>= λ _. Ok (i, rest)) (reads_index is_text slots)
-    (λ all i. tested_then (form (entry_of slots i)) (λ _. BadDescriptor (length all)) (Nothing i) (λ rest. Ok (i, rest)) (reads_nothing i))
+use Rattle.class_reader.specs.Class.{other_at, once_at, attribute_at, attributes_at, skipped_at, all_skipped_at, constant_at, run_code_at, handlers_at, part_at, code_attribute_at, field_at, fields_at, method_at, methods_at, head_at, interfaces_at, members_at, body_at, class_at}
+use Rattle.class_reader.specs.Indices.{index_at, form_at}
+use Rattle.class_reader.specs.ClassGrammar.{OtherText, OnceText, AttributeText, AttributesText, SkippedText, AllSkippedText, ConstantText, RunText, Beside, CodeText, HandlersText, part_of, PartText, field_of, FieldText, FieldsText, method_of, MethodText, MethodsText, HeadText, InterfacesText, pair_of, MembersText, parts_of, BodyText, class_bytes}
+use Rattle.class_reader.specs.Indices.{Short, Index, Form}
 
 -- ---- attributes
 

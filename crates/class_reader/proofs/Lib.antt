@@ -1,1 +1,4 @@
+pub mod IndexLaw
+pub mod MapSteps
+pub mod MapLaw
 pub mod ClassLaw

@@ -13,23 +13,8 @@ use Rattle.class_reader.specs.declared.parts.RawHandler.{RawHandler}
 use Rattle.class_reader.specs.declared.parts.MemberPart.{MemberPart}
 use Rattle.class_reader.specs.declared.parts.ClassParts.{ClassParts}
 use Rattle.class_reader.specs.Code.{code_at}
+use Rattle.class_reader.specs.Indices.{index_at, form_at}
 use Rattle.class_reader.specs.Names.{is_code, is_constant_value, is_own_class, is_field_name, is_field_type, is_method_name, is_method_type, fits_constant, is_repeated, fits_flags}
-
--- ---- indices
-
--- an index that names an entry of this kind
-unfoldable pub index_at : (Option Entry → Bool) → List (Option Entry) → List ℕ → Result (ℕ × List ℕ) Fault
-index_at fits slots bytes = do
-  index ← number_at w16 bytes
-  right ← tested (fits (entry_of slots index.0)) (BadIndex (length bytes))
-  Ok index
-
--- an index that names a text in this form
-unfoldable pub form_at : (Option Entry → Bool) → List (Option Entry) → List ℕ → Result (ℕ × List ℕ) Fault
-form_at form slots bytes = do
-  index ← index_at is_text slots bytes
-  right ← tested (form (entry_of slots index.0)) (BadDescriptor (length bytes))
-  Ok index
 
 -- ---- attributes (JVMS 4.7)
 

@@ -11,18 +11,8 @@ use Rattle.class_reader.specs.declared.parts.RawHandler.{RawHandler}
 use Rattle.class_reader.specs.declared.parts.MemberPart.{MemberPart}
 use Rattle.class_reader.specs.declared.parts.ClassParts.{ClassParts}
 use Rattle.class_reader.specs.Code.{code_at}
+use Rattle.class_reader.specs.Indices.{Short, Index, Form}
 use Rattle.class_reader.specs.Names.{is_code, is_constant_value, is_own_class, is_field_name, is_field_type, is_method_name, is_method_type, fits_constant, is_repeated, fits_flags}
-
-abbrev pub Short : List ℕ → ℕ → Type 0
-Short = Number w16 (2 ^ 16)
-
--- an index that names an entry of this kind
-abbrev pub Index : (Option Entry → Bool) → List (Option Entry) → List ℕ → ℕ → Type 0
-Index fits slots = Then Short (λ i. Tested (fits (entry_of slots i)) (Nothing i))
-
--- an index that names a text in this form
-abbrev pub Form : (Option Entry → Bool) → List (Option Entry) → List ℕ → ℕ → Type 0
-Form form slots = Then (Index is_text slots) (λ i. Tested (form (entry_of slots i)) (Nothing i))
 
 -- ---- attributes (JVMS 4.7)
 

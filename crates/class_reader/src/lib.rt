@@ -5,6 +5,7 @@ mod attributes;
 mod class;
 mod code;
 mod fault;
+mod maps;
 mod members;
 mod names;
 mod parts;

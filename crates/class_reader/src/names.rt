@@ -4,7 +4,7 @@ ghost use Rattle.std.specs.Prelude.{◌≡◌, List, codes, bit_and, ◌==◌, O
 ghost use Rattle.class_pool.specs.Pool.{entry_of, is_text, is_class, is_named, has_no_dot};
 ghost use Rattle.class_pool.specs.Reading.{Gives};
 ghost use Rattle.class_reader.specs.Names.{same_units, is_text_of, is_code, is_constant_value, begins_array, is_own_class, is_field_name, is_field_type, is_method_name, is_method_type, fits_constant, same_text, is_repeated, fits_flags};
-ghost use Rattle.class_reader.specs.Class.{index_at, form_at};
+ghost use Rattle.class_reader.specs.Indices.{index_at, form_at};
 
 use crate::parts::MemberPart;
 use class_pool::fault::wants;
@@ -173,7 +173,7 @@ pub fn fits_flags(flags: u16, there: bool) -> bool
 }
 
 /// An index that names a text.
-#[tactic(auto, unfolding(crate::specs::Class::index_at))]
+#[tactic(auto, unfolding(crate::specs::Indices::index_at))]
 pub fn text_at<'a>(pool: &Pool, bytes: &'a [u8]) -> Result<(u16, &'a [u8]), ReadError>
     ensures { Gives (λ x. (x.0, x.1.now)) result (index_at is_text pool.now bytes.now) }
 {
@@ -183,7 +183,7 @@ pub fn text_at<'a>(pool: &Pool, bytes: &'a [u8]) -> Result<(u16, &'a [u8]), Read
 }
 
 /// An index that names a class.
-#[tactic(auto, unfolding(crate::specs::Class::index_at))]
+#[tactic(auto, unfolding(crate::specs::Indices::index_at))]
 pub fn class_at<'a>(pool: &Pool, bytes: &'a [u8]) -> Result<(u16, &'a [u8]), ReadError>
     ensures { Gives (λ x. (x.0, x.1.now)) result (index_at is_class pool.now bytes.now) }
 {
@@ -193,7 +193,7 @@ pub fn class_at<'a>(pool: &Pool, bytes: &'a [u8]) -> Result<(u16, &'a [u8]), Rea
 }
 
 /// An index that names a class that is no array.
-#[tactic(auto, unfolding(crate::specs::Class::index_at))]
+#[tactic(auto, unfolding(crate::specs::Indices::index_at))]
 pub fn own_class_at<'a>(pool: &Pool, bytes: &'a [u8]) -> Result<(u16, &'a [u8]), ReadError>
     ensures { Gives (λ x. (x.0, x.1.now)) result (index_at (is_own_class pool.now) pool.now bytes.now) }
 {
@@ -203,7 +203,7 @@ pub fn own_class_at<'a>(pool: &Pool, bytes: &'a [u8]) -> Result<(u16, &'a [u8]),
 }
 
 /// An index that names a constant that fits the descriptor.
-#[tactic(auto, unfolding(crate::specs::Class::index_at))]
+#[tactic(auto, unfolding(crate::specs::Indices::index_at))]
 pub fn fitting_at<'a>(
     pool: &Pool,
     descriptor: u16,
@@ -220,7 +220,7 @@ pub fn fitting_at<'a>(
 }
 
 /// An index that names a field's name.
-#[tactic(auto, unfolding(crate::specs::Class::form_at))]
+#[tactic(auto, unfolding(crate::specs::Indices::form_at))]
 pub fn field_name_at<'a>(pool: &Pool, bytes: &'a [u8]) -> Result<(u16, &'a [u8]), ReadError>
     ensures { Gives (λ x. (x.0, x.1.now)) result (form_at is_field_name pool.now bytes.now) }
 {
@@ -230,7 +230,7 @@ pub fn field_name_at<'a>(pool: &Pool, bytes: &'a [u8]) -> Result<(u16, &'a [u8])
 }
 
 /// An index that names a field's descriptor.
-#[tactic(auto, unfolding(crate::specs::Class::form_at))]
+#[tactic(auto, unfolding(crate::specs::Indices::form_at))]
 pub fn field_type_at<'a>(pool: &Pool, bytes: &'a [u8]) -> Result<(u16, &'a [u8]), ReadError>
     ensures { Gives (λ x. (x.0, x.1.now)) result (form_at is_field_type pool.now bytes.now) }
 {
@@ -243,7 +243,7 @@ pub fn field_type_at<'a>(pool: &Pool, bytes: &'a [u8]) -> Result<(u16, &'a [u8])
 }
 
 /// An index that names a method's name.
-#[tactic(auto, unfolding(crate::specs::Class::form_at))]
+#[tactic(auto, unfolding(crate::specs::Indices::form_at))]
 pub fn method_name_at<'a>(pool: &Pool, bytes: &'a [u8]) -> Result<(u16, &'a [u8]), ReadError>
     ensures { Gives (λ x. (x.0, x.1.now)) result (form_at is_method_name pool.now bytes.now) }
 {
@@ -253,7 +253,7 @@ pub fn method_name_at<'a>(pool: &Pool, bytes: &'a [u8]) -> Result<(u16, &'a [u8]
 }
 
 /// An index that names a method's descriptor, at these access flags.
-#[tactic(auto, unfolding(crate::specs::Class::form_at))]
+#[tactic(auto, unfolding(crate::specs::Indices::form_at))]
 pub fn method_type_at<'a>(
     pool: &Pool,
     flags: u16,
