@@ -1,6 +1,11 @@
 -- A reader of a grammar: what it takes is spelled so, and what is spelled so is taken, whatever follows.
-use Rattle.std.proofs.Common.{◌≡◌, ℕ, zero, suc, ◌+◌, ◌-◌, ◌^◌, ◌<◌, ◌≤◌, Bool, true, false, cond, ltb, eqb, eq-eqb, ◌&&◌, ◌||◌, ◌⊎◌, List, [], ◌∷◌, ◌++◌, length, take, drop, Result, Ok, Err, refl, sym, ap, subst, ◌∙◌, append_assoc, arith, inl, inr}
-use Rattle.std.specs.Int.{Width, w8, w16, w32, w64, byte_len, from_be_bytes, to_be_bytes}
+use Rattle.std.proofs.Common.{◌≡◌, ℕ, ℤ, zero, suc, ◌+◌, ◌-◌, ◌^◌, ◌<◌, ◌≤◌, Bool, true, false, cond, ltb, eqb, eq-eqb, ◌&&◌, ◌||◌, ◌⊎◌, List, [], ◌∷◌, ◌++◌, length, take, drop, Result, Ok, Err, refl, sym, ap, subst, ◌∙◌, append_assoc, arith, inl, inr}
+use Rattle.std.specs.Int.{Width, w8, w16, w32, w64, byte_len, from_be_bytes, to_be_bytes, cast_signed, cast_unsigned}
+use Rattle.std.specs.Int.RustNames.{FitsSigned}
+use Rattle.std.proofs.lemmas.Int.{of_z-to_z, to_z-of_z}
+use borrow.Author.Gap.{read_sfits}
+use mir.Val.{bits}
+use mir.ValLaws.{of_z_fits}
 use Rattle.std.proofs.lemmas.Bool.{cases_lt, ltb-false, le-ltb, eqb-true}
 use Rattle.std.proofs.lemmas.List.{take_at, drop_at, take-append-drop, length-append, length-take, get_or-drop, get_or-take, get_or_past, append-nil}
 use Rattle.std.proofs.lemmas.Nat.{be_bytes_2, be_bytes_4, be_bytes_8, from_be_bytes-to_be_bytes_2, from_be_bytes-to_be_bytes_4, from_be_bytes-to_be_bytes_8}
@@ -10,7 +15,7 @@ use Rattle.class_pool.specs.declared.fault.Fault.{Fault}
 use Rattle.class_pool.specs.declared.fault.Fault.TheVariants.{Truncated}
 use Rattle.class_pool.specs.Reading.{◌>>=◌, number_or, number_at, run_or, run_at, tested}
 use Rattle.class_pool.specs.Loops.{counted, to_end, folded}
-use Rattle.class_pool.specs.Grammar.{Joined, Chain, IsBytes, Nothing, Then, Mapped, Never, Tested, Number, Run, Counted, Sized}
+use Rattle.class_pool.specs.Grammar.{Joined, Chain, IsBytes, Nothing, Then, Mapped, Never, Tested, Number, Signed, Run, Counted, Sized}
 
 pub IsBytes-drop : (n : ℕ) (bytes : List ℕ) → IsBytes bytes → IsBytes (drop n bytes)
 IsBytes-drop n bytes h i = rw get_or-drop (h (n + i))
@@ -381,20 +386,20 @@ reads_64 = reads_number w64 (2 ^ 64) (λ bytes. Truncated (length bytes)) wide64
 
 -- ---- a run and what follows
 
--- a run is bytes, so what follows may ask for that
-pub reads_run_then : {B : Type 0} (n : ℕ) (T : List ℕ → List ℕ → B → Type 0) (next : List ℕ → List ℕ → Result (B × List ℕ) Fault) → ((run : List ℕ) → IsBytes run → Reads (T run) (next run))
-    → Reads (Then (Run n) T) (λ bytes. run_at n bytes >>= λ x. next x.0 x.1)
+-- a run is bytes, so what follows may ask for that; it may look at all of the bytes for the places of its faults
+pub reads_run_then : {B : Type 0} (n : ℕ) (T : List ℕ → List ℕ → B → Type 0) (next : List ℕ → List ℕ → List ℕ → Result (B × List ℕ) Fault) → ((all run : List ℕ) → IsBytes run → Reads (T run) (next all run))
+    → Reads (Then (Run n) T) (λ bytes. run_at n bytes >>= λ x. next bytes x.0 x.1)
 reads_run_then n T next q = record {
   takes = λ bytes y fits e.
       let p = reads_run n (λ bytes. Truncated (length bytes)) in
-      let a = bind_ok (run_at n bytes) (λ x. next x.0 x.1) y e in
+      let a = bind_ok (run_at n bytes) (λ x. next bytes x.0 x.1) y e in
       let t = p.takes bytes a.0 fits a.1 in
-      let u = (q a.0.0 t.spelled.2).takes a.0.1 y t.rest_fits a.2 in
+      let u = (q bytes a.0.0 t.spelled.2).takes a.0.1 y t.rest_fits a.2 in
       record { text = t.text ++ u.text; parts = t.parts ∙ ap (λ (r : List ℕ). t.text ++ r) u.parts ∙ sym (append_assoc t.text u.text y.1); spelled = (a.0.0, t.text, u.text, refl, t.spelled, u.spelled); rest_fits = u.rest_fits };
   again = λ text rest y (x, one, more, e, s, t).
       let p = reads_run n (λ bytes. Truncated (length bytes)) in
       let whole : text ++ rest ≡ one ++ (more ++ rest) = ap (λ b. b ++ rest) e ∙ append_assoc one more rest in
-      ap (λ r. r >>= λ x. next x.0 x.1) (ap (run_at n) whole ∙ p.again one (more ++ rest) x s) ∙ (q x s.2).again more rest y t;
+      ap (λ r. r >>= λ x. next (text ++ rest) x.0 x.1) (ap (run_at n) whole ∙ p.again one (more ++ rest) x s) ∙ (q (text ++ rest) x s.2).again more rest y t;
 }
 
 -- ---- items whose spelling is a function
@@ -408,3 +413,26 @@ joined_flat spell P before text (x ∷ xs) (one, more, e, s, others) =
 pub flat_joined : {A : Type 0} (spell : A → List ℕ) (P : A → Type 0) (before : List A) (xs : List A) → AllByRecursion P xs → Joined (λ _ _ t x. (t ≡ spell x) × P x) before (flat_map spell xs) xs
 flat_joined spell P before [] h = refl
 flat_joined spell P before (x ∷ xs) h = (spell x, flat_map spell xs, flat_map-cons spell x xs, (refl, h.0), flat_joined spell P (before ++ x ∷ []) xs h.1)
+
+-- ---- signed numbers
+
+pub reads_signed : (w : Width) → IsWide w (2 ^ bits w) → Reads (Signed w) (λ bytes. number_at w bytes >>= λ n. Ok (cast_signed w n.0, n.1))
+reads_signed w wide = reads_as (Mapped (cast_signed w) (Number w (2 ^ bits w))) (Signed w) _
+    (λ text z (n, s, is).
+    let back : cast_unsigned w z ≡ n = ap (cast_unsigned w) is ∙ of_z-to_z w n s.1 in
+    (s.0 ∙ ap (to_be_bytes w) (sym back), subst (FitsSigned w) (sym is) (read_sfits w n)))
+    (λ text z (e, fits). (cast_unsigned w z, (e, (of_z_fits w z fits).fits), sym (to_z-of_z w z fits)))
+    (reads_mapped (cast_signed w) (Number w (2 ^ bits w)) _ (reads_number w (2 ^ bits w) (λ bytes. Truncated (length bytes)) wide))
+
+pub reads_signed_32 : Reads (Signed w32) (λ bytes. number_at w32 bytes >>= λ n. Ok (cast_signed w32 n.0, n.1))
+reads_signed_32 = reads_signed w32 wide32
+
+pub reads_signed_64 : Reads (Signed w64) (λ bytes. number_at w64 bytes >>= λ n. Ok (cast_signed w64 n.0, n.1))
+reads_signed_64 = reads_signed w64 wide64
+
+-- a signed number in a constructor
+pub reads_signed_as : {B : Type 0} (w : Width) (made : ℤ → B) → IsWide w (2 ^ bits w) → Reads (Mapped made (Signed w)) (λ bytes. number_at w bytes >>= λ n. Ok (made (cast_signed w n.0), n.1))
+reads_signed_as w made wide = reads_as (Mapped (λ n. made (cast_signed w n)) (Number w (2 ^ bits w))) (Mapped made (Signed w)) _
+    (λ text y (n, s, is). (cast_signed w n, (s.0 ∙ ap (to_be_bytes w) (sym (of_z-to_z w n s.1)), read_sfits w n), is))
+    (λ text y (z, (e, fits), is). (cast_unsigned w z, (e, (of_z_fits w z fits).fits), is ∙ ap made (sym (to_z-of_z w z fits))))
+    (reads_mapped (λ n. made (cast_signed w n)) (Number w (2 ^ bits w)) _ (reads_number w (2 ^ bits w) (λ bytes. Truncated (length bytes)) wide))

@@ -3,3 +3,4 @@ pub mod Laws
 pub mod PoolSteps
 pub mod PoolLaw
 pub mod WriteLaw
+pub mod NamesLaw

@@ -1,185 +1,114 @@
 -- The pool: what is read is spelled so, and the other way.
-use Rattle.std.proofs.Common.{◌≡◌, ℕ, suc, ◌+◌, ◌-◌, ◌/◌, ◌%◌, ◌^◌, ◌<◌, ◌≤◌, Bool, true, false, cond, eqb, ltb, leb, ◌&&◌, ◌||◌, List, [], ◌∷◌, ◌++◌, length, Option, Some, None, Result, Ok, Err, refl, sym, ap, subst, ◌∙◌, arith, lit<, inl, inr}
-use Rattle.std.specs.Int.{w8, w16, w32, w64, to_be_bytes}
-use Rattle.std.specs.List.{AllByRecursion}
-use Rattle.std.proofs.lemmas.Bool.{eqb-true, ltb-true, lt-ltb, leb-true, le-ltb, le-leb, cases_lt}
-use Rattle.std.proofs.lemmas.Bool.Decides.{nat_tests}
+use Rattle.std.proofs.Common.{◌≡◌, ℕ, zero, suc, ◌-◌, ◌^◌, ◌<◌, true, false, cond, eqb, ltb, ◌&&◌, List, [], ◌∷◌, ◌++◌, length, Option, Some, None, Result, Ok, Err, refl, sym, ap, subst, ◌∙◌, arith, lit<, All}
+use Rattle.std.specs.Int.{w8, w16, w32, w64, to_be_bytes, cast_unsigned}
+use Rattle.std.proofs.lemmas.Bool.{eqb-true, ltb-true, lt-ltb}
 use Rattle.std.proofs.lemmas.List.{append-nil}
-use Rattle.std.proofs.lemmas.List.Concat.{flat_map-cons}
+use Rattle.std.proofs.lemmas.List.Elements.{All-nil, All-head, All-tail, All-cons}
+use Rattle.et_base.specs.Utf.{utf, IsUnits}
+use Rattle.et_base.specs.UtfReading.{units_read}
+use Rattle.et_base.proofs.UtfLaws.{units_read-utf, spells_from_read, utf_bytes, IsByte}
 use Rattle.class_pool.specs.declared.fault.Fault.{Fault}
-use Rattle.class_pool.specs.declared.fault.Fault.TheVariants.{BadTag, BadIndex, BadDescriptor, BadUtf}
+use Rattle.class_pool.specs.declared.fault.Fault.TheVariants.{BadTag, BadIndex, BadDescriptor}
 use Rattle.class_pool.specs.declared.pool.Entry.{Entry}
-use Rattle.class_pool.specs.declared.pool.Entry.TheVariants.{Utf8, Integer, Long, Class, NameAndType, Method}
+use Rattle.class_pool.specs.declared.pool.Entry.TheVariants.{Utf8, Integer, Float, Long, Double, Class, Str, Field, Method, InterfaceMethod, NameAndType, MethodHandle, MethodType, InvokeDynamic}
 use Rattle.class_pool.specs.Reading.{◌>>=◌, number_at, run_at}
-use Rattle.class_pool.specs.Loops.{to_end}
-use Rattle.class_pool.specs.Utf.{unit_at, group, utf, is_one, is_more, is_two, is_three, two, three, thirds, seconds}
-use Rattle.class_pool.specs.Pool.{text_at, body_at, entry_at, slot_by, slot_at, is_second, slot_len, slots_at, wants, entry_of, is_text, is_class, is_pair, is_named, pass, indices_of, names_of, pool_at}
-use Rattle.class_pool.specs.Grammar.{IsBytes, Nothing, Then, Mapped, Never, Number, Run, Counted, Joined}
-use Rattle.class_pool.specs.PoolGrammar.{entry_bytes, UnitFits, UnitText, EntryText, SlotText, IsSound, PoolText}
-use Rattle.class_pool.proofs.Laws.{reads_8, reads_16, reads_32, reads_64, reads_run_then, joined_flat, flat_joined, both_true, both, either_true, picked, picked_bool, chosen, bytes_append, one_byte, done, bind_ok, ok_is, Taken, Reads, reads_nothing, reads_then, reads_mapped, reads_if, reads_never, reads_as, reads_counted, ends_takes, ends_again}
+use Rattle.class_pool.specs.Pool.{units_or, text_at, single_at, double_at, handle_at, doubles_at, singles_at, numbers_at, body_at, entry_at, slot_by, slot_at, is_second, is_wide, slot_len, slots_at, wrong_index, wrong_name, found_at, pass, no_place, indices_pass, names_pass, pool_at}
+use Rattle.class_pool.specs.Grammar.{IsBytes, Nothing, Then, Mapped, Never, Number, Signed, Run, Counted, Joined}
+use Rattle.class_pool.specs.PoolGrammar.{entry_bytes, EntryFits, EntryText, SlotText, IsSound, PoolText}
+use Rattle.class_pool.proofs.Laws.{reads_8, reads_16, reads_32, reads_64, reads_signed_as, wide32, wide64, reads_run_then, both_true, chosen, done, bind_ok, ok_is, Taken, Reads, reads_nothing, reads_then, reads_mapped, reads_if, reads_never, reads_as, reads_counted}
 
--- ---- units
+-- ---- texts
 
--- the first byte below 128, the second from 192 on, or the third
-group_of_one : (a : ℕ) → is_one a ≡ true → group a ≡ a ∷ []
-group_of_one a h = rw h refl
-
-is_more_is : (b : ℕ) → is_more b ≡ true → (128 ≤ b) × (b < 192)
-is_more_is b h = let p = both_true _ _ h in (leb-true _ _ p.0, ltb-true _ _ p.1)
-
-two_is : (a b : ℕ) → is_two a b ≡ true → group (two a b) ≡ a ∷ b ∷ []
-two_is a b h =
-    let p = both_true _ _ h in
-    let q = both_true _ _ p.0 in
-    let r = both_true _ _ q.0 in
-    let low : 192 ≤ a = leb-true _ _ r.0 in
-    let high : a < 224 = ltb-true _ _ r.1 in
-    let more = is_more_is b q.1 in
-    let x : 192 + two a b / 64 ≡ a = omega (arith, more.0, more.1) in
-    let y : 128 + two a b % 64 ≡ b = omega (arith, more.0, more.1) in
-    let small : ltb (two a b) 2048 ≡ true = lt-ltb _ _ (omega (arith, more.0, more.1)) in
-    let not_one : is_one (two a b) ≡ false = elim (either_true _ _ p.1) [
-      | inl z ↦ let e : two a b ≡ 0 = eqb-true _ _ z in ap is_one e
-      | inr z ↦ let g : 128 ≤ two a b = leb-true _ _ z in grind (arith, nat_tests, g)
-    ] in
-    rw (not_one, small, x, y) refl
-
-three_is : (a b c : ℕ) → is_three a b c ≡ true → (group (three a b c) ≡ a ∷ b ∷ c ∷ []) × (three a b c < 2 ^ 16)
-three_is a b c h =
-    let p = both_true _ _ h in
-    let q = both_true _ _ p.0 in
-    let r = both_true _ _ q.0 in
-    let s = both_true _ _ r.0 in
-    let low : 224 ≤ a = leb-true _ _ s.0 in
-    let high : a < 240 = ltb-true _ _ s.1 in
-    let m1 = is_more_is b r.1 in
-    let m2 = is_more_is c q.1 in
-    let big : 2048 ≤ three a b c = leb-true _ _ p.1 in
-    let x : 224 + three a b c / 4096 ≡ a = omega (arith, m1.0, m1.1, m2.0, m2.1) in
-    let y : 128 + three a b c / 64 % 64 ≡ b = omega (arith, m1.0, m1.1, m2.0, m2.1) in
-    let z : 128 + three a b c % 64 ≡ c = omega (arith, m1.0, m1.1, m2.0, m2.1) in
-    let not_one : is_one (three a b c) ≡ false = grind (arith, nat_tests, big) in
-    let not_two : ltb (three a b c) 2048 ≡ false = le-ltb _ _ big in
-    (rw (not_one, not_two, x, y, z) refl, omega (arith, m1.0, m1.1, m2.0, m2.1))
-
-thirds_take : (a b : ℕ) (rest : List ℕ) (left : ℕ) (x : ℕ × List ℕ) → IsBytes (a ∷ b ∷ rest) → thirds a b rest left ≡ Ok x → Taken UnitText (a ∷ b ∷ rest) x
-thirds_take a b [] left x fits e = absurd cc
-thirds_take a b (c ∷ rest) left x fits e = picked (is_three a b c) (Ok (three a b c, rest)) (Err (BadUtf left)) (Ok x) e
-    (λ h i. let t = three_is a b c h in subst (λ z. Taken UnitText (a ∷ b ∷ c ∷ rest) z) (ok_is (three a b c, rest) x i) (record { text = a ∷ b ∷ c ∷ []; parts = refl; spelled = (sym t.0, t.1); rest_fits = λ k. fits (suc (suc (suc k))) }))
-    (λ h i. absurd cc)
-
-seconds_take : (a : ℕ) (rest : List ℕ) (left : ℕ) (x : ℕ × List ℕ) → IsBytes (a ∷ rest) → seconds a rest left ≡ Ok x → Taken UnitText (a ∷ rest) x
-seconds_take a [] left x fits e = absurd cc
-seconds_take a (b ∷ rest) left x fits e = picked (is_two a b) (Ok (two a b, rest)) (thirds a b rest left) (Ok x) e
-    (λ h i. subst (λ z. Taken UnitText (a ∷ b ∷ rest) z) (ok_is (two a b, rest) x i) (record { text = a ∷ b ∷ []; parts = refl; spelled = (sym (two_is a b h), omega (arith, fits 0, fits 1)); rest_fits = λ k. fits (suc (suc k)) }))
-    (λ h i. thirds_take a b rest left x fits i)
-
-unit_takes : (after : ℕ) (bytes : List ℕ) (x : ℕ × List ℕ) → IsBytes bytes → unit_at after bytes ≡ Ok x → Taken UnitText bytes x
-unfolding unit_at
-unit_takes after [] x fits e = absurd cc
-unit_takes after (a ∷ rest) x fits e = picked (is_one a) (Ok (a, rest)) (seconds a rest (suc (length rest) + after)) (Ok x) e
-    (λ h i. subst (λ z. Taken UnitText (a ∷ rest) z) (ok_is (a, rest) x i) (record { text = a ∷ []; parts = refl; spelled = (sym (group_of_one a h), omega (arith, fits 0)); rest_fits = λ k. fits (suc k) }))
-    (λ h i. seconds_take a rest (suc (length rest) + after) x fits i)
-
-again_one : (after : ℕ) (rest : List ℕ) (u : ℕ) → is_one u ≡ true → unit_at after (group u ++ rest) ≡ Ok (u, rest)
-unfolding unit_at
-again_one after rest u h = rw (h, h) refl
-
-again_two : (after : ℕ) (rest : List ℕ) (u : ℕ) → is_one u ≡ false → u < 2048 → unit_at after (group u ++ rest) ≡ Ok (u, rest)
-unfolding unit_at
-again_two after rest u h lt =
-    let small : ltb u 2048 ≡ true = lt-ltb _ _ lt in
-    let not_one : is_one (192 + u / 64) ≡ false = grind (arith, nat_tests) in
-    let is : two (192 + u / 64) (128 + u % 64) ≡ u = omega arith in
-    let ends : (eqb u 0 || leb 128 u) ≡ true = grind (arith, nat_tests, h) in
-    let more : is_more (128 + u % 64) ≡ true = grind (arith, nat_tests) in
-    let high : ltb (192 + u / 64) 224 ≡ true = lt-ltb _ _ (omega arith) in
-    let low : leb 192 (192 + u / 64) ≡ true = le-leb _ _ (omega arith) in
-    let fits : is_two (192 + u / 64) (128 + u % 64) ≡ true = both _ _ (both _ _ (both _ _ low high) more) (rw is ends) in
-    rw (h, small, not_one, fits, is) refl
-
-again_three : (after : ℕ) (rest : List ℕ) (u : ℕ) → is_one u ≡ false → 2048 ≤ u → u < 2 ^ 16 → unit_at after (group u ++ rest) ≡ Ok (u, rest)
-unfolding unit_at
-again_three after rest u h le lt =
-    let big : ltb u 2048 ≡ false = le-ltb _ _ le in
-    let not_one : is_one (224 + u / 4096) ≡ false = grind (arith, nat_tests) in
-    let not_two : is_two (224 + u / 4096) (128 + u / 64 % 64) ≡ false = grind (arith, nat_tests) in
-    let is : three (224 + u / 4096) (128 + u / 64 % 64) (128 + u % 64) ≡ u = omega arith in
-    let more : is_more (128 + u / 64 % 64) ≡ true = grind (arith, nat_tests) in
-    let last : is_more (128 + u % 64) ≡ true = grind (arith, nat_tests) in
-    let high : ltb (224 + u / 4096) 240 ≡ true = lt-ltb _ _ (omega arith) in
-    let low : leb 224 (224 + u / 4096) ≡ true = le-leb _ _ (omega arith) in
-    let fits : is_three (224 + u / 4096) (128 + u / 64 % 64) (128 + u % 64) ≡ true = both _ _ (both _ _ (both _ _ (both _ _ low high) more) last) (rw is (le-leb _ _ le)) in
-    rw (h, big, not_one, not_two, fits, is) refl
-
-unit_again : (after : ℕ) (text rest : List ℕ) (u : ℕ) → UnitText text u → unit_at after (text ++ rest) ≡ Ok (u, rest)
-unit_again after text rest u s =
-    ap (λ t. unit_at after (t ++ rest)) s.0 ∙ picked_bool (is_one u) (λ h. again_one after rest u h)
-    (λ h. elim (cases_lt u 2048) [ inl lt ↦ again_two after rest u h lt | inr le ↦ again_three after rest u h le s.1 ])
-
-pub reads_unit : (after : ℕ) → Reads UnitText (unit_at after)
-reads_unit after = record { takes = unit_takes after; again = unit_again after }
-
-unit_some : (text : List ℕ) (u : ℕ) → UnitText text u → 0 < length text
-unit_some text u s = rw s.0 (grind arith)
-
-group_bytes : (u : ℕ) → u < 2 ^ 16 → IsBytes (group u)
-group_bytes u lt = picked_bool (is_one u) (λ h. rw h (one_byte u (let p : (leb 1 u ≡ true) × (ltb u 128 ≡ true) = both_true _ _ h in let k : u < 128 = ltb-true _ _ p.1 in omega arith)))
-    (λ h. elim (cases_lt u 2048) [
-      | inl small ↦ let k : ltb u 2048 ≡ true = lt-ltb _ _ small in rw (h, k) (bytes_append ((192 + u / 64) ∷ []) ((128 + u % 64) ∷ []) (one_byte _ (omega arith)) (one_byte _ (omega arith)))
-      | inr big ↦ let k : ltb u 2048 ≡ false = le-ltb _ _ big in rw (h, k) (bytes_append ((224 + u / 4096) ∷ []) ((128 + u / 64 % 64) ∷ (128 + u % 64) ∷ []) (one_byte _ (omega arith)) (bytes_append ((128 + u / 64 % 64) ∷ []) ((128 + u % 64) ∷ []) (one_byte _ (omega arith)) (one_byte _ (omega arith))))
-    ])
-
-utf_bytes : (us : List ℕ) → AllByRecursion UnitFits us → IsBytes (utf us)
-utf_bytes [] all = λ i. omega arith
-utf_bytes (u ∷ us) all = rw flat_map-cons (bytes_append (group u) (utf us) (group_bytes u all.0) (utf_bytes us all.1))
+units_ok : (left : ℕ) (run units : List ℕ) (r : Result (List ℕ) ℕ) → units_read run ≡ r → units_or left r ≡ Ok units → units_read run ≡ Ok units
+units_ok left run units (Ok us) e h = e ∙ ap Ok (ok_is us units h)
+units_ok left run units (Err at) e h = absurd cc
 
 -- the units of a run that was read before
-abbrev Units : List ℕ → List ℕ → Entry → Type 0
-Units run text y = (text ≡ []) × (us : List ℕ) × (run ≡ utf us) × AllByRecursion UnitFits us × (y ≡ Utf8 us)
+abbrev pub Units : List ℕ → List ℕ → Entry → Type 0
+Units run text y = (text ≡ []) × (us : List ℕ) × (run ≡ utf us) × IsUnits us × (y ≡ Utf8 us)
 
-pub reads_units : (run : List ℕ) → IsBytes run → Reads (Units run) (λ bytes. to_end (λ _ b. unit_at (length bytes) b) [] (length run) run >>= λ us. Ok (Utf8 us, bytes))
-reads_units run run_fits = record {
+pub reads_units : (left : ℕ) (run : List ℕ) → Reads (Units run) (λ bytes. units_or left (units_read run) >>= λ us. Ok (Utf8 us, bytes))
+reads_units left run = record {
   takes = λ bytes y fits e.
-      let a = bind_ok (to_end (λ _ b. unit_at (length bytes) b) [] (length run) run) (λ us. Ok (Utf8 us, bytes)) y e in
-      let u = ends_takes (λ _. UnitText) (λ _ b. unit_at (length bytes) b) (λ _. reads_unit (length bytes)) (λ _. unit_some) (length run) [] run a.0 run_fits (omega arith) a.1 in
-      let f = joined_flat group UnitFits [] run u.0 u.2 in
-      let made : Taken (Units run) bytes (Utf8 u.0, bytes) = record { text = []; parts = refl; spelled = (refl, u.0, f.0, f.1, refl); rest_fits = fits } in
-      subst (λ z. Taken (Units run) bytes z) (ap (λ us. (Utf8 us, bytes)) (sym u.1) ∙ ok_is (Utf8 a.0, bytes) y a.2) made;
+      let a = bind_ok (units_or left (units_read run)) (λ us. Ok (Utf8 us, bytes)) y e in
+      let s = spells_from_read run a.0 (units_ok left run a.0 (units_read run) refl a.1) in
+      let made : Taken (Units run) bytes (Utf8 a.0, bytes) = record { text = []; parts = refl; spelled = (refl, a.0, s.0, s.1, refl); rest_fits = fits } in
+      subst (λ z. Taken (Units run) bytes z) (ok_is (Utf8 a.0, bytes) y a.2) made;
   again = λ text rest y (nil, us, e, all, is).
-      let j : Joined (λ _ _ t x. UnitText t x) [] run us = subst (λ r. Joined (λ _ _ t x. UnitText t x) [] r us) (sym e) (flat_joined group UnitFits [] us all) in
-      let k : to_end (λ _ b. unit_at (length rest) b) [] (length run) run ≡ Ok us = ends_again (λ _. UnitText) (λ _ b. unit_at (length rest) b) (λ _. reads_unit (length rest)) (λ _. unit_some) us (length run) [] run (omega arith) j in
+      let k : units_read run ≡ Ok us = ap units_read e ∙ units_read-utf us all in
       rw (nil, k, is) refl;
 }
-
--- ---- entries
 
 abbrev pub TextBody : List ℕ → Entry → Type 0
 TextBody = Then (Number w16 (2 ^ 16)) (λ n. Then (Run n) Units)
 
 pub reads_text : Reads TextBody text_at
 unfolding text_at
-reads_text = reads_then (Number w16 (2 ^ 16)) (λ n. Then (Run n) Units) (λ bytes. number_at w16 bytes) (λ all n rest. run_at n rest >>= λ run. to_end (λ _ b. unit_at (length run.1) b) [] (length run.0) run.0 >>= λ units. Ok (Utf8 units, run.1))
-    reads_16 (λ all n. reads_run_then n Units (λ run bytes. to_end (λ _ b. unit_at (length bytes) b) [] (length run) run >>= λ us. Ok (Utf8 us, bytes)) reads_units)
+reads_text = reads_then (Number w16 (2 ^ 16)) (λ n. Then (Run n) Units) (λ bytes. number_at w16 bytes) (λ all n rest. run_at n rest >>= λ run. units_or (length rest) (units_read run.0) >>= λ units. Ok (Utf8 units, run.1))
+    reads_16 (λ all n. reads_run_then n Units (λ all run bytes. units_or (length all) (units_read run) >>= λ us. Ok (Utf8 us, bytes)) (λ all run run_fits. reads_units (length all) run))
+
+-- ---- entries
+
+abbrev pub Single : (ℕ → Entry) → List ℕ → Entry → Type 0
+Single made = Mapped made (Number w16 (2 ^ 16))
+
+abbrev pub Twin : (ℕ → ℕ → Entry) → List ℕ → Entry → Type 0
+Twin made = Then (Number w16 (2 ^ 16)) (λ a. Mapped (made a) (Number w16 (2 ^ 16)))
+
+abbrev pub HandleBody : List ℕ → Entry → Type 0
+HandleBody = Then (Number w8 (2 ^ 8)) (λ kind. Mapped (MethodHandle kind) (Number w16 (2 ^ 16)))
+
+abbrev pub Twins : ℕ → List ℕ → Entry → Type 0
+Twins tag text e = cond (eqb tag 9) (Twin Field text e) (cond (eqb tag 10) (Twin Method text e) (cond (eqb tag 11) (Twin InterfaceMethod text e)
+    (cond (eqb tag 12) (Twin NameAndType text e) (cond (eqb tag 18) (Twin InvokeDynamic text e) (Never text e)))))
+
+abbrev pub Singles : ℕ → List ℕ → Entry → Type 0
+Singles tag text e = cond (eqb tag 7) (Single Class text e) (cond (eqb tag 8) (Single Str text e) (cond (eqb tag 16) (Single MethodType text e) (Twins tag text e)))
+
+abbrev pub Numbers : ℕ → ℕ → List ℕ → Entry → Type 0
+Numbers tag slots text e = cond (eqb tag 3) (Mapped Integer (Signed w32) text e) (cond (eqb tag 4) (Mapped Float (Number w32 (2 ^ 32)) text e)
+    (cond (eqb tag 5 && ltb 0 slots) (Mapped Long (Signed w64) text e) (cond (eqb tag 6 && ltb 0 slots) (Mapped Double (Number w64 (2 ^ 64)) text e) (Singles tag text e))))
 
 abbrev pub Body : ℕ → ℕ → List ℕ → Entry → Type 0
-Body tag slots text e = cond (eqb tag 1) (TextBody text e) (cond (eqb tag 3) (Mapped Integer (Number w32 (2 ^ 32)) text e)
-    (cond (eqb tag 5 && ltb 0 slots) (Mapped Long (Number w64 (2 ^ 64)) text e)
-    (cond (eqb tag 7) (Mapped Class (Number w16 (2 ^ 16)) text e)
-    (cond (eqb tag 10) (Then (Number w16 (2 ^ 16)) (λ a. Mapped (Method a) (Number w16 (2 ^ 16))) text e)
-    (cond (eqb tag 12) (Then (Number w16 (2 ^ 16)) (λ a. Mapped (NameAndType a) (Number w16 (2 ^ 16))) text e) (Never text e))))))
+Body tag slots text e = cond (eqb tag 1) (TextBody text e) (cond (eqb tag 15) (HandleBody text e) (Numbers tag slots text e))
+
+reads_single : (made : ℕ → Entry) → Reads (Single made) (single_at made)
+reads_single made = reads_mapped made _ _ reads_16
+
+reads_twin : (made : ℕ → ℕ → Entry) → Reads (Twin made) (double_at made)
+reads_twin made = reads_then _ _ (λ bytes. number_at w16 bytes) (λ _ a rest. number_at w16 rest >>= λ b. Ok (made a b.0, b.1)) reads_16 (λ _ a. reads_mapped (made a) _ _ reads_16)
+
+reads_handle : Reads HandleBody handle_at
+unfolding handle_at
+reads_handle = reads_then _ _ (λ bytes. number_at w8 bytes) (λ _ kind rest. number_at w16 rest >>= λ b. Ok (MethodHandle kind b.0, b.1)) reads_8 (λ _ kind. reads_mapped (MethodHandle kind) _ _ reads_16)
+
+reads_twins : (tag left : ℕ) → Reads (Twins tag) (doubles_at tag left)
+unfolding doubles_at
+reads_twins tag left =
+    reads_if (eqb tag 9) _ _ _ _ (reads_twin Field)
+    (reads_if (eqb tag 10) _ _ _ _ (reads_twin Method)
+    (reads_if (eqb tag 11) _ _ _ _ (reads_twin InterfaceMethod)
+    (reads_if (eqb tag 12) _ _ _ _ (reads_twin NameAndType)
+    (reads_if (eqb tag 18) _ _ _ _ (reads_twin InvokeDynamic) (reads_never (BadTag left tag))))))
+
+reads_singles : (tag left : ℕ) → Reads (Singles tag) (singles_at tag left)
+unfolding singles_at
+reads_singles tag left =
+    reads_if (eqb tag 7) _ _ _ _ (reads_single Class)
+    (reads_if (eqb tag 8) _ _ _ _ (reads_single Str)
+    (reads_if (eqb tag 16) _ _ _ _ (reads_single MethodType) (reads_twins tag left)))
+
+reads_numbers : (tag slots left : ℕ) → Reads (Numbers tag slots) (numbers_at tag slots left)
+unfolding numbers_at
+reads_numbers tag slots left =
+    reads_if (eqb tag 3) _ _ _ _ (reads_signed_as w32 Integer wide32)
+    (reads_if (eqb tag 4) _ _ _ _ (reads_mapped Float _ _ reads_32)
+    (reads_if (eqb tag 5 && ltb 0 slots) _ _ _ _ (reads_signed_as w64 Long wide64)
+    (reads_if (eqb tag 6 && ltb 0 slots) _ _ _ _ (reads_mapped Double _ _ reads_64) (reads_singles tag left))))
 
 pub reads_body : (tag slots left : ℕ) → Reads (Body tag slots) (body_at tag slots left)
 unfolding body_at
-reads_body tag slots left =
-    let two : (f : ℕ → ℕ → Entry) → Reads (Then (Number w16 (2 ^ 16)) (λ a. Mapped (f a) (Number w16 (2 ^ 16)))) (λ bytes. number_at w16 bytes >>= λ a. number_at w16 a.1 >>= λ b. Ok (f a.0 b.0, b.1)) =
-    λ f. reads_then _ _ (λ bytes. number_at w16 bytes) (λ _ a rest. number_at w16 rest >>= λ b. Ok (f a b.0, b.1)) reads_16 (λ _ a. reads_mapped (f a) _ _ reads_16) in
-    reads_if (eqb tag 1) _ _ _ _ reads_text
-    (reads_if (eqb tag 3) _ _ _ _ (reads_mapped Integer _ _ reads_32)
-    (reads_if (eqb tag 5 && ltb 0 slots) _ _ _ _ (reads_mapped Long _ _ reads_64)
-    (reads_if (eqb tag 7) _ _ _ _ (reads_mapped Class _ _ reads_16)
-    (reads_if (eqb tag 10) _ _ _ _ (two Method)
-    (reads_if (eqb tag 12) _ _ _ _ (two NameAndType) (reads_never (BadTag left tag)))))))
+reads_body tag slots left = reads_if (eqb tag 1) _ _ _ _ reads_text (reads_if (eqb tag 15) _ _ _ _ reads_handle (reads_numbers tag slots left))
 
 pub reads_tagged : (slots : ℕ) → Reads (Then (Number w8 (2 ^ 8)) (λ tag. Body tag slots)) (entry_at slots)
 unfolding entry_at
@@ -187,22 +116,69 @@ reads_tagged slots = reads_then _ _ (λ bytes. number_at w8 bytes) (λ all tag r
 
 -- ---- the entry's grammar in plain words
 
-tagged : (t tag : ℕ) (one more text : List ℕ) → text ≡ one ++ more → one ≡ to_be_bytes w8 tag → eqb tag t ≡ true → text ≡ to_be_bytes w8 t ++ more
-tagged t tag one more text e s h = e ∙ ap (λ o. o ++ more) (s ∙ ap (to_be_bytes w8) (eqb-true tag t h))
+tagged : (t tag : ℕ) (more text : List ℕ) → text ≡ to_be_bytes w8 tag ++ more → eqb tag t ≡ true → text ≡ to_be_bytes w8 t ++ more
+tagged t tag more text whole h = whole ∙ ap (λ k. to_be_bytes w8 k ++ more) (eqb-true tag t h)
+
+single_to : (slots t : ℕ) (made : ℕ → Entry) → ((a : ℕ) → entry_bytes (made a) ≡ to_be_bytes w8 t ++ to_be_bytes w16 a) → ((a : ℕ) → a < 2 ^ 16 → EntryFits (made a)) → ((a : ℕ) → is_wide (Some (made a)) ≡ false)
+    → (text more : List ℕ) (e : Entry) → text ≡ to_be_bytes w8 t ++ more → Single made more e → EntryText slots text e
+single_to slots t made spell fits narrow text more e whole (a, s, is) =
+    subst (λ y. EntryText slots text y) (sym is) (whole ∙ ap (λ x. to_be_bytes w8 t ++ x) s.0 ∙ sym (spell a), fits a s.1, λ w. absurd (let n = narrow a in cc))
+
+twin_to : (slots t : ℕ) (made : ℕ → ℕ → Entry) → ((a b : ℕ) → entry_bytes (made a b) ≡ to_be_bytes w8 t ++ (to_be_bytes w16 a ++ to_be_bytes w16 b)) → ((a b : ℕ) → a < 2 ^ 16 → b < 2 ^ 16 → EntryFits (made a b)) → ((a b : ℕ) → is_wide (Some (made a b)) ≡ false)
+    → (text more : List ℕ) (e : Entry) → text ≡ to_be_bytes w8 t ++ more → Twin made more e → EntryText slots text e
+twin_to slots t made spell fits narrow text more e whole (a, at, m, j, sa, (b, sb, is)) =
+    subst (λ y. EntryText slots text y) (sym is) (whole ∙ ap (λ x. to_be_bytes w8 t ++ x) (j ∙ ap (λ x. x ++ m) sa.0 ∙ ap (λ x. to_be_bytes w16 a ++ x) sb.0) ∙ sym (spell a b), fits a b sa.1 sb.1, λ w. absurd (let n = narrow a b in cc))
+
+text_to : (slots : ℕ) (text more : List ℕ) (e : Entry) → text ≡ to_be_bytes w8 1 ++ more → TextBody more e → EntryText slots text e
+text_to slots text more e whole (n, nt, m, j, tn, (run, rt, k, j2, tr, (nil, us, utf-is, all, is))) =
+    let len : n ≡ length (utf us) = sym tr.1 ∙ ap length utf-is in
+    let m-is : m ≡ utf us = j2 ∙ ap (λ x. rt ++ x) nil ∙ append-nil rt ∙ tr.0 ∙ utf-is in
+    let spelled : text ≡ entry_bytes (Utf8 us) = whole ∙ ap (λ x. to_be_bytes w8 1 ++ x) (j ∙ ap (λ x. x ++ m) (tn.0 ∙ ap (to_be_bytes w16) len) ∙ ap (λ x. to_be_bytes w16 (length (utf us)) ++ x) m-is) in
+    subst (λ y. EntryText slots text y) (sym is) (spelled, (subst (λ k. k < 2 ^ 16) len tn.1, all), λ w. absurd cc)
+
+handle_to : (slots : ℕ) (text more : List ℕ) (e : Entry) → text ≡ to_be_bytes w8 15 ++ more → HandleBody more e → EntryText slots text e
+handle_to slots text more e whole (a, at, m, j, sa, (b, sb, is)) =
+    subst (λ y. EntryText slots text y) (sym is) (whole ∙ ap (λ x. to_be_bytes w8 15 ++ x) (j ∙ ap (λ x. x ++ m) sa.0 ∙ ap (λ x. to_be_bytes w8 a ++ x) sb.0), (sa.1, sb.1), λ w. absurd cc)
+
+twins_to : (slots tag : ℕ) (text more : List ℕ) (e : Entry) → text ≡ to_be_bytes w8 tag ++ more → Twins tag more e → EntryText slots text e
+twins_to slots tag text more e whole body =
+    chosen (eqb tag 9) _ _ body (λ h b. twin_to slots 9 Field (λ a b. refl) (λ a b p q. (p, q)) (λ a b. refl) text more e (tagged 9 tag more text whole h) b)
+    (λ _ body. chosen (eqb tag 10) _ _ body (λ h b. twin_to slots 10 Method (λ a b. refl) (λ a b p q. (p, q)) (λ a b. refl) text more e (tagged 10 tag more text whole h) b)
+    (λ _ body. chosen (eqb tag 11) _ _ body (λ h b. twin_to slots 11 InterfaceMethod (λ a b. refl) (λ a b p q. (p, q)) (λ a b. refl) text more e (tagged 11 tag more text whole h) b)
+    (λ _ body. chosen (eqb tag 12) _ _ body (λ h b. twin_to slots 12 NameAndType (λ a b. refl) (λ a b p q. (p, q)) (λ a b. refl) text more e (tagged 12 tag more text whole h) b)
+    (λ _ body. chosen (eqb tag 18) _ _ body (λ h b. twin_to slots 18 InvokeDynamic (λ a b. refl) (λ a b p q. (p, q)) (λ a b. refl) text more e (tagged 18 tag more text whole h) b)
+    (λ _ body. absurd body)))))
+
+singles_to : (slots tag : ℕ) (text more : List ℕ) (e : Entry) → text ≡ to_be_bytes w8 tag ++ more → Singles tag more e → EntryText slots text e
+singles_to slots tag text more e whole body =
+    chosen (eqb tag 7) _ _ body (λ h b. single_to slots 7 Class (λ a. refl) (λ a p. p) (λ a. refl) text more e (tagged 7 tag more text whole h) b)
+    (λ _ body. chosen (eqb tag 8) _ _ body (λ h b. single_to slots 8 Str (λ a. refl) (λ a p. p) (λ a. refl) text more e (tagged 8 tag more text whole h) b)
+    (λ _ body. chosen (eqb tag 16) _ _ body (λ h b. single_to slots 16 MethodType (λ a. refl) (λ a p. p) (λ a. refl) text more e (tagged 16 tag more text whole h) b)
+    (λ _ body. twins_to slots tag text more e whole body)))
+
+numbers_to : (slots tag : ℕ) (text more : List ℕ) (e : Entry) → text ≡ to_be_bytes w8 tag ++ more → Numbers tag slots more e → EntryText slots text e
+numbers_to slots tag text more e whole body =
+    chosen (eqb tag 3) _ _ body (λ h (n, s, is). subst (λ y. EntryText slots text y) (sym is) (tagged 3 tag more text whole h ∙ ap (λ x. to_be_bytes w8 3 ++ x) s.0, s.1, λ w. absurd cc))
+    (λ _ body. chosen (eqb tag 4) _ _ body (λ h (n, s, is). subst (λ y. EntryText slots text y) (sym is) (tagged 4 tag more text whole h ∙ ap (λ x. to_be_bytes w8 4 ++ x) s.0, s.1, λ w. absurd cc))
+    (λ _ body. chosen (eqb tag 5 && ltb 0 slots) _ _ body (λ h (n, s, is). let b = both_true _ _ h in subst (λ y. EntryText slots text y) (sym is) (tagged 5 tag more text whole b.0 ∙ ap (λ x. to_be_bytes w8 5 ++ x) s.0, s.1, λ w. ltb-true _ _ b.1))
+    (λ _ body. chosen (eqb tag 6 && ltb 0 slots) _ _ body (λ h (n, s, is). let b = both_true _ _ h in subst (λ y. EntryText slots text y) (sym is) (tagged 6 tag more text whole b.0 ∙ ap (λ x. to_be_bytes w8 6 ++ x) s.0, s.1, λ w. ltb-true _ _ b.1))
+    (λ _ body. singles_to slots tag text more e whole body))))
 
 entry_to : (slots : ℕ) (text : List ℕ) (e : Entry) → Then (Number w8 (2 ^ 8)) (λ tag. Body tag slots) text e → EntryText slots text e
 entry_to slots text e (tag, one, more, joined, t, body) =
-    chosen (eqb tag 1) _ _ body (λ h (n, nt, m, j, tn, (run, rt, k, j2, tr, (nil, us, utf-is, all, is))).
-    let len : n ≡ length (utf us) = sym tr.1 ∙ ap length utf-is in
-    let m-is : m ≡ utf us = j2 ∙ ap (λ x. rt ++ x) nil ∙ append-nil rt ∙ tr.0 ∙ utf-is in
-    let whole : text ≡ entry_bytes (Utf8 us) = tagged 1 tag one more text joined t.0 h ∙ ap (λ x. to_be_bytes w8 1 ++ x) (j ∙ ap (λ x. x ++ m) (tn.0 ∙ ap (to_be_bytes w16) len) ∙ ap (λ x. to_be_bytes w16 (length (utf us)) ++ x) m-is) in
-    subst (λ y. EntryText slots text y) (sym is) (whole, (subst (λ k. k < 2 ^ 16) len tn.1, all), λ w. absurd cc))
-    (λ _ body. chosen (eqb tag 3) _ _ body (λ h (n, s, is). subst (λ y. EntryText slots text y) (sym is) (tagged 3 tag one more text joined t.0 h ∙ ap (λ x. to_be_bytes w8 3 ++ x) s.0, s.1, λ w. absurd cc))
-    (λ _ body. chosen (eqb tag 5 && ltb 0 slots) _ _ body (λ h (n, s, is). let b = both_true _ _ h in subst (λ y. EntryText slots text y) (sym is) (tagged 5 tag one more text joined t.0 b.0 ∙ ap (λ x. to_be_bytes w8 5 ++ x) s.0, s.1, λ w. ltb-true _ _ b.1))
-    (λ _ body. chosen (eqb tag 7) _ _ body (λ h (n, s, is). subst (λ y. EntryText slots text y) (sym is) (tagged 7 tag one more text joined t.0 h ∙ ap (λ x. to_be_bytes w8 7 ++ x) s.0, s.1, λ w. absurd cc))
-    (λ _ body. chosen (eqb tag 10) _ _ body (λ h (a, at, m, j, sa, (b, sb, is)). subst (λ y. EntryText slots text y) (sym is) (tagged 10 tag one more text joined t.0 h ∙ ap (λ x. to_be_bytes w8 10 ++ x) (j ∙ ap (λ x. x ++ m) sa.0 ∙ ap (λ x. to_be_bytes w16 a ++ x) sb.0), (sa.1, sb.1), λ w. absurd cc))
-    (λ _ body. chosen (eqb tag 12) _ _ body (λ h (a, at, m, j, sa, (b, sb, is)). subst (λ y. EntryText slots text y) (sym is) (tagged 12 tag one more text joined t.0 h ∙ ap (λ x. to_be_bytes w8 12 ++ x) (j ∙ ap (λ x. x ++ m) sa.0 ∙ ap (λ x. to_be_bytes w16 a ++ x) sb.0), (sa.1, sb.1), λ w. absurd cc))
-    (λ _ body. absurd body))))))
+    let whole : text ≡ to_be_bytes w8 tag ++ more = joined ∙ ap (λ o. o ++ more) t.0 in
+    chosen (eqb tag 1) _ _ body (λ h b. text_to slots text more e (tagged 1 tag more text whole h) b)
+    (λ _ body. chosen (eqb tag 15) _ _ body (λ h b. handle_to slots text more e (tagged 15 tag more text whole h) b)
+    (λ _ body. numbers_to slots tag text more e whole body))
+
+is_bytes : (bytes : List ℕ) → All IsByte bytes → IsBytes bytes
+is_bytes [] all i = omega arith
+is_bytes (b ∷ bytes) all zero = All-head IsByte b bytes all
+is_bytes (b ∷ bytes) all (suc i) = is_bytes bytes (All-tail IsByte b bytes all) i
+
+-- what is read of a tag and two indices
+twin_from : (made : ℕ → ℕ → Entry) (a b : ℕ) → a < 2 ^ 16 → b < 2 ^ 16 → Twin made (to_be_bytes w16 a ++ to_be_bytes w16 b) (made a b)
+twin_from made a b p q = (a, to_be_bytes w16 a, to_be_bytes w16 b, refl, (refl, p), (b, (refl, q), refl))
 
 entry_from : (slots : ℕ) (text : List ℕ) (e : Entry) → EntryText slots text e → Then (Number w8 (2 ^ 8)) (λ tag. Body tag slots) text e
 entry_from slots text (Utf8 us) (e, fits, wide) = (
@@ -217,16 +193,26 @@ entry_from slots text (Utf8 us) (e, fits, wide) = (
     utf us,
     refl,
     (refl, fits.0),
-    (utf us, utf us, [], sym (append-nil (utf us)), (refl, refl, utf_bytes us fits.1), (refl, us, refl, fits.1, refl)),
+    (utf us, utf us, [], sym (append-nil (utf us)), (refl, refl, is_bytes (utf us) (utf_bytes us fits.1)), (refl, us, refl, fits.1, refl)),
   ),
 )
-entry_from slots text (Integer n) (e, fits, wide) = (3, to_be_bytes w8 3, to_be_bytes w32 n, e, (refl, lit< tt), (n, (refl, fits), refl))
+entry_from slots text (Integer n) (e, fits, wide) = (3, to_be_bytes w8 3, to_be_bytes w32 (cast_unsigned w32 n), e, (refl, lit< tt), (n, (refl, fits), refl))
+entry_from slots text (Float n) (e, fits, wide) = (4, to_be_bytes w8 4, to_be_bytes w32 n, e, (refl, lit< tt), (n, (refl, fits), refl))
 entry_from slots text (Long n) (e, fits, wide) =
     let some : ltb 0 slots ≡ true = lt-ltb _ _ (wide refl) in
-    (5, to_be_bytes w8 5, to_be_bytes w64 n, e, (refl, lit< tt), rw some (n, (refl, fits), refl))
-entry_from slots text (Class name) (e, fits, wide) = (7, to_be_bytes w8 7, to_be_bytes w16 name, e, (refl, lit< tt), (name, (refl, fits), refl))
-entry_from slots text (Method a b) (e, fits, wide) = (10, to_be_bytes w8 10, to_be_bytes w16 a ++ to_be_bytes w16 b, e, (refl, lit< tt), (a, to_be_bytes w16 a, to_be_bytes w16 b, refl, (refl, fits.0), (b, (refl, fits.1), refl)))
-entry_from slots text (NameAndType a b) (e, fits, wide) = (12, to_be_bytes w8 12, to_be_bytes w16 a ++ to_be_bytes w16 b, e, (refl, lit< tt), (a, to_be_bytes w16 a, to_be_bytes w16 b, refl, (refl, fits.0), (b, (refl, fits.1), refl)))
+    (5, to_be_bytes w8 5, to_be_bytes w64 (cast_unsigned w64 n), e, (refl, lit< tt), rw some (n, (refl, fits), refl))
+entry_from slots text (Double n) (e, fits, wide) =
+    let some : ltb 0 slots ≡ true = lt-ltb _ _ (wide refl) in
+    (6, to_be_bytes w8 6, to_be_bytes w64 n, e, (refl, lit< tt), rw some (n, (refl, fits), refl))
+entry_from slots text (Class a) (e, fits, wide) = (7, to_be_bytes w8 7, to_be_bytes w16 a, e, (refl, lit< tt), (a, (refl, fits), refl))
+entry_from slots text (Str a) (e, fits, wide) = (8, to_be_bytes w8 8, to_be_bytes w16 a, e, (refl, lit< tt), (a, (refl, fits), refl))
+entry_from slots text (Field a b) (e, fits, wide) = (9, to_be_bytes w8 9, to_be_bytes w16 a ++ to_be_bytes w16 b, e, (refl, lit< tt), twin_from Field a b fits.0 fits.1)
+entry_from slots text (Method a b) (e, fits, wide) = (10, to_be_bytes w8 10, to_be_bytes w16 a ++ to_be_bytes w16 b, e, (refl, lit< tt), twin_from Method a b fits.0 fits.1)
+entry_from slots text (InterfaceMethod a b) (e, fits, wide) = (11, to_be_bytes w8 11, to_be_bytes w16 a ++ to_be_bytes w16 b, e, (refl, lit< tt), twin_from InterfaceMethod a b fits.0 fits.1)
+entry_from slots text (NameAndType a b) (e, fits, wide) = (12, to_be_bytes w8 12, to_be_bytes w16 a ++ to_be_bytes w16 b, e, (refl, lit< tt), twin_from NameAndType a b fits.0 fits.1)
+entry_from slots text (MethodHandle a b) (e, fits, wide) = (15, to_be_bytes w8 15, to_be_bytes w8 a ++ to_be_bytes w16 b, e, (refl, lit< tt), (a, to_be_bytes w8 a, to_be_bytes w16 b, refl, (refl, fits.0), (b, (refl, fits.1), refl)))
+entry_from slots text (MethodType a) (e, fits, wide) = (16, to_be_bytes w8 16, to_be_bytes w16 a, e, (refl, lit< tt), (a, (refl, fits), refl))
+entry_from slots text (InvokeDynamic a b) (e, fits, wide) = (18, to_be_bytes w8 18, to_be_bytes w16 a ++ to_be_bytes w16 b, e, (refl, lit< tt), twin_from InvokeDynamic a b fits.0 fits.1)
 
 pub reads_entry : (slots : ℕ) → Reads (EntryText slots) (entry_at slots)
 reads_entry slots = reads_as (Then (Number w8 (2 ^ 8)) (λ tag. Body tag slots)) (EntryText slots) (entry_at slots) (entry_to slots) (entry_from slots) (reads_tagged slots)
@@ -245,53 +231,46 @@ unfolding slot_by
 reads_slot before slots = reads_as (λ text x. cond (is_second before) (Nothing None text x) (Mapped Some (EntryText slots) text x)) (SlotText before slots) (slot_at before slots) (slot_to before slots) (slot_from before slots)
     (reads_if (is_second before) (Nothing None) (Mapped Some (EntryText slots)) _ _ (reads_nothing None) (reads_mapped Some (EntryText slots) (entry_at slots) (reads_entry slots)))
 
--- ---- the pool
+-- ---- passes
 
 unit_ok : (u : Unit {0}) → done u ≡ done tt
 unit_ok u = refl
 
--- whether a pass finds nothing doesn't hang on where the pool lies
-anywhere : (test : ℕ → Option Entry → Result (Unit {0}) Fault) → ((l m : ℕ) (s : Option Entry) → test l s ≡ Ok tt → test m s ≡ Ok tt) → (slots : List (Option Entry)) (l m : ℕ) → pass test l slots ≡ Ok tt → pass test m slots ≡ Ok tt
-anywhere test same [] l m e = refl
-anywhere test same (s ∷ slots) l m e =
-    let a = bind_ok (test l s) (λ _. pass test (l - slot_len s) slots) tt e in
-    let first : test m s ≡ Ok tt = same l m s (a.1 ∙ unit_ok a.0) in
-    ap (λ r. r >>= λ _. pass test (m - slot_len s) slots) first ∙ anywhere test same slots (l - slot_len s) (m - slot_len s) a.2
+-- A pass finds nothing exactly where it finds nothing in each slot, wherever the slots lie.
+found_none : (o : Option ℕ) (left : ℕ) (rest : Option ℕ) → found_at o left rest ≡ None → (o ≡ None) × (rest ≡ None)
+found_none None left rest e = (refl, e)
+found_none (Some at) left rest e = absurd cc
 
-same_wants : (b : Bool) (f g : Fault) (r q : Result (Unit {0}) Fault) → cond b r (Err f) ≡ Ok tt → (r ≡ Ok tt → q ≡ Ok tt) → cond b q (Err g) ≡ Ok tt
-same_wants true f g r q e h = h e
-same_wants false f g r q e h = absurd cc
+pub pass_all : (wrong : Option Entry → Option ℕ) (left : ℕ) (slots : List (Option Entry)) → pass wrong left slots ≡ None → All (λ s. wrong s ≡ None) slots
+pass_all wrong left [] e = All-nil (λ s. wrong s ≡ None)
+pass_all wrong left (s ∷ slots) e =
+    let f = found_none (wrong s) left (pass wrong (left - slot_len s) slots) e in
+    All-cons (λ s. wrong s ≡ None) s slots f.0 (pass_all wrong (left - slot_len s) slots f.1)
 
-same_indices : (slots : List (Option Entry)) (l m : ℕ) (s : Option Entry) → indices_of slots l s ≡ Ok tt → indices_of slots m s ≡ Ok tt
-same_indices slots l m (Some (Class name)) e = same_wants (is_text (entry_of slots name)) (BadIndex (l - 1)) (BadIndex (m - 1)) (Ok tt) (Ok tt) e (λ h0. h0)
-same_indices slots l m (Some (NameAndType name descriptor)) e = same_wants (is_text (entry_of slots name)) (BadIndex (l - 1)) (BadIndex (m - 1)) (wants (is_text (entry_of slots descriptor)) (l - 3) BadIndex (Ok tt)) (wants (is_text (entry_of slots descriptor)) (m - 3) BadIndex (Ok tt)) e (λ h0. same_wants (is_text (entry_of slots descriptor)) (BadIndex (l - 3)) (BadIndex (m - 3)) (Ok tt) (Ok tt) h0 (λ h1. h1))
-same_indices slots l m (Some (Method class pair)) e = same_wants (is_class (entry_of slots class)) (BadIndex (l - 1)) (BadIndex (m - 1)) (wants (is_pair (entry_of slots pair)) (l - 3) BadIndex (Ok tt)) (wants (is_pair (entry_of slots pair)) (m - 3) BadIndex (Ok tt)) e (λ h0. same_wants (is_pair (entry_of slots pair)) (BadIndex (l - 3)) (BadIndex (m - 3)) (Ok tt) (Ok tt) h0 (λ h1. h1))
-same_indices slots l m (Some (Utf8 units)) e = refl
-same_indices slots l m (Some (Integer n)) e = refl
-same_indices slots l m (Some (Long n)) e = refl
-same_indices slots l m None e = refl
+pub all_pass : (wrong : Option Entry → Option ℕ) (left : ℕ) (slots : List (Option Entry)) → All (λ s. wrong s ≡ None) slots → pass wrong left slots ≡ None
+all_pass wrong left [] all = refl
+all_pass wrong left (s ∷ slots) all =
+    ap (λ o. found_at o left (pass wrong (left - slot_len s) slots)) (All-head (λ s. wrong s ≡ None) s slots all) ∙ all_pass wrong (left - slot_len s) slots (All-tail (λ s. wrong s ≡ None) s slots all)
 
-same_names : (slots : List (Option Entry)) (l m : ℕ) (s : Option Entry) → names_of slots l s ≡ Ok tt → names_of slots m s ≡ Ok tt
-same_names slots l m (Some (Class name)) e = same_wants (is_named (entry_of slots name)) (BadDescriptor (l - 1)) (BadDescriptor (m - 1)) (Ok tt) (Ok tt) e (λ h0. h0)
-same_names slots l m (Some (NameAndType name descriptor)) e = same_wants (is_named (entry_of slots name)) (BadDescriptor (l - 1)) (BadDescriptor (m - 1)) (wants (is_named (entry_of slots descriptor)) (l - 3) BadDescriptor (Ok tt)) (wants (is_named (entry_of slots descriptor)) (m - 3) BadDescriptor (Ok tt)) e (λ h0. same_wants (is_named (entry_of slots descriptor)) (BadDescriptor (l - 3)) (BadDescriptor (m - 3)) (Ok tt) (Ok tt) h0 (λ h1. h1))
-same_names slots l m (Some (Method class pair)) e = refl
-same_names slots l m (Some (Utf8 units)) e = refl
-same_names slots l m (Some (Integer n)) e = refl
-same_names slots l m (Some (Long n)) e = refl
-same_names slots l m None e = refl
+no_place_ok : (fault : ℕ → Fault) (o : Option ℕ) (u : Unit {0}) → no_place fault o ≡ Ok u → o ≡ None
+no_place_ok fault None u e = refl
+no_place_ok fault (Some left) u e = absurd cc
+
+-- ---- the pool
 
 abbrev pub Sound : List (Option Entry) → List ℕ → List (Option Entry) → Type 0
 Sound slots text y = (text ≡ []) × IsSound slots × (y ≡ slots)
 
-reads_sound : (slots : List (Option Entry)) (left : ℕ) → Reads (Sound slots) (λ bytes. pass (indices_of slots) left slots >>= λ _. pass (names_of slots) left slots >>= λ _. Ok (slots, bytes))
+reads_sound : (slots : List (Option Entry)) (left : ℕ) → Reads (Sound slots) (λ bytes. indices_pass slots left >>= λ _. names_pass slots left >>= λ _. Ok (slots, bytes))
+unfolding indices_pass names_pass
 reads_sound slots left = record {
   takes = λ bytes y fits e.
-      let a = bind_ok (pass (indices_of slots) left slots) (λ _. pass (names_of slots) left slots >>= λ _. Ok (slots, bytes)) y e in
-      let b = bind_ok (pass (names_of slots) left slots) (λ _. Ok (slots, bytes)) y a.2 in
-      let sound : IsSound slots = λ m. (anywhere (indices_of slots) (same_indices slots) slots left m (a.1 ∙ unit_ok a.0), anywhere (names_of slots) (same_names slots) slots left m (b.1 ∙ unit_ok b.0)) in
+      let a = bind_ok (no_place BadIndex (pass (wrong_index slots) left slots)) (λ _. no_place BadDescriptor (pass (wrong_name slots) left slots) >>= λ _. Ok (slots, bytes)) y e in
+      let b = bind_ok (no_place BadDescriptor (pass (wrong_name slots) left slots)) (λ _. Ok (slots, bytes)) y a.2 in
+      let sound : IsSound slots = record { indices = pass_all (wrong_index slots) left slots (no_place_ok BadIndex _ a.0 a.1); names = pass_all (wrong_name slots) left slots (no_place_ok BadDescriptor _ b.0 b.1) } in
       let made : Taken (Sound slots) bytes (slots, bytes) = record { text = []; parts = refl; spelled = (refl, sound, refl); rest_fits = fits } in
       subst (λ z. Taken (Sound slots) bytes z) (ok_is (slots, bytes) y b.2) made;
-  again = λ text rest y s. rw ((s.1 left).0, (s.1 left).1, s.0, s.2) refl;
+  again = λ text rest y s. rw (all_pass (wrong_index slots) left slots s.1.indices, all_pass (wrong_name slots) left slots s.1.names, s.0, s.2) refl;
 }
 
 pool_to : (text : List ℕ) (slots : List (Option Entry)) → Then (Number w16 (2 ^ 16)) (λ n. Then (Counted SlotText [] (n - 1)) Sound) text slots → PoolText text slots
@@ -312,6 +291,6 @@ pool_from text slots (n, more, lt, len, e, j, sound) = (n, to_be_bytes w16 n, mo
 pub reads_pool : Reads PoolText pool_at
 unfolding pool_at
 reads_pool = reads_as _ PoolText _ pool_to pool_from (reads_then (Number w16 (2 ^ 16)) (λ n. Then (Counted SlotText [] (n - 1)) Sound) (λ bytes. number_at w16 bytes)
-    (λ all n rest. slots_at n rest >>= λ slots. pass (indices_of slots.0) (length rest) slots.0 >>= λ _. pass (names_of slots.0) (length rest) slots.0 >>= λ _. Ok slots)
-    reads_16 (λ all n. reads_then (Counted SlotText [] (n - 1)) Sound (λ bytes. slots_at n bytes) (λ all slots rest. pass (indices_of slots) (length all) slots >>= λ _. pass (names_of slots) (length all) slots >>= λ _. Ok (slots, rest))
+    (λ all n rest. slots_at n rest >>= λ slots. indices_pass slots.0 (length rest) >>= λ _. names_pass slots.0 (length rest) >>= λ _. Ok slots)
+    reads_16 (λ all n. reads_then (Counted SlotText [] (n - 1)) Sound (λ bytes. slots_at n bytes) (λ all slots rest. indices_pass slots (length all) >>= λ _. names_pass slots (length all) >>= λ _. Ok (slots, rest))
     (reads_counted SlotText slot_at reads_slot (n - 1) []) (λ all slots. reads_sound slots (length all))))

@@ -1,6 +1,7 @@
 -- Which bytes spell what, part by part: the bytes of a whole are those of its parts, joined.
-use Rattle.std.specs.Prelude.{◌≡◌, ◌<◌, ◌^◌, ℕ, zero, suc, List, [], ◌∷◌, ◌++◌, length, get_or, Bool, true}
-use Rattle.std.specs.Int.{Width, w32, to_be_bytes}
+use Rattle.std.specs.Prelude.{◌≡◌, ◌<◌, ◌^◌, ℕ, ℤ, zero, suc, List, [], ◌∷◌, ◌++◌, length, get_or, Bool, true}
+use Rattle.std.specs.Int.{Width, w32, to_be_bytes, cast_unsigned}
+use Rattle.std.specs.Int.RustNames.{FitsSigned}
 
 -- Each item's bytes, one after the other. An item is spelled by what stands before it and by how many follow.
 abbrev pub Joined : {A : Type 0} → (List A → ℕ → List ℕ → A → Type 0) → List A → List ℕ → List A → Type 0
@@ -32,6 +33,10 @@ Tested b S text x = (b ≡ true) × S text x
 
 abbrev pub Number : Width → ℕ → List ℕ → ℕ → Type 0
 Number w limit text n = (text ≡ to_be_bytes w n) × (n < limit)
+
+-- a signed number, in two's complement
+abbrev pub Signed : Width → List ℕ → ℤ → Type 0
+Signed w text z = (text ≡ to_be_bytes w (cast_unsigned w z)) × FitsSigned w z
 
 abbrev pub Run : ℕ → List ℕ → List ℕ → Type 0
 Run n text x = (text ≡ x) × (length x ≡ n) × IsBytes x

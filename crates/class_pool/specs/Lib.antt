@@ -1,6 +1,7 @@
 pub mod Reading
 pub mod Loops
 pub mod Grammar
-pub mod Utf
+pub mod Names
 pub mod Pool
 pub mod PoolGrammar
+pub mod Marks

@@ -1,12 +1,16 @@
 //! The constant pool of a class file, read exactly and written, and the reading that all parts of a class file share.
 #![tactic(auto)]
 
+mod constant_pool;
 pub mod fault;
 pub mod fields;
+pub mod lookup;
+pub mod names;
+mod passes;
 pub mod pool;
-mod utf;
 pub mod write;
 
+pub use constant_pool::{Pool, pool_at};
 pub use fault::{Fault, ReadError};
 pub use pool::Entry;
-pub use write::{Pool, pool_at, write_pool};
+pub use write::{put_pool, write_pool};

@@ -1,34 +1,148 @@
-//! The constant pool.
+//! The entries of a constant pool, as they are read (JVMS 4.4).
 
-ghost use Rattle.std.specs.Prelude.{option_copied, map, ◌≡◌, ◌+◌, ◌-◌, ◌^◌, ◌≤◌, ◌<◌, length, IfOk, IfErr, Ok, Err, List, [], ◌∷◌, if◌then◌else◌, Option};
-ghost use Rattle.class_pool.specs.Reading.{Gives, nothing};
-ghost use Rattle.class_pool.specs.Utf.{group_len, utf};
-ghost use Rattle.class_pool.specs.Pool.{entry_of, is_text, is_class, is_pair, is_integer, is_method, is_named, is_name_text, marked, slot_len, has_no_dot, pass, indices_of, names_of, text_at, body_at, entry_at, slot_at, slot_by, slots_at, is_second, is_wide, pool_at};
+ghost use Rattle.std.specs.Prelude.{◌≡◌, ◌-◌, ◌^◌, ◌<◌, length};
+ghost use Rattle.et_base.specs.Utf.{group, utf};
+ghost use Rattle.et_base.specs.UtfReading.{units_read};
+ghost use Rattle.class_pool.specs.Reading.{Gives};
+ghost use Rattle.class_pool.specs.Pool.{units_or, text_at, handle_at, doubles_at, singles_at, numbers_at, body_at, entry_at, is_wide, slot_by, slots_at, slot_len};
 
-use crate::fault::{Fault, ReadError, wants};
+use crate::fault::{Fault, ReadError};
 use crate::fields::{run_at, u8_at, u16_at, u32_at, u64_at};
-use crate::utf::units_of;
-use et_base::Items;
+use et_base::{Items, Units, UtfFault, units_of_modified};
 use std::alloc::Global;
 
+/// An entry of a constant pool (JVMS 4.4). Indices count from 1, as in the class file.
 #[derive(Debug, Drop)]
 pub enum Entry {
-    Utf8(Items<u16>),
-    Integer(u32),
-    Long(u64),
+    Utf8(Units),
+    Integer(i32),
+    /// The bits of a float.
+    Float(u32),
+    Long(i64),
+    /// The bits of a double.
+    Double(u64),
     Class { name: u16 },
-    NameAndType { name: u16, descriptor: u16 },
+    Str { text: u16 },
+    Field { class: u16, pair: u16 },
     Method { class: u16, pair: u16 },
+    InterfaceMethod { class: u16, pair: u16 },
+    NameAndType { name: u16, descriptor: u16 },
+    MethodHandle { kind: u8, index: u16 },
+    MethodType { descriptor: u16 },
+    InvokeDynamic { bootstrap: u16, pair: u16 },
+}
+
+// The units of a run at which so much is left.
+fn units_of(alloc: Global, left: usize, run: &[u8]) -> Result<Units, ReadError>
+    requires { length run.now < 2 ^ 32 }
+    ensures { Gives (λ x. x) result (units_or left (units_read run.now)) }
+{
+    match units_of_modified(alloc, run) {
+        Ok(units) => Ok(units),
+        Err(UtfFault::BadUtf { at }) => Err(ReadError::Fault(Fault::BadUtf(left.saturating_sub(
+            at as usize,
+        )))),
+        Err(UtfFault::NoMemory) => Err(ReadError::Memory),
+    }
 }
 
 #[tactic(auto, unfolding(crate::specs::Pool::text_at))]
 fn text_of(alloc: Global, bytes: &[u8]) -> Result<(Entry, &[u8]), ReadError>
     ensures { Gives (λ x. (x.0, x.1.now)) result (text_at bytes.now) }
 {
-    let (len, rest) = u16_at(bytes)?;
-    let (run, rest) = run_at(len as usize, rest)?;
-    let units = units_of(alloc, rest.len(), run)?;
+    let (len, start) = u16_at(bytes)?;
+    let (run, rest) = run_at(len as usize, start)?;
+    let units = units_of(alloc, start.len(), run)?;
     Ok((Entry::Utf8(units), rest))
+}
+
+#[tactic(auto, unfolding(crate::specs::Pool::handle_at))]
+fn handle_of(bytes: &[u8]) -> Result<(Entry, &[u8]), ReadError>
+    ensures { Gives (λ x. (x.0, x.1.now)) result (handle_at bytes.now) }
+{
+    let (kind, rest) = u8_at(bytes)?;
+    let (index, rest) = u16_at(rest)?;
+    Ok((Entry::MethodHandle { kind, index }, rest))
+}
+
+#[tactic(auto, unfolding(crate::specs::Pool::doubles_at))]
+fn doubles_of(tag: u8, left: usize, bytes: &[u8]) -> Result<(Entry, &[u8]), ReadError>
+    ensures { Gives (λ x. (x.0, x.1.now)) result (doubles_at tag left bytes.now) }
+{
+    match tag {
+        9 => {
+            let (class, rest) = u16_at(bytes)?;
+            let (pair, rest) = u16_at(rest)?;
+            Ok((Entry::Field { class, pair }, rest))
+        }
+        10 => {
+            let (class, rest) = u16_at(bytes)?;
+            let (pair, rest) = u16_at(rest)?;
+            Ok((Entry::Method { class, pair }, rest))
+        }
+        11 => {
+            let (class, rest) = u16_at(bytes)?;
+            let (pair, rest) = u16_at(rest)?;
+            Ok((Entry::InterfaceMethod { class, pair }, rest))
+        }
+        12 => {
+            let (name, rest) = u16_at(bytes)?;
+            let (descriptor, rest) = u16_at(rest)?;
+            Ok((Entry::NameAndType { name, descriptor }, rest))
+        }
+        18 => {
+            let (bootstrap, rest) = u16_at(bytes)?;
+            let (pair, rest) = u16_at(rest)?;
+            Ok((Entry::InvokeDynamic { bootstrap, pair }, rest))
+        }
+        _ => Err(ReadError::Fault(Fault::BadTag(left, tag))),
+    }
+}
+
+#[tactic(auto, unfolding(crate::specs::Pool::singles_at))]
+fn singles_of(tag: u8, left: usize, bytes: &[u8]) -> Result<(Entry, &[u8]), ReadError>
+    ensures { Gives (λ x. (x.0, x.1.now)) result (singles_at tag left bytes.now) }
+{
+    match tag {
+        7 => {
+            let (name, rest) = u16_at(bytes)?;
+            Ok((Entry::Class { name }, rest))
+        }
+        8 => {
+            let (text, rest) = u16_at(bytes)?;
+            Ok((Entry::Str { text }, rest))
+        }
+        16 => {
+            let (descriptor, rest) = u16_at(bytes)?;
+            Ok((Entry::MethodType { descriptor }, rest))
+        }
+        _ => doubles_of(tag, left, bytes),
+    }
+}
+
+#[tactic(auto, unfolding(crate::specs::Pool::numbers_at))]
+fn numbers_of(tag: u8, slots: usize, left: usize, bytes: &[u8]) -> Result<(Entry, &[u8]), ReadError>
+    ensures { Gives (λ x. (x.0, x.1.now)) result (numbers_at tag slots left bytes.now) }
+{
+    match tag {
+        3 => {
+            let (number, rest) = u32_at(bytes)?;
+            Ok((Entry::Integer(number.cast_signed()), rest))
+        }
+        4 => {
+            let (bits, rest) = u32_at(bytes)?;
+            Ok((Entry::Float(bits), rest))
+        }
+        5 if 0 < slots => {
+            let (number, rest) = u64_at(bytes)?;
+            Ok((Entry::Long(number.cast_signed()), rest))
+        }
+        6 if 0 < slots => {
+            let (bits, rest) = u64_at(bytes)?;
+            Ok((Entry::Double(bits), rest))
+        }
+        _ => singles_of(tag, left, bytes),
+    }
 }
 
 #[tactic(auto, unfolding(crate::specs::Pool::body_at))]
@@ -43,29 +157,8 @@ fn body_of(
 {
     match tag {
         1 => text_of(alloc, bytes),
-        3 => {
-            let (number, rest) = u32_at(bytes)?;
-            Ok((Entry::Integer(number), rest))
-        }
-        5 if 0 < slots => {
-            let (number, rest) = u64_at(bytes)?;
-            Ok((Entry::Long(number), rest))
-        }
-        7 => {
-            let (name, rest) = u16_at(bytes)?;
-            Ok((Entry::Class { name }, rest))
-        }
-        10 => {
-            let (class, rest) = u16_at(bytes)?;
-            let (pair, rest) = u16_at(rest)?;
-            Ok((Entry::Method { class, pair }, rest))
-        }
-        12 => {
-            let (name, rest) = u16_at(bytes)?;
-            let (descriptor, rest) = u16_at(rest)?;
-            Ok((Entry::NameAndType { name, descriptor }, rest))
-        }
-        _ => Err(ReadError::Fault(Fault::BadTag(left, tag))),
+        15 => handle_of(bytes),
+        _ => numbers_of(tag, slots, left, bytes),
     }
 }
 
@@ -82,6 +175,7 @@ fn is_wide(slot: &Option<Entry>) -> bool
 {
     match slot {
         Some(Entry::Long(_)) => true,
+        Some(Entry::Double(_)) => true,
         _ => false,
     }
 }
@@ -102,7 +196,9 @@ fn slot_of(
     Ok((Some(entry), rest))
 }
 
-fn slots_of(
+/// The slots of a pool with this count, and the bytes after them. Nothing is asked of what their
+/// entries name.
+pub(crate) fn slots_of(
     alloc: Global,
     count: u16,
     bytes: &[u8],
@@ -122,71 +218,9 @@ fn slots_of(
     Ok((slots, rest))
 }
 
-// The entry that an index names.
-pub fn entry_at(slots: &[Option<Entry>], index: u16) -> Option<&Entry>
-    ensures { option_copied result ≡ entry_of slots.now index }
-{
-    if index == 0 {
-        return None;
-    }
-    match slots.get(index as usize - 1) {
-        Some(Some(entry)) => Some(entry),
-        _ => None,
-    }
-}
-
-pub fn names_text(slots: &[Option<Entry>], index: u16) -> bool
-    ensures { result ≡ is_text (entry_of slots.now index) }
-{
-    match entry_at(slots, index) {
-        Some(Entry::Utf8(_)) => true,
-        _ => false,
-    }
-}
-
-pub fn names_class(slots: &[Option<Entry>], index: u16) -> bool
-    ensures { result ≡ is_class (entry_of slots.now index) }
-{
-    match entry_at(slots, index) {
-        Some(Entry::Class { name: _ }) => true,
-        _ => false,
-    }
-}
-
-pub fn names_integer(slots: &[Option<Entry>], index: u16) -> bool
-    ensures { result ≡ is_integer (entry_of slots.now index) }
-{
-    match entry_at(slots, index) {
-        Some(Entry::Integer(_)) => true,
-        _ => false,
-    }
-}
-
-pub fn names_method(slots: &[Option<Entry>], index: u16) -> bool
-    ensures { result ≡ is_method (entry_of slots.now index) }
-{
-    match entry_at(slots, index) {
-        Some(Entry::Method { .. }) => true,
-        _ => false,
-    }
-}
-
-fn names_pair(slots: &[Option<Entry>], index: u16) -> bool
-    ensures { result ≡ is_pair (entry_of slots.now index) }
-{
-    match entry_at(slots, index) {
-        Some(
-            Entry::NameAndType {
-                name: _,
-                descriptor: _,
-            },
-        ) => true,
-        _ => false,
-    }
-}
-
+#[tactic(auto, unfolding(et_base::specs::Utf::group))]
 fn group_len(unit: u16) -> usize
-    ensures { result ≡ group_len unit }
+    ensures { result ≡ length (group unit) }
 {
     if 1 <= unit && unit < 128 {
         1
@@ -197,8 +231,8 @@ fn group_len(unit: u16) -> usize
     }
 }
 
-// What is left after the bytes of these units.
-pub fn after_units(left: usize, units: &[u16]) -> usize
+/// What is left after the bytes of these units.
+pub(crate) fn after_units(left: usize, units: &[u16]) -> usize
     ensures { result ≡ left - length (utf units.now) }
 {
     let mut now = left;
@@ -208,150 +242,25 @@ pub fn after_units(left: usize, units: &[u16]) -> usize
     now
 }
 
-// What is left after a slot.
-fn after_slot(left: usize, slot: &Option<Entry>) -> usize
+/// What is left after a slot.
+pub(crate) fn after_slot(left: usize, slot: &Option<Entry>) -> usize
     ensures { result ≡ left - slot_len slot.now }
 {
     match slot {
         None => left,
         Some(Entry::Utf8(units)) => after_units(left.saturating_sub(3), units.as_slice()),
         Some(Entry::Integer(_)) => left.saturating_sub(5),
+        Some(Entry::Float(_)) => left.saturating_sub(5),
         Some(Entry::Long(_)) => left.saturating_sub(9),
+        Some(Entry::Double(_)) => left.saturating_sub(9),
         Some(Entry::Class { .. }) => left.saturating_sub(3),
-        Some(Entry::NameAndType { .. }) => left.saturating_sub(5),
+        Some(Entry::Str { .. }) => left.saturating_sub(3),
+        Some(Entry::Field { .. }) => left.saturating_sub(5),
         Some(Entry::Method { .. }) => left.saturating_sub(5),
+        Some(Entry::InterfaceMethod { .. }) => left.saturating_sub(5),
+        Some(Entry::NameAndType { .. }) => left.saturating_sub(5),
+        Some(Entry::MethodHandle { .. }) => left.saturating_sub(4),
+        Some(Entry::MethodType { .. }) => left.saturating_sub(3),
+        Some(Entry::InvokeDynamic { .. }) => left.saturating_sub(5),
     }
-}
-
-fn indices_of(slots: &[Option<Entry>], left: usize, slot: &Option<Entry>) -> Result<(), ReadError>
-    ensures { Gives nothing result (indices_of slots.now left slot.now) }
-{
-    match slot {
-        Some(Entry::Class { name }) => wants(
-            names_text(slots, *name),
-            Fault::BadIndex(left.saturating_sub(1)),
-        ),
-        Some(Entry::NameAndType { name, descriptor }) => {
-            wants(
-                names_text(slots, *name),
-                Fault::BadIndex(left.saturating_sub(1)),
-            )?;
-            wants(
-                names_text(slots, *descriptor),
-                Fault::BadIndex(left.saturating_sub(3)),
-            )
-        }
-        Some(Entry::Method { class, pair }) => {
-            wants(
-                names_class(slots, *class),
-                Fault::BadIndex(left.saturating_sub(1)),
-            )?;
-            wants(
-                names_pair(slots, *pair),
-                Fault::BadIndex(left.saturating_sub(3)),
-            )
-        }
-        _ => Ok(()),
-    }
-}
-
-fn has_no_dot(units: &[u16]) -> bool
-    ensures { result ≡ has_no_dot units.now }
-{
-    for unit in units {
-        if *unit == 46 {
-            return false;
-        }
-    }
-    true
-}
-
-fn is_named(slot: &Option<Entry>) -> bool
-    ensures { result ≡ is_named slot.now }
-{
-    match slot {
-        Some(Entry::Utf8(units)) => 0 < units.len() && has_no_dot(units.as_slice()),
-        _ => false,
-    }
-}
-
-// For each slot whether its text is a name: each text is looked at once.
-fn marks_of(alloc: Global, slots: &[Option<Entry>]) -> Result<Vec<bool>, ReadError>
-    ensures marks { IfOk result (λ v. v.items ≡ map is_named slots.now) }
-    ensures err { IfErr result (λ e. e ≡ ReadError.Memory) }
-{
-    let mut marks = Vec::new(alloc);
-    for slot in slots {
-        marks.push(is_named(slot))?;
-    }
-    Ok(marks)
-}
-
-fn mark_at(marks: &[bool], index: u16) -> bool
-    ensures { result ≡ marked marks.now index }
-{
-    index != 0 && marks.get(index as usize - 1) == Some(&true)
-}
-
-fn names_of(
-    slots: &[Option<Entry>],
-    marks: &[bool],
-    left: usize,
-    slot: &Option<Entry>,
-) -> Result<(), ReadError>
-    requires { marks.now ≡ map is_named slots.now }
-    ensures { Gives nothing result (names_of slots.now left slot.now) }
-{
-    match slot {
-        Some(Entry::Class { name }) => wants(
-            mark_at(marks, *name),
-            Fault::BadDescriptor(left.saturating_sub(1)),
-        ),
-        Some(Entry::NameAndType { name, descriptor }) => {
-            wants(
-                mark_at(marks, *name),
-                Fault::BadDescriptor(left.saturating_sub(1)),
-            )?;
-            wants(
-                mark_at(marks, *descriptor),
-                Fault::BadDescriptor(left.saturating_sub(3)),
-            )
-        }
-        _ => Ok(()),
-    }
-}
-
-fn all_indices(slots: &[Option<Entry>], from: usize) -> Result<(), ReadError>
-    ensures { Gives nothing result (pass (indices_of slots.now) from slots.now) }
-{
-    let mut left = from;
-    for slot in slots {
-        indices_of(slots, left, slot)?;
-        left = after_slot(left, slot);
-    }
-    Ok(())
-}
-
-fn all_names(marks: &[bool], slots: &[Option<Entry>], from: usize) -> Result<(), ReadError>
-    requires { marks.now ≡ map is_named slots.now }
-    ensures { Gives nothing result (pass (names_of slots.now) from slots.now) }
-{
-    let mut left = from;
-    for slot in slots {
-        names_of(slots, marks, left, slot)?;
-        left = after_slot(left, slot);
-    }
-    Ok(())
-}
-
-#[tactic(auto, unfolding(crate::specs::Pool::pool_at))]
-pub fn pool_of(alloc: Global, bytes: &[u8]) -> Result<(Items<Option<Entry>>, &[u8]), ReadError>
-    ensures { Gives (λ x. (x.0, x.1.now)) result (pool_at bytes.now) }
-{
-    let (count, start) = u16_at(bytes)?;
-    let (slots, rest) = slots_of(alloc, count, start)?;
-    all_indices(slots.as_slice(), start.len())?;
-    let marks = marks_of(alloc, slots.as_slice())?;
-    all_names(marks.as_slice(), slots.as_slice(), start.len())?;
-    Ok((slots, rest))
 }

@@ -1,81 +1,14 @@
-//! Pools as a type, and as bytes.
+//! Pools, written as bytes.
 
-ghost use Rattle.std.specs.Prelude.{◌≡◌, ◌++◌, ◌^◌, ◌<◌, ◌≤◌, ◌+◌, length, option_copied, OnOk, IfOk, IfErr, List, Option};
-ghost use Rattle.class_pool.specs.Utf.{group, utf};
-ghost use Rattle.class_pool.specs.Reading.{Gives};
-ghost use Rattle.class_pool.specs.Pool.{entry_of, pool_at};
-ghost use Rattle.class_pool.specs.PoolGrammar.{UnitFits, EntryFits, slot_bytes, IsPool, pool_spelling, PoolText};
-ghost use Rattle.class_pool.specs.declared.pool.Entry.{Entry};
+ghost use Rattle.std.specs.Prelude.{◌≡◌, ◌++◌, ◌∷◌, ◌^◌, ◌<◌, length, OnOk, IfOk, Some};
+ghost use Rattle.std.specs.Int.{w8, w16, to_be_bytes};
+ghost use Rattle.et_base.specs.Utf.{utf};
+ghost use Rattle.class_pool.specs.PoolGrammar.{EntryFits, double_bytes, slot_bytes, IsPool, pool_spelling, PoolText};
 
-use crate::fault::ReadError;
-use crate::pool::{Entry, after_units, entry_at, pool_of};
-use et_base::Items;
-use std::alloc::{AllocError, Global};
-use std::marker::Model;
-
-/// A pool that can be written.
-#[derive(Debug, Drop)]
-pub struct Pool {
-    slots: Items<Option<Entry>>,
-}
-
-impl Model for Pool {
-    ghost Value = { List (Option Entry) };
-
-    ghost view = { λ p. p.slots };
-
-    ghost invariant = { λ p. IsPool p.slots };
-}
-
-impl Pool {
-    /// The pool of these slots.
-    pub fn new(slots: Items<Option<Entry>>) -> Pool
-        requires { IsPool slots }
-        ensures { result ≡ slots }
-    {
-        Pool { slots }
-    }
-
-    /// The entry that this index names; none where it is 0, past the end or the second slot of a long.
-    pub fn entry(&self, index: u16) -> Option<&Entry>
-        ensures { option_copied result ≡ entry_of self.now index }
-    {
-        entry_at(self.slots.as_slice(), index)
-    }
-
-    /// Its slots, from index 1 on.
-    pub fn slots(&self) -> &[Option<Entry>]
-        ensures gives { result.now ≡ self.now }
-        ensures kept { IsPool self.now }
-    {
-        self.slots.as_slice()
-    }
-}
-
-fn put_unit(out: &mut Vec<u8>, unit: u16) -> Result<(), AllocError>
-    ensures { OnOk result (out.new.items ≡ out.old.items ++ group unit) }
-{
-    if 1 <= unit && unit < 128 {
-        out.push(unit as u8)?;
-    } else if unit < 2048 {
-        out.push((192 + unit / 64) as u8)?;
-        out.push((128 + unit % 64) as u8)?;
-    } else {
-        out.push((224 + unit / 4096) as u8)?;
-        out.push((128 + unit / 64 % 64) as u8)?;
-        out.push((128 + unit % 64) as u8)?;
-    }
-    Ok(())
-}
-
-fn put_units(out: &mut Vec<u8>, units: &[u16]) -> Result<(), AllocError>
-    ensures { OnOk result (out.new.items ≡ out.old.items ++ utf units.now) }
-{
-    for unit in units {
-        put_unit(out, *unit)?;
-    }
-    Ok(())
-}
+use crate::constant_pool::Pool;
+use crate::pool::{Entry, after_units};
+use et_base::{NoMemory, push_modified};
+use std::alloc::Global;
 
 // How many bytes these units take, where they are below 65,536.
 fn utf_len(units: &[u16]) -> u16
@@ -85,60 +18,74 @@ fn utf_len(units: &[u16]) -> u16
     (65535 - after_units(65535, units)) as u16
 }
 
-fn put_entry(out: &mut Vec<u8>, entry: &Entry) -> Result<(), AllocError>
+// A tag and an index.
+fn put_single(out: &mut Vec<u8>, tag: u8, index: u16) -> Result<(), NoMemory>
+    ensures { OnOk result (out.new.items ≡ out.old.items ++ tag ∷ to_be_bytes w16 index) }
+{
+    out.push(tag)?;
+    out.extend_from_slice(&index.to_be_bytes())?;
+    Ok(())
+}
+
+// A tag and two indices.
+fn put_double(out: &mut Vec<u8>, tag: u8, first: u16, second: u16) -> Result<(), NoMemory>
+    ensures { OnOk result (out.new.items ≡ out.old.items ++ double_bytes tag first second) }
+{
+    out.push(tag)?;
+    out.extend_from_slice(&first.to_be_bytes())?;
+    out.extend_from_slice(&second.to_be_bytes())?;
+    Ok(())
+}
+
+// A tag and the bytes of a number.
+fn put_number(out: &mut Vec<u8>, tag: u8, number: &[u8]) -> Result<(), NoMemory>
+    ensures { OnOk result (out.new.items ≡ out.old.items ++ tag ∷ number.now) }
+{
+    out.push(tag)?;
+    out.extend_from_slice(number)?;
+    Ok(())
+}
+
+fn put_text(out: &mut Vec<u8>, units: &[u16]) -> Result<(), NoMemory>
+    requires { length (utf units.now) < 2 ^ 16 }
+    ensures { OnOk result (out.new.items ≡ out.old.items ++ 1 ∷ to_be_bytes w16 (length (utf units.now)) ++ utf units.now) }
+{
+    put_single(out, 1, utf_len(units))?;
+    push_modified(out, units)
+}
+
+fn put_handle(out: &mut Vec<u8>, kind: u8, index: u16) -> Result<(), NoMemory>
+    ensures { OnOk result (out.new.items ≡ out.old.items ++ 15 ∷ to_be_bytes w8 kind ++ to_be_bytes w16 index) }
+{
+    out.push(15)?;
+    out.push(kind)?;
+    out.extend_from_slice(&index.to_be_bytes())?;
+    Ok(())
+}
+
+fn put_entry(out: &mut Vec<u8>, entry: &Entry) -> Result<(), NoMemory>
     requires { EntryFits entry.now }
     ensures { OnOk result (out.new.items ≡ out.old.items ++ slot_bytes (Some entry.now)) }
 {
     match entry {
-        Entry::Utf8(units) => {
-            out.push(1)?;
-            out.extend_from_slice(&utf_len(units.as_slice()).to_be_bytes())?;
-            put_units(out, units.as_slice())?;
-        }
-        Entry::Integer(number) => {
-            out.push(3)?;
-            out.extend_from_slice(&number.to_be_bytes())?;
-        }
-        Entry::Long(number) => {
-            out.push(5)?;
-            out.extend_from_slice(&number.to_be_bytes())?;
-        }
-        Entry::Class { name } => {
-            out.push(7)?;
-            out.extend_from_slice(&name.to_be_bytes())?;
-        }
-        Entry::NameAndType { name, descriptor } => {
-            out.push(12)?;
-            out.extend_from_slice(&name.to_be_bytes())?;
-            out.extend_from_slice(&descriptor.to_be_bytes())?;
-        }
-        Entry::Method { class, pair } => {
-            out.push(10)?;
-            out.extend_from_slice(&class.to_be_bytes())?;
-            out.extend_from_slice(&pair.to_be_bytes())?;
-        }
+        Entry::Utf8(units) => put_text(out, units.as_slice()),
+        Entry::Integer(number) => put_number(out, 3, &number.to_be_bytes()),
+        Entry::Float(bits) => put_number(out, 4, &bits.to_be_bytes()),
+        Entry::Long(number) => put_number(out, 5, &number.to_be_bytes()),
+        Entry::Double(bits) => put_number(out, 6, &bits.to_be_bytes()),
+        Entry::Class { name } => put_single(out, 7, *name),
+        Entry::Str { text } => put_single(out, 8, *text),
+        Entry::Field { class, pair } => put_double(out, 9, *class, *pair),
+        Entry::Method { class, pair } => put_double(out, 10, *class, *pair),
+        Entry::InterfaceMethod { class, pair } => put_double(out, 11, *class, *pair),
+        Entry::NameAndType { name, descriptor } => put_double(out, 12, *name, *descriptor),
+        Entry::MethodHandle { kind, index } => put_handle(out, *kind, *index),
+        Entry::MethodType { descriptor } => put_single(out, 16, *descriptor),
+        Entry::InvokeDynamic { bootstrap, pair } => put_double(out, 18, *bootstrap, *pair),
     }
-    Ok(())
 }
 
-/// The pool at the front of the bytes, and the bytes after it.
-pub fn pool_at(alloc: Global, bytes: &[u8]) -> Result<(Pool, &[u8]), ReadError>
-    ensures { Gives (λ x. (x.0, x.1.now)) result (pool_at bytes.now) }
-{
-    let (slots, rest) = pool_of(alloc, bytes)?;
-    Ok((Pool::new(slots), rest))
-}
-
-/// The spelling of a pool.
-pub fn write_pool(alloc: Global, pool: &Pool) -> Result<Vec<u8>, AllocError>
-    ensures { IfOk result (λ v. PoolText v.items pool.now) }
-{
-    let mut out = Vec::new(alloc);
-    put_pool(&mut out, pool.slots())?;
-    Ok(out)
-}
-
-fn put_pool(out: &mut Vec<u8>, slots: &[Option<Entry>]) -> Result<(), AllocError>
+fn put_slots(out: &mut Vec<u8>, slots: &[Option<Entry>]) -> Result<(), NoMemory>
     requires { IsPool slots.now }
     ensures { OnOk result (out.new.items ≡ out.old.items ++ pool_spelling slots.now) }
 {
@@ -149,4 +96,21 @@ fn put_pool(out: &mut Vec<u8>, slots: &[Option<Entry>]) -> Result<(), AllocError
         }
     }
     Ok(())
+}
+
+/// Appends the spelling of a pool. After a refusal part of it may stand there.
+pub fn put_pool(out: &mut Vec<u8>, pool: &Pool) -> Result<(), NoMemory>
+    ensures { OnOk result (out.new.items ≡ out.old.items ++ pool_spelling pool.now) }
+{
+    put_slots(out, pool.slots())
+}
+
+/// The spelling of a pool, which is read again as the same pool.
+pub fn write_pool(alloc: Global, pool: &Pool) -> Result<Vec<u8>, NoMemory>
+    ensures bytes { IfOk result (λ v. v.items ≡ pool_spelling pool.now) }
+    ensures spelled { IfOk result (λ v. PoolText v.items pool.now) }
+{
+    let mut out = Vec::new(alloc);
+    put_slots(&mut out, pool.slots())?;
+    Ok(out)
 }

@@ -1,0 +1,3 @@
+pub mod Utf
+pub mod UtfReading
+pub mod Numbers

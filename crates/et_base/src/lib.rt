@@ -3,6 +3,13 @@
 
 mod items;
 mod no_memory;
+mod numbers;
+mod utf;
 
 pub use items::{Items, Text, Units};
 pub use no_memory::NoMemory;
+pub use numbers::{
+    add32, add64, div32, div64, i2b, i2c, i2l, i2s, l2i, lcmp, mul32, mul64, neg32, neg64, rem32,
+    rem64, shl32, shl64, shr32, shr64, sub32, sub64, ushr32, ushr64,
+};
+pub use utf::{UtfFault, modified_of_units, push_modified, units_of_modified};

@@ -1,5 +1,5 @@
 use Rattle.std.proofs.Common.{◌≡◌, ◌-◌, take, length}
-use Rattle.class_pool.specs.Utf.{utf}
+use Rattle.et_base.specs.Utf.{utf}
 use Rattle.class_pool.proofs.pool.after_units.Given as goal
 
 abbrev pub invariant-loop-unit : goal.invariant-loop-unit

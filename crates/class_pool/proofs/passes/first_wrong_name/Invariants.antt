@@ -1,0 +1,6 @@
+use Rattle.std.proofs.Common.{◌≡◌, drop}
+use Rattle.class_pool.specs.Pool.{pass, wrong_name}
+use Rattle.class_pool.proofs.passes.first_wrong_name.Given as goal
+
+abbrev pub invariant-loop-slot : goal.invariant-loop-slot
+invariant-loop-slot l = pass (wrong_name l.slots) l.left (drop l.slot-index l.slots) ≡ pass (wrong_name l.slots) l.from l.slots

@@ -1,8 +1,0 @@
-use Rattle.std.proofs.Common.{◌≡◌, ◌++◌, ◌+◌, length, take}
-use Rattle.std.specs.List.{flat_map}
-use Rattle.std.specs.Int.{w16, to_be_bytes}
-use Rattle.class_pool.specs.PoolGrammar.{slot_bytes}
-use Rattle.class_pool.proofs.write.put_pool.Given as goal
-
-abbrev pub invariant-loop-slot : goal.invariant-loop-slot
-invariant-loop-slot l = l.out.items ≡ l.fn.out.items ++ to_be_bytes w16 (length l.slots + 1) ++ flat_map slot_bytes (take l.slot-index l.slots)

@@ -1,0 +1,5 @@
+pub mod Marking
+pub mod TargetSteps
+pub mod CodeLaw
+pub mod WholeLaw
+pub mod FaultLaw

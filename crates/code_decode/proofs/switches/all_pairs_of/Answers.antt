@@ -1,0 +1,16 @@
+use Rattle.std.proofs.Common.{arith}
+use Rattle.std.proofs.lemmas.Result.{err_from_is_err_and}
+use Rattle.code_decode.specs.Switches.{pair_at}
+use Rattle.class_pool.proofs.Loops.{folded_on, folded_fails, folded_done}
+use Rattle.code_decode.proofs.switches.all_pairs_of.Goals as goal
+
+pub returns-in_err-now : goal.returns-in_err-now
+returns-in_err-now c =
+    let p = err_from_is_err_and c.from_residual.result c.from_residual.ensures.1 in
+    rw (p.1, p.2) (folded_fails c.in_err-now.field-0.0 (λ now b. pair_at c.args.spot.now now b) c.loop-i.args _ c.loop-i.i c.loop-i.rest.now _ c.loop-i-test.true c.in_err-now.ensures c.loop-i.invariant)
+
+pub loop-i-preserved : goal.loop-i-preserved
+loop-i-preserved c = folded_on (λ now b. pair_at c.args.spot.now now b) c.loop-i.args _ c.loop-i.i c.loop-i.rest.now (c.in_ok-now.now, c.in_ok-now.next.now) _ c.loop-i-test.true c.in_ok-now.ensures c.loop-i.invariant
+
+pub returns : goal.returns
+returns c = folded_done (λ now b. pair_at c.args.spot.now now b) c.loop-i.args _ c.loop-i.i c.loop-i.rest.now _ (omega arith) c.loop-i.invariant

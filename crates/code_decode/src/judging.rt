@@ -1,0 +1,139 @@
+//! Whether an instruction takes what it names.
+
+ghost use Rattle.std.specs.Prelude.{◌≡◌, option_copied};
+ghost use Rattle.class_pool.specs.Pool.{entry_of};
+ghost use Rattle.class_pool.specs.Reading.{Gives, nothing};
+ghost use Rattle.code_decode.specs.Judging.{units_of, class_name, dimensions, is_real_array, array_fit, made_fit, element_fit, nested_fit, member_fit, named_fit, constant_fit, kind_fit};
+ghost use Rattle.code_decode.specs.Operands.{judged};
+
+use crate::opcodes::{Constant, Named};
+use crate::place::Spot;
+use class_pool::{Entry, Pool, ReadError};
+
+/// What an operand is to its instruction.
+#[derive(Clone, Copy, Debug, PartialEq, Eq)]
+pub enum Fit {
+    /// It is taken.
+    Right,
+    /// It can't be.
+    Wrong,
+    /// It is outside of the profile.
+    Foreign,
+}
+
+// Nothing where the operand is taken, else its fault.
+pub fn judge(spot: &Spot, opcode: u8, fit: Fit) -> Result<(), ReadError>
+    ensures { Gives nothing result (judged spot.now opcode fit) }
+{
+    match fit {
+        Fit::Right => Ok(()),
+        Fit::Wrong => Err(ReadError::Fault(spot.wrong())),
+        Fit::Foreign => Err(ReadError::Fault(spot.foreign(opcode))),
+    }
+}
+
+fn units_of(pool: &Pool, index: u16) -> &[u16]
+    ensures { result.now ≡ units_of (entry_of pool.now index) }
+{
+    match pool.entry(index) {
+        Some(Entry::Utf8(units)) => units.as_slice(),
+        _ => &[],
+    }
+}
+
+pub fn class_name(pool: &Pool, index: u16) -> &[u16]
+    ensures { result.now ≡ class_name pool.now (entry_of pool.now index) }
+{
+    match pool.entry(index) {
+        Some(Entry::Class { name }) => units_of(pool, *name),
+        _ => &[],
+    }
+}
+
+pub fn dimensions(name: &[u16]) -> usize
+    ensures { result ≡ dimensions name.now }
+{
+    name.iter().take_while(|u| **u == 91).count()
+}
+
+fn is_real_array(name: &[u16]) -> bool
+    ensures { result ≡ is_real_array name.now }
+{
+    let element = dimensions(name);
+    0 < element && element < name.len() && (name[element] == 70 || name[element] == 68)
+}
+
+fn array_fit(name: &[u16]) -> Fit
+    ensures { result ≡ array_fit name.now }
+{
+    if is_real_array(name) { Fit::Foreign } else { Fit::Right }
+}
+
+fn made_fit(name: &[u16]) -> Fit
+    ensures { result ≡ made_fit name.now }
+{
+    if 0 < dimensions(name) { Fit::Wrong } else { Fit::Right }
+}
+
+fn element_fit(name: &[u16]) -> Fit
+    ensures { result ≡ element_fit name.now }
+{
+    if is_real_array(name) {
+        Fit::Foreign
+    } else if dimensions(name) == 255 {
+        Fit::Wrong
+    } else {
+        Fit::Right
+    }
+}
+
+fn nested_fit(name: &[u16]) -> Fit
+    ensures { result ≡ nested_fit name.now }
+{
+    if dimensions(name) == 0 { Fit::Wrong } else { array_fit(name) }
+}
+
+fn member_fit(pool: &Pool, class: u16) -> Fit
+    ensures { result ≡ member_fit pool.now class }
+{
+    array_fit(class_name(pool, class))
+}
+
+// Whether the entry at an index is one that an instruction takes.
+pub fn named_fit(named: Named, pool: &Pool, index: u16) -> Fit
+    ensures { result ≡ named_fit named pool.now (entry_of pool.now index) }
+{
+    match (named, pool.entry(index)) {
+        (Named::Virtual | Named::Direct, Some(Entry::Method { class, .. })) => member_fit(pool, *class),
+        (Named::Made, Some(Entry::Class { name })) => made_fit(units_of(pool, *name)),
+        (Named::Element, Some(Entry::Class { name })) => element_fit(units_of(pool, *name)),
+        (Named::Tested, Some(Entry::Class { name })) => array_fit(units_of(pool, *name)),
+        (Named::Nested, Some(Entry::Class { name })) => nested_fit(units_of(pool, *name)),
+        _ => Fit::Wrong,
+    }
+}
+
+// Whether the entry at an index is a constant that is loaded.
+pub fn constant_fit(constant: Constant, pool: &Pool, index: u16) -> Fit
+    ensures { result ≡ constant_fit constant (entry_of pool.now index) }
+{
+    match (constant, pool.entry(index)) {
+        (_, None) => Fit::Wrong,
+        (Constant::Single, Some(Entry::Integer(_))) => Fit::Right,
+        (Constant::Single, Some(Entry::Long(_))) => Fit::Wrong,
+        (Constant::Double, Some(Entry::Long(_))) => Fit::Right,
+        (Constant::Double, Some(Entry::Integer(_))) => Fit::Wrong,
+        _ => Fit::Foreign,
+    }
+}
+
+// Whether arrays of this kind are made.
+pub fn kind_fit(kind: u8) -> Fit
+    ensures { result ≡ kind_fit kind }
+{
+    match kind {
+        4 | 5 | 8 | 9 | 10 | 11 => Fit::Right,
+        6 | 7 => Fit::Foreign,
+        _ => Fit::Wrong,
+    }
+}

@@ -1,0 +1,16 @@
+//! The code of a method, taken to instructions with their operands, exactly (JVMS 4.7.3, 4.9.1 and chapter 6).
+#![tactic(auto)]
+
+mod decoding;
+mod instructions;
+mod judging;
+mod opcodes;
+mod operands;
+mod place;
+mod starts;
+mod switches;
+
+pub use decoding::{Code, CodeFault, code_at, decode};
+pub use instructions::RawOp;
+pub use starts::Starts;
+pub use opcodes::{Constant, Named, Shape};

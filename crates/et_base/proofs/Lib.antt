@@ -1,0 +1,2 @@
+pub mod UtfLaws
+pub mod NumberLaws
