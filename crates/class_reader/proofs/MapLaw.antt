@@ -24,9 +24,9 @@ reads_tagged : (checked : Bool) (slots : List (Option Entry)) (left tag : ℕ) �
 unfolding tagged_at
 reads_tagged checked slots left tag = reads_if (ltb tag 7) (Nothing (type_of tag 0)) _ (λ b. Ok (type_of tag 0, b)) _ (reads_nothing (type_of tag 0))
     (reads_if (eqb tag 7) (Mapped (type_of tag) (Index (is_object checked) slots)) _ (λ b. index_at (is_object checked) slots b >>= λ index. Ok (type_of tag index.0, index.1)) _
-      (reads_mapped (type_of tag) (Index (is_object checked) slots) (index_at (is_object checked) slots) (reads_index (is_object checked) slots))
+    (reads_mapped (type_of tag) (Index (is_object checked) slots) (index_at (is_object checked) slots) (reads_index (is_object checked) slots))
     (reads_if (eqb tag 8) (Mapped (type_of tag) Short) Never (λ b. number_at w16 b >>= λ offset. Ok (type_of tag offset.0, offset.1)) (λ _. Err (BadLength left))
-      (reads_mapped (type_of tag) Short (λ b. number_at w16 b) reads_16) (reads_never (BadLength left))))
+    (reads_mapped (type_of tag) Short (λ b. number_at w16 b) reads_16) (reads_never (BadLength left))))
 
 reads_type : (checked : Bool) (slots : List (Option Entry)) (left : ℕ) → Reads (TypeText checked slots) (type_at checked slots left)
 unfolding type_at
@@ -54,7 +54,7 @@ tagged_weaker : (slots : List (Option Entry)) (tag : ℕ) (text : List ℕ) (t :
 tagged_weaker slots tag text t =
     let object : Mapped (type_of tag) (Index (is_object true) slots) text t → Mapped (type_of tag) (Index (is_object false) slots) text t = λ (i, (n, one, more, e, s, b), is). (i, (n, one, more, e, s, (refl, b.1)), is) in
     elim (ltb tag 7) as (λ a. cond a (Nothing (type_of tag 0) text t) (cond (eqb tag 7) (Mapped (type_of tag) (Index (is_object true) slots) text t) (cond (eqb tag 8) (Mapped (type_of tag) Short text t) (Never text t)))
-        → cond a (Nothing (type_of tag 0) text t) (cond (eqb tag 7) (Mapped (type_of tag) (Index (is_object false) slots) text t) (cond (eqb tag 8) (Mapped (type_of tag) Short text t) (Never text t)))) [
+    → cond a (Nothing (type_of tag 0) text t) (cond (eqb tag 7) (Mapped (type_of tag) (Index (is_object false) slots) text t) (cond (eqb tag 8) (Mapped (type_of tag) Short text t) (Never text t)))) [
       | true ↦ λ s. s
       | false ↦ elim (eqb tag 7) as (λ a. cond a (Mapped (type_of tag) (Index (is_object true) slots) text t) (cond (eqb tag 8) (Mapped (type_of tag) Short text t) (Never text t))
           → cond a (Mapped (type_of tag) (Index (is_object false) slots) text t) (cond (eqb tag 8) (Mapped (type_of tag) Short text t) (Never text t))) [ true ↦ object | false ↦ λ s. s ]
@@ -68,7 +68,7 @@ types_weaker : (slots : List (Option Entry)) (told : Bool) (given : ℕ) (text :
 types_weaker slots told given text ts (n, one, more, e, s, (xs, is, len, j)) = (n, one, more, e, s, (xs, is, len, joined_weaker slots [] more xs j))
 
 frame_weaker : (slots : List (Option Entry)) (text : List ℕ) (f : MapFrame) → FrameText true slots text f → FrameText false slots text f
-frame_weaker slots text f (tag, one, more, e, n, (good, (delta, a, b, e1, d, (locals, c, x, e2, l, (stack, k, is)))))  =
+frame_weaker slots text f (tag, one, more, e, n, (good, (delta, a, b, e1, d, (locals, c, x, e2, l, (stack, k, is))))) =
     (tag, one, more, e, n, (good, (delta, a, b, e1, d, (locals, c, x, e2, types_weaker slots (eqb tag 255) (tag - 251) c locals l, (stack, types_weaker slots (eqb tag 255) (stack_given tag) x stack k, is)))))
 
 frame_good : (slots : List (Option Entry)) (one more : List ℕ) (f : MapFrame) → FrameText true slots one f → has_bad_tag slots (one ++ more) ≡ false
@@ -92,12 +92,13 @@ kept_takes slots n k front bytes y fits bad e =
     let t = (reads_run k (λ b. Truncated (length b))).takes bytes a.0 fits a.1 in
     let kept : take k bytes ≡ a.0.0 = ap (take k) t.parts ∙ take_at t.text a.0.1 k (ap length t.spelled.0 ∙ t.spelled.1) ∙ t.spelled.0 in
     let made : FramesTaken slots (suc n) front bytes ((front, a.0.0), a.0.1) = record {
-        text = t.text;
-        frames = [];
-        parts = t.parts;
-        joined = sym (append-nil front);
-        spelled = (t.spelled.0, sym (ap (has_bad_tag slots) kept) ∙ bad, t.spelled.2);
-        rest_fits = t.rest_fits } in
+      text = t.text;
+      frames = [];
+      parts = t.parts;
+      joined = sym (append-nil front);
+      spelled = (t.spelled.0, sym (ap (has_bad_tag slots) kept) ∙ bad, t.spelled.2);
+      rest_fits = t.rest_fits;
+    } in
     subst (λ z. FramesTaken slots (suc n) front bytes z) (ok_is ((front, a.0.0), a.0.1) y a.2) made
 
 frames_takes : (slots : List (Option Entry)) (left len total n : ℕ) (front : List MapFrame) (bytes : List ℕ) (y : (List MapFrame × List ℕ) × List ℕ) → IsBytes bytes → frames_at slots left len total n front bytes ≡ Ok y → FramesTaken slots n front bytes y
@@ -105,18 +106,19 @@ unfolding frames_at
 frames_takes slots left len total zero front bytes y fits e = subst (λ z. FramesTaken slots 0 front bytes z) (ok_is ((front, []), bytes) y e) (record { text = []; frames = []; parts = refl; joined = sym (append-nil front); spelled = (refl, refl); rest_fits = fits })
 frames_takes slots left len total (suc n) front bytes y fits e =
     picked (has_bad_tag slots (take (within len total bytes) bytes)) (kept_at front (within len total bytes) bytes) (frame_at true slots left bytes >>= λ f. frames_at slots left len total n (front ++ f.0 ∷ []) f.1) (Ok y) e
-      (λ bad h. kept_takes slots n (within len total bytes) front bytes y fits bad h)
-      (λ good h.
-        let a = bind_ok (frame_at true slots left bytes) (λ f. frames_at slots left len total n (front ++ f.0 ∷ []) f.1) y h in
-        let t = (reads_frame true slots left).takes bytes a.0 fits a.1 in
-        let u = frames_takes slots left len total n (front ++ a.0.0 ∷ []) a.0.1 y t.rest_fits a.2 in
-        record {
-          text = t.text ++ u.text;
-          frames = a.0.0 ∷ u.frames;
-          parts = t.parts ∙ ap (λ (r : List ℕ). t.text ++ r) u.parts ∙ sym (append_assoc t.text u.text y.1);
-          joined = u.joined ∙ append_assoc front (a.0.0 ∷ []) u.frames;
-          spelled = (t.text, u.text, refl, t.spelled, u.spelled);
-          rest_fits = u.rest_fits })
+    (λ bad h. kept_takes slots n (within len total bytes) front bytes y fits bad h)
+    (λ good h.
+    let a = bind_ok (frame_at true slots left bytes) (λ f. frames_at slots left len total n (front ++ f.0 ∷ []) f.1) y h in
+    let t = (reads_frame true slots left).takes bytes a.0 fits a.1 in
+    let u = frames_takes slots left len total n (front ++ a.0.0 ∷ []) a.0.1 y t.rest_fits a.2 in
+    record {
+      text = t.text ++ u.text;
+      frames = a.0.0 ∷ u.frames;
+      parts = t.parts ∙ ap (λ (r : List ℕ). t.text ++ r) u.parts ∙ sym (append_assoc t.text u.text y.1);
+      joined = u.joined ∙ append_assoc front (a.0.0 ∷ []) u.frames;
+      spelled = (t.text, u.text, refl, t.spelled, u.spelled);
+      rest_fits = u.rest_fits;
+    })
 
 -- Behind the entries the attribute ends.
 within_is : (len : ℕ) (text after : List ℕ) → length text ≤ len → within len (len + length after) (text ++ after) ≡ length text
@@ -131,7 +133,7 @@ unfolding frames_at kept_at
 kept_again slots left len n front text after le bad fits =
     let there : has_bad_tag slots (take (within len (len + length after) (text ++ after)) (text ++ after)) ≡ true = ap (has_bad_tag slots) (front_is len text after le) ∙ bad in
     let run : run_at (within len (len + length after) (text ++ after)) (text ++ after) ≡ Ok (text, after) =
-      ap (λ k. run_at k (text ++ after)) (within_is len text after le) ∙ (reads_run (length text) (λ b. Truncated (length b))).again text after text (refl, refl, fits) in
+    ap (λ k. run_at k (text ++ after)) (within_is len text after le) ∙ (reads_run (length text) (λ b. Truncated (length b))).again text after text (refl, refl, fits) in
     rw there (ap (λ r. r >>= λ kept. Ok ((front, kept.0), kept.1)) run)
 
 frames_again : (slots : List (Option Entry)) (left len n : ℕ) (frames front : List MapFrame) (text rest after : List ℕ) → FramesText slots n text frames rest → length text ≤ len
@@ -146,7 +148,7 @@ frames_again slots left len (suc n) (f ∷ frames) front text rest after (one, m
     let whole : text ++ after ≡ one ++ (more ++ after) = ap (λ b. b ++ after) e ∙ append_assoc one more after in
     let shorter : length more ≤ len = omega (arith, ap length e, length-append one more) in
     rw good (ap (λ r. r >>= λ f. frames_at slots left len (len + length after) n (front ++ f.0 ∷ []) f.1) (ap (frame_at true slots left) whole ∙ (reads_frame true slots left).again one (more ++ after) f s)
-      ∙ frames_again slots left len n frames (front ++ f ∷ []) more rest after others shorter ∙ ap (λ fs. Ok ((fs, rest), after)) (append_assoc front (f ∷ []) frames))
+    ∙ frames_again slots left len n frames (front ++ f ∷ []) more rest after others shorter ∙ ap (λ fs. Ok ((fs, rest), after)) (append_assoc front (f ∷ []) frames))
 
 -- ---- the attribute
 
@@ -168,10 +170,11 @@ map_takes slots bytes y fits e =
     let len : length content ≡ a.0.0 = omega (arith, ap length inner, length-append content c.0.1, eqb-true _ _ d.0) in
     let frames : FramesText slots b.0.0 v.text c.0.0.0 c.0.0.1 = subst (λ fs. FramesText slots b.0.0 v.text fs c.0.0.1) (sym v.joined) v.spelled in
     let made : Taken (MapText slots) bytes (part_of b.0.0 c.0.0.0 c.0.0.1, c.0.1) = record {
-        text = t.text ++ content;
-        parts = t.parts ∙ ap (λ (r : List ℕ). t.text ++ r) inner ∙ sym (append_assoc t.text content c.0.1);
-        spelled = (content, ap (λ o. o ++ content) (t.spelled.0 ∙ ap (to_be_bytes w32) (sym len)), subst (λ k. k < 2 ^ 32) (sym len) t.spelled.1, (b.0.0, u.text, v.text, refl, u.spelled, (refl, frames)));
-        rest_fits = v.rest_fits } in
+      text = t.text ++ content;
+      parts = t.parts ∙ ap (λ (r : List ℕ). t.text ++ r) inner ∙ sym (append_assoc t.text content c.0.1);
+      spelled = (content, ap (λ o. o ++ content) (t.spelled.0 ∙ ap (to_be_bytes w32) (sym len)), subst (λ k. k < 2 ^ 32) (sym len) t.spelled.1, (b.0.0, u.text, v.text, refl, u.spelled, (refl, frames)));
+      rest_fits = v.rest_fits;
+    } in
     subst (λ z. Taken (MapText slots) bytes z) (ok_is (part_of b.0.0 c.0.0.0 c.0.0.1, c.0.1) y d.1) made
 
 map_again : (slots : List (Option Entry)) (text after : List ℕ) (x : MapPart) → MapText slots text x → map_at slots (text ++ after) ≡ Ok (x, after)
@@ -184,7 +187,7 @@ map_again slots text after x (content, e, lt, (n, one, more, f, s, (is, frames))
     let second : number_at w16 (content ++ after) ≡ Ok (n, more ++ after) = ap (λ b. number_at w16 b) inner ∙ reads_16.again one (more ++ after) n s in
     let shorter : length more ≤ length content = omega (arith, ap length f, length-append one more) in
     let third : frames_at slots (length all) (length content) (length (content ++ after)) n [] (more ++ after) ≡ Ok ((x.frames, x.rest), after) =
-      ap (λ t. frames_at slots (length all) (length content) t n [] (more ++ after)) (length-append content after) ∙ frames_again slots (length all) (length content) n x.frames [] more x.rest after frames shorter in
+    ap (λ t. frames_at slots (length all) (length content) t n [] (more ++ after)) (length-append content after) ∙ frames_again slots (length all) (length content) n x.frames [] more x.rest after frames shorter in
     let test : eqb (length (content ++ after) - length after) (length content) ≡ true = eq-eqb _ _ (omega (arith, length-append content after)) in
     ap (λ r. r >>= λ len. number_at w16 len.1 >>= λ count. frames_at slots (length all) len.0 (length len.1) count.0 [] count.1 >>= λ frames. tested (eqb (length len.1 - length frames.1) len.0) (BadLength (length all)) >>= λ _. Ok (part_of count.0 frames.0.0 frames.0.1, frames.1)) first
     ∙ ap (λ r. r >>= λ count. frames_at slots (length all) (length content) (length (content ++ after)) count.0 [] count.1 >>= λ frames. tested (eqb (length (content ++ after) - length frames.1) (length content)) (BadLength (length all)) >>= λ _. Ok (part_of count.0 frames.0.0 frames.0.1, frames.1)) second

@@ -25,7 +25,7 @@ TypesText checked slots told given = Then (GivenText told given) (λ n. Counted 
 -- an entry; the classes that it names are looked at where that is checked
 abbrev pub FrameText : Bool → List (Option Entry) → List ℕ → MapFrame → Type 0
 FrameText checked slots = Then (Number w8 (2 ^ 8)) (λ tag. Tested (is_frame_tag tag) (Then (GivenText (tells_delta tag) (tag % 64)) (λ delta. Then (TypesText checked slots (tag == 255) (tag - 251)) (λ locals.
-  Mapped (frame_of tag delta locals) (TypesText checked slots (tag == 255) (stack_given tag))))))
+    Mapped (frame_of tag delta locals) (TypesText checked slots (tag == 255) (stack_given tag))))))
 
 -- n entries; where there are fewer, the rest is kept from one with a bad tag on
 abbrev pub FramesText : List (Option Entry) → ℕ → List ℕ → List MapFrame → List ℕ → Type 0

@@ -25,13 +25,13 @@ is_object checked entry = not checked || is_class entry
 -- what stands behind a type's tag: behind Object an index, behind Uninitialized an offset; a tag above 8 is none
 unfoldable pub tagged_at : Bool → List (Option Entry) → ℕ → ℕ → List ℕ → Result (MapType × List ℕ) Fault
 tagged_at checked slots left tag bytes = if nat_lt tag 7 then Ok (type_of tag 0, bytes)
-  else if tag == 7 then (do
-    index ← index_at (is_object checked) slots bytes
-    Ok (type_of tag index.0, index.1))
-  else if tag == 8 then (do
-    offset ← number_at w16 bytes
-    Ok (type_of tag offset.0, offset.1))
-  else Err (BadLength left)
+    else if tag == 7 then (do
+      index ← index_at (is_object checked) slots bytes
+      Ok (type_of tag index.0, index.1))
+    else if tag == 8 then (do
+      offset ← number_at w16 bytes
+      Ok (type_of tag offset.0, offset.1))
+    else Err (BadLength left)
 
 unfoldable pub type_at : Bool → List (Option Entry) → ℕ → List ℕ → Result (MapType × List ℕ) Fault
 type_at checked slots left bytes = do

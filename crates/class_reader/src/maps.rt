@@ -10,7 +10,7 @@ ghost use Rattle.class_reader.specs.Maps.{is_object, tagged_at, type_at, given_a
 use crate::names::names_class;
 use crate::parts::{MapFrame, MapPart, MapType};
 use class_pool::fault::wants;
-use class_pool::fields::{run_at, u16_at, u32_at, u8_at};
+use class_pool::fields::{run_at, u8_at, u16_at, u32_at};
 use class_pool::{Fault, Pool, ReadError};
 use et_base::Items;
 use std::alloc::Global;
@@ -20,12 +20,21 @@ fn object_at<'a>(checked: bool, pool: &Pool, bytes: &'a [u8]) -> Result<(u16, &'
     ensures { Gives (λ x. (x.0, x.1.now)) result (index_at (is_object checked) pool.now bytes.now) }
 {
     let (index, rest) = u16_at(bytes)?;
-    wants(!checked || names_class(pool, index), Fault::BadIndex(bytes.len()))?;
+    wants(
+        !checked || names_class(pool, index),
+        Fault::BadIndex(bytes.len()),
+    )?;
     Ok((index, rest))
 }
 
 #[tactic(auto, unfolding(crate::specs::Maps::tagged_at))]
-fn tagged_of<'a>(checked: bool, pool: &Pool, left: usize, tag: u8, bytes: &'a [u8]) -> Result<(MapType, &'a [u8]), ReadError>
+fn tagged_of<'a>(
+    checked: bool,
+    pool: &Pool,
+    left: usize,
+    tag: u8,
+    bytes: &'a [u8],
+) -> Result<(MapType, &'a [u8]), ReadError>
     ensures { Gives (λ x. (x.0, x.1.now)) result (tagged_at checked pool.now left tag bytes.now) }
 {
     match tag {
@@ -43,14 +52,26 @@ fn tagged_of<'a>(checked: bool, pool: &Pool, left: usize, tag: u8, bytes: &'a [u
 }
 
 #[tactic(auto, unfolding(crate::specs::Maps::type_at))]
-fn type_of<'a>(checked: bool, pool: &Pool, left: usize, bytes: &'a [u8]) -> Result<(MapType, &'a [u8]), ReadError>
+fn type_of<'a>(
+    checked: bool,
+    pool: &Pool,
+    left: usize,
+    bytes: &'a [u8],
+) -> Result<(MapType, &'a [u8]), ReadError>
     ensures { Gives (λ x. (x.0, x.1.now)) result (type_at checked pool.now left bytes.now) }
 {
     let (tag, rest) = u8_at(bytes)?;
     tagged_of(checked, pool, left, tag, rest)
 }
 
-fn types_counted<'a>(alloc: Global, checked: bool, pool: &Pool, left: usize, count: u16, bytes: &'a [u8]) -> Result<(Items<MapType>, &'a [u8]), ReadError>
+fn types_counted<'a>(
+    alloc: Global,
+    checked: bool,
+    pool: &Pool,
+    left: usize,
+    count: u16,
+    bytes: &'a [u8],
+) -> Result<(Items<MapType>, &'a [u8]), ReadError>
     ensures { Gives (λ x. (x.0, x.1.now)) result (counted (λ _ _ b. type_at checked pool.now left b) [] count bytes.now) }
 {
     let mut types = Items::new(alloc);
@@ -66,11 +87,23 @@ fn types_counted<'a>(alloc: Global, checked: bool, pool: &Pool, left: usize, cou
 fn given_of(told: bool, given: u16, bytes: &[u8]) -> Result<(u16, &[u8]), ReadError>
     ensures { Gives (λ x. (x.0, x.1.now)) result (given_at told given bytes.now) }
 {
-    if told { u16_at(bytes) } else { Ok((given, bytes)) }
+    if told {
+        u16_at(bytes)
+    } else {
+        Ok((given, bytes))
+    }
 }
 
 #[tactic(auto, unfolding(crate::specs::Maps::types_at))]
-fn types_of<'a>(alloc: Global, checked: bool, pool: &Pool, left: usize, told: bool, given: u16, bytes: &'a [u8]) -> Result<(Items<MapType>, &'a [u8]), ReadError>
+fn types_of<'a>(
+    alloc: Global,
+    checked: bool,
+    pool: &Pool,
+    left: usize,
+    told: bool,
+    given: u16,
+    bytes: &'a [u8],
+) -> Result<(Items<MapType>, &'a [u8]), ReadError>
     ensures { Gives (λ x. (x.0, x.1.now)) result (types_at checked pool.now left told given bytes.now) }
 {
     let (count, rest) = given_of(told, given, bytes)?;
@@ -86,20 +119,54 @@ fn is_frame_tag(tag: u8) -> bool
 fn stack_given(tag: u8) -> u16
     ensures { result ≡ stack_given tag }
 {
-    if tag == 247 || 63 < tag && tag < 128 { 1 } else { 0 }
+    if tag == 247 || 63 < tag && tag < 128 {
+        1
+    } else {
+        0
+    }
 }
 
 // An entry; a tag that is none is a wrong length, left bytes before the end.
 #[tactic(auto, unfolding(crate::specs::Maps::frame_at))]
-fn frame_of<'a>(alloc: Global, checked: bool, pool: &Pool, left: usize, bytes: &'a [u8]) -> Result<(MapFrame, &'a [u8]), ReadError>
+fn frame_of<'a>(
+    alloc: Global,
+    checked: bool,
+    pool: &Pool,
+    left: usize,
+    bytes: &'a [u8],
+) -> Result<(MapFrame, &'a [u8]), ReadError>
     ensures { Gives (λ x. (x.0, x.1.now)) result (frame_at checked pool.now left bytes.now) }
 {
     let (tag, rest) = u8_at(bytes)?;
     wants(is_frame_tag(tag), Fault::BadLength(left))?;
     let (delta, rest) = given_of(127 < tag, tag as u16 % 64, rest)?;
-    let (locals, rest) = types_of(alloc, checked, pool, left, tag == 255, (tag as u16).saturating_sub(251), rest)?;
-    let (stack, rest) = types_of(alloc, checked, pool, left, tag == 255, stack_given(tag), rest)?;
-    Ok((MapFrame { tag, delta, locals, stack }, rest))
+    let (locals, rest) = types_of(
+        alloc,
+        checked,
+        pool,
+        left,
+        tag == 255,
+        (tag as u16).saturating_sub(251),
+        rest,
+    )?;
+    let (stack, rest) = types_of(
+        alloc,
+        checked,
+        pool,
+        left,
+        tag == 255,
+        stack_given(tag),
+        rest,
+    )?;
+    Ok((
+        MapFrame {
+            tag,
+            delta,
+            locals,
+            stack,
+        },
+        rest,
+    ))
 }
 
 // Whether the entry at the front has a tag that is none.
@@ -125,7 +192,12 @@ fn copied(alloc: Global, bytes: &[u8]) -> Result<Items<u8>, ReadError>
 }
 
 #[tactic(auto, unfolding(crate::specs::Maps::kept_at))]
-fn kept_of(alloc: Global, frames: Items<MapFrame>, n: usize, bytes: &[u8]) -> Result<((Items<MapFrame>, Items<u8>), &[u8]), ReadError>
+fn kept_of(
+    alloc: Global,
+    frames: Items<MapFrame>,
+    n: usize,
+    bytes: &[u8],
+) -> Result<((Items<MapFrame>, Items<u8>), &[u8]), ReadError>
     ensures { Gives (λ x. ((x.0.0, x.0.1), x.1.now)) result (kept_at frames n bytes.now) }
 {
     let (kept, rest) = run_at(n, bytes)?;
@@ -139,7 +211,15 @@ fn front(n: usize, bytes: &[u8]) -> &[u8]
 }
 
 // The entries, up to the first with a bad tag; `total` bytes were left at the content, of `len` bytes.
-fn frames_of<'a>(alloc: Global, pool: &Pool, left: usize, len: usize, total: usize, count: u16, bytes: &'a [u8]) -> Result<((Items<MapFrame>, Items<u8>), &'a [u8]), ReadError>
+fn frames_of<'a>(
+    alloc: Global,
+    pool: &Pool,
+    left: usize,
+    len: usize,
+    total: usize,
+    count: u16,
+    bytes: &'a [u8],
+) -> Result<((Items<MapFrame>, Items<u8>), &'a [u8]), ReadError>
     ensures { Gives (λ x. ((x.0.0, x.0.1), x.1.now)) result (frames_at pool.now left len total count [] bytes.now) }
 {
     let mut frames = Items::new(alloc);
@@ -159,12 +239,34 @@ fn frames_of<'a>(alloc: Global, pool: &Pool, left: usize, len: usize, total: usi
 
 /// A StackMapTable behind its name.
 #[tactic(auto, unfolding(crate::specs::Maps::map_at))]
-pub fn map_of<'a>(alloc: Global, pool: &Pool, bytes: &'a [u8]) -> Result<(MapPart, &'a [u8]), ReadError>
+pub fn map_of<'a>(
+    alloc: Global,
+    pool: &Pool,
+    bytes: &'a [u8],
+) -> Result<(MapPart, &'a [u8]), ReadError>
     ensures { Gives (λ x. (x.0, x.1.now)) result (map_at pool.now bytes.now) }
 {
     let (len, start) = u32_at(bytes)?;
     let (count, rest) = u16_at(start)?;
-    let ((frames, kept), rest) = frames_of(alloc, pool, bytes.len(), len as usize, start.len(), count, rest)?;
-    wants(start.len().saturating_sub(rest.len()) == len as usize, Fault::BadLength(bytes.len()))?;
-    Ok((MapPart { count, frames, rest: kept }, rest))
+    let ((frames, kept), rest) = frames_of(
+        alloc,
+        pool,
+        bytes.len(),
+        len as usize,
+        start.len(),
+        count,
+        rest,
+    )?;
+    wants(
+        start.len().saturating_sub(rest.len()) == len as usize,
+        Fault::BadLength(bytes.len()),
+    )?;
+    Ok((
+        MapPart {
+            count,
+            frames,
+            rest: kept,
+        },
+        rest,
+    ))
 }
