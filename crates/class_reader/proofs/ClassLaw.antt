@@ -14,27 +14,26 @@ use Rattle.class_pool.specs.Grammar.{IsBytes, Nothing, Then, Mapped, Tested, Num
 use Rattle.class_pool.specs.PoolGrammar.{PoolText}
 use Rattle.class_pool.proofs.Laws.{bind_ok, ok_is, tested_ok, Taken, Reads, reads_nothing, reads_then, tested_then, reads_mapped, reads_if, reads_run, reads_16, reads_32, reads_counted, reads_folded, reads_sized}
 use Rattle.class_pool.proofs.PoolLaw.{reads_pool}
-use Rattle.class_reader.specs.declared.parts.Code.{Code}
+use Rattle.class_reader.proofs.HandlerLaw.{reads_handlers}
+use Rattle.class_reader.proofs.MapLaw.{reads_map}
+use Rattle.class_reader.proofs.IndexLaw.{reads_index, reads_form}
+use Rattle.code_decode.specs.declared.decoding.Code.{Code}
+use Rattle.code_decode.specs.CodeGrammar.{CodeText}
+use Rattle.code_decode.specs.Decoding.{code_at}
+use Rattle.code_decode.proofs.WholeLaw.{code_takes, code_again}
 use Rattle.class_reader.specs.declared.parts.CodePart.{CodePart}
+use Rattle.class_reader.specs.declared.parts.MapPart.{MapPart}
 use Rattle.class_reader.specs.declared.parts.RawHandler.{RawHandler}
 use Rattle.class_reader.specs.declared.parts.MemberPart.{MemberPart}
 use Rattle.class_reader.specs.declared.parts.ClassParts.{ClassParts}
-use Rattle.class_reader.specs.Code.{code_at}
-use Rattle.class_reader.specs.Names.{is_code, is_constant_value, is_own_class, is_field_name, is_field_type, is_method_name, is_method_type, fits_constant, is_repeated, fits_flags}
-use Rattle.class_reader.specs.Class.{index_at, form_at, other_at, once_at, attribute_at, attributes_at, skipped_at, all_skipped_at, constant_at, run_code_at, handlers_at, part_at, code_attribute_at, field_at, fields_at, method_at, methods_at, head_at, interfaces_at, members_at, body_at, class_at}
-use Rattle.class_reader.specs.ClassGrammar.{Short, Index, Form, OtherText, OnceText, AttributeText, AttributesText, SkippedText, AllSkippedText, ConstantText, RunText, Beside, CodeText, HandlersText, part_of, PartText, field_of, FieldText, FieldsText, method_of, MethodText, MethodsText, HeadText, InterfacesText, pair_of, MembersText, parts_of, BodyText, class_bytes}
-
--- ---- indices
-
-reads_index : (fits : Option Entry → Bool) (slots : List (Option Entry)) → Reads (Index fits slots) (index_at fits slots)
-unfolding index_at
-reads_index fits slots = reads_then _ _ (λ b. number_at w16 b) (λ all i rest. tested (fits (entry_of slots i)) (BadIndex (length all)) >>= λ _. Ok (i, rest)) reads_16
-    (λ all i. tested_then (fits (entry_of slots i)) (λ _. BadIndex (length all)) (Nothing i) (λ rest. Ok (i, rest)) (reads_nothing i))
-
-reads_form : (form : Option Entry → Bool) (slots : List (Option Entry)) → Reads (Form form slots) (form_at form slots)
-unfolding form_at
-reads_form form slots = reads_then _ _ (index_at is_text slots) (λ all i rest. tested (form (entry_of slots i)) (BadDescriptor (length all)) >>= λ _. Ok (i, rest)) (reads_index is_text slots)
-    (λ all i. tested_then (form (entry_of slots i)) (λ _. BadDescriptor (length all)) (Nothing i) (λ rest. Ok (i, rest)) (reads_nothing i))
+use Rattle.class_reader.specs.Handlers.{handlers_at, HandlersText}
+use Rattle.class_reader.specs.Maps.{map_at}
+use Rattle.class_reader.specs.MapGrammar.{MapText}
+use Rattle.class_reader.specs.Names.{is_code, is_constant_value, is_stack_map, is_own_class, is_field_name, is_field_type, is_method_name, is_method_type, fits_constant, is_repeated, fits_flags}
+use Rattle.class_reader.specs.Class.{other_at, once_at, attribute_at, attributes_at, skipped_at, all_skipped_at, constant_at, run_code_at, part_at, code_attribute_at, field_at, fields_at, method_at, methods_at, head_at, interfaces_at, members_at, body_at, class_at}
+use Rattle.class_reader.specs.Indices.{index_at, form_at}
+use Rattle.class_reader.specs.ClassGrammar.{OtherText, OnceText, AttributeText, AttributesText, SkippedText, AllSkippedText, ConstantText, RunText, Beside, part_of, PartText, field_of, FieldText, FieldsText, method_of, MethodText, MethodsText, HeadText, InterfacesText, pair_of, MembersText, parts_of, BodyText, class_bytes}
+use Rattle.class_reader.specs.Indices.{Short, Index, Form}
 
 -- ---- attributes
 
@@ -76,14 +75,28 @@ reads_constant slots descriptor = reads_then _ _ (λ b. number_at w32 b) (λ all
 
 -- ---- Code
 
+-- one part and then another, of which it is known that the first was spelled
+reads_then_of : {A B : Type 0} (S : List ℕ → A → Type 0) (T : A → List ℕ → B → Type 0) (first : List ℕ → Result (A × List ℕ) Fault) (next : A → List ℕ → Result (B × List ℕ) Fault)
+    → Reads S first → ((text : List ℕ) (x : A) → S text x → Reads (T x) (next x)) → Reads (Then S T) (λ bytes. first bytes >>= λ x. next x.0 x.1)
+reads_then_of S T first next p q = record {
+  takes = λ bytes y fits e.
+      let a = bind_ok (first bytes) (λ x. next x.0 x.1) y e in
+      let t = p.takes bytes a.0 fits a.1 in
+      let u = (q t.text a.0.0 t.spelled).takes a.0.1 y t.rest_fits a.2 in
+      record { text = t.text ++ u.text; parts = t.parts ∙ ap (λ (r : List ℕ). t.text ++ r) u.parts ∙ sym (append_assoc t.text u.text y.1); spelled = (a.0.0, t.text, u.text, refl, t.spelled, u.spelled); rest_fits = u.rest_fits };
+  again = λ text rest y (x, one, more, e, s, t).
+      let whole : text ++ rest ≡ one ++ (more ++ rest) = ap (λ b. b ++ rest) e ∙ append_assoc one more rest in
+      ap (λ r. r >>= λ x. next x.0 x.1) (ap first whole ∙ p.again one (more ++ rest) x s) ∙ (q one x s).again more rest y t;
+}
+
 -- a value that is read from elsewhere
-reads_beside : {A B : Type 0} (r : Result A Fault) (T : A → List ℕ → B → Type 0) (next : A → List ℕ → Result (B × List ℕ) Fault) → ((x : A) → Reads (T x) (next x)) → Reads (Beside (λ x. r ≡ Ok x) T) (λ bytes. r >>= λ x. next x bytes)
-reads_beside r T next p = record {
+reads_beside : {A B : Type 0} (r : Result A Fault) (P : A → Type 0) (T : A → List ℕ → B → Type 0) (next : A → List ℕ → Result (B × List ℕ) Fault) → ((x : A) → r ≡ Ok x → P x) → ((x : A) → P x → r ≡ Ok x) → ((x : A) → Reads (T x) (next x)) → Reads (Beside P T) (λ bytes. r >>= λ x. next x bytes)
+reads_beside r P T next to from p = record {
   takes = λ bytes y fits e.
       let a = bind_ok r (λ x. next x bytes) y e in
       let t = (p a.0).takes bytes y fits a.2 in
-      record { text = t.text; parts = t.parts; spelled = (a.0, a.1, t.spelled); rest_fits = t.rest_fits };
-  again = λ text rest y (x, e, s). ap (λ r. r >>= λ x. next x (text ++ rest)) e ∙ (p x).again text rest y s;
+      record { text = t.text; parts = t.parts; spelled = (a.0, to a.0 a.1, t.spelled); rest_fits = t.rest_fits };
+  again = λ text rest y (x, h, s). ap (λ r. r >>= λ x. next x (text ++ rest)) (from x h) ∙ (p x).again text rest y s;
 }
 
 reads_run_code : Reads RunText run_code_at
@@ -91,23 +104,30 @@ unfolding run_code_at
 reads_run_code = reads_then _ _ (λ b. number_at w32 b) (λ all n rest. tested (ltb 0 n && ltb n 65536) (BadLength (length all)) >>= λ _. run_at n rest) reads_32
     (λ all n. tested_then (ltb 0 n && ltb n 65536) (λ _. BadLength (length all)) (Run n) (λ rest. run_at n rest) (reads_run n (λ b. Truncated (length b))))
 
-reads_handlers : (method : ℕ) → Reads HandlersText (handlers_at method)
-unfolding handlers_at
-reads_handlers method = reads_then _ _ (λ b. number_at w16 b) (λ _ n rest. tested (eqb n 0) (BadTarget method 0) >>= λ _. Ok ([], rest)) reads_16
-    (λ _ n. tested_then (eqb n 0) (λ _. BadTarget method 0) (Nothing []) (λ rest. Ok ([], rest)) (reads_nothing []))
+-- the bytes of code
+run_bytes : (text run : List ℕ) → RunText text run → IsBytes run
+run_bytes text run (n, one, more, e, s, (test, (same, len, fits))) = fits
 
-reads_part : (method : ℕ) (slots : List (Option Entry)) → Reads (PartText method slots) (part_at method slots)
-unfolding part_at
-reads_part method slots = reads_then _ _ (λ b. number_at w16 b) (λ _ stack rest. number_at w16 rest >>= λ locals. run_code_at locals.1 >>= λ run. code_at method slots run.0 >>= λ code. handlers_at method run.1 >>= λ handlers. all_skipped_at slots handlers.1 >>= λ others. Ok (part_of stack locals.0 code handlers.0, others.1)) reads_16
-    (λ _ stack. reads_then _ _ (λ b. number_at w16 b) (λ _ locals rest. run_code_at rest >>= λ run. code_at method slots run.0 >>= λ code. handlers_at method run.1 >>= λ handlers. all_skipped_at slots handlers.1 >>= λ others. Ok (part_of stack locals code handlers.0, others.1)) reads_16
-    (λ _ locals. reads_then _ _ run_code_at (λ _ run rest. code_at method slots run >>= λ code. handlers_at method rest >>= λ handlers. all_skipped_at slots handlers.1 >>= λ others. Ok (part_of stack locals code handlers.0, others.1)) reads_run_code
-    (λ _ run. reads_beside (code_at method slots run) _ (λ code rest. handlers_at method rest >>= λ handlers. all_skipped_at slots handlers.1 >>= λ others. Ok (part_of stack locals code handlers.0, others.1))
-    (λ code. reads_then _ _ (handlers_at method) (λ _ handlers rest. all_skipped_at slots rest >>= λ others. Ok (part_of stack locals code handlers, others.1)) (reads_handlers method)
-    (λ _ handlers. reads_mapped (λ _. part_of stack locals code handlers) (AllSkippedText slots) (all_skipped_at slots) (reads_all_skipped slots))))))
+-- what stands behind code
+behind_at : ℕ → List (Option Entry) → ℕ → ℕ → Code → List ℕ → Result (CodePart × List ℕ) Fault
+behind_at method slots stack locals code bytes = handlers_at method slots code bytes >>= λ handlers. attributes_at is_stack_map (map_at slots) slots handlers.1 >>= λ map. Ok (part_of stack locals code handlers.0 map.0, map.1)
 
-reads_code_attribute : (method : ℕ) (slots : List (Option Entry)) → Reads (Sized (PartText method slots)) (code_attribute_at method slots)
+reads_behind : (method : ℕ) (slots : List (Option Entry)) (stack locals : ℕ) (code : Code) → Reads (Then (HandlersText slots code) (λ handlers. Mapped (part_of stack locals code handlers) (AttributesText is_stack_map (MapText slots) slots))) (behind_at method slots stack locals code)
+unfolding behind_at
+reads_behind method slots stack locals code = reads_then _ _ (handlers_at method slots code) (λ _ handlers rest. attributes_at is_stack_map (map_at slots) slots rest >>= λ map. Ok (part_of stack locals code handlers map.0, map.1)) (reads_handlers method slots code)
+    (λ _ handlers. reads_mapped (part_of stack locals code handlers) (AttributesText is_stack_map (MapText slots) slots) (attributes_at is_stack_map (map_at slots) slots) (reads_attributes is_stack_map (MapText slots) (map_at slots) slots (reads_map slots)))
+
+reads_part : (method : ℕ) (slots : List (Option Entry)) → Reads (PartText slots) (part_at method slots)
+unfolding part_at behind_at
+reads_part method slots = reads_then _ _ (λ b. number_at w16 b) (λ _ stack rest. number_at w16 rest >>= λ locals. run_code_at locals.1 >>= λ run. code_at method slots run.0 >>= λ code. behind_at method slots stack locals.0 code run.1) reads_16
+    (λ _ stack. reads_then _ _ (λ b. number_at w16 b) (λ _ locals rest. run_code_at rest >>= λ run. code_at method slots run.0 >>= λ code. behind_at method slots stack locals code run.1) reads_16
+    (λ _ locals. reads_then_of _ _ run_code_at (λ run rest. code_at method slots run >>= λ code. behind_at method slots stack locals code rest) reads_run_code
+    (λ text run s. reads_beside (code_at method slots run) (CodeText slots run) _ (λ code rest. behind_at method slots stack locals code rest)
+    (λ code e. code_takes method slots run code (run_bytes text run s) e) (λ code h. code_again method slots run code h) (reads_behind method slots stack locals))))
+
+reads_code_attribute : (method : ℕ) (slots : List (Option Entry)) → Reads (Sized (PartText slots)) (code_attribute_at method slots)
 unfolding code_attribute_at
-reads_code_attribute method slots = reads_sized (PartText method slots) (part_at method slots) (λ b. Truncated (length b)) (λ b. BadLength (length b)) (reads_part method slots)
+reads_code_attribute method slots = reads_sized (PartText slots) (part_at method slots) (λ b. Truncated (length b)) (λ b. BadLength (length b)) (reads_part method slots)
 
 -- ---- fields and methods
 
@@ -125,9 +145,9 @@ reads_fields slots = reads_then _ _ (λ b. number_at w16 b) (λ _ n rest. counte
     (λ _ n. reads_counted (λ before _. FieldText slots before) (λ before _ b. field_at slots before b) (λ before _. reads_field slots before) n [])
 
 -- what follows a method's name and descriptor
-reads_kind : (flags name descriptor number left : ℕ) (slots : List (Option Entry)) → Reads (Then (AttributesText is_code (Sized (PartText number slots)) slots) (λ code. Tested (fits_flags flags (is_some code)) (Nothing (method_of flags name descriptor code))))
+reads_kind : (flags name descriptor number left : ℕ) (slots : List (Option Entry)) → Reads (Then (AttributesText is_code (Sized (PartText slots)) slots) (λ code. Tested (fits_flags flags (is_some code)) (Nothing (method_of flags name descriptor code))))
     (λ bytes. attributes_at is_code (code_attribute_at number slots) slots bytes >>= λ code. tested (fits_flags flags (is_some code.0)) (CodeKind left) >>= λ _. Ok (method_of flags name descriptor code.0, code.1))
-reads_kind flags name descriptor number left slots = reads_then _ _ (attributes_at is_code (code_attribute_at number slots) slots) (λ _ code rest. tested (fits_flags flags (is_some code)) (CodeKind left) >>= λ _. Ok (method_of flags name descriptor code, rest)) (reads_attributes is_code (Sized (PartText number slots)) (code_attribute_at number slots) slots (reads_code_attribute number slots))
+reads_kind flags name descriptor number left slots = reads_then _ _ (attributes_at is_code (code_attribute_at number slots) slots) (λ _ code rest. tested (fits_flags flags (is_some code)) (CodeKind left) >>= λ _. Ok (method_of flags name descriptor code, rest)) (reads_attributes is_code (Sized (PartText slots)) (code_attribute_at number slots) slots (reads_code_attribute number slots))
     (λ _ code. tested_then (fits_flags flags (is_some code)) (λ _. CodeKind left) (Nothing (method_of flags name descriptor code)) (λ rest. Ok (method_of flags name descriptor code, rest)) (reads_nothing (method_of flags name descriptor code)))
 
 reads_method : (slots : List (Option Entry)) (before : List MemberPart) → Reads (MethodText slots before) (method_at slots before)

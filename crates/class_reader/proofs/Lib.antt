@@ -1,1 +1,5 @@
+pub mod IndexLaw
+pub mod HandlerLaw
+pub mod MapSteps
+pub mod MapLaw
 pub mod ClassLaw

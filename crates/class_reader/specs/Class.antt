@@ -7,29 +7,14 @@ use Rattle.class_pool.specs.declared.pool.Entry.{Entry}
 use Rattle.class_pool.specs.Reading.{◌>>=◌, number_at, run_at, tested}
 use Rattle.class_pool.specs.Loops.{counted, folded}
 use Rattle.class_pool.specs.Pool.{entry_of, is_text, is_class, pool_at}
-use Rattle.class_reader.specs.declared.parts.Code.{Code}
 use Rattle.class_reader.specs.declared.parts.CodePart.{CodePart}
-use Rattle.class_reader.specs.declared.parts.RawHandler.{RawHandler}
 use Rattle.class_reader.specs.declared.parts.MemberPart.{MemberPart}
 use Rattle.class_reader.specs.declared.parts.ClassParts.{ClassParts}
-use Rattle.class_reader.specs.Code.{code_at}
-use Rattle.class_reader.specs.Names.{is_code, is_constant_value, is_own_class, is_field_name, is_field_type, is_method_name, is_method_type, fits_constant, is_repeated, fits_flags}
-
--- ---- indices
-
--- an index that names an entry of this kind
-unfoldable pub index_at : (Option Entry → Bool) → List (Option Entry) → List ℕ → Result (ℕ × List ℕ) Fault
-index_at fits slots bytes = do
-  index ← number_at w16 bytes
-  right ← tested (fits (entry_of slots index.0)) (BadIndex (length bytes))
-  Ok index
-
--- an index that names a text in this form
-unfoldable pub form_at : (Option Entry → Bool) → List (Option Entry) → List ℕ → Result (ℕ × List ℕ) Fault
-form_at form slots bytes = do
-  index ← index_at is_text slots bytes
-  right ← tested (form (entry_of slots index.0)) (BadDescriptor (length bytes))
-  Ok index
+use Rattle.code_decode.specs.Decoding.{code_at}
+use Rattle.class_reader.specs.Indices.{index_at, form_at}
+use Rattle.class_reader.specs.Handlers.{handlers_at}
+use Rattle.class_reader.specs.Maps.{map_at}
+use Rattle.class_reader.specs.Names.{is_code, is_constant_value, is_stack_map, is_own_class, is_field_name, is_field_type, is_method_name, is_method_type, fits_constant, is_repeated, fits_flags}
 
 -- ---- attributes (JVMS 4.7)
 
@@ -88,13 +73,6 @@ run_code_at bytes = do
   fits ← tested (nat_lt 0 len.0 && nat_lt len.0 65536) (BadLength (length bytes))
   run_at len.0 len.1
 
--- the handler table
-unfoldable pub handlers_at : ℕ → List ℕ → Result (List RawHandler × List ℕ) Fault
-handlers_at method bytes = do
-  count ← number_at w16 bytes
-  none ← tested (count.0 == 0) (BadTarget method 0)
-  Ok ([], count.1)
-
 -- the content of a Code attribute, of the method of this number
 unfoldable pub part_at : ℕ → List (Option Entry) → List ℕ → Result (CodePart × List ℕ) Fault
 part_at method slots bytes = do
@@ -102,9 +80,9 @@ part_at method slots bytes = do
   locals ← number_at w16 stack.1
   run ← run_code_at locals.1
   code ← code_at method slots run.0
-  handlers ← handlers_at method run.1
-  others ← all_skipped_at slots handlers.1
-  Ok (record { max_stack = stack.0; max_locals = locals.0; code = code; handlers = handlers.0; map = None }, others.1)
+  handlers ← handlers_at method slots code run.1
+  map ← attributes_at is_stack_map (map_at slots) slots handlers.1
+  Ok (record { max_stack = stack.0; max_locals = locals.0; code = code; handlers = handlers.0; map = map.0 }, map.1)
 
 -- a Code attribute behind its name
 unfoldable pub code_attribute_at : ℕ → List (Option Entry) → List ℕ → Result (CodePart × List ℕ) Fault

@@ -5,24 +5,17 @@ use Rattle.class_pool.specs.declared.pool.Entry.{Entry}
 use Rattle.class_pool.specs.Pool.{entry_of, is_text, is_class}
 use Rattle.class_pool.specs.Grammar.{Nothing, Then, Mapped, Tested, Number, Run, Counted, Sized, Chain}
 use Rattle.class_pool.specs.PoolGrammar.{PoolText}
-use Rattle.class_reader.specs.declared.parts.Code.{Code}
+use Rattle.code_decode.specs.declared.decoding.Code.{Code}
+use Rattle.code_decode.specs.CodeGrammar.{CodeText}
 use Rattle.class_reader.specs.declared.parts.CodePart.{CodePart}
 use Rattle.class_reader.specs.declared.parts.RawHandler.{RawHandler}
+use Rattle.class_reader.specs.declared.parts.MapPart.{MapPart}
 use Rattle.class_reader.specs.declared.parts.MemberPart.{MemberPart}
 use Rattle.class_reader.specs.declared.parts.ClassParts.{ClassParts}
-use Rattle.class_reader.specs.Code.{code_at}
-use Rattle.class_reader.specs.Names.{is_code, is_constant_value, is_own_class, is_field_name, is_field_type, is_method_name, is_method_type, fits_constant, is_repeated, fits_flags}
-
-abbrev pub Short : List ℕ → ℕ → Type 0
-Short = Number w16 (2 ^ 16)
-
--- an index that names an entry of this kind
-abbrev pub Index : (Option Entry → Bool) → List (Option Entry) → List ℕ → ℕ → Type 0
-Index fits slots = Then Short (λ i. Tested (fits (entry_of slots i)) (Nothing i))
-
--- an index that names a text in this form
-abbrev pub Form : (Option Entry → Bool) → List (Option Entry) → List ℕ → ℕ → Type 0
-Form form slots = Then (Index is_text slots) (λ i. Tested (form (entry_of slots i)) (Nothing i))
+use Rattle.class_reader.specs.Indices.{Short, Index, Form}
+use Rattle.class_reader.specs.Handlers.{HandlersText}
+use Rattle.class_reader.specs.MapGrammar.{MapText}
+use Rattle.class_reader.specs.Names.{is_code, is_constant_value, is_stack_map, is_own_class, is_field_name, is_field_type, is_method_name, is_method_type, fits_constant, is_repeated, fits_flags}
 
 -- ---- attributes (JVMS 4.7)
 
@@ -60,18 +53,12 @@ RunText = Then (Number w32 (2 ^ 32)) (λ n. Tested (nat_lt 0 n && nat_lt n 65536
 abbrev pub Beside : {A B : Type 0} → (A → Type 0) → (A → List ℕ → B → Type 0) → List ℕ → B → Type 0
 Beside {A = A} P T text y = (x : A) × P x × T x text y
 
--- the instructions that a run spells
-abbrev pub CodeText : ℕ → List (Option Entry) → List ℕ → Code → Type 0
-CodeText method slots run code = code_at method slots run ≡ Ok code
+abbrev pub part_of : ℕ → ℕ → Code → List RawHandler → Option MapPart → CodePart
+part_of stack locals code handlers map = record { max_stack = stack; max_locals = locals; code = code; handlers = handlers; map = map }
 
-abbrev pub HandlersText : List ℕ → List RawHandler → Type 0
-HandlersText = Then Short (λ n. Tested (n == 0) (Nothing []))
-
-abbrev pub part_of : ℕ → ℕ → Code → List RawHandler → CodePart
-part_of stack locals code handlers = record { max_stack = stack; max_locals = locals; code = code; handlers = handlers; map = None }
-
-abbrev pub PartText : ℕ → List (Option Entry) → List ℕ → CodePart → Type 0
-PartText method slots = Then Short (λ stack. Then Short (λ locals. Then RunText (λ run. Beside (CodeText method slots run) (λ code. Then HandlersText (λ handlers. Mapped (λ _. part_of stack locals code handlers) (AllSkippedText slots))))))
+abbrev pub PartText : List (Option Entry) → List ℕ → CodePart → Type 0
+PartText slots = Then Short (λ stack. Then Short (λ locals. Then RunText (λ run. Beside (CodeText slots run) (λ code. Then (HandlersText slots code) (λ handlers.
+    Mapped (part_of stack locals code handlers) (AttributesText is_stack_map (MapText slots) slots))))))
 
 -- ---- fields and methods (JVMS 4.5 and 4.6)
 
@@ -91,7 +78,7 @@ method_of flags name descriptor code = record { flags = flags; name = name; desc
 -- a method has code exactly where it is neither abstract nor native
 abbrev pub MethodText : List (Option Entry) → List MemberPart → List ℕ → MemberPart → Type 0
 MethodText slots before = Then Short (λ flags. Then (Form is_method_name slots) (λ name. Then (Form (is_method_type flags) slots) (λ descriptor. Tested (not (is_repeated slots before name descriptor))
-    (Then (AttributesText is_code (Sized (PartText (length before + 1) slots)) slots) (λ code. Tested (fits_flags flags (is_some code)) (Nothing (method_of flags name descriptor code)))))))
+    (Then (AttributesText is_code (Sized (PartText slots)) slots) (λ code. Tested (fits_flags flags (is_some code)) (Nothing (method_of flags name descriptor code)))))))
 
 abbrev pub MethodsText : List (Option Entry) → List ℕ → List MemberPart → Type 0
 MethodsText slots = Then Short (λ n. Counted (λ before _. MethodText slots before) [] n)

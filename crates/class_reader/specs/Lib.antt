@@ -1,5 +1,8 @@
 pub mod Names
-pub mod Code
+pub mod Indices
+pub mod Maps
+pub mod MapGrammar
+pub mod Handlers
 pub mod Class
 pub mod ClassGrammar
 pub mod Faults

@@ -1,8 +1,10 @@
 -- What an index of a class file must name, place by place.
-use Rattle.std.specs.Prelude.{ℕ, List, [], ◌∷◌, Option, Some, Bool, true, false, not, ◌==◌, ◌&&◌, ◌||◌, codes, bit_and, if◌then◌else◌}
+use Rattle.std.specs.Prelude.{ℕ, ◌+◌, List, [], ◌∷◌, Option, Some, None, Bool, true, false, not, nat_le, ◌==◌, ◌&&◌, ◌||◌, codes, bit_and, if◌then◌else◌}
 use Rattle.class_pool.specs.declared.pool.Entry.{Entry}
-use Rattle.class_pool.specs.declared.pool.Entry.TheVariants.{Utf8, Class, Integer, Long}
-use Rattle.class_pool.specs.Pool.{entry_of, is_named}
+use Rattle.class_pool.specs.declared.pool.Entry.TheVariants.{Utf8, Integer, Float, Long, Double, Class, Str}
+use Rattle.class_pool.specs.Pool.{entry_of, in_text}
+use Rattle.class_pool.specs.Names.{is_unqualified, is_field_descriptor, argument_units}
+use Rattle.class_pool.specs.Names as names
 use Rattle.class_reader.specs.declared.parts.MemberPart.{MemberPart}
 
 abbrev pub same_units : List ℕ → List ℕ → Bool
@@ -22,6 +24,9 @@ is_code entry = is_text_of (codes "Code") entry
 abbrev pub is_constant_value : Option Entry → Bool
 is_constant_value entry = is_text_of (codes "ConstantValue") entry
 
+abbrev pub is_stack_map : Option Entry → Bool
+is_stack_map entry = is_text_of (codes "StackMapTable") entry
+
 -- whether the text begins with a bracket, as an array's name does (JVMS 4.4.1)
 abbrev pub begins_array : Option Entry → Bool
 begins_array (Some (Utf8 (u ∷ units))) = u == 91
@@ -32,23 +37,39 @@ abbrev pub is_own_class : List (Option Entry) → Option Entry → Bool
 is_own_class slots (Some (Class name)) = not (begins_array (entry_of slots name))
 is_own_class slots _ = false
 
--- the forms of JVMS 4.2.2 and 4.3
+-- a field's name and descriptor (JVMS 4.2.2 and 4.3.2)
 abbrev pub is_field_name : Option Entry → Bool
-is_field_name entry = is_named entry
+is_field_name = in_text is_unqualified
 
 abbrev pub is_field_type : Option Entry → Bool
-is_field_type entry = is_named entry
+is_field_type = in_text is_field_descriptor
 
+-- a method's name and descriptor (JVMS 4.2.2 and 4.3.3)
 abbrev pub is_method_name : Option Entry → Bool
-is_method_name entry = is_named entry
+is_method_name = in_text names.is_method_name
+
+-- An instance method takes one argument unit more, for this; static is the flag 8 (JVMS 4.6).
+abbrev pub own_units : ℕ → ℕ
+own_units flags = if bit_and flags 8 == 0 then 1 else 0
+
+-- the argument units are at most 255 (JVMS 4.3.3)
+abbrev pub has_room : ℕ → Option ℕ → Bool
+has_room own None = false
+has_room own (Some units) = nat_le (own + units) 255
 
 abbrev pub is_method_type : ℕ → Option Entry → Bool
-is_method_type flags entry = is_named entry
+is_method_type flags entry = in_text (λ us. has_room (own_units flags) (argument_units us)) entry
 
 -- a constant that fits a field's descriptor (JVMS table 4.7.2-A)
+abbrev pub is_small : Option Entry → Bool
+is_small descriptor = is_text_of (codes "I") descriptor || is_text_of (codes "S") descriptor || is_text_of (codes "C") descriptor || is_text_of (codes "B") descriptor || is_text_of (codes "Z") descriptor
+
 abbrev pub fits_constant : Option Entry → Option Entry → Bool
-fits_constant descriptor (Some (Integer n)) = is_text_of (codes "I") descriptor
+fits_constant descriptor (Some (Integer n)) = is_small descriptor
+fits_constant descriptor (Some (Float n)) = is_text_of (codes "F") descriptor
 fits_constant descriptor (Some (Long n)) = is_text_of (codes "J") descriptor
+fits_constant descriptor (Some (Double n)) = is_text_of (codes "D") descriptor
+fits_constant descriptor (Some (Str text)) = is_text_of (codes "Ljava/lang/String;") descriptor
 fits_constant descriptor _ = false
 
 abbrev pub same_text : Option Entry → Option Entry → Bool

@@ -4,16 +4,18 @@ ghost use Rattle.std.specs.Prelude.{◌≡◌, ◌<◌, length, IfOk, None, List
 ghost use Rattle.class_pool.specs.Pool.{entry_of};
 ghost use Rattle.class_pool.specs.Reading.{Gives};
 ghost use Rattle.class_pool.specs.Loops.{folded};
-ghost use Rattle.class_reader.specs.Names.{is_code, is_constant_value};
-ghost use Rattle.class_reader.specs.Class.{other_at, once_at, attribute_at, attributes_at, skipped_at, all_skipped_at, constant_at, run_code_at, handlers_at, part_at, code_attribute_at};
+ghost use Rattle.class_reader.specs.Names.{is_code, is_constant_value, is_stack_map};
+ghost use Rattle.class_reader.specs.Maps.{map_at};
+ghost use Rattle.class_reader.specs.Class.{other_at, once_at, attribute_at, attributes_at, skipped_at, all_skipped_at, constant_at, run_code_at, part_at, code_attribute_at};
 
-use crate::code::code_of;
-use crate::names::{fitting_at, names_code, names_constant_value, text_at};
-use crate::parts::{CodePart, RawHandler};
+use crate::handlers::handlers_of;
+use crate::maps::map_of;
+use crate::names::{fitting_at, names_code, names_constant_value, names_stack_map, text_at};
+use crate::parts::{CodePart, MapPart};
 use class_pool::fault::wants;
 use class_pool::fields::{run_at, u16_at, u32_at};
 use class_pool::{Fault, Pool, ReadError};
-use et_base::Items;
+use code_decode::code_at;
 use std::alloc::Global;
 
 #[tactic(auto, unfolding(crate::specs::Class::other_at))]
@@ -154,17 +156,76 @@ fn run_of_code(bytes: &[u8]) -> Result<(&[u8], &[u8]), ReadError>
     run_at(len as usize, rest)
 }
 
-#[tactic(auto, unfolding(crate::specs::Class::handlers_at))]
-fn handlers_of(
+#[tactic(auto, unfolding(crate::specs::Class::once_at))]
+fn map_once<'a>(
     alloc: Global,
-    method: u32,
-    bytes: &[u8],
-) -> Result<(Items<RawHandler>, &[u8]), ReadError>
-    ensures { Gives (λ x. (x.0, x.1.now)) result (handlers_at method bytes.now) }
+    pool: &Pool,
+    wanted: bool,
+    found: Option<MapPart>,
+    left: usize,
+    bytes: &'a [u8],
+) -> Result<(Option<MapPart>, &'a [u8]), ReadError>
+    ensures { Gives (λ x. (x.0, x.1.now)) result (once_at wanted (map_at pool.now) found left bytes.now) }
+{
+    if wanted {
+        wants(found.is_none(), Fault::Repeated(left))?;
+        let (map, rest) = map_of(alloc, pool, bytes)?;
+        Ok((Some(map), rest))
+    } else {
+        let (_, rest) = after_other(bytes)?;
+        Ok((found, rest))
+    }
+}
+
+#[tactic(auto, unfolding(crate::specs::Class::attribute_at))]
+fn code_attribute<'a>(
+    alloc: Global,
+    pool: &Pool,
+    found: Option<MapPart>,
+    bytes: &'a [u8],
+) -> Result<(Option<MapPart>, &'a [u8]), ReadError>
+    ensures { Gives (λ x. (x.0, x.1.now)) result (attribute_at is_stack_map (map_at pool.now) pool.now found bytes.now) }
+{
+    let (name, rest) = text_at(pool, bytes)?;
+    map_once(
+        alloc,
+        pool,
+        names_stack_map(pool, name),
+        found,
+        bytes.len(),
+        rest,
+    )
+}
+
+fn code_folded<'a>(
+    alloc: Global,
+    pool: &Pool,
+    count: u16,
+    bytes: &'a [u8],
+) -> Result<(Option<MapPart>, &'a [u8]), ReadError>
+    ensures { Gives (λ x. (x.0, x.1.now)) result (folded (λ found b. attribute_at is_stack_map (map_at pool.now) pool.now found b) None count bytes.now) }
+{
+    let mut found = None;
+    let mut rest = bytes;
+    for i in 0..count {
+        let (now, next) = code_attribute(alloc, pool, found, rest)?;
+        found = now;
+        rest = next;
+    }
+    Ok((found, rest))
+}
+
+// The attributes of a code: its stack map, where there is one.
+#[tactic(auto, unfolding(crate::specs::Class::attributes_at))]
+fn code_attributes<'a>(
+    alloc: Global,
+    pool: &Pool,
+    bytes: &'a [u8],
+) -> Result<(Option<MapPart>, &'a [u8]), ReadError>
+    ensures { Gives (λ x. (x.0, x.1.now)) result (attributes_at is_stack_map (map_at pool.now) pool.now bytes.now) }
 {
     let (count, rest) = u16_at(bytes)?;
-    wants(count == 0, Fault::BadTarget { method, pc: 0 })?;
-    Ok((Items::new(alloc), rest))
+    code_folded(alloc, pool, count, rest)
 }
 
 #[tactic(auto, unfolding(crate::specs::Class::part_at))]
@@ -179,16 +240,16 @@ fn part_of<'a>(
     let (max_stack, rest) = u16_at(bytes)?;
     let (max_locals, rest) = u16_at(rest)?;
     let (run, rest) = run_of_code(rest)?;
-    let code = code_of(alloc, method, pool, run)?;
-    let (handlers, rest) = handlers_of(alloc, method, rest)?;
-    let (_, rest) = after_all(pool, rest)?;
+    let (code, starts) = code_at(alloc, method, pool, run)?;
+    let (handlers, rest) = handlers_of(alloc, method, pool, &code, &starts, rest)?;
+    let (map, rest) = code_attributes(alloc, pool, rest)?;
     Ok((
         CodePart {
             max_stack,
             max_locals,
             code,
             handlers,
-            map: None,
+            map,
         },
         rest,
     ))

@@ -5,7 +5,8 @@ ghost use Rattle.class_pool.specs.Pool.{is_class};
 ghost use Rattle.class_pool.specs.Reading.{Gives};
 ghost use Rattle.class_pool.specs.Loops.{counted};
 ghost use Rattle.class_reader.specs.declared.parts.ClassParts.{ClassParts};
-ghost use Rattle.class_reader.specs.Class.{index_at, head_at, interfaces_at, members_at, body_at, class_at};
+ghost use Rattle.class_reader.specs.Class.{head_at, interfaces_at, members_at, body_at, class_at};
+ghost use Rattle.class_reader.specs.Indices.{index_at};
 ghost use Rattle.class_reader.specs.ClassGrammar.{class_bytes};
 ghost use Rattle.class_reader.specs.Faults.{shown, class_of, Answers};
 

@@ -3,15 +3,16 @@
 
 mod attributes;
 mod class;
-mod code;
 mod fault;
+mod handlers;
+mod maps;
 mod members;
 mod names;
 mod parts;
 
 pub use class::read_class;
+pub use code_decode::{Code, RawOp};
 pub use fault::ClassFault;
 pub use parts::{
-    ClassFile, ClassParts, Code, CodePart, MapFrame, MapPart, MapType, MemberPart, RawHandler,
-    RawOp,
+    ClassFile, ClassParts, CodePart, MapFrame, MapPart, MapType, MemberPart, RawHandler,
 };

@@ -1,17 +1,24 @@
 //! What an index of a class file must name, place by place.
 
-ghost use Rattle.std.specs.Prelude.{◌≡◌, List, codes, bit_and, ◌==◌, Option};
-ghost use Rattle.class_pool.specs.Pool.{entry_of, is_text, is_class, is_named, has_no_dot};
+ghost use Rattle.std.specs.Prelude.{◌≡◌, ◌≤◌};
+ghost use Rattle.class_pool.specs.Pool.{entry_of, is_text, is_class};
 ghost use Rattle.class_pool.specs.Reading.{Gives};
-ghost use Rattle.class_reader.specs.Names.{same_units, is_text_of, is_code, is_constant_value, begins_array, is_own_class, is_field_name, is_field_type, is_method_name, is_method_type, fits_constant, same_text, is_repeated, fits_flags};
-ghost use Rattle.class_reader.specs.Class.{index_at, form_at};
+ghost use Rattle.class_reader.specs.Names.{same_units, is_text_of, is_code, is_constant_value, is_stack_map, own_units, has_room, is_small, begins_array, is_own_class, is_field_name, is_field_type, is_method_name, is_method_type, fits_constant, same_text, is_repeated, fits_flags};
+ghost use Rattle.class_reader.specs.Indices.{index_at, form_at};
 
 use crate::parts::MemberPart;
 use class_pool::fault::wants;
 use class_pool::fields::u16_at;
+use class_pool::names::{argument_units, is_field_descriptor, is_method_name, is_unqualified};
 use class_pool::{Entry, Fault, Pool, ReadError};
 
 const CODE: [u16; 4] = [67, 111, 100, 101];
+
+const STACK_MAP_TABLE: [u16; 13] = [83, 116, 97, 99, 107, 77, 97, 112, 84, 97, 98, 108, 101];
+
+const STRING: [u16; 18] = [
+    76, 106, 97, 118, 97, 47, 108, 97, 110, 103, 47, 83, 116, 114, 105, 110, 103, 59,
+];
 
 const CONSTANT_VALUE: [u16; 13] = [67, 111, 110, 115, 116, 97, 110, 116, 86, 97, 108, 117, 101];
 
@@ -42,6 +49,13 @@ pub fn names_constant_value(pool: &Pool, index: u16) -> bool
     ensures { result ≡ is_constant_value (entry_of pool.now index) }
 {
     is_text_of(pool, index, &CONSTANT_VALUE)
+}
+
+/// Whether the index names the text `StackMapTable`.
+pub fn names_stack_map(pool: &Pool, index: u16) -> bool
+    ensures { result ≡ is_stack_map (entry_of pool.now index) }
+{
+    is_text_of(pool, index, &STACK_MAP_TABLE)
 }
 
 /// Whether the index names a text.
@@ -83,53 +97,70 @@ pub fn names_own_class(pool: &Pool, index: u16) -> bool
     }
 }
 
-fn has_no_dot(units: &[u16]) -> bool
-    ensures { result ≡ has_no_dot units.now }
-{
-    for unit in units {
-        if *unit == 46 {
-            return false;
-        }
-    }
-    true
-}
-
-fn is_named(pool: &Pool, index: u16) -> bool
-    ensures { result ≡ is_named (entry_of pool.now index) }
-{
-    match pool.entry(index) {
-        Some(Entry::Utf8(units)) => 0 < units.len() && has_no_dot(units.as_slice()),
-        _ => false,
-    }
-}
-
 /// Whether the index names a field's name (JVMS 4.2.2).
 pub fn names_field(pool: &Pool, index: u16) -> bool
     ensures { result ≡ is_field_name (entry_of pool.now index) }
 {
-    is_named(pool, index)
+    match pool.entry(index) {
+        Some(Entry::Utf8(units)) => is_unqualified(units.as_slice()),
+        _ => false,
+    }
 }
 
 /// Whether the index names a field's descriptor (JVMS 4.3.2).
 pub fn names_field_type(pool: &Pool, index: u16) -> bool
     ensures { result ≡ is_field_type (entry_of pool.now index) }
 {
-    is_named(pool, index)
+    match pool.entry(index) {
+        Some(Entry::Utf8(units)) => is_field_descriptor(units.as_slice()),
+        _ => false,
+    }
 }
 
 /// Whether the index names a method's name (JVMS 4.2.2).
 pub fn names_method(pool: &Pool, index: u16) -> bool
     ensures { result ≡ is_method_name (entry_of pool.now index) }
 {
-    is_named(pool, index)
+    match pool.entry(index) {
+        Some(Entry::Utf8(units)) => is_method_name(units.as_slice()),
+        _ => false,
+    }
+}
+
+fn own_units(flags: u16) -> u16
+    ensures { result ≡ own_units flags }
+{
+    if flags & 0x0008 == 0 { 1 } else { 0 }
+}
+
+fn has_room(own: u16, units: Option<u8>) -> bool
+    requires { own ≤ 1 }
+    ensures { result ≡ has_room own units }
+{
+    match units {
+        None => false,
+        Some(units) => own + units as u16 <= 255,
+    }
 }
 
 /// Whether the index names a method's descriptor, at these access flags (JVMS 4.3.3).
 pub fn names_method_type(pool: &Pool, flags: u16, index: u16) -> bool
     ensures { result ≡ is_method_type flags (entry_of pool.now index) }
 {
-    let _ = flags;
-    is_named(pool, index)
+    match pool.entry(index) {
+        Some(Entry::Utf8(units)) => has_room(own_units(flags), argument_units(units.as_slice())),
+        _ => false,
+    }
+}
+
+fn is_small(pool: &Pool, descriptor: u16) -> bool
+    ensures { result ≡ is_small (entry_of pool.now descriptor) }
+{
+    is_text_of(pool, descriptor, &[73])
+        || is_text_of(pool, descriptor, &[83])
+        || is_text_of(pool, descriptor, &[67])
+        || is_text_of(pool, descriptor, &[66])
+        || is_text_of(pool, descriptor, &[90])
 }
 
 /// Whether the index names a constant that fits the descriptor (JVMS table 4.7.2-A).
@@ -137,8 +168,11 @@ pub fn fits_constant(pool: &Pool, descriptor: u16, index: u16) -> bool
     ensures { result ≡ fits_constant (entry_of pool.now descriptor) (entry_of pool.now index) }
 {
     match pool.entry(index) {
-        Some(Entry::Integer(_)) => is_text_of(pool, descriptor, &[73]),
+        Some(Entry::Integer(_)) => is_small(pool, descriptor),
+        Some(Entry::Float(_)) => is_text_of(pool, descriptor, &[70]),
         Some(Entry::Long(_)) => is_text_of(pool, descriptor, &[74]),
+        Some(Entry::Double(_)) => is_text_of(pool, descriptor, &[68]),
+        Some(Entry::Str { .. }) => is_text_of(pool, descriptor, &STRING),
         _ => false,
     }
 }
@@ -173,7 +207,7 @@ pub fn fits_flags(flags: u16, there: bool) -> bool
 }
 
 /// An index that names a text.
-#[tactic(auto, unfolding(crate::specs::Class::index_at))]
+#[tactic(auto, unfolding(crate::specs::Indices::index_at))]
 pub fn text_at<'a>(pool: &Pool, bytes: &'a [u8]) -> Result<(u16, &'a [u8]), ReadError>
     ensures { Gives (λ x. (x.0, x.1.now)) result (index_at is_text pool.now bytes.now) }
 {
@@ -183,7 +217,7 @@ pub fn text_at<'a>(pool: &Pool, bytes: &'a [u8]) -> Result<(u16, &'a [u8]), Read
 }
 
 /// An index that names a class.
-#[tactic(auto, unfolding(crate::specs::Class::index_at))]
+#[tactic(auto, unfolding(crate::specs::Indices::index_at))]
 pub fn class_at<'a>(pool: &Pool, bytes: &'a [u8]) -> Result<(u16, &'a [u8]), ReadError>
     ensures { Gives (λ x. (x.0, x.1.now)) result (index_at is_class pool.now bytes.now) }
 {
@@ -193,7 +227,7 @@ pub fn class_at<'a>(pool: &Pool, bytes: &'a [u8]) -> Result<(u16, &'a [u8]), Rea
 }
 
 /// An index that names a class that is no array.
-#[tactic(auto, unfolding(crate::specs::Class::index_at))]
+#[tactic(auto, unfolding(crate::specs::Indices::index_at))]
 pub fn own_class_at<'a>(pool: &Pool, bytes: &'a [u8]) -> Result<(u16, &'a [u8]), ReadError>
     ensures { Gives (λ x. (x.0, x.1.now)) result (index_at (is_own_class pool.now) pool.now bytes.now) }
 {
@@ -203,7 +237,7 @@ pub fn own_class_at<'a>(pool: &Pool, bytes: &'a [u8]) -> Result<(u16, &'a [u8]),
 }
 
 /// An index that names a constant that fits the descriptor.
-#[tactic(auto, unfolding(crate::specs::Class::index_at))]
+#[tactic(auto, unfolding(crate::specs::Indices::index_at))]
 pub fn fitting_at<'a>(
     pool: &Pool,
     descriptor: u16,
@@ -220,7 +254,7 @@ pub fn fitting_at<'a>(
 }
 
 /// An index that names a field's name.
-#[tactic(auto, unfolding(crate::specs::Class::form_at))]
+#[tactic(auto, unfolding(crate::specs::Indices::form_at))]
 pub fn field_name_at<'a>(pool: &Pool, bytes: &'a [u8]) -> Result<(u16, &'a [u8]), ReadError>
     ensures { Gives (λ x. (x.0, x.1.now)) result (form_at is_field_name pool.now bytes.now) }
 {
@@ -230,7 +264,7 @@ pub fn field_name_at<'a>(pool: &Pool, bytes: &'a [u8]) -> Result<(u16, &'a [u8])
 }
 
 /// An index that names a field's descriptor.
-#[tactic(auto, unfolding(crate::specs::Class::form_at))]
+#[tactic(auto, unfolding(crate::specs::Indices::form_at))]
 pub fn field_type_at<'a>(pool: &Pool, bytes: &'a [u8]) -> Result<(u16, &'a [u8]), ReadError>
     ensures { Gives (λ x. (x.0, x.1.now)) result (form_at is_field_type pool.now bytes.now) }
 {
@@ -243,7 +277,7 @@ pub fn field_type_at<'a>(pool: &Pool, bytes: &'a [u8]) -> Result<(u16, &'a [u8])
 }
 
 /// An index that names a method's name.
-#[tactic(auto, unfolding(crate::specs::Class::form_at))]
+#[tactic(auto, unfolding(crate::specs::Indices::form_at))]
 pub fn method_name_at<'a>(pool: &Pool, bytes: &'a [u8]) -> Result<(u16, &'a [u8]), ReadError>
     ensures { Gives (λ x. (x.0, x.1.now)) result (form_at is_method_name pool.now bytes.now) }
 {
@@ -253,7 +287,7 @@ pub fn method_name_at<'a>(pool: &Pool, bytes: &'a [u8]) -> Result<(u16, &'a [u8]
 }
 
 /// An index that names a method's descriptor, at these access flags.
-#[tactic(auto, unfolding(crate::specs::Class::form_at))]
+#[tactic(auto, unfolding(crate::specs::Indices::form_at))]
 pub fn method_type_at<'a>(
     pool: &Pool,
     flags: u16,

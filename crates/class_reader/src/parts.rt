@@ -3,30 +3,9 @@
 ghost use Rattle.std.specs.Prelude.{◌≡◌};
 
 use class_pool::Pool;
+use code_decode::Code;
 use et_base::Items;
 use std::marker::Model;
-
-/// The instructions of a method (JVMS 4.7.3).
-#[derive(Debug, Drop)]
-pub struct Code {
-    /// The number of bytes.
-    pub length: u32,
-    /// The instructions in order.
-    pub ops: Items<RawOp>,
-}
-
-/// An instruction with its place and operands (JVMS 6.5).
-#[derive(Debug, Drop)]
-pub struct RawOp {
-    /// The place of its opcode in the code.
-    pub pc: u32,
-    /// The opcode; behind a wide prefix the one that it widens.
-    pub opcode: u8,
-    /// Whether it stands behind a wide prefix.
-    pub wide: bool,
-    /// Its operands in order, without padding, targets as places.
-    pub args: Items<i32>,
-}
 
 /// A row of a handler table (JVMS 4.7.3).
 #[derive(Clone, Copy, Debug, PartialEq, Eq)]

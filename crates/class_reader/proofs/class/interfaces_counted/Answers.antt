@@ -1,7 +1,7 @@
 use Rattle.std.proofs.Common.{arith}
 use Rattle.std.proofs.lemmas.Result.{err_from_is_err_and}
 use Rattle.class_pool.specs.Pool.{is_class}
-use Rattle.class_reader.specs.Class.{index_at}
+use Rattle.class_reader.specs.Indices.{index_at}
 use Rattle.class_pool.proofs.Loops.{counted_on, counted_fails, counted_done}
 use Rattle.class_reader.proofs.class.interfaces_counted.Goals as goal
 

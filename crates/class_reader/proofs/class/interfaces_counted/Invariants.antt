@@ -1,7 +1,7 @@
 use Rattle.std.proofs.Common.{◌≡◌, ◌-◌, []}
 use Rattle.class_pool.specs.Loops.{counted}
 use Rattle.class_pool.specs.Pool.{is_class}
-use Rattle.class_reader.specs.Class.{index_at}
+use Rattle.class_reader.specs.Indices.{index_at}
 use Rattle.class_reader.proofs.class.interfaces_counted.Given as goal
 
 abbrev pub invariant-loop-i : goal.invariant-loop-i

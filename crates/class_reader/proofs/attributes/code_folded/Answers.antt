@@ -1,0 +1,18 @@
+use Rattle.std.proofs.Common.{arith}
+use Rattle.std.proofs.lemmas.Result.{err_from_is_err_and}
+use Rattle.class_reader.specs.Names.{is_stack_map}
+use Rattle.class_reader.specs.Class.{attribute_at}
+use Rattle.class_reader.specs.Maps.{map_at}
+use Rattle.class_pool.proofs.Loops.{folded_on, folded_fails, folded_done}
+use Rattle.class_reader.proofs.attributes.code_folded.Goals as goal
+
+pub returns-in_err-now : goal.returns-in_err-now
+returns-in_err-now c =
+    let p = err_from_is_err_and c.from_residual.result c.from_residual.ensures.1 in
+    rw (p.1, p.2) (folded_fails c.in_err-now.field-0.0 (λ found b. attribute_at is_stack_map (map_at c.args.pool.now) c.args.pool.now found b) c.loop-i.found _ c.loop-i.i c.loop-i.rest.now _ c.loop-i-test.true c.in_err-now.ensures c.loop-i.invariant)
+
+pub loop-i-preserved : goal.loop-i-preserved
+loop-i-preserved c = folded_on (λ found b. attribute_at is_stack_map (map_at c.args.pool.now) c.args.pool.now found b) c.loop-i.found _ c.loop-i.i c.loop-i.rest.now (c.in_ok-now.now, c.in_ok-now.next.now) _ c.loop-i-test.true c.in_ok-now.ensures c.loop-i.invariant
+
+pub returns : goal.returns
+returns c = folded_done (λ found b. attribute_at is_stack_map (map_at c.args.pool.now) c.args.pool.now found b) c.loop-i.found _ c.loop-i.i c.loop-i.rest.now _ (omega arith) c.loop-i.invariant
