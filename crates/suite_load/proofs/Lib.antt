@@ -1,2 +1,5 @@
+pub mod ContentLaws
 pub mod NumberLaws
+pub mod ReadingLaws
 pub mod SetLaws
+pub mod SummaryLaws

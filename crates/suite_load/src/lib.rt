@@ -1,11 +1,16 @@
 //! Loading of a suite: its text, and what the text names.
 #![tactic(auto)]
 
+mod content;
 mod cut;
+
+mod lines_before;
 mod name_set;
 mod names;
 mod numbers;
+mod suite_line;
 mod suite_text;
+mod test_line;
 
 pub use names::{is_depot_name, is_test_name};
 pub use suite_text::{FileLine, SuiteRefusal, SuiteText, TestLine, Why};

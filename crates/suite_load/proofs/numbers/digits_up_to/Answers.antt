@@ -15,8 +15,9 @@ loop-b-preserved c =
     let e = at_drop_more (digits_after c.args.most c.loop-b.value) c.args.bytes.now c.loop-b.b-index 0 c.loop-b-test.true in
     grind (arith, common_steps)
 
-pub returns : goal.returns
-returns c =
+pub returns-clause-value : goal.returns-clause-value
+returns-clause-value c =
     let s = digits_by_steps c.args.most c.args.bytes.now in
     let e = at_drop_all (digits_after c.args.most c.loop-b.value) c.args.bytes.now c.loop-b.b-index (omega arith) in
+    let i = c.loop-b.invariant.0 in
     cc
