@@ -1,4 +1,5 @@
 pub mod ContentLaws
+pub mod LineLaws
 pub mod NumberLaws
 pub mod ReadingLaws
 pub mod SetLaws

@@ -1,5 +1,5 @@
 -- Refusals that name a fault.
-use Rattle.std.proofs.Common.{◌≡◌, Result, Err, ap, sym}
+use Rattle.std.proofs.Common.{Err, ap}
 use Rattle.suite_load.specs.declared.suite_text.SuiteRefusal.{SuiteRefusal}
 use Rattle.suite_load.specs.declared.suite_text.SuiteRefusal.TheVariants.{Suite, NoMemory}
 use Rattle.suite_load.specs.Reading.{Fails, Names}

@@ -1,5 +1,5 @@
 -- Lines of a text, and their fields (this project's).
-use Rattle.std.specs.Prelude.{ℕ, ◌+◌, ◌==◌, Bool, true, false, List, [], ◌∷◌, length, take, drop, position, Option, None, Some, if◌then◌else◌}
+use Rattle.std.specs.Prelude.{ℕ, ◌+◌, ◌==◌, Bool, true, false, List, [], ◌∷◌, length, take, drop, position, Option, None, Some, is_some, unwrap_or, if◌then◌else◌}
 use Rattle.std.specs.List.{slice_split}
 
 -- the bytes before a place and those after it
@@ -25,3 +25,10 @@ rows_of_pieces (piece ∷ next ∷ more) = record { bytes = piece; ended = true 
 -- the lines of a text; 10 is the line feed
 unfoldable pub rows : List ℕ → List Row
 rows text = rows_of_pieces (slice_split (λ b. b == 10) text)
+
+-- the first line of a text that isn't empty, and the text after it; 10 is the line feed
+abbrev pub first_row : List ℕ → Row
+first_row text = record { bytes = (cut 10 text).0; ended = is_some (cut 10 text).1 }
+
+abbrev pub rest_of : List ℕ → List ℕ
+rest_of text = unwrap_or (cut 10 text).1 []

@@ -8,8 +8,7 @@ ghost use Rattle.suite_load.specs.Reading.{Names};
 
 use crate::name_set::NameSet;
 use crate::suite_line::SuiteLine;
-use crate::suite_text::{FileLine, SuiteRefusal, TestLine, Why};
-use crate::test_line::units_of;
+use crate::suite_text::{SuiteRefusal, TestLine, Why};
 use et_base::{NoMemory, Text, Units};
 use std::alloc::Global;
 use std::marker::Model;
@@ -127,8 +126,23 @@ impl LinesBefore {
         }
     }
 
-    /// The lines and the header.
-    pub fn with_header(self) -> Result<LinesBefore, NoMemory>
+    /// The lines with one more, whose name doesn't stand in a line of its kind.
+    pub fn with(self, alloc: Global, line: SuiteLine) -> Result<LinesBefore, NoMemory>
+        requires { form.IsNew self line }
+        ensures { IfOk result (λ b. b ≡ self ++ line ∷ []) }
+    {
+        match line {
+            SuiteLine::Header => self.with_header(),
+            SuiteLine::Budget(units) => self.with_budget(units),
+            SuiteLine::Class(name) => self.with_class(alloc, name),
+            SuiteLine::File(name, content) => self.with_file(alloc, name, content),
+            SuiteLine::Test(test) => self.with_test(alloc, test),
+            SuiteLine::End => self.with_end(),
+        }
+    }
+
+    // The lines and the header.
+    fn with_header(self) -> Result<LinesBefore, NoMemory>
         ensures { IfOk result (λ b. b ≡ self ++ SuiteLine.Header ∷ []) }
     {
         let LinesBefore {
@@ -150,8 +164,8 @@ impl LinesBefore {
         })
     }
 
-    /// The lines and a budget.
-    pub fn with_budget(self, units: u64) -> Result<LinesBefore, NoMemory>
+    // The lines and a budget.
+    fn with_budget(self, units: u64) -> Result<LinesBefore, NoMemory>
         ensures { IfOk result (λ b. b ≡ self ++ SuiteLine.Budget units ∷ []) }
     {
         let LinesBefore {
@@ -173,8 +187,8 @@ impl LinesBefore {
         })
     }
 
-    /// The lines and a class file, whose name doesn't stand yet.
-    pub fn with_class(self, alloc: Global, name: Text) -> Result<LinesBefore, NoMemory>
+    // The lines and a class file, whose name doesn't stand yet.
+    fn with_class(self, alloc: Global, name: Text) -> Result<LinesBefore, NoMemory>
         requires { list_any (bytes_eq name) (form.class_names self) ≡ false }
         ensures { IfOk result (λ b. b ≡ self ++ SuiteLine.Class name ∷ []) }
     {
@@ -198,15 +212,10 @@ impl LinesBefore {
         })
     }
 
-    /// The lines and a file, whose name doesn't stand yet.
-    pub fn with_file(
-        self,
-        alloc: Global,
-        name: &[u8],
-        content: Units,
-    ) -> Result<LinesBefore, NoMemory>
-        requires { list_any (bytes_eq name.now) (form.file_names self) ≡ false }
-        ensures { IfOk result (λ b. b ≡ self ++ SuiteLine.File (record { name = name.now; content = content }) ∷ []) }
+    // The lines and a file, whose name doesn't stand yet.
+    fn with_file(self, alloc: Global, name: Text, content: Units) -> Result<LinesBefore, NoMemory>
+        requires { list_any (bytes_eq name) (form.file_names self) ≡ false }
+        ensures { IfOk result (λ b. b ≡ self ++ SuiteLine.File name content ∷ []) }
     {
         let LinesBefore {
             mut lines,
@@ -216,9 +225,8 @@ impl LinesBefore {
             files,
             tests,
         } = self;
-        let files = files.with(alloc, name)?;
-        let name = units_of(alloc, name)?;
-        lines.push(SuiteLine::File(FileLine { name, content }))?;
+        let files = files.with(alloc, name.as_slice())?;
+        lines.push(SuiteLine::File(name, content))?;
         Ok(LinesBefore {
             lines,
             last: last.max(FILE),
@@ -229,8 +237,8 @@ impl LinesBefore {
         })
     }
 
-    /// The lines and a test, whose name doesn't stand yet.
-    pub fn with_test(self, alloc: Global, test: TestLine) -> Result<LinesBefore, NoMemory>
+    // The lines and a test, whose name doesn't stand yet.
+    fn with_test(self, alloc: Global, test: TestLine) -> Result<LinesBefore, NoMemory>
         requires { list_any (bytes_eq test.name) (form.test_names self) ≡ false }
         ensures { IfOk result (λ b. b ≡ self ++ SuiteLine.Test test ∷ []) }
     {
@@ -254,8 +262,8 @@ impl LinesBefore {
         })
     }
 
-    /// The lines and the end.
-    pub fn with_end(self) -> Result<LinesBefore, NoMemory>
+    // The lines and the end.
+    fn with_end(self) -> Result<LinesBefore, NoMemory>
         ensures { IfOk result (λ b. b ≡ self ++ SuiteLine.End ∷ []) }
     {
         let LinesBefore {

@@ -1,6 +1,5 @@
-use Rattle.std.proofs.Common.{◌≡◌, sym, ap, ◌∙◌, rules, arith, eqb, true, false, length}
-use Rattle.suite_load.specs.ContentForm.{content_of}
-use Rattle.suite_load.proofs.ContentLaws.{with_front, front_grows, front_fails, front_ends, front_starts}
+use Rattle.std.proofs.Common.{sym, ◌∙◌}
+use Rattle.suite_load.proofs.ContentLaws.{front_grows, front_fails, front_ends, front_starts}
 use Rattle.suite_load.proofs.content.content_of.Goals as goal
 
 pub returns-in_default : goal.returns-in_default

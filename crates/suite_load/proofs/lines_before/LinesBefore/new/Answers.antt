@@ -1,5 +1,4 @@
-use Rattle.std.proofs.Common.{rules, sym, refl, ap, ◌∙◌}
-use Rattle.std.proofs.lemmas.Bool.{le-leb}
+use Rattle.std.proofs.Common.{rules, refl}
 use Rattle.suite_load.specs.SuiteForm.{is_in_order, is_ended, suite_from}
 use Rattle.suite_load.proofs.lines_before.LinesBefore.new.Goals as goal
 
