@@ -1,0 +1,15 @@
+use Rattle.std.proofs.Common.{true}
+use Rattle.std.proofs.Math.Bool.{or-true}
+use Rattle.suite_load.specs.declared.suite_line.SuiteLine.TheVariants.{End}
+use Rattle.suite_load.proofs.SummaryLaws.{summary_more}
+use Rattle.suite_load.proofs.lines_before.LinesBefore.with_end.Goals as goal
+
+pub invariant_of-result : goal.invariant_of-result
+invariant_of-result c =
+    let b = c.self.inside in
+    let s = c.self.invariant in
+    rw (c.in_ok-push.ensures.items, c.max.ensures)
+    (summary_more b.lines.items b.last b.ended b.classes b.files b.tests s End true _ _ _ (or-true b.ended)
+    (s.class_list)
+    (s.file_list)
+    (s.test_list))
