@@ -16,9 +16,10 @@ use Rattle.jvm_model.specs.Step.{step, row, row_here}
 use Rattle.jvm_model.specs.Rows.{begin}
 use Rattle.jvm_model.specs.RowsMoves.{row_moves}
 use Rattle.jvm_model.specs.RowsStatics.{row_statics, read_static, write_static}
-use Rattle.jvm_model.specs.RowsCalls.{row_calls, calls}
+use Rattle.jvm_model.specs.RowsCalls.{row_calls, calls, argument_count}
 use Rattle.jvm_model.specs.RowsReturn.{row_return, hands_on}
 use Rattle.jvm_model.specs.Natives.{row_native}
+use Rattle.jvm_model.specs.NativesOutside.{native_env}
 use Rattle.jvm_model.specs.Driver.{drive, drives, drive_first, judge}
 use Rattle.jvm_model.proofs.ExampleParts.{program, class, placed, body, static_method, static_int, test}
 
@@ -45,5 +46,5 @@ counter_suite = program (class (codes "Counter") (2 ∷ []) (102 ∷ 103 ∷ [])
     [] (test 32 102 ∷ test 32 103 ∷ [])
 
 counter_runs : outcomes (runs counter_suite (all_tests counter_suite)) ≡ Some (passed [] 6 ∷ passed (codes "5" ++ 10 ∷ []) 8 ∷ [])
-unfolding builtin_classes builtin_fields builtin_methods builtin_defs class_bound own_interfaces default_interfaces is_trivial form_at next_place opening tree one_test runs step row row_here begin row_return hands_on drive drives drive_first judge row_moves row_statics read_static write_static row_calls calls parameters return_letter narrow row_native digits
+unfolding builtin_classes builtin_fields builtin_methods builtin_defs class_bound own_interfaces default_interfaces is_trivial form_at next_place opening tree one_test runs step row row_here begin row_return hands_on drive drives drive_first judge row_moves row_statics read_static write_static row_calls calls argument_count parameters return_letter narrow row_native native_env digits
 counter_runs = refl

@@ -11,7 +11,7 @@ use Rattle.jvm_model.specs.Access.{Access, done, read, make, spend, bind}
 use Rattle.jvm_model.specs.Builtin.{abstract_method_error, assertion_error, message_field}
 use Rattle.jvm_model.specs.Classes.{class_at, method_at, literal_at, upwards, is_below, is_static, layout, blank, instance_head, init_name}
 use Rattle.jvm_model.specs.Entries.{with_entry, frame_of, frame_cost}
-use Rattle.jvm_model.specs.Raising.{class_of}
+use Rattle.jvm_model.specs.Kinds.{class_of}
 use Rattle.jvm_model.specs.Rows.{Used, ready, begun, refused, begin}
 use Rattle.jvm_model.specs.State.{Stage, first, made, built, set_up, called, last, State, Turn, next, ended, no_turn, test_at, with_entries}
 use Rattle.jvm_model.specs.Throwing.{throws}
