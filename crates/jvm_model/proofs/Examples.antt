@@ -157,13 +157,6 @@ conflict_suite = program
     ∷ fixed 35 (codes "go") (codes "()V") (body 2 0 ((3, form.New 34) ∷ dup ∷ (3, form.InvokeSpecial (kind.Class 34) 104) ∷ (5, form.InvokeInterface 32 102) ∷ returns ∷ [])) ∷ [])
     [] (test 35 105 ∷ [])
 
--- a method that calls itself until no entry may be pushed
-abbrev recursion_suite : Program
-recursion_suite = program (class (codes "R") (2 ∷ []) (102 ∷ 103 ∷ []) ∷ []) (static_int 32 (codes "d") ∷ [])
-    (fixed 32 (codes "down") (codes "()V") (body 2 0 (get_static 2 ∷ int_const 1 ∷ (1, form.Binary Add false) ∷ put_static 2 ∷ call_static 102 ∷ returns ∷ []))
-    ∷ fixed 32 (codes "deep") (codes "()V") (record (body 1 0 (call_static 102 ∷ returns ∷ (1, form.Pop) ∷ get_static 2 ∷ print_number)) { handlers = record { from = 0; to = 3; at = 4; catches = Some 18 } ∷ [] }) ∷ [])
-    [] (test 32 103 ∷ [])
-
 return_runs : outcomes (runs return_suite (all_tests return_suite)) ≡ Some (passed [] 3 ∷ [])
 unfolding builtin_classes builtin_fields builtin_methods builtin_defs class_bound own_interfaces is_below implements default_interfaces is_trivial layout blank form_at next_place parameters return_letter narrow opening tree one_test runs step row row_here row_throw throws row_raise handler_for row_finish row_fail parts_of begin row_moves row_arith row_branches row_statics read_static write_static row_fields row_create new_object row_calls calls argument_count row_return hands_on kept_method select select_virtual select_interface select_special row_native native_object native_throwable native_string native_builder native_system native_print native_files native_env drive drives drive_first drive_init drive_set_up drive_method drive_tear_down judge digits add64 utf16_chars encode
 return_runs = refl

@@ -5,3 +5,4 @@ pub mod Fuel
 pub mod Ranges
 mod ExampleParts
 mod Examples
+mod LargerExamples
