@@ -17,7 +17,7 @@ use Rattle.jvm_model.specs.declared.instr.IfTest.TheVariants as if_test
 use Rattle.jvm_model.specs.declared.program.Program.{Program}
 use Rattle.jvm_model.specs.Library.{builtin_defs, builtin_classes, builtin_fields, builtin_methods}
 use Rattle.jvm_model.specs.Classes.{class_bound, own_interfaces, is_below, implements, default_interfaces, is_trivial, layout, blank, form_at, next_place}
-use Rattle.jvm_model.specs.Descriptors.{parameters, return_letter}
+use Rattle.jvm_model.specs.Descriptors.{parameters, return_type}
 use Rattle.jvm_model.specs.Narrow.{narrow}
 use Rattle.jvm_model.specs.Suite.{opening, tree, one_test, runs, all_tests}
 use Rattle.jvm_model.specs.Step.{step, row, row_here, row_throw}
@@ -49,7 +49,7 @@ recursion_suite = program (class (codes "R") (2 ∷ []) (102 ∷ 103 ∷ []) ∷
     [] (test 32 103 ∷ [])
 
 recursion_runs : outcomes (runs recursion_suite (all_tests recursion_suite)) ≡ Some (passed (line (codes "1023")) 8200 ∷ [])
-unfolding builtin_classes builtin_fields builtin_methods builtin_defs class_bound own_interfaces is_below implements default_interfaces is_trivial layout blank form_at next_place parameters return_letter narrow opening tree one_test runs step row row_here row_throw throws row_raise handler_for row_finish row_fail parts_of begin row_moves row_arith row_branches row_statics read_static write_static row_fields row_create new_object row_calls calls argument_count row_return hands_on kept_method select select_virtual select_interface select_special row_native native_object native_throwable native_string native_builder native_system native_print native_files native_env drive drives drive_first drive_init drive_set_up drive_method drive_tear_down judge digits add64 utf16_chars encode add32 int_wrap lookup_target hash_of
+unfolding builtin_classes builtin_fields builtin_methods builtin_defs class_bound own_interfaces is_below implements default_interfaces is_trivial layout blank form_at next_place parameters return_type narrow opening tree one_test runs step row row_here row_throw throws row_raise handler_for row_finish row_fail parts_of begin row_moves row_arith row_branches row_statics read_static write_static row_fields row_create new_object row_calls calls argument_count row_return hands_on kept_method select select_virtual select_interface select_special row_native native_object native_throwable native_string native_builder native_system native_print native_files native_env drive drives drive_first drive_init drive_set_up drive_method drive_tear_down judge digits add64 utf16_chars encode add32 int_wrap lookup_target hash_of
 recursion_runs = refl
 
 -- an inner class, a string switch, concatenation and a loop, as the usual compiler lays them out
@@ -77,5 +77,5 @@ outer_suite = program
     ([] ∷ codes "012" ∷ []) (test 33 105 ∷ [])
 
 outer_runs : outcomes (runs outer_suite (all_tests outer_suite)) ≡ Some (passed (line (codes "0126")) 166 ∷ [])
-unfolding builtin_classes builtin_fields builtin_methods builtin_defs class_bound own_interfaces is_below implements default_interfaces is_trivial layout blank form_at next_place parameters return_letter narrow opening tree one_test runs step row row_here row_throw throws row_raise handler_for row_finish row_fail parts_of begin row_moves row_arith row_branches row_statics read_static write_static row_fields row_create new_object row_calls calls argument_count row_return hands_on kept_method select select_virtual select_interface select_special row_native native_object native_throwable native_string native_builder native_system native_print native_files native_env drive drives drive_first drive_init drive_set_up drive_method drive_tear_down judge digits add64 utf16_chars encode add32 int_wrap lookup_target hash_of
+unfolding builtin_classes builtin_fields builtin_methods builtin_defs class_bound own_interfaces is_below implements default_interfaces is_trivial layout blank form_at next_place parameters return_type narrow opening tree one_test runs step row row_here row_throw throws row_raise handler_for row_finish row_fail parts_of begin row_moves row_arith row_branches row_statics read_static write_static row_fields row_create new_object row_calls calls argument_count row_return hands_on kept_method select select_virtual select_interface select_special row_native native_object native_throwable native_string native_builder native_system native_print native_files native_env drive drives drive_first drive_init drive_set_up drive_method drive_tear_down judge digits add64 utf16_chars encode add32 int_wrap lookup_target hash_of
 outer_runs = refl
