@@ -3,6 +3,8 @@ pub mod Bridges
 pub mod Locations
 pub mod Fuel
 pub mod Ranges
+pub mod Budgets
+pub mod Detection
 mod ExampleParts
 mod Examples
 mod LargerExamples
