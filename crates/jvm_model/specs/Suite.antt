@@ -136,3 +136,8 @@ fault_on p w r (t ∷ l) = elim (one_test p w t (min (test_at p t).budget r)) [
 -- the first refusal of a detection run
 unfoldable pub suite_fault : Program → Option SuiteFault
 suite_fault p = fault_on p (opening p) suite_limit (all_tests p)
+
+-- the world after the tests of a list that began in w
+abbrev pub world_after : World → List Given → World
+world_after w [] = w
+world_after w (x ∷ xs) = world_after x.world xs
