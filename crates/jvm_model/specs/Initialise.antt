@@ -8,11 +8,13 @@ use Rattle.jvm_model.specs.declared.values.Location.TheVariants as place
 use Rattle.jvm_model.specs.declared.outcome.Next.{Next}
 use Rattle.jvm_model.specs.declared.outcome.Next.TheVariants.{Go, Raise, Leave}
 use Rattle.jvm_model.specs.declared.program.Body.{Body}
+use Rattle.jvm_model.specs.declared.state.EntryKind.{EntryKind}
+use Rattle.jvm_model.specs.declared.state.EntryKind.TheVariants.{Absent, InMethod, InClass}
 use Rattle.jvm_model.specs.declared.program.Program.{Program}
 use Rattle.jvm_model.specs.Access.{Access, done, read, write, make, spend}
 use Rattle.jvm_model.specs.Builtin.{error_class, initializer_error, no_class_error, stack_overflow_error}
 use Rattle.jvm_model.specs.Classes.{class_at, method_at, is_interface, is_below, is_trivial, default_interfaces, blank, instance_head}
-use Rattle.jvm_model.specs.Entries.{EntryKind, absent, in_method, in_class, Entry, Entries, with_entry, class_entry, frame_of, frame_cost, is_full, popped_entry}
+use Rattle.jvm_model.specs.Entries.{Entry, Entries, with_entry, class_entry, frame_of, frame_cost, is_full, popped_entry}
 use Rattle.jvm_model.specs.Kinds.{class_of}
 use Rattle.jvm_model.specs.Rows.{Answer, answer, none_here, faults, on_object}
 
@@ -33,7 +35,7 @@ parts_of p c = cond (is_interface (class_at p c).flags) []
 
 -- the entry at the top, its `<clinit>` entered or none to enter
 abbrev pub with_entered : Entries → Entries
-with_entered s = record s { top = record s.top { kind = in_class true } }
+with_entered s = record s { top = record s.top { kind = InClass true } }
 
 abbrev pub starts_body : Option Body → ℕ → ℕ → Entries → Access (Answer Entries)
 starts_body None m n s = none_here
@@ -58,18 +60,18 @@ looks p (x ∷ xs) n s = read (place.Init x.class) (λ st. looked_at x.class (n 
 
 -- where no entry is left the driver goes on
 abbrev pub left_at : EntryKind → Next
-left_at absent = Leave
-left_at in_method = Go
-left_at (in_class b) = Go
+left_at Absent = Leave
+left_at InMethod = Go
+left_at (InClass b) = Go
 
 abbrev pub finished : Entries → Access (Answer Entries)
 finished s = write (place.Init s.top.number) Done (done (answer (left_at (popped_entry s).top.kind) (popped_entry s)))
 
 abbrev pub finishing : EntryKind → Program → Entries → Access (Answer Entries)
-finishing absent p s = none_here
-finishing in_method p s = none_here
-finishing (in_class false) p s = looks p (parts_of p s.top.number) 0 s
-finishing (in_class true) p s = finished s
+finishing Absent p s = none_here
+finishing InMethod p s = none_here
+finishing (InClass false) p s = looks p (parts_of p s.top.number) 0 s
+finishing (InClass true) p s = finished s
 
 -- a step on the initialisation entry at the top
 unfoldable pub row_finish : Program → Entries → Access (Answer Entries)
@@ -84,9 +86,9 @@ abbrev pub fails_anew : Program → Entries → Access (Answer Entries)
 fails_anew p s = spend 2 (write (place.Init s.top.number) Erroneous (make (blank p (instance_head initializer_error)) (λ o. done (answer (Raise (Obj o)) (popped_entry s)))))
 
 abbrev pub was_entered : EntryKind → Bool
-was_entered absent = false
-was_entered in_method = false
-was_entered (in_class b) = b
+was_entered Absent = false
+was_entered InMethod = false
+was_entered (InClass b) = b
 
 -- A throwable is raised into the initialisation entry at the top. What `<clinit>` threw and is no Error has a new
 -- throwable in its place.

@@ -5,10 +5,12 @@ use Rattle.jvm_model.specs.declared.instr.Instr.{Instr}
 use Rattle.jvm_model.specs.declared.instr.Instr.TheVariants as form
 use Rattle.jvm_model.specs.declared.library.Native.{Native}
 use Rattle.jvm_model.specs.declared.outcome.Next.TheVariants.{Go, Fault, Raise, Enter, Leave, Over}
+use Rattle.jvm_model.specs.declared.state.EntryKind.{EntryKind}
+use Rattle.jvm_model.specs.declared.state.EntryKind.TheVariants.{Absent, InMethod, InClass}
 use Rattle.jvm_model.specs.declared.program.Program.{Program}
 use Rattle.jvm_model.specs.Access.{Access, done, spend, bind}
 use Rattle.jvm_model.specs.Classes.{method_at, form_at}
-use Rattle.jvm_model.specs.Entries.{EntryKind, absent, in_method, in_class, Entries}
+use Rattle.jvm_model.specs.Entries.{Entries}
 use Rattle.jvm_model.specs.Rows.{Answer, answer, no_row, popping, on_object, none_here}
 use Rattle.jvm_model.specs.RowsMoves.{row_moves}
 use Rattle.jvm_model.specs.RowsArith.{row_arith}
@@ -135,11 +137,11 @@ row_here p s = row_or_none p (form_at p s.top.number s.top.pc) s
 
 -- what the step does, by the top entry and the throwable that is being raised
 abbrev pub acts : Program → EntryKind → Option Value → State → Access Turn
-acts p absent v s = drive p s
-acts p in_method None s = bind (row_here p s.entries) (after_row p s)
-acts p in_method (Some v) s = bind (row_raise p v s.entries) (after_row p s)
-acts p (in_class b) None s = bind (row_finish p s.entries) (after_row p s)
-acts p (in_class b) (Some v) s = bind (row_fail p v s.entries) (after_row p s)
+acts p Absent v s = drive p s
+acts p InMethod None s = bind (row_here p s.entries) (after_row p s)
+acts p InMethod (Some v) s = bind (row_raise p v s.entries) (after_row p s)
+acts p (InClass b) None s = bind (row_finish p s.entries) (after_row p s)
+acts p (InClass b) (Some v) s = bind (row_fail p v s.entries) (after_row p s)
 
 -- the step: each costs 1 and what its row lists
 unfoldable pub step : Program → State → Access Turn
