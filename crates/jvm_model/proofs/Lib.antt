@@ -1,5 +1,6 @@
 pub mod Binds
 pub mod Bridges
+pub mod Uses
 pub mod Locations
 pub mod Fuel
 pub mod Ranges
