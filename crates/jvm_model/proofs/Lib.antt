@@ -7,6 +7,7 @@ pub mod Ranges
 pub mod Budgets
 pub mod Detection
 pub mod Runs
+pub mod Upwards
 pub mod Standing
 mod ExampleParts
 mod Examples
