@@ -1,13 +1,12 @@
 -- The superclasses of a linked program's classes: each chain comes to its end, as there are few classes and none is its own
 -- ancestor.
-use Rattle.std.proofs.Common.{◌≡◌, ◌⊎◌, ℕ, zero, suc, ◌+◌, ◌-◌, ◌<◌, ◌≤◌, List, [], ◌∷◌, length, get_or, Bool, true, false, ◌||◌, nat_eq, eqb, refl, sym, ◌∙◌, ap, subst, inl, inr, arith, Option, Some, None, IfSome}
-use Rattle.std.specs.List.{list_any, IsDistinct, AllByRecursion}
-use Rattle.std.proofs.lemmas.Bool.{cases_Bool, eqb-true, false_from_ne_true, eq-eqb}
+use Rattle.std.proofs.Common.{◌≡◌, ◌⊎◌, ℕ, zero, suc, ◌<◌, ◌≤◌, List, [], ◌∷◌, length, Bool, true, false, ◌||◌, nat_eq, eqb, refl, sym, ◌∙◌, ap, subst, inl, inr, arith, Option, Some, None, IfSome}
+use Rattle.std.specs.List.{IsDistinct, AllByRecursion}
+use Rattle.std.proofs.lemmas.Bool.{eqb-true, false_from_ne_true, eq-eqb}
 use Rattle.std.proofs.lemmas.Map.Steps.{length-le_from_distinct_below}
 use Rattle.jvm_model.specs.declared.program.Program.{Program}
-use Rattle.jvm_model.specs.Builtin.{builtin_count}
 use Rattle.jvm_model.specs.Classes.{class_at, class_bound, member, upwards_in, upwards, is_below}
-use Rattle.jvm_model.specs.Linked.{IsClass, IsAncestor, direct, further, NamesClass, Linked}
+use Rattle.jvm_model.specs.Linked.{IsClass, IsAncestor, direct, further, Linked}
 
 -- the members of the chain above a superclass
 abbrev above : Program → ℕ → Option ℕ → List ℕ

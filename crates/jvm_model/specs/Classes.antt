@@ -1,5 +1,5 @@
 -- What a program says of its classes, fields and methods.
-use Rattle.std.specs.Prelude.{ℕ, zero, suc, List, [], ◌∷◌, ◌++◌, get_or, replicate, map, filter, Bool, true, false, not, ◌&&◌, ◌||◌, cond, nat_eq, ◌-◌, ◌/◌, ◌%◌, pos, Option, Some, None, flat_map, is_some}
+use Rattle.std.specs.Prelude.{ℕ, zero, suc, List, [], ◌∷◌, ◌++◌, get_or, replicate, map, filter, Bool, true, false, not, ◌&&◌, cond, nat_eq, ◌-◌, ◌/◌, ◌%◌, pos, Option, Some, None, flat_map, is_some}
 use Rattle.std.specs.List.{list_any, list_all}
 use Rattle.jvm_model.specs.declared.values.Value.{Value}
 use Rattle.jvm_model.specs.declared.values.Value.TheVariants.{Int, Long, Null}

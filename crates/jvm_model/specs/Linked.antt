@@ -1,5 +1,5 @@
 -- What a linked program is: each rule that loading keeps, by name.
-use Rattle.std.specs.Prelude.{◌≡◌, ◌⊎◌, ℕ, ℤ, pos, negsuc, suc, int_le, int_lt, ◌+◌, ◌-◌, ◌<◌, ◌≤◌, ◌<ℤ◌, ◌≤ℤ◌, ◌+ℤ◌, ◌^◌, List, [], ◌∷◌, ◌++◌, length, take, get_or, map, All, Bool, true, false, not, ◌&&◌, ◌||◌, cond, nat_eq, nat_le, IsTrue, Option, Some, None, codes, IfSome, IsSome, IsNone}
+use Rattle.std.specs.Prelude.{◌≡◌, ◌⊎◌, ℕ, ℤ, pos, negsuc, suc, int_le, int_lt, ◌+◌, ◌<◌, ◌≤◌, ◌<ℤ◌, ◌≤ℤ◌, ◌+ℤ◌, ◌^◌, List, [], ◌∷◌, length, take, get_or, All, Bool, true, false, ◌&&◌, ◌||◌, cond, nat_eq, nat_le, Option, Some, None, codes, IfSome, IsSome}
 use Rattle.std.specs.List.{list_all}
 use Rattle.jvm_model.specs.declared.values.Value.{Value}
 use Rattle.jvm_model.specs.declared.values.Value.TheVariants.{Int, Long, Null, Lit, Obj}
@@ -11,8 +11,6 @@ use Rattle.jvm_model.specs.declared.instr.Instr.{Instr}
 use Rattle.jvm_model.specs.declared.instr.Instr.TheVariants as form
 use Rattle.jvm_model.specs.declared.program.Program.{Program}
 use Rattle.jvm_model.specs.declared.program.ClassRec.{ClassRec}
-use Rattle.jvm_model.specs.declared.program.FieldRec.{FieldRec}
-use Rattle.jvm_model.specs.declared.program.MethodRec.{MethodRec}
 use Rattle.jvm_model.specs.declared.program.Body.{Body}
 use Rattle.jvm_model.specs.declared.program.Placed.{Placed}
 use Rattle.jvm_model.specs.declared.program.Handler.{Handler}
@@ -20,7 +18,7 @@ use Rattle.jvm_model.specs.declared.program.TestEntry.{TestEntry}
 use Rattle.jvm_model.specs.World.{same_units}
 use Rattle.jvm_model.specs.Library.{builtin_classes, builtin_fields, builtin_methods}
 use Rattle.jvm_model.specs.Builtin.{builtin_count, object_class, throwable_class}
-use Rattle.jvm_model.specs.Classes.{class_at, field_at, method_at, is_private, is_static, is_interface, is_abstract, is_below, upwards, member, clinit_name, init_name, default_of}
+use Rattle.jvm_model.specs.Classes.{class_at, field_at, method_at, is_static, is_interface, is_below, upwards, member, clinit_name, init_name, default_of}
 use Rattle.jvm_model.specs.Selection.{named_class}
 use Rattle.jvm_model.specs.RowsCreate.{is_bare}
 use Rattle.jvm_model.specs.Lookup.{find_field, find_method, find_declared}

@@ -1,5 +1,5 @@
 -- Which method a call enters (JVMS 5.4.6 and 6.5; this project's reading of them is written here).
-use Rattle.std.specs.Prelude.{ℕ, List, [], ◌∷◌, ◌++◌, Bool, true, false, not, ◌&&◌, cond, nat_eq, filter, flat_map, is_some, find, Option, Some, None}
+use Rattle.std.specs.Prelude.{ℕ, List, [], ◌∷◌, Bool, not, ◌&&◌, cond, nat_eq, filter, flat_map, is_some, find, Option, Some, None}
 use Rattle.std.specs.List.{list_any}
 use Rattle.jvm_model.specs.declared.values.Kind.{Kind}
 use Rattle.jvm_model.specs.declared.values.Kind.TheVariants as kind
