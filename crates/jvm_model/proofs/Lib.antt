@@ -8,6 +8,7 @@ pub mod Budgets
 pub mod Detection
 pub mod Runs
 pub mod Upwards
+pub mod Builtins
 pub mod Standing
 mod ExampleParts
 mod Examples
