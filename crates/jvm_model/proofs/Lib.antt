@@ -9,6 +9,7 @@ pub mod Detection
 pub mod Runs
 pub mod Upwards
 pub mod Builtins
+pub mod Walks
 pub mod Standing
 mod ExampleParts
 mod Examples
