@@ -10,6 +10,8 @@ pub mod Runs
 pub mod Upwards
 pub mod Builtins
 pub mod Walks
+pub mod Tests
+pub mod Pointwise
 pub mod Standing
 mod ExampleParts
 mod Examples
