@@ -3,7 +3,7 @@ use Rattle.std.proofs.Common.{◌≡◌, ℕ, List, ◌++◌, ◌+◌, ◌-◌, 
 use Rattle.jvm_model.specs.declared.values.Touch.{Touch}
 use Rattle.jvm_model.specs.World.{World, at, put, size, make_object, has}
 use Rattle.jvm_model.specs.Access.{Access, done, read, write, make, spend, bind, made, run}
-use Rattle.jvm_model.specs.View.{Counted, over, ended, counted, and_then, touched, IsSafe}
+use Rattle.jvm_model.specs.View.{Counted, over, ended, counted, and_then, touched, IsSafe, Any}
 
 and_assoc : (a b c : Bool) → (a && (b && c)) ≡ ((a && b) && c)
 and_assoc true b c = refl
@@ -44,23 +44,28 @@ touched_bind (make x next) k w left b w' left' e ts = touched_bind (next _) k _ 
 touched_bind (spend n rest) k w left b w' left' e ts =
     spent (nat_le n left) _ (λ h. touched_bind rest k w (left - n) b w' left' h ts) e
 
-pub safe_first : {A B : Type 0} (t : Access A) (k : A → Access B) (w : World) → IsSafe (bind t k) w → IsSafe t w
-safe_first (done a) k w h = tt
-safe_first (read l next) k w h = (h.0, safe_first (next _) k w h.1)
-safe_first (write l c rest) k w h = (h.0, safe_first rest k _ h.1)
-safe_first (make x next) k w h = safe_first (next _) k _ h
-safe_first (spend n rest) k w h = safe_first rest k w h
+-- where the whole is safe, so is its first part, with what the second part asks of its answer
+pub safe_first : {A B : Type 0} (G : A → Type 0) (H : B → Type 0) (t : Access A) (k : A → Access B) (w : World) → ((a : A) (v : World) → IsSafe H (k a) v → G a) → IsSafe H (bind t k) w → IsSafe G t w
+safe_first G H (done a) k w g h = g a w h
+safe_first G H (read l next) k w g h = (h.0, safe_first G H (next _) k w g h.1)
+safe_first G H (write l c rest) k w g h = (h.0, safe_first G H rest k _ g h.1)
+safe_first G H (make x next) k w g h = safe_first G H (next _) k _ g h
+safe_first G H (spend n rest) k w g h = safe_first G H rest k w g h
 
-same_end : {A B : Type 0} (k : A → Access B) (a b : A) (w w' : World) {left left' : ℕ} → ended a w left ≡ ended b w' left' → IsSafe (k a) w → IsSafe (k b) w'
-same_end k a b w w' e h =
+pub safe_begins : {A B : Type 0} (H : B → Type 0) (t : Access A) (k : A → Access B) (w : World) → IsSafe H (bind t k) w → IsSafe Any t w
+safe_begins H t k w h = safe_first Any H t k w (λ a v x. tt) h
+
+same_end : {A B : Type 0} (H : B → Type 0) (k : A → Access B) (a b : A) (w w' : World) {left left' : ℕ} → ended a w left ≡ ended b w' left' → IsSafe H (k a) w → IsSafe H (k b) w'
+same_end H k a b w w' e h =
     let p : a ≡ b = cc in
     let q : w ≡ w' = cc in
-    subst (λ x. IsSafe (k b) x) q (subst (λ x. IsSafe (k x) w) p h)
+    subst (λ x. IsSafe H (k b) x) q (subst (λ x. IsSafe H (k x) w) p h)
 
-pub safe_rest : {A B : Type 0} (t : Access A) (k : A → Access B) (w : World) (left : ℕ) (a : A) (w' : World) (left' : ℕ) → counted t w left ≡ ended a w' left' → IsSafe (bind t k) w → IsSafe (k a) w'
-safe_rest (done a) k w left b w' left' e h = same_end k a b w w' e h
-safe_rest (read l next) k w left b w' left' e h = safe_rest (next _) k w left b w' left' e h.1
-safe_rest (write l c rest) k w left b w' left' e h = safe_rest rest k _ left b w' left' e h.1
-safe_rest (make x next) k w left b w' left' e h = safe_rest (next _) k _ left b w' left' e h
-safe_rest (spend n rest) k w left b w' left' e h =
-    spent (nat_le n left) _ (λ g. safe_rest rest k w (left - n) b w' left' g h) e
+-- and its second part, where the first has ended
+pub safe_rest : {A B : Type 0} (H : B → Type 0) (t : Access A) (k : A → Access B) (w : World) (left : ℕ) (a : A) (w' : World) (left' : ℕ) → counted t w left ≡ ended a w' left' → IsSafe H (bind t k) w → IsSafe H (k a) w'
+safe_rest H (done a) k w left b w' left' e h = same_end H k a b w w' e h
+safe_rest H (read l next) k w left b w' left' e h = safe_rest H (next _) k w left b w' left' e h.1
+safe_rest H (write l c rest) k w left b w' left' e h = safe_rest H rest k _ left b w' left' e h.1
+safe_rest H (make x next) k w left b w' left' e h = safe_rest H (next _) k _ left b w' left' e h
+safe_rest H (spend n rest) k w left b w' left' e h =
+    spent (nat_le n left) _ (λ g. safe_rest H rest k w (left - n) b w' left' g h) e

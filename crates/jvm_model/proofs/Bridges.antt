@@ -47,12 +47,12 @@ and_both : (a b : Bool) → a ≡ true → b ≡ true → (a && b) ≡ true
 and_both a b p q = rw (p, q) refl
 
 -- a safe program meets only locations that stand
-pub safe_sound : {A : Type 0} (t : Access A) (w : World) → IsSafe t w → (run t w).sound ≡ true
-safe_sound (done a) w h = refl
-safe_sound (read l k) w h = and_both (has w l) _ (exists_has w l h.0) (safe_sound (k (at w l)) w h.1)
-safe_sound (write l c rest) w h = and_both (has w l) _ (exists_has w l h.0) (safe_sound rest (put w l c) h.1)
-safe_sound (make x k) w h = safe_sound (k (size w)) (make_object w x) h
-safe_sound (spend n rest) w h = safe_sound rest w h
+pub safe_sound : {A : Type 0} (G : A → Type 0) (t : Access A) (w : World) → IsSafe G t w → (run t w).sound ≡ true
+safe_sound G (done a) w h = refl
+safe_sound G (read l k) w h = and_both (has w l) _ (exists_has w l h.0) (safe_sound G (k (at w l)) w h.1)
+safe_sound G (write l c rest) w h = and_both (has w l) _ (exists_has w l h.0) (safe_sound G rest (put w l c) h.1)
+safe_sound G (make x k) w h = safe_sound G (k (size w)) (make_object w x) h
+safe_sound G (spend n rest) w h = safe_sound G rest w h
 
 swapped : {A : Type 0} (n m left : ℕ) (x : ℕ → Counted A) → nat_le m left ≡ true →
     (if nat_le n left then (if nat_le m (left - n) then x (left - n - m) else over) else over) ≡ (if nat_le n (left - m) then x (left - m - n) else over)

@@ -5,15 +5,17 @@ use Rattle.jvm_model.specs.declared.values.Value.TheVariants.{Int, Long, Null, L
 use Rattle.jvm_model.specs.declared.values.Location.TheVariants as place
 use Rattle.jvm_model.specs.declared.outcome.Verdict.TheVariants.{Passed, Failed, Error}
 use Rattle.jvm_model.specs.declared.program.Body.{Body}
+use Rattle.jvm_model.specs.declared.state.Stage.{Stage}
+use Rattle.jvm_model.specs.declared.state.Stage.TheVariants.{First, Made, Built, SetUp, Called, Last}
 use Rattle.jvm_model.specs.declared.program.Program.{Program}
 use Rattle.jvm_model.specs.World.{same_units}
 use Rattle.jvm_model.specs.Access.{Access, done, read, make, spend, bind}
 use Rattle.jvm_model.specs.Builtin.{abstract_method_error, assertion_error, message_field}
 use Rattle.jvm_model.specs.Classes.{class_at, method_at, literal_at, upwards, is_below, is_static, layout, blank, instance_head, init_name}
 use Rattle.jvm_model.specs.Entries.{with_entry, frame_of, frame_cost}
-use Rattle.jvm_model.specs.Raising.{class_of}
+use Rattle.jvm_model.specs.Kinds.{class_of}
 use Rattle.jvm_model.specs.Rows.{Used, ready, begun, refused, begin}
-use Rattle.jvm_model.specs.State.{Stage, first, made, built, set_up, called, last, State, Turn, next, ended, no_turn, test_at, with_entries}
+use Rattle.jvm_model.specs.State.{State, Turn, next, ended, no_turn, test_at, with_entries}
 use Rattle.jvm_model.specs.Throwing.{throws}
 
 -- the units of `()V`, `setUp` and `tearDown`
@@ -52,28 +54,28 @@ once_driven p s k (refused c) = throws p c s
 
 -- the object is made, as new does
 abbrev pub makes : Program → ℕ → State → Access Turn
-makes p c s = spend (1 + length (layout p c)) (make (blank p (instance_head c)) (λ o. done (next (record s { stage = made o }))))
+makes p c s = spend (1 + length (layout p c)) (make (blank p (instance_head c)) (λ o. done (next (record s { stage = Made o }))))
 
 -- the first step: a static method is called alone, else the object is made
 unfoldable pub drive_first : Program → State → Access Turn
 drive_first p s = let t = test_at p s.test in cond (is_static (method_at p t.method).flags)
-    (bind (begin p (method_at p t.method).class s.entries) (once_driven p s (drives p t.method [] (last None) s)))
+    (bind (begin p (method_at p t.method).class s.entries) (once_driven p s (drives p t.method [] (Last None) s)))
     (bind (begin p t.class s.entries) (once_driven p s (makes p t.class s)))
 
 -- `<init>` of the test's own class
 unfoldable pub drive_init : Program → ℕ → State → Access Turn
 drive_init p o s = elim (plain_method_in p init_name (class_at p (test_at p s.test).class).methods) [
   | None ↦ done no_turn
-  | Some m ↦ drives p m (Obj o ∷ []) (built o) s
+  | Some m ↦ drives p m (Obj o ∷ []) (Built o) s
 ]
 
 unfoldable pub drive_method : Program → ℕ → State → Access Turn
-drive_method p o s = drives p (test_at p s.test).method (Obj o ∷ []) (called o None) s
+drive_method p o s = drives p (test_at p s.test).method (Obj o ∷ []) (Called o None) s
 
 unfoldable pub drive_set_up : Program → ℕ → State → Access Turn
 drive_set_up p o s = elim (plain_method_of p set_up_name (upwards p (test_at p s.test).class)) [
   | None ↦ drive_method p o s
-  | Some m ↦ drives p m (Obj o ∷ []) (set_up o) s
+  | Some m ↦ drives p m (Obj o ∷ []) (SetUp o) s
 ]
 
 -- the class and message of a throwable: an AssertionError failed, any other is an error
@@ -108,16 +110,16 @@ judge p (Some v) s = judged_value p s.own.output v
 unfoldable pub drive_tear_down : Program → ℕ → Option Value → State → Access Turn
 drive_tear_down p o v s = elim (plain_method_of p tear_down_name (upwards p (test_at p s.test).class)) [
   | None ↦ judge p v s
-  | Some m ↦ drives p m (Obj o ∷ []) (last v) s
+  | Some m ↦ drives p m (Obj o ∷ []) (Last v) s
 ]
 
 abbrev pub drive_at : Program → Stage → State → Access Turn
-drive_at p first s = drive_first p s
-drive_at p (made o) s = drive_init p o s
-drive_at p (built o) s = drive_set_up p o s
-drive_at p (set_up o) s = drive_method p o s
-drive_at p (called o v) s = drive_tear_down p o v s
-drive_at p (last v) s = judge p v s
+drive_at p First s = drive_first p s
+drive_at p (Made o) s = drive_init p o s
+drive_at p (Built o) s = drive_set_up p o s
+drive_at p (SetUp o) s = drive_method p o s
+drive_at p (Called o v) s = drive_tear_down p o v s
+drive_at p (Last v) s = judge p v s
 
 -- a step of the driver, where no entry is left
 unfoldable pub drive : Program → State → Access Turn

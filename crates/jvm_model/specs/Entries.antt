@@ -2,15 +2,9 @@
 use Rattle.std.specs.Prelude.{ℕ, List, [], ◌∷◌, ◌++◌, length, replicate, take, drop, reverse, ◌-◌, ◌+◌, Bool, false, nat_le}
 use Rattle.jvm_model.specs.declared.values.Value.{Value}
 use Rattle.jvm_model.specs.declared.values.Value.TheVariants.{Long, Null}
+use Rattle.jvm_model.specs.declared.state.EntryKind.{EntryKind}
+use Rattle.jvm_model.specs.declared.state.EntryKind.TheVariants.{Absent, InMethod, InClass}
 use Rattle.jvm_model.specs.declared.program.Body.{Body}
-
-pub data EntryKind : Type 0 where
-  -- no entry; only the top is so
-  absent : EntryKind
-  -- a frame of a method
-  in_method : EntryKind
-  -- the initialisation of a class, and whether its `<clinit>` was entered or there is none to enter
-  in_class : Bool → EntryKind
 
 -- An entry: the number of its method or class, and of a frame its place in the code, its operands with the top first, and
 -- its locals by slot. A long is one operand; in the locals it stands in the first of its two slots.
@@ -26,7 +20,7 @@ pub record Entries : Type 0 where
   pub below : List Entry
 
 abbrev pub no_entry : Entry
-no_entry = record { kind = absent; number = 0; pc = 0; stack = []; locals = [] }
+no_entry = record { kind = Absent; number = 0; pc = 0; stack = []; locals = [] }
 
 abbrev pub no_entries : Entries
 no_entries = record { top = no_entry; below = [] }
@@ -37,7 +31,7 @@ entry_limit = 1024
 
 -- the entries, the top one first
 abbrev pub all_entries : Entries → List Entry
-all_entries s = elim s.top.kind [ absent ↦ s.below | in_method ↦ s.top ∷ s.below | in_class b ↦ s.top ∷ s.below ]
+all_entries s = elim s.top.kind [ Absent ↦ s.below | InMethod ↦ s.top ∷ s.below | InClass b ↦ s.top ∷ s.below ]
 
 -- as many entries as may stand
 abbrev pub is_full : Entries → Bool
@@ -64,7 +58,7 @@ with_place s n = record s { top = record s.top { pc = n } }
 
 -- the initialisation entry of a class, whose `<clinit>` wasn't entered yet
 abbrev pub class_entry : ℕ → Entry
-class_entry c = record { kind = in_class false; number = c; pc = 0; stack = []; locals = [] }
+class_entry c = record { kind = InClass false; number = c; pc = 0; stack = []; locals = [] }
 
 -- arguments by slot: a long takes two
 abbrev pub slots_of : List Value → List Value
@@ -77,7 +71,7 @@ filled n vs = vs ++ replicate (n - length vs) Null
 
 -- the frame of a method that is entered with these arguments (JVMS 2.6)
 abbrev pub frame_of : Body → ℕ → List Value → Entry
-frame_of b m args = record { kind = in_method; number = m; pc = 0; stack = []; locals = filled b.max_locals (slots_of args) }
+frame_of b m args = record { kind = InMethod; number = m; pc = 0; stack = []; locals = filled b.max_locals (slots_of args) }
 
 -- what entering a method costs
 abbrev pub frame_cost : Body → ℕ

@@ -4,19 +4,21 @@ use Rattle.jvm_model.specs.declared.values.Value.{Value}
 use Rattle.jvm_model.specs.declared.instr.Instr.{Instr}
 use Rattle.jvm_model.specs.declared.instr.Instr.TheVariants as form
 use Rattle.jvm_model.specs.declared.outcome.Next.TheVariants.{Go, Leave}
+use Rattle.jvm_model.specs.declared.state.EntryKind.{EntryKind}
+use Rattle.jvm_model.specs.declared.state.EntryKind.TheVariants.{Absent, InMethod, InClass}
 use Rattle.jvm_model.specs.declared.program.Program.{Program}
 use Rattle.jvm_model.specs.Access.{Access, done}
 use Rattle.jvm_model.specs.Classes.{method_at}
-use Rattle.jvm_model.specs.Descriptors.{return_letter}
-use Rattle.jvm_model.specs.Narrow.{narrow}
-use Rattle.jvm_model.specs.Entries.{EntryKind, absent, in_method, in_class, Entries, popped_entry}
+use Rattle.jvm_model.specs.Descriptors.{return_type}
+use Rattle.jvm_model.specs.Narrow.{narrowed}
+use Rattle.jvm_model.specs.Entries.{Entries, popped_entry}
 use Rattle.jvm_model.specs.Rows.{Answer, answer, none_here, goes_on, popping}
 
 abbrev pub handed_on : EntryKind → Program → List Value → Entries → Access (Answer Entries)
-handed_on absent p vs s = done (answer Leave s)
-handed_on in_method p [] s = goes_on p s s.top.stack
-handed_on in_method p (v ∷ vs) s = goes_on p s (v ∷ s.top.stack)
-handed_on (in_class b) p vs s = done (answer Go s)
+handed_on Absent p vs s = done (answer Leave s)
+handed_on InMethod p [] s = goes_on p s s.top.stack
+handed_on InMethod p (v ∷ vs) s = goes_on p s (v ∷ s.top.stack)
+handed_on (InClass b) p vs s = done (answer Go s)
 
 -- These values, none or one, go to the entry below. A frame goes on after its call; an initialisation entry takes no
 -- value; where no entry is left, the driver goes on.
@@ -25,5 +27,5 @@ hands_on p vs s = handed_on (popped_entry s).top.kind p vs (popped_entry s)
 
 unfoldable pub row_return : Program → Instr → Entries → Access (Answer Entries)
 row_return p (form.Return None) s = hands_on p [] s
-row_return p (form.Return (Some x)) s = popping s.top.stack (λ v vs. hands_on p (narrow (return_letter (method_at p s.top.number).descriptor) v ∷ []) s)
+row_return p (form.Return (Some x)) s = popping s.top.stack (λ v vs. hands_on p (narrowed (return_type (method_at p s.top.number).descriptor) v ∷ []) s)
 row_return p _ s = none_here

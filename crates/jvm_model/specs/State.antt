@@ -3,24 +3,13 @@ use Rattle.std.specs.Prelude.{ℕ, List, [], get_or, ◌-◌, Option, Some, None
 use Rattle.jvm_model.specs.declared.values.Value.{Value}
 use Rattle.jvm_model.specs.declared.outcome.Own.{Own}
 use Rattle.jvm_model.specs.declared.outcome.Verdict.{Verdict}
+use Rattle.jvm_model.specs.declared.state.EntryKind.{EntryKind}
+use Rattle.jvm_model.specs.declared.state.EntryKind.TheVariants.{Absent, InMethod, InClass}
+use Rattle.jvm_model.specs.declared.state.Stage.{Stage}
+use Rattle.jvm_model.specs.declared.state.Stage.TheVariants.{First, Made, Built, SetUp, Called, Last}
 use Rattle.jvm_model.specs.declared.program.Program.{Program}
 use Rattle.jvm_model.specs.declared.program.TestEntry.{TestEntry}
-use Rattle.jvm_model.specs.Entries.{EntryKind, absent, in_method, in_class, Entries, no_entries}
-
--- What the driver does when no entry is left.
-pub data Stage : Type 0 where
-  -- a static method is called, or the object is made
-  first : Stage
-  -- `<init>` is called on the object
-  made : ℕ → Stage
-  -- setUp is called, where there is one
-  built : ℕ → Stage
-  -- the method is called
-  set_up : ℕ → Stage
-  -- tearDown is called, where there is one; the method threw this
-  called : ℕ → Option Value → Stage
-  -- the test is judged by this throwable, or passed
-  last : Option Value → Stage
+use Rattle.jvm_model.specs.Entries.{Entries, no_entries}
 
 -- All of a test's state but the world; its units are counted by the run.
 pub record State : Type 0 where
@@ -50,7 +39,7 @@ abbrev pub started : Program → ℕ → State
 started p n = record {
   test = n;
   entries = no_entries;
-  stage = first;
+  stage = First;
   raised = None;
   own = record { output = []; clock = (test_at p n).clock; random = (test_at p n).seed };
 }
@@ -62,18 +51,18 @@ or_first (Some u) v = Some u
 
 -- where a throwable comes out of what a stage called or made
 abbrev pub thrown_at : Stage → Value → Stage
-thrown_at first v = last (Some v)
-thrown_at (made o) v = last (Some v)
-thrown_at (built o) v = last (Some v)
-thrown_at (set_up o) v = last (Some v)
-thrown_at (called o u) v = called o (or_first u v)
-thrown_at (last u) v = last (or_first u v)
+thrown_at First v = Last (Some v)
+thrown_at (Made o) v = Last (Some v)
+thrown_at (Built o) v = Last (Some v)
+thrown_at (SetUp o) v = Last (Some v)
+thrown_at (Called o u) v = Called o (or_first u v)
+thrown_at (Last u) v = Last (or_first u v)
 
 -- a throwable is raised into the top entry, or comes to the driver where none is left
 abbrev pub raised_in : EntryKind → Value → State → State
-raised_in absent v s = record s { raised = None; stage = thrown_at s.stage v }
-raised_in in_method v s = record s { raised = Some v }
-raised_in (in_class b) v s = record s { raised = Some v }
+raised_in Absent v s = record s { raised = None; stage = thrown_at s.stage v }
+raised_in InMethod v s = record s { raised = Some v }
+raised_in (InClass b) v s = record s { raised = Some v }
 
 abbrev pub raise : Value → State → State
 raise v s = raised_in s.entries.top.kind v s

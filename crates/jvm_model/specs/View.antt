@@ -11,7 +11,8 @@ use Rattle.jvm_model.specs.declared.program.Program.{Program}
 use Rattle.jvm_model.specs.World.{World, at, put, size, object_at, make_object}
 use Rattle.jvm_model.specs.Access.{Access, done, read, write, make, spend, read_of, write_of, made}
 use Rattle.jvm_model.specs.Classes.{method_at, member}
-use Rattle.jvm_model.specs.Rows.{Answer, answer}
+use Rattle.jvm_model.specs.Rows.{Answer, answer, no_row}
+use Rattle.jvm_model.specs.State.{Turn, next, ended as over_with, no_turn}
 
 -- How a program of accesses ends under a number of units.
 pub data Counted (A : Type 0) : Type 0 where
@@ -54,13 +55,26 @@ Exists w (place.Text o) = o < size w
 Exists w (place.File n) = Unit {0}
 Exists w (place.Prop n) = Unit {0}
 
--- each location that is met is there
-abbrev pub IsSafe : {A : Type 0} → Access A → World → Type 0
-IsSafe (done a) w = Unit {0}
-IsSafe (read l k) w = Exists w l × IsSafe (k (at w l)) w
-IsSafe (write l c rest) w = Exists w l × IsSafe rest (put w l c)
-IsSafe (make x k) w = IsSafe (k (size w)) (make_object w x)
-IsSafe (spend n rest) w = IsSafe rest w
+-- each location that is met is there, and the answer is good
+abbrev pub IsSafe : {A : Type 0} → (A → Type 0) → Access A → World → Type 0
+IsSafe G (done a) w = G a
+IsSafe G (read l k) w = Exists w l × IsSafe G (k (at w l)) w
+IsSafe G (write l c rest) w = Exists w l × IsSafe G rest (put w l c)
+IsSafe G (make x k) w = IsSafe G (k (size w)) (make_object w x)
+IsSafe G (spend n rest) w = IsSafe G rest w
+
+-- the good answers: every one; of a row, that there is one; of a step likewise
+abbrev pub Any : {A : Type 0} → A → Type 0
+Any a = Unit {0}
+
+abbrev pub IsRow : {S : Type 0} → Answer S → Type 0
+IsRow (answer x s) = Unit {0}
+IsRow no_row = ⊥
+
+abbrev pub IsTurn : Turn → Type 0
+IsTurn (next s) = Unit {0}
+IsTurn (over_with v o) = Unit {0}
+IsTurn no_turn = ⊥
 
 -- Whether a call that answers this has counted the 1 of the step: not where the step throws by itself, which is counted
 -- with the throwable, and not where a built-in method is still to run.

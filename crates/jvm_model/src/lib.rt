@@ -5,6 +5,7 @@ mod instr;
 mod library;
 mod outcome;
 mod program;
+mod state;
 mod values;
 
 pub use instr::{Cell, Conv, IfTest, Instr, Op, Sort};
@@ -14,4 +15,5 @@ pub use program::{
     Body, ClassRec, FieldRec, FrameRec, Handler, MethodRec, Names, Placed, Program, TestEntry,
     TypeRec,
 };
+pub use state::{EntryKind, Stage};
 pub use values::{Base, Head, InitState, Kind, Location, Touch, Value};
