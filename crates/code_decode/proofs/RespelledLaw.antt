@@ -79,22 +79,22 @@ plain_part o = to_be_bytes w8 o.opcode ++ shaped_bytes o.pc (shape_of o.opcode) 
 op_again : (slots : Slots) (total pc : ℕ) (text : List ℕ) (o : RawOp) → OpText slots total pc text o → leads_to is_inside o ≡ true → Respelled (OpText slots total pc) text (op_bytes o) o
 op_again slots total pc text o (opcode, one, more, e, s, t) inside = picked_bool (eqb opcode 196)
     (λ yes.
-      let w : WideText pc more o = subst (λ b. cond b (WideText pc more o) (ShapedText slots total pc opcode (shape_of opcode) more o)) yes t in
-      let same : text ≡ wide_part o = e ∙ ap (λ x. x ++ more) (s.0 ∙ ap (to_be_bytes w8) (eqb-true _ _ yes)) ∙ ap (λ m. to_be_bytes w8 196 ++ m) (wide_same pc more o w) in
-      respelled_same (OpText slots total pc) text (op_bytes o) o (opcode, one, more, e, s, t) (same ∙ ap (λ b. cond b (wide_part o) (plain_part o)) (sym (wide_is pc more o w))))
+    let w : WideText pc more o = subst (λ b. cond b (WideText pc more o) (ShapedText slots total pc opcode (shape_of opcode) more o)) yes t in
+    let same : text ≡ wide_part o = e ∙ ap (λ x. x ++ more) (s.0 ∙ ap (to_be_bytes w8) (eqb-true _ _ yes)) ∙ ap (λ m. to_be_bytes w8 196 ++ m) (wide_same pc more o w) in
+    respelled_same (OpText slots total pc) text (op_bytes o) o (opcode, one, more, e, s, t) (same ∙ ap (λ b. cond b (wide_part o) (plain_part o)) (sym (wide_is pc more o w))))
     (λ no.
-      let w : ShapedText slots total pc opcode (shape_of opcode) more o = subst (λ b. cond b (WideText pc more o) (ShapedText slots total pc opcode (shape_of opcode) more o)) no t in
-      let is = shaped_is slots total pc opcode (shape_of opcode) more o w in
-      let h : leads (shape_of opcode) is_inside o.args ≡ true = ap (λ k. leads (shape_of k) is_inside o.args) (sym is.0) ∙ inside in
-      let r = shaped_again slots total pc opcode (shape_of opcode) more o w h in
-      let now : List ℕ = shaped_bytes pc (shape_of opcode) o.args in
-      let made : Respelled (OpText slots total pc) text (to_be_bytes w8 opcode ++ now) o = record {
-          spelled = (opcode, to_be_bytes w8 opcode, now, refl, (refl, s.1), subst (λ b. cond b (WideText pc now o) (ShapedText slots total pc opcode (shape_of opcode) now o)) (sym no) r.spelled);
-          len = length-append (to_be_bytes w8 opcode) now ∙ ap (λ n. length (to_be_bytes w8 opcode) + n) r.len ∙ ap (λ n. n + length more) (ap length (sym s.0)) ∙ sym (length-append one more) ∙ ap length (sym e);
-        } in
-      let same : to_be_bytes w8 opcode ++ now ≡ op_bytes o =
-        ap (λ k. to_be_bytes w8 k ++ shaped_bytes pc (shape_of k) o.args) (sym is.0) ∙ ap (λ p. to_be_bytes w8 o.opcode ++ shaped_bytes p (shape_of o.opcode) o.args) (sym is.2) ∙ ap (λ b. cond b (wide_part o) (plain_part o)) (sym is.1) in
-      subst (λ b. Respelled (OpText slots total pc) text b o) same made)
+    let w : ShapedText slots total pc opcode (shape_of opcode) more o = subst (λ b. cond b (WideText pc more o) (ShapedText slots total pc opcode (shape_of opcode) more o)) no t in
+    let is = shaped_is slots total pc opcode (shape_of opcode) more o w in
+    let h : leads (shape_of opcode) is_inside o.args ≡ true = ap (λ k. leads (shape_of k) is_inside o.args) (sym is.0) ∙ inside in
+    let r = shaped_again slots total pc opcode (shape_of opcode) more o w h in
+    let now : List ℕ = shaped_bytes pc (shape_of opcode) o.args in
+    let made : Respelled (OpText slots total pc) text (to_be_bytes w8 opcode ++ now) o = record {
+      spelled = (opcode, to_be_bytes w8 opcode, now, refl, (refl, s.1), subst (λ b. cond b (WideText pc now o) (ShapedText slots total pc opcode (shape_of opcode) now o)) (sym no) r.spelled);
+      len = length-append (to_be_bytes w8 opcode) now ∙ ap (λ n. length (to_be_bytes w8 opcode) + n) r.len ∙ ap (λ n. n + length more) (ap length (sym s.0)) ∙ sym (length-append one more) ∙ ap length (sym e);
+    } in
+    let same : to_be_bytes w8 opcode ++ now ≡ op_bytes o =
+    ap (λ k. to_be_bytes w8 k ++ shaped_bytes pc (shape_of k) o.args) (sym is.0) ∙ ap (λ p. to_be_bytes w8 o.opcode ++ shaped_bytes p (shape_of o.opcode) o.args) (sym is.2) ∙ ap (λ b. cond b (wide_part o) (plain_part o)) (sym is.1) in
+    subst (λ b. Respelled (OpText slots total pc) text b o) same made)
 
 ops_respelled : (slots : Slots) (total : ℕ) (ops : List RawOp) (pc : ℕ) (text : List ℕ) → OpsText slots total pc text ops → AllByRecursion (λ o. leads_to is_inside o ≡ true) ops
     → OpsText slots total pc (flat_map op_bytes ops) ops × (length (flat_map op_bytes ops) ≡ length text)
@@ -102,9 +102,10 @@ ops_respelled slots total [] pc text s h = (refl, sym (ap length s))
 ops_respelled slots total (o ∷ ops) pc text (one, more, e, s, others) (h, hs) =
     let r = op_again slots total pc one o s h in
     let u = ops_respelled slots total ops (pc + length one) more others hs in
-    let rest : OpsText slots total (pc + length (op_bytes o)) (flat_map op_bytes ops) ops = subst (λ n. OpsText slots total (pc + n) (flat_map op_bytes ops) ops) (sym r.len) u.0 in
-    ((op_bytes o, flat_map op_bytes ops, refl, r.spelled, rest),
-      length-append (op_bytes o) (flat_map op_bytes ops) ∙ ap (λ n. n + length (flat_map op_bytes ops)) r.len ∙ ap (λ n. length one + n) u.1 ∙ sym (length-append one more) ∙ ap length (sym e))
+    let rest : OpsText slots total (pc + length (op_bytes o)) (flat_map op_bytes ops) ops = subst (λ n. OpsText slots total (pc + n) (flat_map op_bytes ops) ops) (sym r.len) u.0 in (
+      (op_bytes o, flat_map op_bytes ops, refl, r.spelled, rest),
+      length-append (op_bytes o) (flat_map op_bytes ops) ∙ ap (λ n. n + length (flat_map op_bytes ops)) r.len ∙ ap (λ n. length one + n) u.1 ∙ sym (length-append one more) ∙ ap length (sym e),
+    )
 
 -- ---- the whole
 

@@ -42,9 +42,9 @@ outside n z e inside = let no : false ≡ true = ap is_inside e ∙ inside in ab
 
 place_back : (total : ℕ) (to z : ℤ) → place total to ≡ z → is_inside z ≡ true → z ≡ to
 place_back total (pos k) z e inside = elim (ltb k total) as (λ b. cond b (pos k) (negsuc 0) ≡ z → z ≡ pos k) [
-    | true ↦ λ f. sym f
-    | false ↦ λ f. outside 0 z f inside
-  ] e
+  | true ↦ λ f. sym f
+  | false ↦ λ f. outside 0 z f inside
+] e
 place_back total (negsuc k) z e inside = outside 0 z e inside
 
 minus_back : (a s z : ℤ) → z ≡ a +ℤ s → z -ℤ a ≡ s

@@ -72,7 +72,7 @@ wide_args_bytes opcode args = if takes_local opcode then one_bytes (number_bytes
 -- an instruction; 196 is wide
 abbrev pub op_bytes : RawOp → List ℕ
 op_bytes o = if o.wide then to_be_bytes w8 196 ++ (to_be_bytes w8 o.opcode ++ wide_args_bytes o.opcode o.args)
-  else to_be_bytes w8 o.opcode ++ shaped_bytes o.pc (shape_of o.opcode) o.args
+    else to_be_bytes w8 o.opcode ++ shaped_bytes o.pc (shape_of o.opcode) o.args
 
 abbrev pub code_spelling : Code → List ℕ
 code_spelling code = flat_map op_bytes code.ops

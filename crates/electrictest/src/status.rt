@@ -39,9 +39,15 @@ pub enum InputFault {
 #[derive(Debug, Drop)]
 pub enum OverFault {
     /// The test passed its budget, which is given; the list is empty unless workers ran other tests before it.
-    OverBudget { name: Text, budget: u64, list: Items<u32> },
+    OverBudget {
+        name: Text,
+        budget: u64,
+        list: Items<u32>,
+    },
     /// The test passed what was left of the whole suite's units.
-    OverSuite { name: Text },
+    OverSuite {
+        name: Text,
+    },
 }
 
 impl Status {

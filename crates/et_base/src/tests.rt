@@ -23,7 +23,10 @@ fn numbers(rt: HostRuntime) {
 fn modified_utf8(rt: HostRuntime) -> Result<(), Fail> {
     let null = units_of_modified(rt.alloc(), &[0xC0, 0x80])?;
     assert_eq!(rt; null.as_slice(), [0].as_slice());
-    assert_eq!(rt; modified_of_units(rt.alloc(), &null)?.as_slice(), [0xC0, 0x80].as_slice());
+    assert_eq!(rt;
+        modified_of_units(rt.alloc(), &null)?.as_slice(),
+        [0xC0, 0x80].as_slice()
+    );
     let bad = [
         ([0, 0, 0], 0),
         ([0x41, 0xC1, 0x81], 1),
@@ -47,10 +50,16 @@ fn texts(rt: HostRuntime) -> Result<(), Fail> {
     let quoted = quote_bytes(rt.alloc(), b"\\~\xAB")?;
     assert_eq!(rt; quoted.as_slice(), b"\"\\\\~\\xab\"".as_slice());
     let name = Units::from_vec([0x61, 0x2F, 0x3C, 0x3B].to_vec(rt.alloc())?);
-    assert_eq!(rt; name_text(rt.alloc(), &name)?.as_slice(), b"a.<\\u003b".as_slice());
+    assert_eq!(rt;
+        name_text(rt.alloc(), &name)?.as_slice(),
+        b"a.<\\u003b".as_slice()
+    );
     let units = Units::from_vec([0xD83D, 0xDE00, 0xD800, 0xE9].to_vec(rt.alloc())?);
     let bytes = bytes_of_units(rt.alloc(), &units)?;
-    assert_eq!(rt; bytes.as_slice(), [0xF0, 0x9F, 0x98, 0x80, 0x3F, 0xC3, 0xA9].as_slice());
+    assert_eq!(rt;
+        bytes.as_slice(),
+        [0xF0, 0x9F, 0x98, 0x80, 0x3F, 0xC3, 0xA9].as_slice()
+    );
     Ok(())
 }
 

@@ -21,10 +21,10 @@ ends_of : {A : Type 0} (r : Ran A) (b : ℕ) (a : A) (w : World) (left : ℕ) �
 ends_of r b a w left e = elim (cases_Bool (nat_le r.units b)) [
   | inr h ↦ let z : over ≡ ended a w left = sym (rw h refl) ∙ e in absurd (cc)
   | inl h ↦
-    let z : ended r.value r.world (b - r.units) ≡ ended a w left = sym (rw h refl) ∙ e in
-    let n : b - r.units ≡ left = cc in
-    let k = leb-true r.units b h in
-    record { value = (cc); world = (cc); units = omega arith; within = k }
+      let z : ended r.value r.world (b - r.units) ≡ ended a w left = sym (rw h refl) ∙ e in
+      let n : b - r.units ≡ left = cc in
+      let k = leb-true r.units b h in
+      record { value = (cc); world = (cc); units = omega arith; within = k }
 ]
 
 -- A test that was counted to its end, each access of a location that stands, gives this outcome.

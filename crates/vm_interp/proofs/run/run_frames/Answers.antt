@@ -10,7 +10,7 @@ pub returns-in_err-ended-clause-refused : goal.returns-in_err-ended-clause-refus
 returns-in_err-ended-clause-refused g c =
     let r = c.loop.invariant.rest in
     unended_exit c.args.state.now.test (Rest c.args.p.now c.args.budget c.args.state.now c.args.statics.now []) _ _ (err_from_is_err_and c.from_residual.result c.from_residual.ensures.1)
-        (refused_rest c.args.p.now c.args.budget ((c.args.budget - c.args.state.now.units) - c.loop.counter) c.loop.state c.loop.statics r.0 _ _ c.loop.invariant.same_test r.1 _ c.in_err-ended.ensures.refused)
+    (refused_rest c.args.p.now c.args.budget ((c.args.budget - c.args.state.now.units) - c.loop.counter) c.loop.state c.loop.statics r.0 _ _ c.loop.invariant.same_test r.1 _ c.in_err-ended.ensures.refused)
 
 -- the step ended the test
 pub returns-in-Some-clause-gives : goal.returns-in-Some-clause-gives
@@ -34,8 +34,11 @@ loop-preserved g c =
       same_test = h.same_test ∙ c.loop.invariant.same_test;
       costs = omega arith;
       counts = omega (arith, c.loop.invariant.counts, counts);
-      rest = (ts, ap (λ n. given_on c.args.p.now c.args.budget n (state_of c.args.p.now c.step.new.state) (world_of c.args.p.now c.step.new.statics) ts c.step.new.state.units) (sym k)
-          ∙ sym (rest_goes c.args.p.now c.args.budget ((c.args.budget - c.args.state.now.units) - c.loop.counter) c.loop.state c.step.new.state c.loop.statics c.step.new.statics r.0 h) ∙ r.1);
+      rest = (
+        ts,
+        ap (λ n. given_on c.args.p.now c.args.budget n (state_of c.args.p.now c.step.new.state) (world_of c.args.p.now c.step.new.statics) ts c.step.new.state.units) (sym k)
+            ∙ sym (rest_goes c.args.p.now c.args.budget ((c.args.budget - c.args.state.now.units) - c.loop.counter) c.loop.state c.step.new.state c.loop.statics c.step.new.statics r.0 h) ∙ r.1,
+      );
     }
 
 -- no unit is left
