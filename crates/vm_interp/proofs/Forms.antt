@@ -16,16 +16,18 @@ use Rattle.std.specs.Fmt.{signed_decimal}
 use Rattle.jvm_model.specs.Access.{Access, bind, done, read, spend, Ran, run}
 use Rattle.jvm_model.specs.Classes.{method_at, field_at, form_at, next_place, is_static, is_trivial}
 use Rattle.jvm_model.specs.Driver.{once_driven, driven, makes, drive, drive_first, drives, judge}
-use Rattle.jvm_model.specs.Entries.{Entry, Entries, in_method, no_entries, frame_of, frame_cost}
+use Rattle.jvm_model.specs.Entries.{Entry, Entries, no_entries, frame_of, frame_cost}
 use Rattle.jvm_model.specs.Narrow.{narrow, narrowed}
 use Rattle.jvm_model.specs.Natives.{row_native}
+use Rattle.jvm_model.specs.NativesOutside.{native_env}
 use Rattle.jvm_model.specs.Rows.{Answer, none_here, Used, ready, begun_at, begin, once}
 use Rattle.jvm_model.specs.RowsArith.{row_arith}
 use Rattle.jvm_model.specs.RowsCalls.{row_calls, calls, enters_native, argument_count}
 use Rattle.jvm_model.specs.RowsMoves.{row_moves}
 use Rattle.jvm_model.specs.RowsReturn.{row_return, hands_on}
 use Rattle.jvm_model.specs.RowsStatics.{row_statics, read_static, write_static}
-use Rattle.jvm_model.specs.State.{State, Turn, next, ended, last, first, started, test_at}
+use Rattle.jvm_model.specs.State.{State, Turn, next, ended, started, test_at}
+use Rattle.jvm_model.specs.declared.state.Stage.TheVariants.{First, Last}
 use Rattle.jvm_model.specs.Step.{step, row, row_here, row_or_none, after_row, entered}
 use Rattle.jvm_model.specs.World.{World, at, put}
 use Rattle.vm_interp.specs.Making.{Makes}
@@ -38,11 +40,11 @@ abbrev pub frame_at : Program → ℕ → ℕ → List Value → Entry
 frame_at p t pc vs = record (frame_of (body_of p t) (test_at p t).method []) { pc = pc; stack = vs }
 
 abbrev pub framed : Program → ℕ → ℕ → List Value → Own → State
-framed p t pc vs own = record { test = t; entries = only (frame_at p t pc vs); stage = last None; raised = None; own = own }
+framed p t pc vs own = record { test = t; entries = only (frame_at p t pc vs); stage = Last None; raised = None; own = own }
 
 -- the test at its end
 abbrev pub over_with : ℕ → Own → State
-over_with t own = record { test = t; entries = no_entries; stage = last None; raised = None; own = own }
+over_with t own = record { test = t; entries = no_entries; stage = Last None; raised = None; own = own }
 
 -- the step of a frame is that of the row of the instruction at its place
 step_here : (p : Program) (t pc : ℕ) (vs : List Value) (own : Own) (w : World) (i : Instr) → form_at p (test_at p t).method pc ≡ Some i →
@@ -101,7 +103,7 @@ and_prints bytes own = record own { output = own.output ++ bytes }
 pub print_made : (p : Program) (t pc after : ℕ) (vs : List Value) (own : Own) (w : World) (m : ℕ) (n : ℤ) → form_at p (test_at p t).method pc ≡ Some (form.InvokeStatic m) → next_place p (test_at p t).method pc ≡ after →
     is_trivial p (method_at p m).class ≡ true → (method_at p m).native ≡ Some EnvPrint → argument_count p m ≡ 1 →
     Makes p (framed p t pc (Int n ∷ vs) own) w (next (framed p t after vs (and_prints (printed_line n) own))) w (1 + length (printed_line n))
-unfolding row row_calls calls row_native
+unfolding row row_calls calls row_native native_env
 print_made p t pc after vs own w m n h g c d a =
     let s = only (frame_at p t pc (Int n ∷ vs)) in
     let start = framed p t pc (Int n ∷ vs) own in
@@ -127,7 +129,7 @@ unfolding step drive judge
 judge_made p t own w = record { sound = refl; value = refl; world = refl; units = refl }
 
 abbrev before : ℕ → Own → State
-before t own = record { test = t; entries = no_entries; stage = first; raised = None; own = own }
+before t own = record { test = t; entries = no_entries; stage = First; raised = None; own = own }
 
 pub call_made : (p : Program) (t : ℕ) (own : Own) (w : World) → is_static (method_at p (test_at p t).method).flags ≡ true → is_trivial p (method_at p (test_at p t).method).class ≡ true →
     (method_at p (test_at p t).method).body ≡ Some (body_of p t) →
@@ -137,10 +139,10 @@ call_made p t own w a b c =
     let s = before t own in
     let x = test_at p t in
     let class = (method_at p x.method).class in
-    let k : Used → Access Turn = once_driven p s (driven p (method_at p x.method).body x.method [] (last None) s) in
+    let k : Used → Access Turn = once_driven p s (driven p (method_at p x.method).body x.method [] (Last None) s) in
     let makes_object = bind (begin p x.class no_entries) (once_driven p s (makes p x.class s)) in
     made_by p s w _ _ w (1 + frame_cost (body_of p t))
     (ap (λ z. run (spend 1 (cond z (bind (begin p class no_entries) k) makes_object)) w) a
     ∙ ap (λ z. run (spend 1 (bind (cond z (done ready) (read (place.Init class) (begun_at class no_entries))) k)) w) b
-    ∙ ap (λ z. run (spend 1 (driven p z x.method [] (last None) s)) w) c)
+    ∙ ap (λ z. run (spend 1 (driven p z x.method [] (Last None) s)) w) c)
     refl refl refl (omega arith)

@@ -2,3 +2,4 @@ pub mod Served
 pub mod Standing
 pub mod Making
 pub mod Printed
+pub mod Fitting

@@ -5,8 +5,9 @@ use Rattle.jvm_model.specs.declared.values.Value.TheVariants.{Int, Lit, Null}
 use Rattle.jvm_model.specs.declared.outcome.Verdict.TheVariants.{Passed}
 use Rattle.jvm_model.specs.declared.program.Program.{Program}
 use Rattle.jvm_model.specs.Classes.{place_after}
-use Rattle.jvm_model.specs.Entries.{in_method, Entry, Entries, no_entries, frame_of}
-use Rattle.jvm_model.specs.State.{first, last, State, Turn, next, ended, test_at}
+use Rattle.jvm_model.specs.Entries.{Entry, Entries, no_entries, frame_of}
+use Rattle.jvm_model.specs.declared.state.Stage.TheVariants.{First, Last}
+use Rattle.jvm_model.specs.State.{State, Turn, next, ended, test_at}
 use Rattle.jvm_model.specs.Suite.{Given, opening}
 use Rattle.jvm_model.specs.declared.values.Touch.{Touch}
 use Rattle.jvm_model.specs.World.{World}
@@ -36,9 +37,9 @@ only e = record { top = e; below = [] }
 
 -- the state that the machine's state stands for
 abbrev pub state_at : Program → machine.State → Place → State
-state_at p s Start = record { test = s.test; entries = no_entries; stage = first; raised = None; own = s.own }
-state_at p s (At i) = record { test = s.test; entries = only (entry_at p s.test i s.stack.items); stage = last None; raised = None; own = s.own }
-state_at p s End = record { test = s.test; entries = no_entries; stage = last None; raised = None; own = s.own }
+state_at p s Start = record { test = s.test; entries = no_entries; stage = First; raised = None; own = s.own }
+state_at p s (At i) = record { test = s.test; entries = only (entry_at p s.test i s.stack.items); stage = Last None; raised = None; own = s.own }
+state_at p s End = record { test = s.test; entries = no_entries; stage = Last None; raised = None; own = s.own }
 
 abbrev pub state_of : Program → machine.State → State
 state_of p s = state_at p s s.place
