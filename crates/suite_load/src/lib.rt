@@ -13,6 +13,8 @@ mod suite_line;
 mod suite_reading;
 mod suite_text;
 mod test_line;
+#[cfg(test)]
+mod tests;
 
 pub use names::{is_depot_name, is_test_name};
 pub use suite_reading::read_suite;
