@@ -1,5 +1,5 @@
 -- What is spelled is spelled by its spelling, too.
-use Rattle.std.proofs.Common.{◌≡◌, ℕ, zero, suc, ◌+◌, ◌-◌, ◌<◌, ◌≤◌, Bool, true, false, not, cond, eqb, ◌&&◌, ◌||◌, List, [], ◌∷◌, ◌++◌, length, Option, Some, None, refl, sym, ap, subst, ◌∙◌, append_assoc, arith}
+use Rattle.std.proofs.Common.{◌≡◌, ℕ, ◌+◌, Bool, true, false, not, cond, eqb, ◌&&◌, ◌||◌, List, [], ◌∷◌, ◌++◌, length, Option, Some, None, refl, sym, ap, subst, ◌∙◌}
 use Rattle.std.specs.Prelude.{ℤ, pos, negsuc}
 use Rattle.std.specs.List.{AllByRecursion, flat_map, list_all, enumerate_from}
 use Rattle.std.specs.Int.{w8, w16, w32, to_be_bytes}
@@ -13,13 +13,12 @@ use Rattle.code_decode.specs.declared.decoding.Code.{Code}
 use Rattle.code_decode.specs.declared.opcodes.Shape.{Shape}
 use Rattle.code_decode.specs.declared.opcodes.Shape.TheVariants as shape
 use Rattle.code_decode.specs.Opcodes.{shape_of, takes_local}
-use Rattle.code_decode.specs.Instructions.{op}
 use Rattle.code_decode.specs.Judging.{constant_fit, named_fit, kind_fit}
 use Rattle.code_decode.specs.Targets.{is_place, leads, leads_to, is_start}
-use Rattle.code_decode.specs.CodeGrammar.{Word, OneText, IncrementText, ArgsText, ShapedText, WideArgsText, WideText, OpText, OpsText, CodeText}
-use Rattle.code_decode.specs.Spelling.{number_bytes, signed_bytes, offset_bytes, one_bytes, two_bytes, args_bytes, shaped_bytes, wide_args_bytes, op_bytes, code_spelling}
+use Rattle.code_decode.specs.CodeGrammar.{OneText, IncrementText, ArgsText, ShapedText, WideArgsText, WideText, OpText, OpsText, CodeText}
+use Rattle.code_decode.specs.Spelling.{number_bytes, signed_bytes, one_bytes, two_bytes, args_bytes, shaped_bytes, wide_args_bytes, op_bytes, code_spelling}
 use Rattle.code_decode.proofs.SpellingLaw.{turns8, turns16, turns32, is_inside, signed_same, one_same, branch_same, increment_same, fitting_same, interface_same, dimensions_same}
-use Rattle.code_decode.proofs.SpellingSwitches.{Respelled, respelled_same, respelled_then, table_again, lookup_again}
+use Rattle.code_decode.proofs.SpellingSwitches.{Respelled, respelled_same, table_again, lookup_again}
 
 abbrev Slots : Type 0
 Slots = List (Option Entry)
@@ -79,22 +78,22 @@ plain_part o = to_be_bytes w8 o.opcode ++ shaped_bytes o.pc (shape_of o.opcode) 
 op_again : (slots : Slots) (total pc : ℕ) (text : List ℕ) (o : RawOp) → OpText slots total pc text o → leads_to is_inside o ≡ true → Respelled (OpText slots total pc) text (op_bytes o) o
 op_again slots total pc text o (opcode, one, more, e, s, t) inside = picked_bool (eqb opcode 196)
     (λ yes.
-      let w : WideText pc more o = subst (λ b. cond b (WideText pc more o) (ShapedText slots total pc opcode (shape_of opcode) more o)) yes t in
-      let same : text ≡ wide_part o = e ∙ ap (λ x. x ++ more) (s.0 ∙ ap (to_be_bytes w8) (eqb-true _ _ yes)) ∙ ap (λ m. to_be_bytes w8 196 ++ m) (wide_same pc more o w) in
-      respelled_same (OpText slots total pc) text (op_bytes o) o (opcode, one, more, e, s, t) (same ∙ ap (λ b. cond b (wide_part o) (plain_part o)) (sym (wide_is pc more o w))))
+    let w : WideText pc more o = subst (λ b. cond b (WideText pc more o) (ShapedText slots total pc opcode (shape_of opcode) more o)) yes t in
+    let same : text ≡ wide_part o = e ∙ ap (λ x. x ++ more) (s.0 ∙ ap (to_be_bytes w8) (eqb-true _ _ yes)) ∙ ap (λ m. to_be_bytes w8 196 ++ m) (wide_same pc more o w) in
+    respelled_same (OpText slots total pc) text (op_bytes o) o (opcode, one, more, e, s, t) (same ∙ ap (λ b. cond b (wide_part o) (plain_part o)) (sym (wide_is pc more o w))))
     (λ no.
-      let w : ShapedText slots total pc opcode (shape_of opcode) more o = subst (λ b. cond b (WideText pc more o) (ShapedText slots total pc opcode (shape_of opcode) more o)) no t in
-      let is = shaped_is slots total pc opcode (shape_of opcode) more o w in
-      let h : leads (shape_of opcode) is_inside o.args ≡ true = ap (λ k. leads (shape_of k) is_inside o.args) (sym is.0) ∙ inside in
-      let r = shaped_again slots total pc opcode (shape_of opcode) more o w h in
-      let now : List ℕ = shaped_bytes pc (shape_of opcode) o.args in
-      let made : Respelled (OpText slots total pc) text (to_be_bytes w8 opcode ++ now) o = record {
-          spelled = (opcode, to_be_bytes w8 opcode, now, refl, (refl, s.1), subst (λ b. cond b (WideText pc now o) (ShapedText slots total pc opcode (shape_of opcode) now o)) (sym no) r.spelled);
-          len = length-append (to_be_bytes w8 opcode) now ∙ ap (λ n. length (to_be_bytes w8 opcode) + n) r.len ∙ ap (λ n. n + length more) (ap length (sym s.0)) ∙ sym (length-append one more) ∙ ap length (sym e);
-        } in
-      let same : to_be_bytes w8 opcode ++ now ≡ op_bytes o =
-        ap (λ k. to_be_bytes w8 k ++ shaped_bytes pc (shape_of k) o.args) (sym is.0) ∙ ap (λ p. to_be_bytes w8 o.opcode ++ shaped_bytes p (shape_of o.opcode) o.args) (sym is.2) ∙ ap (λ b. cond b (wide_part o) (plain_part o)) (sym is.1) in
-      subst (λ b. Respelled (OpText slots total pc) text b o) same made)
+    let w : ShapedText slots total pc opcode (shape_of opcode) more o = subst (λ b. cond b (WideText pc more o) (ShapedText slots total pc opcode (shape_of opcode) more o)) no t in
+    let is = shaped_is slots total pc opcode (shape_of opcode) more o w in
+    let h : leads (shape_of opcode) is_inside o.args ≡ true = ap (λ k. leads (shape_of k) is_inside o.args) (sym is.0) ∙ inside in
+    let r = shaped_again slots total pc opcode (shape_of opcode) more o w h in
+    let now : List ℕ = shaped_bytes pc (shape_of opcode) o.args in
+    let made : Respelled (OpText slots total pc) text (to_be_bytes w8 opcode ++ now) o = record {
+      spelled = (opcode, to_be_bytes w8 opcode, now, refl, (refl, s.1), subst (λ b. cond b (WideText pc now o) (ShapedText slots total pc opcode (shape_of opcode) now o)) (sym no) r.spelled);
+      len = length-append (to_be_bytes w8 opcode) now ∙ ap (λ n. length (to_be_bytes w8 opcode) + n) r.len ∙ ap (λ n. n + length more) (ap length (sym s.0)) ∙ sym (length-append one more) ∙ ap length (sym e);
+    } in
+    let same : to_be_bytes w8 opcode ++ now ≡ op_bytes o =
+    ap (λ k. to_be_bytes w8 k ++ shaped_bytes pc (shape_of k) o.args) (sym is.0) ∙ ap (λ p. to_be_bytes w8 o.opcode ++ shaped_bytes p (shape_of o.opcode) o.args) (sym is.2) ∙ ap (λ b. cond b (wide_part o) (plain_part o)) (sym is.1) in
+    subst (λ b. Respelled (OpText slots total pc) text b o) same made)
 
 ops_respelled : (slots : Slots) (total : ℕ) (ops : List RawOp) (pc : ℕ) (text : List ℕ) → OpsText slots total pc text ops → AllByRecursion (λ o. leads_to is_inside o ≡ true) ops
     → OpsText slots total pc (flat_map op_bytes ops) ops × (length (flat_map op_bytes ops) ≡ length text)
@@ -102,9 +101,10 @@ ops_respelled slots total [] pc text s h = (refl, sym (ap length s))
 ops_respelled slots total (o ∷ ops) pc text (one, more, e, s, others) (h, hs) =
     let r = op_again slots total pc one o s h in
     let u = ops_respelled slots total ops (pc + length one) more others hs in
-    let rest : OpsText slots total (pc + length (op_bytes o)) (flat_map op_bytes ops) ops = subst (λ n. OpsText slots total (pc + n) (flat_map op_bytes ops) ops) (sym r.len) u.0 in
-    ((op_bytes o, flat_map op_bytes ops, refl, r.spelled, rest),
-      length-append (op_bytes o) (flat_map op_bytes ops) ∙ ap (λ n. n + length (flat_map op_bytes ops)) r.len ∙ ap (λ n. length one + n) u.1 ∙ sym (length-append one more) ∙ ap length (sym e))
+    let rest : OpsText slots total (pc + length (op_bytes o)) (flat_map op_bytes ops) ops = subst (λ n. OpsText slots total (pc + n) (flat_map op_bytes ops) ops) (sym r.len) u.0 in (
+      (op_bytes o, flat_map op_bytes ops, refl, r.spelled, rest),
+      length-append (op_bytes o) (flat_map op_bytes ops) ∙ ap (λ n. n + length (flat_map op_bytes ops)) r.len ∙ ap (λ n. length one + n) u.1 ∙ sym (length-append one more) ∙ ap length (sym e),
+    )
 
 -- ---- the whole
 

@@ -1,15 +1,14 @@
 -- The spelling of switches.
-use Rattle.std.proofs.Common.{◌≡◌, ℕ, zero, suc, ◌+◌, ◌*◌, ◌/◌, ◌%◌, ◌^◌, ◌<◌, ◌≤◌, Bool, true, false, not, eqb, ◌&&◌, ◌||◌, List, [], ◌∷◌, ◌++◌, length, get_or, replicate, Some, refl, sym, ap, subst, ◌∙◌, append_assoc, arith}
-use Rattle.std.specs.Prelude.{ℤ, pos, ◌+ℤ◌}
+use Rattle.std.proofs.Common.{◌≡◌, ℕ, zero, suc, ◌+◌, ◌/◌, ◌%◌, ◌≤◌, Bool, true, not, ◌||◌, List, [], ◌∷◌, ◌++◌, length, replicate, Some, refl, sym, ap, subst, ◌∙◌, append_assoc, arith}
+use Rattle.std.specs.Prelude.{ℤ}
 use Rattle.std.specs.List.{flat_map, list_all, enumerate_from}
-use Rattle.std.specs.Int.{w32, to_be_bytes, cast_signed}
+use Rattle.std.specs.Int.{w32, to_be_bytes}
 use Rattle.std.proofs.lemmas.Bool.Decides.{nat_tests}
 use Rattle.std.proofs.lemmas.List.{append-nil, length-append, length-replicate}
 use Rattle.class_pool.specs.Grammar.{IsBytes, Nothing, Then, Tested, Counted, Joined, Chain}
 use Rattle.class_pool.proofs.Laws.{both_true}
 use Rattle.code_decode.specs.declared.opcodes.Shape.{Shape}
 use Rattle.code_decode.specs.declared.opcodes.Shape.TheVariants as shape
-use Rattle.code_decode.specs.Place.{target}
 use Rattle.code_decode.specs.Targets.{is_place, leads}
 use Rattle.code_decode.specs.Switches.{padding, span, keys_rise}
 use Rattle.code_decode.specs.CodeGrammar.{WordText, PlaceText, OtherText, EndsText, TableText, CountText, PairText, PairsText, LookupText}
@@ -28,9 +27,9 @@ respelled_same S text now x s e = record { spelled = subst (λ t. S t x) e s; le
 -- the first part spelled again, and the second as it was
 pub respelled_then : {A B : Type 0} (S : List ℕ → A → Type 0) (T : A → List ℕ → B → Type 0) (one more first second : List ℕ) (x : A) (y : B) → Respelled S one first x → T x more y → more ≡ second → Respelled (Then S T) (one ++ more) (first ++ second) y
 respelled_then S T one more first second x y r t e = record {
-    spelled = (x, first, second, refl, r.spelled, subst (λ m. T x m y) e t);
-    len = length-append first second ∙ ap (λ n. n + length second) r.len ∙ ap (λ n. length one + n) (ap length (sym e)) ∙ sym (length-append one more);
-  }
+  spelled = (x, first, second, refl, r.spelled, subst (λ m. T x m y) e t);
+  len = length-append first second ∙ ap (λ n. n + length second) r.len ∙ ap (λ n. length one + n) (ap length (sym e)) ∙ sym (length-append one more);
+}
 
 zeros_fit : (n : ℕ) → IsBytes (replicate n 0)
 zeros_fit zero i = omega arith
@@ -79,9 +78,9 @@ table_again total pc text args (other, one, more, e, s, (ends, two, rows, f, t, 
     let h : leads (Some shape.Table) is_inside made ≡ true = ap (leads (Some shape.Table) is_inside) (sym is) ∙ inside in
     let p = both_true (is_inside other) (inside_from shape.Table 3 xs) h in
     let second : more ≡ (signed_bytes w32 ends.0 ++ signed_bytes w32 ends.1) ++ flat_map (offset_bytes w32 pc) xs =
-      f ∙ ap (λ o. o ++ rows) (ends_same two ends t) ∙ ap (λ m. (signed_bytes w32 ends.0 ++ signed_bytes w32 ends.1) ++ m) (rows_same total pc xs (other ∷ ends.0 ∷ ends.1 ∷ []) rows 3 (omega arith) joined p.1) in
+    f ∙ ap (λ o. o ++ rows) (ends_same two ends t) ∙ ap (λ m. (signed_bytes w32 ends.0 ++ signed_bytes w32 ends.1) ++ m) (rows_same total pc xs (other ∷ ends.0 ∷ ends.1 ∷ []) rows 3 (omega arith) joined p.1) in
     let whole : Respelled (TableText total pc) (one ++ more) (table_bytes pc made) args =
-      respelled_then (OtherText total pc) (λ other. Then EndsText (λ ends. Counted (λ _ _. PlaceText total pc) (other ∷ ends.0 ∷ ends.1 ∷ []) (span ends.0 ends.1))) one more _ _ other args (other_again total pc one other s p.0) (ends, two, rows, f, t, (xs, is, len, joined)) second in
+    respelled_then (OtherText total pc) (λ other. Then EndsText (λ ends. Counted (λ _ _. PlaceText total pc) (other ∷ ends.0 ∷ ends.1 ∷ []) (span ends.0 ends.1))) one more _ _ other args (other_again total pc one other s p.0) (ends, two, rows, f, t, (xs, is, len, joined)) second in
     subst (λ b. Respelled (TableText total pc) b (table_bytes pc args) args) (sym e) (subst (λ a. Respelled (TableText total pc) (one ++ more) (table_bytes pc a) args) (sym is) whole)
 
 -- ---- lookupswitch
@@ -106,13 +105,13 @@ pairs_of total pc (suc n) before text args (mid, one, more, e, (key, two, rest, 
       all = r.all ∙ append_assoc before (key ∷ to ∷ []) r.pairs;
       len = omega (arith, r.len);
       same = λ i odd h.
-        let p = both_true (not (is_place (Some shape.Lookup) i) || is_inside key) _ h in
-        let q = both_true (not (is_place (Some shape.Lookup) (i + 1)) || is_inside to) _ p.1 in
-        let first : two ≡ signed_bytes w32 key = word_same two key s in
-        let second : rest ≡ offset_bytes w32 pc to = place_same total pc rest to t (lookup_place i (is_inside to) odd q.0) in
-        let third : more ≡ pair_bytes pc r.pairs = r.same (i + 1 + 1) (omega arith) q.1 in
-        e ∙ ap (λ o. o ++ more) (f ∙ ap (λ o. o ++ rest) first ∙ ap (λ m. signed_bytes w32 key ++ m) second) ∙ append_assoc (signed_bytes w32 key) (offset_bytes w32 pc to) more
-        ∙ ap (λ m. signed_bytes w32 key ++ offset_bytes w32 pc to ++ m) third;
+          let p = both_true (not (is_place (Some shape.Lookup) i) || is_inside key) _ h in
+          let q = both_true (not (is_place (Some shape.Lookup) (i + 1)) || is_inside to) _ p.1 in
+          let first : two ≡ signed_bytes w32 key = word_same two key s in
+          let second : rest ≡ offset_bytes w32 pc to = place_same total pc rest to t (lookup_place i (is_inside to) odd q.0) in
+          let third : more ≡ pair_bytes pc r.pairs = r.same (i + 1 + 1) (omega arith) q.1 in
+          e ∙ ap (λ o. o ++ more) (f ∙ ap (λ o. o ++ rest) first ∙ ap (λ m. signed_bytes w32 key ++ m) second) ∙ append_assoc (signed_bytes w32 key) (offset_bytes w32 pc to) more
+          ∙ ap (λ m. signed_bytes w32 key ++ offset_bytes w32 pc to ++ m) third;
     }
 
 count_same : (text : List ℕ) (n : ℕ) → CountText text n → text ≡ to_be_bytes w32 n
@@ -128,8 +127,8 @@ lookup_again total pc text args (other, one, more, e, s, (listed, two, rest, f, 
     let h : leads (Some shape.Lookup) is_inside (other ∷ r.pairs) ≡ true = ap (leads (Some shape.Lookup) is_inside) (sym all) ∙ inside in
     let p = both_true (is_inside other) (inside_from shape.Lookup 1 r.pairs) h in
     let second : more ≡ to_be_bytes w32 (length r.pairs / 2) ++ pair_bytes pc r.pairs =
-      f ∙ ap (λ m. two ++ m) none ∙ append-nil two ∙ g ∙ ap (λ o. o ++ four) (count_same three n t ∙ ap (to_be_bytes w32) (half n (length r.pairs) r.len))
-      ∙ ap (λ m. to_be_bytes w32 (length r.pairs / 2) ++ m) (r.same 1 refl p.1) in
+    f ∙ ap (λ m. two ++ m) none ∙ append-nil two ∙ g ∙ ap (λ o. o ++ four) (count_same three n t ∙ ap (to_be_bytes w32) (half n (length r.pairs) r.len))
+    ∙ ap (λ m. to_be_bytes w32 (length r.pairs / 2) ++ m) (r.same 1 refl p.1) in
     let whole : Respelled (LookupText total pc) (one ++ more) (lookup_bytes pc (other ∷ r.pairs)) args =
-      respelled_then (OtherText total pc) (λ other. Then (PairsText total pc other) (λ args. Tested (keys_rise args) (Nothing args))) one more _ _ other args (other_again total pc one other s p.0) (listed, two, rest, f, (n, three, four, g, t, chain), (rise, (none, is))) second in
+    respelled_then (OtherText total pc) (λ other. Then (PairsText total pc other) (λ args. Tested (keys_rise args) (Nothing args))) one more _ _ other args (other_again total pc one other s p.0) (listed, two, rest, f, (n, three, four, g, t, chain), (rise, (none, is))) second in
     subst (λ b. Respelled (LookupText total pc) b (lookup_bytes pc args) args) (sym e) (subst (λ a. Respelled (LookupText total pc) (one ++ more) (lookup_bytes pc a) args) (sym all) whole)

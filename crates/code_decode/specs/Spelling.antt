@@ -1,5 +1,5 @@
 -- The bytes of instructions, as they are written. Padding is written as zeros.
-use Rattle.std.specs.Prelude.{ℕ, ◌/◌, ℤ, pos, ◌-ℤ◌, nat_abs, List, [], ◌∷◌, ◌++◌, length, Option, Some, None, replicate, ◌==◌, if◌then◌else◌}
+use Rattle.std.specs.Prelude.{ℕ, ◌/◌, ℤ, pos, ◌-ℤ◌, nat_abs, List, [], ◌∷◌, ◌++◌, length, Option, Some, None, replicate, if◌then◌else◌}
 use Rattle.std.specs.List.{flat_map}
 use Rattle.std.specs.Int.{Width, w8, w16, w32, to_be_bytes, cast_unsigned}
 use Rattle.code_decode.specs.declared.instructions.RawOp.{RawOp}
@@ -72,7 +72,7 @@ wide_args_bytes opcode args = if takes_local opcode then one_bytes (number_bytes
 -- an instruction; 196 is wide
 abbrev pub op_bytes : RawOp → List ℕ
 op_bytes o = if o.wide then to_be_bytes w8 196 ++ (to_be_bytes w8 o.opcode ++ wide_args_bytes o.opcode o.args)
-  else to_be_bytes w8 o.opcode ++ shaped_bytes o.pc (shape_of o.opcode) o.args
+    else to_be_bytes w8 o.opcode ++ shaped_bytes o.pc (shape_of o.opcode) o.args
 
 abbrev pub code_spelling : Code → List ℕ
 code_spelling code = flat_map op_bytes code.ops

@@ -88,7 +88,9 @@ fn is_place(shape: Option<Shape>, i: usize) -> bool
 fn leads(shape: Option<Shape>, starts: &Starts, args: &[i32]) -> bool
     ensures { result ≡ leads shape (is_marked starts.now) args.now }
 {
-    args.iter().enumerate().all(|(i, to)| !is_place(shape, i) || starts.is_marked(*to))
+    args.iter()
+        .enumerate()
+        .all(|(i, to)| !is_place(shape, i) || starts.is_marked(*to))
 }
 
 // Whether each place that an instruction leads to is marked.
