@@ -1,5 +1,5 @@
 -- What is spelled is spelled by its spelling, too.
-use Rattle.std.proofs.Common.{◌≡◌, ℕ, zero, suc, ◌+◌, ◌-◌, ◌<◌, ◌≤◌, Bool, true, false, not, cond, eqb, ◌&&◌, ◌||◌, List, [], ◌∷◌, ◌++◌, length, Option, Some, None, refl, sym, ap, subst, ◌∙◌, append_assoc, arith}
+use Rattle.std.proofs.Common.{◌≡◌, ℕ, ◌+◌, Bool, true, false, not, cond, eqb, ◌&&◌, ◌||◌, List, [], ◌∷◌, ◌++◌, length, Option, Some, None, refl, sym, ap, subst, ◌∙◌}
 use Rattle.std.specs.Prelude.{ℤ, pos, negsuc}
 use Rattle.std.specs.List.{AllByRecursion, flat_map, list_all, enumerate_from}
 use Rattle.std.specs.Int.{w8, w16, w32, to_be_bytes}
@@ -13,13 +13,12 @@ use Rattle.code_decode.specs.declared.decoding.Code.{Code}
 use Rattle.code_decode.specs.declared.opcodes.Shape.{Shape}
 use Rattle.code_decode.specs.declared.opcodes.Shape.TheVariants as shape
 use Rattle.code_decode.specs.Opcodes.{shape_of, takes_local}
-use Rattle.code_decode.specs.Instructions.{op}
 use Rattle.code_decode.specs.Judging.{constant_fit, named_fit, kind_fit}
 use Rattle.code_decode.specs.Targets.{is_place, leads, leads_to, is_start}
-use Rattle.code_decode.specs.CodeGrammar.{Word, OneText, IncrementText, ArgsText, ShapedText, WideArgsText, WideText, OpText, OpsText, CodeText}
-use Rattle.code_decode.specs.Spelling.{number_bytes, signed_bytes, offset_bytes, one_bytes, two_bytes, args_bytes, shaped_bytes, wide_args_bytes, op_bytes, code_spelling}
+use Rattle.code_decode.specs.CodeGrammar.{OneText, IncrementText, ArgsText, ShapedText, WideArgsText, WideText, OpText, OpsText, CodeText}
+use Rattle.code_decode.specs.Spelling.{number_bytes, signed_bytes, one_bytes, two_bytes, args_bytes, shaped_bytes, wide_args_bytes, op_bytes, code_spelling}
 use Rattle.code_decode.proofs.SpellingLaw.{turns8, turns16, turns32, is_inside, signed_same, one_same, branch_same, increment_same, fitting_same, interface_same, dimensions_same}
-use Rattle.code_decode.proofs.SpellingSwitches.{Respelled, respelled_same, respelled_then, table_again, lookup_again}
+use Rattle.code_decode.proofs.SpellingSwitches.{Respelled, respelled_same, table_again, lookup_again}
 
 abbrev Slots : Type 0
 Slots = List (Option Entry)

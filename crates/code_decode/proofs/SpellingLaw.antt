@@ -1,22 +1,18 @@
 -- The spelling of a code that was taken from bytes spells that code: it differs from those bytes in padding alone.
-use Rattle.std.proofs.Common.{◌≡◌, ℕ, zero, suc, ◌+◌, ◌-◌, ◌*◌, ◌/◌, ◌%◌, ◌^◌, ◌<◌, ◌≤◌, Bool, true, false, not, cond, eqb, ltb, ◌&&◌, ◌||◌, List, [], ◌∷◌, ◌++◌, length, replicate, Option, Some, None, refl, sym, ap, subst, ◌∙◌, append_assoc, arith}
+use Rattle.std.proofs.Common.{◌≡◌, ℕ, ◌*◌, ◌^◌, ◌<◌, Bool, true, false, cond, ltb, ◌&&◌, List, [], ◌∷◌, ◌++◌, Option, Some, refl, sym, ap, ◌∙◌, arith}
 use Rattle.std.specs.Prelude.{ℤ, pos, negsuc, ◌+ℤ◌, ◌-ℤ◌}
-use Rattle.std.specs.List.{AllByRecursion, flat_map, list_all, enumerate_from}
 use Rattle.std.specs.Int.{Width, w8, w16, w32, byte_len, to_be_bytes, cast_signed, cast_unsigned}
 use Rattle.std.proofs.lemmas.Bool.{eqb-true}
-use Rattle.std.proofs.lemmas.Bool.Decides.{nat_tests}
 use Rattle.std.proofs.lemmas.Int.{ints, of_z-to_z}
-use Rattle.std.proofs.lemmas.List.{append-nil, length-append}
+use Rattle.std.proofs.lemmas.List.{append-nil}
 use Rattle.class_pool.specs.declared.pool.Entry.{Entry}
-use Rattle.class_pool.specs.Grammar.{Then, Joined, Chain}
 use Rattle.class_pool.proofs.Laws.{both_true}
 use Rattle.code_decode.specs.declared.judging.Fit.{Fit}
 use Rattle.code_decode.specs.declared.opcodes.Shape.TheVariants as shape
 use Rattle.code_decode.specs.Place.{place, target}
-use Rattle.code_decode.specs.Targets.{is_place, leads}
-use Rattle.code_decode.specs.Switches.{padding}
-use Rattle.code_decode.specs.CodeGrammar.{Word, OneText, IncrementText, FittingText, InterfaceText, DimensionsText, WordText, PlaceText, OtherText, EndsText, TableText, CountText, PairText, PairsText, LookupText}
-use Rattle.code_decode.specs.Spelling.{number_bytes, signed_bytes, offset_bytes, pair_bytes, one_bytes, two_bytes, table_bytes, lookup_bytes}
+use Rattle.code_decode.specs.Targets.{leads}
+use Rattle.code_decode.specs.CodeGrammar.{OneText, IncrementText, FittingText, InterfaceText, DimensionsText}
+use Rattle.code_decode.specs.Spelling.{number_bytes, signed_bytes, offset_bytes, one_bytes, two_bytes}
 
 -- ---- numbers and places
 

@@ -1,15 +1,14 @@
 -- The spelling of switches.
-use Rattle.std.proofs.Common.{◌≡◌, ℕ, zero, suc, ◌+◌, ◌*◌, ◌/◌, ◌%◌, ◌^◌, ◌<◌, ◌≤◌, Bool, true, false, not, eqb, ◌&&◌, ◌||◌, List, [], ◌∷◌, ◌++◌, length, get_or, replicate, Some, refl, sym, ap, subst, ◌∙◌, append_assoc, arith}
-use Rattle.std.specs.Prelude.{ℤ, pos, ◌+ℤ◌}
+use Rattle.std.proofs.Common.{◌≡◌, ℕ, zero, suc, ◌+◌, ◌/◌, ◌%◌, ◌≤◌, Bool, true, not, ◌||◌, List, [], ◌∷◌, ◌++◌, length, replicate, Some, refl, sym, ap, subst, ◌∙◌, append_assoc, arith}
+use Rattle.std.specs.Prelude.{ℤ}
 use Rattle.std.specs.List.{flat_map, list_all, enumerate_from}
-use Rattle.std.specs.Int.{w32, to_be_bytes, cast_signed}
+use Rattle.std.specs.Int.{w32, to_be_bytes}
 use Rattle.std.proofs.lemmas.Bool.Decides.{nat_tests}
 use Rattle.std.proofs.lemmas.List.{append-nil, length-append, length-replicate}
 use Rattle.class_pool.specs.Grammar.{IsBytes, Nothing, Then, Tested, Counted, Joined, Chain}
 use Rattle.class_pool.proofs.Laws.{both_true}
 use Rattle.code_decode.specs.declared.opcodes.Shape.{Shape}
 use Rattle.code_decode.specs.declared.opcodes.Shape.TheVariants as shape
-use Rattle.code_decode.specs.Place.{target}
 use Rattle.code_decode.specs.Targets.{is_place, leads}
 use Rattle.code_decode.specs.Switches.{padding, span, keys_rise}
 use Rattle.code_decode.specs.CodeGrammar.{WordText, PlaceText, OtherText, EndsText, TableText, CountText, PairText, PairsText, LookupText}

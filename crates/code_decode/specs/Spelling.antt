@@ -1,5 +1,5 @@
 -- The bytes of instructions, as they are written. Padding is written as zeros.
-use Rattle.std.specs.Prelude.{ℕ, ◌/◌, ℤ, pos, ◌-ℤ◌, nat_abs, List, [], ◌∷◌, ◌++◌, length, Option, Some, None, replicate, ◌==◌, if◌then◌else◌}
+use Rattle.std.specs.Prelude.{ℕ, ◌/◌, ℤ, pos, ◌-ℤ◌, nat_abs, List, [], ◌∷◌, ◌++◌, length, Option, Some, None, replicate, if◌then◌else◌}
 use Rattle.std.specs.List.{flat_map}
 use Rattle.std.specs.Int.{Width, w8, w16, w32, to_be_bytes, cast_unsigned}
 use Rattle.code_decode.specs.declared.instructions.RawOp.{RawOp}
