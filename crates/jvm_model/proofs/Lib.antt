@@ -10,6 +10,7 @@ pub mod Runs
 pub mod Upwards
 pub mod Builtins
 pub mod Walks
+pub mod Places
 pub mod Tests
 pub mod Pointwise
 pub mod Standing
