@@ -1,6 +1,7 @@
 pub mod Binds
 pub mod Bridges
 pub mod Uses
+pub mod Steps
 pub mod Locations
 pub mod Fuel
 pub mod Ranges
@@ -17,3 +18,4 @@ pub mod Standing
 mod ExampleParts
 mod Examples
 mod LargerExamples
+mod MoreExamples

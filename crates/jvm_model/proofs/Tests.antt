@@ -1,13 +1,13 @@
 -- What counting down a test says of it.
-use Rattle.std.proofs.Common.{◌≡◌, ◌⊎◌, ℕ, ◌-◌, ◌≤◌, ◌<◌, List, Bool, true, false, nat_le, if◌then◌else◌, refl, sym, ◌∙◌, ap, inl, inr, arith, Option, Some, None}
-use Rattle.std.proofs.lemmas.Bool.{cases_Bool, leb-true, leb-false}
+use Rattle.std.proofs.Common.{◌≡◌, ℕ, ◌-◌, ◌≤◌, List, Bool, true, false, nat_le, refl, sym, ◌∙◌, inl, inr, arith, Some, None}
+use Rattle.std.proofs.lemmas.Bool.{cases_Bool, leb-true}
 use Rattle.jvm_model.specs.declared.values.Touch.{Touch}
 use Rattle.jvm_model.specs.declared.outcome.Verdict.{Verdict}
 use Rattle.jvm_model.specs.declared.program.Program.{Program}
 use Rattle.jvm_model.specs.World.{World}
-use Rattle.jvm_model.specs.Access.{Access, Ran, run}
-use Rattle.jvm_model.specs.View.{Counted, over, ended, counted, touched}
-use Rattle.jvm_model.specs.Suite.{End, finished, stuck, out_of_steps, tree, Given, given_at, one_test}
+use Rattle.jvm_model.specs.Access.{Ran, run}
+use Rattle.jvm_model.specs.View.{over, ended, counted}
+use Rattle.jvm_model.specs.Suite.{End, finished, stuck, out_of_steps, tree, given_at, one_test}
 use Rattle.jvm_model.proofs.Bridges.{compared, counted_is}
 
 -- a run that ended under a number of units
@@ -21,10 +21,10 @@ ends_of : {A : Type 0} (r : Ran A) (b : ℕ) (a : A) (w : World) (left : ℕ) �
 ends_of r b a w left e = elim (cases_Bool (nat_le r.units b)) [
   | inr h ↦ let z : over ≡ ended a w left = sym (rw h refl) ∙ e in absurd (cc)
   | inl h ↦
-    let z : ended r.value r.world (b - r.units) ≡ ended a w left = sym (rw h refl) ∙ e in
-    let n : b - r.units ≡ left = cc in
-    let k = leb-true r.units b h in
-    record { value = (cc); world = (cc); units = omega arith; within = k }
+      let z : ended r.value r.world (b - r.units) ≡ ended a w left = sym (rw h refl) ∙ e in
+      let n : b - r.units ≡ left = cc in
+      let k = leb-true r.units b h in
+      record { value = (cc); world = (cc); units = omega arith; within = k }
 ]
 
 -- A test that was counted to its end, each access of a location that stands, gives this outcome.
