@@ -1,14 +1,13 @@
 -- The built-in classes keep the rules of a linked program: tests over the whole tables, computed.
-use Rattle.std.proofs.Common.{◌≡◌, ℕ, suc, List, [], ◌∷◌, ◌++◌, ◌+◌, length, get_or, Bool, true, false, ◌&&◌, ◌||◌, not, nat_eq, nat_lt, refl, Option, Some, None}
+use Rattle.std.proofs.Common.{◌≡◌, ℕ, List, [], ◌∷◌, ◌+◌, length, get_or, Bool, true, ◌&&◌, not, nat_eq, nat_lt, refl, Option, Some, None}
 use Rattle.std.specs.List.{list_all, list_any}
 use Rattle.jvm_model.specs.declared.program.Program.{Program}
 use Rattle.jvm_model.specs.declared.program.ClassRec.{ClassRec}
-use Rattle.jvm_model.specs.declared.program.FieldRec.{FieldRec}
 use Rattle.jvm_model.specs.declared.program.MethodRec.{MethodRec}
 use Rattle.jvm_model.specs.World.{same_units}
 use Rattle.jvm_model.specs.Builtin.{builtin_count}
 use Rattle.jvm_model.specs.Library.{builtin_defs, builtin_classes, builtin_fields, builtin_methods}
-use Rattle.jvm_model.specs.Classes.{member, no_class, no_field, no_method, is_static, default_of}
+use Rattle.jvm_model.specs.Classes.{no_class, no_field}
 use Rattle.jvm_model.specs.Names.{is_class_name, is_unqualified, is_method_name, is_field_descriptor, is_method_descriptor, after_class, after_element, after_type, argument, arguments, argument_units}
 use Rattle.jvm_model.specs.Linked.{count, opens}
 

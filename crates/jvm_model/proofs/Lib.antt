@@ -1,6 +1,7 @@
 pub mod Binds
 pub mod Bridges
 pub mod Uses
+pub mod Steps
 pub mod Locations
 pub mod Fuel
 pub mod Ranges
@@ -10,9 +11,11 @@ pub mod Runs
 pub mod Upwards
 pub mod Builtins
 pub mod Walks
+pub mod Places
 pub mod Tests
 pub mod Pointwise
 pub mod Standing
 mod ExampleParts
 mod Examples
 mod LargerExamples
+mod MoreExamples

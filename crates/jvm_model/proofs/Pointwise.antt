@@ -1,8 +1,8 @@
 -- Worlds of one size that hold the same at each location: a program runs alike in both.
-use Rattle.std.proofs.Common.{◌≡◌, ◌⊎◌, ℕ, suc, ◌+◌, List, ◌∷◌, ◌++◌, Bool, true, false, ◌&&◌, nat_lt, refl, sym, ◌∙◌, ap, subst, inl, inr, arith, Option, Some, None}
+use Rattle.std.proofs.Common.{◌≡◌, ℕ, suc, ◌+◌, ◌∷◌, ◌++◌, Bool, true, ◌&&◌, nat_lt, refl, sym, ◌∙◌, ap, subst, inl, inr, Option, Some, None}
 use Rattle.std.proofs.lemmas.Bool.{cases_Bool, and_parts}
 use Rattle.jvm_model.specs.declared.values.Location.{Location}
-use Rattle.jvm_model.specs.World.{Content, Object, World, size, at, put, make_object, place_of, has, part, same}
+use Rattle.jvm_model.specs.World.{Content, Object, World, size, at, put, make_object, place_of, has, same}
 use Rattle.jvm_model.specs.Access.{Access, done, read, write, make, spend, read_of, write_of, made, Ran, run}
 use Rattle.jvm_model.proofs.Locations.{same_true, same_false, at_put_same, at_put_other, size_put, size_make, at_make_other, at_make_new, is_of_cases}
 

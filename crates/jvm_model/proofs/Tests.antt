@@ -1,13 +1,13 @@
 -- What counting down a test says of it.
-use Rattle.std.proofs.Common.{◌≡◌, ◌⊎◌, ℕ, ◌-◌, ◌≤◌, ◌<◌, List, Bool, true, false, nat_le, if◌then◌else◌, refl, sym, ◌∙◌, ap, inl, inr, arith, Option, Some, None}
-use Rattle.std.proofs.lemmas.Bool.{cases_Bool, leb-true, leb-false}
+use Rattle.std.proofs.Common.{◌≡◌, ℕ, ◌-◌, ◌≤◌, List, Bool, true, false, nat_le, refl, sym, ◌∙◌, inl, inr, arith, Some, None}
+use Rattle.std.proofs.lemmas.Bool.{cases_Bool, leb-true}
 use Rattle.jvm_model.specs.declared.values.Touch.{Touch}
 use Rattle.jvm_model.specs.declared.outcome.Verdict.{Verdict}
 use Rattle.jvm_model.specs.declared.program.Program.{Program}
 use Rattle.jvm_model.specs.World.{World}
-use Rattle.jvm_model.specs.Access.{Access, Ran, run}
-use Rattle.jvm_model.specs.View.{Counted, over, ended, counted, touched}
-use Rattle.jvm_model.specs.Suite.{End, finished, stuck, out_of_steps, tree, Given, given_at, one_test}
+use Rattle.jvm_model.specs.Access.{Ran, run}
+use Rattle.jvm_model.specs.View.{over, ended, counted}
+use Rattle.jvm_model.specs.Suite.{End, finished, stuck, out_of_steps, tree, given_at, one_test}
 use Rattle.jvm_model.proofs.Bridges.{compared, counted_is}
 
 -- a run that ended under a number of units
