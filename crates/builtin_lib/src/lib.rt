@@ -5,11 +5,13 @@ ghost use Rattle.std.specs.Prelude.{◌≡◌, IfOk};
 ghost use Rattle.jvm_model.specs.Library.{builtin_defs};
 ghost use Rattle.builtin_lib.specs.Rows.{native_among};
 
+mod records;
 mod rows;
 mod tables;
 
 use et_base::{Items, NoMemory, Units};
 use jvm_model::{ClassDef, Native};
+pub use records::{BuiltinRecords, builtin_records};
 use std::alloc::Global;
 use tables::class_rows;
 

@@ -36,8 +36,8 @@ pub struct ClassRow {
     pub methods: &'static [MethodRow],
 }
 
-// The code units of an ASCII text.
-fn units_of(alloc: Global, text: &[u8]) -> Result<Units, NoMemory>
+/// The code units of an ASCII text.
+pub fn units_of(alloc: Global, text: &[u8]) -> Result<Units, NoMemory>
     ensures { IfOk result (λ units. units ≡ text.now) }
 {
     let mut units = Vec::new(alloc);
