@@ -10,6 +10,7 @@ pub mod Detection
 pub mod Runs
 pub mod Upwards
 pub mod Builtins
+pub mod BuiltinRules
 pub mod Walks
 pub mod Places
 pub mod Tests

@@ -25,7 +25,7 @@ use Rattle.jvm_model.specs.Library.{builtin_defs, builtin_classes, builtin_field
 use Rattle.jvm_model.specs.Classes.{class_bound, own_interfaces, is_below, implements, default_interfaces, is_trivial, layout, blank, form_at, next_place}
 use Rattle.jvm_model.specs.Descriptors.{parameters, return_type}
 use Rattle.jvm_model.specs.Narrow.{narrow}
-use Rattle.jvm_model.specs.Suite.{Given, opening, tree, one_test, runs, all_tests}
+use Rattle.jvm_model.specs.Suite.{Given, opening, tree, one_test, runs, all_tests, suite_limit, over_budget, suite_fault}
 use Rattle.jvm_model.specs.Step.{step, row, row_here, row_throw}
 use Rattle.jvm_model.specs.Throwing.{throws}
 use Rattle.jvm_model.specs.Raising.{row_raise, handler_for}
@@ -45,7 +45,7 @@ use Rattle.jvm_model.specs.NativesObject.{native_object, native_throwable}
 use Rattle.jvm_model.specs.NativesString.{native_string, native_builder, hash_of}
 use Rattle.jvm_model.specs.NativesOutside.{native_system, native_print, native_files, native_env}
 use Rattle.jvm_model.specs.Driver.{drive, drives, drive_first, drive_init, drive_set_up, drive_method, drive_tear_down, judge}
-use Rattle.jvm_model.proofs.ExampleParts.{program, class, body, fixed, plain, test, int_const, literal, get_static, returns, load_this, print, print_number, outcomes, places, last_places, passed, error, line}
+use Rattle.jvm_model.proofs.ExampleParts.{program, class, body, fixed, plain, test, int_const, literal, static_int, get_static, put_static, returns, load_this, print, print_number, outcomes, places, last_places, passed, error, line}
 
 -- `<init>` that calls that of Object
 abbrev plain_init : List (ℕ × Instr)
@@ -141,3 +141,18 @@ super_suite = program
 super_runs : outcomes (runs super_suite (all_tests super_suite)) ≡ Some (passed (line (codes "2") ++ line (codes "1")) 36 ∷ error 16 None [] 22 ∷ [])
 unfolding builtin_classes builtin_fields builtin_methods builtin_defs class_bound own_interfaces is_below implements default_interfaces is_trivial layout blank form_at next_place parameters return_type narrow opening tree one_test runs step row row_here row_throw throws row_raise handler_for row_finish row_fail parts_of begin row_moves row_arith row_branches row_statics read_static write_static row_fields row_create new_object row_calls calls argument_count row_return hands_on kept_method select select_virtual select_interface select_special row_native native_object native_throwable native_string native_builder native_system native_print native_files native_env drive drives drive_first drive_init drive_set_up drive_method drive_tear_down judge digits add64 utf16_chars encode add32 int_wrap lookup_target hash_of nest children nest_cost row_arrays kind_fits class_fits l2i
 super_runs = refl
+
+-- a static that is set and printed, under a budget of each test
+abbrev counter_suite : ℕ → Program
+counter_suite b = program (class (codes "Counter") (2 ∷ []) (102 ∷ 103 ∷ []) ∷ []) (static_int 32 (codes "n") ∷ [])
+    (fixed 32 (codes "set") (codes "()V") (body 1 0 (int_const 5 ∷ put_static 2 ∷ returns ∷ []))
+    ∷ fixed 32 (codes "show") (codes "()V") (body 1 0 (get_static 2 ∷ print_number)) ∷ [])
+    [] (record (test 32 102) { budget = b } ∷ record (test 32 103) { budget = b } ∷ [])
+
+budget_kept : suite_fault (counter_suite 8) ≡ None
+unfolding builtin_classes builtin_fields builtin_methods builtin_defs class_bound own_interfaces is_below implements default_interfaces is_trivial layout blank form_at next_place parameters return_type narrow opening tree one_test runs step row row_here row_throw throws row_raise handler_for row_finish row_fail parts_of begin row_moves row_arith row_branches row_statics read_static write_static row_fields row_create new_object row_calls calls argument_count row_return hands_on kept_method select select_virtual select_interface select_special row_native native_object native_throwable native_string native_builder native_system native_print native_files native_env drive drives drive_first drive_init drive_set_up drive_method drive_tear_down judge digits add64 utf16_chars encode add32 int_wrap lookup_target hash_of nest children nest_cost row_arrays kind_fits class_fits l2i suite_fault suite_limit
+budget_kept = refl
+
+budget_passed : suite_fault (counter_suite 7) ≡ Some (over_budget 2 7)
+unfolding builtin_classes builtin_fields builtin_methods builtin_defs class_bound own_interfaces is_below implements default_interfaces is_trivial layout blank form_at next_place parameters return_type narrow opening tree one_test runs step row row_here row_throw throws row_raise handler_for row_finish row_fail parts_of begin row_moves row_arith row_branches row_statics read_static write_static row_fields row_create new_object row_calls calls argument_count row_return hands_on kept_method select select_virtual select_interface select_special row_native native_object native_throwable native_string native_builder native_system native_print native_files native_env drive drives drive_first drive_init drive_set_up drive_method drive_tear_down judge digits add64 utf16_chars encode add32 int_wrap lookup_target hash_of nest children nest_cost row_arrays kind_fits class_fits l2i suite_fault suite_limit
+budget_passed = refl
