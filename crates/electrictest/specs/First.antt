@@ -1,7 +1,7 @@
 -- The programs that are served so far: a suite with at most one class, whose fields are static ints and whose methods are
 -- static, take and give nothing, and go straight on over ints, the class's fields, additions and
 -- `electric/Env.print(I)V` (this project's). Everything else has no program here.
-use Rattle.std.specs.Prelude.{ℕ, ℤ, pos, ◌-ℤ◌, ◌+◌, List, [], ◌∷◌, ◌++◌, length, map, get_or, codes, Bool, true, false, not, ◌&&◌, ◌==◌, nat_le, nat_lt, Option, Some, None, is_none, if◌then◌else◌}
+use Rattle.std.specs.Prelude.{ℕ, ℤ, pos, ◌-ℤ◌, ◌+◌, List, [], ◌∷◌, ◌++◌, length, map, get_or, codes, Bool, true, false, not, ◌&&◌, ◌||◌, ◌==◌, nat_le, nat_lt, Option, Some, None, is_none, if◌then◌else◌}
 use Rattle.std.specs.Int.{w32, cast_unsigned}
 use Rattle.std.specs.List.{range_with_len, list_all}
 use Rattle.class_pool.specs.declared.pool.Entry.{Entry}
@@ -74,7 +74,7 @@ own_field slots this _ = None
 
 -- the entry refers to electric/Env.print(I)V
 abbrev pub is_print : List (Option Entry) → Option Entry → Bool
-is_print slots (Some (entry.Method class pair)) = is_text (class_name_of slots (entry_of slots class)) (codes "electric/Env") && is_text (pair_name slots (entry_of slots pair) (codes "(I)V")) (codes "print")
+is_print slots (Some (entry.Method class pair)) = if is_text (class_name_of slots (entry_of slots class)) (codes "electric/Env") then is_text (pair_name slots (entry_of slots pair) (codes "(I)V")) (codes "print") else false
 is_print slots _ = false
 
 -- the number of the first field of this name, the first of the list having the number n
@@ -95,24 +95,21 @@ first_argument op = get_or op.args 0 (pos 0)
 abbrev pub entry_at : List (Option Entry) → ℤ → Option Entry
 entry_at slots z = let n = cast_unsigned w32 z in if nat_lt n 65536 then entry_of slots n else None
 
--- the instruction with its field resolved (JVMS 6.5)
-unfoldable pub static_form : List (Option Entry) → List ℕ → List FieldRec → RawOp → (ℕ → Instr) → Option Instr
-static_form slots this fields op made = do
-  name ← own_field slots this (entry_at slots (first_argument op))
-  number ← field_number first_field fields name
-  Some (made number)
+-- the number of the static that an operand refers to
+abbrev pub static_number : List (Option Entry) → List ℕ → List FieldRec → RawOp → Option ℕ
+static_number slots this fields op = own_field slots this (entry_at slots (first_argument op)) >>= λ name. field_number first_field fields name
 
+-- the instruction with its field resolved (JVMS 6.5)
 unfoldable pub instruction : List (Option Entry) → List ℕ → List FieldRec → RawOp → Option Instr
 instruction slots this fields op =
     if nat_le 2 op.opcode && nat_le op.opcode 8 then Some (form.Const (Int (pos op.opcode -ℤ pos 3)))
-    else (if op.opcode == 16 then Some (form.Const (Int (first_argument op)))
-    else (if op.opcode == 17 then Some (form.Const (Int (first_argument op)))
+    else (if op.opcode == 16 || op.opcode == 17 then Some (form.Const (Int (first_argument op)))
     else (if op.opcode == 96 then Some (form.Binary Add false)
     else (if op.opcode == 177 then Some (form.Return None)
-    else (if op.opcode == 178 then static_form slots this fields op (λ f. form.GetStatic f)
-    else (if op.opcode == 179 then static_form slots this fields op (λ f. form.PutStatic f)
+    else (if op.opcode == 178 then (static_number slots this fields op >>= λ f. Some (form.GetStatic f))
+    else (if op.opcode == 179 then (static_number slots this fields op >>= λ f. Some (form.PutStatic f))
     else (if op.opcode == 184 && is_print slots (entry_at slots (first_argument op)) then Some (form.InvokeStatic print_method)
-    else None)))))))
+    else None))))))
 
 unfoldable pub placed : List (Option Entry) → List ℕ → List FieldRec → RawOp → Option Placed
 placed slots this fields op = instruction slots this fields op >>= λ i. Some (record { pc = op.pc; form = i })
@@ -172,7 +169,7 @@ class_program suite c = do
   methods ← each (given_method c.pool this fields) [] c.methods
   tests ← each (given_test this methods suite.budget) [] suite.tests
   let p = program_with (class_rec this c fields methods ∷ []) fields methods tests in
-    (where_true (list_all (λ m. is_served_method p m) methods) >>= λ _. Some p)
+      (where_true (list_all (λ m. is_served_method p m) methods) >>= λ _. Some p)
 
 -- the program of a suite and its class, if it has one
 unfoldable pub first_program : SuiteText → Option ClassParts → Option Program

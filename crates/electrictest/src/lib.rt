@@ -1,6 +1,9 @@
 //! The commands: from the words of a command line, the files of a depot to the text on a sink.
 #![tactic(auto)]
 
+mod form_refusal;
+mod given;
+mod references;
 mod status;
 
 pub use status::{InputFault, OverFault, Status};

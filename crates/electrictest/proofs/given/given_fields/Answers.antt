@@ -1,0 +1,18 @@
+use Rattle.std.proofs.Common.{◌≡◌, [], ap, sym, ◌∙◌, subst, ◌++◌, ◌∷◌, ◌+◌, drop}
+use Rattle.std.proofs.lemmas.Result.{err_from_is_err_and}
+use Rattle.electrictest.specs.First.{each, given_field, given_method, given_test, placed}
+use Rattle.electrictest.proofs.Eaches.{each_more, each_lacks, each_done, lacks_exit}
+use Rattle.electrictest.proofs.given.given_fields.Goals as goal
+
+pub returns-in_err-field : goal.returns-in_err-field
+returns-in_err-field c =
+    lacks_exit _ _ _ _ (err_from_is_err_and c.from_residual.result c.from_residual.ensures.1)
+    (each_lacks (given_field c.args.slots.now) _ c.args.parts.now c.loop-part.part-index c.part-item.result _ c.loop-part-test.true c.part-item.is c.loop-part.invariant c.in_err-field.ensures)
+
+pub loop-part-preserved : goal.loop-part-preserved
+loop-part-preserved c =
+    ap (λ z. each (given_field c.args.slots.now) z (drop (c.loop-part.part-index + 1) c.args.parts.now)) c.in_ok-push.ensures.pushed
+    ∙ each_more (given_field c.args.slots.now) c.loop-part.made c.args.parts.now c.loop-part.part-index c.part-item.result c.in_ok-field.field c.loop-part-test.true c.part-item.is c.loop-part.invariant c.in_ok-field.ensures
+
+pub returns : goal.returns
+returns c = each_done (given_field c.args.slots.now) _ c.args.parts.now c.loop-part.part-index c.loop-part-test.false c.loop-part.invariant
