@@ -1,6 +1,7 @@
 //! Names and descriptors (JVMS 4.2 and 4.3).
 
-ghost use Rattle.std.specs.Prelude.{◌≡◌, ◌==◌, not, length, option_map, position};
+ghost use Rattle.class_pool.specs.NamesGrammar.{IsFieldType, IsMethodType};
+ghost use Rattle.std.specs.Prelude.{◌≡◌, ◌==◌, not, length, option_map, position, ℕ, ◌↔◌, IsTrue, IfSome, Some};
 ghost use Rattle.std.specs.List.{list_all};
 ghost use Rattle.class_pool.specs.Names.{is_plain, is_unqualified, is_special, is_unpointed, is_method_name, is_class_name, is_base, after_class, after_element, after_type, ends, is_field_descriptor, starts_array, is_class_entry_name, units_of_type, argument, after_close, arguments, is_return, argument_units, is_method_descriptor};
 
@@ -140,12 +141,19 @@ pub fn after_type(units: &[u16]) -> Option<&[u16]>
     }
 }
 
-/// Whether these units are a field descriptor (JVMS 4.3.2).
 #[tactic(auto, unfolding(crate::specs::Names::is_field_descriptor))]
-pub fn is_field_descriptor(units: &[u16]) -> bool
+fn is_whole_type(units: &[u16]) -> bool
     ensures { result ≡ is_field_descriptor units.now }
 {
     matches!(after_type(units), Some([]))
+}
+
+/// Whether these units are a field descriptor (JVMS 4.3.2).
+pub fn is_field_descriptor(units: &[u16]) -> bool
+    ensures test { result ≡ is_field_descriptor units.now }
+    ensures grammar { IsTrue result ↔ IsFieldType units.now }
+{
+    is_whole_type(units)
 }
 
 /// Whether a Class entry may have this name: that of a class or interface, or an array type's
@@ -210,10 +218,8 @@ fn is_return(units: &[u16]) -> bool
     units == [86].as_slice() || is_field_descriptor(units)
 }
 
-/// How many units the arguments of this method descriptor take, a long or double two and every other
-/// one; none where it is no method descriptor. There are at most 255 (JVMS 4.3.3).
 #[tactic(auto, unfolding(crate::specs::Names::argument_units))]
-pub fn argument_units(units: &[u16]) -> Option<u8>
+fn count_arguments(units: &[u16]) -> Option<u8>
     ensures { result ≡ argument_units units.now }
 {
     match units {
@@ -223,6 +229,16 @@ pub fn argument_units(units: &[u16]) -> Option<u8>
         }
         _ => None,
     }
+}
+
+/// How many units the arguments of this method descriptor take, a long or double two and every other
+/// one; none where it is no method descriptor. There are at most 255 (JVMS 4.3.3).
+pub fn argument_units(units: &[u16]) -> Option<u8>
+    ensures count { result ≡ argument_units units.now }
+    ensures found { IfSome result (λ n. IsMethodType units.now n) }
+    ensures only { (n : ℕ) → IsMethodType units.now n → result ≡ Some n }
+{
+    count_arguments(units)
 }
 
 /// Whether these units are a method descriptor (JVMS 4.3.3).
