@@ -5,16 +5,28 @@ ghost use Rattle.std.specs.Prelude.{◌≡◌, ◌==◌, not, length, option_map
 ghost use Rattle.std.specs.List.{list_all};
 ghost use Rattle.class_pool.specs.Names.{is_plain, is_unqualified, is_special, is_unpointed, is_method_name, is_class_name, is_base, after_class, after_element, after_type, ends, is_field_descriptor, starts_array, is_class_entry_name, units_of_type, argument, after_close, arguments, is_return, argument_units, is_method_descriptor};
 
+const DOT: u16 = 46;
+
+const SLASH: u16 = 47;
+
+const SEMICOLON: u16 = 59;
+
+const LESS: u16 = 60;
+
+const MORE: u16 = 62;
+
+const BRACKET: u16 = 91;
+
 fn is_plain(unit: u16) -> bool
     ensures { result ≡ is_plain unit }
 {
-    !(unit == 46 || unit == 59 || unit == 91 || unit == 47)
+    !(unit == DOT || unit == SEMICOLON || unit == BRACKET || unit == SLASH)
 }
 
 fn is_unpointed(unit: u16) -> bool
     ensures { result ≡ is_unpointed unit }
 {
-    !(unit == 60 || unit == 62)
+    !(unit == LESS || unit == MORE)
 }
 
 fn all_plain(units: &[u16]) -> bool
@@ -61,7 +73,7 @@ pub fn is_class_name(units: &[u16]) -> bool
 {
     let mut begun = false;
     for unit in units {
-        if *unit == 47 {
+        if *unit == SLASH {
             if !begun {
                 return false;
             }
@@ -78,6 +90,7 @@ pub fn is_class_name(units: &[u16]) -> bool
 fn is_base(unit: u16) -> bool
     ensures { result ≡ is_base unit }
 {
+    // B C D F I J S Z
     matches!(unit, 66 | 67 | 68 | 70 | 73 | 74 | 83 | 90)
 }
 
@@ -85,7 +98,7 @@ fn is_base(unit: u16) -> bool
 fn semicolon(units: &[u16]) -> Option<usize>
     ensures { result ≡ position (λ u. u == 59) units.now }
 {
-    units.iter().position(|unit| *unit == 59)
+    units.iter().position(|unit| *unit == SEMICOLON)
 }
 
 // What follows a class name and its semicolon.
@@ -124,7 +137,7 @@ fn after_element(units: &[u16]) -> Option<&[u16]>
 fn brackets(units: &[u16]) -> Option<usize>
     ensures { result ≡ position (λ u. not (u == 91)) units.now }
 {
-    units.iter().position(|unit| *unit != 91)
+    units.iter().position(|unit| *unit != BRACKET)
 }
 
 /// What follows the field type at the front; none where none stands there. An array type has at most
@@ -170,6 +183,7 @@ fn units_of_type(units: &[u16]) -> u8
     ensures { result ≡ units_of_type units.now }
 {
     match units {
+        // J and D
         [74 | 68, ..] => 2,
         _ => 1,
     }
