@@ -15,6 +15,7 @@ use crate::fault::{ClassFault, shown};
 use crate::members::{fields_of, methods_of};
 use crate::names::{class_at, own_class_at};
 use crate::parts::{ClassFile, ClassParts, MemberPart};
+use crate::texts::Texts;
 use class_pool::fault::wants;
 use class_pool::fields::{u16_at, u32_at};
 use class_pool::{Fault, Pool, ReadError};
@@ -71,8 +72,9 @@ fn members_of<'a>(
 ) -> Result<((Items<MemberPart>, Items<MemberPart>), &'a [u8]), ReadError>
     ensures { Gives (λ x. ((x.0.0, x.0.1), x.1.now)) result (members_at pool.now bytes.now) }
 {
-    let (fields, rest) = fields_of(alloc, pool, bytes)?;
-    let (methods, rest) = methods_of(alloc, pool, rest)?;
+    let texts = Texts::new(alloc, pool)?;
+    let (fields, rest) = fields_of(alloc, &texts, bytes)?;
+    let (methods, rest) = methods_of(alloc, &texts, rest)?;
     let (_, rest) = after_all(pool, rest)?;
     Ok(((fields, methods), rest))
 }

@@ -9,6 +9,7 @@ mod maps;
 mod members;
 mod names;
 mod parts;
+mod texts;
 
 pub use class::read_class;
 pub use code_decode::{Code, RawOp};
