@@ -4,3 +4,7 @@ pub mod PoolSteps
 pub mod PoolLaw
 pub mod WriteLaw
 pub mod NamesLaw
+pub mod Faults
+pub mod PoolFaults
+pub mod OffsetsLaw
+pub mod PoolFacts

@@ -12,7 +12,7 @@ use Rattle.class_pool.specs.declared.fault.Fault.TheVariants.{BadTag, BadIndex, 
 use Rattle.class_pool.specs.declared.pool.Entry.{Entry}
 use Rattle.class_pool.specs.declared.pool.Entry.TheVariants.{Utf8, Integer, Float, Long, Double, Class, Str, Field, Method, InterfaceMethod, NameAndType, MethodHandle, MethodType, InvokeDynamic}
 use Rattle.class_pool.specs.Reading.{◌>>=◌, number_at, run_at}
-use Rattle.class_pool.specs.Pool.{units_or, text_at, single_at, double_at, handle_at, doubles_at, singles_at, numbers_at, body_at, entry_at, slot_by, slot_at, is_second, is_wide, slot_len, slots_at, wrong_index, wrong_name, found_at, pass, no_place, indices_pass, names_pass, pool_at}
+use Rattle.class_pool.specs.Pool.{units_or, text_at, single_at, twin_at, handle_at, twins_at, singles_at, numbers_at, body_at, entry_at, slot_by, slot_at, is_second, is_wide, slot_len, slots_at, wrong_index, wrong_name, found_at, pass, no_place, indices_pass, names_pass, pool_at}
 use Rattle.class_pool.specs.Grammar.{IsBytes, Nothing, Then, Mapped, Never, Number, Signed, Run, Counted, Joined}
 use Rattle.class_pool.specs.PoolGrammar.{entry_bytes, EntryFits, EntryText, SlotText, IsSound, PoolText}
 use Rattle.class_pool.proofs.Laws.{reads_8, reads_16, reads_32, reads_64, reads_signed_as, wide32, wide64, reads_run_then, both_true, chosen, done, bind_ok, ok_is, Taken, Reads, reads_nothing, reads_then, reads_mapped, reads_if, reads_never, reads_as, reads_counted}
@@ -75,15 +75,15 @@ Body tag slots text e = cond (eqb tag 1) (TextBody text e) (cond (eqb tag 15) (H
 reads_single : (made : ℕ → Entry) → Reads (Single made) (single_at made)
 reads_single made = reads_mapped made _ _ reads_16
 
-reads_twin : (made : ℕ → ℕ → Entry) → Reads (Twin made) (double_at made)
+reads_twin : (made : ℕ → ℕ → Entry) → Reads (Twin made) (twin_at made)
 reads_twin made = reads_then _ _ (λ bytes. number_at w16 bytes) (λ _ a rest. number_at w16 rest >>= λ b. Ok (made a b.0, b.1)) reads_16 (λ _ a. reads_mapped (made a) _ _ reads_16)
 
 reads_handle : Reads HandleBody handle_at
 unfolding handle_at
 reads_handle = reads_then _ _ (λ bytes. number_at w8 bytes) (λ _ kind rest. number_at w16 rest >>= λ b. Ok (MethodHandle kind b.0, b.1)) reads_8 (λ _ kind. reads_mapped (MethodHandle kind) _ _ reads_16)
 
-reads_twins : (tag left : ℕ) → Reads (Twins tag) (doubles_at tag left)
-unfolding doubles_at
+reads_twins : (tag left : ℕ) → Reads (Twins tag) (twins_at tag left)
+unfolding twins_at
 reads_twins tag left =
     reads_if (eqb tag 9) _ _ _ _ (reads_twin Field)
     (reads_if (eqb tag 10) _ _ _ _ (reads_twin Method)
@@ -294,3 +294,10 @@ reads_pool = reads_as _ PoolText _ pool_to pool_from (reads_then (Number w16 (2 
     (λ all n rest. slots_at n rest >>= λ slots. indices_pass slots.0 (length rest) >>= λ _. names_pass slots.0 (length rest) >>= λ _. Ok slots)
     reads_16 (λ all n. reads_then (Counted SlotText [] (n - 1)) Sound (λ bytes. slots_at n bytes) (λ all slots rest. indices_pass slots (length all) >>= λ _. names_pass slots (length all) >>= λ _. Ok (slots, rest))
     (reads_counted SlotText slot_at reads_slot (n - 1) []) (λ all slots. reads_sound slots (length all))))
+
+abbrev no_bytes : List ℕ
+no_bytes = []
+
+-- bytes spell one pool at most
+pub pool_once : (text : List ℕ) (a b : List (Option Entry)) → PoolText text a → PoolText text b → a ≡ b
+pool_once text a b s t = let e : done (a, no_bytes) ≡ done (b, no_bytes) = sym (reads_pool.again text [] a s) ∙ reads_pool.again text [] b t in ap (λ (x : List (Option Entry) × List ℕ). x.0) (ok_is (a, no_bytes) (b, no_bytes) e)

@@ -5,3 +5,4 @@ pub mod Names
 pub mod Pool
 pub mod PoolGrammar
 pub mod Marks
+pub mod Offsets

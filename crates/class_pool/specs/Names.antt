@@ -25,14 +25,19 @@ is_unpointed u = not (u == 60 || u == 62)
 abbrev pub is_method_name : List ℕ → Bool
 is_method_name us = is_special us || (is_unqualified us && list_all is_unpointed us)
 
--- the rest of a name in internal form; begun says that its last part has a unit before this rest
-abbrev pub is_named_on : Bool → List ℕ → Bool
-is_named_on begun [] = begun
-is_named_on begun (u ∷ us) = if u == 47 then begun && is_named_on false us else is_plain u && is_named_on true us
+-- one more unit in front of the first part
+abbrev pub grown : ℕ → List (List ℕ) → List (List ℕ)
+grown u [] = (u ∷ []) ∷ []
+grown u (part ∷ parts) = (u ∷ part) ∷ parts
 
--- A class or interface name in internal form (JVMS 4.2.1): unqualified names, joined by /.
+-- what stands before, between and after the slashes
+abbrev pub parts_of : List ℕ → List (List ℕ)
+parts_of [] = [] ∷ []
+parts_of (u ∷ us) = if u == 47 then [] ∷ parts_of us else grown u (parts_of us)
+
+-- A class or interface name in internal form (JVMS 4.2.1): unqualified names, joined by slashes.
 unfoldable pub is_class_name : List ℕ → Bool
-is_class_name us = is_named_on false us
+is_class_name us = list_all is_unqualified (parts_of us)
 
 -- ---- descriptors
 

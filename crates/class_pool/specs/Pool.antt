@@ -1,5 +1,5 @@
 -- The constant pool (JVMS 4.4): how it is read, and the first fault.
-use Rattle.std.specs.Prelude.{ℕ, zero, suc, ◌+◌, ◌-◌, List, [], ◌∷◌, length, Option, Some, None, Result, Ok, Err, Bool, true, false, nat_lt, nat_le, ◌==◌, ◌&&◌, ◌||◌, slice_index_or, if◌then◌else◌}
+use Rattle.std.specs.Prelude.{ℕ, zero, suc, ◌+◌, ◌-◌, List, [], ◌∷◌, length, Option, Some, None, Result, Ok, Err, Bool, true, false, nat_lt, nat_le, ◌==◌, ◌&&◌, ◌||◌, slice_index_or, if◌then◌else◌, ◌<◌, ◌≤◌, ◌≡◌}
 use Rattle.std.specs.Int.{w8, w16, w32, w64, cast_signed}
 use Rattle.et_base.specs.Utf.{utf}
 use Rattle.et_base.specs.UtfReading.{units_read}
@@ -33,8 +33,8 @@ single_at made bytes = do
   Ok (made a.0, a.1)
 
 -- an entry of two indices
-abbrev pub double_at : (ℕ → ℕ → Entry) → List ℕ → Result (Entry × List ℕ) Fault
-double_at made bytes = do
+abbrev pub twin_at : (ℕ → ℕ → Entry) → List ℕ → Result (Entry × List ℕ) Fault
+twin_at made bytes = do
   a ← number_at w16 bytes
   b ← number_at w16 a.1
   Ok (made a.0 b.0, b.1)
@@ -47,12 +47,12 @@ handle_at bytes = do
   Ok (MethodHandle kind.0 index.0, index.1)
 
 -- The content behind a tag (JVMS 4.4): first the entries of two indices, and none for other tags; left is what is left at the tag.
-unfoldable pub doubles_at : ℕ → ℕ → List ℕ → Result (Entry × List ℕ) Fault
-doubles_at tag left bytes = if tag == 9 then double_at Field bytes
-    else if tag == 10 then double_at Method bytes
-    else if tag == 11 then double_at InterfaceMethod bytes
-    else if tag == 12 then double_at NameAndType bytes
-    else if tag == 18 then double_at InvokeDynamic bytes
+unfoldable pub twins_at : ℕ → ℕ → List ℕ → Result (Entry × List ℕ) Fault
+twins_at tag left bytes = if tag == 9 then twin_at Field bytes
+    else if tag == 10 then twin_at Method bytes
+    else if tag == 11 then twin_at InterfaceMethod bytes
+    else if tag == 12 then twin_at NameAndType bytes
+    else if tag == 18 then twin_at InvokeDynamic bytes
     else Err (BadTag left tag)
 
 -- those of one index before them
@@ -60,7 +60,7 @@ unfoldable pub singles_at : ℕ → ℕ → List ℕ → Result (Entry × List �
 singles_at tag left bytes = if tag == 7 then single_at Class bytes
     else if tag == 8 then single_at Str bytes
     else if tag == 16 then single_at MethodType bytes
-    else doubles_at tag left bytes
+    else twins_at tag left bytes
 
 -- Numbers before them. A long or a double has a slot after its own, so it can't stand in the last one.
 unfoldable pub numbers_at : ℕ → ℕ → ℕ → List ℕ → Result (Entry × List ℕ) Fault
@@ -141,6 +141,12 @@ slot_len (Some entry) = entry_len entry
 abbrev pub entry_of : List (Option Entry) → ℕ → Option Entry
 entry_of slots zero = None
 entry_of slots (suc i) = slice_index_or slots i None
+
+-- An index names an entry: it is neither 0 nor past the end, and the one before it names no long or double (JVMS 4.4.5).
+pub record NamesEntry (slots : List (Option Entry)) (index : ℕ) : Type 0 where
+  pub some : 0 < index
+  pub within : index ≤ length slots
+  pub first : is_wide (entry_of slots (index - 1)) ≡ false
 
 abbrev pub is_text : Option Entry → Bool
 is_text (Some (Utf8 units)) = true

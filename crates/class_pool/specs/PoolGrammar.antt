@@ -10,8 +10,8 @@ use Rattle.class_pool.specs.Grammar.{Joined}
 use Rattle.class_pool.specs.Pool.{is_second, is_wide, wrong_index, wrong_name}
 
 -- a tag and two indices
-abbrev pub double_bytes : ℕ → ℕ → ℕ → List ℕ
-double_bytes tag a b = tag ∷ to_be_bytes w16 a ++ to_be_bytes w16 b
+abbrev pub twin_bytes : ℕ → ℕ → ℕ → List ℕ
+twin_bytes tag a b = tag ∷ to_be_bytes w16 a ++ to_be_bytes w16 b
 
 -- a tag and what follows it
 abbrev pub entry_bytes : Entry → List ℕ
@@ -22,13 +22,13 @@ entry_bytes (Long n) = 5 ∷ to_be_bytes w64 (cast_unsigned w64 n)
 entry_bytes (Double n) = 6 ∷ to_be_bytes w64 n
 entry_bytes (Class name) = 7 ∷ to_be_bytes w16 name
 entry_bytes (Str text) = 8 ∷ to_be_bytes w16 text
-entry_bytes (Field class pair) = double_bytes 9 class pair
-entry_bytes (Method class pair) = double_bytes 10 class pair
-entry_bytes (InterfaceMethod class pair) = double_bytes 11 class pair
-entry_bytes (NameAndType name descriptor) = double_bytes 12 name descriptor
+entry_bytes (Field class pair) = twin_bytes 9 class pair
+entry_bytes (Method class pair) = twin_bytes 10 class pair
+entry_bytes (InterfaceMethod class pair) = twin_bytes 11 class pair
+entry_bytes (NameAndType name descriptor) = twin_bytes 12 name descriptor
 entry_bytes (MethodHandle kind index) = 15 ∷ to_be_bytes w8 kind ++ to_be_bytes w16 index
 entry_bytes (MethodType descriptor) = 16 ∷ to_be_bytes w16 descriptor
-entry_bytes (InvokeDynamic bootstrap pair) = double_bytes 18 bootstrap pair
+entry_bytes (InvokeDynamic bootstrap pair) = twin_bytes 18 bootstrap pair
 
 -- what has a spelling: numbers in the range of their fields, and texts of fewer than 65,536 bytes
 abbrev pub EntryFits : Entry → Type 0

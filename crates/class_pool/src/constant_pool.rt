@@ -1,8 +1,8 @@
 //! The constant pool as a type that keeps the conditions of its grammar.
 
-ghost use Rattle.std.specs.Prelude.{◌≡◌, List, Option, option_copied};
+ghost use Rattle.std.specs.Prelude.{◌≡◌, ◌↔◌, List, Option, IsSome, option_copied};
 ghost use Rattle.class_pool.specs.Reading.{Gives};
-ghost use Rattle.class_pool.specs.Pool.{entry_of, pool_at};
+ghost use Rattle.class_pool.specs.Pool.{entry_of, NamesEntry, pool_at};
 ghost use Rattle.class_pool.specs.PoolGrammar.{IsPool};
 
 use crate::fault::ReadError;
@@ -49,7 +49,8 @@ impl Pool {
     /// The entry that this index names; none exactly where it is 0, past the end, or the second slot
     /// of a long or double.
     pub fn entry(&self, index: u16) -> Option<&Entry>
-        ensures { option_copied result ≡ entry_of self.now index }
+        ensures entry { option_copied result ≡ entry_of self.now index }
+        ensures named { IsSome result ↔ NamesEntry self.now index }
     {
         entry_at(self.slots.as_slice(), index)
     }

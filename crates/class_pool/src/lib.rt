@@ -6,11 +6,16 @@ pub mod fault;
 pub mod fields;
 pub mod lookup;
 pub mod names;
+mod offsets;
 mod passes;
 pub mod pool;
 pub mod write;
 
 pub use constant_pool::{Pool, pool_at};
 pub use fault::{Fault, ReadError};
+pub use offsets::{PoolFault, read_pool};
 pub use pool::Entry;
 pub use write::{put_pool, write_pool};
+
+#[cfg(test)]
+mod tests;

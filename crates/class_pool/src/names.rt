@@ -2,7 +2,7 @@
 
 ghost use Rattle.std.specs.Prelude.{◌≡◌, ◌==◌, not, length, option_map, position};
 ghost use Rattle.std.specs.List.{list_all};
-ghost use Rattle.class_pool.specs.Names.{is_plain, is_unqualified, is_special, is_unpointed, is_method_name, is_named_on, is_class_name, is_base, after_class, after_element, after_type, ends, is_field_descriptor, starts_array, is_class_entry_name, units_of_type, argument, after_close, arguments, is_return, argument_units, is_method_descriptor};
+ghost use Rattle.class_pool.specs.Names.{is_plain, is_unqualified, is_special, is_unpointed, is_method_name, is_class_name, is_base, after_class, after_element, after_type, ends, is_field_descriptor, starts_array, is_class_entry_name, units_of_type, argument, after_close, arguments, is_return, argument_units, is_method_descriptor};
 
 fn is_plain(unit: u16) -> bool
     ensures { result ≡ is_plain unit }
@@ -54,7 +54,7 @@ pub fn is_method_name(units: &[u16]) -> bool
 
 /// Whether these units are the name of a class or interface in internal form: unqualified names
 /// joined by `/` (JVMS 4.2.1).
-#[tactic(auto, unfolding(crate::specs::Names::is_class_name))]
+#[tactic(auto, using(crate::proofs::NamesLaw::named_from))]
 pub fn is_class_name(units: &[u16]) -> bool
     ensures { result ≡ is_class_name units.now }
 {

@@ -4,7 +4,7 @@ ghost use Rattle.std.specs.Prelude.{◌≡◌, ◌-◌, ◌^◌, ◌<◌, length
 ghost use Rattle.et_base.specs.Utf.{group, utf};
 ghost use Rattle.et_base.specs.UtfReading.{units_read};
 ghost use Rattle.class_pool.specs.Reading.{Gives};
-ghost use Rattle.class_pool.specs.Pool.{units_or, text_at, handle_at, doubles_at, singles_at, numbers_at, body_at, entry_at, is_wide, slot_by, slots_at, slot_len};
+ghost use Rattle.class_pool.specs.Pool.{units_or, text_at, handle_at, twins_at, singles_at, numbers_at, body_at, entry_at, is_wide, slot_by, slots_at, slot_len};
 
 use crate::fault::{Fault, ReadError};
 use crate::fields::{run_at, u8_at, u16_at, u32_at, u64_at};
@@ -65,9 +65,9 @@ fn handle_of(bytes: &[u8]) -> Result<(Entry, &[u8]), ReadError>
     Ok((Entry::MethodHandle { kind, index }, rest))
 }
 
-#[tactic(auto, unfolding(crate::specs::Pool::doubles_at))]
-fn doubles_of(tag: u8, left: usize, bytes: &[u8]) -> Result<(Entry, &[u8]), ReadError>
-    ensures { Gives (λ x. (x.0, x.1.now)) result (doubles_at tag left bytes.now) }
+#[tactic(auto, unfolding(crate::specs::Pool::twins_at))]
+fn twins_of(tag: u8, left: usize, bytes: &[u8]) -> Result<(Entry, &[u8]), ReadError>
+    ensures { Gives (λ x. (x.0, x.1.now)) result (twins_at tag left bytes.now) }
 {
     match tag {
         9 => {
@@ -116,7 +116,7 @@ fn singles_of(tag: u8, left: usize, bytes: &[u8]) -> Result<(Entry, &[u8]), Read
             let (descriptor, rest) = u16_at(bytes)?;
             Ok((Entry::MethodType { descriptor }, rest))
         }
-        _ => doubles_of(tag, left, bytes),
+        _ => twins_of(tag, left, bytes),
     }
 }
 

@@ -3,7 +3,7 @@
 ghost use Rattle.std.specs.Prelude.{◌≡◌, ◌++◌, ◌∷◌, ◌^◌, ◌<◌, length, OnOk, IfOk, Some};
 ghost use Rattle.std.specs.Int.{w8, w16, to_be_bytes};
 ghost use Rattle.et_base.specs.Utf.{utf};
-ghost use Rattle.class_pool.specs.PoolGrammar.{EntryFits, double_bytes, slot_bytes, IsPool, pool_spelling, PoolText};
+ghost use Rattle.class_pool.specs.PoolGrammar.{EntryFits, twin_bytes, slot_bytes, IsPool, pool_spelling, PoolText};
 
 use crate::constant_pool::Pool;
 use crate::pool::{Entry, after_units};
@@ -28,8 +28,8 @@ fn put_single(out: &mut Vec<u8>, tag: u8, index: u16) -> Result<(), NoMemory>
 }
 
 // A tag and two indices.
-fn put_double(out: &mut Vec<u8>, tag: u8, first: u16, second: u16) -> Result<(), NoMemory>
-    ensures { OnOk result (out.new.items ≡ out.old.items ++ double_bytes tag first second) }
+fn put_twin(out: &mut Vec<u8>, tag: u8, first: u16, second: u16) -> Result<(), NoMemory>
+    ensures { OnOk result (out.new.items ≡ out.old.items ++ twin_bytes tag first second) }
 {
     out.push(tag)?;
     out.extend_from_slice(&first.to_be_bytes())?;
@@ -75,13 +75,13 @@ fn put_entry(out: &mut Vec<u8>, entry: &Entry) -> Result<(), NoMemory>
         Entry::Double(bits) => put_number(out, 6, &bits.to_be_bytes()),
         Entry::Class { name } => put_single(out, 7, *name),
         Entry::Str { text } => put_single(out, 8, *text),
-        Entry::Field { class, pair } => put_double(out, 9, *class, *pair),
-        Entry::Method { class, pair } => put_double(out, 10, *class, *pair),
-        Entry::InterfaceMethod { class, pair } => put_double(out, 11, *class, *pair),
-        Entry::NameAndType { name, descriptor } => put_double(out, 12, *name, *descriptor),
+        Entry::Field { class, pair } => put_twin(out, 9, *class, *pair),
+        Entry::Method { class, pair } => put_twin(out, 10, *class, *pair),
+        Entry::InterfaceMethod { class, pair } => put_twin(out, 11, *class, *pair),
+        Entry::NameAndType { name, descriptor } => put_twin(out, 12, *name, *descriptor),
         Entry::MethodHandle { kind, index } => put_handle(out, *kind, *index),
         Entry::MethodType { descriptor } => put_single(out, 16, *descriptor),
-        Entry::InvokeDynamic { bootstrap, pair } => put_double(out, 18, *bootstrap, *pair),
+        Entry::InvokeDynamic { bootstrap, pair } => put_twin(out, 18, *bootstrap, *pair),
     }
 }
 

@@ -1,20 +1,15 @@
 -- What is taken from code is spelled so, and what is spelled so is taken.
-use Rattle.std.proofs.Common.{◌≡◌, ℕ, zero, suc, ◌+◌, ◌-◌, ◌*◌, ◌^◌, ◌<◌, ◌≤◌, Bool, true, false, cond, eqb, ltb, leb, ◌&&◌, List, [], ◌∷◌, ◌++◌, length, Option, Some, None, Result, Ok, Err, refl, sym, ap, subst, ◌∙◌, append_assoc, arith}
+use Rattle.std.proofs.Common.{ℕ, ◌*◌, ◌^◌, Bool, true, false, cond, eqb, ltb, leb, ◌&&◌, List, [], ◌∷◌, ◌++◌, Option, Some, None, Result, Ok, Err}
 use Rattle.std.specs.Prelude.{ℤ, pos, int_le}
-use Rattle.std.specs.List.{AllByRecursion}
 use Rattle.std.specs.Int.{Width, w8, w16, w32, byte_len, cast_signed}
-use Rattle.std.proofs.lemmas.List.{append-nil, length-append}
 use Rattle.class_pool.specs.declared.fault.Fault.{Fault}
-use Rattle.class_pool.specs.declared.fault.Fault.TheVariants.{BadTarget}
 use Rattle.class_pool.specs.declared.pool.Entry.{Entry}
 use Rattle.class_pool.specs.Pool.{entry_of}
 use Rattle.class_pool.specs.Reading.{◌>>=◌, number_or, run_or, tested}
-use Rattle.class_pool.specs.Loops.{counted, folded, to_end}
-use Rattle.class_pool.specs.Grammar.{IsBytes, Nothing, Then, Mapped, Never, Tested, Number, Run, Counted, Chain}
-use Rattle.class_pool.proofs.Laws.{bind_ok, ok_is, Taken, Reads, reads_nothing, reads_then, tested_then, tested_ok, reads_mapped, reads_if, reads_never, IsWide, wide8, wide16, wide32, reads_number, reads_run, reads_counted, reads_folded}
+use Rattle.class_pool.specs.Loops.{folded}
+use Rattle.class_pool.specs.Grammar.{Nothing, Never, Tested, Run, Counted}
+use Rattle.class_pool.proofs.Laws.{Reads, reads_nothing, reads_then, tested_then, reads_mapped, reads_if, reads_never, IsWide, wide8, wide16, wide32, reads_number, reads_run, reads_counted, reads_folded}
 use Rattle.code_decode.specs.declared.place.Spot.{Spot}
-use Rattle.code_decode.specs.declared.instructions.RawOp.{RawOp}
-use Rattle.code_decode.specs.declared.decoding.Code.{Code}
 use Rattle.code_decode.specs.declared.judging.Fit.{Fit}
 use Rattle.code_decode.specs.declared.judging.Fit.TheVariants as fit
 use Rattle.code_decode.specs.declared.opcodes.Shape.{Shape}
@@ -22,13 +17,11 @@ use Rattle.code_decode.specs.declared.opcodes.Shape.TheVariants as shape
 use Rattle.code_decode.specs.declared.opcodes.Named.TheVariants.{Nested, Interface}
 use Rattle.code_decode.specs.Place.{cut, wrong, foreign, target}
 use Rattle.code_decode.specs.Opcodes.{shape_of, takes_local}
-use Rattle.code_decode.specs.Judging.{constant_fit, named_fit, kind_fit, class_name, dimensions}
-use Rattle.code_decode.specs.Operands.{judged, one_at, signed_at, local_at, branch_at, increment_at, fitting_at, dimensions_at}
+use Rattle.code_decode.specs.Judging.{constant_fit, named_fit, kind_fit, class_name, dimensions, interface_units, counts_units}
+use Rattle.code_decode.specs.Operands.{judged, one_at, local_at, increment_at, fitting_at, interface_at, dimensions_at}
 use Rattle.code_decode.specs.Switches.{padding, span, keys_rise, word_at, place_at, other_at, ends_at, rows_at, table_at, count_at, pair_at, pairs_at, lookup_at}
-use Rattle.code_decode.specs.Instructions.{op, args_at, shaped_at, wide_args_at, wide_at, op_at, spot_at, ops_at}
-use Rattle.code_decode.specs.Targets.{is_start, leads_to, targets_fit}
-use Rattle.code_decode.specs.Decoding.{code_at}
-use Rattle.code_decode.specs.CodeGrammar.{Word, OneText, IncrementText, is_right, FittingText, DimensionsText, WordText, PlaceText, OtherText, EndsText, TableText, CountText, PairText, PairsText, LookupText, ArgsText, ShapedText, WideArgsText, WideText, OpText, OpsText, CodeText}
+use Rattle.code_decode.specs.Instructions.{op, args_at, shaped_at, wide_args_at, wide_at, op_at}
+use Rattle.code_decode.specs.CodeGrammar.{Word, OneText, IncrementText, is_right, FittingText, InterfaceText, DimensionsText, WordText, PlaceText, OtherText, EndsText, TableText, CountText, PairText, PairsText, LookupText, ArgsText, ShapedText, WideArgsText, WideText, OpText}
 
 -- ---- operands
 
@@ -65,7 +58,18 @@ unfolding dimensions_at
 reads_dimensions slots spot = reads_then _ _ (λ b. number_or (cut spot) w16 b) (λ _ n rest. number_or (cut spot) w8 rest >>= λ count. judged spot 197 (named_fit Nested slots (entry_of slots n)) >>= λ _. tested (fits_array slots n count.0) (wrong spot) >>= λ _. Ok (pos n ∷ pos count.0 ∷ [], count.1)) (reads_word w16 (cut spot) wide16)
     (λ _ n. reads_then _ _ (λ b. number_or (cut spot) w8 b) (λ _ count rest. judged spot 197 (named_fit Nested slots (entry_of slots n)) >>= λ _. tested (fits_array slots n count) (wrong spot) >>= λ _. Ok (pos n ∷ pos count ∷ [], rest)) (reads_word w8 (cut spot) wide8)
     (λ _ count. judged_then spot 197 (named_fit Nested slots (entry_of slots n)) (Tested (fits_array slots n count) (Nothing (pos n ∷ pos count ∷ []))) (λ rest. tested (fits_array slots n count) (wrong spot) >>= λ _. Ok (pos n ∷ pos count ∷ [], rest))
-      (tested_then (fits_array slots n count) (λ _. wrong spot) (Nothing (pos n ∷ pos count ∷ [])) (λ rest. Ok (pos n ∷ pos count ∷ [], rest)) (reads_nothing (pos n ∷ pos count ∷ [])))))
+    (tested_then (fits_array slots n count) (λ _. wrong spot) (Nothing (pos n ∷ pos count ∷ [])) (λ rest. Ok (pos n ∷ pos count ∷ [], rest)) (reads_nothing (pos n ∷ pos count ∷ [])))))
+
+abbrev fits_units : List (Option Entry) → ℕ → ℕ → ℕ → Bool
+fits_units slots n count last = counts_units (interface_units slots (entry_of slots n)) count && eqb last 0
+
+reads_interface : (slots : List (Option Entry)) (spot : Spot) → Reads (InterfaceText slots) (λ b. interface_at slots spot b)
+unfolding interface_at
+reads_interface slots spot = reads_then _ _ (λ b. number_or (cut spot) w16 b) (λ _ n rest. number_or (cut spot) w8 rest >>= λ count. number_or (cut spot) w8 count.1 >>= λ last. judged spot 185 (named_fit Interface slots (entry_of slots n)) >>= λ _. tested (fits_units slots n count.0 last.0) (wrong spot) >>= λ _. Ok (pos n ∷ pos count.0 ∷ [], last.1)) (reads_word w16 (cut spot) wide16)
+    (λ _ n. reads_then _ _ (λ b. number_or (cut spot) w8 b) (λ _ count rest. number_or (cut spot) w8 rest >>= λ last. judged spot 185 (named_fit Interface slots (entry_of slots n)) >>= λ _. tested (fits_units slots n count last.0) (wrong spot) >>= λ _. Ok (pos n ∷ pos count ∷ [], last.1)) (reads_word w8 (cut spot) wide8)
+    (λ _ count. reads_then _ _ (λ b. number_or (cut spot) w8 b) (λ _ last rest. judged spot 185 (named_fit Interface slots (entry_of slots n)) >>= λ _. tested (fits_units slots n count last) (wrong spot) >>= λ _. Ok (pos n ∷ pos count ∷ [], rest)) (reads_word w8 (cut spot) wide8)
+    (λ _ last. judged_then spot 185 (named_fit Interface slots (entry_of slots n)) (Tested (fits_units slots n count last) (Nothing (pos n ∷ pos count ∷ []))) (λ rest. tested (fits_units slots n count last) (wrong spot) >>= λ _. Ok (pos n ∷ pos count ∷ [], rest))
+    (tested_then (fits_units slots n count last) (λ _. wrong spot) (Nothing (pos n ∷ pos count ∷ [])) (λ rest. Ok (pos n ∷ pos count ∷ [], rest)) (reads_nothing (pos n ∷ pos count ∷ []))))))
 
 -- ---- switches
 
@@ -127,7 +131,7 @@ reads_args slots spot opcode shape.Increment = reads_increment w8 spot wide8
 reads_args slots spot opcode (shape.Near constant) = reads_fitting w8 (λ n. constant_fit constant (entry_of slots n)) spot opcode wide8
 reads_args slots spot opcode (shape.Far constant) = reads_fitting w16 (λ n. constant_fit constant (entry_of slots n)) spot opcode wide16
 reads_args slots spot opcode (shape.Entry named) = reads_fitting w16 (λ n. named_fit named slots (entry_of slots n)) spot opcode wide16
-reads_args slots spot opcode shape.Interface = reads_fitting w16 (λ n. named_fit Interface slots (entry_of slots n)) spot opcode wide16
+reads_args slots spot opcode shape.Interface = reads_interface slots spot
 reads_args slots spot opcode shape.Kind = reads_fitting w8 kind_fit spot opcode wide8
 reads_args slots spot opcode shape.Dimensions = reads_dimensions slots spot
 reads_args slots spot opcode shape.Branch = reads_one w16 (λ n. target spot.total spot.pc (cast_signed w16 n)) spot wide16

@@ -1,7 +1,7 @@
 -- The faults of reading code are those of code, and name its method.
 use Rattle.std.proofs.Common.{◌≡◌, ℕ, zero, suc, Bool, true, false, cond, eqb, ltb, leb, ◌&&◌, List, [], ◌∷◌, ◌++◌, length, Option, Some, None, Result, Ok, Err, refl, subst}
-use Rattle.std.specs.Prelude.{ℤ, pos, int_le}
-use Rattle.std.specs.Int.{Width, w8, w16, w32, byte_len, from_be_bytes, cast_signed}
+use Rattle.std.specs.Prelude.{ℤ, pos}
+use Rattle.std.specs.Int.{Width, w8, w16, w32, byte_len}
 use Rattle.class_pool.specs.declared.fault.Fault.{Fault}
 use Rattle.class_pool.specs.declared.fault.Fault.TheVariants.{BadTarget}
 use Rattle.class_pool.specs.declared.fault.ReadError.{ReadError}
@@ -12,7 +12,6 @@ use Rattle.class_pool.specs.Reading.{◌>>=◌, Fails, number_or, run_or, tested
 use Rattle.class_pool.specs.Loops.{counted, folded, to_end}
 use Rattle.code_decode.specs.declared.place.Spot.{Spot}
 use Rattle.code_decode.specs.declared.instructions.RawOp.{RawOp}
-use Rattle.code_decode.specs.declared.decoding.Code.{Code}
 use Rattle.code_decode.specs.declared.judging.Fit.{Fit}
 use Rattle.code_decode.specs.declared.judging.Fit.TheVariants as fit
 use Rattle.code_decode.specs.declared.opcodes.Shape.{Shape}
@@ -20,10 +19,10 @@ use Rattle.code_decode.specs.declared.opcodes.Shape.TheVariants as shape
 use Rattle.code_decode.specs.declared.opcodes.Named.TheVariants.{Interface, Nested}
 use Rattle.code_decode.specs.Place.{cut, wrong, foreign}
 use Rattle.code_decode.specs.Opcodes.{shape_of, takes_local}
-use Rattle.code_decode.specs.Judging.{constant_fit, named_fit, kind_fit, class_name, dimensions}
-use Rattle.code_decode.specs.Operands.{judged, one_at, local_at, increment_at, fitting_at, dimensions_at}
+use Rattle.code_decode.specs.Judging.{named_fit, class_name, dimensions, interface_units, counts_units}
+use Rattle.code_decode.specs.Operands.{judged, one_at, increment_at, fitting_at, interface_at, dimensions_at}
 use Rattle.code_decode.specs.Switches.{padding, span, word_at, place_at, other_at, ends_at, rows_at, table_at, count_at, pair_at, pairs_at, lookup_at}
-use Rattle.code_decode.specs.Instructions.{op, args_at, shaped_at, wide_args_at, wide_at, op_at, spot_at, ops_at}
+use Rattle.code_decode.specs.Instructions.{args_at, shaped_at, wide_args_at, wide_at, op_at, spot_at, ops_at}
 use Rattle.code_decode.specs.Targets.{is_start, leads_to, targets_fit}
 use Rattle.code_decode.specs.Decoding.{code_at, IsOfCode, IsCodeError}
 
@@ -105,8 +104,17 @@ unfolding dimensions_at
 named_dimensions slots spot bytes = named_then spot.method (number_or (cut spot) w16 bytes) _ (named_number spot w16 bytes)
     (λ n. named_then spot.method (number_or (cut spot) w8 n.1) _ (named_number spot w8 n.1)
     (λ count. let fits = named_fit Nested slots (entry_of slots n.0) in let few = ltb 0 count.0 && leb count.0 (dimensions (class_name slots (entry_of slots n.0))) in
-      named_then spot.method (judged spot 197 fits) _ (named_judged spot 197 fits)
+    named_then spot.method (judged spot 197 fits) _ (named_judged spot 197 fits)
     (λ _. named_then spot.method (tested few (wrong spot)) _ (named_test spot.method few (wrong spot) refl) (λ _. named_ok spot.method _))))
+
+named_interface : (slots : List (Option Entry)) (spot : Spot) (bytes : List ℕ) → Named spot.method (interface_at slots spot bytes)
+unfolding interface_at
+named_interface slots spot bytes = named_then spot.method (number_or (cut spot) w16 bytes) _ (named_number spot w16 bytes)
+    (λ n. named_then spot.method (number_or (cut spot) w8 n.1) _ (named_number spot w8 n.1)
+    (λ count. named_then spot.method (number_or (cut spot) w8 count.1) _ (named_number spot w8 count.1)
+    (λ zero. let fits = named_fit Interface slots (entry_of slots n.0) in let few = counts_units (interface_units slots (entry_of slots n.0)) count.0 && eqb zero.0 0 in
+    named_then spot.method (judged spot 185 fits) _ (named_judged spot 185 fits)
+    (λ _. named_then spot.method (tested few (wrong spot)) _ (named_test spot.method few (wrong spot) refl) (λ _. named_ok spot.method _)))))
 
 -- ---- switches
 
@@ -168,7 +176,7 @@ named_args slots spot opcode shape.Increment bytes = named_increment w8 spot byt
 named_args slots spot opcode (shape.Near constant) bytes = named_fitting w8 _ spot opcode bytes
 named_args slots spot opcode (shape.Far constant) bytes = named_fitting w16 _ spot opcode bytes
 named_args slots spot opcode (shape.Entry named) bytes = named_fitting w16 _ spot opcode bytes
-named_args slots spot opcode shape.Interface bytes = named_fitting w16 _ spot opcode bytes
+named_args slots spot opcode shape.Interface bytes = named_interface slots spot bytes
 named_args slots spot opcode shape.Kind bytes = named_fitting w8 _ spot opcode bytes
 named_args slots spot opcode shape.Dimensions bytes = named_dimensions slots spot bytes
 named_args slots spot opcode shape.Branch bytes = named_one w16 _ spot bytes

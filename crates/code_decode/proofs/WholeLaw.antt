@@ -1,8 +1,7 @@
 -- A whole code: what is taken is spelled so, and what is spelled so is taken.
-use Rattle.std.proofs.Common.{◌≡◌, ℕ, zero, suc, ◌+◌, ◌-◌, ◌<◌, ◌≤◌, Bool, true, List, [], ◌∷◌, ◌++◌, length, Option, Result, Ok, Err, refl, sym, ap, subst, ◌∙◌, append_assoc, arith}
-use Rattle.std.specs.Prelude.{ℤ, IfOk}
+use Rattle.std.proofs.Common.{◌≡◌, ℕ, zero, suc, ◌+◌, ◌-◌, ◌<◌, ◌≤◌, Bool, true, List, [], ◌∷◌, ◌++◌, length, Option, Result, Ok, refl, sym, ap, subst, ◌∙◌, append_assoc, arith}
+use Rattle.std.specs.Prelude.{ℤ}
 use Rattle.std.specs.List.{AllByRecursion}
-use Rattle.std.specs.Int.{w8}
 use Rattle.std.proofs.lemmas.List.{append-nil, length-append}
 use Rattle.class_pool.specs.declared.fault.Fault.{Fault}
 use Rattle.class_pool.specs.declared.fault.Fault.TheVariants.{BadTarget}
@@ -10,7 +9,7 @@ use Rattle.class_pool.specs.declared.pool.Entry.{Entry}
 use Rattle.class_pool.specs.Reading.{◌>>=◌, tested}
 use Rattle.class_pool.specs.Loops.{to_end}
 use Rattle.class_pool.specs.Grammar.{IsBytes}
-use Rattle.class_pool.proofs.Laws.{bind_ok, ok_is, Reads, tested_ok, wide8}
+use Rattle.class_pool.proofs.Laws.{bind_ok, ok_is, tested_ok, wide8}
 use Rattle.code_decode.specs.declared.place.Spot.{Spot}
 use Rattle.code_decode.specs.declared.instructions.RawOp.{RawOp}
 use Rattle.code_decode.specs.declared.decoding.Code.{Code}
@@ -60,7 +59,7 @@ ops_again slots method total (x ∷ xs) (suc n) front pc (b ∷ bytes) le ends (
     let here : total - suc (length bytes) ≡ pc = omega arith in
     let at = λ (p : ℕ). let spot : Spot = record { method = method; total = total; pc = p } in spot in
     let taken : op_at slots (at (total - suc (length bytes))) (b ∷ bytes) ≡ Ok (x, more) =
-      ap (λ p. op_at slots (at p) (b ∷ bytes)) here ∙ ap (op_at slots (at pc)) e ∙ (reads_op slots (at pc)).again one more x s in
+    ap (λ p. op_at slots (at p) (b ∷ bytes)) here ∙ ap (op_at slots (at pc)) e ∙ (reads_op slots (at pc)).again one more x s in
     ap (λ r. r >>= λ x. to_end (step slots method total) (front ++ x.0 ∷ []) n x.1) taken
     ∙ ops_again slots method total xs n (front ++ x ∷ []) (pc + length one) more (omega arith) (omega arith) others ∙ ap Ok (append_assoc front (x ∷ []) xs)
 

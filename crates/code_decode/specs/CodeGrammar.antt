@@ -14,7 +14,7 @@ use Rattle.code_decode.specs.declared.opcodes.Shape.TheVariants as shape
 use Rattle.code_decode.specs.declared.opcodes.Named.TheVariants.{Nested, Interface}
 use Rattle.code_decode.specs.Place.{target}
 use Rattle.code_decode.specs.Opcodes.{shape_of, takes_local}
-use Rattle.code_decode.specs.Judging.{constant_fit, named_fit, kind_fit, class_name, dimensions}
+use Rattle.code_decode.specs.Judging.{constant_fit, named_fit, kind_fit, class_name, dimensions, interface_units, counts_units}
 use Rattle.code_decode.specs.Switches.{padding, span, keys_rise}
 use Rattle.code_decode.specs.Instructions.{op}
 use Rattle.code_decode.specs.Targets.{is_start, leads_to}
@@ -39,10 +39,15 @@ is_right _ = false
 abbrev pub FittingText : Width → (ℕ → Fit) → List ℕ → List ℤ → Type 0
 FittingText w fits = Then (Word w) (λ n. Tested (is_right (fits n)) (Nothing (pos n ∷ [])))
 
+-- an interface's method, the units of its arguments with the object, and a zero
+abbrev pub InterfaceText : List (Option Entry) → List ℕ → List ℤ → Type 0
+InterfaceText slots = Then (Word w16) (λ n. Then (Word w8) (λ count. Then (Word w8) (λ zero. Tested (is_right (named_fit Interface slots (entry_of slots n)))
+    (Tested (counts_units (interface_units slots (entry_of slots n)) count && zero == 0) (Nothing (pos n ∷ pos count ∷ []))))))
+
 -- an array class, and how many of its dimensions are made
 abbrev pub DimensionsText : List (Option Entry) → List ℕ → List ℤ → Type 0
 DimensionsText slots = Then (Word w16) (λ n. Then (Word w8) (λ count. Tested (is_right (named_fit Nested slots (entry_of slots n)))
-  (Tested (nat_lt 0 count && nat_le count (dimensions (class_name slots (entry_of slots n)))) (Nothing (pos n ∷ pos count ∷ [])))))
+    (Tested (nat_lt 0 count && nat_le count (dimensions (class_name slots (entry_of slots n)))) (Nothing (pos n ∷ pos count ∷ [])))))
 
 -- a signed number of four bytes
 abbrev pub WordText : List ℕ → ℤ → Type 0
@@ -85,7 +90,7 @@ ArgsText slots total pc shape.Increment = IncrementText w8
 ArgsText slots total pc (shape.Near constant) = FittingText w8 (λ n. constant_fit constant (entry_of slots n))
 ArgsText slots total pc (shape.Far constant) = FittingText w16 (λ n. constant_fit constant (entry_of slots n))
 ArgsText slots total pc (shape.Entry named) = FittingText w16 (λ n. named_fit named slots (entry_of slots n))
-ArgsText slots total pc shape.Interface = FittingText w16 (λ n. named_fit Interface slots (entry_of slots n))
+ArgsText slots total pc shape.Interface = InterfaceText slots
 ArgsText slots total pc shape.Kind = FittingText w8 kind_fit
 ArgsText slots total pc shape.Dimensions = DimensionsText slots
 ArgsText slots total pc shape.Branch = OneText w16 (λ n. target total pc (cast_signed w16 n))

@@ -1,5 +1,5 @@
 -- Instructions: how each is taken, one after the other, and the first fault.
-use Rattle.std.specs.Prelude.{ℕ, ℤ, pos, ◌-◌, List, [], ◌∷◌, length, Option, Some, None, Result, Ok, Err, Bool, true, false, ◌==◌, if◌then◌else◌}
+use Rattle.std.specs.Prelude.{ℕ, ℤ, ◌-◌, List, [], length, Option, Some, None, Result, Ok, Err, Bool, true, false, ◌==◌, if◌then◌else◌}
 use Rattle.std.specs.Int.{w8, w16, w32}
 use Rattle.class_pool.specs.declared.fault.Fault.{Fault}
 use Rattle.class_pool.specs.declared.pool.Entry.{Entry}
@@ -10,11 +10,10 @@ use Rattle.code_decode.specs.declared.place.Spot.{Spot}
 use Rattle.code_decode.specs.declared.instructions.RawOp.{RawOp}
 use Rattle.code_decode.specs.declared.opcodes.Shape.{Shape}
 use Rattle.code_decode.specs.declared.opcodes.Shape.TheVariants as shape
-use Rattle.code_decode.specs.declared.opcodes.Named.TheVariants.{Interface}
 use Rattle.code_decode.specs.Place.{cut, foreign}
 use Rattle.code_decode.specs.Opcodes.{shape_of, takes_local}
 use Rattle.code_decode.specs.Judging.{constant_fit, named_fit, kind_fit}
-use Rattle.code_decode.specs.Operands.{signed_at, local_at, branch_at, increment_at, fitting_at, dimensions_at}
+use Rattle.code_decode.specs.Operands.{signed_at, local_at, branch_at, increment_at, fitting_at, interface_at, dimensions_at}
 use Rattle.code_decode.specs.Switches.{table_at, lookup_at}
 
 abbrev pub op : ℕ → ℕ → Bool → List ℤ → RawOp
@@ -30,7 +29,7 @@ args_at slots spot opcode shape.Increment bytes = increment_at w8 spot bytes
 args_at slots spot opcode (shape.Near constant) bytes = fitting_at w8 (λ n. constant_fit constant (entry_of slots n)) spot opcode bytes
 args_at slots spot opcode (shape.Far constant) bytes = fitting_at w16 (λ n. constant_fit constant (entry_of slots n)) spot opcode bytes
 args_at slots spot opcode (shape.Entry named) bytes = fitting_at w16 (λ n. named_fit named slots (entry_of slots n)) spot opcode bytes
-args_at slots spot opcode shape.Interface bytes = fitting_at w16 (λ n. named_fit Interface slots (entry_of slots n)) spot opcode bytes
+args_at slots spot opcode shape.Interface bytes = interface_at slots spot bytes
 args_at slots spot opcode shape.Kind bytes = fitting_at w8 kind_fit spot opcode bytes
 args_at slots spot opcode shape.Dimensions bytes = dimensions_at slots spot bytes
 args_at slots spot opcode shape.Branch bytes = branch_at w16 spot bytes

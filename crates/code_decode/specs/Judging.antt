@@ -1,8 +1,9 @@
 -- Whether an instruction takes the pool entry, or the number, that it names.
-use Rattle.std.specs.Prelude.{ℕ, ◌+◌, List, [], length, take_while, slice_index, Option, Some, None, Bool, true, false, nat_lt, ◌==◌, ◌&&◌, ◌||◌, if◌then◌else◌}
+use Rattle.std.specs.Prelude.{ℕ, ◌+◌, List, [], length, take_while, slice_index, unwrap_or, Option, Some, None, Bool, false, nat_lt, ◌==◌, ◌&&◌, ◌||◌, if◌then◌else◌}
 use Rattle.class_pool.specs.declared.pool.Entry.{Entry}
-use Rattle.class_pool.specs.declared.pool.Entry.TheVariants.{Utf8, Integer, Long, Class, NameAndType, Method}
-use Rattle.class_pool.specs.Pool.{entry_of}
+use Rattle.class_pool.specs.declared.pool.Entry.TheVariants.{Integer, Long, Class, Str, Field, Method, InterfaceMethod, NameAndType}
+use Rattle.class_pool.specs.Pool.{entry_of, text_of, class_name_of}
+use Rattle.class_pool.specs.Names.{argument_units}
 use Rattle.code_decode.specs.declared.judging.Fit.{Fit}
 use Rattle.code_decode.specs.declared.judging.Fit.TheVariants.{Right, Wrong, Foreign}
 use Rattle.code_decode.specs.declared.opcodes.Constant.{Constant}
@@ -10,15 +11,13 @@ use Rattle.code_decode.specs.declared.opcodes.Constant.TheVariants.{Single, Doub
 use Rattle.code_decode.specs.declared.opcodes.Named.{Named}
 use Rattle.code_decode.specs.declared.opcodes.Named.TheVariants as named
 
--- the units of the text that an index names
+-- the units of the text that an entry is
 abbrev pub units_of : Option Entry → List ℕ
-units_of (Some (Utf8 units)) = units
-units_of _ = []
+units_of entry = unwrap_or (text_of entry) []
 
--- the name of the class that an index names
+-- the name of the class that an entry is
 abbrev pub class_name : List (Option Entry) → Option Entry → List ℕ
-class_name slots (Some (Class name)) = units_of (entry_of slots name)
-class_name slots _ = []
+class_name slots entry = unwrap_or (class_name_of slots entry) []
 
 -- the dimensions of the array that a class's name names; 0 for a class that is no array
 abbrev pub dimensions : List ℕ → ℕ
@@ -50,8 +49,11 @@ member_fit slots class = array_fit (class_name slots (entry_of slots class))
 
 -- the entry that an instruction names, by JVMS 4.9.1
 abbrev pub named_fit : Named → List (Option Entry) → Option Entry → Fit
+named_fit named.Field slots (Some (Field class pair)) = member_fit slots class
 named_fit named.Virtual slots (Some (Method class pair)) = member_fit slots class
 named_fit named.Direct slots (Some (Method class pair)) = member_fit slots class
+named_fit named.Direct slots (Some (InterfaceMethod class pair)) = member_fit slots class
+named_fit named.Interface slots (Some (InterfaceMethod class pair)) = member_fit slots class
 named_fit named.Made slots (Some (Class name)) = made_fit (units_of (entry_of slots name))
 named_fit named.Element slots (Some (Class name)) = element_fit (units_of (entry_of slots name))
 named_fit named.Tested slots (Some (Class name)) = array_fit (units_of (entry_of slots name))
@@ -63,12 +65,28 @@ named_fit _ slots _ = Wrong
 abbrev pub constant_fit : Constant → Option Entry → Fit
 constant_fit _ None = Wrong
 constant_fit Single (Some (Integer n)) = Right
+constant_fit Single (Some (Str text)) = Right
 constant_fit Single (Some (Long n)) = Wrong
 constant_fit Double (Some (Long n)) = Right
 constant_fit Double (Some (Integer n)) = Wrong
+constant_fit Double (Some (Str text)) = Wrong
 constant_fit _ (Some _) = Foreign
 
 -- the kind of an array of numbers (JVMS table 6.5.newarray-A): boolean 4, char 5, byte 8, short 9, int 10
 -- and long 11 are made; float 6 and double 7 are outside of the profile
 abbrev pub kind_fit : ℕ → Fit
 kind_fit kind = if kind == 4 || kind == 5 || kind == 8 || kind == 9 || kind == 10 || kind == 11 then Right else if kind == 6 || kind == 7 then Foreign else Wrong
+
+-- how many units the arguments of an interface's method take; none for another entry
+abbrev pub pair_units : List (Option Entry) → Option Entry → Option ℕ
+pair_units slots (Some (NameAndType name descriptor)) = argument_units (units_of (entry_of slots descriptor))
+pair_units slots _ = None
+
+abbrev pub interface_units : List (Option Entry) → Option Entry → Option ℕ
+interface_units slots (Some (InterfaceMethod class pair)) = pair_units slots (entry_of slots pair)
+interface_units slots _ = None
+
+-- whether a count is that of the arguments and the object itself (JVMS 6.5, invokeinterface)
+abbrev pub counts_units : Option ℕ → ℕ → Bool
+counts_units None count = false
+counts_units (Some units) count = count == units + 1

@@ -7,3 +7,4 @@ pub mod Instructions
 pub mod Targets
 pub mod Decoding
 pub mod CodeGrammar
+pub mod Spelling

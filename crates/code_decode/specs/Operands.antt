@@ -1,6 +1,6 @@
 -- The operands of an instruction, by their form, and the first fault among them.
-use Rattle.std.specs.Prelude.{ℕ, ℤ, pos, ◌+◌, List, [], ◌∷◌, Option, Result, Ok, Err, nat_lt, nat_le, ◌==◌, ◌&&◌}
-use Rattle.std.specs.Int.{Width, w8, w16, w32, cast_signed}
+use Rattle.std.specs.Prelude.{ℕ, ℤ, pos, List, [], ◌∷◌, Option, Result, Ok, Err, nat_lt, nat_le, ◌==◌, ◌&&◌}
+use Rattle.std.specs.Int.{Width, w8, w16, cast_signed}
 use Rattle.class_pool.specs.declared.fault.Fault.{Fault}
 use Rattle.class_pool.specs.declared.pool.Entry.{Entry}
 use Rattle.class_pool.specs.Reading.{◌>>=◌, number_or, tested}
@@ -8,9 +8,9 @@ use Rattle.class_pool.specs.Pool.{entry_of}
 use Rattle.code_decode.specs.declared.place.Spot.{Spot}
 use Rattle.code_decode.specs.declared.judging.Fit.{Fit}
 use Rattle.code_decode.specs.declared.judging.Fit.TheVariants as fit
-use Rattle.code_decode.specs.declared.opcodes.Named.TheVariants.{Nested}
+use Rattle.code_decode.specs.declared.opcodes.Named.TheVariants.{Interface, Nested}
 use Rattle.code_decode.specs.Place.{cut, wrong, foreign, target}
-use Rattle.code_decode.specs.Judging.{named_fit, kind_fit, class_name, dimensions}
+use Rattle.code_decode.specs.Judging.{named_fit, class_name, dimensions, interface_units, counts_units}
 
 -- nothing where the operand is taken, else its fault
 abbrev pub judged : Spot → ℕ → Fit → Result (Unit {0}) Fault
@@ -49,6 +49,16 @@ fitting_at w fits spot opcode bytes = do
   n ← number_or (cut spot) w bytes
   right ← judged spot opcode (fits n.0)
   Ok (pos n.0 ∷ [], n.1)
+
+-- an interface's method, the units of its arguments with the object, and a zero, which is no operand
+unfoldable pub interface_at : List (Option Entry) → Spot → List ℕ → Result (List ℤ × List ℕ) Fault
+interface_at slots spot bytes = do
+  n ← number_or (cut spot) w16 bytes
+  count ← number_or (cut spot) w8 n.1
+  zero ← number_or (cut spot) w8 count.1
+  right ← judged spot 185 (named_fit Interface slots (entry_of slots n.0))
+  fits ← tested (counts_units (interface_units slots (entry_of slots n.0)) count.0 && zero.0 == 0) (wrong spot)
+  Ok (pos n.0 ∷ pos count.0 ∷ [], zero.1)
 
 -- an array class, and how many of its dimensions are made
 unfoldable pub dimensions_at : List (Option Entry) → Spot → List ℕ → Result (List ℤ × List ℕ) Fault

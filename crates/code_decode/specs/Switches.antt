@@ -1,5 +1,5 @@
 -- The operands of tableswitch and lookupswitch (JVMS 6.5), and the first fault among them.
-use Rattle.std.specs.Prelude.{ℕ, ℤ, pos, ◌+◌, ◌-◌, ◌%◌, ◌-ℤ◌, int_le, int_lt, nat_abs, List, [], ◌∷◌, ◌++◌, Result, Ok, Err, Bool, nat_lt, ◌==◌, ◌||◌, slice_index_or}
+use Rattle.std.specs.Prelude.{ℕ, ℤ, pos, ◌+◌, ◌-◌, ◌%◌, ◌-ℤ◌, int_le, int_lt, nat_abs, List, [], ◌∷◌, ◌++◌, Result, Ok, Bool, nat_lt, ◌==◌, ◌||◌, slice_index_or}
 use Rattle.std.specs.Int.{w32, cast_signed}
 use Rattle.std.specs.List.{list_all, enumerate_from}
 use Rattle.class_pool.specs.declared.fault.Fault.{Fault}

@@ -1,11 +1,13 @@
 -- The places in a code that its instructions lead to.
-use Rattle.std.specs.Prelude.{◌≡◌, ℕ, ℤ, pos, negsuc, ◌%◌, List, [], ◌∷◌, length, Result, Ok, Err, Bool, true, false, not, nat_lt, ◌==◌, ◌&&◌, ◌||◌, slice_index_or}
+use Rattle.std.specs.Prelude.{◌≡◌, ℕ, ℤ, pos, negsuc, ◌%◌, List, [], ◌∷◌, length, Option, Some, Result, Ok, Bool, true, false, not, nat_lt, ◌==◌, ◌&&◌, ◌||◌, slice_index_or}
 use Rattle.std.specs.List.{list_all, enumerate_from}
 use Rattle.class_pool.specs.declared.fault.Fault.{Fault}
 use Rattle.class_pool.specs.declared.fault.Fault.TheVariants.{BadTarget}
 use Rattle.class_pool.specs.Reading.{◌>>=◌, tested}
 use Rattle.code_decode.specs.declared.instructions.RawOp.{RawOp}
-use Rattle.code_decode.specs.Opcodes.{takes_branch}
+use Rattle.code_decode.specs.declared.opcodes.Shape.{Shape}
+use Rattle.code_decode.specs.declared.opcodes.Shape.TheVariants as shape
+use Rattle.code_decode.specs.Opcodes.{shape_of}
 
 -- whether one of these instructions begins at a pc
 abbrev pub has_start : List RawOp → ℕ → Bool
@@ -17,14 +19,22 @@ abbrev pub is_start : List RawOp → ℕ → ℤ → Bool
 is_start ops total (pos pc) = has_start ops pc && nat_lt pc total
 is_start ops total (negsuc n) = false
 
--- whether the operand at i is a place in the code: of a branch (goto_w is 200) the only one; of
--- tableswitch (170) all but low and high, at 1 and 2; of lookupswitch (171) the default and each behind a key
-abbrev pub is_place : ℕ → ℕ → Bool
-is_place opcode i = takes_branch opcode || opcode == 200 || opcode == 170 && not (i == 1 || i == 2) || opcode == 171 && i % 2 == 0
+-- whether the operand at i is a place in the code: of a branch the only one; of tableswitch all but low
+-- and high, at 1 and 2; of lookupswitch the default and each behind a key
+abbrev pub is_place : Option Shape → ℕ → Bool
+is_place (Some shape.Branch) i = true
+is_place (Some shape.FarBranch) i = true
+is_place (Some shape.Table) i = not (i == 1 || i == 2)
+is_place (Some shape.Lookup) i = i % 2 == 0
+is_place _ i = false
 
--- whether each place that an instruction leads to is one that the test lets through
+-- whether the test lets through each place among the operands of a form
+abbrev pub leads : Option Shape → (ℤ → Bool) → List ℤ → Bool
+leads form test args = list_all (λ p. not (is_place form p.0) || test p.1) (enumerate_from 0 args)
+
+-- whether it lets through each place that an instruction leads to
 abbrev pub leads_to : (ℤ → Bool) → RawOp → Bool
-leads_to test o = list_all (λ p. not (is_place o.opcode p.0) || test p.1) (enumerate_from 0 o.args)
+leads_to test o = leads (shape_of o.opcode) test o.args
 
 -- the first of these instructions, if any, that leads to a place that the test doesn't let through
 abbrev pub targets_fit : ℕ → (ℤ → Bool) → List RawOp → Result (Unit {0}) Fault

@@ -50,16 +50,28 @@ fn starts_of(alloc: Global, method: u32, total: usize, ops: &[RawOp]) -> Result<
     Ok(starts)
 }
 
-/// The code that these bytes are, in a method of this number, and where its instructions begin.
+/// The code that these bytes are, in a method of this number, and where its instructions begin: the form
+/// of [`decode`] inside of a class file. A fault names the method.
 #[tactic(auto, unfolding(crate::specs::Decoding::code_at))]
-pub fn code_at(alloc: Global, method: u32, pool: &Pool, bytes: &[u8]) -> Result<(Code, Starts), ReadError>
+pub fn code_at(
+    alloc: Global,
+    method: u32,
+    pool: &Pool,
+    bytes: &[u8],
+) -> Result<(Code, Starts), ReadError>
     requires { length bytes.now < 65536 }
     ensures gives { Gives (λ x. x.0) result (code_at method pool.now bytes.now) }
     ensures starts { IfOk result (λ x. Marks x.1 x.0.ops x.0.length) }
 {
     let ops = ops_of(alloc, method, pool, bytes)?;
     let starts = starts_of(alloc, method, bytes.len(), ops.as_slice())?;
-    Ok((Code { length: bytes.len() as u32, ops }, starts))
+    Ok((
+        Code {
+            length: bytes.len() as u32,
+            ops,
+        },
+        starts,
+    ))
 }
 
 // The public form of an error.
@@ -70,15 +82,23 @@ fn code_fault(error: ReadError) -> CodeFault
     match error {
         ReadError::Memory => CodeFault::NoMemory,
         ReadError::Fault(Fault::CutCode { pc, .. }) => CodeFault::CutCode { pc },
-        ReadError::Fault(Fault::Unsupported { pc, opcode, .. }) => CodeFault::Unsupported { pc, opcode },
+        ReadError::Fault(Fault::Unsupported { pc, opcode, .. }) => CodeFault::Unsupported {
+            pc,
+            opcode,
+        },
         ReadError::Fault(Fault::BadOperand { pc, .. }) => CodeFault::BadOperand { pc },
         ReadError::Fault(Fault::BadTarget { pc, .. }) => CodeFault::BadTarget { pc },
         ReadError::Fault(_) => unreachable!(),
     }
 }
 
-/// The code that these bytes are, all of them, in a class with this pool (JVMS 4.7.3, 4.9.1). It takes time in
-/// proportion to the bytes and to the names and descriptors that they mention.
+/// The code that these bytes are, all of them, in a class with this pool (JVMS 4.7.3, 4.9.1).
+///
+/// A fault is the first of one reading from left to right. An instruction is taken wholly (`CutCode`)
+/// before its operands are judged, from left to right (`BadOperand`, or `Unsupported` for what is outside
+/// of this project's profile); nothing behind an opcode outside of the profile is read. Where instructions
+/// lead is judged after all of them, by pc (`BadTarget`). It takes time in proportion to the bytes and to
+/// the names and descriptors that the instructions mention.
 pub fn decode(alloc: Global, code: &[u8], pool: &Pool) -> Result<Code, CodeFault>
     requires some { 0 < length code.now }
     requires few { length code.now < 65536 }

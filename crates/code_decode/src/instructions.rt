@@ -5,10 +5,10 @@ ghost use Rattle.std.specs.Int.{w8, w16};
 ghost use Rattle.class_pool.specs.Reading.{Gives};
 ghost use Rattle.code_decode.specs.Instructions.{args_at, shaped_at, wide_args_at, wide_at, op_at, spot_at, ops_at};
 
-use crate::opcodes::{Named, Shape, shape_of, takes_local};
+use crate::opcodes::{Shape, shape_of, takes_local};
 use crate::operands::{
-    branch_of, byte_of, constant_of, dimensions_of, entry_of, far_branch_of, increment_of, kind_of, local_of, near_constant_of, short_of,
-    wide_increment_of, wide_local_of,
+    branch_of, byte_of, constant_of, dimensions_of, entry_of, far_branch_of, increment_of,
+    interface_of, kind_of, local_of, near_constant_of, short_of, wide_increment_of, wide_local_of,
 };
 use crate::place::Spot;
 use crate::switches::{lookup_of, table_of};
@@ -33,7 +33,14 @@ pub struct RawOp {
 }
 
 #[tactic(auto, unfolding(crate::specs::Instructions::args_at))]
-fn args_of<'a>(alloc: Global, pool: &Pool, spot: &Spot, opcode: u8, shape: Shape, bytes: &'a [u8]) -> Result<(Items<i32>, &'a [u8]), ReadError>
+fn args_of<'a>(
+    alloc: Global,
+    pool: &Pool,
+    spot: &Spot,
+    opcode: u8,
+    shape: Shape,
+    bytes: &'a [u8],
+) -> Result<(Items<i32>, &'a [u8]), ReadError>
     ensures { Gives (λ x. (x.0, x.1.now)) result (args_at pool.now spot.now opcode shape bytes.now) }
 {
     match shape {
@@ -45,7 +52,7 @@ fn args_of<'a>(alloc: Global, pool: &Pool, spot: &Spot, opcode: u8, shape: Shape
         Shape::Near(constant) => near_constant_of(alloc, pool, spot, opcode, constant, bytes),
         Shape::Far(constant) => constant_of(alloc, pool, spot, opcode, constant, bytes),
         Shape::Entry(named) => entry_of(alloc, pool, spot, opcode, named, bytes),
-        Shape::Interface => entry_of(alloc, pool, spot, opcode, Named::Interface, bytes),
+        Shape::Interface => interface_of(alloc, pool, spot, bytes),
         Shape::Kind => kind_of(alloc, spot, opcode, bytes),
         Shape::Dimensions => dimensions_of(alloc, pool, spot, bytes),
         Shape::Branch => branch_of(alloc, spot, bytes),
@@ -56,20 +63,40 @@ fn args_of<'a>(alloc: Global, pool: &Pool, spot: &Spot, opcode: u8, shape: Shape
 }
 
 #[tactic(auto, unfolding(crate::specs::Instructions::shaped_at))]
-fn shaped_of<'a>(alloc: Global, pool: &Pool, spot: &Spot, opcode: u8, shape: Option<Shape>, bytes: &'a [u8]) -> Result<(RawOp, &'a [u8]), ReadError>
+fn shaped_of<'a>(
+    alloc: Global,
+    pool: &Pool,
+    spot: &Spot,
+    opcode: u8,
+    shape: Option<Shape>,
+    bytes: &'a [u8],
+) -> Result<(RawOp, &'a [u8]), ReadError>
     ensures { Gives (λ x. (x.0, x.1.now)) result (shaped_at pool.now spot.now opcode shape bytes.now) }
 {
     match shape {
         None => Err(ReadError::Fault(spot.foreign(opcode))),
         Some(shape) => {
             let (args, rest) = args_of(alloc, pool, spot, opcode, shape, bytes)?;
-            Ok((RawOp { pc: spot.pc as u32, opcode, wide: false, args }, rest))
+            Ok((
+                RawOp {
+                    pc: spot.pc as u32,
+                    opcode,
+                    wide: false,
+                    args,
+                },
+                rest,
+            ))
         }
     }
 }
 
 #[tactic(auto, unfolding(crate::specs::Instructions::wide_args_at))]
-fn wide_args_of<'a>(alloc: Global, spot: &Spot, opcode: u8, bytes: &'a [u8]) -> Result<(Items<i32>, &'a [u8]), ReadError>
+fn wide_args_of<'a>(
+    alloc: Global,
+    spot: &Spot,
+    opcode: u8,
+    bytes: &'a [u8],
+) -> Result<(Items<i32>, &'a [u8]), ReadError>
     ensures { Gives (λ x. (x.0, x.1.now)) result (wide_args_at spot.now opcode bytes.now) }
 {
     if takes_local(opcode) {
@@ -88,12 +115,25 @@ fn wide_of<'a>(alloc: Global, spot: &Spot, bytes: &'a [u8]) -> Result<(RawOp, &'
 {
     let (opcode, rest) = u8_or(spot.cut(), bytes)?;
     let (args, rest) = wide_args_of(alloc, spot, opcode, rest)?;
-    Ok((RawOp { pc: spot.pc as u32, opcode, wide: true, args }, rest))
+    Ok((
+        RawOp {
+            pc: spot.pc as u32,
+            opcode,
+            wide: true,
+            args,
+        },
+        rest,
+    ))
 }
 
 // The instruction at a spot, where these bytes begin.
 #[tactic(auto, unfolding(crate::specs::Instructions::op_at))]
-fn op_of<'a>(alloc: Global, pool: &Pool, spot: &Spot, bytes: &'a [u8]) -> Result<(RawOp, &'a [u8]), ReadError>
+fn op_of<'a>(
+    alloc: Global,
+    pool: &Pool,
+    spot: &Spot,
+    bytes: &'a [u8],
+) -> Result<(RawOp, &'a [u8]), ReadError>
     ensures { Gives (λ x. (x.0, x.1.now)) result (op_at pool.now spot.now bytes.now) }
 {
     let (opcode, rest) = u8_or(spot.cut(), bytes)?;
@@ -106,7 +146,12 @@ fn op_of<'a>(alloc: Global, pool: &Pool, spot: &Spot, bytes: &'a [u8]) -> Result
 
 // All instructions of a code.
 #[tactic(auto, unfolding(crate::specs::Instructions::ops_at))]
-pub fn ops_of(alloc: Global, method: u32, pool: &Pool, bytes: &[u8]) -> Result<Items<RawOp>, ReadError>
+pub fn ops_of(
+    alloc: Global,
+    method: u32,
+    pool: &Pool,
+    bytes: &[u8],
+) -> Result<Items<RawOp>, ReadError>
     requires { length bytes.now < 65536 }
     ensures { Gives (λ x. x) result (ops_at method pool.now bytes.now) }
 {

@@ -3,11 +3,13 @@
 ghost use Rattle.std.specs.Prelude.{◌≡◌, option_copied};
 ghost use Rattle.class_pool.specs.Pool.{entry_of};
 ghost use Rattle.class_pool.specs.Reading.{Gives, nothing};
-ghost use Rattle.code_decode.specs.Judging.{units_of, class_name, dimensions, is_real_array, array_fit, made_fit, element_fit, nested_fit, member_fit, named_fit, constant_fit, kind_fit};
+ghost use Rattle.code_decode.specs.Judging.{units_of, class_name, dimensions, is_real_array, array_fit, made_fit, element_fit, nested_fit, member_fit, named_fit, constant_fit, kind_fit, pair_units, interface_units, counts_units};
 ghost use Rattle.code_decode.specs.Operands.{judged};
 
 use crate::opcodes::{Constant, Named};
 use crate::place::Spot;
+use class_pool::lookup::{class_name_at, text_at};
+use class_pool::names::argument_units;
 use class_pool::{Entry, Pool, ReadError};
 
 /// What an operand is to its instruction.
@@ -35,18 +37,18 @@ pub fn judge(spot: &Spot, opcode: u8, fit: Fit) -> Result<(), ReadError>
 fn units_of(pool: &Pool, index: u16) -> &[u16]
     ensures { result.now ≡ units_of (entry_of pool.now index) }
 {
-    match pool.entry(index) {
-        Some(Entry::Utf8(units)) => units.as_slice(),
-        _ => &[],
+    match text_at(pool.slots(), index) {
+        Some(units) => units.as_slice(),
+        None => &[],
     }
 }
 
 pub fn class_name(pool: &Pool, index: u16) -> &[u16]
     ensures { result.now ≡ class_name pool.now (entry_of pool.now index) }
 {
-    match pool.entry(index) {
-        Some(Entry::Class { name }) => units_of(pool, *name),
-        _ => &[],
+    match class_name_at(pool.slots(), index) {
+        Some(name) => name.as_slice(),
+        None => &[],
     }
 }
 
@@ -66,13 +68,21 @@ fn is_real_array(name: &[u16]) -> bool
 fn array_fit(name: &[u16]) -> Fit
     ensures { result ≡ array_fit name.now }
 {
-    if is_real_array(name) { Fit::Foreign } else { Fit::Right }
+    if is_real_array(name) {
+        Fit::Foreign
+    } else {
+        Fit::Right
+    }
 }
 
 fn made_fit(name: &[u16]) -> Fit
     ensures { result ≡ made_fit name.now }
 {
-    if 0 < dimensions(name) { Fit::Wrong } else { Fit::Right }
+    if 0 < dimensions(name) {
+        Fit::Wrong
+    } else {
+        Fit::Right
+    }
 }
 
 fn element_fit(name: &[u16]) -> Fit
@@ -90,7 +100,11 @@ fn element_fit(name: &[u16]) -> Fit
 fn nested_fit(name: &[u16]) -> Fit
     ensures { result ≡ nested_fit name.now }
 {
-    if dimensions(name) == 0 { Fit::Wrong } else { array_fit(name) }
+    if dimensions(name) == 0 {
+        Fit::Wrong
+    } else {
+        array_fit(name)
+    }
 }
 
 fn member_fit(pool: &Pool, class: u16) -> Fit
@@ -104,7 +118,12 @@ pub fn named_fit(named: Named, pool: &Pool, index: u16) -> Fit
     ensures { result ≡ named_fit named pool.now (entry_of pool.now index) }
 {
     match (named, pool.entry(index)) {
-        (Named::Virtual | Named::Direct, Some(Entry::Method { class, .. })) => member_fit(pool, *class),
+        (Named::Field, Some(Entry::Field { class, .. })) => member_fit(pool, *class),
+        (Named::Virtual | Named::Direct, Some(Entry::Method { class, .. })) => member_fit(
+            pool, *class,
+        ),
+        (Named::Direct | Named::Interface, Some(Entry::InterfaceMethod { class, .. })) =>
+            member_fit(pool, *class),
         (Named::Made, Some(Entry::Class { name })) => made_fit(units_of(pool, *name)),
         (Named::Element, Some(Entry::Class { name })) => element_fit(units_of(pool, *name)),
         (Named::Tested, Some(Entry::Class { name })) => array_fit(units_of(pool, *name)),
@@ -119,11 +138,40 @@ pub fn constant_fit(constant: Constant, pool: &Pool, index: u16) -> Fit
 {
     match (constant, pool.entry(index)) {
         (_, None) => Fit::Wrong,
-        (Constant::Single, Some(Entry::Integer(_))) => Fit::Right,
+        (Constant::Single, Some(Entry::Integer(_) | Entry::Str { .. })) => Fit::Right,
         (Constant::Single, Some(Entry::Long(_))) => Fit::Wrong,
         (Constant::Double, Some(Entry::Long(_))) => Fit::Right,
-        (Constant::Double, Some(Entry::Integer(_))) => Fit::Wrong,
+        (Constant::Double, Some(Entry::Integer(_) | Entry::Str { .. })) => Fit::Wrong,
         _ => Fit::Foreign,
+    }
+}
+
+fn pair_units(pool: &Pool, pair: u16) -> Option<u8>
+    ensures { result ≡ pair_units pool.now (entry_of pool.now pair) }
+{
+    match pool.entry(pair) {
+        Some(Entry::NameAndType { descriptor, .. }) => argument_units(units_of(pool, *descriptor)),
+        _ => None,
+    }
+}
+
+// How many units the arguments of an interface's method take; none for another entry.
+pub fn interface_units(pool: &Pool, index: u16) -> Option<u8>
+    ensures { result ≡ interface_units pool.now (entry_of pool.now index) }
+{
+    match pool.entry(index) {
+        Some(Entry::InterfaceMethod { pair, .. }) => pair_units(pool, *pair),
+        _ => None,
+    }
+}
+
+// Whether a count is that of the arguments and the object itself.
+pub fn counts_units(units: Option<u8>, count: u8) -> bool
+    ensures { result ≡ counts_units units count }
+{
+    match units {
+        None => false,
+        Some(units) => count as u16 == units as u16 + 1,
     }
 }
 

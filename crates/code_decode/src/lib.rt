@@ -12,5 +12,8 @@ mod switches;
 
 pub use decoding::{Code, CodeFault, code_at, decode};
 pub use instructions::RawOp;
-pub use starts::Starts;
 pub use opcodes::{Constant, Named, Shape};
+pub use starts::Starts;
+
+#[cfg(test)]
+mod tests;

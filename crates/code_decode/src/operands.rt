@@ -7,13 +7,15 @@ ghost use Rattle.class_pool.specs.Pool.{entry_of};
 ghost use Rattle.class_pool.specs.declared.fault.ReadError.TheVariants.{Memory};
 ghost use Rattle.code_decode.specs.Judging.{named_fit, constant_fit, kind_fit};
 ghost use Rattle.code_decode.specs.Place.{target};
-ghost use Rattle.code_decode.specs.Operands.{one_at, signed_at, local_at, branch_at, increment_at, fitting_at, dimensions_at};
+ghost use Rattle.code_decode.specs.Operands.{one_at, signed_at, local_at, branch_at, increment_at, fitting_at, interface_at, dimensions_at};
 
-use crate::judging::{class_name, constant_fit, dimensions, judge, kind_fit, named_fit};
+use crate::judging::{
+    class_name, constant_fit, counts_units, dimensions, interface_units, judge, kind_fit, named_fit,
+};
 use crate::opcodes::{Constant, Named};
 use crate::place::Spot;
 use class_pool::fault::wants;
-use class_pool::fields::{u16_or, u32_or, u8_or};
+use class_pool::fields::{u8_or, u16_or, u32_or};
 use class_pool::{Pool, ReadError};
 use et_base::Items;
 use std::alloc::Global;
@@ -39,7 +41,11 @@ fn two(alloc: Global, first: i32, second: i32) -> Result<Items<i32>, ReadError>
 
 // A signed byte.
 #[tactic(auto, unfolding(crate::specs::Operands::one_at))]
-pub fn byte_of<'a>(alloc: Global, spot: &Spot, bytes: &'a [u8]) -> Result<(Items<i32>, &'a [u8]), ReadError>
+pub fn byte_of<'a>(
+    alloc: Global,
+    spot: &Spot,
+    bytes: &'a [u8],
+) -> Result<(Items<i32>, &'a [u8]), ReadError>
     ensures { Gives (λ x. (x.0, x.1.now)) result (signed_at w8 spot.now bytes.now) }
 {
     let (number, rest) = u8_or(spot.cut(), bytes)?;
@@ -48,7 +54,11 @@ pub fn byte_of<'a>(alloc: Global, spot: &Spot, bytes: &'a [u8]) -> Result<(Items
 
 // A signed number of two bytes.
 #[tactic(auto, unfolding(crate::specs::Operands::one_at))]
-pub fn short_of<'a>(alloc: Global, spot: &Spot, bytes: &'a [u8]) -> Result<(Items<i32>, &'a [u8]), ReadError>
+pub fn short_of<'a>(
+    alloc: Global,
+    spot: &Spot,
+    bytes: &'a [u8],
+) -> Result<(Items<i32>, &'a [u8]), ReadError>
     ensures { Gives (λ x. (x.0, x.1.now)) result (signed_at w16 spot.now bytes.now) }
 {
     let (number, rest) = u16_or(spot.cut(), bytes)?;
@@ -57,7 +67,11 @@ pub fn short_of<'a>(alloc: Global, spot: &Spot, bytes: &'a [u8]) -> Result<(Item
 
 // A local variable, by one byte.
 #[tactic(auto, unfolding(crate::specs::Operands::one_at))]
-pub fn local_of<'a>(alloc: Global, spot: &Spot, bytes: &'a [u8]) -> Result<(Items<i32>, &'a [u8]), ReadError>
+pub fn local_of<'a>(
+    alloc: Global,
+    spot: &Spot,
+    bytes: &'a [u8],
+) -> Result<(Items<i32>, &'a [u8]), ReadError>
     ensures { Gives (λ x. (x.0, x.1.now)) result (local_at w8 spot.now bytes.now) }
 {
     let (number, rest) = u8_or(spot.cut(), bytes)?;
@@ -66,7 +80,11 @@ pub fn local_of<'a>(alloc: Global, spot: &Spot, bytes: &'a [u8]) -> Result<(Item
 
 // A local variable, by two bytes.
 #[tactic(auto, unfolding(crate::specs::Operands::one_at))]
-pub fn wide_local_of<'a>(alloc: Global, spot: &Spot, bytes: &'a [u8]) -> Result<(Items<i32>, &'a [u8]), ReadError>
+pub fn wide_local_of<'a>(
+    alloc: Global,
+    spot: &Spot,
+    bytes: &'a [u8],
+) -> Result<(Items<i32>, &'a [u8]), ReadError>
     ensures { Gives (λ x. (x.0, x.1.now)) result (local_at w16 spot.now bytes.now) }
 {
     let (number, rest) = u16_or(spot.cut(), bytes)?;
@@ -75,7 +93,11 @@ pub fn wide_local_of<'a>(alloc: Global, spot: &Spot, bytes: &'a [u8]) -> Result<
 
 // A branch by two bytes.
 #[tactic(auto, unfolding(crate::specs::Operands::one_at))]
-pub fn branch_of<'a>(alloc: Global, spot: &Spot, bytes: &'a [u8]) -> Result<(Items<i32>, &'a [u8]), ReadError>
+pub fn branch_of<'a>(
+    alloc: Global,
+    spot: &Spot,
+    bytes: &'a [u8],
+) -> Result<(Items<i32>, &'a [u8]), ReadError>
     ensures { Gives (λ x. (x.0, x.1.now)) result (branch_at w16 spot.now bytes.now) }
 {
     let (number, rest) = u16_or(spot.cut(), bytes)?;
@@ -84,7 +106,11 @@ pub fn branch_of<'a>(alloc: Global, spot: &Spot, bytes: &'a [u8]) -> Result<(Ite
 
 // A branch by four bytes.
 #[tactic(auto, unfolding(crate::specs::Operands::one_at))]
-pub fn far_branch_of<'a>(alloc: Global, spot: &Spot, bytes: &'a [u8]) -> Result<(Items<i32>, &'a [u8]), ReadError>
+pub fn far_branch_of<'a>(
+    alloc: Global,
+    spot: &Spot,
+    bytes: &'a [u8],
+) -> Result<(Items<i32>, &'a [u8]), ReadError>
     ensures { Gives (λ x. (x.0, x.1.now)) result (branch_at w32 spot.now bytes.now) }
 {
     let (number, rest) = u32_or(spot.cut(), bytes)?;
@@ -93,7 +119,11 @@ pub fn far_branch_of<'a>(alloc: Global, spot: &Spot, bytes: &'a [u8]) -> Result<
 
 // A local variable and a signed byte.
 #[tactic(auto, unfolding(crate::specs::Operands::increment_at))]
-pub fn increment_of<'a>(alloc: Global, spot: &Spot, bytes: &'a [u8]) -> Result<(Items<i32>, &'a [u8]), ReadError>
+pub fn increment_of<'a>(
+    alloc: Global,
+    spot: &Spot,
+    bytes: &'a [u8],
+) -> Result<(Items<i32>, &'a [u8]), ReadError>
     ensures { Gives (λ x. (x.0, x.1.now)) result (increment_at w8 spot.now bytes.now) }
 {
     let (local, rest) = u8_or(spot.cut(), bytes)?;
@@ -103,7 +133,11 @@ pub fn increment_of<'a>(alloc: Global, spot: &Spot, bytes: &'a [u8]) -> Result<(
 
 // A local variable and a signed number, by two bytes each.
 #[tactic(auto, unfolding(crate::specs::Operands::increment_at))]
-pub fn wide_increment_of<'a>(alloc: Global, spot: &Spot, bytes: &'a [u8]) -> Result<(Items<i32>, &'a [u8]), ReadError>
+pub fn wide_increment_of<'a>(
+    alloc: Global,
+    spot: &Spot,
+    bytes: &'a [u8],
+) -> Result<(Items<i32>, &'a [u8]), ReadError>
     ensures { Gives (λ x. (x.0, x.1.now)) result (increment_at w16 spot.now bytes.now) }
 {
     let (local, rest) = u16_or(spot.cut(), bytes)?;
@@ -113,7 +147,14 @@ pub fn wide_increment_of<'a>(alloc: Global, spot: &Spot, bytes: &'a [u8]) -> Res
 
 // A constant, by one byte.
 #[tactic(auto, unfolding(crate::specs::Operands::fitting_at))]
-pub fn near_constant_of<'a>(alloc: Global, pool: &Pool, spot: &Spot, opcode: u8, constant: Constant, bytes: &'a [u8]) -> Result<(Items<i32>, &'a [u8]), ReadError>
+pub fn near_constant_of<'a>(
+    alloc: Global,
+    pool: &Pool,
+    spot: &Spot,
+    opcode: u8,
+    constant: Constant,
+    bytes: &'a [u8],
+) -> Result<(Items<i32>, &'a [u8]), ReadError>
     ensures { Gives (λ x. (x.0, x.1.now)) result (fitting_at w8 (λ n. constant_fit constant (entry_of pool.now n)) spot.now opcode bytes.now) }
 {
     let (index, rest) = u8_or(spot.cut(), bytes)?;
@@ -123,7 +164,14 @@ pub fn near_constant_of<'a>(alloc: Global, pool: &Pool, spot: &Spot, opcode: u8,
 
 // A constant, by two bytes.
 #[tactic(auto, unfolding(crate::specs::Operands::fitting_at))]
-pub fn constant_of<'a>(alloc: Global, pool: &Pool, spot: &Spot, opcode: u8, constant: Constant, bytes: &'a [u8]) -> Result<(Items<i32>, &'a [u8]), ReadError>
+pub fn constant_of<'a>(
+    alloc: Global,
+    pool: &Pool,
+    spot: &Spot,
+    opcode: u8,
+    constant: Constant,
+    bytes: &'a [u8],
+) -> Result<(Items<i32>, &'a [u8]), ReadError>
     ensures { Gives (λ x. (x.0, x.1.now)) result (fitting_at w16 (λ n. constant_fit constant (entry_of pool.now n)) spot.now opcode bytes.now) }
 {
     let (index, rest) = u16_or(spot.cut(), bytes)?;
@@ -133,7 +181,14 @@ pub fn constant_of<'a>(alloc: Global, pool: &Pool, spot: &Spot, opcode: u8, cons
 
 // An entry, by two bytes.
 #[tactic(auto, unfolding(crate::specs::Operands::fitting_at))]
-pub fn entry_of<'a>(alloc: Global, pool: &Pool, spot: &Spot, opcode: u8, named: Named, bytes: &'a [u8]) -> Result<(Items<i32>, &'a [u8]), ReadError>
+pub fn entry_of<'a>(
+    alloc: Global,
+    pool: &Pool,
+    spot: &Spot,
+    opcode: u8,
+    named: Named,
+    bytes: &'a [u8],
+) -> Result<(Items<i32>, &'a [u8]), ReadError>
     ensures { Gives (λ x. (x.0, x.1.now)) result (fitting_at w16 (λ n. named_fit named pool.now (entry_of pool.now n)) spot.now opcode bytes.now) }
 {
     let (index, rest) = u16_or(spot.cut(), bytes)?;
@@ -143,7 +198,12 @@ pub fn entry_of<'a>(alloc: Global, pool: &Pool, spot: &Spot, opcode: u8, named: 
 
 // The kind of an array of numbers.
 #[tactic(auto, unfolding(crate::specs::Operands::fitting_at))]
-pub fn kind_of<'a>(alloc: Global, spot: &Spot, opcode: u8, bytes: &'a [u8]) -> Result<(Items<i32>, &'a [u8]), ReadError>
+pub fn kind_of<'a>(
+    alloc: Global,
+    spot: &Spot,
+    opcode: u8,
+    bytes: &'a [u8],
+) -> Result<(Items<i32>, &'a [u8]), ReadError>
     ensures { Gives (λ x. (x.0, x.1.now)) result (fitting_at w8 kind_fit spot.now opcode bytes.now) }
 {
     let (kind, rest) = u8_or(spot.cut(), bytes)?;
@@ -151,14 +211,43 @@ pub fn kind_of<'a>(alloc: Global, spot: &Spot, opcode: u8, bytes: &'a [u8]) -> R
     Ok((one(alloc, kind as i32)?, rest))
 }
 
+// An interface's method, a count and a zero.
+#[tactic(auto, unfolding(crate::specs::Operands::interface_at))]
+pub fn interface_of<'a>(
+    alloc: Global,
+    pool: &Pool,
+    spot: &Spot,
+    bytes: &'a [u8],
+) -> Result<(Items<i32>, &'a [u8]), ReadError>
+    ensures { Gives (λ x. (x.0, x.1.now)) result (interface_at pool.now spot.now bytes.now) }
+{
+    let (index, rest) = u16_or(spot.cut(), bytes)?;
+    let (count, rest) = u8_or(spot.cut(), rest)?;
+    let (zero, rest) = u8_or(spot.cut(), rest)?;
+    judge(spot, 185, named_fit(Named::Interface, pool, index))?;
+    wants(
+        counts_units(interface_units(pool, index), count) && zero == 0,
+        spot.wrong(),
+    )?;
+    Ok((two(alloc, index as i32, count as i32)?, rest))
+}
+
 // An array class and a number of its dimensions.
 #[tactic(auto, unfolding(crate::specs::Operands::dimensions_at))]
-pub fn dimensions_of<'a>(alloc: Global, pool: &Pool, spot: &Spot, bytes: &'a [u8]) -> Result<(Items<i32>, &'a [u8]), ReadError>
+pub fn dimensions_of<'a>(
+    alloc: Global,
+    pool: &Pool,
+    spot: &Spot,
+    bytes: &'a [u8],
+) -> Result<(Items<i32>, &'a [u8]), ReadError>
     ensures { Gives (λ x. (x.0, x.1.now)) result (dimensions_at pool.now spot.now bytes.now) }
 {
     let (index, rest) = u16_or(spot.cut(), bytes)?;
     let (count, rest) = u8_or(spot.cut(), rest)?;
     judge(spot, 197, named_fit(Named::Nested, pool, index))?;
-    wants(0 < count && count as usize <= dimensions(class_name(pool, index)), spot.wrong())?;
+    wants(
+        0 < count && count as usize <= dimensions(class_name(pool, index)),
+        spot.wrong(),
+    )?;
     Ok((two(alloc, index as i32, count as i32)?, rest))
 }

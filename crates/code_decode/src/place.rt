@@ -18,21 +18,31 @@ impl Spot {
     pub fn cut(&self) -> Fault
         ensures { result ≡ cut self.now }
     {
-        Fault::CutCode { method: self.method, pc: self.pc as u32 }
+        Fault::CutCode {
+            method: self.method,
+            pc: self.pc as u32,
+        }
     }
 
     // An operand is wrong.
     pub fn wrong(&self) -> Fault
         ensures { result ≡ wrong self.now }
     {
-        Fault::BadOperand { method: self.method, pc: self.pc as u32 }
+        Fault::BadOperand {
+            method: self.method,
+            pc: self.pc as u32,
+        }
     }
 
     // The instruction is outside of the profile.
     pub fn foreign(&self, opcode: u8) -> Fault
         ensures { result ≡ foreign self.now opcode }
     {
-        Fault::Unsupported { method: self.method, pc: self.pc as u32, opcode }
+        Fault::Unsupported {
+            method: self.method,
+            pc: self.pc as u32,
+            opcode,
+        }
     }
 
     // Where a branch by this offset leads, or -1 outside of the code.
@@ -46,5 +56,9 @@ impl Spot {
 fn place(total: u16, to: i64) -> i32
     ensures { result ≡ place total to }
 {
-    if to < 0 || total as i64 <= to { -1 } else { to as i32 }
+    if to < 0 || total as i64 <= to {
+        -1
+    } else {
+        to as i32
+    }
 }

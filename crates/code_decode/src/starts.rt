@@ -4,10 +4,10 @@ ghost use Rattle.std.specs.Prelude.{◌≡◌, ◌<◌, nat_lt, length, IfOk, If
 ghost use Rattle.class_pool.specs.Reading.{Gives, nothing, tested};
 ghost use Rattle.class_pool.specs.declared.fault.Fault.TheVariants.{BadTarget};
 ghost use Rattle.class_pool.specs.declared.fault.ReadError.TheVariants.{Memory};
-ghost use Rattle.code_decode.specs.Targets.{Marks, is_place, is_marked, leads_to, targets_fit};
+ghost use Rattle.code_decode.specs.Targets.{Marks, is_place, is_marked, leads, leads_to, targets_fit};
 
 use crate::instructions::RawOp;
-use crate::opcodes::takes_branch;
+use crate::opcodes::{Shape, shape_of};
 use class_pool::fault::wants;
 use class_pool::{Fault, ReadError};
 use std::alloc::Global;
@@ -73,23 +73,40 @@ fn mark(marks: &mut Vec<bool>, pc: usize)
 }
 
 // Whether the operand at i is a place in the code.
-fn is_place(opcode: u8, i: usize) -> bool
-    ensures { result ≡ is_place opcode i }
+fn is_place(shape: Option<Shape>, i: usize) -> bool
+    ensures { result ≡ is_place shape i }
 {
-    takes_branch(opcode) || opcode == 200 || opcode == 170 && !(i == 1 || i == 2) || opcode == 171 && i % 2 == 0
+    match shape {
+        Some(Shape::Branch | Shape::FarBranch) => true,
+        Some(Shape::Table) => !(i == 1 || i == 2),
+        Some(Shape::Lookup) => i % 2 == 0,
+        _ => false,
+    }
+}
+
+// Whether each place among operands is marked.
+fn leads(shape: Option<Shape>, starts: &Starts, args: &[i32]) -> bool
+    ensures { result ≡ leads shape (is_marked starts.now) args.now }
+{
+    args.iter()
+        .enumerate()
+        .all(|(i, to)| !is_place(shape, i) || starts.is_marked(*to))
 }
 
 // Whether each place that an instruction leads to is marked.
 fn leads_to_starts(starts: &Starts, op: &RawOp) -> bool
     ensures { result ≡ leads_to (is_marked starts.now) op.now }
 {
-    op.args.as_slice().iter().enumerate().all(|(i, to)| !is_place(op.opcode, i) || starts.is_marked(*to))
+    leads(shape_of(op.opcode), starts, op.args.as_slice())
 }
 
 fn judge_op(method: u32, starts: &Starts, op: &RawOp) -> Result<(), ReadError>
     ensures { Gives nothing result (tested (leads_to (is_marked starts.now) op.now) (BadTarget method op.now.pc)) }
 {
-    wants(leads_to_starts(starts, op), Fault::BadTarget { method, pc: op.pc })
+    wants(
+        leads_to_starts(starts, op),
+        Fault::BadTarget { method, pc: op.pc },
+    )
 }
 
 // The first instruction that leads to a place where none begins.

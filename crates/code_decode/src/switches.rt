@@ -88,7 +88,12 @@ fn three(alloc: Global, first: i32, second: i32, third: i32) -> Result<Items<i32
 }
 
 // So many places behind the operands so far.
-fn places_of<'a>(spot: &Spot, args: Items<i32>, count: u64, bytes: &'a [u8]) -> Result<(Items<i32>, &'a [u8]), ReadError>
+fn places_of<'a>(
+    spot: &Spot,
+    args: Items<i32>,
+    count: u64,
+    bytes: &'a [u8],
+) -> Result<(Items<i32>, &'a [u8]), ReadError>
     ensures { Gives (λ x. (x.0, x.1.now)) result (counted (λ _ _ b. place_at spot.now b) args count bytes.now) }
 {
     let mut args = args;
@@ -102,7 +107,14 @@ fn places_of<'a>(spot: &Spot, args: Items<i32>, count: u64, bytes: &'a [u8]) -> 
 }
 
 #[tactic(auto, unfolding(crate::specs::Switches::rows_at))]
-fn rows_of<'a>(alloc: Global, spot: &Spot, other: i32, low: i32, high: i32, bytes: &'a [u8]) -> Result<(Items<i32>, &'a [u8]), ReadError>
+fn rows_of<'a>(
+    alloc: Global,
+    spot: &Spot,
+    other: i32,
+    low: i32,
+    high: i32,
+    bytes: &'a [u8],
+) -> Result<(Items<i32>, &'a [u8]), ReadError>
     ensures { Gives (λ x. (x.0, x.1.now)) result (rows_at spot.now other low high bytes.now) }
 {
     let args = three(alloc, other, low, high)?;
@@ -111,7 +123,11 @@ fn rows_of<'a>(alloc: Global, spot: &Spot, other: i32, low: i32, high: i32, byte
 
 // The operands of tableswitch.
 #[tactic(auto, unfolding(crate::specs::Switches::table_at))]
-pub fn table_of<'a>(alloc: Global, spot: &Spot, bytes: &'a [u8]) -> Result<(Items<i32>, &'a [u8]), ReadError>
+pub fn table_of<'a>(
+    alloc: Global,
+    spot: &Spot,
+    bytes: &'a [u8],
+) -> Result<(Items<i32>, &'a [u8]), ReadError>
     ensures { Gives (λ x. (x.0, x.1.now)) result (table_at spot.now bytes.now) }
 {
     let (other, rest) = other_of(spot, bytes)?;
@@ -130,7 +146,11 @@ fn pair_count_of<'a>(spot: &Spot, bytes: &'a [u8]) -> Result<(u32, &'a [u8]), Re
 
 // One more key and its place.
 #[tactic(auto, unfolding(crate::specs::Switches::pair_at))]
-fn pair_of<'a>(spot: &Spot, args: Items<i32>, bytes: &'a [u8]) -> Result<(Items<i32>, &'a [u8]), ReadError>
+fn pair_of<'a>(
+    spot: &Spot,
+    args: Items<i32>,
+    bytes: &'a [u8],
+) -> Result<(Items<i32>, &'a [u8]), ReadError>
     ensures { Gives (λ x. (x.0, x.1.now)) result (pair_at spot.now args bytes.now) }
 {
     let (key, rest) = word_of(spot, bytes)?;
@@ -141,7 +161,12 @@ fn pair_of<'a>(spot: &Spot, args: Items<i32>, bytes: &'a [u8]) -> Result<(Items<
 }
 
 // So many keys and places behind the operands so far.
-fn all_pairs_of<'a>(spot: &Spot, args: Items<i32>, count: u32, bytes: &'a [u8]) -> Result<(Items<i32>, &'a [u8]), ReadError>
+fn all_pairs_of<'a>(
+    spot: &Spot,
+    args: Items<i32>,
+    count: u32,
+    bytes: &'a [u8],
+) -> Result<(Items<i32>, &'a [u8]), ReadError>
     ensures { Gives (λ x. (x.0, x.1.now)) result (folded (λ now b. pair_at spot.now now b) args count bytes.now) }
 {
     let mut args = args;
@@ -157,11 +182,18 @@ fn all_pairs_of<'a>(spot: &Spot, args: Items<i32>, count: u32, bytes: &'a [u8]) 
 fn keys_rise(args: &[i32]) -> bool
     ensures { result ≡ keys_rise args.now }
 {
-    args.iter().enumerate().all(|(i, key)| i < 3 || i % 2 == 0 || args[i - 2] < *key)
+    args.iter()
+        .enumerate()
+        .all(|(i, key)| i < 3 || i % 2 == 0 || args[i - 2] < *key)
 }
 
 #[tactic(auto, unfolding(crate::specs::Switches::pairs_at))]
-fn pairs_of<'a>(alloc: Global, spot: &Spot, other: i32, bytes: &'a [u8]) -> Result<(Items<i32>, &'a [u8]), ReadError>
+fn pairs_of<'a>(
+    alloc: Global,
+    spot: &Spot,
+    other: i32,
+    bytes: &'a [u8],
+) -> Result<(Items<i32>, &'a [u8]), ReadError>
     ensures { Gives (λ x. (x.0, x.1.now)) result (pairs_at spot.now other bytes.now) }
 {
     let args = one(alloc, other)?;
@@ -171,7 +203,11 @@ fn pairs_of<'a>(alloc: Global, spot: &Spot, other: i32, bytes: &'a [u8]) -> Resu
 
 // The operands of lookupswitch.
 #[tactic(auto, unfolding(crate::specs::Switches::lookup_at))]
-pub fn lookup_of<'a>(alloc: Global, spot: &Spot, bytes: &'a [u8]) -> Result<(Items<i32>, &'a [u8]), ReadError>
+pub fn lookup_of<'a>(
+    alloc: Global,
+    spot: &Spot,
+    bytes: &'a [u8],
+) -> Result<(Items<i32>, &'a [u8]), ReadError>
     ensures { Gives (λ x. (x.0, x.1.now)) result (lookup_at spot.now bytes.now) }
 {
     let (other, rest) = other_of(spot, bytes)?;
