@@ -17,3 +17,6 @@ pub use fault::ClassFault;
 pub use parts::{
     ClassFile, ClassParts, CodePart, MapFrame, MapPart, MapType, MemberPart, RawHandler,
 };
+
+#[cfg(test)]
+mod tests;
