@@ -1,3 +1,4 @@
+pub mod TextLaw
 pub mod IndexLaw
 pub mod HandlerLaw
 pub mod MapSteps

@@ -1,4 +1,6 @@
 pub mod Names
+pub mod Texts
+pub mod Lookups
 pub mod Indices
 pub mod Maps
 pub mod MapGrammar

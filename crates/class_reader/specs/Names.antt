@@ -1,5 +1,6 @@
 -- What an index of a class file must name, place by place.
 use Rattle.std.specs.Prelude.{ℕ, ◌+◌, List, [], ◌∷◌, Option, Some, None, Bool, true, false, not, nat_le, ◌==◌, ◌&&◌, ◌||◌, codes, bit_and, if◌then◌else◌}
+use Rattle.std.specs.Str.{bytes_eq}
 use Rattle.class_pool.specs.declared.pool.Entry.{Entry}
 use Rattle.class_pool.specs.declared.pool.Entry.TheVariants.{Utf8, Integer, Float, Long, Double, Class, Str}
 use Rattle.class_pool.specs.Pool.{entry_of, in_text}
@@ -7,14 +8,9 @@ use Rattle.class_pool.specs.Names.{is_unqualified, is_field_descriptor, argument
 use Rattle.class_pool.specs.Names as names
 use Rattle.class_reader.specs.declared.parts.MemberPart.{MemberPart}
 
-abbrev pub same_units : List ℕ → List ℕ → Bool
-same_units [] [] = true
-same_units (a ∷ us) (b ∷ vs) = a == b && same_units us vs
-same_units _ _ = false
-
 -- whether an entry is this text
 abbrev pub is_text_of : List ℕ → Option Entry → Bool
-is_text_of text (Some (Utf8 units)) = same_units units text
+is_text_of text (Some (Utf8 units)) = bytes_eq units text
 is_text_of text _ = false
 
 -- the names of the attributes that are read (JVMS 4.7)
@@ -73,7 +69,7 @@ fits_constant descriptor (Some (Str text)) = is_text_of (codes "Ljava/lang/Strin
 fits_constant descriptor _ = false
 
 abbrev pub same_text : Option Entry → Option Entry → Bool
-same_text (Some (Utf8 a)) (Some (Utf8 b)) = same_units a b
+same_text (Some (Utf8 a)) (Some (Utf8 b)) = bytes_eq a b
 same_text _ _ = false
 
 -- whether a member of the same name and descriptor stands among these

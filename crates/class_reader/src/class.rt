@@ -15,6 +15,7 @@ use crate::fault::{ClassFault, shown};
 use crate::members::{fields_of, methods_of};
 use crate::names::{class_at, own_class_at};
 use crate::parts::{ClassFile, ClassParts, MemberPart};
+use crate::texts::Texts;
 use class_pool::fault::wants;
 use class_pool::fields::{u16_at, u32_at};
 use class_pool::{Fault, Pool, ReadError};
@@ -71,8 +72,9 @@ fn members_of<'a>(
 ) -> Result<((Items<MemberPart>, Items<MemberPart>), &'a [u8]), ReadError>
     ensures { Gives (λ x. ((x.0.0, x.0.1), x.1.now)) result (members_at pool.now bytes.now) }
 {
-    let (fields, rest) = fields_of(alloc, pool, bytes)?;
-    let (methods, rest) = methods_of(alloc, pool, rest)?;
+    let texts = Texts::new(alloc, pool)?;
+    let (fields, rest) = fields_of(alloc, &texts, bytes)?;
+    let (methods, rest) = methods_of(alloc, &texts, rest)?;
     let (_, rest) = after_all(pool, rest)?;
     Ok(((fields, methods), rest))
 }
@@ -135,121 +137,5 @@ pub fn read_class(alloc: Global, bytes: &[u8]) -> Result<ClassFile, ClassFault>
         Ok(parts) => Ok(ClassFile::new(parts)),
         Err(ReadError::Memory) => Err(ClassFault::NoMemory),
         Err(ReadError::Fault(fault)) => Err(shown(bytes.len(), fault)),
-    }
-}
-
-#[cfg(test)]
-mod tests {
-    use super::*;
-
-    // `public class T { public static void t() {} }`
-    const RETURN: [u8; 97] = [
-        202, 254, 186, 190, 0, 0, 0, 52, 0, 8, 1, 0, 1, 84, 7, 0, 1, 1, 0, 16, 106, 97, 118, 97,
-        47, 108, 97, 110, 103, 47, 79, 98, 106, 101, 99, 116, 7, 0, 3, 1, 0, 1, 116, 1, 0, 3, 40,
-        41, 86, 1, 0, 4, 67, 111, 100, 101, 0, 33, 0, 2, 0, 4, 0, 0, 0, 0, 0, 1, 0, 9, 0, 5, 0, 6,
-        0, 1, 0, 7, 0, 0, 0, 13, 0, 0, 0, 0, 0, 0, 0, 1, 177, 0, 0, 0, 0, 0, 0,
-    ];
-
-    // Where its fields begin.
-    const FIELDS: [u32; 42] = [
-        0, 4, 6, 8, 10, 11, 13, 14, 15, 17, 18, 20, 36, 37, 39, 40, 42, 43, 44, 46, 49, 50, 52, 56,
-        58, 60, 62, 64, 66, 68, 70, 72, 74, 76, 78, 82, 84, 86, 90, 91, 93, 95,
-    ];
-
-    #[test]
-    fn reads_a_class_with_one_method(rt: HostRuntime) {
-        match read_class(rt.alloc(), &RETURN) {
-            Ok(class) => {
-                let parts = class.parts();
-                assert_eq!(rt; parts.major, 52);
-                assert_eq!(rt; parts.pool.slots().len(), 7);
-                assert_eq!(rt; parts.flags, 33);
-                assert_eq!(rt; parts.this_class, 2);
-                assert_eq!(rt; parts.super_class, 4);
-                assert_eq!(rt; parts.methods.len(), 1);
-            }
-            Err(fault) => assert_eq!(rt; fault, ClassFault::BadMagic),
-        }
-    }
-
-    // The fault of the bytes, or none.
-    fn fault_of(rt: &HostRuntime, bytes: &[u8]) -> Option<ClassFault>
-        requires { length bytes.now < 2 ^ 32 }
-    {
-        match read_class(rt.alloc(), bytes) {
-            Ok(_class) => None,
-            Err(fault) => Some(fault),
-        }
-    }
-
-    // The last field that begins at or before this place.
-    fn field_before(place: u32) -> u32 {
-        let mut at = 0;
-        for field in FIELDS {
-            if field <= place {
-                at = field;
-            }
-        }
-        at
-    }
-
-    #[test]
-    fn names_the_cut_field(rt: HostRuntime) {
-        for len in 0..97_u32 {
-            let at = field_before(len);
-            assert_eq!(rt;
-                fault_of(&rt, &RETURN[..len as usize]),
-                Some(ClassFault::Truncated { at }),
-                "cut to {len}"
-            );
-        }
-    }
-
-    #[test]
-    fn names_the_first_fault(rt: HostRuntime) {
-        let cases = [
-            (0, 1, ClassFault::BadMagic),
-            (7, 53, ClassFault::BadVersion { major: 53 }),
-            (10, 2, ClassFault::BadTag { at: 10, tag: 2 }),
-            (16, 8, ClassFault::BadIndex { at: 15 }),
-            (20, 255, ClassFault::BadUtf { at: 20 }),
-            (13, 91, ClassFault::BadIndex { at: 58 }),
-            (59, 3, ClassFault::BadIndex { at: 58 }),
-            (61, 0, ClassFault::BadIndex { at: 60 }),
-            (71, 2, ClassFault::BadIndex { at: 70 }),
-            (70, 1, ClassFault::BadIndex { at: 70 }),
-            (68, 1, ClassFault::CodeKind { at: 68 }),
-            (55, 102, ClassFault::CodeKind { at: 68 }),
-            (77, 2, ClassFault::BadIndex { at: 76 }),
-            (81, 14, ClassFault::BadLength { at: 78 }),
-            (89, 0, ClassFault::BadLength { at: 86 }),
-            (
-                90,
-                99,
-                ClassFault::Unsupported {
-                    method: 1,
-                    pc: 0,
-                    opcode: 99,
-                },
-            ),
-            (90, 184, ClassFault::CutCode { method: 1, pc: 0 }),
-        ];
-        for (i, value, fault) in cases {
-            let mut bytes = RETURN;
-            if i < 97 {
-                bytes[i] = value;
-            }
-            assert_eq!(rt;
-                fault_of(&rt, &bytes),
-                Some(fault),
-                "byte {i} set to {value}"
-            );
-        }
-        let mut longer = [0; 98];
-        longer[..97].copy_from_slice(&RETURN);
-        assert_eq!(rt;
-            fault_of(&rt, &longer),
-            Some(ClassFault::Trailing { at: 97 })
-        );
     }
 }

@@ -9,6 +9,7 @@ mod maps;
 mod members;
 mod names;
 mod parts;
+mod texts;
 
 pub use class::read_class;
 pub use code_decode::{Code, RawOp};
@@ -16,3 +17,6 @@ pub use fault::ClassFault;
 pub use parts::{
     ClassFile, ClassParts, CodePart, MapFrame, MapPart, MapType, MemberPart, RawHandler,
 };
+
+#[cfg(test)]
+mod tests;

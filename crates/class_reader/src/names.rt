@@ -1,15 +1,15 @@
 //! What an index of a class file must name, place by place.
 
-ghost use Rattle.std.specs.Prelude.{◌≡◌, ◌≤◌};
+ghost use Rattle.std.specs.Prelude.{◌≡◌, ◌≤◌, true, IfOk};
+ghost use Rattle.std.specs.Str.{bytes_eq};
 ghost use Rattle.class_pool.specs.Pool.{entry_of, is_text, is_class};
 ghost use Rattle.class_pool.specs.Reading.{Gives};
-ghost use Rattle.class_reader.specs.Names.{same_units, is_text_of, is_code, is_constant_value, is_stack_map, own_units, has_room, is_small, begins_array, is_own_class, is_field_name, is_field_type, is_method_name, is_method_type, fits_constant, same_text, is_repeated, fits_flags};
+ghost use Rattle.class_reader.specs.Names.{is_text_of, is_code, is_constant_value, is_stack_map, own_units, has_room, is_small, begins_array, is_own_class, is_field_name, is_field_type, is_method_name, is_method_type, fits_constant, fits_flags};
 ghost use Rattle.class_reader.specs.Indices.{index_at, form_at};
 
-use crate::parts::MemberPart;
+use crate::texts::Texts;
 use class_pool::fault::wants;
 use class_pool::fields::u16_at;
-use class_pool::names::{argument_units, is_field_descriptor, is_method_name, is_unqualified};
 use class_pool::{Entry, Fault, Pool, ReadError};
 
 const CODE: [u16; 4] = [67, 111, 100, 101];
@@ -23,7 +23,7 @@ const STRING: [u16; 18] = [
 const CONSTANT_VALUE: [u16; 13] = [67, 111, 110, 115, 116, 97, 110, 116, 86, 97, 108, 117, 101];
 
 fn same_units(a: &[u16], b: &[u16]) -> bool
-    ensures { result ≡ same_units a.now b.now }
+    ensures { result ≡ bytes_eq a.now b.now }
 {
     a == b
 }
@@ -97,36 +97,6 @@ pub fn names_own_class(pool: &Pool, index: u16) -> bool
     }
 }
 
-/// Whether the index names a field's name (JVMS 4.2.2).
-pub fn names_field(pool: &Pool, index: u16) -> bool
-    ensures { result ≡ is_field_name (entry_of pool.now index) }
-{
-    match pool.entry(index) {
-        Some(Entry::Utf8(units)) => is_unqualified(units.as_slice()),
-        _ => false,
-    }
-}
-
-/// Whether the index names a field's descriptor (JVMS 4.3.2).
-pub fn names_field_type(pool: &Pool, index: u16) -> bool
-    ensures { result ≡ is_field_type (entry_of pool.now index) }
-{
-    match pool.entry(index) {
-        Some(Entry::Utf8(units)) => is_field_descriptor(units.as_slice()),
-        _ => false,
-    }
-}
-
-/// Whether the index names a method's name (JVMS 4.2.2).
-pub fn names_method(pool: &Pool, index: u16) -> bool
-    ensures { result ≡ is_method_name (entry_of pool.now index) }
-{
-    match pool.entry(index) {
-        Some(Entry::Utf8(units)) => is_method_name(units.as_slice()),
-        _ => false,
-    }
-}
-
 fn own_units(flags: u16) -> u16
     ensures { result ≡ own_units flags }
 {
@@ -143,14 +113,10 @@ fn has_room(own: u16, units: Option<u8>) -> bool
     }
 }
 
-/// Whether the index names a method's descriptor, at these access flags (JVMS 4.3.3).
-pub fn names_method_type(pool: &Pool, flags: u16, index: u16) -> bool
-    ensures { result ≡ is_method_type flags (entry_of pool.now index) }
+fn is_method_type(texts: &Texts, flags: u16, index: u16) -> bool
+    ensures { result ≡ is_method_type flags (entry_of texts.now index) }
 {
-    match pool.entry(index) {
-        Some(Entry::Utf8(units)) => has_room(own_units(flags), argument_units(units.as_slice())),
-        _ => false,
-    }
+    has_room(own_units(flags), texts.mark(index).argument_units)
 }
 
 fn is_small(pool: &Pool, descriptor: u16) -> bool
@@ -177,27 +143,6 @@ pub fn fits_constant(pool: &Pool, descriptor: u16, index: u16) -> bool
     }
 }
 
-fn same_text(pool: &Pool, a: u16, b: u16) -> bool
-    ensures { result ≡ same_text (entry_of pool.now a) (entry_of pool.now b) }
-{
-    match (pool.entry(a), pool.entry(b)) {
-        (Some(Entry::Utf8(a)), Some(Entry::Utf8(b))) => same_units(a.as_slice(), b.as_slice()),
-        _ => false,
-    }
-}
-
-/// Whether a member of the same name and descriptor stands among these.
-pub fn is_repeated(pool: &Pool, before: &[MemberPart], name: u16, descriptor: u16) -> bool
-    ensures { result ≡ is_repeated pool.now before.now name descriptor }
-{
-    for m in before {
-        if same_text(pool, m.name, name) && same_text(pool, m.descriptor, descriptor) {
-            return true;
-        }
-    }
-    false
-}
-
 /// Whether code is there exactly where a method's access flags ask for it: where it is neither
 /// abstract nor native (JVMS 4.7.3).
 pub fn fits_flags(flags: u16, there: bool) -> bool
@@ -209,7 +154,8 @@ pub fn fits_flags(flags: u16, there: bool) -> bool
 /// An index that names a text.
 #[tactic(auto, unfolding(crate::specs::Indices::index_at))]
 pub fn text_at<'a>(pool: &Pool, bytes: &'a [u8]) -> Result<(u16, &'a [u8]), ReadError>
-    ensures { Gives (λ x. (x.0, x.1.now)) result (index_at is_text pool.now bytes.now) }
+    ensures gives { Gives (λ x. (x.0, x.1.now)) result (index_at is_text pool.now bytes.now) }
+    ensures text { IfOk result (λ x. is_text (entry_of pool.now x.0) ≡ true) }
 {
     let (index, rest) = u16_at(bytes)?;
     wants(names_text(pool, index), Fault::BadIndex(bytes.len()))?;
@@ -253,51 +199,61 @@ pub fn fitting_at<'a>(
     Ok((index, rest))
 }
 
-/// An index that names a field's name.
+/// An index that names a field's name (JVMS 4.2.2).
 #[tactic(auto, unfolding(crate::specs::Indices::form_at))]
-pub fn field_name_at<'a>(pool: &Pool, bytes: &'a [u8]) -> Result<(u16, &'a [u8]), ReadError>
-    ensures { Gives (λ x. (x.0, x.1.now)) result (form_at is_field_name pool.now bytes.now) }
+pub fn field_name_at<'a>(texts: &Texts, bytes: &'a [u8]) -> Result<(u16, &'a [u8]), ReadError>
+    ensures gives { Gives (λ x. (x.0, x.1.now)) result (form_at is_field_name texts.now bytes.now) }
+    ensures text { IfOk result (λ x. is_text (entry_of texts.now x.0) ≡ true) }
 {
-    let (index, rest) = text_at(pool, bytes)?;
-    wants(names_field(pool, index), Fault::BadDescriptor(bytes.len()))?;
-    Ok((index, rest))
-}
-
-/// An index that names a field's descriptor.
-#[tactic(auto, unfolding(crate::specs::Indices::form_at))]
-pub fn field_type_at<'a>(pool: &Pool, bytes: &'a [u8]) -> Result<(u16, &'a [u8]), ReadError>
-    ensures { Gives (λ x. (x.0, x.1.now)) result (form_at is_field_type pool.now bytes.now) }
-{
-    let (index, rest) = text_at(pool, bytes)?;
+    let (index, rest) = text_at(texts.pool(), bytes)?;
     wants(
-        names_field_type(pool, index),
+        texts.mark(index).field_name,
         Fault::BadDescriptor(bytes.len()),
     )?;
     Ok((index, rest))
 }
 
-/// An index that names a method's name.
+/// An index that names a field's descriptor (JVMS 4.3.2).
 #[tactic(auto, unfolding(crate::specs::Indices::form_at))]
-pub fn method_name_at<'a>(pool: &Pool, bytes: &'a [u8]) -> Result<(u16, &'a [u8]), ReadError>
-    ensures { Gives (λ x. (x.0, x.1.now)) result (form_at is_method_name pool.now bytes.now) }
+pub fn field_type_at<'a>(texts: &Texts, bytes: &'a [u8]) -> Result<(u16, &'a [u8]), ReadError>
+    ensures gives { Gives (λ x. (x.0, x.1.now)) result (form_at is_field_type texts.now bytes.now) }
+    ensures text { IfOk result (λ x. is_text (entry_of texts.now x.0) ≡ true) }
 {
-    let (index, rest) = text_at(pool, bytes)?;
-    wants(names_method(pool, index), Fault::BadDescriptor(bytes.len()))?;
+    let (index, rest) = text_at(texts.pool(), bytes)?;
+    wants(
+        texts.mark(index).field_type,
+        Fault::BadDescriptor(bytes.len()),
+    )?;
     Ok((index, rest))
 }
 
-/// An index that names a method's descriptor, at these access flags.
+/// An index that names a method's name (JVMS 4.2.2).
+#[tactic(auto, unfolding(crate::specs::Indices::form_at))]
+pub fn method_name_at<'a>(texts: &Texts, bytes: &'a [u8]) -> Result<(u16, &'a [u8]), ReadError>
+    ensures gives { Gives (λ x. (x.0, x.1.now)) result (form_at is_method_name texts.now bytes.now) }
+    ensures text { IfOk result (λ x. is_text (entry_of texts.now x.0) ≡ true) }
+{
+    let (index, rest) = text_at(texts.pool(), bytes)?;
+    wants(
+        texts.mark(index).method_name,
+        Fault::BadDescriptor(bytes.len()),
+    )?;
+    Ok((index, rest))
+}
+
+/// An index that names a method's descriptor, at these access flags (JVMS 4.3.3).
 #[tactic(auto, unfolding(crate::specs::Indices::form_at))]
 pub fn method_type_at<'a>(
-    pool: &Pool,
+    texts: &Texts,
     flags: u16,
     bytes: &'a [u8],
 ) -> Result<(u16, &'a [u8]), ReadError>
-    ensures { Gives (λ x. (x.0, x.1.now)) result (form_at (is_method_type flags) pool.now bytes.now) }
+    ensures gives { Gives (λ x. (x.0, x.1.now)) result (form_at (is_method_type flags) texts.now bytes.now) }
+    ensures text { IfOk result (λ x. is_text (entry_of texts.now x.0) ≡ true) }
 {
-    let (index, rest) = text_at(pool, bytes)?;
+    let (index, rest) = text_at(texts.pool(), bytes)?;
     wants(
-        names_method_type(pool, flags, index),
+        is_method_type(texts, flags, index),
         Fault::BadDescriptor(bytes.len()),
     )?;
     Ok((index, rest))
