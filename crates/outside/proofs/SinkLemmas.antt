@@ -44,16 +44,6 @@ unfolding HasRoom
 HasRoom-less None m n le h = h
 HasRoom-less (Some left) m n le h = omega arith
 
--- a count that rose late rose
-pub rose_later : (a b c : ℕ) → a ≤ b → Rose b c → Rose a c
-rose_later a b c le (inl lt) = inl (omega arith)
-rose_later a b c le (inr top) = inr top
-
--- a count that rose doesn't fall again
-pub rose_earlier : (a b c : ℕ) → a ≤ b → b ≤ c → Rose a b → Rose a c
-rose_earlier a b c first later (inl lt) = inl (omega arith)
-rose_earlier a b c first later (inr top) = grind arith
-
 -- nothing taken so far
 pub took_none : {S : Type 0} (told : S → Option (List ℕ)) (room : S → Option ℕ) (faults : S → ℕ) (s : S) (text : List ℕ) → Took told room faults s s text text
 took_none told room faults s text = record {
@@ -111,11 +101,6 @@ took_part told room faults old mid new text rest piece after front back so_far c
   so_far.whole ∙ ap (λ r. so_far.front ++ r) (cut ∙ ap (λ p. p ++ after) part ∙ append_assoc front back after) ∙ sym (append_assoc so_far.front front (back ++ after)),
   bytes ∙ ap (λ t. appended t front) so_far.bytes ∙ appended-appended (told old) so_far.front front,
 )
-
--- a count that stayed below the greatest u64 didn't rise
-pub not_rose : (a b : ℕ) → b ≡ a → a < 2 ^ 64 - 1 → Rose a b → ⊥
-not_rose a b same below (inl lt) = omega arith
-not_rose a b same below (inr top) = omega arith
 
 pub on_err : {T E P : Type 0} (r : Result T E) → P → OnErr r P
 on_err (Ok x) p = tt
