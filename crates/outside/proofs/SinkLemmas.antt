@@ -1,7 +1,6 @@
 -- What a sink took of a text so far.
-use Rattle.std.proofs.Common.{◌≡◌, ◌≤◌, ◌<◌, ◌+◌, ◌-◌, ◌++◌, inl, inr, ℕ, List, [], length, Option, Some, None, refl, ap, sym, subst, ◌∙◌, arith, append_assoc, append-nil, length-append, ◌^◌, Result, Ok, Err, IfOk, OnOk, OnErr, IsErr, min}
+use Rattle.std.proofs.Common.{◌≡◌, ◌≤◌, ◌<◌, ◌+◌, ◌-◌, ◌++◌, ℕ, List, [], length, Option, Some, None, refl, ap, sym, subst, ◌∙◌, arith, append_assoc, append-nil, length-append, take, Result, Ok, Err, IfOk, OnOk, OnErr, IsErr, min}
 use Rattle.std.specs.Result.{result_unwrap_or}
-use Rattle.outside.specs.Counts.{Rose}
 use Rattle.outside.specs.Sink.{appended, lowered, HasRoom}
 
 -- From old to new the sink took a front of the text, and the rest is left.
@@ -105,6 +104,14 @@ took_part told room faults old mid new text rest piece after front back so_far c
 pub on_err : {T E P : Type 0} (r : Result T E) → P → OnErr r P
 on_err (Ok x) p = tt
 on_err (Err e) p = p
+
+-- the front that a call took, as the piece that was cut off
+pub appended-front : (told : Option (List ℕ)) (rest piece : List ℕ) (m n : ℕ) → n ≡ m → piece ≡ take n rest → appended told (take m rest) ≡ appended told piece
+appended-front told rest piece m n same cut = ap (λ p. appended told p) (ap (λ k. take k rest) (sym same) ∙ sym cut)
+
+-- its length
+pub lowered-front : (room : Option ℕ) (piece : List ℕ) (m n : ℕ) → n ≡ m → length piece ≡ n → lowered room m ≡ lowered room (length piece)
+lowered-front room piece m n same size = ap (λ k. lowered room k) (sym same ∙ sym size)
 
 -- what is at most a length
 pub within_min : {E : Type 0} (r : Result ℕ E) (most size : ℕ) → IfOk r (λ taken. taken ≡ min most size) → IfOk r (λ taken. taken ≤ size)
