@@ -1,3 +1,4 @@
-pub mod SinkLemmas
+pub mod CountLemmas
 pub mod FileLemmas
 pub mod FolderLemmas
+pub mod SinkLemmas

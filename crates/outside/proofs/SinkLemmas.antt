@@ -1,7 +1,6 @@
 -- What a sink took of a text so far.
-use Rattle.std.proofs.Common.{◌≡◌, ◌≤◌, ◌<◌, ◌+◌, ◌-◌, ◌++◌, inl, inr, ℕ, List, [], length, Option, Some, None, refl, ap, sym, subst, ◌∙◌, arith, append_assoc, append-nil, length-append, ◌^◌, Result, Ok, Err, IfOk, OnOk, OnErr, IsErr, min}
+use Rattle.std.proofs.Common.{◌≡◌, ◌≤◌, ◌<◌, ◌+◌, ◌-◌, ◌++◌, ℕ, List, [], length, Option, Some, None, refl, ap, sym, subst, ◌∙◌, arith, append_assoc, append-nil, length-append, take, Result, Ok, Err, IfOk, OnOk, OnErr, IsErr, min}
 use Rattle.std.specs.Result.{result_unwrap_or}
-use Rattle.outside.specs.Counts.{Rose}
 use Rattle.outside.specs.Sink.{appended, lowered, HasRoom}
 
 -- From old to new the sink took a front of the text, and the rest is left.
@@ -43,16 +42,6 @@ pub HasRoom-less : (room : Option ℕ) (m n : ℕ) → m ≤ n → HasRoom room 
 unfolding HasRoom
 HasRoom-less None m n le h = h
 HasRoom-less (Some left) m n le h = omega arith
-
--- a count that rose late rose
-pub rose_later : (a b c : ℕ) → a ≤ b → Rose b c → Rose a c
-rose_later a b c le (inl lt) = inl (omega arith)
-rose_later a b c le (inr top) = inr top
-
--- a count that rose doesn't fall again
-pub rose_earlier : (a b c : ℕ) → a ≤ b → b ≤ c → Rose a b → Rose a c
-rose_earlier a b c first later (inl lt) = inl (omega arith)
-rose_earlier a b c first later (inr top) = grind arith
 
 -- nothing taken so far
 pub took_none : {S : Type 0} (told : S → Option (List ℕ)) (room : S → Option ℕ) (faults : S → ℕ) (s : S) (text : List ℕ) → Took told room faults s s text text
@@ -112,14 +101,17 @@ took_part told room faults old mid new text rest piece after front back so_far c
   bytes ∙ ap (λ t. appended t front) so_far.bytes ∙ appended-appended (told old) so_far.front front,
 )
 
--- a count that stayed below the greatest u64 didn't rise
-pub not_rose : (a b : ℕ) → b ≡ a → a < 2 ^ 64 - 1 → Rose a b → ⊥
-not_rose a b same below (inl lt) = omega arith
-not_rose a b same below (inr top) = omega arith
-
 pub on_err : {T E P : Type 0} (r : Result T E) → P → OnErr r P
 on_err (Ok x) p = tt
 on_err (Err e) p = p
+
+-- the front that a call took, as the piece that was cut off
+pub appended-front : (told : Option (List ℕ)) (rest piece : List ℕ) (m n : ℕ) → n ≡ m → piece ≡ take n rest → appended told (take m rest) ≡ appended told piece
+appended-front told rest piece m n same cut = ap (λ p. appended told p) (ap (λ k. take k rest) (sym same) ∙ sym cut)
+
+-- its length
+pub lowered-front : (room : Option ℕ) (piece : List ℕ) (m n : ℕ) → n ≡ m → length piece ≡ n → lowered room m ≡ lowered room (length piece)
+lowered-front room piece m n same size = ap (λ k. lowered room k) (sym same ∙ sym size)
 
 -- what is at most a length
 pub within_min : {E : Type 0} (r : Result ℕ E) (most size : ℕ) → IfOk r (λ taken. taken ≡ min most size) → IfOk r (λ taken. taken ≤ size)

@@ -1,6 +1,6 @@
 //! Bytes in memory, with room that was reserved for more.
 
-ghost use Rattle.std.specs.Prelude.{◌≡◌, ◌-◌, ◌≤◌, ◌++◌, [], length, max, OnOk, OnErr};
+ghost use Rattle.std.specs.Prelude.{◌≡◌, ◌-◌, ◌≤◌, ◌++◌, [], length, max, IsOk, OnOk, OnErr};
 
 use et_base::NoMemory;
 use std::alloc::Global;
@@ -53,6 +53,7 @@ impl Buffer {
     pub(crate) fn reserve(&mut self, n: usize) -> Result<(), NoMemory>
         ensures ok { OnOk result (self.new ≡ record self.old { room = max self.old.room n }) }
         ensures err { OnErr result (self.new ≡ self.old) }
+        ensures fits { n ≤ self.old.room → IsOk result }
     {
         if n > self.room {
             self.bytes.reserve(n)?;

@@ -1,6 +1,6 @@
 //! A depot in memory that fails at chosen calls.
 
-ghost use Rattle.std.specs.Prelude.{◌≡◌, ◌<◌, ◌≤◌, ◌↔◌, [], length, IfOk, IsSomeAnd, IsErrOf, Contains};
+ghost use Rattle.std.specs.Prelude.{◌≡◌, ◌<◌, ◌≤◌, ◌↔◌, [], length, IfOk, IsOk, IsSomeAnd, IsErrOf, Contains};
 ghost use Rattle.outside.specs.Counts.{Rose, raised};
 ghost use Rattle.outside.specs.Depot.{content, files_of};
 
@@ -36,13 +36,14 @@ impl Model for MemoryDepot {
 }
 
 impl MemoryDepot {
-    /// A depot of these files, whose listed calls fail.
+    /// A depot of these files, whose listed calls fail. It takes no memory.
     pub fn new(
         alloc: Global,
         files: Vec<(Text, Vec<u8>)>,
         fail: Vec<u64>,
     ) -> Result<MemoryDepot, NoMemory>
-        ensures { IfOk result (λ depot. depot ≡ record {
+        ensures made { IsOk result }
+        ensures state { IfOk result (λ depot. depot ≡ record {
           files = files_of files.items;
           fail = fail.items;
           calls = 0;

@@ -1,6 +1,6 @@
 //! A sink in memory that fails at chosen calls.
 
-ghost use Rattle.std.specs.Prelude.{◌≡◌, ◌⊎◌, ◌-◌, ◌<◌, ◌≤◌, ◌++◌, ◌↔◌, [], length, take, min, max, IfOk, IsErr, OnOk, OnErr, Contains};
+ghost use Rattle.std.specs.Prelude.{◌≡◌, ◌⊎◌, ◌-◌, ◌<◌, ◌≤◌, ◌++◌, ◌↔◌, [], length, take, min, max, IfOk, IsOk, IsErr, OnOk, OnErr, Contains};
 ghost use Rattle.std.specs.Result.{result_unwrap_or};
 ghost use Rattle.outside.specs.Counts.{Rose, raised};
 
@@ -66,6 +66,7 @@ impl MemorySink {
     pub fn reserve(&mut self, n: usize) -> Result<(), NoMemory>
         ensures ok { OnOk result (self.new ≡ record self.old { room = max self.old.room n }) }
         ensures err { OnErr result (self.new ≡ self.old) }
+        ensures fits { n ≤ self.old.room → IsOk result }
     {
         self.buffer.reserve(n)
     }

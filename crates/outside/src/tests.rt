@@ -109,8 +109,13 @@ fn spend_three<L: Ledger>(blank: Blank)
     steps.spend(3);
 }
 
+// Workers share a gate.
+fn enter_shared<G: Gate + Sync>(gate: &G) {
+    gate.enter(1, 1);
+}
+
 #[test]
 fn units_are_spent_and_a_gate_is_open(_rt: HostRuntime) {
     spend_three::<Brand>(Blank::new(1));
-    OpenGate::new().enter(1, 1);
+    enter_shared(&OpenGate::new());
 }

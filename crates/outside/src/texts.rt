@@ -1,6 +1,6 @@
 //! A text on a sink, line by line.
 
-ghost use Rattle.std.specs.Prelude.{◌≡◌, ◌<◌, ◌≤◌, ◌-◌, ◌^◌, ◌++◌, List, ℕ, length, IsOk, OnOk, OnErr};
+ghost use Rattle.std.specs.Prelude.{◌≡◌, ◌≢◌, ◌<◌, ◌≤◌, ◌+◌, ◌-◌, ◌^◌, ◌++◌, List, ℕ, length, slice_index, IsOk, OnOk, OnErr};
 ghost use Rattle.outside.specs.Counts.{Rose};
 ghost use Rattle.outside.specs.Sink.{appended, lowered, HasRoom};
 
@@ -36,6 +36,8 @@ fn line_len(text: &[u8]) -> usize
     requires { 0 < length text.now }
     ensures some { 0 < result }
     ensures within { result ≤ length text.now }
+    ensures ended { result < length text.now → slice_index text.now (result - 1) ≡ 10 }
+    ensures first { (k : ℕ) → k + 1 < result → slice_index text.now k ≢ 10 }
 {
     match text.iter().position(|&byte| byte == b'\n') {
         Some(at) => at + 1,

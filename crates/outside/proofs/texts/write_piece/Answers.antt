@@ -1,8 +1,7 @@
-use Rattle.std.proofs.Common.{[], take, drop, ap, sym, ◌∙◌, append-nil}
+use Rattle.std.proofs.Common.{[], take, drop, sym, ◌∙◌, append-nil}
 use Rattle.std.proofs.lemmas.List.{take-append-drop}
 use Rattle.std.specs.Result.{result_unwrap_or}
-use Rattle.outside.specs.Sink.{appended, lowered}
-use Rattle.outside.proofs.SinkLemmas.{took_none, took_more, took_part, quiet_after}
+use Rattle.outside.proofs.SinkLemmas.{took_none, took_more, took_part, quiet_after, appended-front, lowered-front}
 use Rattle.outside.proofs.texts.write_piece.Goals as goal
 
 pub loop-rest-init : goal.loop-rest-init
@@ -20,12 +19,11 @@ returns-then-taken-eq0-clause-has_room g c = quiet_after _ _ _ _ _ _ _ _ c.loop-
 
 pub loop-rest-preserved : goal.loop-rest-preserved
 loop-rest-preserved g c =
-    let rest = c.loop-rest.rest.now in
     let piece = c.split_at.ensures in
-    took_more g.S.Sink.told g.S.Sink.room g.S.Sink.faults _ c.loop-rest.sink c.write.new.self _ rest c.split_at.result.0.now c.split_at.result.1.now
+    took_more g.S.Sink.told g.S.Sink.room g.S.Sink.faults _ c.loop-rest.sink c.write.new.self _ c.loop-rest.rest.now c.split_at.result.0.now c.split_at.result.1.now
     c.loop-rest.invariant
     piece.by_index.0
-    (c.write.ensures.told ∙ ap (λ p. appended (g.S.Sink.told c.loop-rest.sink) p) (ap (λ n. take n rest) (sym c.unwrap_or-taken.ensures) ∙ sym piece.front))
-    (c.write.ensures.room ∙ ap (λ n. lowered (g.S.Sink.room c.loop-rest.sink) n) (sym c.unwrap_or-taken.ensures ∙ sym piece.front_len))
+    (c.write.ensures.told ∙ appended-front (g.S.Sink.told c.loop-rest.sink) c.loop-rest.rest.now c.split_at.result.0.now (result_unwrap_or c.write.result 0) c.unwrap_or-taken.result c.unwrap_or-taken.ensures piece.front)
+    (c.write.ensures.room ∙ lowered-front (g.S.Sink.room c.loop-rest.sink) c.split_at.result.0.now (result_unwrap_or c.write.result 0) c.unwrap_or-taken.result c.unwrap_or-taken.ensures piece.front_len)
     c.write.ensures.faults
     c.write.ensures.has_room

@@ -1,5 +1,6 @@
 use Rattle.std.proofs.Common.{length, arith}
-use Rattle.outside.proofs.SinkLemmas.{took_none, took_more, took_part, quiet_after, on_err, not_rose, rose_later, HasRoom-less}
+use Rattle.outside.proofs.CountLemmas.{rose_later, not_rose}
+use Rattle.outside.proofs.SinkLemmas.{took_none, took_more, took_part, quiet_after, on_err, HasRoom-less}
 use Rattle.outside.proofs.texts.write_text.Goals as goal
 
 pub loop-rest-init : goal.loop-rest-init
