@@ -1,1 +1,3 @@
+mod Builtin
 mod Eaches
+mod Serving

@@ -1,7 +1,7 @@
 -- The programs that are served so far: a suite with at most one class, whose fields are static ints and whose methods are
 -- static, take and give nothing, and go straight on over ints, the class's fields, additions and
 -- `electric/Env.print(I)V` (this project's). Everything else has no program here.
-use Rattle.std.specs.Prelude.{ℕ, ℤ, pos, ◌-ℤ◌, ◌+◌, List, [], ◌∷◌, ◌++◌, length, map, get_or, codes, Bool, true, false, not, ◌&&◌, ◌||◌, ◌==◌, nat_le, nat_lt, Option, Some, None, is_none, if◌then◌else◌}
+use Rattle.std.specs.Prelude.{ℕ, ℤ, pos, ◌-ℤ◌, ◌+◌, List, [], ◌∷◌, ◌++◌, length, drop, map, get_or, codes, Bool, true, false, not, ◌&&◌, ◌||◌, ◌==◌, nat_le, nat_lt, Option, Some, None, is_none, if◌then◌else◌}
 use Rattle.std.specs.Int.{w32, cast_unsigned}
 use Rattle.std.specs.List.{range_with_len, list_all}
 use Rattle.class_pool.specs.declared.pool.Entry.{Entry}
@@ -161,15 +161,28 @@ program_with classes fields methods tests = record { classes = builtin_classes +
 abbrev pub is_served_method : Program → MethodRec → Bool
 is_served_method p m = is_served_body p (body_or_none m.body)
 
+-- the methods that are given
+abbrev pub given_methods_of : Program → List MethodRec
+given_methods_of p = drop first_method p.methods
+
+-- as many as a class file may have (JVMS 4.1)
+abbrev pub is_few : {A : Type 0} → List A → Bool
+is_few xs = nat_le (length xs) 65535
+
+-- the program, where each given method is served
+unfoldable pub served_program : Program → Option Program
+served_program p = where_true (list_all (λ m. is_served_method p m) (given_methods_of p)) >>= λ _. Some p
+
 unfoldable pub class_program : SuiteText → ClassParts → Option Program
 class_program suite c = do
   plain ← where_true (is_plain_class c)
   this ← class_name_of c.pool (entry_of c.pool c.this_class)
   fields ← each (given_field c.pool) [] c.fields
+  few_fields ← where_true (is_few fields)
   methods ← each (given_method c.pool this fields) [] c.methods
+  few_methods ← where_true (is_few methods)
   tests ← each (given_test this methods suite.budget) [] suite.tests
-  let p = program_with (class_rec this c fields methods ∷ []) fields methods tests in
-      (where_true (list_all (λ m. is_served_method p m) methods) >>= λ _. Some p)
+  served_program (program_with (class_rec this c fields methods ∷ []) fields methods tests)
 
 -- the program of a suite and its class, if it has one
 unfoldable pub first_program : SuiteText → Option ClassParts → Option Program

@@ -3,6 +3,7 @@
 
 mod form_refusal;
 mod given;
+mod program;
 mod references;
 mod status;
 
