@@ -1,3 +1,4 @@
 mod Builtin
 mod Eaches
 mod Serving
+mod Loads

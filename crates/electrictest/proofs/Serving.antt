@@ -1,8 +1,9 @@
 -- The program of a served class is one that the machine runs.
-use Rattle.std.proofs.Common.{◌≡◌, ℕ, zero, suc, ◌+◌, ◌-◌, ◌<◌, ◌≤◌, List, [], ◌∷◌, ◌++◌, length, get_or, drop, map, Bool, true, false, ◌&&◌, cond, if◌then◌else◌, nat_le, nat_lt, nat_eq, ◌==◌, refl, ap, sym, ◌∙◌, subst, arith, length-append, not, pos, Option, Some, None}
+use Rattle.std.proofs.Common.{◌≡◌, ℕ, zero, suc, ◌+◌, ◌-◌, ◌<◌, ◌≤◌, List, [], ◌∷◌, ◌++◌, length, get_or, drop, map, replicate, Bool, true, false, ◌&&◌, cond, if◌then◌else◌, nat_le, nat_lt, nat_eq, ◌==◌, refl, ap, sym, ◌∙◌, subst, arith, length-append, not, pos, Option, Some, None}
 use Rattle.std.specs.Prelude.{codes, is_none}
 use Rattle.std.specs.List.{list_all}
 use Rattle.std.proofs.lemmas.Bool.{and_parts, leb-true, eqb-true}
+use Rattle.std.proofs.lemmas.List.{map-append}
 use Rattle.class_pool.specs.declared.pool.Entry.{Entry}
 use Rattle.class_pool.specs.Pool.{entry_of, text_of, class_name_of}
 use Rattle.class_reader.specs.declared.parts.ClassParts.{ClassParts}
@@ -17,7 +18,10 @@ use Rattle.jvm_model.specs.declared.program.Placed.{Placed}
 use Rattle.jvm_model.specs.declared.program.TestEntry.{TestEntry}
 use Rattle.jvm_model.specs.Classes.{class_bound, own_interfaces, default_interfaces, is_trivial, no_method, no_field, method_at, field_at, is_static, is_interface, is_abstract, clinit_name, place_after}
 use Rattle.jvm_model.specs.World.{same_units}
-use Rattle.jvm_model.specs.declared.values.Value.TheVariants.{Int}
+use Rattle.jvm_model.specs.declared.values.Value.TheVariants.{Int, Lit, Null}
+use Rattle.jvm_model.specs.Suite.{opening}
+use Rattle.vm_interp.specs.Standing.{world_of}
+use Rattle.electrictest.specs.Runnable.{IsRunnable}
 use Rattle.jvm_model.specs.Descriptors.{parameters}
 use Rattle.jvm_model.specs.Library.{builtin_defs, builtin_classes, builtin_fields, builtin_methods}
 use Rattle.jvm_model.specs.declared.library.Native.TheVariants.{EnvPrint}
@@ -102,6 +106,7 @@ drop_front (x ∷ xs) ys n e = let q : n ≡ suc (length xs) = omega arith in ap
 pub record IsGivenField (f : FieldRec) : Type 0 where
   pub class : f.class ≡ 32
   pub int : f.descriptor ≡ codes "I"
+  pub opening : f.opening ≡ Int (pos 0)
 
 some_is : {B : Type 0} {x y : B} → Some x ≡ Some y → y ≡ x
 some_is e = cc
@@ -114,7 +119,7 @@ field_facts slots part y e =
     let a = came (text_of (entry_of slots part.name)) (λ name. where_true test >>= λ _. f name) y e in
     let b = held test (λ _. f a.0) y a.2 in
     let q : y ≡ record { class = 32; name = a.0; descriptor = codes "I"; flags = part.flags; opening = Int (pos 0) } = some_is b.1 in
-    record { class = ap (λ (z : FieldRec). z.class) q; int = ap (λ (z : FieldRec). z.descriptor) q }
+    record { class = ap (λ (z : FieldRec). z.class) q; int = ap (λ (z : FieldRec). z.descriptor) q; opening = ap (λ (z : FieldRec). z.opening) q }
 
 pub record IsGivenMethod (m : MethodRec) : Type 0 where
   pub class : m.class ≡ 32
@@ -238,12 +243,12 @@ served_by this c fs ms ts plain hf hm ht ok =
 -- the program of no class
 none_served : IsServed (program_with [] [] [] [])
 none_served = record {
-    fields = λ f two below. absurd (omega (arith, length-append builtin_fields [], builtin_fields_length));
-    print_native = print_is [] [] [] [];
-    print_trivial = ap (is_trivial (program_with [] [] [] [])) (print_class [] [] [] []) ∙ env_trivial [] [] [] [];
-    print_argument = print_takes [] [] [] [];
-    tests = λ t one most. absurd (omega arith);
-  }
+  fields = λ f two below. absurd (omega (arith, length-append builtin_fields [], builtin_fields_length));
+  print_native = print_is [] [] [] [];
+  print_trivial = ap (is_trivial (program_with [] [] [] [])) (print_class [] [] [] []) ∙ env_trivial [] [] [] [];
+  print_argument = print_takes [] [] [] [];
+  tests = λ t one most. absurd (omega arith);
+}
 
 not_true : (b : Bool) → not b ≡ true → b ≡ false
 not_true true e = absurd (cc)
@@ -256,11 +261,37 @@ plain_flags c e =
     let z = and_parts (is_empty c.interfaces) (not (is_interface c.flags) && not (is_abstract c.flags)) y.1 in
     not_true (is_interface c.flags) (and_parts (not (is_interface c.flags)) (not (is_abstract c.flags)) z.1).0
 
-class_served : (suite : SuiteText) (c : ClassParts) (p : Program) → class_program suite c ≡ Some p → IsServed p
+ints_at_first : (fs : List FieldRec) → Every IsGivenField fs → map (λ f. f.opening) fs ≡ map Int (replicate (length fs) (pos 0))
+ints_at_first [] h = refl
+ints_at_first (f ∷ fs) h = ap (λ v. v ∷ map (λ g. g.opening) fs) (h.0).opening ∙ ap (λ vs. Int (pos 0) ∷ vs) (ints_at_first fs h.1)
+
+builtin_at_first : map (λ f. f.opening) builtin_fields ≡ Lit 0 ∷ (Null ∷ [])
+unfolding builtin_fields builtin_defs
+builtin_at_first = refl
+
+opens_at : (cs : List ClassRec) (fs : List FieldRec) (ms : List MethodRec) (ts : List TestEntry) → Every IsGivenField fs →
+    world_of (program_with cs fs ms ts) (replicate (length (builtin_fields ++ fs) - 2) (pos 0)) ≡ opening (program_with cs fs ms ts)
+unfolding opening
+opens_at cs fs ms ts h =
+    let p = program_with cs fs ms ts in
+    let n : length (builtin_fields ++ fs) - 2 ≡ length fs = omega (arith, length-append builtin_fields fs, builtin_fields_length) in
+    let e : map (λ f. f.opening) (builtin_fields ++ fs) ≡ Lit 0 ∷ (Null ∷ map Int (replicate (length fs) (pos 0))) =
+    map-append (λ f. f.opening) builtin_fields fs ∙ ap (λ vs. vs ++ map (λ f. f.opening) fs) builtin_at_first ∙ ap (λ vs. Lit 0 ∷ (Null ∷ vs)) (ints_at_first fs h) in
+    ap (λ k. record (opening p) { statics = Lit 0 ∷ (Null ∷ map Int (replicate k (pos 0))) }) n ∙ ap (λ vs. record (opening p) { statics = vs }) (sym e)
+
+runnable_with : (cs : List ClassRec) (fs : List FieldRec) (ms : List MethodRec) (ts : List TestEntry) → Every IsGivenField fs → length ts ≤ 65535 → IsServed (program_with cs fs ms ts) → IsRunnable (program_with cs fs ms ts)
+runnable_with cs fs ms ts h few served = record {
+  served = served;
+  fields = omega (arith, length-append builtin_fields fs, builtin_fields_length);
+  few = few;
+  opens = opens_at cs fs ms ts h;
+}
+
+class_served : (suite : SuiteText) (c : ClassParts) (p : Program) → class_program suite c ≡ Some p → IsRunnable p
 unfolding class_program served_program
 class_served suite c p e =
     let slots = c.pool in
-    let last : List ℕ → List FieldRec → List MethodRec → List TestEntry → Option Program = λ this fs ms ts. served_program (program_of this c fs ms ts) in
+    let last : List ℕ → List FieldRec → List MethodRec → List TestEntry → Option Program = λ this fs ms ts. where_true (is_few ts) >>= λ _. served_program (program_of this c fs ms ts) in
     let third : List ℕ → List FieldRec → List MethodRec → Option Program = λ this fs ms. where_true (is_few ms) >>= λ _. (each (given_test this ms suite.budget) [] suite.tests >>= last this fs ms) in
     let second : List ℕ → List FieldRec → Option Program = λ this fs. where_true (is_few fs) >>= λ _. (each (given_method slots this fs) [] c.methods >>= third this fs) in
     let first : List ℕ → Option Program = λ this. each (given_field slots) [] c.fields >>= second this in
@@ -272,17 +303,19 @@ class_served suite c p e =
     let h = held (is_few g.0) (λ _. each (given_test b.0 g.0 suite.budget) [] suite.tests >>= last b.0 d.0 g.0) p g.2 in
     let i = came (each (given_test b.0 g.0 suite.budget) [] suite.tests) (last b.0 d.0 g.0) p h.1 in
     let q = program_of b.0 c d.0 g.0 i.0 in
-    let j = held (list_all (λ m. is_served_method q m) (given_methods_of q)) (λ _. Some q) p i.2 in
+    let k = held (is_few i.0) (λ _. served_program q) p i.2 in
+    let j = held (list_all (λ m. is_served_method q m) (given_methods_of q)) (λ _. Some q) p k.1 in
+    let fields = every_each (given_field slots) IsGivenField (field_facts slots) [] c.fields d.0 tt d.1 in
     let plain : is_interface c.flags ≡ false = plain_flags c a.0 in
     let ok = ap (list_all (λ m. is_served_method q m)) (sym (drop_front builtin_methods g.0 102 builtin_methods_length)) ∙ j.0 in
-    subst IsServed (sym (some_is j.1)) (served_by b.0 c d.0 g.0 i.0 plain
-        (every_each (given_field slots) IsGivenField (field_facts slots) [] c.fields d.0 tt d.1)
-        (every_each (given_method slots b.0 d.0) IsGivenMethod (method_facts slots b.0 d.0) [] c.methods g.0 tt g.1)
-        (every_each (given_test b.0 g.0 suite.budget) (IsGivenTest g.0) (test_facts b.0 g.0 suite.budget) [] suite.tests i.0 tt i.1)
-        ok)
+    subst IsRunnable (sym (some_is j.1)) (runnable_with (class_rec b.0 c d.0 g.0 ∷ []) d.0 g.0 i.0 fields (leb-true (length i.0) 65535 k.0) (served_by b.0 c d.0 g.0 i.0 plain
+    fields
+    (every_each (given_method slots b.0 d.0) IsGivenMethod (method_facts slots b.0 d.0) [] c.methods g.0 tt g.1)
+    (every_each (given_test b.0 g.0 suite.budget) (IsGivenTest g.0) (test_facts b.0 g.0 suite.budget) [] suite.tests i.0 tt i.1)
+    ok))
 
 -- each program that is found is one that the machine runs
-pub first_served : (suite : SuiteText) (o : Option ClassParts) (p : Program) → first_program suite o ≡ Some p → IsServed p
+pub first_served : (suite : SuiteText) (o : Option ClassParts) (p : Program) → first_program suite o ≡ Some p → IsRunnable p
 unfolding first_program
-first_served suite None p e = let a = held (is_empty suite.files && (is_empty suite.classes && is_empty suite.tests)) (λ _. Some (program_with [] [] [] [])) p e in subst IsServed (sym (some_is a.1)) none_served
+first_served suite None p e = let a = held (is_empty suite.files && (is_empty suite.classes && is_empty suite.tests)) (λ _. Some (program_with [] [] [] [])) p e in subst IsRunnable (sym (some_is a.1)) (runnable_with [] [] [] [] tt (omega arith) none_served)
 first_served suite (Some c) p e = let a = held (is_empty suite.files && nat_le (length suite.classes) 1) (λ _. class_program suite c) p e in class_served suite c p a.1

@@ -182,6 +182,7 @@ class_program suite c = do
   methods ← each (given_method c.pool this fields) [] c.methods
   few_methods ← where_true (is_few methods)
   tests ← each (given_test this methods suite.budget) [] suite.tests
+  few_tests ← where_true (is_few tests)
   served_program (program_with (class_rec this c fields methods ∷ []) fields methods tests)
 
 -- the program of a suite and its class, if it has one

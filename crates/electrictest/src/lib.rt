@@ -3,8 +3,11 @@
 
 mod form_refusal;
 mod given;
+mod loaded;
+mod loading;
 mod program;
 mod references;
+mod running;
 mod status;
 
 pub use status::{InputFault, OverFault, Status};

@@ -4,7 +4,7 @@ ghost use Rattle.std.specs.Prelude.{◌≡◌, ◌+◌, ◌^◌, ◌<◌, ◌≤
 ghost use Rattle.std.specs.List.{range_with_len, list_all};
 ghost use Rattle.class_pool.specs.Pool.{entry_of, class_name_of};
 ghost use Rattle.jvm_model.specs.Classes.{is_interface, is_abstract};
-ghost use Rattle.vm_interp.specs.Served.{IsServed};
+ghost use Rattle.electrictest.specs.Runnable.{IsRunnable};
 ghost use Rattle.electrictest.specs.Finding as found;
 ghost use Rattle.electrictest.specs.First as first;
 
@@ -191,6 +191,7 @@ fn class_program(
         suite.budget,
         suite.tests.as_slice(),
     )?;
+    wants(tests.len() <= 65535)?;
     let p = with_class(alloc, this, class, fields, methods, tests)?;
     served(p)
 }
@@ -221,14 +222,14 @@ fn with_class(
     assembled(alloc, classes, fields, methods, tests)
 }
 
-/// The program of a suite and its class, if it has one. `NotYet` comes exactly where it isn't served yet.
+// The program of a suite and its class, if it has one.
 #[tactic(auto, unfolding(crate::specs::First::first_program))]
-pub fn first_program(
+fn first_program(
     alloc: Global,
     suite: &SuiteText,
     class: Option<&ClassParts>,
 ) -> Result<Program, FormRefusal>
-    ensures { found.Finds found.same result (first.first_program suite.now (option_copied class.entry)) }
+    ensures finds { found.Finds found.same result (first.first_program suite.now (option_copied class.entry)) }
 {
     match class {
         None => {
@@ -246,4 +247,18 @@ pub fn first_program(
             class_program(alloc, suite, class)
         }
     }
+}
+
+/// The program of a suite and its class, if it has one; the machine runs it. `NotYet` comes exactly where it isn't served
+/// yet.
+pub fn runnable_program(
+    alloc: Global,
+    suite: &SuiteText,
+    class: Option<&ClassParts>,
+) -> Result<Program, FormRefusal>
+    ensures finds { found.Finds found.same result (first.first_program suite.now (option_copied class.entry)) }
+    ensures runs { IfOk result IsRunnable }
+{
+    let p = first_program(alloc, suite, class)?;
+    Ok(p)
 }

@@ -3,7 +3,7 @@
 ghost use Rattle.std.specs.Prelude.{◌≡◌};
 ghost use Rattle.electrictest.specs.Codes.{code_of};
 
-use et_base::{Items, Text};
+use et_base::{Items, NoMemory, Text};
 
 /// How a command ended.
 #[derive(Debug, Drop)]
@@ -65,5 +65,16 @@ impl Status {
             Status::Sink => 6,
             Status::Over(_) => 7,
         }
+    }
+}
+
+impl From<NoMemory> for Status {
+    ghost use Rattle.std.specs.Prelude.{◌≡◌};
+    ghost use Rattle.electrictest.specs.declared.status.Status.TheVariants as ends;
+
+    ghost from_gives = { λ _ e. e ≡ ends.NoMemory };
+
+    fn from(_refused: NoMemory) -> Status {
+        Status::NoMemory
     }
 }

@@ -1,0 +1,38 @@
+-- The whole suite run in order, with the rest of the suite's units.
+use Rattle.std.specs.Prelude.{◌≡◌, ℕ, ◌++◌, List, map, true, Option, Some, None, option_map, min}
+use Rattle.std.specs.List.{list_all}
+use Rattle.jvm_model.specs.declared.outcome.Outcome.{Outcome}
+use Rattle.jvm_model.specs.declared.program.Program.{Program}
+use Rattle.jvm_model.specs.State.{test_at}
+use Rattle.jvm_model.specs.Suite.{Given, SuiteFault, suite_fault, one_test}
+use Rattle.jvm_model.specs.World.{World}
+use Rattle.electrictest.specs.Tests.{over_status}
+use Rattle.electrictest.specs.declared.loaded.Loaded.{Loaded}
+use Rattle.electrictest.specs.declared.status.Status.{Status}
+use Rattle.electrictest.specs.declared.status.Status.TheVariants as ends
+use Rattle.electrictest.specs.Replies.{over_fault, outcomes_of, is_passed, units_in}
+
+-- the outcomes behind those of front
+abbrev pub outcomes_behind : List Outcome → Option (List Given) → Option (List Outcome)
+outcomes_behind front o = option_map (λ xs. front ++ map (λ x. x.outcome) xs) o
+
+-- the run of a whole suite that is within its limits
+pub record Ran (l : Loaded) (outcomes : List Outcome) : Type 0 where
+  pub within : suite_fault l.program ≡ None
+  pub ran : outcomes_of l.program ≡ Some outcomes
+  pub passed : list_all is_passed outcomes ≡ true
+
+-- a run that is refused: want of memory, or the suite's fault
+abbrev pub RunRefused : Loaded → Status → Type 0
+RunRefused l ends.NoMemory = Unit {0}
+RunRefused l (ends.Over f) = (x : SuiteFault) × (suite_fault l.program ≡ Some x) × (f ≡ over_fault l x)
+RunRefused l _ = ⊥
+
+-- the budget of a test, or the rest of the suite's units where that is less
+abbrev pub least : Program → ℕ → ℕ → ℕ
+least p t r = min (test_at p t).budget r
+
+-- a test that is refused: want of memory, or it gives nothing under that number
+abbrev pub OneRefused : Loaded → World → ℕ → ℕ → Status → Type 0
+OneRefused l w t r ends.NoMemory = Unit {0}
+OneRefused l w t r s = (one_test l.program w t (least l.program t r) ≡ None) × (s ≡ over_status l t (test_at l.program t).budget r)

@@ -1,0 +1,96 @@
+//! The whole suite, run in order.
+
+ghost use Rattle.std.specs.Prelude.{◌≡◌, ◌+◌, ◌-◌, ◌≤◌, ◌<◌, ◌^◌, ◌∷◌, [], ℤ, ℕ, List, length, IfOk, IfErr, get_or, Some, min};
+ghost use Rattle.std.specs.List.{range_with_len};
+ghost use Rattle.jvm_model.specs.declared.values.Touch.{Touch};
+ghost use Rattle.jvm_model.specs.Suite.{one_test, fault_of};
+ghost use Rattle.vm_interp.specs.Standing.{world_of};
+ghost use Rattle.vm_interp.specs.Served.{IsServed};
+ghost use Rattle.electrictest.specs.Runnable.{IsRunnable};
+ghost use Rattle.electrictest.specs.Running.{Ran, RunRefused, OneRefused, least};
+ghost use Rattle.electrictest.specs.Replies as reply;
+ghost use Rattle.electrictest.specs.Tests as tests;
+
+use crate::loaded::Loaded;
+use crate::loading::copy_text;
+use crate::status::{OverFault, Status};
+use et_base::{Items, NoMemory, Text};
+use jvm_model::{Outcome, Verdict};
+use outside::Steps;
+use std::alloc::Global;
+use std::sync::ledger::Ledger;
+use vm_interp::{RunFault, run_test};
+
+/// The most units of a whole suite's run.
+const SUITE_LIMIT: u64 = 67_108_864;
+
+// The name of a test.
+fn test_name(alloc: Global, loaded: &Loaded, test: u32) -> Result<Text, NoMemory>
+    requires { 1 ≤ test }
+    ensures { IfOk result (λ name. name ≡ reply.test_name loaded.now test) }
+{
+    match loaded.suite.tests.as_slice().get((test - 1) as usize) {
+        Some(line) => copy_text(alloc, &line.name),
+        None => Ok(Text::new(alloc)),
+    }
+}
+
+// How a test is answered that passes its budget or the rest of the suite's units.
+fn over(
+    alloc: Global,
+    loaded: &Loaded,
+    test: u32,
+    budget: u64,
+    rest: u64,
+) -> Result<Status, NoMemory>
+    requires { 1 ≤ test }
+    ensures { IfOk result (λ s. s ≡ tests.over_status loaded.now test budget rest) }
+{
+    let name = test_name(alloc, loaded, test)?;
+    if budget <= rest {
+        Ok(Status::Over(OverFault::OverBudget {
+            name,
+            budget,
+            list: Items::new(alloc),
+        }))
+    } else {
+        Ok(Status::Over(OverFault::OverSuite { name }))
+    }
+}
+
+// One test over the statics that earlier tests left, within its budget and the rest of the suite's units.
+fn run_one<L: Ledger>(
+    alloc: Global,
+    loaded: &Loaded,
+    statics: &mut [i32],
+    test: u32,
+    rest: u64,
+    steps: &mut Steps<L>,
+) -> Result<Outcome, Status>
+    requires runs { IsRunnable loaded.now.program }
+    requires first { 1 ≤ test }
+    requires last { test ≤ length loaded.now.program.tests }
+    requires statics { length statics.old + 2 ≡ length loaded.now.program.fields }
+    ensures gives { IfOk result (λ o. (ts : List Touch) × one_test loaded.now.program (world_of loaded.now.program statics.old) test (least loaded.now.program test rest)
+        ≡ Some (record { outcome = o; world = world_of loaded.now.program statics.new; touches = ts })) }
+    ensures passes { IfOk result (λ o. o.verdict ≡ Verdict.Passed) }
+    ensures counted { IfOk result (λ o. steps.new ≡ steps.old + o.units) }
+    ensures refused { IfErr result (OneRefused loaded.now (world_of loaded.now.program statics.old) test rest) }
+{
+    let budget = loaded.program.tests.as_slice()[(test - 1) as usize].budget;
+    match run_test(
+        alloc,
+        &loaded.program,
+        statics,
+        test,
+        budget.min(rest),
+        steps,
+    ) {
+        Ok(outcome) => Ok(outcome),
+        Err(RunFault::NoMemory) => Err(Status::NoMemory),
+        Err(RunFault::OverBudget { .. }) => {
+            let status = over(alloc, loaded, test, budget, rest)?;
+            Err(status)
+        }
+    }
+}
