@@ -1,3 +1,6 @@
 pub mod Pairing
 pub mod Exposed
 pub mod Frame
+pub mod Numbers
+pub mod Forms
+pub mod Matched
