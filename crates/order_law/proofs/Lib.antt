@@ -1,3 +1,4 @@
 pub mod Pairs
 pub mod Frame
 pub mod Lists
+pub mod Programs

@@ -16,7 +16,7 @@ pub list-append : {A B : Type 0} {R : A → B → Type 0} {xs ts : List A} {ys u
 list-append no_more q = q
 list-append (one_more r rs) q = one_more r (list-append rs q)
 
-same_cond : {A : Type 0} (b c : Bool) {x y u v : A} → b ≡ c → x ≡ y → u ≡ v → cond b x u ≡ cond c y v
+pub same_cond : {A : Type 0} (b c : Bool) {x y u v : A} → b ≡ c → x ≡ y → u ≡ v → cond b x u ≡ cond c y v
 same_cond true true e p q = p
 same_cond false false e p q = q
 same_cond true false e p q = absurd (cc)
