@@ -2,3 +2,6 @@ pub mod Pairs
 pub mod Frame
 pub mod Lists
 pub mod Programs
+pub mod Twins
+pub mod States
+pub mod Combinators

@@ -329,7 +329,7 @@ module _ (n : Numbers) (p q : Program) (mt : Matched n p q) where
   or_above-paired c d both_none e = e
   or_above-paired c d (both_some r) e = r
 
-  pick-class : (b c : Bool) {x y u v : ℕ} → b ≡ c → C x y → C u v → C (cond b x u) (cond c y v)
+  pub pick-class : (b c : Bool) {x y u v : ℕ} → b ≡ c → C x y → C u v → C (cond b x u) (cond c y v)
   pick-class true true e r s = r
   pick-class false false e r s = s
   pick-class true false e r s = absurd (cc)

@@ -4,3 +4,4 @@ pub mod Frame
 pub mod Numbers
 pub mod Forms
 pub mod Matched
+pub mod Outcomes
