@@ -5,3 +5,4 @@ pub mod Programs
 pub mod Twins
 pub mod States
 pub mod Combinators
+pub mod PlainRows
