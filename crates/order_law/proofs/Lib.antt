@@ -6,3 +6,4 @@ pub mod Twins
 pub mod States
 pub mod Combinators
 pub mod PlainRows
+pub mod ObjectRows
