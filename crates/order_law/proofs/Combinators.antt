@@ -50,9 +50,13 @@ module _ (tw : Twins) where
   abbrev pub Frames : Entries → Entries → Type 0
   Frames = PairedFrame tw.numbers tw.place
 
-  -- rows in pairs, where the state that they leave is in the relation E
-  abbrev pub Rows : {S : Type 0} → (S → S → Type 0) → Access (Answer S) → Access (Answer S) → Type 0
-  Rows E a b = Paired (with_places tw.numbers tw.place) (PairedAnswer tw.numbers tw.place E) a b
+  -- answers in pairs, with what they leave in relations
+  abbrev pub Answers : {S : Type 0} → (S → S → Type 0) → (S → S → Type 0) → Access (Answer S) → Access (Answer S) → Type 0
+  Answers Q G a b = Paired (with_places tw.numbers tw.place) (PairedAnswer tw.numbers tw.place Q G) a b
+
+  -- rows in pairs
+  abbrev pub Rows : Access (Answer Entries) → Access (Answer Entries) → Type 0
+  Rows a b = Answers E Frames a b
 
   pub bind-paired : {A B C D : Type 0} {R : A → B → Type 0} {S : C → D → Type 0} {a : Access A} {b : Access B} {f : A → Access C} {g : B → Access D} →
       Paired (with_places n P) R a b → ((x : A) (y : B) → R x y → Paired (with_places n P) S (f x) (g y)) → Paired (with_places n P) S (bind a f) (bind b g)
@@ -72,31 +76,31 @@ module _ (tw : Twins) where
   pub spend-paired : {A B : Type 0} {R : A → B → Type 0} {i j : ℕ} {a : Access A} {b : Access B} → i ≡ j → Paired (with_places n P) R a b → Paired (with_places n P) R (spend i a) (spend j b)
   spend-paired {R = R} {i = i} {a = a} {b = b} e r = subst (λ (z : ℕ). Paired (with_places n P) R (spend i a) (spend z b)) e (both_spend i r)
 
-  pub no_row-paired : {S : Type 0} {Q : S → S → Type 0} → Rows Q none_here none_here
+  pub no_row-paired : {S : Type 0} {Q G : S → S → Type 0} → Answers Q G none_here none_here
   no_row-paired = both_done no_rows
 
-  pub faults-paired : {S : Type 0} {Q : S → S → Type 0} {c d : ℕ} {s t : S} → n.class c d ≡ true → Q s t → Rows Q (faults c s) (faults d t)
+  pub faults-paired : {S : Type 0} {Q G : S → S → Type 0} {c d : ℕ} {s t : S} → n.class c d ≡ true → Q s t → Answers Q G (faults c s) (faults d t)
   faults-paired e r = both_done (answered (fault e) r)
 
-  pub goes_to-paired : {s t : Entries} {vs ws : List Value} {a b : ℕ} → a ≡ b → Frames s t → PairedList V vs ws → Rows E (goes_to a s vs) (goes_to b t ws)
+  pub goes_to-paired : {s t : Entries} {vs ws : List Value} {a b : ℕ} → a ≡ b → Frames s t → PairedList V vs ws → Rows (goes_to a s vs) (goes_to b t ws)
   goes_to-paired e f r = both_done (answered go (place-paired n P (stack-paired n P f r) e).entries)
 
-  pub goes_on-paired : {s t : Entries} {vs ws : List Value} → Frames s t → PairedList V vs ws → Rows E (goes_on p s vs) (goes_on q t ws)
+  pub goes_on-paired : {s t : Entries} {vs ws : List Value} → Frames s t → PairedList V vs ws → Rows (goes_on p s vs) (goes_on q t ws)
   goes_on-paired f r = goes_to-paired (next_place-paired n p q mt _ _ _ _ f.method f.entries.top.pc) f r
 
-  pub popping-paired : {S : Type 0} {Q : S → S → Type 0} {vs ws : List Value} {k l : Value → List Value → Access (Answer S)} → PairedList V vs ws →
-      ((v w : Value) (us xs : List Value) → V v w → PairedList V us xs → Rows Q (k v us) (l w xs)) → Rows Q (popping vs k) (popping ws l)
+  pub popping-paired : {S : Type 0} {Q G : S → S → Type 0} {vs ws : List Value} {k l : Value → List Value → Access (Answer S)} → PairedList V vs ws →
+      ((v w : Value) (us xs : List Value) → V v w → PairedList V us xs → Answers Q G (k v us) (l w xs)) → Answers Q G (popping vs k) (popping ws l)
   popping-paired no_more f = both_done no_rows
   popping-paired (one_more r rs) f = f _ _ _ _ r rs
 
-  pub on_int-paired : {S : Type 0} {Q : S → S → Type 0} {v w : Value} {k l : ℤ → Access (Answer S)} → V v w → ((i : ℤ) → Rows Q (k i) (l i)) → Rows Q (on_int v k) (on_int w l)
+  pub on_int-paired : {S : Type 0} {Q G : S → S → Type 0} {v w : Value} {k l : ℤ → Access (Answer S)} → V v w → ((i : ℤ) → Answers Q G (k i) (l i)) → Answers Q G (on_int v k) (on_int w l)
   on_int-paired (ints i) f = f i
   on_int-paired (longs i) f = both_done no_rows
   on_int-paired nulls f = both_done no_rows
   on_int-paired (literals e) f = both_done no_rows
   on_int-paired (objects x) f = both_done no_rows
 
-  pub on_long-paired : {S : Type 0} {Q : S → S → Type 0} {v w : Value} {k l : ℤ → Access (Answer S)} → V v w → ((i : ℤ) → Rows Q (k i) (l i)) → Rows Q (on_long v k) (on_long w l)
+  pub on_long-paired : {S : Type 0} {Q G : S → S → Type 0} {v w : Value} {k l : ℤ → Access (Answer S)} → V v w → ((i : ℤ) → Answers Q G (k i) (l i)) → Answers Q G (on_long v k) (on_long w l)
   on_long-paired (ints i) f = both_done no_rows
   on_long-paired (longs i) f = f i
   on_long-paired nulls f = both_done no_rows
@@ -106,15 +110,15 @@ module _ (tw : Twins) where
   null_throws : n.class null_pointer_exception null_pointer_exception ≡ true
   null_throws = mt.builtin null_pointer_exception (omega arith)
 
-  pub on_object-paired : {S : Type 0} {Q : S → S → Type 0} {v w : Value} {k l : ℕ → Access (Answer S)} (s t : S) → Q s t → V v w → ((a b : ℕ) → P a b → Rows Q (k a) (l b)) →
-      Rows Q (on_object s v k) (on_object t w l)
+  pub on_object-paired : {S : Type 0} {Q G : S → S → Type 0} {v w : Value} {k l : ℕ → Access (Answer S)} (s t : S) → Q s t → V v w → ((a b : ℕ) → P a b → Answers Q G (k a) (l b)) →
+      Answers Q G (on_object s v k) (on_object t w l)
   on_object-paired s t r (ints i) f = both_done no_rows
   on_object-paired s t r (longs i) f = both_done no_rows
   on_object-paired s t r nulls f = both_done (answered (fault null_throws) r)
   on_object-paired s t r (literals e) f = both_done no_rows
   on_object-paired s t r (objects {a} {b} x) f = f a b x
 
-  pub on_reference-paired : {S : Type 0} {Q : S → S → Type 0} {v w : Value} {k l : Access (Answer S)} (s t : S) → Q s t → V v w → Rows Q k l → Rows Q (on_reference s v k) (on_reference t w l)
+  pub on_reference-paired : {S : Type 0} {Q G : S → S → Type 0} {v w : Value} {k l : Access (Answer S)} (s t : S) → Q s t → V v w → Answers Q G k l → Answers Q G (on_reference s v k) (on_reference t w l)
   on_reference-paired s t r (ints i) f = both_done no_rows
   on_reference-paired s t r (longs i) f = both_done no_rows
   on_reference-paired s t r nulls f = both_done (answered (fault null_throws) r)
@@ -124,21 +128,21 @@ module _ (tw : Twins) where
   constant_kind-paired : (a b : ℕ) → n.literal a b ≡ true → PairedKind (Tested n.class) (constant_kind a) (constant_kind b)
   constant_kind-paired a b e = class_kinds (pick-class n p q mt _ _ (test-paired mt.one_literal a b 0 0 e mt.stream) (mt.builtin stream_class (omega arith)) (mt.builtin string_class (omega arith)))
 
-  pub with_kind-paired : {S : Type 0} {Q : S → S → Type 0} {v w : Value} {k l : Kind → Access (Answer S)} → V v w → ((x y : Kind) → PairedKind (Tested n.class) x y → Rows Q (k x) (l y)) →
-      Rows Q (with_kind v k) (with_kind w l)
+  pub with_kind-paired : {S : Type 0} {Q G : S → S → Type 0} {v w : Value} {k l : Kind → Access (Answer S)} → V v w → ((x y : Kind) → PairedKind (Tested n.class) x y → Answers Q G (k x) (l y)) →
+      Answers Q G (with_kind v k) (with_kind w l)
   with_kind-paired (ints i) f = both_done no_rows
   with_kind-paired (longs i) f = both_done no_rows
   with_kind-paired nulls f = both_done no_rows
   with_kind-paired (literals {n = a} {k = b} e) f = f _ _ (constant_kind-paired a b e)
   with_kind-paired (objects x) f = both_read (heads x) (λ h k r. f h.kind k.kind r.kind)
 
-  pub on_text-paired : {S : Type 0} {Q : S → S → Type 0} {v w : Value} {k l : List ℕ → Access (Answer S)} (s t : S) → Q s t → V v w → ((x : List ℕ) → Rows Q (k x) (l x)) →
-      Rows Q (on_text p s v k) (on_text q t w l)
+  pub on_text-paired : {S : Type 0} {Q G : S → S → Type 0} {v w : Value} {k l : List ℕ → Access (Answer S)} (s t : S) → Q s t → V v w → ((x : List ℕ) → Answers Q G (k x) (l x)) →
+      Answers Q G (on_text p s v k) (on_text q t w l)
   on_text-paired s t r (ints i) f = both_done no_rows
   on_text-paired s t r (longs i) f = both_done no_rows
   on_text-paired s t r nulls f = both_done (answered (fault null_throws) r)
-  on_text-paired {Q = Q} {k = k} {l = l} s t r (literals {n = a} {k = b} e) f = subst (λ (x : List ℕ). Rows Q (k (literal_at p a)) (l x)) (mt.texts a b e) (f (literal_at p a))
-  on_text-paired {Q = Q} {k = k} {l = l} s t r (objects x) f = both_read (texts x) (λ c d e. subst (λ (y : List ℕ). Rows Q (k c) (l y)) e (f c))
+  on_text-paired {Q = Q} {G = G} {k = k} {l = l} s t r (literals {n = a} {k = b} e) f = subst (λ (x : List ℕ). Answers Q G (k (literal_at p a)) (l x)) (mt.texts a b e) (f (literal_at p a))
+  on_text-paired {Q = Q} {G = G} {k = k} {l = l} s t r (objects x) f = both_read (texts x) (λ c d e. subst (λ (y : List ℕ). Answers Q G (k c) (l y)) e (f c))
 
   -- use of a class
   begun_at-paired : (c d : ℕ) {s t : Entries} (x : InitState) → n.class c d ≡ true → PairedEntries n P s t → Paired (with_places n P) (PairedUsed n P) (begun_at c s x) (begun_at d t x)
@@ -153,10 +157,10 @@ module _ (tw : Twins) where
   begin-paired c d {s} {t} e r = choose-paired _ _ (trivial-paired n p q mt c d e) (both_done both_ready)
       (both_read (inits e) (λ x y g. subst (λ (z : InitState). Paired (with_places n P) (PairedUsed n P) (begun_at c s x) (begun_at d t z)) g (begun_at-paired c d x e r)))
 
-  once-paired : {s t : Entries} {k l : Access (Answer Entries)} → PairedEntries n P s t → Rows E k l → {x y : Used} → PairedUsed n P x y → Rows E (once s k x) (once t l y)
+  once-paired : {s t : Entries} {k l : Access (Answer Entries)} → PairedEntries n P s t → Rows k l → {x y : Used} → PairedUsed n P x y → Rows (once s k x) (once t l y)
   once-paired r f both_ready = f
   once-paired r f (both_begun e) = both_done (answered go e)
   once-paired r f (both_refused e) = both_done (answered (fault e) r)
 
-  pub using-paired : (c d : ℕ) {s t : Entries} {k l : Access (Answer Entries)} → n.class c d ≡ true → PairedEntries n P s t → Rows E k l → Rows E (using p c s k) (using q d t l)
+  pub using-paired : (c d : ℕ) {s t : Entries} {k l : Access (Answer Entries)} → n.class c d ≡ true → PairedEntries n P s t → Rows k l → Rows (using p c s k) (using q d t l)
   using-paired c d e r f = bind-paired (begin-paired c d e r) (λ x y u. once-paired r f u)

@@ -7,3 +7,5 @@ pub mod States
 pub mod Combinators
 pub mod PlainRows
 pub mod ObjectRows
+pub mod NativeRows
+pub mod Steps

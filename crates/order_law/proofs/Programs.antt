@@ -27,7 +27,7 @@ use Rattle.order_law.proofs.Lists.{test-paired, both, either, cond-list, length-
 pub units-paired : {a b c d : List ℕ} → a ≡ b → c ≡ d → same_units a c ≡ same_units b d
 units-paired e g = rw (e, g)
 
-pick-option : {A B : Type 0} {R : A → B → Type 0} (b c : Bool) {x u : Option A} {y v : Option B} → b ≡ c → PairedOption R x y → PairedOption R u v →
+pub pick-option : {A B : Type 0} {R : A → B → Type 0} (b c : Bool) {x u : Option A} {y v : Option B} → b ≡ c → PairedOption R x y → PairedOption R u v →
     PairedOption R (cond b x u) (cond c y v)
 pick-option true true e p q = p
 pick-option false false e p q = q

@@ -59,13 +59,14 @@ module _ (n : Numbers) (P : ℕ → ℕ → Type 0) where
     go : PairedNext Go Go
     fault : {c d : ℕ} → n.class c d ≡ true → PairedNext (Fault c) (Fault d)
     raised : {v w : Value} → PairedValue (with_places n P) v w → PairedNext (Raise v) (Raise w)
-    enter : {a b : ℕ} → n.method a b ≡ true → PairedNext (Enter a) (Enter b)
     leave : PairedNext Leave Leave
     over : PairedNext Over Over
 
-  pub data PairedAnswer {S : Type 0} (E : S → S → Type 0) : Answer S → Answer S → Type 0 where
-    answered : {x y : Next} {s t : S} → PairedNext x y → E s t → PairedAnswer E (answer x s) (answer y t)
-    no_rows : PairedAnswer E no_row no_row
+  -- where a method is entered, the state left is in the relation F, else in E
+  pub data PairedAnswer {S : Type 0} (E F : S → S → Type 0) : Answer S → Answer S → Type 0 where
+    answered : {x y : Next} {s t : S} → PairedNext x y → E s t → PairedAnswer E F (answer x s) (answer y t)
+    entering : {a b : ℕ} {s t : S} → n.method a b ≡ true → F s t → PairedAnswer E F (answer (Enter a) s) (answer (Enter b) t)
+    no_rows : PairedAnswer E F no_row no_row
 
   pub data PairedUsed : Used → Used → Type 0 where
     both_ready : PairedUsed ready ready
@@ -139,9 +140,12 @@ module _ (n : Numbers) (P : ℕ → ℕ → Type 0) where
   pub cost-paired : {x y : Body} → PairedBody n x y → frame_cost x ≡ frame_cost y
   cost-paired r = rw (r.max_stack, r.max_locals) refl
 
-  pub called-paired : {x y : Body} {a b : ℕ} {s t : Entries} (k : ℕ) → PairedBody n x y → n.method a b ≡ true → PairedFrame s t → PairedEntries (called x a k s) (called y b k t)
-  called-paired k r e f = entry-paired (frame-paired r e (reverse-list (PairedValue (with_places n P)) (take-list (PairedValue (with_places n P)) k f.entries.top.stack)))
-      (stack-paired f (drop-list (PairedValue (with_places n P)) k f.entries.top.stack)).entries
+  pub called-paired : {x y : Body} {a b : ℕ} {s t : Entries} (k : ℕ) → PairedBody n x y → n.method a b ≡ true → PairedFrame s t → PairedFrame (called x a k s) (called y b k t)
+  called-paired k r e f = record {
+    entries = entry-paired (frame-paired r e (reverse-list (PairedValue (with_places n P)) (take-list (PairedValue (with_places n P)) k f.entries.top.stack)))
+        (stack-paired f (drop-list (PairedValue (with_places n P)) k f.entries.top.stack)).entries;
+    method = e;
+  }
 
   -- the top of paired entries is a frame on both sides
   pub frame_top : {s t : Entries} → PairedEntries s t → s.top.kind ≡ InMethod → PairedFrame s t
