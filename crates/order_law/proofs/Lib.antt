@@ -9,3 +9,5 @@ pub mod PlainRows
 pub mod ObjectRows
 pub mod NativeRows
 pub mod Steps
+pub mod Grow
+pub mod FrameLaw

@@ -5,3 +5,4 @@ pub mod Numbers
 pub mod Forms
 pub mod Matched
 pub mod Outcomes
+pub mod FrameLaw
