@@ -11,3 +11,4 @@ pub mod NativeRows
 pub mod Steps
 pub mod Grow
 pub mod FrameLaw
+pub mod Conflicts

@@ -6,3 +6,5 @@ pub mod Forms
 pub mod Matched
 pub mod Outcomes
 pub mod FrameLaw
+pub mod Conflicts
+pub mod Histories

@@ -3,8 +3,10 @@
 
 ghost use Rattle.order_law.specs.FrameLaw.{FrameLaw};
 
+mod edges;
 mod locations;
 
+pub use edges::{Edge, EdgeKind};
 pub use locations::same_location;
 
 /// The frame law. Where two worlds, of one program or of two that match, agree on all that a test reads before it writes
