@@ -12,3 +12,4 @@ pub mod Steps
 pub mod Grow
 pub mod FrameLaw
 pub mod Conflicts
+pub mod Same
