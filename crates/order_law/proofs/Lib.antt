@@ -13,3 +13,5 @@ pub mod Grow
 pub mod FrameLaw
 pub mod Conflicts
 pub mod Same
+pub mod Leaves
+pub mod Histories

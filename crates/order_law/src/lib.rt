@@ -2,6 +2,7 @@
 #![tactic(auto)]
 
 ghost use Rattle.order_law.specs.FrameLaw.{FrameLaw};
+ghost use Rattle.order_law.specs.Histories.{LawOfOrder};
 
 mod edges;
 mod locations;
@@ -13,5 +14,12 @@ pub use locations::same_location;
 /// it, the test does the same in both: outcome, touches and what it leaves at the locations that it writes.
 pub fn frame_law()
     ensures { FrameLaw }
+{
+}
+
+/// The law of order. In every lawful list of a detected suite's tests, by the edges of the suite's own record, each test
+/// gives the outcome that it gives when the whole suite is run in order.
+pub fn lawful_order_law()
+    ensures { LawOfOrder }
 {
 }
