@@ -1,8 +1,9 @@
 -- Typed worlds, said location by location over the list of heads, and typed programs of accesses.
-use Rattle.std.specs.Prelude.{◌≡◌, ℕ, ◌<◌, List, [], ◌∷◌, ◌++◌, length, get_or, slice_get, Bool, true, nat_eq, Option, Some, None}
+use Rattle.std.specs.Prelude.{◌≡◌, ℕ, ◌<◌, List, [], ◌∷◌, ◌++◌, length, get_or, slice_get, Bool, true, false, nat_eq, Option, Some, None}
 use Rattle.jvm_model.specs.declared.values.Value.{Value}
 use Rattle.jvm_model.specs.declared.values.Value.TheVariants.{Null}
 use Rattle.jvm_model.specs.declared.values.Base.{Base}
+use Rattle.jvm_model.specs.declared.values.Kind.{Kind}
 use Rattle.jvm_model.specs.declared.values.Kind.{Kind}
 use Rattle.jvm_model.specs.declared.values.Kind.TheVariants as kind
 use Rattle.jvm_model.specs.declared.values.Head.{Head}
@@ -11,7 +12,11 @@ use Rattle.jvm_model.specs.declared.values.Location.TheVariants as place
 use Rattle.jvm_model.specs.declared.program.Program.{Program}
 use Rattle.jvm_model.specs.World.{Object, World, Content, size, at, look}
 use Rattle.jvm_model.specs.Access.{Access, done, read, write, make, spend, Ran}
-use Rattle.jvm_model.specs.Classes.{field_at, member, layout}
+use Rattle.jvm_model.specs.declared.outcome.Next.{Next}
+use Rattle.jvm_model.specs.Classes.{field_at, member, layout, default_of}
+use Rattle.jvm_model.specs.Kinds.{kind_fits}
+use Rattle.jvm_model.specs.Rows.{Answer, answer, no_row, constant_kind}
+use Rattle.jvm_model.specs.State.{State, Turn, next, ended, no_turn}
 use Rattle.jvm_model.specs.View.{Exists, keys}
 use Rattle.check_sound.specs.Types.{Types, HasType, element_type}
 
@@ -66,3 +71,25 @@ pub record Kept (p : Program) (ty : Types) {A : Type 0} (P : List Head → A →
   pub grows : Grows hs heads
   pub world : IsTypedWorld p ty heads r.world
   pub answer : P heads r.value
+
+-- how a row may end: there is one, and what it leaves is good
+abbrev pub Leaves : {S : Type 0} → (List Head → Next → S → Type 0) → List Head → Answer S → Type 0
+Leaves G hs (answer x s) = G hs x s
+Leaves G hs no_row = ⊥
+
+-- how a step may end
+abbrev pub Turns : (List Head → State → Type 0) → List Head → Turn → Type 0
+Turns G hs (next s) = G hs s
+Turns G hs (ended v o) = Unit {0}
+Turns G hs no_turn = ⊥
+
+-- What the rows ask of the types of a program.
+pub record AreSound (p : Program) (ty : Types) : Type 0 where
+  pub itself : (k : Kind) → ty.fits k k ≡ true
+  pub upwards : (a b c : Kind) → ty.fits a b ≡ true → ty.fits b c ≡ true → ty.fits a c ≡ true
+  pub tested : (a b : Kind) → kind_fits p a b ≡ true → ty.fits a b ≡ true
+  pub default : (f : ℕ) → HasType ty [] (ty.declared (field_at p f).descriptor) (default_of (field_at p f).descriptor)
+
+-- no constant object is of the kind
+abbrev pub NoConstant : Types → Kind → Type 0
+NoConstant ty k = (n : ℕ) → ty.fits (constant_kind n) k ≡ false
