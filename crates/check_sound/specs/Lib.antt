@@ -1,3 +1,4 @@
 pub mod Types
 pub mod Typed
 pub mod RunLaw
+pub mod Slots
