@@ -15,3 +15,4 @@ pub mod Conflicts
 pub mod Same
 pub mod Leaves
 pub mod Histories
+pub mod Record

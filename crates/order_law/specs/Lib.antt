@@ -8,3 +8,4 @@ pub mod Outcomes
 pub mod FrameLaw
 pub mod Conflicts
 pub mod Histories
+pub mod Record
