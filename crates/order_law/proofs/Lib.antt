@@ -16,3 +16,4 @@ pub mod Same
 pub mod Leaves
 pub mod Histories
 pub mod Record
+pub mod Plans

@@ -9,3 +9,4 @@ pub mod FrameLaw
 pub mod Conflicts
 pub mod Histories
 pub mod Record
+pub mod Plan

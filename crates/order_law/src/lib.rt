@@ -3,6 +3,8 @@
 
 ghost use Rattle.order_law.specs.FrameLaw.{FrameLaw};
 ghost use Rattle.order_law.specs.Histories.{LawOfOrder};
+ghost use Rattle.order_law.specs.Plan.{LawOfInterleavings};
+ghost use Rattle.order_law.specs.Record.{OwnLaw};
 
 mod edges;
 mod locations;
@@ -17,9 +19,18 @@ pub fn frame_law()
 {
 }
 
-/// The law of order. In every lawful list of a detected suite's tests, by the edges of the suite's own record, each test
-/// gives the outcome that it gives when the whole suite is run in order.
+/// The law of order. In every lawful list of a detected suite's tests each test gives the outcome that it gives when the
+/// whole suite is run in order: by the edges of the suite's own record, and by any edges that are there exactly where
+/// there is a conflict.
 pub fn lawful_order_law()
-    ensures { LawOfOrder }
+    ensures own { OwnLaw }
+    ensures any { LawOfOrder }
+{
+}
+
+/// Every interleaving. In every legal history of claims and posts each post has that outcome, no test is posted twice, and
+/// what a worker runs next will have it too, so that it meets no budget.
+pub fn interleavings_law()
+    ensures { LawOfInterleavings }
 {
 }
