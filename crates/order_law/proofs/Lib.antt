@@ -15,5 +15,5 @@ pub mod Conflicts
 pub mod Same
 pub mod Leaves
 pub mod Histories
-pub mod Record
+pub mod OwnRecord
 pub mod Plans

@@ -8,5 +8,6 @@ pub mod Outcomes
 pub mod FrameLaw
 pub mod Conflicts
 pub mod Histories
-pub mod Record
+pub mod OwnRecord
 pub mod Plan
+pub mod RecordForm

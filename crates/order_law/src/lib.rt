@@ -4,13 +4,15 @@
 ghost use Rattle.order_law.specs.FrameLaw.{FrameLaw};
 ghost use Rattle.order_law.specs.Histories.{LawOfOrder};
 ghost use Rattle.order_law.specs.Plan.{LawOfInterleavings};
-ghost use Rattle.order_law.specs.Record.{OwnLaw};
+ghost use Rattle.order_law.specs.OwnRecord.{OwnLaw};
 
 mod edges;
 mod locations;
+mod records;
 
 pub use edges::{Edge, EdgeKind};
 pub use locations::same_location;
+pub use records::{Chains, More, Place, Prints, Reach, Record, Shown};
 
 /// The frame law. Where two worlds, of one program or of two that match, agree on all that a test reads before it writes
 /// it, the test does the same in both: outcome, touches and what it leaves at the locations that it writes.

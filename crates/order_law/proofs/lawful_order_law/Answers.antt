@@ -1,5 +1,5 @@
 use Rattle.order_law.proofs.Histories.{law_of_order}
-use Rattle.order_law.proofs.Record.{own_law}
+use Rattle.order_law.proofs.OwnRecord.{own_law}
 use Rattle.order_law.proofs.lawful_order_law.Goals as goal
 
 pub returns-clause-own : goal.returns-clause-own

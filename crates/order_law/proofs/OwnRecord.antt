@@ -14,7 +14,7 @@ use Rattle.order_law.specs.declared.edges.EdgeKind.TheVariants.{Raw, Waw, War}
 use Rattle.order_law.specs.Exposed.{written, exposed}
 use Rattle.order_law.specs.Conflicts.{Tests, Member, NoneBetween, Conflict, HasEdge, down}
 use Rattle.order_law.specs.Histories.{ran_after, writes_of, exposed_of, RecordOf}
-use Rattle.order_law.specs.Record.{none_between, conflicts, first_places, places_touched, conflict_places, edge_of, edges_between, edges_of, OwnLaw}
+use Rattle.order_law.specs.OwnRecord.{none_between, conflicts, first_places, places_touched, conflict_places, edge_of, edges_between, edges_of, OwnLaw}
 use Rattle.order_law.proofs.Histories.{law_of_order}
 
 between-true : (W : Tests) (u t : ℕ) (L : Location) → none_between W u t L ≡ true → NoneBetween W u t L
