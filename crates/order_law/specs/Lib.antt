@@ -11,3 +11,5 @@ pub mod Histories
 pub mod OwnRecord
 pub mod Plan
 pub mod RecordForm
+pub mod Reach
+pub mod OrderFault
