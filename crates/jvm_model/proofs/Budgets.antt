@@ -1,13 +1,12 @@
 -- A test gives the same under every budget that its units keep to, and nothing under a smaller one.
-use Rattle.std.proofs.Common.{◌≡◌, ◌⊎◌, ℕ, zero, suc, ◌+◌, ◌-◌, ◌<◌, ◌≤◌, List, Bool, true, false, ◌&&◌, cond, nat_le, leb, ◌++◌, refl, sym, ◌∙◌, ap, subst, inl, inr, arith, Option, Some, None}
-use Rattle.std.proofs.lemmas.Bool.{cases_Bool, leb-false, leb-true}
+use Rattle.std.proofs.Common.{◌≡◌, ℕ, zero, suc, ◌+◌, ◌<◌, ◌≤◌, List, Bool, true, false, ◌&&◌, nat_le, ◌++◌, refl, sym, ◌∙◌, ap, subst, inl, inr, arith, Some, None}
+use Rattle.std.proofs.lemmas.Bool.{cases_Bool, leb-true}
 use Rattle.jvm_model.specs.declared.values.Touch.{Touch}
-use Rattle.jvm_model.specs.declared.outcome.Verdict.{Verdict}
 use Rattle.jvm_model.specs.declared.program.Program.{Program}
 use Rattle.jvm_model.specs.World.{World}
-use Rattle.jvm_model.specs.Access.{Access, done, spend, bind, Ran, run}
+use Rattle.jvm_model.specs.Access.{Ran, run}
 use Rattle.jvm_model.specs.State.{State, Turn, next, ended, no_turn, started}
-use Rattle.jvm_model.specs.Step.{acts, step}
+use Rattle.jvm_model.specs.Step.{step}
 use Rattle.jvm_model.specs.Suite.{End, finished, stuck, out_of_steps, after_step, whole, tree, Given, given_at, one_test}
 use Rattle.jvm_model.proofs.Binds.{run_bind}
 
@@ -64,15 +63,15 @@ found b true out_of_steps w ts u x g = absurd (cc)
 found b true (finished v o) w ts u x g = elim (cases_Bool (nat_le u b)) [
   | inr h ↦ let z : None ≡ Some x = sym (rw h refl) ∙ g in absurd (cc)
   | inl h ↦
-    let y : Given = record { outcome = record { verdict = v; output = o; units = u }; world = w; touches = ts } in
-    let z : Some y ≡ Some x = sym (rw h refl) ∙ g in
-    let q : y ≡ x = cc in
-    record {
-      is_end = tt;
-      units = sym (ap (λ (k : Given). k.outcome.units) q);
-      within = leb-true u b h;
-      any = λ c k. (let a : given_at c true (finished v o) w ts u ≡ Some y = rw (le_nat u c k) refl in a ∙ z);
-    }
+      let y : Given = record { outcome = record { verdict = v; output = o; units = u }; world = w; touches = ts } in
+      let z : Some y ≡ Some x = sym (rw h refl) ∙ g in
+      let q : y ≡ x = cc in
+      record {
+        is_end = tt;
+        units = sym (ap (λ (k : Given). k.outcome.units) q);
+        within = leb-true u b h;
+        any = λ c k. (let a : given_at c true (finished v o) w ts u ≡ Some y = rw (le_nat u c k) refl in a ∙ z);
+      }
 ]
 
 -- where a test gives something under a budget, it gives the same under each budget that its units keep to

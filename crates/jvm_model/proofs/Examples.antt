@@ -1,19 +1,17 @@
 -- Small suites that are run by computation: the definitions give the verdicts, outputs, units and touches that they
 -- should.
-use Rattle.std.proofs.Common.{◌≡◌, ℕ, List, [], ◌∷◌, ◌++◌, length, Option, Some, None, refl, pos, negsuc, true, false}
+use Rattle.std.proofs.Common.{◌≡◌, ℕ, List, [], ◌∷◌, ◌++◌, Some, None, refl, pos, false}
 use Rattle.std.specs.Prelude.{codes}
 use Rattle.std.specs.Fmt.{digits}
 use Rattle.std.specs.Char.Utf16.{utf16_chars}
 use lib.Utf8.{encode}
-use Rattle.std.specs.Int.{int_wrap}
-use Rattle.et_base.specs.Numbers.{add32, div32, add64}
-use Rattle.jvm_model.specs.declared.values.Value.TheVariants.{Int, Long, Null, Lit, Obj}
+use Rattle.et_base.specs.Numbers.{add64}
+use Rattle.jvm_model.specs.declared.values.Value.TheVariants.{Int, Null}
 use Rattle.jvm_model.specs.declared.values.Kind.TheVariants as kind
 use Rattle.jvm_model.specs.declared.values.Location.TheVariants as place
 use Rattle.jvm_model.specs.declared.instr.Instr.{Instr}
 use Rattle.jvm_model.specs.declared.instr.Instr.TheVariants as form
-use Rattle.jvm_model.specs.declared.instr.Op.TheVariants.{Add, Div}
-use Rattle.jvm_model.specs.declared.instr.Sort.TheVariants as sort
+use Rattle.jvm_model.specs.declared.instr.Op.TheVariants.{Div}
 use Rattle.jvm_model.specs.declared.program.Program.{Program}
 use Rattle.jvm_model.specs.Library.{builtin_defs, builtin_classes, builtin_fields, builtin_methods}
 use Rattle.jvm_model.specs.Classes.{class_bound, own_interfaces, is_below, implements, default_interfaces, is_trivial, layout, blank, form_at, next_place}
@@ -39,7 +37,7 @@ use Rattle.jvm_model.specs.NativesObject.{native_object, native_throwable}
 use Rattle.jvm_model.specs.NativesString.{native_string, native_builder}
 use Rattle.jvm_model.specs.NativesOutside.{native_system, native_print, native_files, native_env}
 use Rattle.jvm_model.specs.Driver.{drive, drives, drive_first, drive_init, drive_set_up, drive_method, drive_tear_down, judge}
-use Rattle.jvm_model.proofs.ExampleParts.{program, class, body, fixed, plain, static, field, static_int, test, int_const, literal, get_static, put_static, call_static, returns, load_this, dup, print, print_number, outcomes, passed, failed, error, places, last_places, line}
+use Rattle.jvm_model.proofs.ExampleParts.{program, class, body, fixed, plain, static, field, static_int, test, int_const, literal, get_static, put_static, call_static, returns, load_this, dup, print_number, outcomes, passed, failed, error, places, last_places, line}
 
 -- a test that only returns
 abbrev return_suite : Program
@@ -70,8 +68,8 @@ node_suite = program
     (field 32 (codes "v") (codes "I") (Int (pos 0)) ∷ field 32 (codes "next") (codes "LNode;") Null ∷ static 33 (codes "head") (codes "LNode;") Null ∷ [])
     (plain 32 (codes "<init>") (codes "()V") (body 1 1 plain_init)
     ∷ fixed 33 (codes "build") (codes "()V") (body 3 0 ((3, form.New 32) ∷ dup ∷ (3, form.InvokeSpecial (kind.Class 32) 102) ∷ put_static 4
-        ∷ get_static 4 ∷ (3, form.New 32) ∷ dup ∷ (3, form.InvokeSpecial (kind.Class 32) 102) ∷ (3, form.PutField 32 3)
-        ∷ get_static 4 ∷ (3, form.GetField 32 3) ∷ (2, form.Const (Int (pos 9))) ∷ (3, form.PutField 32 2) ∷ returns ∷ []))
+    ∷ get_static 4 ∷ (3, form.New 32) ∷ dup ∷ (3, form.InvokeSpecial (kind.Class 32) 102) ∷ (3, form.PutField 32 3)
+    ∷ get_static 4 ∷ (3, form.GetField 32 3) ∷ (2, form.Const (Int (pos 9))) ∷ (3, form.PutField 32 2) ∷ returns ∷ []))
     ∷ fixed 33 (codes "idle") (codes "()V") (body 0 0 (returns ∷ []))
     ∷ fixed 33 (codes "show") (codes "()V") (body 1 0 (get_static 4 ∷ (3, form.GetField 32 3) ∷ (3, form.GetField 32 2) ∷ print_number)) ∷ [])
     [] (test 33 103 ∷ test 33 104 ∷ test 33 105 ∷ [])

@@ -1,17 +1,15 @@
 -- Larger suites that are run by computation.
-use Rattle.std.proofs.Common.{◌≡◌, ℕ, List, [], ◌∷◌, ◌++◌, length, Option, Some, None, refl, pos, negsuc, true, false}
+use Rattle.std.proofs.Common.{◌≡◌, [], ◌∷◌, Some, refl, pos, negsuc, false}
 use Rattle.std.specs.Prelude.{codes}
 use Rattle.std.specs.Fmt.{digits}
 use Rattle.std.specs.Char.Utf16.{utf16_chars}
 use lib.Utf8.{encode}
 use Rattle.std.specs.Int.{int_wrap}
-use Rattle.et_base.specs.Numbers.{add32, div32, add64}
-use Rattle.jvm_model.specs.declared.values.Value.TheVariants.{Int, Long, Null, Lit, Obj}
+use Rattle.et_base.specs.Numbers.{add32, add64}
+use Rattle.jvm_model.specs.declared.values.Value.TheVariants.{Int, Null, Lit}
 use Rattle.jvm_model.specs.declared.values.Kind.TheVariants as kind
-use Rattle.jvm_model.specs.declared.values.Location.TheVariants as place
-use Rattle.jvm_model.specs.declared.instr.Instr.{Instr}
 use Rattle.jvm_model.specs.declared.instr.Instr.TheVariants as form
-use Rattle.jvm_model.specs.declared.instr.Op.TheVariants.{Add, Div}
+use Rattle.jvm_model.specs.declared.instr.Op.TheVariants.{Add}
 use Rattle.jvm_model.specs.declared.instr.Sort.TheVariants as sort
 use Rattle.jvm_model.specs.declared.instr.IfTest.TheVariants as if_test
 use Rattle.jvm_model.specs.declared.program.Program.{Program}
@@ -39,7 +37,7 @@ use Rattle.jvm_model.specs.NativesObject.{native_object, native_throwable}
 use Rattle.jvm_model.specs.NativesString.{native_string, native_builder, hash_of}
 use Rattle.jvm_model.specs.NativesOutside.{native_system, native_print, native_files, native_env}
 use Rattle.jvm_model.specs.Driver.{drive, drives, drive_first, drive_init, drive_set_up, drive_method, drive_tear_down, judge}
-use Rattle.jvm_model.proofs.ExampleParts.{program, class, body, fixed, plain, static, field, static_int, test, int_const, literal, get_static, put_static, call_static, returns, load_this, dup, print, print_number, outcomes, passed, failed, error, places, last_places, line}
+use Rattle.jvm_model.proofs.ExampleParts.{program, class, body, fixed, plain, field, static_int, test, int_const, get_static, put_static, call_static, returns, load_this, dup, print_number, outcomes, passed, line}
 
 -- a method that calls itself until no entry may be pushed
 abbrev recursion_suite : Program
@@ -61,19 +59,19 @@ outer_suite = program
     ∷ plain 32 (codes "twice") (codes "()I") (body 2 1 (load_this ∷ (3, form.GetField 32 2) ∷ (3, form.GetField 33 3) ∷ load_this ∷ (3, form.GetField 32 2) ∷ (3, form.GetField 33 3) ∷ (1, form.Binary Add false) ∷ (1, form.Return (Some sort.Int)) ∷ []))
     ∷ plain 33 (codes "<init>") (codes "()V") (body 2 1 (load_this ∷ (3, form.InvokeSpecial (kind.Class 0) 0) ∷ load_this ∷ int_const 3 ∷ (3, form.PutField 33 3) ∷ returns ∷ []))
     ∷ plain 33 (codes "testAll") (codes "()V") (body 5 4 (
-        (2, form.Const (Lit 1)) ∷ (1, form.Store sort.Ref 1) ∷ (1, form.Const (Int (pos 0))) ∷ (1, form.Store sort.Int 2) ∷ (1, form.Load sort.Int 2) ∷ (1, form.Const (Int (pos 3))) ∷ (3, form.IfInts if_test.Ge 35)
-        ∷ (3, form.New 2) ∷ dup ∷ (3, form.InvokeSpecial (kind.Class 2) 16) ∷ (1, form.Load sort.Ref 1) ∷ (3, form.InvokeVirtual (kind.Class 2) 18)
-        ∷ (1, form.Load sort.Int 2) ∷ (3, form.InvokeVirtual (kind.Class 2) 19) ∷ (3, form.InvokeVirtual (kind.Class 2) 24) ∷ (1, form.Store sort.Ref 1)
-        ∷ (3, form.Inc 2 (pos 1)) ∷ (3, form.Goto 5) ∷ (1, form.Load sort.Ref 1) ∷ (1, form.Store sort.Ref 2) ∷ (1, form.Const (Int (negsuc 0))) ∷ (1, form.Store sort.Int 3) ∷ (1, form.Load sort.Ref 2)
-        ∷ (3, form.InvokeVirtual (kind.Class 1) 7) ∷ (17, form.Lookup ((pos 47697, 60) ∷ []) 71)
-        ∷ (1, form.Load sort.Ref 2) ∷ (2, form.Const (Lit 2)) ∷ (3, form.InvokeVirtual (kind.Class 1) 6) ∷ (3, form.IfZero if_test.Eq 71) ∷ (1, form.Const (Int (pos 0))) ∷ (1, form.Store sort.Int 3)
-        ∷ (1, form.Load sort.Int 3) ∷ (20, form.Lookup ((pos 0, 92) ∷ []) 129)
-        ∷ get_static 0 ∷ (3, form.New 2) ∷ dup ∷ (3, form.InvokeSpecial (kind.Class 2) 16) ∷ (1, form.Load sort.Ref 1)
-        ∷ (3, form.InvokeVirtual (kind.Class 2) 18) ∷ (3, form.New 32) ∷ dup ∷ load_this
-        ∷ (3, form.InvokeSpecial (kind.Class 32) 102) ∷ (3, form.InvokeVirtual (kind.Class 32) 103) ∷ (3, form.InvokeVirtual (kind.Class 2) 19)
-        ∷ (3, form.InvokeVirtual (kind.Class 2) 24) ∷ (3, form.InvokeVirtual (kind.Class 4) 34) ∷ (3, form.Goto 138)
-        ∷ (3, form.New 10) ∷ dup ∷ (1, form.Load sort.Ref 1) ∷ (3, form.InvokeSpecial (kind.Class 10) 55)
-        ∷ (1, form.Throw) ∷ returns ∷ [])) ∷ [])
+    (2, form.Const (Lit 1)) ∷ (1, form.Store sort.Ref 1) ∷ (1, form.Const (Int (pos 0))) ∷ (1, form.Store sort.Int 2) ∷ (1, form.Load sort.Int 2) ∷ (1, form.Const (Int (pos 3))) ∷ (3, form.IfInts if_test.Ge 35)
+    ∷ (3, form.New 2) ∷ dup ∷ (3, form.InvokeSpecial (kind.Class 2) 16) ∷ (1, form.Load sort.Ref 1) ∷ (3, form.InvokeVirtual (kind.Class 2) 18)
+    ∷ (1, form.Load sort.Int 2) ∷ (3, form.InvokeVirtual (kind.Class 2) 19) ∷ (3, form.InvokeVirtual (kind.Class 2) 24) ∷ (1, form.Store sort.Ref 1)
+    ∷ (3, form.Inc 2 (pos 1)) ∷ (3, form.Goto 5) ∷ (1, form.Load sort.Ref 1) ∷ (1, form.Store sort.Ref 2) ∷ (1, form.Const (Int (negsuc 0))) ∷ (1, form.Store sort.Int 3) ∷ (1, form.Load sort.Ref 2)
+    ∷ (3, form.InvokeVirtual (kind.Class 1) 7) ∷ (17, form.Lookup ((pos 47697, 60) ∷ []) 71)
+    ∷ (1, form.Load sort.Ref 2) ∷ (2, form.Const (Lit 2)) ∷ (3, form.InvokeVirtual (kind.Class 1) 6) ∷ (3, form.IfZero if_test.Eq 71) ∷ (1, form.Const (Int (pos 0))) ∷ (1, form.Store sort.Int 3)
+    ∷ (1, form.Load sort.Int 3) ∷ (20, form.Lookup ((pos 0, 92) ∷ []) 129)
+    ∷ get_static 0 ∷ (3, form.New 2) ∷ dup ∷ (3, form.InvokeSpecial (kind.Class 2) 16) ∷ (1, form.Load sort.Ref 1)
+    ∷ (3, form.InvokeVirtual (kind.Class 2) 18) ∷ (3, form.New 32) ∷ dup ∷ load_this
+    ∷ (3, form.InvokeSpecial (kind.Class 32) 102) ∷ (3, form.InvokeVirtual (kind.Class 32) 103) ∷ (3, form.InvokeVirtual (kind.Class 2) 19)
+    ∷ (3, form.InvokeVirtual (kind.Class 2) 24) ∷ (3, form.InvokeVirtual (kind.Class 4) 34) ∷ (3, form.Goto 138)
+    ∷ (3, form.New 10) ∷ dup ∷ (1, form.Load sort.Ref 1) ∷ (3, form.InvokeSpecial (kind.Class 10) 55)
+    ∷ (1, form.Throw) ∷ returns ∷ [])) ∷ [])
     ([] ∷ codes "012" ∷ []) (test 33 105 ∷ [])
 
 outer_runs : outcomes (runs outer_suite (all_tests outer_suite)) ≡ Some (passed (line (codes "0126")) 166 ∷ [])

@@ -1,12 +1,22 @@
 pub mod Binds
 pub mod Bridges
+pub mod Uses
+pub mod Steps
 pub mod Locations
 pub mod Fuel
 pub mod Ranges
 pub mod Budgets
 pub mod Detection
 pub mod Runs
+pub mod Upwards
+pub mod Builtins
+pub mod BuiltinRules
+pub mod Walks
+pub mod Places
+pub mod Tests
+pub mod Pointwise
 pub mod Standing
 mod ExampleParts
 mod Examples
 mod LargerExamples
+mod MoreExamples

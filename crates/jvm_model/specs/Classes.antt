@@ -1,5 +1,6 @@
 -- What a program says of its classes, fields and methods.
-use Rattle.std.specs.Prelude.{ℕ, zero, suc, List, [], ◌∷◌, ◌++◌, get_or, replicate, map, filter, Bool, true, false, not, ◌&&◌, ◌||◌, cond, nat_eq, ◌-◌, ◌/◌, ◌%◌, pos, Option, Some, None, flat_map, is_some}
+use Rattle.std.specs.Prelude.{ℕ, zero, suc, List, [], ◌∷◌, ◌++◌, get_or, replicate, map, filter, Bool, true, false, not, ◌&&◌, cond, nat_eq, ◌-◌, ◌/◌, ◌%◌, pos, Option, Some, None, flat_map, is_some}
+use Rattle.std.specs.List.{list_any, list_all}
 use Rattle.jvm_model.specs.declared.values.Value.{Value}
 use Rattle.jvm_model.specs.declared.values.Value.TheVariants.{Int, Long, Null}
 use Rattle.jvm_model.specs.declared.values.Kind.{Kind}
@@ -69,8 +70,7 @@ abbrev pub upwards : Program → ℕ → List ℕ
 upwards p c = upwards_in p class_bound c
 
 abbrev pub member : ℕ → List ℕ → Bool
-member n [] = false
-member n (x ∷ xs) = nat_eq n x || member n xs
+member n xs = list_any (nat_eq n) xs
 
 -- the list without later mentions
 abbrev pub first_mentions : List ℕ → List ℕ
@@ -106,28 +106,20 @@ init_name = 60 ∷ 105 ∷ 110 ∷ 105 ∷ 116 ∷ 62 ∷ []
 abbrev pub is_default_method : MethodRec → Bool
 is_default_method m = is_some m.body && (not (is_static m.flags) && not (same_units m.name clinit_name))
 
-abbrev pub any : {A : Type 0} → (A → Bool) → List A → Bool
-any f [] = false
-any f (x ∷ xs) = f x || any f xs
-
 -- the default interfaces that a class starts itself: those of its own interfaces that declare such a method (JVMS 5.5)
 unfoldable pub default_interfaces : Program → ℕ → List ℕ
-default_interfaces p c = filter (λ i. any (λ m. is_default_method (method_at p m)) (class_at p i).methods) (own_interfaces p c)
+default_interfaces p c = filter (λ i. list_any (λ m. is_default_method (method_at p m)) (class_at p i).methods) (own_interfaces p c)
 
 -- whether a class or interface declares `<clinit>`
 abbrev pub declares_start : Program → ℕ → Bool
 declares_start p c = is_some (class_at p c).initialiser
-
-abbrev pub all_of : {A : Type 0} → (A → Bool) → List A → Bool
-all_of f [] = true
-all_of f (x ∷ xs) = f x && all_of f xs
 
 -- A trivial class has no initialisation state: neither it, nor a superclass, nor a default interface of one of them
 -- declares `<clinit>`. A trivial interface declares none.
 unfoldable pub is_trivial : Program → ℕ → Bool
 is_trivial p c = cond (is_interface (class_at p c).flags)
     (not (declares_start p c))
-    (all_of (λ d. not (declares_start p d) && all_of (λ i. not (declares_start p i)) (default_interfaces p d)) (upwards p c))
+    (list_all (λ d. not (declares_start p d) && list_all (λ i. not (declares_start p i)) (default_interfaces p d)) (upwards p c))
 
 -- the default value of a type, by its descriptor (JVMS 2.3 and 2.4); B C I S Z are whole numbers, J is a long
 abbrev pub default_of : List ℕ → Value

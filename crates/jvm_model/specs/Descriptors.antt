@@ -1,5 +1,5 @@
 -- What a method's descriptor says (JVMS 4.3.3).
-use Rattle.std.specs.Prelude.{ℕ, List, [], ◌∷◌, Bool, true, false, nat_eq}
+use Rattle.std.specs.Prelude.{ℕ, List, [], ◌∷◌, true, false, nat_eq}
 
 -- where a reader of a descriptor stands
 pub data Scan : Type 0 where
@@ -18,11 +18,20 @@ onto_first u (t ∷ ts) = (u ∷ t) ∷ ts
 -- the types before the closing parenthesis, 41; [ is 91, L is 76 and ; is 59
 abbrev pub types_in : Scan → List ℕ → List (List ℕ)
 types_in s [] = []
-types_in at_type (u ∷ us) = elim (nat_eq u 41) [ true ↦ [] | false ↦
-  elim (nat_eq u 91) [ true ↦ onto_first u (types_in in_array us) | false ↦
-    elim (nat_eq u 76) [ true ↦ onto_first u (types_in in_name us) | false ↦ (u ∷ []) ∷ types_in at_type us ] ] ]
-types_in in_array (u ∷ us) = elim (nat_eq u 91) [ true ↦ onto_first u (types_in in_array us) | false ↦
-  elim (nat_eq u 76) [ true ↦ onto_first u (types_in in_name us) | false ↦ (u ∷ []) ∷ types_in at_type us ] ]
+types_in at_type (u ∷ us) = elim (nat_eq u 41) [
+  | true ↦ []
+  | false ↦
+      elim (nat_eq u 91) [
+        | true ↦ onto_first u (types_in in_array us)
+        | false ↦
+            elim (nat_eq u 76) [ true ↦ onto_first u (types_in in_name us) | false ↦ (u ∷ []) ∷ types_in at_type us ]
+      ]
+]
+types_in in_array (u ∷ us) = elim (nat_eq u 91) [
+  | true ↦ onto_first u (types_in in_array us)
+  | false ↦
+      elim (nat_eq u 76) [ true ↦ onto_first u (types_in in_name us) | false ↦ (u ∷ []) ∷ types_in at_type us ]
+]
 types_in in_name (u ∷ us) = elim (nat_eq u 59) [ true ↦ (u ∷ []) ∷ types_in at_type us | false ↦ onto_first u (types_in in_name us) ]
 
 -- the descriptors of the parameter types

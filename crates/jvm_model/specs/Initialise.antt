@@ -14,7 +14,7 @@ use Rattle.jvm_model.specs.declared.program.Program.{Program}
 use Rattle.jvm_model.specs.Access.{Access, done, read, write, make, spend}
 use Rattle.jvm_model.specs.Builtin.{error_class, initializer_error, no_class_error, stack_overflow_error}
 use Rattle.jvm_model.specs.Classes.{class_at, method_at, is_interface, is_below, is_trivial, default_interfaces, blank, instance_head}
-use Rattle.jvm_model.specs.Entries.{Entry, Entries, with_entry, class_entry, frame_of, frame_cost, is_full, popped_entry}
+use Rattle.jvm_model.specs.Entries.{Entries, with_entry, class_entry, frame_of, frame_cost, is_full, popped_entry}
 use Rattle.jvm_model.specs.Kinds.{class_of}
 use Rattle.jvm_model.specs.Rows.{Answer, answer, none_here, faults, on_object}
 

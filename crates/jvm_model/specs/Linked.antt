@@ -1,6 +1,6 @@
 -- What a linked program is: each rule that loading keeps, by name.
-use Rattle.std.specs.Prelude.{◌≡◌, ◌⊎◌, ℕ, ℤ, pos, negsuc, suc, int_le, int_lt, ◌+◌, ◌-◌, ◌<◌, ◌≤◌, ◌<ℤ◌, ◌≤ℤ◌, ◌+ℤ◌, ◌^◌, List, [], ◌∷◌, ◌++◌, length, take, get_or, map, All, Bool, true, false, not, ◌&&◌, ◌||◌, cond, nat_eq, nat_le, IsTrue, Option, Some, None, codes, IfSome, IsSome, IsNone}
-use Rattle.std.specs.List.{list_all}
+use Rattle.std.specs.Prelude.{◌≡◌, ◌⊎◌, ℕ, ℤ, pos, negsuc, suc, int_le, int_lt, ◌+◌, ◌<◌, ◌≤◌, ◌<ℤ◌, ◌≤ℤ◌, ◌+ℤ◌, ◌^◌, List, [], ◌∷◌, ◌++◌, length, take, get_or, All, Bool, true, false, ◌&&◌, ◌||◌, cond, nat_eq, nat_le, Option, Some, None, codes, IfSome, IsSome}
+use Rattle.std.specs.List.{list_all, list_any}
 use Rattle.jvm_model.specs.declared.values.Value.{Value}
 use Rattle.jvm_model.specs.declared.values.Value.TheVariants.{Int, Long, Null, Lit, Obj}
 use Rattle.jvm_model.specs.declared.values.Base.{Base}
@@ -11,8 +11,6 @@ use Rattle.jvm_model.specs.declared.instr.Instr.{Instr}
 use Rattle.jvm_model.specs.declared.instr.Instr.TheVariants as form
 use Rattle.jvm_model.specs.declared.program.Program.{Program}
 use Rattle.jvm_model.specs.declared.program.ClassRec.{ClassRec}
-use Rattle.jvm_model.specs.declared.program.FieldRec.{FieldRec}
-use Rattle.jvm_model.specs.declared.program.MethodRec.{MethodRec}
 use Rattle.jvm_model.specs.declared.program.Body.{Body}
 use Rattle.jvm_model.specs.declared.program.Placed.{Placed}
 use Rattle.jvm_model.specs.declared.program.Handler.{Handler}
@@ -20,7 +18,7 @@ use Rattle.jvm_model.specs.declared.program.TestEntry.{TestEntry}
 use Rattle.jvm_model.specs.World.{same_units}
 use Rattle.jvm_model.specs.Library.{builtin_classes, builtin_fields, builtin_methods}
 use Rattle.jvm_model.specs.Builtin.{builtin_count, object_class, throwable_class}
-use Rattle.jvm_model.specs.Classes.{class_at, field_at, method_at, is_private, is_static, is_interface, is_abstract, is_below, upwards, member, clinit_name, init_name, default_of}
+use Rattle.jvm_model.specs.Classes.{class_at, field_at, method_at, is_static, is_interface, is_below, upwards, member, clinit_name, init_name, default_of}
 use Rattle.jvm_model.specs.Selection.{named_class}
 use Rattle.jvm_model.specs.RowsCreate.{is_bare}
 use Rattle.jvm_model.specs.Lookup.{find_field, find_method, find_declared}
@@ -202,7 +200,6 @@ pub record IsListed (p : Program) : Type 0 where
   pub root : (c : ℕ) → IsClass p c → (class_at p c).superclass ≡ None → c ≡ object_class
   pub top : (class_at p object_class).superclass ≡ None
   pub initialisers : (c : ℕ) → IsClass p c → IfSome (class_at p c).initialiser (λ m. IsInitialiser p c m)
-  pub started : (c m : ℕ) → IsClass p c → IsMethod p m → IsInitialiser p c m → (class_at p c).initialiser ≡ Some m
   pub natives : (m : ℕ) → IsMethod p m → builtin_count ≤ (method_at p m).class → (method_at p m).native ≡ None
 
 abbrev pub place_listed : ℕ → List Placed → Bool
@@ -282,12 +279,21 @@ fits_int u n = cond (nat_eq u 90) (int_le (pos 0) n && int_lt n (pos 2))
     (cond (nat_eq u 83) (int_le (negsuc 32767) n && int_lt n (pos 32768))
     (nat_eq u 73))))
 
+-- the descriptor of a class's instances
+abbrev pub class_descriptor : List ℕ → List ℕ
+class_descriptor name = 76 ∷ (name ++ (59 ∷ []))
+
+-- whether a type takes an instance of the named class, which is below Object alone: its own, Object, or an interface, which
+-- takes every reference
+abbrev pub takes : Program → List ℕ → List ℕ → Bool
+takes p t name = same_units t (class_descriptor name) || (same_units t (codes "Ljava/lang/Object;") || list_any (λ c. is_interface c.flags && same_units t (class_descriptor c.name)) p.classes)
+
 -- whether a value opens a field of this type: null stands for floats and doubles too, which no code reads
 abbrev pub opens : Program → List ℕ → Value → Bool
 opens p t (Int n) = fits_int (first_or 0 t) n
 opens p t (Long n) = nat_eq (first_or 0 t) 74
 opens p t Null = member (first_or 0 t) (68 ∷ 70 ∷ 76 ∷ 91 ∷ [])
-opens p t (Lit n) = cond (nat_eq n 0) (same_units t (codes "Ljava/io/PrintStream;")) (nat_le n (length p.literals) && same_units t (codes "Ljava/lang/String;"))
+opens p t (Lit n) = cond (nat_eq n 0) (takes p t (codes "java/io/PrintStream")) (nat_le n (length p.literals) && takes p t (codes "java/lang/String"))
 opens p t (Obj o) = false
 
 -- Opening values have their fields' types; that of an instance field is its type's default.

@@ -1,10 +1,10 @@
 -- The look-up of fields and methods (JVMS 5.4.3.2 to 5.4.3.4, without access).
-use Rattle.std.specs.Prelude.{ℕ, zero, suc, List, [], ◌∷◌, ◌++◌, Bool, true, false, not, ◌&&◌, cond, filter, flat_map, Option, Some, None}
+use Rattle.std.specs.Prelude.{ℕ, zero, suc, List, [], ◌∷◌, ◌++◌, Bool, not, ◌&&◌, cond, filter, flat_map, find, Option, Some, None}
 use Rattle.jvm_model.specs.declared.program.Program.{Program}
 use Rattle.jvm_model.specs.World.{same_units}
 use Rattle.jvm_model.specs.Builtin.{object_class}
 use Rattle.jvm_model.specs.Classes.{class_at, field_at, method_at, is_private, is_static, is_interface, class_bound, upwards, first_mentions, init_name}
-use Rattle.jvm_model.specs.Selection.{first_of, kept_of, has_code}
+use Rattle.jvm_model.specs.Selection.{kept_of, has_code}
 
 -- the field n has this name and descriptor
 abbrev pub is_field : Program → List ℕ → List ℕ → ℕ → Bool
@@ -24,7 +24,7 @@ field_path p c = field_path_in p class_bound c
 
 -- the field of a name and descriptor that a class has
 unfoldable pub find_field : Program → ℕ → List ℕ → List ℕ → Option ℕ
-find_field p c name descriptor = first_of (λ n. is_field p name descriptor n) (flat_map (λ d. (class_at p d).fields) (field_path p c))
+find_field p c name descriptor = find (λ n. is_field p name descriptor n) (flat_map (λ d. (class_at p d).fields) (field_path p c))
 
 -- an interface before its own superinterfaces, at most k steps up
 abbrev pub pedigree_in : Program → ℕ → ℕ → List ℕ
@@ -55,11 +55,11 @@ or_else (Some n) b = Some n
 
 -- the first method of a name and descriptor that one of these classes declares
 abbrev pub find_declared : Program → List ℕ → List ℕ → List ℕ → Option ℕ
-find_declared p name descriptor cs = first_of (λ n. is_method p name descriptor n) (flat_map (λ d. (class_at p d).methods) cs)
+find_declared p name descriptor cs = find (λ n. is_method p name descriptor n) (flat_map (λ d. (class_at p d).methods) cs)
 
 -- the instance methods of Object among the methods of a name and descriptor
 abbrev pub find_in_object : Program → List ℕ → List ℕ → Option ℕ
-find_in_object p name descriptor = first_of (λ n. is_method p name descriptor n && not (is_static (method_at p n).flags)) (class_at p object_class).methods
+find_in_object p name descriptor = find (λ n. is_method p name descriptor n && not (is_static (method_at p n).flags)) (class_at p object_class).methods
 
 -- The method of a name and descriptor that a class or interface has: one of a class is declared by it or a superclass, one
 -- of an interface by it or Object, else either comes from a superinterface. `<init>` is declared by the class itself.
@@ -67,5 +67,5 @@ unfoldable pub find_method : Program → ℕ → List ℕ → List ℕ → Optio
 find_method p c name descriptor = cond (same_units name init_name)
     (find_declared p name descriptor (c ∷ []))
     (cond (is_interface (class_at p c).flags)
-      (or_else (find_declared p name descriptor (c ∷ [])) (or_else (find_in_object p name descriptor) (find_in_interfaces p c name descriptor)))
-      (or_else (find_declared p name descriptor (upwards p c)) (find_in_interfaces p c name descriptor)))
+    (or_else (find_declared p name descriptor (c ∷ [])) (or_else (find_in_object p name descriptor) (find_in_interfaces p c name descriptor)))
+    (or_else (find_declared p name descriptor (upwards p c)) (find_in_interfaces p c name descriptor)))

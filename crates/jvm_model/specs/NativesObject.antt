@@ -1,5 +1,5 @@
 -- The built-in methods of Object and of the throwables.
-use Rattle.std.specs.Prelude.{ℕ, ℤ, pos, List, [], ◌∷◌, length, ◌+◌, Bool, cond, nat_eq, codes}
+use Rattle.std.specs.Prelude.{ℕ, pos, List, [], ◌∷◌, length, ◌+◌, cond, nat_eq, codes}
 use Rattle.std.specs.Fmt.{signed_decimal}
 use Rattle.jvm_model.specs.declared.values.Value.{Value}
 use Rattle.jvm_model.specs.declared.values.Value.TheVariants.{Int, Long, Null, Lit, Obj}
@@ -10,7 +10,7 @@ use Rattle.jvm_model.specs.declared.program.Program.{Program}
 use Rattle.jvm_model.specs.Access.{Access, read, write, spend}
 use Rattle.jvm_model.specs.Builtin.{message_field, string_class}
 use Rattle.jvm_model.specs.Kinds.{class_of}
-use Rattle.jvm_model.specs.Rows.{Answer, none_here, popping, on_int, on_long, on_object, on_reference, with_kind}
+use Rattle.jvm_model.specs.Rows.{Answer, none_here, popping, on_int, on_long, on_object, with_kind}
 use Rattle.jvm_model.specs.RowsBranches.{same_reference}
 use Rattle.jvm_model.specs.Working.{Working, operands, with_operands, answers, makes_text, char_of, boolean_text, truth}
 

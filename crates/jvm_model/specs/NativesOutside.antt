@@ -1,5 +1,5 @@
 -- The built-in methods of System, PrintStream, electric.Files and electric.Env.
-use Rattle.std.specs.Prelude.{ℕ, ℤ, pos, List, [], ◌∷◌, ◌++◌, length, ◌+◌, ◌*◌, ◌/◌, ◌%◌, ◌^◌, Bool, is_some, codes, Option, Some, None}
+use Rattle.std.specs.Prelude.{ℕ, pos, List, [], ◌∷◌, ◌++◌, length, ◌+◌, ◌*◌, ◌/◌, ◌%◌, ◌^◌, is_some, codes, Option, Some, None}
 use Rattle.std.specs.Int.{w32, cast_signed}
 use Rattle.std.specs.Fmt.{signed_decimal}
 use Rattle.et_base.specs.Numbers.{add64}
@@ -13,7 +13,7 @@ use Rattle.jvm_model.specs.declared.program.Program.{Program}
 use Rattle.jvm_model.specs.World.{text_or_empty}
 use Rattle.jvm_model.specs.Access.{Access, read, write, spend}
 use Rattle.jvm_model.specs.Rows.{Answer, none_here, popping, on_int, on_long, on_reference, on_text}
-use Rattle.jvm_model.specs.Working.{Working, operands, with_operands, answers, makes_text, answers_text, answers_found, prints, char_of, boolean_text, truth}
+use Rattle.jvm_model.specs.Working.{Working, operands, with_operands, answers, makes_text, answers_found, prints, char_of, boolean_text, truth}
 
 -- what comes with the texts of one argument, of two arguments in order; a null one throws before any is read
 abbrev pub one_text : Program → Working → (List ℕ → List Value → Access (Answer Working)) → Access (Answer Working)

@@ -1,5 +1,5 @@
 -- The built-in methods of String and StringBuilder.
-use Rattle.std.specs.Prelude.{ℕ, ℤ, pos, negsuc, List, [], ◌∷◌, ◌++◌, length, get_or, take, drop, ◌+◌, ◌-◌, ◌*◌, Bool, true, false, ◌&&◌, cond, nat_eq, nat_lt, nat_le, codes}
+use Rattle.std.specs.Prelude.{ℕ, ℤ, pos, negsuc, List, [], ◌∷◌, ◌++◌, length, get_or, take, drop, ◌+◌, ◌-◌, ◌*◌, false, ◌&&◌, cond, nat_eq, nat_lt, nat_le, codes}
 use Rattle.std.specs.Int.{w32, int_wrap}
 use Rattle.std.specs.Fmt.{signed_decimal}
 use Rattle.et_base.specs.Numbers.{l2i}

@@ -1,5 +1,5 @@
 -- Whole-number arithmetic (JVMS 6.5, under each instruction's name): no touch, no cost besides 1.
-use Rattle.std.specs.Prelude.{ℤ, ◌∷◌, List, Bool, true, false, cond, nat_lt, length, slice_get, pos, Option, Some, None, ℕ}
+use Rattle.std.specs.Prelude.{ℤ, ◌∷◌, Bool, true, false, cond, slice_get, pos, Option, Some, None, ℕ}
 use Rattle.std.specs.Ordering.{int_eq}
 use Rattle.std.specs.Int.{w32, w64, int_bit_and, int_bit_or, int_bit_xor}
 use Rattle.et_base.specs.Numbers.{add32, sub32, mul32, div32, rem32, neg32, shl32, shr32, ushr32, add64, sub64, mul64, div64, rem64, neg64, shl64, shr64, ushr64, i2l, l2i, i2b, i2c, i2s, lcmp}

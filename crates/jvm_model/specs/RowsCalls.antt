@@ -1,5 +1,5 @@
 -- The four invoke forms (JVMS 6.5).
-use Rattle.std.specs.Prelude.{ℕ, List, [], ◌∷◌, length, ◌+◌, Bool, true, false, cond, nat_le, slice_get, Option, Some, None}
+use Rattle.std.specs.Prelude.{ℕ, length, ◌+◌, cond, nat_le, slice_get, Option, Some, None}
 use Rattle.jvm_model.specs.declared.values.Value.{Value}
 use Rattle.jvm_model.specs.declared.values.Kind.{Kind}
 use Rattle.jvm_model.specs.declared.instr.Instr.{Instr}

@@ -1,5 +1,5 @@
 -- checkcast and instanceof (JVMS 6.5): the head of a nonnull object is read.
-use Rattle.std.specs.Prelude.{pos, ◌∷◌, List, Bool, cond}
+use Rattle.std.specs.Prelude.{pos, ◌∷◌, List, cond}
 use Rattle.jvm_model.specs.declared.values.Value.{Value}
 use Rattle.jvm_model.specs.declared.values.Value.TheVariants.{Int, Long, Null, Lit, Obj}
 use Rattle.jvm_model.specs.declared.values.Kind.{Kind}

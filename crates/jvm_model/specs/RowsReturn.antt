@@ -1,9 +1,8 @@
 -- Returns (JVMS 6.5): the entry is popped, and a value, narrowed to the method's return type, goes to the frame below.
-use Rattle.std.specs.Prelude.{List, [], ◌∷◌, Bool, true, false, Option, Some, None}
+use Rattle.std.specs.Prelude.{List, [], ◌∷◌, Some, None}
 use Rattle.jvm_model.specs.declared.values.Value.{Value}
 use Rattle.jvm_model.specs.declared.instr.Instr.{Instr}
 use Rattle.jvm_model.specs.declared.instr.Instr.TheVariants as form
-use Rattle.jvm_model.specs.declared.outcome.Next.{Next}
 use Rattle.jvm_model.specs.declared.outcome.Next.TheVariants.{Go, Leave}
 use Rattle.jvm_model.specs.declared.state.EntryKind.{EntryKind}
 use Rattle.jvm_model.specs.declared.state.EntryKind.TheVariants.{Absent, InMethod, InClass}

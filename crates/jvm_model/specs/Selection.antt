@@ -1,11 +1,12 @@
 -- Which method a call enters (JVMS 5.4.6 and 6.5; this project's reading of them is written here).
-use Rattle.std.specs.Prelude.{ℕ, List, [], ◌∷◌, ◌++◌, Bool, true, false, not, ◌&&◌, cond, nat_eq, filter, flat_map, is_some, Option, Some, None}
+use Rattle.std.specs.Prelude.{ℕ, List, [], ◌∷◌, Bool, not, ◌&&◌, cond, nat_eq, filter, flat_map, is_some, find, Option, Some, None}
+use Rattle.std.specs.List.{list_any}
 use Rattle.jvm_model.specs.declared.values.Kind.{Kind}
 use Rattle.jvm_model.specs.declared.values.Kind.TheVariants as kind
 use Rattle.jvm_model.specs.declared.program.Program.{Program}
 use Rattle.jvm_model.specs.World.{same_units}
 use Rattle.jvm_model.specs.Builtin.{abstract_method_error, class_change_error, object_class}
-use Rattle.jvm_model.specs.Classes.{class_at, method_at, is_private, is_static, is_interface, upwards, own_interfaces, first_mentions, implements, member, any, init_name}
+use Rattle.jvm_model.specs.Classes.{class_at, method_at, is_private, is_static, is_interface, upwards, own_interfaces, first_mentions, implements, member, init_name}
 
 -- the method that a call enters, or the class of the error that it throws
 pub data Selected : Type 0 where
@@ -20,13 +21,9 @@ is_like p m n = not (is_static (method_at p n).flags) && (same_units (method_at 
 abbrev pub is_open_like : Program → ℕ → ℕ → Bool
 is_open_like p m n = not (is_private (method_at p n).flags) && is_like p m n
 
-abbrev pub first_of : (ℕ → Bool) → List ℕ → Option ℕ
-first_of f [] = None
-first_of f (x ∷ xs) = cond (f x) (Some x) (first_of f xs)
-
 -- the first method with the property f that these classes declare, class by class
 abbrev pub declared_in : Program → (ℕ → Bool) → List ℕ → Option ℕ
-declared_in p f cs = first_of f (flat_map (λ c. (class_at p c).methods) cs)
+declared_in p f cs = find f (flat_map (λ c. (class_at p c).methods) cs)
 
 -- the superinterfaces of a class, those of its superclasses among them
 abbrev pub all_interfaces : Program → ℕ → List ℕ
@@ -42,7 +39,7 @@ redeclares p n x = member (method_at p x).class (own_interfaces p (method_at p n
 
 -- of these methods each that no subinterface among them redeclares
 abbrev pub kept_of : Program → List ℕ → List ℕ
-kept_of p ms = filter (λ x. not (any (λ n. redeclares p n x) ms)) ms
+kept_of p ms = filter (λ x. not (list_any (λ n. redeclares p n x) ms)) ms
 
 abbrev pub has_code : Program → ℕ → Bool
 has_code p m = is_some (method_at p m).body

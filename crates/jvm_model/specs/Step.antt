@@ -1,5 +1,5 @@
 -- The step of the machine: one case for each row of the table of steps.
-use Rattle.std.specs.Prelude.{Option, Some, None}
+use Rattle.std.specs.Prelude.{ℕ, List, Option, Some, None}
 use Rattle.jvm_model.specs.declared.values.Value.{Value}
 use Rattle.jvm_model.specs.declared.instr.Instr.{Instr}
 use Rattle.jvm_model.specs.declared.instr.Instr.TheVariants as form
@@ -8,7 +8,9 @@ use Rattle.jvm_model.specs.declared.outcome.Next.TheVariants.{Go, Fault, Raise, 
 use Rattle.jvm_model.specs.declared.state.EntryKind.{EntryKind}
 use Rattle.jvm_model.specs.declared.state.EntryKind.TheVariants.{Absent, InMethod, InClass}
 use Rattle.jvm_model.specs.declared.program.Program.{Program}
-use Rattle.jvm_model.specs.Access.{Access, done, spend, bind}
+use Rattle.jvm_model.specs.declared.values.Touch.{Touch}
+use Rattle.jvm_model.specs.World.{World}
+use Rattle.jvm_model.specs.Access.{Access, done, spend, bind, run}
 use Rattle.jvm_model.specs.Classes.{method_at, form_at}
 use Rattle.jvm_model.specs.Entries.{Entries}
 use Rattle.jvm_model.specs.Rows.{Answer, answer, no_row, popping, on_object, none_here}
@@ -146,3 +148,13 @@ acts p (InClass b) (Some v) s = bind (row_fail p v s.entries) (after_row p s)
 -- the step: each costs 1 and what its row lists
 unfoldable pub step : Program → State → Access Turn
 step p s = spend 1 (acts p s.entries.top.kind s.raised s)
+
+-- what the step costs, what it touches, and how it ends, in a world
+abbrev pub cost : Program → State → World → ℕ
+cost p s w = (run (step p s) w).units
+
+abbrev pub touch : Program → State → World → List Touch
+touch p s w = (run (step p s) w).touches
+
+abbrev pub turn : Program → State → World → Turn
+turn p s w = (run (step p s) w).value

@@ -1,5 +1,5 @@
 -- One test, and lists of tests on one heap.
-use Rattle.std.specs.Prelude.{◌≡◌, ℕ, zero, suc, ◌+◌, ◌-◌, List, [], ◌∷◌, map, length, slice_get, Bool, true, false, cond, nat_le, min, Option, Some, None}
+use Rattle.std.specs.Prelude.{ℕ, zero, suc, ◌+◌, ◌-◌, List, [], ◌∷◌, map, length, slice_get, Bool, true, false, cond, nat_le, min, Option, Some, None}
 use Rattle.std.specs.List.{range_with_len}
 use Rattle.jvm_model.specs.declared.values.InitState.TheVariants.{Idle}
 use Rattle.jvm_model.specs.declared.values.Touch.{Touch}

@@ -1,5 +1,5 @@
 -- What built-in methods work on, and the combinators of their rows.
-use Rattle.std.specs.Prelude.{ℕ, ℤ, pos, negsuc, List, [], ◌∷◌, ◌++◌, length, ◌+◌, Bool, cond, codes, Option, Some, None}
+use Rattle.std.specs.Prelude.{ℕ, ℤ, pos, negsuc, List, ◌∷◌, ◌++◌, length, ◌+◌, Bool, cond, codes, Option, Some, None}
 use Rattle.jvm_model.specs.declared.values.Value.{Value}
 use Rattle.jvm_model.specs.declared.values.Value.TheVariants.{Int, Null, Obj}
 use Rattle.jvm_model.specs.declared.values.Location.TheVariants as place
@@ -12,7 +12,6 @@ use Rattle.jvm_model.specs.Classes.{blank, instance_head, next_place}
 use Rattle.jvm_model.specs.Entries.{Entries, with_stack, with_place}
 use Rattle.jvm_model.specs.Narrow.{narrow_int}
 use Rattle.jvm_model.specs.Rows.{Answer, answer}
-use Rattle.std.specs.Int.{int_rem_euclid}
 use Rattle.std.specs.Ordering.{int_eq}
 
 -- the entries, and what the test has of its own

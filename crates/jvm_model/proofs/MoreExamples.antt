@@ -1,0 +1,158 @@
+-- Branches, arrays, strings, calls and budgets by computation.
+use Rattle.std.proofs.Common.{◌≡◌, ℕ, List, [], ◌∷◌, ◌++◌, Option, Some, None, refl, pos, false}
+use Rattle.std.specs.Prelude.{codes}
+use Rattle.std.specs.Fmt.{digits}
+use Rattle.std.specs.Char.Utf16.{utf16_chars}
+use lib.Utf8.{encode}
+use Rattle.std.specs.Int.{int_wrap}
+use Rattle.et_base.specs.Numbers.{add32, add64, l2i}
+use Rattle.jvm_model.specs.Kinds.{class_fits, kind_fits}
+use Rattle.jvm_model.specs.RowsArrays.{row_arrays}
+use Rattle.jvm_model.specs.declared.values.Value.TheVariants.{Int, Long, Null}
+use Rattle.jvm_model.specs.declared.values.Base.TheVariants as base
+use Rattle.jvm_model.specs.declared.values.Location.TheVariants as place
+use Rattle.jvm_model.specs.declared.outcome.Outcome.{Outcome}
+use Rattle.jvm_model.specs.declared.instr.Cell.TheVariants as cell
+use Rattle.jvm_model.specs.declared.instr.Conv.TheVariants as conv
+use Rattle.jvm_model.specs.declared.instr.Instr.{Instr}
+use Rattle.jvm_model.specs.declared.values.Kind.TheVariants as kind
+use Rattle.jvm_model.specs.declared.instr.Instr.TheVariants as form
+use Rattle.jvm_model.specs.declared.instr.Op.TheVariants.{Add}
+use Rattle.jvm_model.specs.declared.instr.Sort.TheVariants as sort
+use Rattle.jvm_model.specs.declared.instr.IfTest.TheVariants as if_test
+use Rattle.jvm_model.specs.declared.program.Program.{Program}
+use Rattle.jvm_model.specs.Library.{builtin_defs, builtin_classes, builtin_fields, builtin_methods}
+use Rattle.jvm_model.specs.Classes.{class_bound, own_interfaces, is_below, implements, default_interfaces, is_trivial, layout, blank, form_at, next_place}
+use Rattle.jvm_model.specs.Descriptors.{parameters, return_type}
+use Rattle.jvm_model.specs.Narrow.{narrow}
+use Rattle.jvm_model.specs.Suite.{Given, opening, tree, one_test, runs, all_tests, suite_limit, over_budget, suite_fault}
+use Rattle.jvm_model.specs.Step.{step, row, row_here, row_throw}
+use Rattle.jvm_model.specs.Throwing.{throws}
+use Rattle.jvm_model.specs.Raising.{row_raise, handler_for}
+use Rattle.jvm_model.specs.Initialise.{row_finish, row_fail, parts_of}
+use Rattle.jvm_model.specs.Rows.{begin}
+use Rattle.jvm_model.specs.RowsMoves.{row_moves}
+use Rattle.jvm_model.specs.RowsArith.{row_arith}
+use Rattle.jvm_model.specs.RowsBranches.{row_branches, lookup_target}
+use Rattle.jvm_model.specs.RowsStatics.{row_statics, read_static, write_static}
+use Rattle.jvm_model.specs.RowsFields.{row_fields}
+use Rattle.jvm_model.specs.RowsCreate.{nest, children, nest_cost, row_create, new_object}
+use Rattle.jvm_model.specs.RowsCalls.{row_calls, calls, argument_count}
+use Rattle.jvm_model.specs.RowsReturn.{row_return, hands_on}
+use Rattle.jvm_model.specs.Selection.{kept_method, select, select_virtual, select_interface, select_special}
+use Rattle.jvm_model.specs.Natives.{row_native}
+use Rattle.jvm_model.specs.NativesObject.{native_object, native_throwable}
+use Rattle.jvm_model.specs.NativesString.{native_string, native_builder, hash_of}
+use Rattle.jvm_model.specs.NativesOutside.{native_system, native_print, native_files, native_env}
+use Rattle.jvm_model.specs.Driver.{drive, drives, drive_first, drive_init, drive_set_up, drive_method, drive_tear_down, judge}
+use Rattle.jvm_model.proofs.ExampleParts.{program, class, body, fixed, plain, test, int_const, literal, static_int, get_static, put_static, returns, load_this, print, print_number, outcomes, places, last_places, passed, error, line}
+
+-- `<init>` that calls that of Object
+abbrev plain_init : List (ℕ × Instr)
+plain_init = load_this ∷ (3, form.InvokeSpecial (kind.Class 0) 0) ∷ returns ∷ []
+
+abbrev outcome_of : Option Given → Option Outcome
+outcome_of None = None
+outcome_of (Some x) = Some x.outcome
+
+-- a loop that adds the numbers below 10
+abbrev sum_suite : Program
+sum_suite = program (class (codes "Q") [] (102 ∷ []) ∷ []) []
+    (fixed 32 (codes "sum") (codes "()V") (body 2 2 (int_const 0 ∷ (1, form.Store sort.Int 0) ∷ int_const 0 ∷ (1, form.Store sort.Int 1)
+    ∷ (1, form.Load sort.Int 1) ∷ (2, form.Const (Int (pos 10))) ∷ (3, form.IfInts if_test.Ge 20) ∷ (1, form.Load sort.Int 0) ∷ (1, form.Load sort.Int 1) ∷ (1, form.Binary Add false) ∷ (1, form.Store sort.Int 0)
+    ∷ (3, form.Inc 1 (pos 1)) ∷ (3, form.Goto 4) ∷ (1, form.Load sort.Int 0) ∷ print_number)) ∷ [])
+    [] (test 32 102 ∷ [])
+
+sum_runs : outcomes (runs sum_suite (all_tests sum_suite)) ≡ Some (passed (line (codes "45")) 109 ∷ [])
+unfolding builtin_classes builtin_fields builtin_methods builtin_defs class_bound own_interfaces is_below implements default_interfaces is_trivial layout blank form_at next_place parameters return_type narrow opening tree one_test runs step row row_here row_throw throws row_raise handler_for row_finish row_fail parts_of begin row_moves row_arith row_branches row_statics read_static write_static row_fields row_create new_object row_calls calls argument_count row_return hands_on kept_method select select_virtual select_interface select_special row_native native_object native_throwable native_string native_builder native_system native_print native_files native_env drive drives drive_first drive_init drive_set_up drive_method drive_tear_down judge digits add64 utf16_chars encode add32 int_wrap lookup_target hash_of nest children nest_cost row_arrays kind_fits class_fits l2i
+sum_runs = refl
+
+-- one unit less is too few
+sum_under : outcome_of (one_test sum_suite (opening sum_suite) 1 108) ≡ None
+unfolding builtin_classes builtin_fields builtin_methods builtin_defs class_bound own_interfaces is_below implements default_interfaces is_trivial layout blank form_at next_place parameters return_type narrow opening tree one_test runs step row row_here row_throw throws row_raise handler_for row_finish row_fail parts_of begin row_moves row_arith row_branches row_statics read_static write_static row_fields row_create new_object row_calls calls argument_count row_return hands_on kept_method select select_virtual select_interface select_special row_native native_object native_throwable native_string native_builder native_system native_print native_files native_env drive drives drive_first drive_init drive_set_up drive_method drive_tear_down judge digits add64 utf16_chars encode add32 int_wrap lookup_target hash_of nest children nest_cost row_arrays kind_fits class_fits l2i
+sum_under = refl
+
+-- an array of two arrays of three ints: 12 units for it, and its touches
+abbrev grid_suite : Program
+grid_suite = program (class (codes "G") [] (102 ∷ []) ∷ []) []
+    (fixed 32 (codes "grid") (codes "()V") (body 2 0 (int_const 2 ∷ int_const 3 ∷ (4, form.MultiNewArray (kind.Array 2 base.Int) 2) ∷ int_const 1 ∷ (1, form.ArrayLoad cell.Ref) ∷ (1, form.ArrayLength) ∷ print_number)) ∷ [])
+    [] (test 32 102 ∷ [])
+
+grid_runs : outcomes (runs grid_suite (all_tests grid_suite)) ≡ Some (passed (line (codes "3")) 25 ∷ [])
+unfolding builtin_classes builtin_fields builtin_methods builtin_defs class_bound own_interfaces is_below implements default_interfaces is_trivial layout blank form_at next_place parameters return_type narrow opening tree one_test runs step row row_here row_throw throws row_raise handler_for row_finish row_fail parts_of begin row_moves row_arith row_branches row_statics read_static write_static row_fields row_create new_object row_calls calls argument_count row_return hands_on kept_method select select_virtual select_interface select_special row_native native_object native_throwable native_string native_builder native_system native_print native_files native_env drive drives drive_first drive_init drive_set_up drive_method drive_tear_down judge digits add64 utf16_chars encode add32 int_wrap lookup_target hash_of nest children nest_cost row_arrays kind_fits class_fits l2i
+grid_runs = refl
+
+grid_touches : last_places (places (runs grid_suite (all_tests grid_suite))) ≡
+    place.Head 0 ∷ place.Elem 0 0 ∷ place.Elem 0 1
+    ∷ place.Head 1 ∷ place.Elem 1 0 ∷ place.Elem 1 1 ∷ place.Elem 1 2 ∷ place.Elem 0 0
+    ∷ place.Head 2 ∷ place.Elem 2 0 ∷ place.Elem 2 1 ∷ place.Elem 2 2 ∷ place.Elem 0 1
+    ∷ place.Head 0 ∷ place.Elem 0 1 ∷ place.Head 2 ∷ []
+unfolding builtin_classes builtin_fields builtin_methods builtin_defs class_bound own_interfaces is_below implements default_interfaces is_trivial layout blank form_at next_place parameters return_type narrow opening tree one_test runs step row row_here row_throw throws row_raise handler_for row_finish row_fail parts_of begin row_moves row_arith row_branches row_statics read_static write_static row_fields row_create new_object row_calls calls argument_count row_return hands_on kept_method select select_virtual select_interface select_special row_native native_object native_throwable native_string native_builder native_system native_print native_files native_env drive drives drive_first drive_init drive_set_up drive_method drive_tear_down judge digits add64 utf16_chars encode add32 int_wrap lookup_target hash_of nest children nest_cost row_arrays kind_fits class_fits l2i
+grid_touches = refl
+
+-- a String is stored into an array of Throwables, and null past its end
+abbrev store_suite : Program
+store_suite = program (class (codes "S") [] (102 ∷ 103 ∷ []) ∷ []) []
+    (fixed 32 (codes "store") (codes "()V") (body 3 0 (int_const 1 ∷ (3, form.NewArray (kind.Array 1 (base.Class 7))) ∷ int_const 0 ∷ literal 1 ∷ (1, form.ArrayStore cell.Ref) ∷ returns ∷ []))
+    ∷ fixed 32 (codes "beyond") (codes "()V") (body 3 0 (int_const 1 ∷ (3, form.NewArray (kind.Array 1 (base.Class 7))) ∷ int_const 1 ∷ (1, form.Const Null) ∷ (1, form.ArrayStore cell.Ref) ∷ returns ∷ [])) ∷ [])
+    (codes "x" ∷ []) (test 32 102 ∷ test 32 103 ∷ [])
+
+store_runs : outcomes (runs store_suite (all_tests store_suite)) ≡ Some (error 21 None [] 15 ∷ error 29 None [] 15 ∷ [])
+unfolding builtin_classes builtin_fields builtin_methods builtin_defs class_bound own_interfaces is_below implements default_interfaces is_trivial layout blank form_at next_place parameters return_type narrow opening tree one_test runs step row row_here row_throw throws row_raise handler_for row_finish row_fail parts_of begin row_moves row_arith row_branches row_statics read_static write_static row_fields row_create new_object row_calls calls argument_count row_return hands_on kept_method select select_virtual select_interface select_special row_native native_object native_throwable native_string native_builder native_system native_print native_files native_env drive drives drive_first drive_init drive_set_up drive_method drive_tear_down judge digits add64 utf16_chars encode add32 int_wrap lookup_target hash_of nest children nest_cost row_arrays kind_fits class_fits l2i
+store_runs = refl
+
+-- substring, concat and charAt; the last is out of range
+abbrev text_suite : Program
+text_suite = program (class (codes "T") [] (102 ∷ 103 ∷ []) ∷ []) []
+    (fixed 32 (codes "parts") (codes "()V") (body 3 0 (get_static 0 ∷ literal 1 ∷ int_const 1 ∷ int_const 3 ∷ (3, form.InvokeVirtual (kind.Class 1) 9) ∷ literal 2 ∷ (3, form.InvokeVirtual (kind.Class 1) 10)
+    ∷ (3, form.InvokeVirtual (kind.Class 4) 34) ∷ returns ∷ []))
+    ∷ fixed 32 (codes "beyond") (codes "()V") (body 2 0 (literal 1 ∷ int_const 4 ∷ (3, form.InvokeVirtual (kind.Class 1) 5) ∷ print_number)) ∷ [])
+    (codes "abcd" ∷ codes "!" ∷ []) (test 32 102 ∷ test 32 103 ∷ [])
+
+text_runs : outcomes (runs text_suite (all_tests text_suite)) ≡ Some (passed (line (codes "bc!")) 25 ∷ error 30 None [] 10 ∷ [])
+unfolding builtin_classes builtin_fields builtin_methods builtin_defs class_bound own_interfaces is_below implements default_interfaces is_trivial layout blank form_at next_place parameters return_type narrow opening tree one_test runs step row row_here row_throw throws row_raise handler_for row_finish row_fail parts_of begin row_moves row_arith row_branches row_statics read_static write_static row_fields row_create new_object row_calls calls argument_count row_return hands_on kept_method select select_virtual select_interface select_special row_native native_object native_throwable native_string native_builder native_system native_print native_files native_env drive drives drive_first drive_init drive_set_up drive_method drive_tear_down judge digits add64 utf16_chars encode add32 int_wrap lookup_target hash_of nest children nest_cost row_arrays kind_fits class_fits l2i
+text_runs = refl
+
+-- a long is copied below an int: dup2_x1
+abbrev moves_suite : Program
+moves_suite = program (class (codes "M") [] (102 ∷ []) ∷ []) []
+    (fixed 32 (codes "moves") (codes "()V") (body 6 0 ((1, form.Const (Int (pos 7))) ∷ (1, form.Const (Long (pos 1))) ∷ (1, form.Dup2X1) ∷ (1, form.Pop2) ∷ print ∷ (1, form.Convert conv.L2i) ∷ print_number)) ∷ [])
+    [] (test 32 102 ∷ [])
+
+moves_runs : outcomes (runs moves_suite (all_tests moves_suite)) ≡ Some (passed (line (codes "7") ++ line (codes "1")) 20 ∷ [])
+unfolding builtin_classes builtin_fields builtin_methods builtin_defs class_bound own_interfaces is_below implements default_interfaces is_trivial layout blank form_at next_place parameters return_type narrow opening tree one_test runs step row row_here row_throw throws row_raise handler_for row_finish row_fail parts_of begin row_moves row_arith row_branches row_statics read_static write_static row_fields row_create new_object row_calls calls argument_count row_return hands_on kept_method select select_virtual select_interface select_special row_native native_object native_throwable native_string native_builder native_system native_print native_files native_env drive drives drive_first drive_init drive_set_up drive_method drive_tear_down judge digits add64 utf16_chars encode add32 int_wrap lookup_target hash_of nest children nest_cost row_arrays kind_fits class_fits l2i
+moves_runs = refl
+
+-- a method that a superclass has is called past the one that overrides it, and an abstract one throws
+abbrev super_suite : Program
+super_suite = program
+    (record (class (codes "Up") [] (102 ∷ 103 ∷ 104 ∷ [])) { flags = 0x0400 }
+    ∷ record (class (codes "Down") [] (105 ∷ 106 ∷ 107 ∷ 108 ∷ [])) { superclass = Some 32 } ∷ [])
+    []
+    (plain 32 (codes "<init>") (codes "()V") (body 1 1 plain_init)
+    ∷ plain 32 (codes "m") (codes "()V") (body 1 1 (int_const 1 ∷ print_number))
+    ∷ record { class = 32; name = codes "a"; descriptor = codes "()V"; flags = 0x0400; native = None; body = None }
+    ∷ plain 33 (codes "<init>") (codes "()V") (body 1 1 (load_this ∷ (3, form.InvokeSpecial (kind.Class 32) 102) ∷ returns ∷ []))
+    ∷ plain 33 (codes "m") (codes "()V") (body 1 1 (int_const 2 ∷ print_number))
+    ∷ plain 33 (codes "over") (codes "()V") (body 1 1 (load_this ∷ (3, form.InvokeVirtual (kind.Class 32) 103) ∷ load_this ∷ (3, form.InvokeSpecial (kind.Class 32) 103) ∷ returns ∷ []))
+    ∷ plain 33 (codes "bare") (codes "()V") (body 1 1 (load_this ∷ (3, form.InvokeVirtual (kind.Class 32) 104) ∷ returns ∷ [])) ∷ [])
+    [] (test 33 107 ∷ test 33 108 ∷ [])
+
+super_runs : outcomes (runs super_suite (all_tests super_suite)) ≡ Some (passed (line (codes "2") ++ line (codes "1")) 36 ∷ error 16 None [] 22 ∷ [])
+unfolding builtin_classes builtin_fields builtin_methods builtin_defs class_bound own_interfaces is_below implements default_interfaces is_trivial layout blank form_at next_place parameters return_type narrow opening tree one_test runs step row row_here row_throw throws row_raise handler_for row_finish row_fail parts_of begin row_moves row_arith row_branches row_statics read_static write_static row_fields row_create new_object row_calls calls argument_count row_return hands_on kept_method select select_virtual select_interface select_special row_native native_object native_throwable native_string native_builder native_system native_print native_files native_env drive drives drive_first drive_init drive_set_up drive_method drive_tear_down judge digits add64 utf16_chars encode add32 int_wrap lookup_target hash_of nest children nest_cost row_arrays kind_fits class_fits l2i
+super_runs = refl
+
+-- a static that is set and printed, under a budget of each test
+abbrev counter_suite : ℕ → Program
+counter_suite b = program (class (codes "Counter") (2 ∷ []) (102 ∷ 103 ∷ []) ∷ []) (static_int 32 (codes "n") ∷ [])
+    (fixed 32 (codes "set") (codes "()V") (body 1 0 (int_const 5 ∷ put_static 2 ∷ returns ∷ []))
+    ∷ fixed 32 (codes "show") (codes "()V") (body 1 0 (get_static 2 ∷ print_number)) ∷ [])
+    [] (record (test 32 102) { budget = b } ∷ record (test 32 103) { budget = b } ∷ [])
+
+budget_kept : suite_fault (counter_suite 8) ≡ None
+unfolding builtin_classes builtin_fields builtin_methods builtin_defs class_bound own_interfaces is_below implements default_interfaces is_trivial layout blank form_at next_place parameters return_type narrow opening tree one_test runs step row row_here row_throw throws row_raise handler_for row_finish row_fail parts_of begin row_moves row_arith row_branches row_statics read_static write_static row_fields row_create new_object row_calls calls argument_count row_return hands_on kept_method select select_virtual select_interface select_special row_native native_object native_throwable native_string native_builder native_system native_print native_files native_env drive drives drive_first drive_init drive_set_up drive_method drive_tear_down judge digits add64 utf16_chars encode add32 int_wrap lookup_target hash_of nest children nest_cost row_arrays kind_fits class_fits l2i suite_fault suite_limit
+budget_kept = refl
+
+budget_passed : suite_fault (counter_suite 7) ≡ Some (over_budget 2 7)
+unfolding builtin_classes builtin_fields builtin_methods builtin_defs class_bound own_interfaces is_below implements default_interfaces is_trivial layout blank form_at next_place parameters return_type narrow opening tree one_test runs step row row_here row_throw throws row_raise handler_for row_finish row_fail parts_of begin row_moves row_arith row_branches row_statics read_static write_static row_fields row_create new_object row_calls calls argument_count row_return hands_on kept_method select select_virtual select_interface select_special row_native native_object native_throwable native_string native_builder native_system native_print native_files native_env drive drives drive_first drive_init drive_set_up drive_method drive_tear_down judge digits add64 utf16_chars encode add32 int_wrap lookup_target hash_of nest children nest_cost row_arrays kind_fits class_fits l2i suite_fault suite_limit
+budget_passed = refl
