@@ -1,6 +1,6 @@
 -- One lemma for each combinator of the rows: what it asks, and what comes after it.
-use Rattle.std.proofs.Common.{◌≡◌, ℕ, ℤ, zero, suc, ◌<◌, ◌+◌, ◌-◌, List, [], ◌∷◌, ◌++◌, length, map, get_or, slice_get, replicate, Bool, true, false, ◌||◌, cond, nat_eq, pos, refl, sym, ◌∙◌, ap, subst, inl, inr, arith, Option, Some, None}
-use Rattle.std.proofs.lemmas.Bool.{cases_Bool, cases_eq, eqb-true}
+use Rattle.std.proofs.Common.{◌≡◌, ℕ, ℤ, ◌<◌, ◌-◌, List, [], ◌∷◌, length, map, get_or, slice_get, Bool, true, false, ◌||◌, cond, nat_eq, pos, refl, sym, ◌∙◌, ap, subst, inl, inr, arith, Some}
+use Rattle.std.proofs.lemmas.Bool.{cases_Bool, eqb-true}
 use Rattle.std.proofs.lemmas.List.{length-replicate, get_or-replicate}
 use Rattle.jvm_model.specs.declared.values.Value.{Value}
 use Rattle.jvm_model.specs.declared.values.Value.TheVariants.{Int, Long, Null, Lit, Obj}
@@ -15,15 +15,15 @@ use Rattle.jvm_model.specs.declared.values.Location.TheVariants as place
 use Rattle.jvm_model.specs.declared.outcome.Next.{Next}
 use Rattle.jvm_model.specs.declared.outcome.Next.TheVariants.{Go, Fault}
 use Rattle.jvm_model.specs.declared.program.Program.{Program}
-use Rattle.jvm_model.specs.World.{Object, look}
-use Rattle.jvm_model.specs.Access.{Access, done, read, write, make, spend, bind}
+use Rattle.jvm_model.specs.World.{look}
+use Rattle.jvm_model.specs.Access.{Access, done, read, write, bind}
 use Rattle.jvm_model.specs.Builtin.{null_pointer_exception, no_class_error, stack_overflow_error}
 use Rattle.jvm_model.specs.Classes.{field_at, member, is_trivial, layout, default_of, literal_at, next_place, element_default, fields_of, elems_of, blank}
 use Rattle.jvm_model.specs.Entries.{Entries, with_stack, with_place, with_entry, class_entry, is_full}
-use Rattle.jvm_model.specs.Rows.{Answer, answer, goes_on, popping, on_int, on_long, on_object, on_reference, constant_kind, with_kind, on_text, Used, ready, begun, refused, begun_at, begin, once, using}
+use Rattle.jvm_model.specs.Rows.{Answer, popping, on_int, on_long, on_object, on_reference, constant_kind, with_kind, on_text, ready, begun, refused, begun_at, begin, once, using}
 use Rattle.jvm_model.specs.View.{keys}
 use Rattle.check_sound.specs.Types.{Types, ValueType, int_type, long_type, reference, HasKind, HasType, HasTypes, element_type}
-use Rattle.check_sound.specs.Typed.{IsNew, TypedAccess, typed_done, typed_read, typed_write, typed_make, typed_spend, Grows, Leaves, AreSound, NoConstant}
+use Rattle.check_sound.specs.Typed.{IsNew, TypedAccess, typed_done, typed_read, typed_write, Grows, Leaves, AreSound, NoConstant}
 use Rattle.check_sound.proofs.Worlds.{type_grows}
 
 -- a value that is a reference and isn't null
@@ -150,12 +150,14 @@ module _ (p : Program) (ty : Types) (sound : AreSound p ty) where
   pub blank-new : (hs : List Head) (h : Head) → IsNew p ty hs (blank p h)
   unfolding blank
   blank-new hs h = record {
-    fields = λ c f e i. let r = celled (layout p c) f i in
-        ( subst (λ (k : Kind). member f (keys (fields_of p k)) ≡ true) (sym e) r.there,
-          subst (λ (k : Kind). HasType ty hs (ty.declared (field_at p f).descriptor) (look nat_eq Null (fields_of p k) f)) (sym e)
-            (subst (λ (v : Value). HasType ty hs (ty.declared (field_at p f).descriptor) v) (sym r.holds) (type_grows ty [] hs (from_none hs) _ _ (sound.default f))) );
-    elems = λ d i b e lt.
-        ( subst (λ (k : Kind). i < length (elems_of k h.length)) (sym e) (let n = length-replicate h.length (element_default d b) in omega arith),
-          subst (λ (k : Kind). HasType ty hs (element_type k) (get_or (elems_of k h.length) i Null)) (sym e)
-            (subst (λ (v : Value). HasType ty hs (element_type (kind.Array d b)) v) (sym (get_or-replicate h.length i (element_default d b) Null lt)) (element-default hs d b)) );
+    fields = λ c f e i. let r = celled (layout p c) f i in (
+      subst (λ (k : Kind). member f (keys (fields_of p k)) ≡ true) (sym e) r.there,
+      subst (λ (k : Kind). HasType ty hs (ty.declared (field_at p f).descriptor) (look nat_eq Null (fields_of p k) f)) (sym e)
+          (subst (λ (v : Value). HasType ty hs (ty.declared (field_at p f).descriptor) v) (sym r.holds) (type_grows ty [] hs (from_none hs) _ _ (sound.default f))),
+    );
+    elems = λ d i b e lt. (
+      subst (λ (k : Kind). i < length (elems_of k h.length)) (sym e) (let n = length-replicate h.length (element_default d b) in omega arith),
+      subst (λ (k : Kind). HasType ty hs (element_type k) (get_or (elems_of k h.length) i Null)) (sym e)
+          (subst (λ (v : Value). HasType ty hs (element_type (kind.Array d b)) v) (sym (get_or-replicate h.length i (element_default d b) Null lt)) (element-default hs d b)),
+    );
   }

@@ -1,5 +1,5 @@
 -- Typing lemmas for built-in methods, one with a text and one with a file, and for the driver and what it judges.
-use Rattle.std.proofs.Common.{◌≡◌, ℕ, ◌<◌, ◌+◌, List, [], ◌∷◌, ◌++◌, length, slice_get, Bool, true, false, cond, refl, sym, ◌∙◌, ap, subst, Option, Some, None}
+use Rattle.std.proofs.Common.{◌≡◌, ℕ, List, [], ◌∷◌, ◌++◌, length, Bool, true, false, cond, subst, Option, Some, None}
 use Rattle.jvm_model.specs.declared.values.Value.{Value}
 use Rattle.jvm_model.specs.declared.values.Value.TheVariants.{Int, Long, Null, Lit, Obj}
 use Rattle.jvm_model.specs.declared.values.Kind.{Kind}
@@ -11,19 +11,18 @@ use Rattle.jvm_model.specs.declared.outcome.Next.{Next}
 use Rattle.jvm_model.specs.declared.outcome.Next.TheVariants.{Go, Fault}
 use Rattle.jvm_model.specs.declared.outcome.Verdict.{Verdict}
 use Rattle.jvm_model.specs.declared.program.Program.{Program}
-use Rattle.jvm_model.specs.Access.{Access, done, read, write, make, spend}
+use Rattle.jvm_model.specs.Access.{Access}
 use Rattle.jvm_model.specs.Builtin.{null_pointer_exception, string_class, message_field, assertion_error}
 use Rattle.jvm_model.specs.Classes.{field_at, blank, instance_head, is_below, literal_at}
 use Rattle.jvm_model.specs.Kinds.{class_of}
-use Rattle.jvm_model.specs.Rows.{Answer}
-use Rattle.jvm_model.specs.Working.{Working, operands, with_operands, answers, makes_text, answers_text, answers_found}
+use Rattle.jvm_model.specs.Working.{Working, operands, with_operands, answers_text, answers_found}
 use Rattle.jvm_model.specs.NativesString.{length_int, native_string}
 use Rattle.jvm_model.specs.NativesOutside.{native_files}
 use Rattle.jvm_model.specs.Throwing.{throws}
-use Rattle.jvm_model.specs.State.{State, Turn, next, ended, raise}
+use Rattle.jvm_model.specs.State.{State, Turn, ended, raise}
 use Rattle.jvm_model.specs.Driver.{judged, judged_message, judge}
 use Rattle.check_sound.specs.Types.{Types, ValueType, int_type, reference, HasKind, HasType, HasTypes}
-use Rattle.check_sound.specs.Typed.{IsPlace, TypedAccess, typed_done, typed_read, typed_write, typed_make, typed_spend, Grows, Turns, AreSound}
+use Rattle.check_sound.specs.Typed.{IsPlace, TypedAccess, typed_done, typed_read, typed_write, typed_make, typed_spend, Turns, AreSound}
 use Rattle.check_sound.proofs.Worlds.{grows_one, newest_head}
 use Rattle.check_sound.proofs.Combinators.{gone_on, Row, popping-typed, on_text-typed, blank-new}
 use Rattle.check_sound.proofs.Rows.{types_grow}

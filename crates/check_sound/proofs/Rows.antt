@@ -1,8 +1,8 @@
 -- A typing lemma for one row of each group: what it asks of the operands, and what comes after it. Which states are good is
 -- the user's to say (G).
-use Rattle.std.proofs.Common.{◌≡◌, ℕ, ℤ, zero, suc, ◌<◌, ◌+◌, List, [], ◌∷◌, ◌++◌, length, slice_get, Bool, true, false, ◌&&◌, not, cond, nat_lt, nat_le, pos, negsuc, refl, sym, ◌∙◌, ap, subst, inl, inr, arith, Option, Some, None}
+use Rattle.std.proofs.Common.{◌≡◌, ℕ, ℤ, ◌<◌, ◌+◌, List, [], ◌∷◌, ◌++◌, length, slice_get, Bool, true, false, ◌&&◌, not, cond, nat_lt, nat_le, pos, negsuc, refl, sym, subst, Option, Some, None}
 use Rattle.std.specs.Ordering.{int_eq}
-use Rattle.std.proofs.lemmas.Bool.{cases_Bool, ltb-true}
+use Rattle.std.proofs.lemmas.Bool.{ltb-true}
 use Rattle.jvm_model.specs.declared.values.Value.{Value}
 use Rattle.jvm_model.specs.declared.values.Value.TheVariants.{Int, Long, Null, Lit, Obj}
 use Rattle.jvm_model.specs.declared.values.Base.{Base}
@@ -16,13 +16,10 @@ use Rattle.jvm_model.specs.declared.instr.Op.{Op}
 use Rattle.jvm_model.specs.declared.instr.Cell.{Cell}
 use Rattle.jvm_model.specs.declared.instr.IfTest.{IfTest}
 use Rattle.jvm_model.specs.declared.instr.Sort.{Sort}
-use Rattle.jvm_model.specs.declared.instr.Instr.{Instr}
 use Rattle.jvm_model.specs.declared.instr.Instr.TheVariants as form
 use Rattle.jvm_model.specs.declared.library.Native.{Native}
 use Rattle.jvm_model.specs.declared.outcome.Next.{Next}
-use Rattle.jvm_model.specs.declared.outcome.Next.TheVariants.{Go, Fault, Raise, Enter, Leave}
-use Rattle.jvm_model.specs.declared.state.EntryKind.{EntryKind}
-use Rattle.jvm_model.specs.declared.state.EntryKind.TheVariants.{Absent, InMethod, InClass}
+use Rattle.jvm_model.specs.declared.outcome.Next.TheVariants.{Go, Fault, Raise, Enter}
 use Rattle.jvm_model.specs.declared.program.Body.{Body}
 use Rattle.jvm_model.specs.declared.program.Program.{Program}
 use Rattle.jvm_model.specs.Access.{Access, done, read, write, make, spend}
@@ -31,7 +28,7 @@ use Rattle.jvm_model.specs.Classes.{class_at, field_at, method_at, member, layou
 use Rattle.jvm_model.specs.Descriptors.{return_type}
 use Rattle.jvm_model.specs.Narrow.{narrow, narrowed}
 use Rattle.jvm_model.specs.Entries.{Entries, with_stack, with_place, with_entry, class_entry, is_full, popped_entry, called}
-use Rattle.jvm_model.specs.Kinds.{kind_fits, class_of, element_kind}
+use Rattle.jvm_model.specs.Kinds.{kind_fits, class_of}
 use Rattle.jvm_model.specs.Rows.{Answer, answer, goes_on, goes_to}
 use Rattle.jvm_model.specs.RowsMoves.{row_moves}
 use Rattle.jvm_model.specs.RowsArith.{of_ints, divides, row_arith}
@@ -45,11 +42,11 @@ use Rattle.jvm_model.specs.RowsCalls.{enters_body, enters_native, calls, argumen
 use Rattle.jvm_model.specs.RowsReturn.{hands_on, row_return}
 use Rattle.jvm_model.specs.Step.{row_throw}
 use Rattle.jvm_model.specs.Raising.{handler_for, handled, row_raise}
-use Rattle.jvm_model.specs.Initialise.{Part, parts_of, starts, looked_at, looks, finishing, fails, fails_anew, was_entered, row_fail}
+use Rattle.jvm_model.specs.Initialise.{Part, starts, looked_at, looks, was_entered, row_fail}
 use Rattle.check_sound.specs.Types.{Types, ValueType, int_type, long_type, reference, HasKind, HasType, HasTypes, element_type}
-use Rattle.check_sound.specs.Typed.{IsPlace, IsTyped, TypedAccess, typed_done, typed_read, typed_write, typed_make, typed_spend, Grows, Leaves, AreSound, NoConstant}
+use Rattle.check_sound.specs.Typed.{IsPlace, typed_done, typed_read, typed_write, typed_make, typed_spend, Grows, AreSound, NoConstant}
 use Rattle.check_sound.proofs.Worlds.{type_grows, grows_one, newest_head}
-use Rattle.check_sound.proofs.Combinators.{NonNull, gone_on, Row, popping-typed, on_int-typed, on_object-typed, on_reference-typed, head-typed, with_kind-typed, choose-typed, using-typed, blank-new}
+use Rattle.check_sound.proofs.Combinators.{gone_on, Row, popping-typed, on_int-typed, on_object-typed, head-typed, with_kind-typed, choose-typed, using-typed, blank-new}
 
 pub types_grow : (ty : Types) (hs is : List Head) → Grows hs is → (ts : List ValueType) (vs : List Value) → HasTypes ty hs ts vs → HasTypes ty is ts vs
 types_grow ty hs is g [] [] h = tt

@@ -1,8 +1,6 @@
 -- A typed world stays typed over writes and new objects.
-use Rattle.std.proofs.Common.{◌≡◌, ◌≢◌, ℕ, zero, suc, ◌<◌, ◌+◌, List, [], ◌∷◌, ◌++◌, length, get_or, slice_get, Bool, true, false, refl, sym, ◌∙◌, ap, subst, inl, inr, arith, Option, Some, None, length-append, add-zero, nat_eq}
-use Rattle.std.proofs.lemmas.Bool.{cases_Bool, cases_lt}
-use Rattle.std.proofs.lemmas.List.{get_or_append_left, get_or-append-add}
-use Rattle.std.proofs.lemmas.Option.{slice_get_within, slice_get-get_or, get_or_from_slice_get}
+use Rattle.std.proofs.Common.{◌≡◌, ◌≢◌, ℕ, zero, suc, ◌<◌, List, [], ◌∷◌, ◌++◌, length, slice_get, true, refl, sym, ◌∙◌, ap, subst, inl, inr, arith, Some, length-append}
+use Rattle.std.proofs.lemmas.Bool.{cases_Bool}
 use Rattle.std.proofs.Math.Seq.{get_or-append_seam}
 use Rattle.jvm_model.specs.declared.values.Value.{Value}
 use Rattle.jvm_model.specs.declared.values.Value.TheVariants.{Int, Long, Null, Lit, Obj}
@@ -10,7 +8,7 @@ use Rattle.jvm_model.specs.declared.values.Head.{Head}
 use Rattle.jvm_model.specs.declared.values.Location.{Location}
 use Rattle.jvm_model.specs.declared.values.Location.TheVariants as place
 use Rattle.jvm_model.specs.declared.program.Program.{Program}
-use Rattle.jvm_model.specs.World.{Content, Object, World, no_object, size, object_at, at, put, make_object, part, same, look}
+use Rattle.jvm_model.specs.World.{Content, Object, World, no_object, size, object_at, at, put, make_object, part, same}
 use Rattle.jvm_model.specs.Classes.{member}
 use Rattle.jvm_model.specs.View.{Exists, keys}
 use Rattle.jvm_model.proofs.Locations.{same_true, same_false, at_put_same, at_put_other, at_make_new, at_make_other, size_put, size_make, IsOf, is_of_cases}

@@ -1,5 +1,5 @@
 -- What holds of each typed program of accesses over a typed world.
-use Rattle.std.specs.Prelude.{ℕ, List, length, slice_get, ◌≡◌, Some}
+use Rattle.std.specs.Prelude.{List}
 use Rattle.jvm_model.specs.declared.values.Head.{Head}
 use Rattle.jvm_model.specs.declared.values.Value.{Value}
 use Rattle.jvm_model.specs.declared.program.Program.{Program}

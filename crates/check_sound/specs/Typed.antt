@@ -1,6 +1,5 @@
 -- Typed worlds, said location by location over the list of heads, and typed programs of accesses.
-use Rattle.std.specs.Prelude.{◌≡◌, ℕ, ◌<◌, List, [], ◌∷◌, ◌++◌, length, get_or, slice_get, Bool, true, false, nat_eq, Option, Some, None}
-use Rattle.jvm_model.specs.declared.values.Value.{Value}
+use Rattle.std.specs.Prelude.{◌≡◌, ℕ, ◌<◌, List, [], ◌∷◌, ◌++◌, length, get_or, slice_get, true, false, nat_eq, Some}
 use Rattle.jvm_model.specs.declared.values.Value.TheVariants.{Null}
 use Rattle.jvm_model.specs.declared.values.Base.{Base}
 use Rattle.jvm_model.specs.declared.values.Kind.{Kind}

@@ -10,8 +10,7 @@ use jvm_model::Value;
 /// A typed program of accesses over a typed world meets only locations that are there, and leaves a typed world.
 pub fn run_law()
     ensures { RunLaw }
-{
-}
+{}
 
 /// How many slots a value takes in a frame (JVMS 2.6.1): a long takes two.
 pub fn slot_count(value: &Value) -> u32
