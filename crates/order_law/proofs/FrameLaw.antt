@@ -1,17 +1,15 @@
 -- The frame law for two programs.
-use Rattle.std.proofs.Common.{◌≡◌, ℕ, List, Bool, true, false, cond, nat_le, refl, sym, ◌∙◌, ap, subst, inl, inr, arith, Option, Some, None}
+use Rattle.std.proofs.Common.{◌≡◌, ℕ, List, Bool, true, false, nat_le, refl, sym, ◌∙◌, ap, subst, inl, inr, arith, Some, None}
 use Rattle.std.proofs.lemmas.Bool.{cases_Bool}
-use Rattle.jvm_model.specs.declared.values.Location.{Location}
 use Rattle.jvm_model.specs.declared.values.Touch.{Touch}
 use Rattle.jvm_model.specs.declared.outcome.Verdict.{Verdict}
 use Rattle.jvm_model.specs.declared.program.Program.{Program}
 use Rattle.jvm_model.specs.World.{World, size, at}
 use Rattle.jvm_model.specs.Access.{Ran, run}
-use Rattle.jvm_model.specs.Builtin.{builtin_count}
 use Rattle.jvm_model.specs.State.{test_at}
 use Rattle.jvm_model.specs.Suite.{End, finished, stuck, out_of_steps, tree, Given, given_at, one_test}
 use Rattle.jvm_model.proofs.Locations.{at_past}
-use Rattle.order_law.specs.Pairing.{OneToOne, PairedList, PairedLocation, statics, inits, heads, at_field, at_elem, texts, files, props, PairedContent, PairedTouch}
+use Rattle.order_law.specs.Pairing.{OneToOne, statics, inits, heads, at_field, at_elem, texts, files, props}
 use Rattle.order_law.specs.Frame.{Agree, Forward, Alike}
 use Rattle.order_law.specs.Numbers.{Numbers, Tested, with_places}
 use Rattle.order_law.specs.Matched.{Matched, PairedTest}
@@ -42,9 +40,9 @@ ran_to b true out_of_steps w ts u x g = absurd (cc)
 ran_to b true (finished v o) w ts u x g = elim (cases_Bool (nat_le u b)) [
   | inr h ↦ let z : None ≡ Some x = sym (rw h refl) ∙ g in absurd (cc)
   | inl h ↦
-    let y : Given = record { outcome = record { verdict = v; output = o; units = u }; world = w; touches = ts } in
-    let z : Some y ≡ Some x = sym (rw h refl) ∙ g in
-    record { verdict = v; output = o; sound = refl; value = refl; within = h; is = (cc) }
+      let y : Given = record { outcome = record { verdict = v; output = o; units = u }; world = w; touches = ts } in
+      let z : Some y ≡ Some x = sym (rw h refl) ∙ g in
+      record { verdict = v; output = o; sound = refl; value = refl; within = h; is = (cc) }
 ]
 
 pub given_then : (b : ℕ) (r : Ran End) (v : Verdict) (o : List ℕ) → r.sound ≡ true → r.value ≡ finished v o → nat_le r.units b ≡ true →

@@ -1,11 +1,10 @@
 -- More paired places pair more; what stands where nothing was made is paired.
-use Rattle.std.proofs.Common.{◌≡◌, ℕ, ◌<◌, true, refl, sym, ◌∙◌, ap, subst, nat_eq, eqb, Option, Some, None, arith}
-use Rattle.std.proofs.lemmas.Bool.{eqb-true, eq-eqb}
+use Rattle.std.proofs.Common.{◌≡◌, ℕ, true, refl, subst, Option, Some}
 use Rattle.jvm_model.specs.declared.values.Value.{Value}
 use Rattle.jvm_model.specs.declared.values.Location.{Location}
 use Rattle.jvm_model.specs.World.{Content, no_object, part}
-use Rattle.order_law.specs.Pairing.{Matching, OneToOne, PairedOption, both_none, both_some, PairedValue, ints, longs, nulls, literals, objects, PairedLocation, statics, inits, heads, at_field, at_elem, texts, files, props, class_kinds, PairedContent}
-use Rattle.order_law.specs.Numbers.{Numbers, Tested, with_places}
+use Rattle.order_law.specs.Pairing.{Matching, PairedOption, both_none, both_some, PairedValue, ints, longs, nulls, literals, objects, PairedLocation, statics, inits, heads, at_field, at_elem, texts, files, props, class_kinds, PairedContent}
+use Rattle.order_law.specs.Numbers.{Numbers, with_places}
 
 module _ (n : Numbers) (P Q : ℕ → ℕ → Type 0) (more : (a b : ℕ) → P a b → Q a b) where
   value-more : {x y : Value} → PairedValue (with_places n P) x y → PairedValue (with_places n Q) x y

@@ -1,33 +1,32 @@
 -- The law of order: after each lawful history the world holds what the last writers left in the suite's own order.
-use Rattle.std.proofs.Common.{Bool, ◌≡◌, ◌⊎◌, ℕ, zero, suc, ◌+◌, ◌-◌, ◌<◌, ◌≤◌, true, false, nat_le, List, [], ◌∷◌, ◌++◌, length, get_or, map, slice_get, refl, sym, ◌∙◌, ap, subst, inl, inr, arith, nat_eq, eqb, Option, Some, None}
+use Rattle.std.proofs.Common.{◌≡◌, ◌⊎◌, ℕ, zero, suc, ◌+◌, ◌-◌, ◌<◌, ◌≤◌, true, false, nat_le, List, [], ◌∷◌, length, get_or, map, slice_get, refl, sym, ◌∙◌, ap, subst, inl, inr, arith, Option, Some, None}
 use Rattle.std.specs.List.{range_with_len}
-use Rattle.std.proofs.lemmas.Bool.{cases_Bool, cases_order, cases_lt, or_cases, or_parts, eqb-true, eq-eqb}
+use Rattle.std.proofs.lemmas.Bool.{cases_Bool, cases_order, cases_lt, eqb-true, eq-eqb}
 use Rattle.jvm_model.specs.declared.values.Value.{Value}
 use Rattle.jvm_model.specs.declared.values.Value.TheVariants.{Int, Long, Null, Lit, Obj}
 use Rattle.jvm_model.specs.declared.values.Location.{Location}
 use Rattle.jvm_model.specs.declared.values.Location.TheVariants as place
-use Rattle.jvm_model.specs.declared.values.Touch.{Touch}
 use Rattle.jvm_model.specs.declared.outcome.Outcome.{Outcome}
 use Rattle.jvm_model.specs.declared.program.Program.{Program}
 use Rattle.jvm_model.specs.declared.program.FieldRec.{FieldRec}
 use Rattle.jvm_model.specs.declared.program.TestEntry.{TestEntry}
-use Rattle.jvm_model.specs.World.{Content, Object, World, size, at, same}
-use Rattle.jvm_model.specs.Access.{Ran, run}
+use Rattle.jvm_model.specs.World.{Content, World, size, at}
+use Rattle.jvm_model.specs.Access.{Ran}
 use Rattle.jvm_model.specs.Classes.{no_field}
 use Rattle.jvm_model.specs.State.{test_at}
-use Rattle.jvm_model.specs.Suite.{End, finished, tree, opening, Given, given_at, one_test, with_first, runs_on, runs, all_tests, outcome_in, given_by_test, seq, units_of, within_limit, is_detected}
+use Rattle.jvm_model.specs.Suite.{End, tree, opening, Given, given_at, one_test, with_first, runs_on, runs, all_tests, outcome_in, given_by_test, seq, within_limit, is_detected}
 use Rattle.jvm_model.specs.Linked.{Linked}
 use Rattle.jvm_model.proofs.Locations.{IsOf, at_past}
 use Rattle.order_law.specs.declared.edges.Edge.{Edge}
 use Rattle.order_law.specs.declared.edges.EdgeKind.TheVariants.{Raw}
 use Rattle.order_law.specs.Exposed.{written}
-use Rattle.order_law.specs.Pairing.{Matching, OneToOne, PairedValue, ints, longs, nulls, literals, PairedLocation, statics, inits, heads, at_field, at_elem, texts, files, props, PairedContent, PairedList}
+use Rattle.order_law.specs.Pairing.{Matching, OneToOne, PairedValue, ints, longs, nulls, literals, PairedLocation, statics, inits, heads, at_field, at_elem, texts, files, props, PairedContent}
 use Rattle.order_law.specs.Frame.{Agree, Forward, Alike}
 use Rattle.order_law.specs.Numbers.{with_places, same_numbers}
 use Rattle.order_law.specs.Matched.{PairedTest}
 use Rattle.order_law.specs.Outcomes.{PairedEnd}
-use Rattle.order_law.specs.Conflicts.{Tests, Member, HasEdge, Before, edge, Distinct, InOrder, Fits, History, down, last}
-use Rattle.order_law.specs.Histories.{ran, after_history, ran_after, given_after, writes_of, exposed_of, RecordOf, IsTestNumber, AreSequential, LawOfOrder}
+use Rattle.order_law.specs.Conflicts.{Member, HasEdge, Before, edge, Distinct, InOrder, Fits, History, down, last}
+use Rattle.order_law.specs.Histories.{after_history, ran_after, given_after, writes_of, exposed_of, RecordOf, IsTestNumber, AreSequential, LawOfOrder}
 use Rattle.order_law.proofs.Pairs.{written-paired, place-paired}
 use Rattle.order_law.proofs.Frame.{frame, grows}
 use Rattle.order_law.proofs.Conflicts.{last_at_true, last_at_false, last_is, same_source}
@@ -383,10 +382,11 @@ module _ (p : Program) (linked : Linked p) (R : List Edge) (is_record : RecordOf
       let fits = fits_next D l t f in
       let low = f.low t (inl refl) in
       let n = next_test D t h hs fits low al in
-      let rest = all_runs l (t ∷ D) n.here.given.world n.here.world n.holds (fits, hs) (λ x i. elim i [ inl e ↦ subst (λ (z : ℕ). IsTestNumber p z) (sym e) low | inr j ↦ al x j ]) (rest_of D l t f) in
-      (n.here.given ∷ rest.0,
-      ap (λ (v : World). runs_then p l (one_test p v t (test_at p t).budget)) g ∙ ap (λ (o : Option Given). runs_then p l o) n.here.is ∙ ap (λ (o : Option (List Given)). with_first n.here.given o) rest.1,
-      (n.first.outcome ∙ ap (λ (o : Outcome). Some o) (sym n.here.outcome), rest.2))
+      let rest = all_runs l (t ∷ D) n.here.given.world n.here.world n.holds (fits, hs) (λ x i. elim i [ inl e ↦ subst (λ (z : ℕ). IsTestNumber p z) (sym e) low | inr j ↦ al x j ]) (rest_of D l t f) in (
+        n.here.given ∷ rest.0,
+        ap (λ (v : World). runs_then p l (one_test p v t (test_at p t).budget)) g ∙ ap (λ (o : Option Given). runs_then p l o) n.here.is ∙ ap (λ (o : Option (List Given)). with_first n.here.given o) rest.1,
+        (n.first.outcome ∙ ap (λ (o : Outcome). Some o) (sym n.here.outcome), rest.2),
+      )
 
 pub law_of_order : LawOfOrder
 unfolding runs

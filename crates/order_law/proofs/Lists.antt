@@ -1,8 +1,9 @@
 -- Lists in pairs: what is made of them alike is in pairs again.
-use Rattle.std.proofs.Common.{◌≡◌, ℕ, zero, suc, ◌+◌, ◌<◌, Bool, true, false, ◌&&◌, ◌||◌, not, cond, List, [], ◌∷◌, ◌++◌, length, map, filter, flat_map, slice_get, set, take, drop, reverse, replicate, refl, sym, ◌∙◌, ap, subst, inl, inr, eqb, nat_eq, Option, Some, None, is_some}
+use Rattle.std.proofs.Common.{◌≡◌, ℕ, zero, suc, Bool, true, false, ◌&&◌, ◌||◌, not, cond, List, length, map, filter, flat_map, slice_get, set, take, drop, reverse, replicate, refl, sym, ◌∙◌, ap, subst, inl, inr, nat_eq, Option, is_some}
+use Rattle.std.specs.List.{list_any, list_all}
 use mathlib.Core.List.{reverse_aux}
 use Rattle.std.proofs.lemmas.Bool.{cases_eq, eq-eqb, ne_eqb}
-use Rattle.jvm_model.specs.Classes.{member, first_mentions, any, all_of}
+use Rattle.jvm_model.specs.Classes.{member, first_mentions}
 use Rattle.order_law.specs.Pairing.{OneToOne, PairedList, no_more, one_more, PairedOption, both_none, both_some}
 use Rattle.order_law.proofs.Pairs.{list-append}
 
@@ -34,11 +35,11 @@ module _ {A B : Type 0} (R : A → B → Type 0) where
   filter-paired f g h no_more = no_more
   filter-paired f g h (one_more {x} {y} r rs) = cond-list (f x) (g y) (h x y r) (one_more r (filter-paired f g h rs)) (filter-paired f g h rs)
 
-  pub any-paired : (f : A → Bool) (g : B → Bool) → ((x : A) (y : B) → R x y → f x ≡ g y) → {xs : List A} {ys : List B} → PairedList R xs ys → any f xs ≡ any g ys
+  pub any-paired : (f : A → Bool) (g : B → Bool) → ((x : A) (y : B) → R x y → f x ≡ g y) → {xs : List A} {ys : List B} → PairedList R xs ys → list_any f xs ≡ list_any g ys
   any-paired f g h no_more = refl
   any-paired f g h (one_more {x} {y} r rs) = either (f x) (g y) _ _ (h x y r) (any-paired f g h rs)
 
-  pub all-paired : (f : A → Bool) (g : B → Bool) → ((x : A) (y : B) → R x y → f x ≡ g y) → {xs : List A} {ys : List B} → PairedList R xs ys → all_of f xs ≡ all_of g ys
+  pub all-paired : (f : A → Bool) (g : B → Bool) → ((x : A) (y : B) → R x y → f x ≡ g y) → {xs : List A} {ys : List B} → PairedList R xs ys → list_all f xs ≡ list_all g ys
   all-paired f g h no_more = refl
   all-paired f g h (one_more {x} {y} r rs) = both (f x) (g y) _ _ (h x y r) (all-paired f g h rs)
 

@@ -1,40 +1,37 @@
 -- Rows with touches in pairs: statics, fields, new objects, arrays, casts, calls.
-use Rattle.std.proofs.Common.{◌≡◌, ℕ, ℤ, zero, suc, ◌+◌, Bool, true, false, ◌||◌, not, cond, List, [], ◌∷◌, length, nat_lt, nat_le, nat_eq, slice_get, refl, sym, ◌∙◌, ap, subst, arith, pos, negsuc, Option, Some, None}
+use Rattle.std.proofs.Common.{◌≡◌, ℕ, ℤ, zero, suc, ◌+◌, Bool, true, false, cond, List, [], ◌∷◌, length, nat_lt, nat_le, slice_get, refl, ap, subst, arith, pos, negsuc, Option, Some, None}
 use Rattle.jvm_model.specs.declared.values.Value.{Value}
-use Rattle.jvm_model.specs.declared.values.Value.TheVariants.{Int, Obj}
-use Rattle.jvm_model.specs.declared.values.Base.{Base}
+use Rattle.jvm_model.specs.declared.values.Value.TheVariants.{Int}
 use Rattle.jvm_model.specs.declared.values.Kind.{Kind}
 use Rattle.jvm_model.specs.declared.values.Head.{Head}
-use Rattle.jvm_model.specs.declared.values.Location.TheVariants as place
 use Rattle.jvm_model.specs.declared.instr.Cell.{Cell}
 use Rattle.jvm_model.specs.declared.instr.Instr.{Instr}
 use Rattle.jvm_model.specs.declared.library.Native.{Native}
 use Rattle.jvm_model.specs.declared.program.Body.{Body}
-use Rattle.jvm_model.specs.declared.program.Program.{Program}
-use Rattle.jvm_model.specs.Access.{Access, done, read, write, make, spend, bind}
-use Rattle.jvm_model.specs.Builtin.{builtin_count, instantiation_error, negative_size_exception, array_index_exception, array_store_exception, class_cast_exception, abstract_method_error, stack_overflow_error}
-use Rattle.jvm_model.specs.Classes.{class_at, field_at, method_at, is_interface, is_abstract, layout, blank}
+use Rattle.jvm_model.specs.Access.{Access}
+use Rattle.jvm_model.specs.Builtin.{instantiation_error, negative_size_exception, array_index_exception, array_store_exception, class_cast_exception, abstract_method_error, stack_overflow_error}
+use Rattle.jvm_model.specs.Classes.{method_at, is_abstract}
 use Rattle.jvm_model.specs.Descriptors.{parameters}
 use Rattle.jvm_model.specs.Entries.{Entries, with_stack}
 use Rattle.jvm_model.specs.Kinds.{element_kind, kind_fits}
-use Rattle.jvm_model.specs.Narrow.{narrow, narrowed}
-use Rattle.jvm_model.specs.Rows.{Answer, answer, faults, goes_on}
+use Rattle.jvm_model.specs.Narrow.{narrow}
+use Rattle.jvm_model.specs.Rows.{Answer, faults}
 use Rattle.jvm_model.specs.RowsStatics.{read_static, write_static, row_statics}
 use Rattle.jvm_model.specs.RowsFields.{row_fields}
 use Rattle.jvm_model.specs.RowsCreate.{new_object, is_bare, array_head, new_array, children, nest, nest_cost, nested, sized, row_create}
-use Rattle.jvm_model.specs.RowsArrays.{on_array, in_range, base_letter, element_letter, holds_references, checked, stored_in, loaded_from, row_arrays}
+use Rattle.jvm_model.specs.RowsArrays.{on_array, in_range, element_letter, holds_references, checked, stored_in, loaded_from, row_arrays}
 use Rattle.jvm_model.specs.RowsCasts.{cast_to, cast, tested_for, tested, row_casts}
 use Rattle.jvm_model.specs.Selection.{Selected}
-use Rattle.jvm_model.specs.RowsCalls.{enters_body, enters_native, calls, calls_selected, argument_count, on_receiver, receiver, call_virtual, call_interface, call_special, row_calls}
-use Rattle.order_law.specs.Pairing.{PairedList, no_more, one_more, PairedOption, both_none, both_some, PairedValue, ints, longs, nulls, literals, objects, statics, heads, at_field, at_elem, PairedBase, booleans, bytes, chars, shorts, int_bases, long_bases, class_bases, PairedKind, class_kinds, array_kinds, PairedHead, Paired, both_done, both_read, both_write, both_make, both_spend}
-use Rattle.order_law.specs.Numbers.{Numbers, Tested, with_places}
+use Rattle.jvm_model.specs.RowsCalls.{enters_body, enters_native, calls, calls_selected, argument_count, on_receiver, receiver, row_calls}
+use Rattle.order_law.specs.Pairing.{PairedList, one_more, PairedOption, both_none, both_some, ints, longs, nulls, literals, objects, statics, heads, at_field, at_elem, booleans, bytes, chars, shorts, int_bases, long_bases, class_bases, PairedKind, class_kinds, array_kinds, PairedHead, Paired, both_done, both_read, both_write, both_make, both_spend}
+use Rattle.order_law.specs.Numbers.{Tested, with_places}
 use Rattle.order_law.specs.Forms.{PairedInstr}
 use Rattle.order_law.specs.Forms as same
 use Rattle.order_law.specs.Matched.{PairedBody}
 use Rattle.order_law.proofs.Twins.{Twins}
 use Rattle.order_law.proofs.Lists.{either, length-paired, get-list}
 use Rattle.order_law.proofs.Programs.{interface-paired, layout-paired, blank-paired, instance-paired, element-paired, fits-paired, class_of-paired, named-paired, PairedSelected, both_chosen, both_failing, virtual-paired, interface_call-paired, special-paired}
-use Rattle.order_law.proofs.States.{go, fault, answered, entering, stack-paired, full-paired, cost-paired, called-paired}
+use Rattle.order_law.proofs.States.{entering, stack-paired, full-paired, cost-paired, called-paired}
 use Rattle.order_law.proofs.Combinators.{V, E, Frames, Rows, bind-paired, choose-paired, spend-paired, no_row-paired, faults-paired, goes_on-paired, popping-paired, on_int-paired, on_object-paired, on_reference-paired, with_kind-paired, using-paired}
 use Rattle.order_law.proofs.PlainRows.{narrowed-paired}
 

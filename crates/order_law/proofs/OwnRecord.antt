@@ -1,5 +1,5 @@
 -- The computed edges are there exactly where there is a conflict.
-use Rattle.std.proofs.Common.{◌≡◌, ◌⊎◌, ℕ, zero, suc, ◌+◌, ◌-◌, ◌<◌, ◌≤◌, Bool, true, false, not, ◌&&◌, ◌||◌, cond, List, [], ◌∷◌, ◌++◌, map, filter, flat_map, length, ltb, refl, sym, ◌∙◌, ap, subst, inl, inr, arith}
+use Rattle.std.proofs.Common.{◌≡◌, ◌⊎◌, ℕ, zero, suc, ◌+◌, ◌-◌, ◌<◌, ◌≤◌, Bool, true, false, not, ◌&&◌, ◌||◌, cond, List, [], ◌∷◌, ◌++◌, map, filter, flat_map, length, refl, sym, ◌∙◌, ap, subst, inl, inr, arith}
 use Rattle.std.specs.List.{range_with_len}
 use Rattle.std.proofs.lemmas.Bool.{cases_Bool, cases_lt, cases_eq, lt-ltb, le-ltb, and_parts, and_from, or_cases, not-true, not_from_false}
 use Rattle.jvm_model.specs.declared.values.Location.{Location}
@@ -158,10 +158,13 @@ module _ (p : Program) where
       let q = edge_of_is k k' u t u' t' (conflict_places p k' u' t') i in
       let c = place_true k' u' t' q.place h q.listed in
       let e = q.earlier in
-      let l = q.later in
-      (omega arith, omega arith, q.place,
+      let l = q.later in (
+        omega arith,
+        omega arith,
+        q.place,
         subst (λ (z : EdgeKind). Conflict (writes_of p) (exposed_of p) z u t q.place) q.kind
-        (subst (λ (z : ℕ). Conflict (writes_of p) (exposed_of p) k' z t q.place) e (subst (λ (z : ℕ). Conflict (writes_of p) (exposed_of p) k' u' z q.place) l c)))
+            (subst (λ (z : ℕ). Conflict (writes_of p) (exposed_of p) k' z t q.place) e (subst (λ (z : ℕ). Conflict (writes_of p) (exposed_of p) k' u' z q.place) l c)),
+      )
 
   edge_here : (k : EdgeKind) (u t : ℕ) → HasEdge (of_kind k u t) k u t → HasEdge (edges_between p u t) k u t
   unfolding edges_between

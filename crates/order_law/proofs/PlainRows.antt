@@ -1,5 +1,5 @@
 -- Rows without a touch in pairs: moves, arithmetic, branches, returns, throws.
-use Rattle.std.proofs.Common.{◌≡◌, ℕ, ℤ, Bool, true, false, not, cond, List, [], ◌∷◌, length, nat_lt, nat_eq, refl, sym, ◌∙◌, ap, subst, arith, pos, Option, Some, None}
+use Rattle.std.proofs.Common.{◌≡◌, ℕ, ℤ, Bool, true, false, List, [], ◌∷◌, nat_lt, refl, ap, subst, arith, pos, Option, Some, None}
 use Rattle.std.specs.Ordering.{int_eq}
 use Rattle.jvm_model.specs.declared.values.Value.{Value}
 use Rattle.jvm_model.specs.declared.instr.Op.{Op}
@@ -8,17 +8,15 @@ use Rattle.jvm_model.specs.declared.instr.Conv.TheVariants as conv
 use Rattle.jvm_model.specs.declared.instr.Instr.{Instr}
 use Rattle.jvm_model.specs.declared.state.EntryKind.{EntryKind}
 use Rattle.jvm_model.specs.declared.state.EntryKind.TheVariants.{Absent, InMethod, InClass}
-use Rattle.jvm_model.specs.declared.program.Program.{Program}
-use Rattle.jvm_model.specs.Access.{Access, done}
-use Rattle.jvm_model.specs.Builtin.{builtin_count, arithmetic_exception}
-use Rattle.jvm_model.specs.Classes.{method_at}
+use Rattle.jvm_model.specs.Access.{Access}
+use Rattle.jvm_model.specs.Builtin.{arithmetic_exception}
 use Rattle.jvm_model.specs.Descriptors.{return_type}
 use Rattle.jvm_model.specs.Narrow.{narrow, narrowed}
-use Rattle.jvm_model.specs.Entries.{Entries, with_stack, popped_entry}
-use Rattle.jvm_model.specs.Rows.{Answer, answer, no_row, none_here, faults, goes_on, goes_to, popping}
+use Rattle.jvm_model.specs.Entries.{Entries, popped_entry}
+use Rattle.jvm_model.specs.Rows.{Answer}
 use Rattle.jvm_model.specs.RowsMoves.{is_long, loaded, with_local, stored, two_under_long, two_under_two, row_moves}
 use Rattle.jvm_model.specs.RowsArith.{divides, shifts, unless_zero, two_ints, two_longs, long_by_int, converted, increased, row_arith}
-use Rattle.jvm_model.specs.RowsBranches.{holds, same_reference, is_null, flag_is, goes_if, table_target, lookup_target, row_branches}
+use Rattle.jvm_model.specs.RowsBranches.{same_reference, is_null, flag_is, goes_if, row_branches}
 use Rattle.jvm_model.specs.RowsReturn.{handed_on, hands_on, row_return}
 use Rattle.jvm_model.specs.Step.{row_throw}
 use Rattle.order_law.specs.Pairing.{PairedList, no_more, one_more, PairedOption, both_none, both_some, PairedValue, ints, longs, nulls, literals, objects, both_done}
@@ -27,7 +25,7 @@ use Rattle.order_law.specs.Forms.{PairedConstant, const_int, const_long, const_n
 use Rattle.order_law.specs.Forms as same
 use Rattle.order_law.proofs.Twins.{Twins}
 use Rattle.order_law.proofs.Lists.{test-paired, length-paired, get-list, set-list}
-use Rattle.order_law.proofs.States.{go, raised, leave, answered, no_rows, stack-paired, popped-paired, frame_top}
+use Rattle.order_law.proofs.States.{go, raised, leave, answered, stack-paired, popped-paired, frame_top}
 use Rattle.order_law.proofs.Combinators.{V, E, Frames, Rows, choose-paired, no_row-paired, faults-paired, goes_on-paired, goes_to-paired, popping-paired, on_int-paired, on_long-paired, on_object-paired, on_reference-paired}
 
 pub constant-paired : (n : Numbers) (P : ℕ → ℕ → Type 0) {v w : Value} → PairedConstant n v w → PairedValue (with_places n P) v w

@@ -1,6 +1,6 @@
 -- Each worker's list is a lawful history.
-use Rattle.std.proofs.Common.{◌≡◌, ◌⊎◌, ℕ, ◌<◌, Bool, true, false, cond, nat_eq, List, [], ◌∷◌, ◌++◌, length, reverse, refl, sym, ◌∙◌, ap, subst, inl, inr, arith, Option, Some, None}
-use Rattle.std.proofs.lemmas.Bool.{cases_Bool, eqb-true, eq-eqb}
+use Rattle.std.proofs.Common.{◌≡◌, ◌⊎◌, ℕ, ◌<◌, Bool, true, false, cond, nat_eq, List, [], ◌∷◌, ◌++◌, reverse, refl, sym, ◌∙◌, ap, subst, inl, inr, arith, Option, Some}
+use Rattle.std.proofs.lemmas.Bool.{cases_Bool, eqb-true}
 use Rattle.std.proofs.lemmas.List.{reverse-append}
 use Rattle.jvm_model.specs.declared.outcome.Outcome.{Outcome}
 use Rattle.jvm_model.specs.declared.program.Program.{Program}
@@ -15,7 +15,7 @@ use Rattle.order_law.specs.declared.edges.EdgeKind.TheVariants.{Raw, Waw, War}
 use Rattle.order_law.specs.Conflicts.{Member, HasEdge, Before, edge, chain, Fits, History, ClosedUnderRaw, itself, forth, back}
 use Rattle.order_law.specs.Histories.{after_history, RecordOf, IsTestNumber}
 use Rattle.order_law.specs.Plan.{NextOf, PostsSequential, chain_at, Ascending, Chains, Event, claim, post, claims, posts, Posted, list_of, Legal, LawOfInterleavings}
-use Rattle.order_law.proofs.Histories.{Holds, holds_first, Next, next_test}
+use Rattle.order_law.proofs.Histories.{Holds, holds_first, next_test}
 
 member_at : (x y : ℕ) (l : List ℕ) {b : Bool} → b ≡ true → Member x (cond b (y ∷ l) l) → (x ≡ y) ⊎ Member x l
 member_at x y l e h = subst (λ (c : Bool). Member x (cond c (y ∷ l) l)) e h
@@ -171,11 +171,12 @@ module _ (p : Program) (linked : Linked p) (R : List Edge) (is_record : RecordOf
       (o : Outcome) × (last_outcome p (reverse (t ∷ D)) ≡ Some o) × (seq p t ≡ Some o)
   next_outcome D t hs fits low al =
       let r = history_runs D hs al in
-      let n = next_test p linked R is_record detected D t (history_holds D hs al) hs fits low al in
-      (n.first.given.outcome,
-      ap (λ (l : List ℕ). last_outcome p l) (reversed t D) ∙ last_outcome_is p (reverse D) t r.given r.is ∙ ap (λ (w : World). outcome_in (one_test p w t (test_at p t).budget)) r.world
-          ∙ ap outcome_in n.here.is ∙ ap (λ (o : Outcome). Some o) n.here.outcome,
-      n.first.outcome)
+      let n = next_test p linked R is_record detected D t (history_holds D hs al) hs fits low al in (
+        n.first.given.outcome,
+        ap (λ (l : List ℕ). last_outcome p l) (reversed t D) ∙ last_outcome_is p (reverse D) t r.given r.is ∙ ap (λ (w : World). outcome_in (one_test p w t (test_at p t).budget)) r.world
+            ∙ ap outcome_in n.here.is ∙ ap (λ (o : Outcome). Some o) n.here.outcome,
+        n.first.outcome,
+      )
 
   module _ (set : List ℕ) (C : List (List ℕ)) (k : ℕ) (low : (t : ℕ) → Member t set → IsTestNumber p t) (closed : ClosedUnderRaw R (λ t. Member t set)) (cs : Chains R (λ t. Member t set) C) where
     -- what a worker runs next has the outcome of the suite's own order, so it meets no budget

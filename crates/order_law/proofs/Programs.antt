@@ -1,28 +1,27 @@
 -- What two matched programs say of paired classes, fields and methods.
-use Rattle.std.proofs.Common.{◌≡◌, ℕ, zero, suc, ◌<◌, Bool, true, false, ◌&&◌, not, cond, List, [], ◌∷◌, ◌++◌, map, filter, flat_map, replicate, refl, sym, ◌∙◌, ap, subst, pos, nat_eq, nat_lt, nat_le, Option, Some, None, is_some, arith}
+use Rattle.std.proofs.Common.{◌≡◌, ℕ, zero, suc, Bool, true, false, ◌&&◌, not, cond, List, [], ◌∷◌, flat_map, refl, ap, subst, pos, nat_eq, nat_lt, nat_le, Option, Some, None, arith}
+use Rattle.std.specs.Prelude.{find}
+use Rattle.std.specs.List.{list_any, list_all}
 use Rattle.jvm_model.specs.declared.values.Value.{Value}
-use Rattle.jvm_model.specs.declared.values.Value.TheVariants.{Int, Long, Null}
 use Rattle.jvm_model.specs.declared.values.Base.{Base}
 use Rattle.jvm_model.specs.declared.values.Kind.{Kind}
 use Rattle.jvm_model.specs.declared.values.Head.{Head}
-use Rattle.jvm_model.specs.declared.instr.Instr.{Instr}
 use Rattle.jvm_model.specs.declared.program.Program.{Program}
-use Rattle.jvm_model.specs.declared.program.MethodRec.{MethodRec}
 use Rattle.jvm_model.specs.declared.program.Body.{Body}
 use Rattle.jvm_model.specs.declared.program.Placed.{Placed}
 use Rattle.jvm_model.specs.declared.program.Handler.{Handler}
-use Rattle.jvm_model.specs.World.{Object, same_units}
-use Rattle.jvm_model.specs.Builtin.{builtin_count, object_class, abstract_method_error, class_change_error}
-use Rattle.jvm_model.specs.Classes.{class_at, field_at, method_at, is_private, is_static, is_interface, is_abstract, class_bound, upwards_in, upwards, member, first_mentions, lineage_in, own_interfaces, is_below, implements, clinit_name, init_name, is_default_method, any, default_interfaces, declares_start, all_of, is_trivial, default_of, layout_in, layout, element_default, fields_of, elems_of, blank, instance_head, Found, place_after, found_in, found_of, form_at, next_place}
+use Rattle.jvm_model.specs.World.{same_units}
+use Rattle.jvm_model.specs.Builtin.{object_class, abstract_method_error, class_change_error}
+use Rattle.jvm_model.specs.Classes.{class_at, field_at, method_at, is_private, is_static, is_interface, class_bound, upwards_in, upwards, member, lineage_in, own_interfaces, is_below, implements, clinit_name, init_name, is_default_method, default_interfaces, declares_start, is_trivial, default_of, layout_in, layout, element_default, fields_of, elems_of, blank, instance_head, Found, place_after, found_in, found_of, form_at, next_place}
 use Rattle.jvm_model.specs.Kinds.{class_of, element_kind, class_fits, base_fits, is_object, kind_fits}
-use Rattle.jvm_model.specs.Selection.{Selected, chosen, failing, is_like, is_open_like, first_of, declared_in, all_interfaces, candidates, redeclares, kept_of, has_code, one_with_code, kept_method, or_kept, select, select_virtual, select_interface, named_class, above_or, special_start, special_path, select_special}
+use Rattle.jvm_model.specs.Selection.{Selected, chosen, failing, is_like, is_open_like, declared_in, candidates, redeclares, kept_of, has_code, one_with_code, kept_method, or_kept, select, select_virtual, select_interface, named_class, above_or, special_start, special_path, select_special}
 use Rattle.jvm_model.specs.Raising.{catches, handler_in, handlers_of, handler_for}
-use Rattle.order_law.specs.Pairing.{OneToOne, PairedList, no_more, one_more, PairedOption, both_none, both_some, PairedValue, ints, longs, nulls, PairedBase, booleans, bytes, chars, shorts, int_bases, long_bases, class_bases, PairedKind, class_kinds, array_kinds, PairedHead, PairedCell, PairedObject}
+use Rattle.order_law.specs.Pairing.{PairedList, no_more, one_more, PairedOption, both_none, both_some, PairedValue, ints, longs, nulls, PairedBase, booleans, bytes, chars, shorts, int_bases, long_bases, class_bases, PairedKind, class_kinds, array_kinds, PairedHead, PairedCell, PairedObject}
 use Rattle.order_law.specs.Numbers.{Numbers, Tested, with_places}
 use Rattle.order_law.specs.Forms.{PairedInstr}
-use Rattle.order_law.specs.Matched.{PairedPlaced, PairedHandler, PairedBody, PairedMethod, PairedField, PairedClass, Matched}
+use Rattle.order_law.specs.Matched.{PairedPlaced, PairedHandler, PairedBody, Matched}
 use Rattle.order_law.proofs.Pairs.{list-append, same_cond}
-use Rattle.order_law.proofs.Lists.{test-paired, both, either, cond-list, length-paired, filter-paired, any-paired, all-paired, replicate-list, is_some-paired, map-paired, flat_map-paired, member-paired, mentions-paired}
+use Rattle.order_law.proofs.Lists.{test-paired, both, cond-list, filter-paired, any-paired, all-paired, replicate-list, is_some-paired, map-paired, flat_map-paired, member-paired, mentions-paired}
 
 pub units-paired : {a b c d : List ℕ} → a ≡ b → c ≡ d → same_units a c ≡ same_units b d
 units-paired e g = rw (e, g)
@@ -78,7 +77,7 @@ module _ (n : Numbers) (p q : Program) (mt : Matched n p q) where
 
   pub defaults-paired : (c d : ℕ) → C c d → PairedList C (default_interfaces p c) (default_interfaces q d)
   unfolding default_interfaces
-  defaults-paired c d e = filter-paired C (λ i. any (λ m. is_default_method (method_at p m)) (class_at p i).methods) (λ i. any (λ m. is_default_method (method_at q m)) (class_at q i).methods)
+  defaults-paired c d e = filter-paired C (λ i. list_any (λ m. is_default_method (method_at p m)) (class_at p i).methods) (λ i. list_any (λ m. is_default_method (method_at q m)) (class_at q i).methods)
       (λ i j g. any-paired M (λ m. is_default_method (method_at p m)) (λ m. is_default_method (method_at q m)) default_method-paired (mt.classes i j g).methods) (interfaces-paired c d e)
 
   starts-paired : (c d : ℕ) → C c d → not (declares_start p c) ≡ not (declares_start q d)
@@ -90,7 +89,7 @@ module _ (n : Numbers) (p q : Program) (mt : Matched n p q) where
   pub trivial-paired : (c d : ℕ) → C c d → is_trivial p c ≡ is_trivial q d
   unfolding is_trivial
   trivial-paired c d e = same_cond _ _ (interface-paired c d e) (starts-paired c d e)
-      (all-paired C (λ i. not (declares_start p i) && all_of (λ j. not (declares_start p j)) (default_interfaces p i)) (λ i. not (declares_start q i) && all_of (λ j. not (declares_start q j)) (default_interfaces q i))
+      (all-paired C (λ i. not (declares_start p i) && list_all (λ j. not (declares_start p j)) (default_interfaces p i)) (λ i. not (declares_start q i) && list_all (λ j. not (declares_start q j)) (default_interfaces q i))
       (λ x y g. both _ _ _ _ (starts-paired x y g) (all-paired C (λ j. not (declares_start p j)) (λ j. not (declares_start q j)) starts-paired (defaults-paired x y g))) (upwards-paired c d e))
 
   layout_in-paired : {xs ys : List ℕ} → PairedList C xs ys → PairedList F (layout_in p xs) (layout_in q ys)
@@ -275,7 +274,7 @@ module _ (n : Numbers) (p q : Program) (mt : Matched n p q) where
   open_like-paired : (a b x y : ℕ) → M a b → M x y → is_open_like p a x ≡ is_open_like q b y
   open_like-paired a b x y e g = both _ _ _ _ (ap (λ (f : ℕ). not (is_private f)) (mt.methods x y g).flags) (like-paired a b x y e g)
 
-  first-paired : (f g : ℕ → Bool) → ((x y : ℕ) → M x y → f x ≡ g y) → {xs ys : List ℕ} → PairedList M xs ys → PairedOption M (first_of f xs) (first_of g ys)
+  first-paired : (f g : ℕ → Bool) → ((x y : ℕ) → M x y → f x ≡ g y) → {xs ys : List ℕ} → PairedList M xs ys → PairedOption M (find f xs) (find g ys)
   first-paired f g h no_more = both_none
   first-paired f g h (one_more {x} {y} r rs) = pick-option (f x) (g y) (h x y r) (both_some r) (first-paired f g h rs)
 
@@ -293,7 +292,7 @@ module _ (n : Numbers) (p q : Program) (mt : Matched n p q) where
   redeclares-paired a b x y e g = member-paired C mt.one_class _ _ (mt.methods x y g).class (interfaces-paired _ _ (mt.methods a b e).class)
 
   kept-paired : {xs ys : List ℕ} → PairedList M xs ys → PairedList M (kept_of p xs) (kept_of q ys)
-  kept-paired {xs} {ys} r = filter-paired M (λ x. not (any (λ a. redeclares p a x) xs)) (λ x. not (any (λ a. redeclares q a x) ys))
+  kept-paired {xs} {ys} r = filter-paired M (λ x. not (list_any (λ a. redeclares p a x) xs)) (λ x. not (list_any (λ a. redeclares q a x) ys))
       (λ x y g. ap not (any-paired M (λ a. redeclares p a x) (λ a. redeclares q a y) (λ a b e. redeclares-paired a b x y e g) r)) r
 
   one-paired : {xs ys : List ℕ} → PairedList M xs ys → PairedSelected (one_with_code xs) (one_with_code ys)

@@ -1,5 +1,5 @@
 -- A linked program is matched with itself.
-use Rattle.std.proofs.Common.{◌≡◌, ℕ, zero, suc, ◌<◌, ◌≤◌, true, false, List, [], ◌∷◌, length, get_or, slice_index_or, map, refl, sym, ◌∙◌, ap, subst, inl, inr, arith, nat_eq, eqb, Option, Some, None}
+use Rattle.std.proofs.Common.{◌≡◌, ℕ, suc, ◌<◌, true, List, [], ◌∷◌, length, slice_index_or, refl, sym, ◌∙◌, ap, subst, inl, inr, arith, nat_eq, Option, Some, None}
 use Rattle.std.specs.Prelude.{IfSome}
 use Rattle.std.proofs.lemmas.Bool.{eqb-true, eq-eqb, cases_lt}
 use Rattle.std.proofs.lemmas.List.{get_or_past}
@@ -22,13 +22,12 @@ use Rattle.jvm_model.specs.declared.program.Placed.{Placed}
 use Rattle.jvm_model.specs.declared.program.Handler.{Handler}
 use Rattle.jvm_model.specs.Classes.{class_at, field_at, method_at, literal_at, no_field, no_method}
 use Rattle.jvm_model.specs.Linked.{Linked, IsForm, IsBody, opens}
-use Rattle.jvm_model.specs.Suite.{End, finished}
 use Rattle.order_law.specs.Pairing.{OneToOne, PairedList, no_more, one_more, PairedOption, both_none, both_some, PairedBase, booleans, bytes, chars, shorts, int_bases, long_bases, class_bases, PairedKind, class_kinds, array_kinds}
 use Rattle.order_law.specs.Numbers.{Tested, same_numbers}
 use Rattle.order_law.specs.Forms.{PairedConstant, const_int, const_long, const_null, const_literal, PairedInstr}
 use Rattle.order_law.specs.Forms as same
 use Rattle.order_law.specs.Matched.{PairedPlaced, PairedHandler, PairedBody, PairedMethod, PairedField, PairedClass, Matched}
-use Rattle.order_law.specs.Outcomes.{PairedVerdict, both_passed, both_failed, both_error, PairedEnd, both_stuck, both_out, both_finished}
+use Rattle.order_law.specs.Outcomes.{PairedVerdict, both_passed, both_failed, both_error}
 
 pub equal_one : OneToOne (Tested nat_eq)
 equal_one = record {

@@ -1,7 +1,7 @@
 -- States of two matched programs in pairs.
-use Rattle.std.proofs.Common.{◌≡◌, ℕ, ◌+◌, ◌-◌, List, [], ◌∷◌, ◌++◌, length, take, drop, reverse, replicate, nat_le, Bool, true, false, refl, sym, ◌∙◌, ap, subst, Option, Some, None}
+use Rattle.std.proofs.Common.{◌≡◌, ℕ, ◌-◌, List, ◌∷◌, length, replicate, nat_le, Bool, true, refl, ap, subst, Option}
 use Rattle.jvm_model.specs.declared.values.Value.{Value}
-use Rattle.jvm_model.specs.declared.values.Value.TheVariants.{Int, Long, Null, Lit, Obj}
+use Rattle.jvm_model.specs.declared.values.Value.TheVariants.{Null}
 use Rattle.jvm_model.specs.declared.outcome.Next.{Next}
 use Rattle.jvm_model.specs.declared.outcome.Next.TheVariants.{Go, Fault, Raise, Enter, Leave, Over}
 use Rattle.jvm_model.specs.declared.outcome.Verdict.{Verdict}
@@ -11,12 +11,12 @@ use Rattle.jvm_model.specs.declared.state.EntryKind.{EntryKind}
 use Rattle.jvm_model.specs.declared.state.EntryKind.TheVariants.{Absent, InMethod, InClass}
 use Rattle.jvm_model.specs.declared.state.Stage.{Stage}
 use Rattle.jvm_model.specs.declared.state.Stage.TheVariants.{First, Made, Built, SetUp, Called, Last}
-use Rattle.jvm_model.specs.Entries.{Entry, Entries, no_entry, no_entries, entry_limit, all_entries, is_full, with_entry, entries_of, popped_entry, with_stack, with_place, class_entry, slots_of, filled, frame_of, frame_cost, called}
+use Rattle.jvm_model.specs.Entries.{Entry, Entries, no_entries, entry_limit, all_entries, is_full, with_entry, entries_of, popped_entry, with_stack, with_place, class_entry, slots_of, filled, frame_of, frame_cost, called}
 use Rattle.jvm_model.specs.Rows.{Answer, answer, no_row, Used, ready, begun, refused}
 use Rattle.jvm_model.specs.Working.{Working}
 use Rattle.jvm_model.specs.State.{State, Turn, next, ended, no_turn, test_at}
-use Rattle.order_law.specs.Pairing.{Matching, PairedList, no_more, one_more, PairedOption, both_none, both_some, PairedValue, ints, longs, nulls, literals, objects}
-use Rattle.order_law.specs.Numbers.{Numbers, Tested, with_places}
+use Rattle.order_law.specs.Pairing.{PairedList, no_more, one_more, PairedOption, PairedValue, ints, longs, nulls, literals, objects}
+use Rattle.order_law.specs.Numbers.{Numbers, with_places}
 use Rattle.order_law.specs.Matched.{PairedBody, PairedTest}
 use Rattle.order_law.specs.Outcomes.{PairedVerdict}
 use Rattle.order_law.proofs.Pairs.{list-append}

@@ -1,6 +1,5 @@
 -- Runs of tests after a history, and the law of order.
 use Rattle.std.specs.Prelude.{◌≡◌, ℕ, ◌<◌, ◌≤◌, List, [], ◌∷◌, length, true, Option, Some}
-use Rattle.jvm_model.specs.declared.outcome.Outcome.{Outcome}
 use Rattle.jvm_model.specs.declared.program.Program.{Program}
 use Rattle.jvm_model.specs.World.{World}
 use Rattle.jvm_model.specs.Access.{Ran, run}

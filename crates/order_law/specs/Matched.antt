@@ -1,5 +1,5 @@
 -- When two programs match: their paired classes, fields, methods and string constants are the same but for numbers.
-use Rattle.std.specs.Prelude.{◌≡◌, ℕ, ◌<◌, List, true, Option}
+use Rattle.std.specs.Prelude.{◌≡◌, ℕ, ◌<◌, true}
 use Rattle.jvm_model.specs.declared.program.Program.{Program}
 use Rattle.jvm_model.specs.declared.program.ClassRec.{ClassRec}
 use Rattle.jvm_model.specs.declared.program.FieldRec.{FieldRec}

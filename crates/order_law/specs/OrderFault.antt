@@ -1,5 +1,5 @@
 -- The first reason why a list of tests isn't lawful by the edges of a record (this project's order of reasons).
-use Rattle.std.specs.Prelude.{◌≡◌, ℕ, ◌<◌, List, length, take, slice_get, Some}
+use Rattle.std.specs.Prelude.{◌≡◌, ℕ, ◌<◌, List, take, slice_get, Some}
 use Rattle.order_law.specs.declared.edges.Edge.{Edge}
 use Rattle.order_law.specs.declared.edges.EdgeKind.TheVariants.{Raw}
 use Rattle.order_law.specs.Conflicts.{Member, HasEdge, Before, Distinct}

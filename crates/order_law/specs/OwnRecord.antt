@@ -1,5 +1,5 @@
 -- The edges of a program's own record, computed from the run of the whole suite in order.
-use Rattle.std.specs.Prelude.{◌≡◌, ℕ, zero, suc, ◌-◌, ◌<◌, List, [], ◌∷◌, ◌++◌, map, filter, flat_map, length, take, codes, Bool, true, not, ◌&&◌, cond, nat_lt, nat_le, Some}
+use Rattle.std.specs.Prelude.{◌≡◌, ℕ, zero, suc, ◌-◌, List, [], ◌∷◌, ◌++◌, map, filter, flat_map, length, take, codes, Bool, true, not, ◌&&◌, cond, nat_lt, nat_le, Some}
 use Rattle.std.specs.List.{range_with_len}
 use Rattle.jvm_model.specs.declared.values.Location.{Location}
 use Rattle.jvm_model.specs.declared.values.Touch.{Touch}

@@ -1,6 +1,6 @@
 -- Chains and legal histories of claims and posts. A history has its latest event first. Workers are numbered from 1, and
 -- chains from 0 by their places in the list.
-use Rattle.std.specs.Prelude.{◌≡◌, ◌⊎◌, ℕ, ◌<◌, ◌≤◌, List, [], ◌∷◌, ◌++◌, length, get_or, reverse, true, Some, cond, nat_eq}
+use Rattle.std.specs.Prelude.{◌≡◌, ℕ, ◌<◌, ◌≤◌, List, [], ◌∷◌, ◌++◌, length, get_or, reverse, true, Some, cond, nat_eq}
 use Rattle.jvm_model.specs.declared.outcome.Outcome.{Outcome}
 use Rattle.jvm_model.specs.declared.program.Program.{Program}
 use Rattle.jvm_model.specs.Suite.{last_outcome, seq, is_detected}
@@ -83,4 +83,4 @@ LawOfInterleavings = (p : Program) (R : List Edge) (set : List ℕ) (C : List (L
     Linked p → is_detected p ≡ true → RecordOf p R → ((t : ℕ) → Member t set → IsTestNumber p t) →
     ClosedUnderRaw R (λ t. Member t set) → Chains R (λ t. Member t set) C → Legal p C n es →
     PostsSequential p es × ((w t i : ℕ) (rest : List ℕ) → claims es w ≡ i ∷ rest → NextOf es (chain_at C i) t →
-        (o : Outcome) × (last_outcome p (list_of es w t) ≡ Some o) × (seq p t ≡ Some o))
+    (o : Outcome) × (last_outcome p (list_of es w t) ≡ Some o) × (seq p t ≡ Some o))

@@ -1,10 +1,9 @@
 -- What a test reaches, whether it is settled, and the record of a program (this project's).
-use Rattle.std.specs.Prelude.{◌≡◌, ◌↔◌, ℕ, ◌+◌, ◌-◌, List, [], ◌∷◌, map, length, slice_get, Bool, true, false, not, ◌&&◌, ◌||◌, nat_eq, Option, Some, None}
-use Rattle.jvm_model.specs.declared.values.Base.{Base}
+use Rattle.std.specs.Prelude.{◌≡◌, ◌↔◌, ℕ, ◌+◌, ◌-◌, map, length, slice_get, Bool, true, false, not, ◌&&◌, ◌||◌, nat_eq, Option, Some, None}
+use Rattle.std.specs.List.{list_any, list_all}
 use Rattle.jvm_model.specs.declared.values.Base.TheVariants as base
 use Rattle.jvm_model.specs.declared.values.Kind.{Kind}
 use Rattle.jvm_model.specs.declared.values.Kind.TheVariants as kind
-use Rattle.jvm_model.specs.declared.values.Location.{Location}
 use Rattle.jvm_model.specs.declared.values.Location.TheVariants as place
 use Rattle.jvm_model.specs.declared.instr.Instr.{Instr}
 use Rattle.jvm_model.specs.declared.instr.Instr.TheVariants as form
@@ -13,7 +12,7 @@ use Rattle.jvm_model.specs.declared.program.Body.{Body}
 use Rattle.jvm_model.specs.declared.program.Program.{Program}
 use Rattle.jvm_model.specs.World.{at, same}
 use Rattle.jvm_model.specs.Builtin.{builtin_count, out_field}
-use Rattle.jvm_model.specs.Classes.{class_at, any, all_of}
+use Rattle.jvm_model.specs.Classes.{class_at}
 use Rattle.jvm_model.specs.State.{test_at}
 use Rattle.jvm_model.specs.Suite.{all_tests, seq}
 use Rattle.jvm_model.specs.Linked.{IsGiven}
@@ -45,11 +44,11 @@ puts_out _ = false
 
 abbrev pub body_puts_out : Option Body → Bool
 body_puts_out None = false
-body_puts_out (Some b) = any (λ x. puts_out x.form) b.code
+body_puts_out (Some b) = list_any (λ x. puts_out x.form) b.code
 
 -- The test is settled: each of its exposed reads is of the static `System.out`, and no code puts that.
 unfoldable pub is_settled : Program → ℕ → Bool
-is_settled p t = all_of (λ L. not (exposed_of p t L) || same L (place.Static out_field)) (places_touched p t) && not (any (λ m. body_puts_out m.body) p.methods)
+is_settled p t = list_all (λ L. not (exposed_of p t L) || same L (place.Static out_field)) (places_touched p t) && not (list_any (λ m. body_puts_out m.body) p.methods)
 
 -- the reach of a test, its classes numbered from 1 in the suite's order
 pub record IsReachOf (p : Program) (t : ℕ) (r : Reach) : Type 0 where

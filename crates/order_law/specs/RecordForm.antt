@@ -1,6 +1,7 @@
 -- The forms of records and chains (this project's): what the record's text can say.
-use Rattle.std.specs.Prelude.{ℕ, suc, ◌+◌, ◌^◌, List, [], ◌∷◌, ◌++◌, length, Bool, true, false, not, ◌&&◌, ◌||◌, cond, nat_eq, nat_lt, nat_le, Option, Some, None}
-use Rattle.jvm_model.specs.Classes.{member, all_of}
+use Rattle.std.specs.Prelude.{ℕ, ◌^◌, List, [], ◌∷◌, ◌++◌, length, Bool, true, not, ◌&&◌, ◌||◌, nat_eq, nat_lt, nat_le, Option, Some, None}
+use Rattle.std.specs.List.{list_all}
+use Rattle.jvm_model.specs.Classes.{member}
 use Rattle.order_law.specs.declared.edges.Edge.{Edge}
 use Rattle.order_law.specs.declared.edges.EdgeKind.{EdgeKind}
 use Rattle.order_law.specs.declared.edges.EdgeKind.TheVariants.{Raw, Waw, War}
@@ -9,11 +10,11 @@ use Rattle.order_law.specs.declared.records.More.{More}
 
 -- at most 1,024 tests, each with at most 2 ^ 26 units
 abbrev pub are_units : List ℕ → Bool
-are_units units = nat_le (length units) 1024 && all_of (λ u. nat_le u (2 ^ 26)) units
+are_units units = nat_le (length units) 1024 && list_all (λ u. nat_le u (2 ^ 26)) units
 
 -- 1 to 203 printable bytes
 abbrev pub is_place_text : List ℕ → Bool
-is_place_text t = nat_le 1 (length t) && (nat_le (length t) 203 && all_of (λ b. nat_le 32 b && nat_le b 126) t)
+is_place_text t = nat_le 1 (length t) && (nat_le (length t) 203 && list_all (λ b. nat_le 32 b && nat_le b 126) t)
 
 -- an edge between two of n tests, the earlier one first, at 1 to 2 ^ 28 locations
 abbrev pub is_edge : ℕ → Edge → Bool
@@ -34,7 +35,7 @@ edges_ascend (e ∷ []) = true
 edges_ascend (e ∷ f ∷ es) = edge_before e f && edges_ascend (f ∷ es)
 
 unfoldable pub is_record_form : List ℕ → List Edge → Bool
-is_record_form units edges = are_units units && (all_of (λ e. is_edge (length units) e) edges && edges_ascend edges)
+is_record_form units edges = are_units units && (list_all (λ e. is_edge (length units) e) edges && edges_ascend edges)
 
 abbrev pub numbers_ascend : List ℕ → Bool
 numbers_ascend [] = true
@@ -43,12 +44,12 @@ numbers_ascend (c ∷ d ∷ cs) = nat_lt c d && numbers_ascend (d ∷ cs)
 
 -- at least one class of c, ascending
 abbrev pub is_reach : ℕ → Reach → Bool
-is_reach c r = nat_le 1 (length r.classes) && (all_of (λ x. nat_le 1 x && nat_le x c) r.classes && numbers_ascend r.classes)
+is_reach c r = nat_le 1 (length r.classes) && (list_all (λ x. nat_le 1 x && nat_le x c) r.classes && numbers_ascend r.classes)
 
 -- the reach of each test, over at most 1,024 classes
 unfoldable pub is_reach_form : List ℕ → Option More → Bool
 is_reach_form units None = true
-is_reach_form units (Some m) = nat_le (length m.classes) 1024 && (nat_eq (length m.reach) (length units) && all_of (λ r. is_reach (length m.classes) r) m.reach)
+is_reach_form units (Some m) = nat_le (length m.classes) 1024 && (nat_eq (length m.reach) (length units) && list_all (λ r. is_reach (length m.classes) r) m.reach)
 
 abbrev pub no_repeats : List ℕ → Bool
 no_repeats [] = true
@@ -60,4 +61,4 @@ joined (l ∷ ls) = l ++ joined ls
 
 -- no list is empty, and no test stands twice in them
 unfoldable pub are_chains : List (List ℕ) → Bool
-are_chains ls = all_of (λ l. nat_le 1 (length l)) ls && no_repeats (joined ls)
+are_chains ls = list_all (λ l. nat_le 1 (length l)) ls && no_repeats (joined ls)

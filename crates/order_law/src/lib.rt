@@ -18,8 +18,7 @@ pub use records::{Chains, More, Place, Prints, Reach, Record, Shown};
 /// it, the test does the same in both: outcome, touches and what it leaves at the locations that it writes.
 pub fn frame_law()
     ensures { FrameLaw }
-{
-}
+{}
 
 /// The law of order. In every lawful list of a detected suite's tests each test gives the outcome that it gives when the
 /// whole suite is run in order: by the edges of the suite's own record, and by any edges that are there exactly where
@@ -27,12 +26,10 @@ pub fn frame_law()
 pub fn lawful_order_law()
     ensures own { OwnLaw }
     ensures any { LawOfOrder }
-{
-}
+{}
 
 /// Every interleaving. In every legal history of claims and posts each post has that outcome, no test is posted twice, and
 /// what a worker runs next will have it too, so that it meets no budget.
 pub fn interleavings_law()
     ensures { LawOfInterleavings }
-{
-}
+{}
