@@ -3,3 +3,4 @@ pub mod Runs
 pub mod Combinators
 pub mod Rows
 pub mod NativeRows
+pub mod PlainRows
