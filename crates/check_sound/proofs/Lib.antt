@@ -4,3 +4,4 @@ pub mod Combinators
 pub mod Rows
 pub mod NativeRows
 pub mod PlainRows
+pub mod ObjectRows
