@@ -5,3 +5,4 @@ pub mod Rows
 pub mod NativeRows
 pub mod PlainRows
 pub mod ObjectRows
+pub mod Natives
