@@ -2,7 +2,7 @@ pub mod Worlds
 pub mod Runs
 pub mod Combinators
 pub mod Rows
-pub mod NativeRows
+pub mod Driver
 pub mod PlainRows
 pub mod ObjectRows
 pub mod Natives

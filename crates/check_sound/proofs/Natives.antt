@@ -1,5 +1,5 @@
 -- Every built-in method over operands of its types is typed, and answers what its types say.
-use Rattle.std.proofs.Common.{◌≡◌, ℕ, ℤ, ◌+◌, ◌-◌, List, [], ◌∷◌, ◌++◌, length, take, drop, slice_get, Bool, true, false, ◌&&◌, cond, nat_eq, nat_lt, nat_le, pos, negsuc, refl, sym, ◌∙◌, ap, subst, arith, Option, Some, None}
+use Rattle.std.proofs.Common.{◌≡◌, ℕ, ℤ, ◌-◌, List, [], ◌∷◌, ◌++◌, length, take, drop, true, false, ◌&&◌, nat_eq, nat_lt, nat_le, pos, negsuc, refl, sym, ap, subst, Option, Some, None}
 use Rattle.std.specs.Prelude.{codes}
 use Rattle.std.specs.Fmt.{signed_decimal}
 use Rattle.std.proofs.lemmas.Bool.{eqb-true}
@@ -7,7 +7,6 @@ use Rattle.et_base.specs.Numbers.{add64}
 use Rattle.et_base.specs.Quotes.{utf8_of}
 use Rattle.jvm_model.specs.declared.values.Value.{Value}
 use Rattle.jvm_model.specs.declared.values.Value.TheVariants.{Int, Long, Null, Lit, Obj}
-use Rattle.jvm_model.specs.declared.values.Base.{Base}
 use Rattle.jvm_model.specs.declared.values.Kind.{Kind}
 use Rattle.jvm_model.specs.declared.values.Kind.TheVariants as kind
 use Rattle.jvm_model.specs.declared.values.Head.{Head}
@@ -19,22 +18,22 @@ use Rattle.jvm_model.specs.declared.outcome.Next.{Next}
 use Rattle.jvm_model.specs.declared.outcome.Next.TheVariants.{Go, Fault}
 use Rattle.jvm_model.specs.declared.program.Program.{Program}
 use Rattle.jvm_model.specs.World.{text_or_empty}
-use Rattle.jvm_model.specs.Access.{Access, done, read, write, make, spend}
+use Rattle.jvm_model.specs.Access.{Access}
 use Rattle.jvm_model.specs.Builtin.{string_class, builder_class, throwable_class, message_field, null_pointer_exception, string_index_exception}
-use Rattle.jvm_model.specs.Classes.{field_at, blank, instance_head}
+use Rattle.jvm_model.specs.Classes.{blank, instance_head}
 use Rattle.jvm_model.specs.Kinds.{class_of}
-use Rattle.jvm_model.specs.Rows.{Answer, answer, on_object, on_text, constant_kind}
+use Rattle.jvm_model.specs.Rows.{Answer, on_object, on_text, constant_kind}
 use Rattle.jvm_model.specs.RowsBranches.{same_reference}
-use Rattle.jvm_model.specs.Working.{Working, operands, with_operands, answers, makes_text, answers_text, answers_found, printed, prints, char_of, boolean_text, truth}
+use Rattle.jvm_model.specs.Working.{Working, operands, with_operands, answers_text, answers_found, prints, char_of, boolean_text, truth}
 use Rattle.jvm_model.specs.NativesObject.{native_object, sets_message, makes_message, keeps_string, keeps_object, native_throwable}
 use Rattle.jvm_model.specs.NativesString.{length_int, hash_of, text_index, answers_part, compares, string_equals, joined, native_string, appends, appends_string, native_builder}
-use Rattle.jvm_model.specs.NativesOutside.{one_text, two_texts, ticked, stepped, shuffled, upper_int, changes_property, native_system, prints_string, on_printed, line_feed, native_print, native_files, native_env}
+use Rattle.jvm_model.specs.NativesOutside.{one_text, two_texts, stepped, upper_int, changes_property, native_system, prints_string, on_printed, line_feed, native_print, native_files, native_env}
 use Rattle.jvm_model.specs.Natives.{NativeGroup, of_object, of_string, of_builder, of_system, of_stream, of_files, of_env, of_throwable, native_group, native_of_group, row_native}
 use Rattle.check_sound.specs.Types.{Types, ValueType, int_type, long_type, reference, HasKind, HasType, HasTypes}
-use Rattle.check_sound.specs.Typed.{IsPlace, TypedAccess, typed_done, typed_read, typed_write, typed_make, typed_spend, Grows, AreSound}
+use Rattle.check_sound.specs.Typed.{IsPlace, typed_done, typed_read, typed_write, typed_make, typed_spend, Grows, AreSound}
 use Rattle.check_sound.specs.NativeTypes.{object_type, string_type, builder_type, stream_type, throwable_type, HasLibrary, takes, gives}
-use Rattle.check_sound.proofs.Worlds.{type_grows, grows_one, newest_head}
-use Rattle.check_sound.proofs.Combinators.{NonNull, gone_on, Row, popping-typed, on_int-typed, on_long-typed, on_object-typed, on_reference-typed, head-typed, with_kind-typed, on_text-typed, choose-typed, blank-new}
+use Rattle.check_sound.proofs.Worlds.{grows_one, newest_head}
+use Rattle.check_sound.proofs.Combinators.{gone_on, Row, popping-typed, on_int-typed, on_long-typed, on_object-typed, on_reference-typed, head-typed, on_text-typed, choose-typed, blank-new}
 use Rattle.check_sound.proofs.Rows.{types_grow}
 
 string_kind : (k : Kind) → nat_eq (class_of k) string_class ≡ true → k ≡ kind.Class string_class

@@ -1,5 +1,5 @@
 -- Typing lemmas for the other rows with touches: array stores and lengths, instanceof, and calls on a receiver.
-use Rattle.std.proofs.Common.{◌≡◌, ℕ, ℤ, ◌<◌, ◌+◌, List, [], ◌∷◌, length, slice_get, Bool, true, false, cond, nat_lt, nat_le, pos, negsuc, refl, sym, ◌∙◌, ap, subst, arith, Option, Some, None}
+use Rattle.std.proofs.Common.{◌≡◌, ℕ, ℤ, ◌<◌, List, [], ◌∷◌, slice_get, true, false, cond, nat_lt, pos, negsuc, refl, sym, subst, Option, Some, None}
 use Rattle.std.proofs.lemmas.Bool.{ltb-true}
 use Rattle.jvm_model.specs.declared.values.Value.{Value}
 use Rattle.jvm_model.specs.declared.values.Value.TheVariants.{Int, Long, Null, Lit, Obj}
@@ -13,18 +13,18 @@ use Rattle.jvm_model.specs.declared.instr.Instr.TheVariants as form
 use Rattle.jvm_model.specs.declared.outcome.Next.{Next}
 use Rattle.jvm_model.specs.declared.outcome.Next.TheVariants.{Go, Fault}
 use Rattle.jvm_model.specs.declared.program.Program.{Program}
-use Rattle.jvm_model.specs.Access.{Access, done, read, write}
+use Rattle.jvm_model.specs.Access.{Access, done, write}
 use Rattle.jvm_model.specs.Builtin.{null_pointer_exception, array_index_exception, array_store_exception}
 use Rattle.jvm_model.specs.Entries.{Entries, with_stack}
 use Rattle.jvm_model.specs.Kinds.{element_kind, kind_fits}
-use Rattle.jvm_model.specs.Narrow.{narrow, narrowed}
+use Rattle.jvm_model.specs.Narrow.{narrow}
 use Rattle.jvm_model.specs.Rows.{Answer, answer, goes_on, constant_kind}
-use Rattle.jvm_model.specs.RowsArrays.{on_array, in_range, element_letter, holds_references, checked, stored_in, row_arrays}
-use Rattle.jvm_model.specs.RowsCasts.{tested_for, tested, row_casts}
+use Rattle.jvm_model.specs.RowsArrays.{on_array, in_range, element_letter, holds_references, checked, row_arrays}
+use Rattle.jvm_model.specs.RowsCasts.{tested, row_casts}
 use Rattle.jvm_model.specs.Selection.{Selected, chosen, failing}
-use Rattle.jvm_model.specs.RowsCalls.{calls, calls_selected, argument_count, on_receiver, receiver, call_virtual, call_interface, call_special, row_calls}
-use Rattle.check_sound.specs.Types.{Types, ValueType, int_type, reference, HasKind, HasType, HasTypes, element_type}
-use Rattle.check_sound.specs.Typed.{TypedAccess, typed_done, typed_read, typed_write, AreSound, NoConstant}
+use Rattle.jvm_model.specs.RowsCalls.{calls, calls_selected, on_receiver, receiver, call_virtual, call_interface, call_special, row_calls}
+use Rattle.check_sound.specs.Types.{Types, ValueType, int_type, reference, HasType, HasTypes, element_type}
+use Rattle.check_sound.specs.Typed.{typed_done, typed_write, AreSound, NoConstant}
 use Rattle.check_sound.proofs.Combinators.{NonNull, gone_on, Row, popping-typed, on_int-typed, on_object-typed, on_reference-typed, head-typed, with_kind-typed, choose-typed}
 use Rattle.check_sound.proofs.Rows.{narrowed_keeps}
 

@@ -1,5 +1,5 @@
 -- Typing lemmas for the other rows without a touch: moves, arithmetic, branches.
-use Rattle.std.proofs.Common.{◌≡◌, ℕ, ℤ, ◌<◌, List, [], ◌∷◌, length, slice_get, Bool, true, false, not, cond, nat_lt, pos, refl, sym, ◌∙◌, ap, subst, inl, inr, arith, Option, Some, None}
+use Rattle.std.proofs.Common.{◌≡◌, ℕ, ℤ, List, ◌∷◌, length, slice_get, Bool, true, false, cond, nat_lt, pos, refl, subst, Option, Some, None}
 use Rattle.std.specs.Ordering.{int_eq}
 use Rattle.et_base.specs.Numbers.{add32, neg32, neg64, i2l, l2i, i2b, i2c, i2s, lcmp}
 use Rattle.jvm_model.specs.declared.values.Value.{Value}
@@ -15,15 +15,15 @@ use Rattle.jvm_model.specs.declared.instr.Instr.TheVariants as form
 use Rattle.jvm_model.specs.declared.outcome.Next.{Next}
 use Rattle.jvm_model.specs.declared.outcome.Next.TheVariants.{Go, Fault}
 use Rattle.jvm_model.specs.declared.program.Program.{Program}
-use Rattle.jvm_model.specs.Access.{Access, done}
+use Rattle.jvm_model.specs.Access.{Access}
 use Rattle.jvm_model.specs.Builtin.{arithmetic_exception, null_pointer_exception}
 use Rattle.jvm_model.specs.Entries.{Entries, with_stack, with_place}
-use Rattle.jvm_model.specs.Rows.{Answer, answer}
-use Rattle.jvm_model.specs.RowsMoves.{is_long, loaded, with_local, stored, two_under_long, two_under_two, row_moves}
+use Rattle.jvm_model.specs.Rows.{Answer}
+use Rattle.jvm_model.specs.RowsMoves.{is_long, loaded, with_local, stored, two_under_long, row_moves}
 use Rattle.jvm_model.specs.RowsArith.{of_longs, divides, shifts, converted, increased, row_arith}
 use Rattle.jvm_model.specs.RowsBranches.{holds, same_reference, is_null, flag_is, goes_if, table_target, lookup_target, row_branches}
 use Rattle.check_sound.specs.Types.{Types, ValueType, int_type, long_type, reference, HasType, HasTypes}
-use Rattle.check_sound.specs.Typed.{TypedAccess, typed_done, AreSound}
+use Rattle.check_sound.specs.Typed.{typed_done}
 use Rattle.check_sound.proofs.Combinators.{gone_on, Row, popping-typed, on_int-typed, on_long-typed, on_reference-typed, choose-typed}
 
 -- a type of one slot

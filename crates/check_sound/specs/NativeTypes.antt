@@ -1,5 +1,5 @@
 -- The types that built-in methods take and give, and what they ask of the types of a program.
-use Rattle.std.specs.Prelude.{◌≡◌, ℕ, List, [], ◌∷◌, Bool, true}
+use Rattle.std.specs.Prelude.{◌≡◌, ℕ, List, [], ◌∷◌, true}
 use Rattle.jvm_model.specs.declared.values.Kind.TheVariants as kind
 use Rattle.jvm_model.specs.declared.values.Head.{Head}
 use Rattle.jvm_model.specs.declared.library.Native.{Native}
