@@ -6,3 +6,4 @@ pub mod Driver
 pub mod PlainRows
 pub mod ObjectRows
 pub mod Natives
+pub mod Nested
