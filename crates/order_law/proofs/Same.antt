@@ -1,0 +1,202 @@
+-- A linked program is matched with itself.
+use Rattle.std.proofs.Common.{◌≡◌, ℕ, suc, ◌<◌, true, List, [], ◌∷◌, length, slice_index_or, refl, sym, ◌∙◌, ap, subst, inl, inr, arith, nat_eq, Option, Some, None}
+use Rattle.std.specs.Prelude.{IfSome}
+use Rattle.std.proofs.lemmas.Bool.{eqb-true, eq-eqb, cases_lt}
+use Rattle.std.proofs.lemmas.List.{get_or_past}
+use Rattle.jvm_model.specs.declared.values.Value.{Value}
+use Rattle.jvm_model.specs.declared.values.Value.TheVariants.{Int, Long, Null, Lit, Obj}
+use Rattle.jvm_model.specs.declared.values.Base.{Base}
+use Rattle.jvm_model.specs.declared.values.Base.TheVariants as base
+use Rattle.jvm_model.specs.declared.values.Kind.{Kind}
+use Rattle.jvm_model.specs.declared.values.Kind.TheVariants as kind
+use Rattle.jvm_model.specs.declared.instr.Instr.{Instr}
+use Rattle.jvm_model.specs.declared.instr.Instr.TheVariants as form
+use Rattle.jvm_model.specs.declared.outcome.Verdict.{Verdict}
+use Rattle.jvm_model.specs.declared.outcome.Verdict.TheVariants.{Failed, Error}
+use Rattle.jvm_model.specs.declared.program.Program.{Program}
+use Rattle.jvm_model.specs.declared.program.ClassRec.{ClassRec}
+use Rattle.jvm_model.specs.declared.program.FieldRec.{FieldRec}
+use Rattle.jvm_model.specs.declared.program.MethodRec.{MethodRec}
+use Rattle.jvm_model.specs.declared.program.Body.{Body}
+use Rattle.jvm_model.specs.declared.program.Placed.{Placed}
+use Rattle.jvm_model.specs.declared.program.Handler.{Handler}
+use Rattle.jvm_model.specs.Classes.{class_at, field_at, method_at, literal_at, no_field, no_method}
+use Rattle.jvm_model.specs.Linked.{Linked, IsForm, IsBody, opens}
+use Rattle.order_law.specs.Pairing.{OneToOne, PairedList, no_more, one_more, PairedOption, both_none, both_some, PairedBase, booleans, bytes, chars, shorts, int_bases, long_bases, class_bases, PairedKind, class_kinds, array_kinds}
+use Rattle.order_law.specs.Numbers.{Tested, same_numbers}
+use Rattle.order_law.specs.Forms.{PairedConstant, const_int, const_long, const_null, const_literal, PairedInstr}
+use Rattle.order_law.specs.Forms as same
+use Rattle.order_law.specs.Matched.{PairedPlaced, PairedHandler, PairedBody, PairedMethod, PairedField, PairedClass, Matched}
+use Rattle.order_law.specs.Outcomes.{PairedVerdict, both_passed, both_failed, both_error}
+
+pub equal_one : OneToOne (Tested nat_eq)
+equal_one = record {
+  from_left = λ a b c p q. sym (eqb-true a b p) ∙ eqb-true a c q;
+  from_right = λ a b c p q. eqb-true a c p ∙ sym (eqb-true b c q);
+}
+
+self : (a : ℕ) → nat_eq a a ≡ true
+self a = eq-eqb a a refl
+
+self_list : {A : Type 0} {R : A → A → Type 0} → ((x : A) → R x x) → (xs : List A) → PairedList R xs xs
+self_list f [] = no_more
+self_list f (x ∷ xs) = one_more (f x) (self_list f xs)
+
+self_option : {A : Type 0} {R : A → A → Type 0} → ((x : A) → R x x) → (o : Option A) → PairedOption R o o
+self_option f None = both_none
+self_option f (Some x) = both_some (f x)
+
+self_base : (b : Base) → PairedBase (Tested nat_eq) b b
+self_base base.Boolean = booleans
+self_base base.Byte = bytes
+self_base base.Char = chars
+self_base base.Short = shorts
+self_base base.Int = int_bases
+self_base base.Long = long_bases
+self_base (base.Class c) = class_bases (self c)
+
+self_kind : (k : Kind) → PairedKind (Tested nat_eq) k k
+self_kind (kind.Class c) = class_kinds (self c)
+self_kind (kind.Array d b) = array_kinds d (self_base b)
+
+-- a value that is no object
+abbrev pub NoObject : Value → Type 0
+NoObject (Int n) = Unit {0}
+NoObject (Long n) = Unit {0}
+NoObject Null = Unit {0}
+NoObject (Lit n) = Unit {0}
+NoObject (Obj o) = ⊥
+
+self_constant : (v : Value) → NoObject v → PairedConstant same_numbers v v
+self_constant (Int n) h = const_int n
+self_constant (Long n) h = const_long n
+self_constant Null h = const_null
+self_constant (Lit n) h = const_literal (self n)
+self_constant (Obj o) h = absurd h
+
+constant_form : (b : Body) (v : Value) → IsForm b (form.Const v) → NoObject v
+constant_form b (Int n) h = tt
+constant_form b (Long n) h = tt
+constant_form b Null h = tt
+constant_form b (Lit n) h = tt
+constant_form b (Obj o) h = h
+
+self_form : (b : Body) (i : Instr) → IsForm b i → PairedInstr same_numbers i i
+self_form b form.Nop h = same.nop
+self_form b (form.Const v) h = same.const (self_constant v (constant_form b v h))
+self_form b (form.Load x i) h = same.load x i
+self_form b (form.Store x i) h = same.store x i
+self_form b (form.ArrayLoad x) h = same.array_load x
+self_form b (form.ArrayStore x) h = same.array_store x
+self_form b form.Pop h = same.pop
+self_form b form.Pop2 h = same.pop2
+self_form b form.Dup h = same.dup
+self_form b form.DupX1 h = same.dup_x1
+self_form b form.DupX2 h = same.dup_x2
+self_form b form.Dup2 h = same.dup2
+self_form b form.Dup2X1 h = same.dup2_x1
+self_form b form.Dup2X2 h = same.dup2_x2
+self_form b form.Swap h = same.swap
+self_form b (form.Binary x w) h = same.binary x w
+self_form b (form.Neg w) h = same.neg w
+self_form b (form.Inc i by) h = same.inc i by
+self_form b (form.Convert x) h = same.convert x
+self_form b form.Compare h = same.compare
+self_form b (form.IfZero x to) h = same.if_zero x to
+self_form b (form.IfInts x to) h = same.if_ints x to
+self_form b (form.IfRefs x to) h = same.if_refs x to
+self_form b (form.IfNull x to) h = same.if_null x to
+self_form b (form.Goto to) h = same.goto to
+self_form b (form.Table low ts other) h = same.table low ts other
+self_form b (form.Lookup ps other) h = same.lookup ps other
+self_form b (form.Return x) h = same.return x
+self_form b (form.GetStatic f) h = same.get_static (self f)
+self_form b (form.PutStatic f) h = same.put_static (self f)
+self_form b (form.GetField c f) h = same.get_field (self c) (self f)
+self_form b (form.PutField c f) h = same.put_field (self c) (self f)
+self_form b (form.InvokeVirtual k m) h = same.invoke_virtual (self_kind k) (self m)
+self_form b (form.InvokeSpecial k m) h = same.invoke_special (self_kind k) (self m)
+self_form b (form.InvokeStatic m) h = same.invoke_static (self m)
+self_form b (form.InvokeInterface c m) h = same.invoke_interface (self c) (self m)
+self_form b (form.New c) h = same.new (self c)
+self_form b (form.NewArray k) h = same.new_array (self_kind k)
+self_form b (form.MultiNewArray k d) h = same.multi_new_array d (self_kind k)
+self_form b form.ArrayLength h = same.array_length
+self_form b form.Throw h = same.throw
+self_form b (form.CheckCast k) h = same.check_cast (self_kind k)
+self_form b (form.InstanceOf k) h = same.instance_of (self_kind k)
+self_form b form.Monitor h = same.monitor
+
+self_code : (b : Body) (xs : List Placed) → ((k : ℕ) (d : Placed) → k < length xs → IsForm b (slice_index_or xs k d).form) → PairedList (PairedPlaced same_numbers) xs xs
+self_code b [] f = no_more
+self_code b (x ∷ xs) f = one_more (record { pc = refl; form = self_form b x.form (f 0 x (omega arith)) }) (self_code b xs (λ k d h. f (suc k) d (omega arith)))
+
+self_handler : (h : Handler) → PairedHandler same_numbers h h
+self_handler h = record { from = refl; to = refl; at = refl; catches = self_option self h.catches }
+
+self_body : (b : Body) → IsBody b → PairedBody same_numbers b b
+self_body b h = record { max_stack = refl; max_locals = refl; length = refl; code = self_code b b.code h.forms; handlers = self_list self_handler b.handlers }
+
+self_class : (x : ClassRec) → PairedClass same_numbers x x
+self_class x = record {
+  name = refl;
+  flags = refl;
+  superclass = self_option self x.superclass;
+  interfaces = self_list self x.interfaces;
+  fields = self_list self x.fields;
+  methods = self_list self x.methods;
+  initialiser = self_option self x.initialiser;
+}
+
+self_field : (x : FieldRec) → NoObject x.opening → PairedField same_numbers x x
+self_field x h = record { class = self x.class; name = refl; descriptor = refl; flags = refl; opening = self_constant x.opening h }
+
+self_method : (x : MethodRec) → PairedOption (PairedBody same_numbers) x.body x.body → PairedMethod same_numbers x x
+self_method x h = record { class = self x.class; name = refl; descriptor = refl; flags = refl; native = refl; body = h }
+
+is_body : (o : Option Body) → IfSome o (λ b. IsBody b) → (b : Body) → o ≡ Some b → IsBody b
+is_body None h b e = absurd (cc)
+is_body (Some x) h b e = let g : x ≡ b = cc in subst (λ (z : Body). IsBody z) g h
+
+module _ (p : Program) (linked : Linked p) where
+  no_object : (d : List ℕ) (v : Value) → opens p d v ≡ true → NoObject v
+  no_object d (Int n) e = tt
+  no_object d (Long n) e = tt
+  no_object d Null e = tt
+  no_object d (Lit n) e = tt
+  no_object d (Obj o) e = cc
+
+  pub opens_no_object : (f : ℕ) → NoObject (field_at p f).opening
+  opens_no_object f = elim (cases_lt f (length p.fields)) [
+    | inl h ↦ no_object (field_at p f).descriptor (field_at p f).opening (linked.openings.values f h)
+    | inr h ↦ subst (λ (x : FieldRec). NoObject x.opening) (sym (get_or_past p.fields f no_field (omega arith))) tt
+  ]
+
+  some_body : (o : Option Body) → ((b : Body) → o ≡ Some b → IsBody b) → PairedOption (PairedBody same_numbers) o o
+  some_body None f = both_none
+  some_body (Some b) f = both_some (self_body b (f b refl))
+
+  body_of : (m : ℕ) → PairedOption (PairedBody same_numbers) (method_at p m).body (method_at p m).body
+  body_of m = elim (cases_lt m (length p.methods)) [
+    | inl h ↦ some_body (method_at p m).body (is_body (method_at p m).body (linked.bodies m h))
+    | inr h ↦ subst (λ (x : MethodRec). PairedOption (PairedBody same_numbers) x.body x.body) (sym (get_or_past p.methods m no_method (omega arith))) both_none
+  ]
+
+  pub self_matched : Matched same_numbers p p
+  self_matched = record {
+    one_field = equal_one;
+    one_class = equal_one;
+    one_literal = equal_one;
+    classes = λ c d e. subst (λ (z : ℕ). PairedClass same_numbers (class_at p c) (class_at p z)) (eqb-true c d e) (self_class (class_at p c));
+    fields = λ f g e. subst (λ (z : ℕ). PairedField same_numbers (field_at p f) (field_at p z)) (eqb-true f g e) (self_field (field_at p f) (opens_no_object f));
+    methods = λ a b e. subst (λ (z : ℕ). PairedMethod same_numbers (method_at p a) (method_at p z)) (eqb-true a b e) (self_method (method_at p a) (body_of a));
+    texts = λ a b e. ap (λ (z : ℕ). literal_at p z) (eqb-true a b e);
+    builtin = λ c h. self c;
+    stream = refl;
+    message = refl;
+  }
+
+pub verdict_is : {v w : Verdict} → PairedVerdict same_numbers v w → v ≡ w
+verdict_is both_passed = refl
+verdict_is (both_failed {x} {y} e) = λ i. Failed (record { class = eqb-true x.class y.class e.class i; message = e.message i })
+verdict_is (both_error {x} {y} e) = λ i. Error (record { class = eqb-true x.class y.class e.class i; message = e.message i })

@@ -1,0 +1,15 @@
+pub mod Pairing
+pub mod Exposed
+pub mod Frame
+pub mod Numbers
+pub mod Forms
+pub mod Matched
+pub mod Outcomes
+pub mod FrameLaw
+pub mod Conflicts
+pub mod Histories
+pub mod OwnRecord
+pub mod Plan
+pub mod RecordForm
+pub mod Reach
+pub mod OrderFault

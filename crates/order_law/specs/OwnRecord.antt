@@ -1,0 +1,70 @@
+-- The edges of a program's own record, computed from the run of the whole suite in order.
+use Rattle.std.specs.Prelude.{◌≡◌, ℕ, zero, suc, ◌-◌, List, [], ◌∷◌, ◌++◌, map, filter, flat_map, length, take, codes, Bool, true, not, ◌&&◌, cond, nat_lt, nat_le, Some}
+use Rattle.std.specs.List.{range_with_len}
+use Rattle.jvm_model.specs.declared.values.Location.{Location}
+use Rattle.jvm_model.specs.declared.values.Touch.{Touch}
+use Rattle.jvm_model.specs.declared.program.Program.{Program}
+use Rattle.jvm_model.specs.World.{size, same}
+use Rattle.jvm_model.specs.Suite.{all_tests, Given, runs, is_detected}
+use Rattle.jvm_model.specs.Texts.{maker, location_text}
+use Rattle.jvm_model.specs.Linked.{Linked}
+use Rattle.order_law.specs.declared.edges.Edge.{Edge}
+use Rattle.order_law.specs.declared.edges.EdgeKind.{EdgeKind}
+use Rattle.order_law.specs.declared.edges.EdgeKind.TheVariants.{Raw, Waw, War}
+use Rattle.order_law.specs.Conflicts.{Tests, Member, Lawful, down}
+use Rattle.order_law.specs.Histories.{after_history, ran_after, writes_of, exposed_of, IsTestNumber, AreSequential}
+
+-- no test between u and t writes L
+abbrev pub none_between : Tests → ℕ → ℕ → Location → Bool
+none_between W u zero L = true
+none_between W u (suc x) L = cond (nat_lt u x) (not (W x L) && none_between W u x L) true
+
+-- whether there is a conflict of the kind at L
+abbrev pub conflicts : Tests → Tests → EdgeKind → ℕ → ℕ → Location → Bool
+conflicts W E Raw u t L = E t L && (W u L && none_between W u t L)
+conflicts W E Waw u t L = W u L && (W t L && none_between W u t L)
+conflicts W E War u t L = W t L && (E u L && (not (W u L) && none_between W u t L))
+
+-- the locations of a list, each at its first mention
+abbrev pub first_places : List Location → List Location
+first_places [] = []
+first_places (L ∷ ls) = L ∷ filter (λ M. not (same L M)) (first_places ls)
+
+-- the locations that a test touches in the suite's own order, in the order of first touch
+abbrev pub places_touched : Program → ℕ → List Location
+places_touched p t = first_places (map (λ (x : Touch). x.location) (ran_after p (down t) t).touches)
+
+-- those at which there is a conflict of the kind
+unfoldable pub conflict_places : Program → EdgeKind → ℕ → ℕ → List Location
+conflict_places p k u t = filter (λ L. conflicts (writes_of p) (exposed_of p) k u t L) (places_touched p t)
+
+-- how many objects a test makes in the suite's own order
+abbrev pub made_by : Program → ℕ → ℕ
+made_by p t = size (ran_after p (down t) t).world - size (after_history p (down t))
+
+-- an object of the suite's own order by its test and its number within the test
+unfoldable pub owner : Program → ℕ → ℕ × ℕ
+owner p o = maker 1 (map (λ t. made_by p t) (all_tests p)) o
+
+-- a text of more than 200 bytes is cut
+abbrev pub cut : List ℕ → List ℕ
+cut x = cond (nat_le (length x) 200) x (take 200 x ++ codes "...")
+
+-- the edge for these locations, where there is one at least
+abbrev pub edge_of : Program → EdgeKind → ℕ → ℕ → List Location → List Edge
+edge_of p k u t [] = []
+edge_of p k u t (L ∷ ls) = record { earlier = u; later = t; kind = k; count = length (L ∷ ls); first = cut (location_text p (owner p) L) } ∷ []
+
+-- the edges from u to t
+unfoldable pub edges_between : Program → ℕ → ℕ → List Edge
+edges_between p u t = edge_of p Raw u t (conflict_places p Raw u t) ++ (edge_of p Waw u t (conflict_places p Waw u t) ++ edge_of p War u t (conflict_places p War u t))
+
+-- all edges, by the later test, then the earlier one, then the kind
+unfoldable pub edges_of : Program → List Edge
+edges_of p = flat_map (λ t. flat_map (λ u. edges_between p u t) (range_with_len 1 (t - 1))) (all_tests p)
+
+-- The law of order with the program's own record: in every lawful list of a detected suite's tests each test gives the
+-- outcome that it gives in the suite's own order.
+abbrev pub OwnLaw : Type 0
+OwnLaw = (p : Program) (l : List ℕ) → Linked p → is_detected p ≡ true → ((t : ℕ) → Member t l → IsTestNumber p t) → Lawful (edges_of p) l →
+    (xs : List Given) × (runs p l ≡ Some xs) × AreSequential p l xs

@@ -1,0 +1,86 @@
+-- Chains and legal histories of claims and posts. A history has its latest event first. Workers are numbered from 1, and
+-- chains from 0 by their places in the list.
+use Rattle.std.specs.Prelude.{◌≡◌, ℕ, ◌<◌, ◌≤◌, List, [], ◌∷◌, ◌++◌, length, get_or, reverse, true, Some, cond, nat_eq}
+use Rattle.jvm_model.specs.declared.outcome.Outcome.{Outcome}
+use Rattle.jvm_model.specs.declared.program.Program.{Program}
+use Rattle.jvm_model.specs.Suite.{last_outcome, seq, is_detected}
+use Rattle.jvm_model.specs.Linked.{Linked}
+use Rattle.order_law.specs.declared.edges.Edge.{Edge}
+use Rattle.order_law.specs.Conflicts.{Member, Joined, ClosedUnderRaw}
+use Rattle.order_law.specs.Histories.{RecordOf, IsTestNumber}
+
+abbrev pub chain_at : List (List ℕ) → ℕ → List ℕ
+chain_at C i = get_or C i []
+
+-- each test below the later ones
+abbrev pub Ascending : List ℕ → Type 0
+Ascending [] = Unit {0}
+Ascending (t ∷ l) = ((u : ℕ) → Member u l → t < u) × Ascending l
+
+-- These are the chains of the set: the classes of the least equivalence that joins two members where one is before the
+-- other, each in suite order.
+pub record Chains (R : List Edge) (S : ℕ → Type 0) (C : List (List ℕ)) : Type 0 where
+  pub within : (i t : ℕ) → Member t (chain_at C i) → S t
+  pub covered : (t : ℕ) → S t → (i : ℕ) × Member t (chain_at C i)
+  pub joined : (i t u : ℕ) → Member t (chain_at C i) → Joined R S t u → Member u (chain_at C i)
+  pub least : (i t u : ℕ) → Member t (chain_at C i) → Member u (chain_at C i) → Joined R S t u
+  pub apart : (i j t : ℕ) → Member t (chain_at C i) → Member t (chain_at C j) → i ≡ j
+  pub ascending : (i : ℕ) → Ascending (chain_at C i)
+
+pub data Event : Type 0 where
+  -- a worker claims a chain
+  claim : ℕ → ℕ → Event
+  -- a worker posts a test with its outcome
+  post : ℕ → ℕ → Outcome → Event
+
+-- the chains that a worker claimed, and the tests that it posted, the latest first
+abbrev pub claims : List Event → ℕ → List ℕ
+claims [] w = []
+claims (claim v c ∷ es) w = cond (nat_eq v w) (c ∷ claims es w) (claims es w)
+claims (post v t o ∷ es) w = claims es w
+
+abbrev pub posts : List Event → ℕ → List ℕ
+posts [] w = []
+posts (claim v c ∷ es) w = posts es w
+posts (post v t o ∷ es) w = cond (nat_eq v w) (t ∷ posts es w) (posts es w)
+
+abbrev pub Posted : List Event → ℕ → Type 0
+Posted es t = (w : ℕ) × Member t (posts es w)
+
+-- the first test of the chain that isn't posted
+pub record NextOf (es : List Event) (chain : List ℕ) (t : ℕ) : Type 0 where
+  pub front : List ℕ
+  pub rest : List ℕ
+  pub split : chain ≡ front ++ (t ∷ rest)
+  pub posted : (x : ℕ) → Member x front → Posted es x
+  pub open_yet : Posted es t → ⊥
+
+-- the list that a worker's machine has run where it runs this test after its posts
+abbrev pub list_of : List Event → ℕ → ℕ → List ℕ
+list_of es w t = reverse (t ∷ posts es w)
+
+-- The event may follow the others. A claim: a chain that nobody claimed, by a worker whose earlier chains are all posted. A
+-- post: the next test of the worker's last chain, with its outcome after the worker's earlier posts.
+abbrev pub Meets : Program → List (List ℕ) → ℕ → Event → List Event → Type 0
+Meets p C n (claim w c) es = (0 < w) × (w ≤ n) × (c < length C) × ((v : ℕ) → Member c (claims es v) → ⊥) ×
+    ((i t : ℕ) → Member i (claims es w) → Member t (chain_at C i) → Member t (posts es w))
+Meets p C n (post w t o) es = (i : ℕ) × (rest : List ℕ) × (claims es w ≡ i ∷ rest) × NextOf es (chain_at C i) t × (last_outcome p (list_of es w t) ≡ Some o)
+
+abbrev pub Legal : Program → List (List ℕ) → ℕ → List Event → Type 0
+Legal p C n [] = Unit {0}
+Legal p C n (e ∷ es) = Meets p C n e es × Legal p C n es
+
+-- each post has the outcome of the suite's own order, and no test is posted twice
+abbrev pub PostsSequential : Program → List Event → Type 0
+PostsSequential p [] = Unit {0}
+PostsSequential p (claim w c ∷ es) = PostsSequential p es
+PostsSequential p (post w t o ∷ es) = (seq p t ≡ Some o) × (Posted es t → ⊥) × PostsSequential p es
+
+-- Every interleaving. In every legal history over the chains of a set that is closed under raw edges each post has the
+-- outcome of the suite's own order, and what a worker runs next will have it too, so that it meets no budget.
+abbrev pub LawOfInterleavings : Type 0
+LawOfInterleavings = (p : Program) (R : List Edge) (set : List ℕ) (C : List (List ℕ)) (n : ℕ) (es : List Event) →
+    Linked p → is_detected p ≡ true → RecordOf p R → ((t : ℕ) → Member t set → IsTestNumber p t) →
+    ClosedUnderRaw R (λ t. Member t set) → Chains R (λ t. Member t set) C → Legal p C n es →
+    PostsSequential p es × ((w t i : ℕ) (rest : List ℕ) → claims es w ≡ i ∷ rest → NextOf es (chain_at C i) t →
+    (o : Outcome) × (last_outcome p (list_of es w t) ≡ Some o) × (seq p t ≡ Some o))

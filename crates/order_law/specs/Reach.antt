@@ -1,0 +1,75 @@
+-- What a test reaches, whether it is settled, and the record of a program (this project's).
+use Rattle.std.specs.Prelude.{◌≡◌, ◌↔◌, ℕ, ◌+◌, ◌-◌, map, length, slice_get, Bool, true, false, not, ◌&&◌, ◌||◌, nat_eq, Option, Some, None}
+use Rattle.std.specs.List.{list_any, list_all}
+use Rattle.jvm_model.specs.declared.values.Base.TheVariants as base
+use Rattle.jvm_model.specs.declared.values.Kind.{Kind}
+use Rattle.jvm_model.specs.declared.values.Kind.TheVariants as kind
+use Rattle.jvm_model.specs.declared.values.Location.TheVariants as place
+use Rattle.jvm_model.specs.declared.instr.Instr.{Instr}
+use Rattle.jvm_model.specs.declared.instr.Instr.TheVariants as form
+use Rattle.jvm_model.specs.declared.outcome.Outcome.{Outcome}
+use Rattle.jvm_model.specs.declared.program.Body.{Body}
+use Rattle.jvm_model.specs.declared.program.Program.{Program}
+use Rattle.jvm_model.specs.World.{at, same}
+use Rattle.jvm_model.specs.Builtin.{builtin_count, out_field}
+use Rattle.jvm_model.specs.Classes.{class_at}
+use Rattle.jvm_model.specs.State.{test_at}
+use Rattle.jvm_model.specs.Suite.{all_tests, seq}
+use Rattle.jvm_model.specs.Linked.{IsGiven}
+use Rattle.order_law.specs.declared.records.Reach.{Reach}
+use Rattle.order_law.specs.declared.records.More.{More}
+use Rattle.order_law.specs.declared.records.Record.{Record}
+use Rattle.order_law.specs.declared.records.Prints.{Prints}
+use Rattle.order_law.specs.Conflicts.{Member, down}
+use Rattle.order_law.specs.Histories.{ran_after, exposed_of}
+use Rattle.order_law.specs.OwnRecord.{places_touched, edges_of}
+use Rattle.order_law.specs.RecordForm.{numbers_ascend}
+
+-- the class of a kind, or the innermost element class of an array
+abbrev pub inner_class : Kind → Option ℕ
+inner_class (kind.Class c) = Some c
+inner_class (kind.Array d (base.Class c)) = Some c
+inner_class (kind.Array d _) = None
+
+-- The least set of given classes that holds the class of the test, the classes of the objects whose heads it touches in the
+-- suite's own order, and with each class all that it mentions.
+pub data Reaches (p : Program) (t : ℕ) : ℕ → Type 0 where
+  own : IsGiven p (test_at p t).class → Reaches p t (test_at p t).class
+  touched : (o : ℕ) {c : ℕ} → Member (place.Head o) (places_touched p t) → inner_class (at (ran_after p (down t) t).world (place.Head o)).kind ≡ Some c → IsGiven p c → Reaches p t c
+  mentioned : {c d : ℕ} → Reaches p t c → Member d (class_at p c).mentions → IsGiven p d → Reaches p t d
+
+abbrev pub puts_out : Instr → Bool
+puts_out (form.PutStatic f) = nat_eq f out_field
+puts_out _ = false
+
+abbrev pub body_puts_out : Option Body → Bool
+body_puts_out None = false
+body_puts_out (Some b) = list_any (λ x. puts_out x.form) b.code
+
+-- The test is settled: each of its exposed reads is of the static `System.out`, and no code puts that.
+unfoldable pub is_settled : Program → ℕ → Bool
+is_settled p t = list_all (λ L. not (exposed_of p t L) || same L (place.Static out_field)) (places_touched p t) && not (list_any (λ m. body_puts_out m.body) p.methods)
+
+-- the reach of a test, its classes numbered from 1 in the suite's order
+pub record IsReachOf (p : Program) (t : ℕ) (r : Reach) : Type 0 where
+  pub settled : r.settled ≡ is_settled p t
+  pub ascending : numbers_ascend r.classes ≡ true
+  pub classes : (j : ℕ) → Member j r.classes ↔ Reaches p t (j + (builtin_count - 1))
+
+abbrev pub units_in : Option Outcome → ℕ
+units_in None = 0
+units_in (Some o) = o.units
+
+-- what version 2 of the record adds
+pub record IsMoreOf (p : Program) (x : Prints) (m : More) : Type 0 where
+  pub suite : m.suite ≡ x.suite
+  pub classes : m.classes ≡ x.classes
+  pub length : length m.reach ≡ length p.tests
+  pub reach : (i : ℕ) (r : Reach) → slice_get m.reach i ≡ Some r → IsReachOf p (i + 1) r
+
+-- The record of a detected program with these prints.
+pub record IsRecordOf (p : Program) (x : Prints) (r : Record) : Type 0 where
+  pub digest : r.digest ≡ x.digest
+  pub units : r.units ≡ map (λ t. units_in (seq p t)) (all_tests p)
+  pub edges : r.edges ≡ edges_of p
+  pub more : (m : More) → r.more ≡ Some m → IsMoreOf p x m

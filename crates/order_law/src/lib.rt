@@ -1,0 +1,35 @@
+//! The law of order: what two runs that agree on what they read have in common, and which lists of tests give each test its outcome.
+#![tactic(auto)]
+
+ghost use Rattle.order_law.specs.FrameLaw.{FrameLaw};
+ghost use Rattle.order_law.specs.Histories.{LawOfOrder};
+ghost use Rattle.order_law.specs.Plan.{LawOfInterleavings};
+ghost use Rattle.order_law.specs.OwnRecord.{OwnLaw};
+
+mod edges;
+mod locations;
+mod records;
+
+pub use edges::{Edge, EdgeKind};
+pub use locations::same_location;
+pub use records::{Chains, More, Place, Prints, Reach, Record, Shown};
+
+/// The frame law. Where two worlds, of one program or of two that match, agree on all that a test reads before it writes
+/// it, the test does the same in both: outcome, touches and what it leaves at the locations that it writes.
+pub fn frame_law()
+    ensures { FrameLaw }
+{}
+
+/// The law of order. In every lawful list of a detected suite's tests each test gives the outcome that it gives when the
+/// whole suite is run in order: by the edges of the suite's own record, and by any edges that are there exactly where
+/// there is a conflict.
+pub fn lawful_order_law()
+    ensures own { OwnLaw }
+    ensures any { LawOfOrder }
+{}
+
+/// Every interleaving. In every legal history of claims and posts each post has that outcome, no test is posted twice, and
+/// what a worker runs next will have it too, so that it meets no budget.
+pub fn interleavings_law()
+    ensures { LawOfInterleavings }
+{}
