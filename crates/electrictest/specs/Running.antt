@@ -1,10 +1,11 @@
 -- The whole suite run in order, with the rest of the suite's units.
-use Rattle.std.specs.Prelude.{◌≡◌, ℕ, ◌++◌, List, map, true, Option, Some, None, option_map, min}
-use Rattle.std.specs.List.{list_all}
+use Rattle.std.specs.Prelude.{◌≡◌, ℕ, ℤ, ◌+◌, ◌-◌, ◌++◌, List, length, map, true, Option, Some, None, option_map, min}
+use Rattle.std.specs.List.{list_all, range_with_len}
 use Rattle.jvm_model.specs.declared.outcome.Outcome.{Outcome}
 use Rattle.jvm_model.specs.declared.program.Program.{Program}
 use Rattle.jvm_model.specs.State.{test_at}
-use Rattle.jvm_model.specs.Suite.{Given, SuiteFault, suite_fault, one_test}
+use Rattle.jvm_model.specs.Suite.{Given, SuiteFault, suite_fault, fault_on, runs_on, one_test}
+use Rattle.vm_interp.specs.Standing.{world_of}
 use Rattle.jvm_model.specs.World.{World}
 use Rattle.electrictest.specs.Tests.{over_status}
 use Rattle.electrictest.specs.declared.loaded.Loaded.{Loaded}
@@ -36,3 +37,15 @@ least p t r = min (test_at p t).budget r
 abbrev pub OneRefused : Loaded → World → ℕ → ℕ → Status → Type 0
 OneRefused l w t r ends.NoMemory = Unit {0}
 OneRefused l w t r s = (one_test l.program w t (least l.program t r) ≡ None) × (s ≡ over_status l t (test_at l.program t).budget r)
+
+-- the tests after the first i
+abbrev pub tests_after : Program → ℕ → List ℕ
+tests_after p i = range_with_len (i + 1) (length p.tests - i)
+
+-- the run after i tests, with these statics and this rest of the suite's units
+pub record Along (l : Loaded) (i : ℕ) (statics : List ℤ) (rest : ℕ) (outcomes : List Outcome) (begun now : ℕ) : Type 0 where
+  pub fields : length statics + 2 ≡ length l.program.fields
+  pub faults : fault_on l.program (world_of l.program statics) rest (tests_after l.program i) ≡ suite_fault l.program
+  pub runs : outcomes_behind outcomes (runs_on l.program (world_of l.program statics) (tests_after l.program i)) ≡ outcomes_of l.program
+  pub passed : list_all is_passed outcomes ≡ true
+  pub counts : now ≡ begun + units_in outcomes

@@ -1,6 +1,6 @@
 //! The whole suite, run in order.
 
-ghost use Rattle.std.specs.Prelude.{◌≡◌, ◌+◌, ◌-◌, ◌≤◌, ◌<◌, ◌^◌, ◌∷◌, [], ℤ, ℕ, List, length, IfOk, IfErr, get_or, Some, min};
+ghost use Rattle.std.specs.Prelude.{◌≡◌, ◌+◌, ◌-◌, ◌≤◌, ◌<◌, ◌^◌, ◌∷◌, [], ℤ, ℕ, List, length, IfOk, IfErr, get_or, Some, min, replicate, pos};
 ghost use Rattle.std.specs.List.{range_with_len};
 ghost use Rattle.jvm_model.specs.declared.values.Touch.{Touch};
 ghost use Rattle.jvm_model.specs.Suite.{one_test, fault_of};
@@ -8,6 +8,7 @@ ghost use Rattle.vm_interp.specs.Standing.{world_of};
 ghost use Rattle.vm_interp.specs.Served.{IsServed};
 ghost use Rattle.electrictest.specs.Runnable.{IsRunnable};
 ghost use Rattle.electrictest.specs.Running.{Ran, RunRefused, OneRefused, least};
+ghost use Rattle.jvm_model.specs.declared.outcome.Verdict.TheVariants as verdict;
 ghost use Rattle.electrictest.specs.Replies as reply;
 ghost use Rattle.electrictest.specs.Tests as tests;
 
@@ -73,7 +74,7 @@ fn run_one<L: Ledger>(
     requires statics { length statics.old + 2 ≡ length loaded.now.program.fields }
     ensures gives { IfOk result (λ o. (ts : List Touch) × one_test loaded.now.program (world_of loaded.now.program statics.old) test (least loaded.now.program test rest)
         ≡ Some (record { outcome = o; world = world_of loaded.now.program statics.new; touches = ts })) }
-    ensures passes { IfOk result (λ o. o.verdict ≡ Verdict.Passed) }
+    ensures passes { IfOk result (λ o. o.verdict ≡ verdict.Passed) }
     ensures counted { IfOk result (λ o. steps.new ≡ steps.old + o.units) }
     ensures refused { IfErr result (OneRefused loaded.now (world_of loaded.now.program statics.old) test rest) }
 {
@@ -93,4 +94,37 @@ fn run_one<L: Ledger>(
             Err(status)
         }
     }
+}
+
+// So many statics, all 0.
+fn zeros(alloc: Global, count: usize) -> Result<Vec<i32>, NoMemory>
+    ensures { IfOk result (λ made. made.items ≡ replicate count (pos 0)) }
+{
+    let made = vec![in alloc; 0; count]?;
+    Ok(made)
+}
+
+/// The outcomes of a whole suite, run in order on one heap.
+///
+/// `Over` comes where a test passes its budget or the rest of the suite's units.
+pub fn run_all<L: Ledger>(
+    alloc: Global,
+    loaded: &Loaded,
+    steps: &mut Steps<L>,
+) -> Result<Items<Outcome>, Status>
+    requires runs { IsRunnable loaded.now.program }
+    ensures ran { IfOk result (Ran loaded.now) }
+    ensures counted { IfOk result (λ outcomes. steps.new ≡ steps.old + reply.units_in outcomes) }
+    ensures refused { IfErr result (RunRefused loaded.now) }
+{
+    let mut statics = zeros(alloc, loaded.program.fields.len() - 2)?;
+    let mut outcomes = Items::new(alloc);
+    let mut rest = SUITE_LIMIT;
+    for index in 0..loaded.program.tests.len() {
+        let test = (index + 1) as u32;
+        let outcome = run_one(alloc, loaded, &mut statics, test, rest, steps)?;
+        rest -= outcome.units;
+        outcomes.push(outcome)?;
+    }
+    Ok(outcomes)
 }

@@ -3,6 +3,7 @@
 ghost use Rattle.std.specs.Prelude.{◌≡◌, ◌≢◌, ℤ, List, [], ◌+◌, ◌-◌, ◌^◌, ◌<◌, ◌≤◌, length, Option, OnOk, OnErr, IfErr, IfOk};
 ghost use Rattle.vm_interp.specs.declared.state.RunFault.TheVariants as fault;
 ghost use Rattle.vm_interp.specs.declared.state.Place.TheVariants as stands;
+ghost use Rattle.jvm_model.specs.declared.outcome.Verdict.TheVariants as verdict;
 ghost use Rattle.vm_interp.specs.Served.{IsServed, body_of};
 ghost use Rattle.vm_interp.specs.Standing.{Stands, IsHere, Stepped, Refused, Rest, Gave, Unended, world_of};
 ghost use Rattle.jvm_model.specs.declared.values.Touch.{Touch};
@@ -202,6 +203,7 @@ pub fn run_test<L: Ledger>(
     requires statics { length statics.old + 2 ≡ length p.now.fields }
     ensures gives { IfOk result (λ o. (ts : List Touch) × one_test p.now (world_of p.now statics.old) test budget
         ≡ Some (record { outcome = o; world = world_of p.now statics.new; touches = ts })) }
+    ensures passes { IfOk result (λ o. o.verdict ≡ verdict.Passed) }
     ensures counts { IfOk result (λ o. steps.new ≡ steps.old + o.units) }
     ensures refused { IfErr result (Unended test (one_test p.now (world_of p.now statics.old) test budget)) }
 {
