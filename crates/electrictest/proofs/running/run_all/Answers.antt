@@ -1,36 +1,25 @@
-use Rattle.std.proofs.Common.{rules, ◌≡◌, ◌+◌, ◌-◌, ◌≤◌, ◌<◌, ◌^◌, ◌∷◌, [], ℤ, ℕ, List, length, IfOk, IfErr, get_or, Some, min, replicate, pos, ◌*◌, ◌/◌, ◌%◌, Bool, true, false, nat_eq, nat_lt, ◌++◌, slice_set, bit_and, bit_or, Fits, w8, w32, w64, Bor, MutBor}
-use Rattle.std.specs.List.{range_with_len}
-use Rattle.jvm_model.specs.declared.values.Touch.{Touch}
-use Rattle.jvm_model.specs.Suite.{one_test, fault_of}
-use Rattle.vm_interp.specs.Standing.{world_of}
-use Rattle.vm_interp.specs.Served.{IsServed}
-use Rattle.electrictest.specs.Runnable.{IsRunnable}
-use Rattle.electrictest.specs.Running.{Ran, RunRefused, OneRefused, least}
-use Rattle.jvm_model.specs.declared.outcome.Verdict.TheVariants as verdict
-use Rattle.electrictest.specs.Replies as reply
-use Rattle.electrictest.specs.Tests as tests
+use Rattle.std.proofs.Common.{refl, rules, ap, sym, ◌∙◌, subst}
+use Rattle.std.proofs.lemmas.Result.{err_from_is_err_and}
+use Rattle.electrictest.specs.Running.{Along}
+use Rattle.electrictest.proofs.Runs.{along_first, along_more, along_last, along_refused, refused_exit, units_within}
 use Rattle.electrictest.proofs.running.run_all.Goals as goal
 
--- src/running.rt:123:5
 pub loop-index-init : goal.loop-index-init
 loop-index-init g c = ?
 
--- src/running.rt:125:23
 pub returns-in_err-outcome-clause-refused : goal.returns-in_err-outcome-clause-refused
-returns-in_err-outcome-clause-refused g c = ?
+returns-in_err-outcome-clause-refused g c =
+    refused_exit c.args.loaded.now _ _ (err_from_is_err_and c.from_residual-in_err-outcome.result c.from_residual-in_err-outcome.ensures.1)
+    (along_refused c.args.loaded.now c.loop-index.index c.loop-index.rest _ _ _ c.loop-index.outcomes _ ? c.loop-index.invariant ?)
 
--- src/running.rt:126:9
 pub overflow_sub-rest : goal.overflow_sub-rest
 overflow_sub-rest g c = ?
 
--- src/running.rt:123:5
 pub loop-index-preserved : goal.loop-index-preserved
 loop-index-preserved g c = ?
 
--- src/running.rt:110:1
 pub returns-clause-ran : goal.returns-clause-ran
-returns-clause-ran g c = ?
+returns-clause-ran g c = along_last c.args.loaded.now c.loop-index.index c.loop-index.rest _ _ _ c.loop-index.outcomes ? c.loop-index.invariant
 
--- src/running.rt:110:1
 pub returns-clause-counted : goal.returns-clause-counted
-returns-clause-counted g c = ?
+returns-clause-counted g c = c.loop-index.invariant.counts
