@@ -12,7 +12,7 @@ mod switches;
 
 pub use decoding::{Code, CodeFault, code_at, decode};
 pub use instructions::RawOp;
-pub use opcodes::{Constant, Named, Shape};
+pub use opcodes::{Constant, Named, Shape, shape_of, takes_local};
 pub use starts::Starts;
 
 #[cfg(test)]

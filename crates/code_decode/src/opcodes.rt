@@ -77,7 +77,7 @@ fn has_no_operands(opcode: u8) -> bool
     )
 }
 
-// The loads and stores that name their local variable.
+/// Whether this is a load or a store that names its local variable, and so may stand behind wide (JVMS 6.5).
 pub fn takes_local(opcode: u8) -> bool
     ensures { result ≡ takes_local opcode }
 {
@@ -91,7 +91,7 @@ pub fn takes_branch(opcode: u8) -> bool
     matches!(opcode, 153..=167 | 198 | 199)
 }
 
-// The form of an opcode's operands; none for wide and outside of the profile.
+/// The form of an opcode's operands (JVMS 6.5); none for wide and for opcodes outside of the profile.
 #[tactic(auto, unfolding(crate::specs::Opcodes::shape_of))]
 pub fn shape_of(opcode: u8) -> Option<Shape>
     ensures { result ≡ shape_of opcode }
