@@ -8,3 +8,4 @@ pub mod Faults
 pub mod PoolFaults
 pub mod OffsetsLaw
 pub mod PoolFacts
+pub mod NamesSpelled

@@ -46,7 +46,7 @@ handle_at bytes = do
   index ← number_at w16 kind.1
   Ok (MethodHandle kind.0 index.0, index.1)
 
--- The content behind a tag (JVMS 4.4): first the entries of two indices, and none for other tags; left is what is left at the tag.
+-- The content behind the tag of an entry of two indices. A tag that is none of these is wrong; left is what is left at the tag.
 unfoldable pub twins_at : ℕ → ℕ → List ℕ → Result (Entry × List ℕ) Fault
 twins_at tag left bytes = if tag == 9 then twin_at Field bytes
     else if tag == 10 then twin_at Method bytes
@@ -55,14 +55,14 @@ twins_at tag left bytes = if tag == 9 then twin_at Field bytes
     else if tag == 18 then twin_at InvokeDynamic bytes
     else Err (BadTag left tag)
 
--- those of one index before them
+-- the content behind the tag of an entry of one index, or of two
 unfoldable pub singles_at : ℕ → ℕ → List ℕ → Result (Entry × List ℕ) Fault
 singles_at tag left bytes = if tag == 7 then single_at Class bytes
     else if tag == 8 then single_at Str bytes
     else if tag == 16 then single_at MethodType bytes
     else twins_at tag left bytes
 
--- Numbers before them. A long or a double has a slot after its own, so it can't stand in the last one.
+-- The content behind the tag of a number, or of an entry of indices. A long or a double has a slot after its own, so it can't stand in the last one.
 unfoldable pub numbers_at : ℕ → ℕ → ℕ → List ℕ → Result (Entry × List ℕ) Fault
 numbers_at tag slots left bytes = if tag == 3 then (do
   n ← number_at w32 bytes
@@ -78,7 +78,7 @@ numbers_at tag slots left bytes = if tag == 3 then (do
       Ok (Double n.0, n.1))
     else singles_at tag left bytes
 
--- and texts and method handles before them
+-- the content behind any tag (JVMS 4.4)
 unfoldable pub body_at : ℕ → ℕ → ℕ → List ℕ → Result (Entry × List ℕ) Fault
 body_at tag slots left bytes = if tag == 1 then text_at bytes
     else if tag == 15 then handle_at bytes

@@ -1,19 +1,32 @@
 //! Names and descriptors (JVMS 4.2 and 4.3).
 
-ghost use Rattle.std.specs.Prelude.{◌≡◌, ◌==◌, not, length, option_map, position};
+ghost use Rattle.class_pool.specs.NamesGrammar.{IsFieldType, IsMethodType};
+ghost use Rattle.std.specs.Prelude.{◌≡◌, ◌==◌, not, length, option_map, position, ℕ, ◌↔◌, IsTrue, IfSome, Some};
 ghost use Rattle.std.specs.List.{list_all};
 ghost use Rattle.class_pool.specs.Names.{is_plain, is_unqualified, is_special, is_unpointed, is_method_name, is_class_name, is_base, after_class, after_element, after_type, ends, is_field_descriptor, starts_array, is_class_entry_name, units_of_type, argument, after_close, arguments, is_return, argument_units, is_method_descriptor};
+
+const DOT: u16 = 46;
+
+const SLASH: u16 = 47;
+
+const SEMICOLON: u16 = 59;
+
+const LESS: u16 = 60;
+
+const MORE: u16 = 62;
+
+const BRACKET: u16 = 91;
 
 fn is_plain(unit: u16) -> bool
     ensures { result ≡ is_plain unit }
 {
-    !(unit == 46 || unit == 59 || unit == 91 || unit == 47)
+    !(unit == DOT || unit == SEMICOLON || unit == BRACKET || unit == SLASH)
 }
 
 fn is_unpointed(unit: u16) -> bool
     ensures { result ≡ is_unpointed unit }
 {
-    !(unit == 60 || unit == 62)
+    !(unit == LESS || unit == MORE)
 }
 
 fn all_plain(units: &[u16]) -> bool
@@ -60,7 +73,7 @@ pub fn is_class_name(units: &[u16]) -> bool
 {
     let mut begun = false;
     for unit in units {
-        if *unit == 47 {
+        if *unit == SLASH {
             if !begun {
                 return false;
             }
@@ -77,6 +90,7 @@ pub fn is_class_name(units: &[u16]) -> bool
 fn is_base(unit: u16) -> bool
     ensures { result ≡ is_base unit }
 {
+    // B C D F I J S Z
     matches!(unit, 66 | 67 | 68 | 70 | 73 | 74 | 83 | 90)
 }
 
@@ -84,7 +98,7 @@ fn is_base(unit: u16) -> bool
 fn semicolon(units: &[u16]) -> Option<usize>
     ensures { result ≡ position (λ u. u == 59) units.now }
 {
-    units.iter().position(|unit| *unit == 59)
+    units.iter().position(|unit| *unit == SEMICOLON)
 }
 
 // What follows a class name and its semicolon.
@@ -123,7 +137,7 @@ fn after_element(units: &[u16]) -> Option<&[u16]>
 fn brackets(units: &[u16]) -> Option<usize>
     ensures { result ≡ position (λ u. not (u == 91)) units.now }
 {
-    units.iter().position(|unit| *unit != 91)
+    units.iter().position(|unit| *unit != BRACKET)
 }
 
 /// What follows the field type at the front; none where none stands there. An array type has at most
@@ -140,12 +154,19 @@ pub fn after_type(units: &[u16]) -> Option<&[u16]>
     }
 }
 
-/// Whether these units are a field descriptor (JVMS 4.3.2).
 #[tactic(auto, unfolding(crate::specs::Names::is_field_descriptor))]
-pub fn is_field_descriptor(units: &[u16]) -> bool
+fn is_whole_type(units: &[u16]) -> bool
     ensures { result ≡ is_field_descriptor units.now }
 {
     matches!(after_type(units), Some([]))
+}
+
+/// Whether these units are a field descriptor (JVMS 4.3.2).
+pub fn is_field_descriptor(units: &[u16]) -> bool
+    ensures test { result ≡ is_field_descriptor units.now }
+    ensures grammar { IsTrue result ↔ IsFieldType units.now }
+{
+    is_whole_type(units)
 }
 
 /// Whether a Class entry may have this name: that of a class or interface, or an array type's
@@ -162,6 +183,7 @@ fn units_of_type(units: &[u16]) -> u8
     ensures { result ≡ units_of_type units.now }
 {
     match units {
+        // J and D
         [74 | 68, ..] => 2,
         _ => 1,
     }
@@ -210,10 +232,8 @@ fn is_return(units: &[u16]) -> bool
     units == [86].as_slice() || is_field_descriptor(units)
 }
 
-/// How many units the arguments of this method descriptor take, a long or double two and every other
-/// one; none where it is no method descriptor. There are at most 255 (JVMS 4.3.3).
 #[tactic(auto, unfolding(crate::specs::Names::argument_units))]
-pub fn argument_units(units: &[u16]) -> Option<u8>
+fn count_arguments(units: &[u16]) -> Option<u8>
     ensures { result ≡ argument_units units.now }
 {
     match units {
@@ -223,6 +243,16 @@ pub fn argument_units(units: &[u16]) -> Option<u8>
         }
         _ => None,
     }
+}
+
+/// How many units the arguments of this method descriptor take, a long or double two and every other
+/// one; none where it is no method descriptor. There are at most 255 (JVMS 4.3.3).
+pub fn argument_units(units: &[u16]) -> Option<u8>
+    ensures count { result ≡ argument_units units.now }
+    ensures found { IfSome result (λ n. IsMethodType units.now n) }
+    ensures only { (n : ℕ) → IsMethodType units.now n → result ≡ Some n }
+{
+    count_arguments(units)
 }
 
 /// Whether these units are a method descriptor (JVMS 4.3.3).

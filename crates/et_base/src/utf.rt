@@ -119,7 +119,7 @@ pub fn units_of_modified(alloc: Global, bytes: &[u8]) -> Result<Units, UtfFault>
     Ok(units)
 }
 
-/// Appends the group of a unit. After a refusal part of it may stand there.
+// Appends the group of a unit.
 #[tactic(auto, unfolding(crate::specs::Utf::group))]
 fn push_group(out: &mut Vec<u8>, unit: u16) -> Result<(), NoMemory>
     ensures { OnOk result (out.new.items ≡ out.old.items ++ group unit) }
