@@ -1,21 +1,20 @@
 -- Stack maps: what is read is spelled so, and what is spelled so is read.
-use Rattle.std.proofs.Common.{◌≡◌, ℕ, zero, suc, ◌+◌, ◌-◌, ◌%◌, ◌^◌, ◌<◌, ◌≤◌, Bool, true, false, cond, eqb, ltb, eq-eqb, List, [], ◌∷◌, ◌++◌, length, take, Option, Result, Ok, Err, refl, sym, ap, subst, ◌∙◌, append_assoc, arith}
+use Rattle.std.proofs.Common.{◌≡◌, ℕ, zero, suc, ◌+◌, ◌-◌, ◌%◌, ◌^◌, ◌<◌, ◌≤◌, Bool, true, false, cond, eqb, ltb, eq-eqb, List, [], ◌∷◌, ◌++◌, length, take, Option, Ok, Err, refl, sym, ap, subst, ◌∙◌, append_assoc, arith}
 use Rattle.std.specs.Int.{w8, w16, w32, to_be_bytes}
 use Rattle.std.proofs.lemmas.Bool.{eqb-true}
 use Rattle.std.proofs.lemmas.List.{append-nil, length-append, take_at}
-use Rattle.class_pool.specs.declared.fault.Fault.{Fault}
 use Rattle.class_pool.specs.declared.fault.Fault.TheVariants.{Truncated, BadLength}
 use Rattle.class_pool.specs.declared.pool.Entry.{Entry}
 use Rattle.class_pool.specs.Reading.{◌>>=◌, number_at, run_at, tested}
 use Rattle.class_pool.specs.Loops.{counted}
-use Rattle.class_pool.specs.Grammar.{IsBytes, Nothing, Then, Mapped, Never, Tested, Number, Run, Counted, Joined, Sized}
+use Rattle.class_pool.specs.Grammar.{IsBytes, Nothing, Mapped, Never, Joined}
 use Rattle.class_pool.proofs.Laws.{bind_ok, ok_is, tested_ok, picked, Taken, Reads, reads_nothing, reads_then, tested_then, reads_mapped, reads_if, reads_never, reads_run, reads_8, reads_16, reads_32, reads_counted}
 use Rattle.class_reader.specs.declared.parts.MapType.{MapType}
 use Rattle.class_reader.specs.declared.parts.MapFrame.{MapFrame}
 use Rattle.class_reader.specs.declared.parts.MapPart.{MapPart}
 use Rattle.class_reader.specs.Indices.{index_at, Short, Index}
 use Rattle.class_reader.specs.Maps.{type_of, frame_of, is_object, tagged_at, type_at, given_at, types_at, is_frame_tag, tells_delta, stack_given, frame_at, is_bad_length, has_bad_tag, within, kept_at, frames_at, map_at}
-use Rattle.class_reader.specs.MapGrammar.{TaggedText, TypeText, GivenText, TypesText, FrameText, FramesText, ContentText, MapText}
+use Rattle.class_reader.specs.MapGrammar.{TaggedText, TypeText, GivenText, TypesText, FrameText, FramesText, MapText}
 use Rattle.class_reader.proofs.IndexLaw.{reads_index}
 
 -- ---- an entry

@@ -1,6 +1,6 @@
 -- The grammar of a class file, part by part. Attributes that are skipped are no part of what is spelled.
-use Rattle.std.specs.Prelude.{◌≡◌, ◌^◌, ◌+◌, ℕ, List, [], ◌∷◌, length, Option, Some, None, is_some, Ok, Bool, not, nat_lt, nat_le, ◌==◌, ◌&&◌, cond}
-use Rattle.std.specs.Int.{w16, w32}
+use Rattle.std.specs.Prelude.{◌^◌, ℕ, List, [], Option, Some, None, is_some, Bool, not, nat_lt, nat_le, ◌==◌, ◌&&◌, cond}
+use Rattle.std.specs.Int.{w32}
 use Rattle.class_pool.specs.declared.pool.Entry.{Entry}
 use Rattle.class_pool.specs.Pool.{entry_of, is_text, is_class}
 use Rattle.class_pool.specs.Grammar.{Nothing, Then, Mapped, Tested, Number, Run, Counted, Sized, Chain}

@@ -1,8 +1,7 @@
 -- The grammar of stack maps (JVMS 4.7.4).
 use Rattle.std.specs.Prelude.{◌≡◌, ℕ, zero, suc, ◌-◌, ◌%◌, ◌^◌, List, [], ◌∷◌, ◌++◌, Option, Bool, true, nat_lt, ◌==◌, cond}
-use Rattle.std.specs.Int.{w8, w16}
+use Rattle.std.specs.Int.{w8}
 use Rattle.class_pool.specs.declared.pool.Entry.{Entry}
-use Rattle.class_pool.specs.Pool.{is_class}
 use Rattle.class_pool.specs.Grammar.{IsBytes, Nothing, Then, Mapped, Never, Tested, Number, Counted, Sized}
 use Rattle.class_reader.specs.declared.parts.MapType.{MapType}
 use Rattle.class_reader.specs.declared.parts.MapFrame.{MapFrame}

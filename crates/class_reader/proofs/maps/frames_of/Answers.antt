@@ -1,4 +1,4 @@
-use Rattle.std.proofs.Common.{arith, ◌≡◌, ◌∙◌, sym, ap, take, false, true, []}
+use Rattle.std.proofs.Common.{arith, ◌≡◌, ◌∙◌, sym, ap, take, false, true}
 use Rattle.std.proofs.lemmas.Result.{err_from_is_err_and}
 use Rattle.class_reader.specs.Maps.{has_bad_tag, within, kept_at}
 use Rattle.class_reader.proofs.MapSteps.{frames_on, frames_fail, frames_stop, frames_done}
