@@ -1,0 +1,81 @@
+-- The types that a descriptor names (JVMS 4.3), by units: ( ) are 40 and 41, ; is 59, [ is 91, and the letters are
+-- B 66, C 67, D 68, F 70, I 73, J 74, L 76, S 83, V 86, Z 90.
+use Rattle.std.specs.Prelude.{ℕ, List, [], ◌∷◌, ◌++◌, length, take, reverse, replicate, Bool, true, false, not, ◌&&◌, ◌||◌, nat_eq, ◌-◌, slice_index_or, flat_map}
+use Rattle.jvm_model.specs.declared.values.Kind.{Kind}
+use Rattle.jvm_model.specs.declared.values.Kind.TheVariants as kind
+use Rattle.jvm_model.specs.declared.values.Base.{Base}
+use Rattle.jvm_model.specs.declared.values.Base.TheVariants as base
+use Rattle.jvm_model.specs.declared.program.Program.{Program}
+use Rattle.jvm_model.specs.Classes.{class_at}
+use Rattle.type_frames.specs.declared.vtype.VType.{VType}
+use Rattle.type_frames.specs.declared.vtype.VType.TheVariants.{Top, Int, Long, Null, Object, UninitThis, Uninit}
+
+-- the text of a type ends with this unit: in a class's name with its semicolon, else with any letter but L
+abbrev pub ends_with : Bool → ℕ → Bool
+ends_with inside u = elim inside [ true ↦ nat_eq u 59 | false ↦ not (nat_eq u 91 || nat_eq u 76) ]
+
+-- the texts of the types in order, parentheses left out; inside: in a class's name; text: what was read of a type
+abbrev pub texts_from : Bool → List ℕ → List ℕ → List (List ℕ)
+texts_from inside text [] = []
+texts_from inside text (u ∷ us) = elim (not inside && (nat_eq u 40 || nat_eq u 41)) [
+  | true ↦ texts_from false [] us
+  | false ↦ elim (ends_with inside u) [
+    | true ↦ (text ++ u ∷ []) ∷ texts_from false [] us
+    | false ↦ texts_from (inside || nat_eq u 76) (text ++ u ∷ []) us ] ]
+
+-- the texts of the types that a descriptor names; the last one of a method's is its result
+unfoldable pub texts_in : List ℕ → List (List ℕ)
+texts_in d = texts_from false [] d
+
+abbrev pub parameter_texts : List ℕ → List (List ℕ)
+parameter_texts d = take (length (texts_in d) - 1) (texts_in d)
+
+abbrev pub result_text : List ℕ → List ℕ
+result_text d = slice_index_or (texts_in d) (length (texts_in d) - 1) []
+
+-- a class's name, from what follows the L of its text
+abbrev pub class_name : List ℕ → List ℕ
+class_name us = take (length us - 1) us
+
+-- The type that a text says: one, or none for void. A float or a double, which this project doesn't serve, is what
+-- nothing can use, in one place or two.
+abbrev pub types_of : List ℕ → List VType
+types_of [] = []
+types_of (u ∷ us) = elim (nat_eq u 74) [ true ↦ Long ∷ [] | false ↦
+  elim (nat_eq u 76) [ true ↦ Object (class_name us) ∷ [] | false ↦
+  elim (nat_eq u 91) [ true ↦ Object (u ∷ us) ∷ [] | false ↦
+  elim (nat_eq u 86) [ true ↦ [] | false ↦
+  elim (nat_eq u 70) [ true ↦ Top ∷ [] | false ↦
+  elim (nat_eq u 68) [ true ↦ Top ∷ Top ∷ [] | false ↦ Int ∷ [] ] ] ] ] ] ]
+
+-- the letter of the innermost element type of a type
+abbrev pub element_letter : List ℕ → ℕ
+element_letter [] = 86
+element_letter (u ∷ us) = elim (nat_eq u 91) [ true ↦ element_letter us | false ↦ u ]
+
+-- whether a descriptor names a float or a double, or an array of them
+abbrev pub any_float : List (List ℕ) → Bool
+any_float [] = false
+any_float (t ∷ ts) = (nat_eq (element_letter t) 70 || nat_eq (element_letter t) 68) || any_float ts
+
+abbrev pub has_float : List ℕ → Bool
+has_float d = any_float (texts_in d)
+
+-- the name of a class by its number
+abbrev pub name_of : Program → ℕ → List ℕ
+name_of p c = (class_at p c).name
+
+-- the descriptor of an element type
+abbrev pub base_text : Program → Base → List ℕ
+base_text p base.Boolean = 90 ∷ []
+base_text p base.Byte = 66 ∷ []
+base_text p base.Char = 67 ∷ []
+base_text p base.Short = 83 ∷ []
+base_text p base.Int = 73 ∷ []
+base_text p base.Long = 74 ∷ []
+base_text p (base.Class c) = 76 ∷ (name_of p c ++ 59 ∷ [])
+
+-- the name of a class, or the descriptor of an array
+abbrev pub kind_name : Program → Kind → List ℕ
+kind_name p (kind.Class c) = name_of p c
+kind_name p (kind.Array dims b) = replicate dims 91 ++ base_text p b
