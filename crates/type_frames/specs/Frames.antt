@@ -1,5 +1,5 @@
 -- Frames as the rules see them (JVMS 4.10.1.4).
-use Rattle.std.specs.Prelude.{ℕ, zero, suc, List, [], ◌∷◌, ◌++◌, length, map, reverse, replicate, Bool, true, false, cond, ◌&&◌, ◌||◌, nat_eq, ◌-◌, Option, Some, None, slice_index_or}
+use Rattle.std.specs.Prelude.{ℕ, zero, suc, List, [], ◌∷◌, ◌++◌, length, map, reverse, replicate, Bool, true, false, cond, ◌&&◌, ◌||◌, nat_eq, ◌-◌, Option, Some, None, slice_index_or, flat_map}
 use Rattle.std.specs.List.{position_from}
 use Rattle.jvm_model.specs.World.{same_units}
 use Rattle.type_frames.specs.declared.vtype.VType.{VType}
@@ -27,11 +27,14 @@ same _ _ = false
 abbrev pub slots_of : Frame → Slots
 slots_of g = record { locals = g.locals; stack = reverse g.stack; flag = g.flag }
 
--- types by place: a long takes two, the second is Top
+-- the places of a type: a long takes two, the second is Top
+abbrev pub places_of : VType → List VType
+places_of Long = Long ∷ Top ∷ []
+places_of t = t ∷ []
+
+-- types by place
 abbrev pub spread : List VType → List VType
-spread [] = []
-spread (Long ∷ ts) = Long ∷ Top ∷ spread ts
-spread (t ∷ ts) = t ∷ spread ts
+spread ts = flat_map places_of ts
 
 -- at least n places, those past the list unknown (JVMS 4.10.1.6)
 abbrev pub padded : ℕ → List VType → List VType

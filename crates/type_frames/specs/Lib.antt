@@ -2,6 +2,7 @@ pub mod Frames
 pub mod Descriptors
 pub mod Assign
 pub mod Given
+pub mod Places
 pub mod Environment
 pub mod Sides
 pub mod Rules

@@ -5,11 +5,11 @@ ghost use Rattle.jvm_model.specs.World.{same_units};
 ghost use Rattle.jvm_model.specs.Classes as classes;
 ghost use Rattle.jvm_model.specs.Classes.{class_at, class_bound, is_below, member, upwards_in};
 ghost use Rattle.type_frames.specs.Assign.{assignable, class_fits, class_named, element_fits, extends, is_array, object_fits, takes_any};
-ghost use Rattle.type_frames.specs.Descriptors.{class_name};
 ghost use Rattle.type_frames.specs.Frames.{same};
 
 use jvm_model::Program;
 
+use crate::descriptors::class_name;
 use crate::vtype::VType;
 
 /// The class `java.lang.Object`.
@@ -132,16 +132,6 @@ fn class_fits(p: &Program, a: &[u16], b: &[u16]) -> bool
     ensures { result ≡ class_fits p.now a.now b.now }
 {
     same_units(a, b) || (takes_any(p, b) || extends(p, a, b))
-}
-
-// A class's name, from what follows the L of its text.
-fn class_name(text: &[u16]) -> &[u16]
-    ensures { result.now ≡ class_name text.now }
-{
-    if text.is_empty() {
-        return text;
-    }
-    &text[..text.len() - 1]
 }
 
 fn element_fits(p: &Program, a: &[u16], b: &[u16]) -> bool

@@ -2,11 +2,15 @@
 #![tactic(auto)]
 
 mod assign;
+mod descriptors;
 mod fault;
+mod places;
 mod sides;
 mod vtype;
 
 pub use assign::{assignable, same, same_units};
+pub use descriptors::{class_name, copy_units, push_all_types, push_types, texts_in};
 pub use fault::{CheckFault, FrameFault};
+pub use places::Places;
 pub use sides::{Need, Reading, Setting, Sides, Turn};
 pub use vtype::{Frame, VType};
