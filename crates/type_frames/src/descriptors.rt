@@ -54,6 +54,7 @@ fn with_unit(alloc: Global, scan: Scan, u: u16) -> Result<Scan, NoMemory>
 }
 
 /// The texts of the types that a descriptor names, in order; the last one of a method's is its result.
+#[tactic(auto, unfolding(crate::specs::Descriptors::texts_in))]
 pub fn texts_in(alloc: Global, descriptor: &[u16]) -> Result<Items<Units>, NoMemory>
     ensures { IfOk result (λ texts. texts ≡ texts_in descriptor.now) }
 {

@@ -1,6 +1,6 @@
 //! Where numbers stand in a list, found at once.
 
-ghost use Rattle.std.specs.Prelude.{◌≡◌, IfOk, length, ◌<◌};
+ghost use Rattle.std.specs.Prelude.{◌≡◌, IfOk, length, ◌<◌, replicate, None};
 ghost use Rattle.type_frames.specs.Frames.{index_of};
 ghost use Rattle.type_frames.specs.Places.{IsIndex, noted};
 
@@ -27,8 +27,8 @@ impl Model for Places {
 }
 
 // Keeps the first index of a number.
-fn note(first: &mut [Option<usize>], number: u32, index: usize)
-    ensures { first.new ≡ noted first.old number index }
+fn note(first: &mut Vec<Option<usize>>, number: u32, index: usize)
+    ensures { first.new.items ≡ noted first.old.items number index }
 {
     let place = number as usize;
     if place < first.len() {
@@ -38,11 +38,22 @@ fn note(first: &mut [Option<usize>], number: u32, index: usize)
     }
 }
 
+// A table with no index yet.
+fn no_indices(alloc: Global, bound: usize) -> Result<Vec<Option<usize>>, NoMemory>
+    ensures { IfOk result (λ v. v.items ≡ replicate bound None) }
+{
+    let mut first = Vec::with_capacity(alloc, bound)?;
+    for place in 0..bound {
+        first.push(None)?;
+    }
+    Ok(first)
+}
+
 // The first index of each number below a bound.
 fn first_indices(alloc: Global, bound: usize, numbers: &[u32]) -> Result<Vec<Option<usize>>, NoMemory>
     ensures { IfOk result (λ v. IsIndex numbers.now v.items) }
 {
-    let mut first = vec![in alloc; None; bound]?;
+    let mut first = no_indices(alloc, bound)?;
     for (index, number) in numbers.iter().enumerate() {
         note(&mut first, *number, index);
     }
