@@ -1,5 +1,5 @@
 -- First indices: what the table keeps when the numbers up to an index were noted.
-use Rattle.std.proofs.Common.{◌≤◌, inl, inr, ◌⊎◌, ◌≡◌, ℕ, zero, suc, List, [], ◌∷◌, length, ◌<◌, ◌+◌, Option, Some, None, slice_get, set, replicate, drop, get_or, eqb, cond, true, false, refl, ap, sym, ◌∙◌, subst, arith}
+use Rattle.std.proofs.Common.{◌≤◌, inl, inr, ◌⊎◌, ◌≡◌, ℕ, zero, suc, List, [], ◌∷◌, length, ◌<◌, ◌+◌, ◌-◌, Option, Some, None, slice_get, set, replicate, drop, get_or, eqb, cond, true, false, refl, ap, sym, ◌∙◌, subst, arith}
 use Rattle.std.specs.List.{position_from}
 use Rattle.std.proofs.lemmas.List.{drop_more, drop_all}
 use Rattle.std.proofs.lemmas.Bool.{cases_eq, eq-eqb, ne_eqb}
@@ -82,3 +82,27 @@ or_else_none (Some a) = refl
 
 pub Tracks-all : (ns : List ℕ) (i : ℕ) (first : List (Option ℕ)) → length ns ≤ i → Tracks ns i first → IsIndex ns first
 Tracks-all ns i first le t = λ k o e. sym (or_else_none o) ∙ ap (or_else o) (sym (ap (index_from k i) (drop_all i ns le))) ∙ t.at k o e
+
+-- what an index says of its number
+within : (n j : ℕ) (ns : List ℕ) (i : ℕ) → index_from n j ns ≡ Some i → (j ≤ i) × (i < j + length ns) × (get_or ns (i - j) 0 ≡ n)
+within n j [] i e = cc
+within n j (m ∷ ns) i e = go (λ h. within n (j + 1) ns i h) (cases_eq m n)
+  where
+    go : (index_from n (j + 1) ns ≡ Some i → (j + 1 ≤ i) × (i < j + 1 + length ns) × (get_or ns (i - (j + 1)) 0 ≡ n)) → (m ≡ n) ⊎ (m ≡ n → ⊥) → (j ≤ i) × (i < j + length (m ∷ ns)) × (get_or (m ∷ ns) (i - j) 0 ≡ n)
+    go rest (inl s) =
+        let h : Some j ≡ Some i = sym (ap (λ b. cond b (Some j) (index_from n (j + 1) ns)) (eq-eqb m n s)) ∙ e in
+        let q : j ≡ i = cc in
+        let z : i - j ≡ 0 = omega arith in
+        (omega arith, omega arith, ap (λ k. get_or (m ∷ ns) k 0) z ∙ s)
+    go rest (inr ne) =
+        let h : index_from n (j + 1) ns ≡ Some i = sym (ap (λ b. cond b (Some j) (index_from n (j + 1) ns)) (ne_eqb m n ne)) ∙ e in
+        let r = rest h in
+        let z : i - j ≡ suc (i - (j + 1)) = omega (arith, r.0, r.1) in
+        (omega (arith, r.0), omega (arith, r.1), ap (λ k. get_or (m ∷ ns) k 0) z ∙ r.2)
+
+pub index_of_some : (n : ℕ) (ns : List ℕ) (i : ℕ) → index_of n ns ≡ Some i → (i < length ns) × (get_or ns i 0 ≡ n)
+unfolding index_of
+index_of_some n ns i e =
+    let r = within n 0 ns i e in
+    let z : i - 0 ≡ i = omega arith in
+    (omega (arith, r.1), ap (λ k. get_or ns k 0) (sym z) ∙ r.2)

@@ -1,6 +1,6 @@
 -- Frames as the rules see them (JVMS 4.10.1.4).
 use Rattle.std.specs.Prelude.{ℕ, zero, suc, List, [], ◌∷◌, ◌++◌, length, map, reverse, replicate, Bool, true, false, cond, ◌&&◌, ◌||◌, nat_eq, ◌-◌, Option, Some, None, slice_index_or, flat_map}
-use Rattle.std.specs.List.{position_from}
+use Rattle.std.specs.List.{position_from, list_any}
 use Rattle.jvm_model.specs.World.{same_units}
 use Rattle.type_frames.specs.declared.vtype.VType.{VType}
 use Rattle.type_frames.specs.declared.vtype.VType.TheVariants.{Top, Int, Long, Null, Object, UninitThis, Uninit}
@@ -41,8 +41,7 @@ abbrev pub padded : ℕ → List VType → List VType
 padded n ts = ts ++ replicate (n - length ts) Top
 
 abbrev pub holds_this : List VType → Bool
-holds_this [] = false
-holds_this (t ∷ ts) = same t UninitThis || holds_this ts
+holds_this ts = list_any (λ t. same t UninitThis) ts
 
 abbrev pub top_of : List VType → VType
 top_of ts = slice_index_or ts 0 Top

@@ -3,6 +3,7 @@ pub mod Descriptors
 pub mod Assign
 pub mod Given
 pub mod Places
+pub mod MapReading
 pub mod Environment
 pub mod Sides
 pub mod Rules

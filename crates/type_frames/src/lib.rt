@@ -4,6 +4,7 @@
 mod assign;
 mod descriptors;
 mod fault;
+mod given;
 mod places;
 mod sides;
 mod vtype;
@@ -11,6 +12,7 @@ mod vtype;
 pub use assign::{assignable, same, same_units};
 pub use descriptors::{class_name, copy_units, push_all_types, push_types, texts_in};
 pub use fault::{CheckFault, FrameFault};
+pub use given::{copy_type, entry_types, is_constructor, object_of, padded, spread};
 pub use places::Places;
 pub use sides::{Need, Reading, Setting, Sides, Turn};
 pub use vtype::{Frame, VType};

@@ -1,6 +1,6 @@
 //! Where numbers stand in a list, found at once.
 
-ghost use Rattle.std.specs.Prelude.{◌≡◌, IfOk, length, ◌<◌, replicate, None};
+ghost use Rattle.std.specs.Prelude.{◌≡◌, IfOk, length, ◌<◌, replicate, None, IsNone, IfSome, is_some, true};
 ghost use Rattle.type_frames.specs.Frames.{index_of};
 ghost use Rattle.type_frames.specs.Places.{IsIndex, noted};
 
@@ -71,12 +71,23 @@ impl Places {
 
     /// Where a number stands first.
     #[tactic(auto, unfolding(crate::specs::Frames::index_of))]
-    pub fn find(&self, number: u32) -> Option<usize>
+    pub fn find(&self, number: u64) -> Option<usize>
         ensures { result ≡ index_of number self.now }
     {
-        if (number as usize) < self.first.len() {
+        if number < self.first.len() as u64 {
             return self.first[number as usize];
         }
-        self.numbers.iter().position(|n| *n == number)
+        self.numbers.iter().position(|n| u64::from(*n) == number)
+    }
+
+    /// The number itself, if it stands in the list.
+    pub fn number_at(&self, number: u64) -> Option<u32>
+        ensures none { IsNone result → index_of number self.now ≡ None }
+        ensures some { IfSome result (λ m. (m ≡ number) × (is_some (index_of number self.now) ≡ true)) }
+    {
+        match self.find(number) {
+            None => None,
+            Some(index) => Some(self.numbers[index]),
+        }
     }
 }
