@@ -1,8 +1,9 @@
 //! The frames that a method's stack map gives (JVMS 4.7.4 and 4.10.1.5).
 
-ghost use Rattle.std.specs.Prelude.{◌≡◌, List, ◌∷◌, ◌++◌, length, ◌+◌, ◌<◌, ◌^◌, replicate, map, IfOk, IfErr, OnOk, IfSome, MatchOption, Some, None};
+ghost use Rattle.std.specs.Prelude.{◌≡◌, ℕ, List, ◌∷◌, ◌++◌, length, ◌+◌, ◌<◌, ◌^◌, replicate, map, IfOk, IfErr, OnOk, IfSome, MatchOption, Some, None};
 ghost use Rattle.jvm_model.specs.declared.program.FrameRec.{FrameRec};
 ghost use Rattle.jvm_model.specs.Classes as classes;
+ghost use Rattle.type_frames.specs.declared.fault.FrameFault.TheVariants as faults;
 ghost use Rattle.type_frames.specs.declared.vtype.VType.TheVariants as types;
 ghost use Rattle.type_frames.specs.Frames.{holds_this, padded, places_of, spread, index_of};
 ghost use Rattle.type_frames.specs.Descriptors.{parameter_texts};
@@ -263,4 +264,73 @@ fn read_entry(alloc: Global, b: &Body, code: &Places, least: u64, locals: Items<
     };
     let frame = frame_at(alloc, b.max_locals, pc, next.as_slice(), stack.as_slice())?;
     Ok(Some(NextFrame { frame, locals: next }))
+}
+
+/// The places of the instructions of a method's code.
+pub fn code_places(alloc: Global, code: &[Placed]) -> Result<Vec<u32>, NoMemory>
+    ensures { IfOk result (λ v. v.items ≡ places code.now) }
+{
+    let mut places = Vec::new(alloc);
+    for x in code {
+        places.push(x.pc)?;
+    }
+    Ok(places)
+}
+
+fn frames_in(alloc: Global, b: &Body, code: &Places, types: Items<VType>) -> Result<Option<Items<Frame>>, NoMemory>
+    requires { code.now ≡ places b.now.code }
+    ensures { IfOk result (λ o. o ≡ frames_from b.now 0 types b.now.frames) }
+{
+    let mut frames = Items::new(alloc);
+    let mut least = 0;
+    let mut locals = types;
+    for entry in b.frames.as_slice() {
+        let Some(next) = read_entry(alloc, b, code, least, locals, entry)? else {
+            return Ok(None);
+        };
+        let NextFrame { frame, locals: after } = next;
+        least = u64::from(frame.pc) + 1;
+        locals = after;
+        frames.push(frame)?;
+    }
+    Ok(Some(frames))
+}
+
+#[tactic(auto, unfolding(crate::specs::Given::body_frames))]
+fn body_frames(alloc: Global, b: &Body, types: Items<VType>) -> Result<Option<Items<Frame>>, NoMemory>
+    ensures { IfOk result (λ o. o ≡ body_frames b.now types) }
+{
+    if b.malformed {
+        return Ok(None);
+    }
+    let code = Places::new(alloc, b.length as usize, code_places(alloc, b.code.as_slice())?)?;
+    frames_in(alloc, b, &code, types)
+}
+
+/// The frames that a method's stack map gives; `None` where it is malformed. A method without code has none.
+#[tactic(auto, unfolding(crate::specs::Given::given_frames))]
+pub fn given_frames(alloc: Global, p: &Program, m: &MethodRec) -> Result<Option<Items<Frame>>, NoMemory>
+    ensures { IfOk result (λ o. o ≡ given_frames p.now m.now) }
+{
+    match &m.body {
+        None => Ok(Some(Items::new(alloc))),
+        Some(b) => body_frames(alloc, b, entry_types(alloc, p, m)?),
+    }
+}
+
+/// The frames that the stack map of a method gives, by the method's number (JVMS 4.7.4 and 4.10.1.5). The error `Rule8`
+/// comes exactly where the map is malformed: a frame tag 128 to 246, a type tag above 8, a float or double, an offset
+/// at no instruction, a chop or an append past the locals.
+#[tactic(auto, unfolding(crate::specs::Given::given_frames))]
+pub fn read_frames(alloc: Global, p: &Program, method: u32) -> Result<Items<Frame>, FrameFault>
+    ensures read { IfOk result (λ gs. given_frames p.now (classes.method_at p.now method) ≡ Some gs) }
+    ensures malformed { IfErr result (λ e. (pc : ℕ) → e ≡ faults.Rule8 pc → (pc ≡ 0) × (given_frames p.now (classes.method_at p.now method) ≡ None)) }
+{
+    let Some(m) = p.methods.as_slice().get(method as usize) else {
+        return Ok(Items::new(alloc));
+    };
+    match given_frames(alloc, p, m)? {
+        None => Err(FrameFault::Rule8 { pc: 0 }),
+        Some(frames) => Ok(frames),
+    }
 }
