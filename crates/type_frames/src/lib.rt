@@ -2,6 +2,7 @@
 #![tactic(auto)]
 
 mod assign;
+mod checked;
 mod descriptors;
 mod fault;
 mod given;
@@ -10,6 +11,7 @@ mod sides;
 mod vtype;
 
 pub use assign::{assignable, same, same_units};
+pub use checked::Checked;
 pub use descriptors::{class_name, copy_units, push_all_types, push_types, texts_in};
 pub use fault::{CheckFault, FrameFault};
 pub use given::{code_places, copy_type, entry_types, given_frames, is_constructor, object_of, padded, read_frames, spread};
