@@ -1,6 +1,7 @@
 -- The types that a descriptor names (JVMS 4.3), by units: ( ) are 40 and 41, ; is 59, [ is 91, and the letters are
 -- B 66, C 67, D 68, F 70, I 73, J 74, L 76, S 83, V 86, Z 90.
 use Rattle.std.specs.Prelude.{ℕ, List, [], ◌∷◌, ◌++◌, length, take, reverse, replicate, Bool, true, false, not, ◌&&◌, ◌||◌, nat_eq, ◌-◌, slice_index_or, flat_map}
+use Rattle.std.specs.List.{list_any}
 use Rattle.jvm_model.specs.declared.values.Kind.{Kind}
 use Rattle.jvm_model.specs.declared.values.Kind.TheVariants as kind
 use Rattle.jvm_model.specs.declared.values.Base.{Base}
@@ -53,13 +54,13 @@ abbrev pub element_letter : List ℕ → ℕ
 element_letter [] = 86
 element_letter (u ∷ us) = elim (nat_eq u 91) [ true ↦ element_letter us | false ↦ u ]
 
--- whether a descriptor names a float or a double, or an array of them
-abbrev pub any_float : List (List ℕ) → Bool
-any_float [] = false
-any_float (t ∷ ts) = (nat_eq (element_letter t) 70 || nat_eq (element_letter t) 68) || any_float ts
+-- a float or a double, or an array of them
+abbrev pub is_float : List ℕ → Bool
+is_float t = nat_eq (element_letter t) 70 || nat_eq (element_letter t) 68
 
+-- whether a descriptor names one
 abbrev pub has_float : List ℕ → Bool
-has_float d = any_float (texts_in d)
+has_float d = list_any is_float (texts_in d)
 
 -- the name of a class by its number
 abbrev pub name_of : Program → ℕ → List ℕ

@@ -1,5 +1,6 @@
 -- The rules of the check, each by itself, and the lowest one that is broken (JVMS 4.10.1).
 use Rattle.std.specs.Prelude.{ℕ, zero, suc, List, [], ◌∷◌, ◌++◌, length, map, drop, Bool, true, false, not, ◌&&◌, ◌||◌, cond, nat_eq, nat_lt, nat_le, ◌+◌, ◌-◌, Option, Some, None, slice_get, slice_set, slice_index_or, is_some}
+use Rattle.std.specs.List.{list_all}
 use Rattle.jvm_model.specs.declared.program.Program.{Program}
 use Rattle.jvm_model.specs.declared.program.Placed.{Placed}
 use Rattle.jvm_model.specs.declared.program.Handler.{Handler}
@@ -110,8 +111,7 @@ is_made e (Uninit pc) = is_some (made_at e pc)
 is_made e _ = true
 
 abbrev pub all_made : Environment → List VType → Bool
-all_made e [] = true
-all_made e (t ∷ ts) = is_made e t && all_made e ts
+all_made e ts = list_all (λ t. is_made e t) ts
 
 -- a given frame that something may be assignable to (this project's)
 abbrev pub is_sound : Environment → Frame → Bool

@@ -1,5 +1,6 @@
 -- What each instruction needs and leaves (JVMS 4.10.1.9): the table of the check.
 use Rattle.std.specs.Prelude.{ℕ, List, [], ◌∷◌, ◌++◌, length, reverse, replicate, Bool, true, false, not, ◌&&◌, ◌||◌, cond, nat_eq, ◌+◌, Option, Some, None, slice_index_or, flat_map}
+use Rattle.std.specs.List.{list_any}
 use Rattle.jvm_model.specs.declared.values.Value.{Value}
 use Rattle.jvm_model.specs.declared.values.Value.TheVariants as value
 use Rattle.jvm_model.specs.declared.values.Kind.{Kind}
@@ -229,8 +230,7 @@ special_sides p e f named m = elim (same_units m.name init_name) [
 -- Objects and arrays.
 
 abbrev pub is_unset : List VType → ℕ → Bool
-is_unset [] pc = true
-is_unset (t ∷ ts) pc = not (same t (Uninit pc)) && is_unset ts pc
+is_unset ts pc = not (list_any (λ t. same t (Uninit pc)) ts)
 
 -- no local keeps what an earlier `new` at this place made, and no place of the stack may
 abbrev pub new_sides : Slots → ℕ → Sides
