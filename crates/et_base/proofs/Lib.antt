@@ -1,1 +1,3 @@
 pub mod UtfLaws
+pub mod NumberLaws
+pub mod Utf8Laws

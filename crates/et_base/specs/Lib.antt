@@ -1,2 +1,4 @@
 pub mod Utf
 pub mod UtfReading
+pub mod Numbers
+pub mod Quotes

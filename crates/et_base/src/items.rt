@@ -81,3 +81,14 @@ impl<T> Items<T> {
         self.items.is_empty()
     }
 }
+
+impl<T: Copy> Items<T> {
+    /// Appends items. After a refusal the list is as before.
+    pub fn extend_from_slice(&mut self, items: &[T]) -> Result<(), NoMemory>
+        ensures pushed { OnOk result (self.new ≡ self.old ++ items.now) }
+        ensures kept { OnErr result (self.new ≡ self.old) }
+    {
+        self.items.extend_from_slice(items)?;
+        Ok(())
+    }
+}

@@ -1,51 +1,219 @@
--- Small suites that are run by computation: the definitions give the verdicts, outputs and units that they should.
-use Rattle.std.proofs.Common.{◌≡◌, ℕ, List, [], ◌∷◌, ◌++◌, length, Option, Some, None, refl, pos, true, false, map}
+-- Small suites that are run by computation: the definitions give the verdicts, outputs, units and touches that they
+-- should.
+use Rattle.std.proofs.Common.{◌≡◌, ℕ, List, [], ◌∷◌, ◌++◌, length, Option, Some, None, refl, pos, negsuc, true, false}
 use Rattle.std.specs.Prelude.{codes}
 use Rattle.std.specs.Fmt.{digits}
+use Rattle.std.specs.Char.Utf16.{utf16_chars}
+use lib.Utf8.{encode}
+use Rattle.std.specs.Int.{int_wrap}
+use Rattle.et_base.specs.Numbers.{add32, div32, add64}
 use Rattle.jvm_model.specs.declared.values.Value.TheVariants.{Int, Long, Null, Lit, Obj}
+use Rattle.jvm_model.specs.declared.values.Kind.TheVariants as kind
+use Rattle.jvm_model.specs.declared.values.Location.TheVariants as place
+use Rattle.jvm_model.specs.declared.instr.Instr.{Instr}
 use Rattle.jvm_model.specs.declared.instr.Instr.TheVariants as form
-use Rattle.jvm_model.specs.declared.instr.Op.TheVariants.{Add}
-use Rattle.jvm_model.specs.declared.outcome.Outcome.{Outcome}
-use Rattle.jvm_model.specs.declared.outcome.Verdict.TheVariants.{Passed}
+use Rattle.jvm_model.specs.declared.instr.Op.TheVariants.{Add, Div}
+use Rattle.jvm_model.specs.declared.instr.Sort.TheVariants as sort
 use Rattle.jvm_model.specs.declared.program.Program.{Program}
 use Rattle.jvm_model.specs.Library.{builtin_defs, builtin_classes, builtin_fields, builtin_methods}
 use Rattle.jvm_model.specs.Classes.{class_bound, own_interfaces, is_below, implements, default_interfaces, is_trivial, layout, blank, form_at, next_place}
-use Rattle.jvm_model.specs.Descriptors.{parameters, return_letter}
+use Rattle.jvm_model.specs.Descriptors.{parameters, return_type}
 use Rattle.jvm_model.specs.Narrow.{narrow}
-use Rattle.jvm_model.specs.Printed.{decimal_of}
-use Rattle.jvm_model.specs.Suite.{Given, opening, tree, one_test, runs, all_tests}
-use Rattle.jvm_model.specs.Step.{step, row, row_here}
+use Rattle.jvm_model.specs.Suite.{opening, tree, one_test, runs, all_tests}
+use Rattle.jvm_model.specs.Step.{step, row, row_here, row_throw}
+use Rattle.jvm_model.specs.Throwing.{throws}
+use Rattle.jvm_model.specs.Raising.{row_raise, handler_for}
+use Rattle.jvm_model.specs.Initialise.{row_finish, row_fail, parts_of}
 use Rattle.jvm_model.specs.Rows.{begin}
 use Rattle.jvm_model.specs.RowsMoves.{row_moves}
+use Rattle.jvm_model.specs.RowsArith.{row_arith}
+use Rattle.jvm_model.specs.RowsBranches.{row_branches}
 use Rattle.jvm_model.specs.RowsStatics.{row_statics, read_static, write_static}
-use Rattle.jvm_model.specs.RowsCalls.{row_calls, calls}
+use Rattle.jvm_model.specs.RowsFields.{row_fields}
+use Rattle.jvm_model.specs.RowsCreate.{row_create, new_object}
+use Rattle.jvm_model.specs.RowsCalls.{row_calls, calls, argument_count}
 use Rattle.jvm_model.specs.RowsReturn.{row_return, hands_on}
+use Rattle.jvm_model.specs.Selection.{kept_method, select, select_virtual, select_interface, select_special}
 use Rattle.jvm_model.specs.Natives.{row_native}
-use Rattle.jvm_model.specs.Driver.{drive, drives, drive_first, judge}
-use Rattle.jvm_model.proofs.ExampleParts.{program, class, placed, body, static_method, static_int, test}
-
-abbrev outcomes : Option (List Given) → Option (List Outcome)
-outcomes None = None
-outcomes (Some xs) = Some (map (λ x. x.outcome) xs)
-
-abbrev passed : List ℕ → ℕ → Outcome
-passed output units = record { verdict = Passed; output = output; units = units }
+use Rattle.jvm_model.specs.NativesObject.{native_object, native_throwable}
+use Rattle.jvm_model.specs.NativesString.{native_string, native_builder}
+use Rattle.jvm_model.specs.NativesOutside.{native_system, native_print, native_files, native_env}
+use Rattle.jvm_model.specs.Driver.{drive, drives, drive_first, drive_init, drive_set_up, drive_method, drive_tear_down, judge}
+use Rattle.jvm_model.proofs.ExampleParts.{program, class, body, fixed, plain, static, field, static_int, test, int_const, literal, get_static, put_static, call_static, returns, load_this, dup, print, print_number, outcomes, passed, failed, error, places, last_places, line}
 
 -- a test that only returns
 abbrev return_suite : Program
-return_suite = program (class (codes "T") [] (102 ∷ []) ∷ []) [] (static_method 32 (codes "t") (body 0 0 1 (placed 0 (form.Return None) ∷ [])) ∷ []) [] (test 32 102 ∷ [])
-
-return_runs : outcomes (runs return_suite (all_tests return_suite)) ≡ Some (passed [] 3 ∷ [])
-unfolding builtin_classes builtin_fields builtin_methods builtin_defs class_bound own_interfaces default_interfaces is_trivial form_at next_place opening tree one_test runs step row row_here begin row_return hands_on drive drives drive_first judge
-return_runs = refl
+return_suite = program (class (codes "T") [] (102 ∷ []) ∷ []) [] (fixed 32 (codes "t") (codes "()V") (body 0 0 (returns ∷ [])) ∷ []) [] (test 32 102 ∷ [])
 
 -- one test sets a static, the next prints it
 abbrev counter_suite : Program
 counter_suite = program (class (codes "Counter") (2 ∷ []) (102 ∷ 103 ∷ []) ∷ []) (static_int 32 (codes "n") ∷ [])
-    (static_method 32 (codes "set") (body 1 0 5 (placed 0 (form.Const (Int (pos 5))) ∷ placed 1 (form.PutStatic 2) ∷ placed 4 (form.Return None) ∷ []))
-    ∷ static_method 32 (codes "show") (body 1 0 7 (placed 0 (form.GetStatic 2) ∷ placed 3 (form.InvokeStatic 45) ∷ placed 6 (form.Return None) ∷ [])) ∷ [])
+    (fixed 32 (codes "set") (codes "()V") (body 1 0 (int_const 5 ∷ put_static 2 ∷ returns ∷ []))
+    ∷ fixed 32 (codes "show") (codes "()V") (body 1 0 (get_static 2 ∷ print_number)) ∷ [])
     [] (test 32 102 ∷ test 32 103 ∷ [])
 
-counter_runs : outcomes (runs counter_suite (all_tests counter_suite)) ≡ Some (passed [] 6 ∷ passed (codes "5" ++ 10 ∷ []) 8 ∷ [])
-unfolding builtin_classes builtin_fields builtin_methods builtin_defs class_bound own_interfaces default_interfaces is_trivial form_at next_place opening tree one_test runs step row row_here begin row_return hands_on drive drives drive_first judge row_moves row_statics read_static write_static row_calls calls parameters return_letter narrow decimal_of row_native digits
+-- the second test writes before it reads
+abbrev again_suite : Program
+again_suite = program (class (codes "Counter") (2 ∷ []) (102 ∷ 103 ∷ []) ∷ []) (static_int 32 (codes "n") ∷ [])
+    (fixed 32 (codes "set") (codes "()V") (body 1 0 (int_const 5 ∷ put_static 2 ∷ returns ∷ []))
+    ∷ fixed 32 (codes "again") (codes "()V") (body 1 0 (int_const 1 ∷ put_static 2 ∷ get_static 2 ∷ print_number)) ∷ [])
+    [] (test 32 102 ∷ test 32 103 ∷ [])
+
+-- `<init>` that calls that of Object
+abbrev plain_init : List (ℕ × Instr)
+plain_init = load_this ∷ (3, form.InvokeSpecial (kind.Class 0) 0) ∷ returns ∷ []
+
+-- two objects in a list, and their fields
+abbrev node_suite : Program
+node_suite = program
+    (class (codes "Node") (2 ∷ 3 ∷ []) (102 ∷ []) ∷ class (codes "List") (4 ∷ []) (103 ∷ 104 ∷ 105 ∷ []) ∷ [])
+    (field 32 (codes "v") (codes "I") (Int (pos 0)) ∷ field 32 (codes "next") (codes "LNode;") Null ∷ static 33 (codes "head") (codes "LNode;") Null ∷ [])
+    (plain 32 (codes "<init>") (codes "()V") (body 1 1 plain_init)
+    ∷ fixed 33 (codes "build") (codes "()V") (body 3 0 ((3, form.New 32) ∷ dup ∷ (3, form.InvokeSpecial (kind.Class 32) 102) ∷ put_static 4
+        ∷ get_static 4 ∷ (3, form.New 32) ∷ dup ∷ (3, form.InvokeSpecial (kind.Class 32) 102) ∷ (3, form.PutField 32 3)
+        ∷ get_static 4 ∷ (3, form.GetField 32 3) ∷ (2, form.Const (Int (pos 9))) ∷ (3, form.PutField 32 2) ∷ returns ∷ []))
+    ∷ fixed 33 (codes "idle") (codes "()V") (body 0 0 (returns ∷ []))
+    ∷ fixed 33 (codes "show") (codes "()V") (body 1 0 (get_static 4 ∷ (3, form.GetField 32 3) ∷ (3, form.GetField 32 2) ∷ print_number)) ∷ [])
+    [] (test 33 103 ∷ test 33 104 ∷ test 33 105 ∷ [])
+
+-- a class whose superclass looks at it while it is initialised
+abbrev init_order_suite : Program
+init_order_suite = program
+    (record (class (codes "A") (2 ∷ []) (102 ∷ [])) { superclass = Some 33; initialiser = Some 102 }
+    ∷ record (class (codes "B") [] (103 ∷ [])) { initialiser = Some 103 }
+    ∷ class (codes "Cy") [] (104 ∷ []) ∷ [])
+    (static_int 32 (codes "x") ∷ [])
+    (fixed 32 (codes "<clinit>") (codes "()V") (body 1 0 (int_const 1 ∷ put_static 2 ∷ returns ∷ []))
+    ∷ fixed 33 (codes "<clinit>") (codes "()V") (body 1 0 (get_static 2 ∷ print_number))
+    ∷ fixed 34 (codes "go") (codes "()V") (body 1 0 (get_static 2 ∷ print_number)) ∷ [])
+    [] (test 34 104 ∷ [])
+
+-- a class whose initialisation throws
+abbrev bad_init_suite : Program
+bad_init_suite = program
+    (record (class (codes "Bad") (2 ∷ []) (102 ∷ [])) { initialiser = Some 102 } ∷ class (codes "Use") [] (103 ∷ 104 ∷ []) ∷ [])
+    (static_int 32 (codes "v") ∷ [])
+    (fixed 32 (codes "<clinit>") (codes "()V") (body 2 0 (int_const 1 ∷ int_const 0 ∷ (1, form.Binary Div false) ∷ put_static 2 ∷ returns ∷ []))
+    ∷ fixed 33 (codes "first") (codes "()V") (body 1 0 (get_static 2 ∷ (1, form.Pop) ∷ returns ∷ []))
+    ∷ fixed 33 (codes "second") (codes "()V") (body 1 0 (get_static 2 ∷ (1, form.Pop) ∷ returns ∷ [])) ∷ [])
+    [] (test 33 103 ∷ test 33 104 ∷ [])
+
+-- an object with setUp, a method that fails and tearDown
+abbrev driver_suite : Program
+driver_suite = program (class (codes "I") [] (102 ∷ 103 ∷ 104 ∷ 105 ∷ []) ∷ []) []
+    (plain 32 (codes "<init>") (codes "()V") (body 1 1 plain_init)
+    ∷ plain 32 (codes "setUp") (codes "()V") (body 1 1 (int_const 1 ∷ print_number))
+    ∷ plain 32 (codes "bad") (codes "()V") (body 2 1 ((3, form.New 10) ∷ dup ∷ (3, form.InvokeSpecial (kind.Class 10) 54) ∷ (1, form.Throw) ∷ []))
+    ∷ plain 32 (codes "tearDown") (codes "()V") (body 1 1 (int_const 2 ∷ print_number)) ∷ [])
+    [] (test 32 104 ∷ [])
+
+-- a throwable that is kept in a static, and thrown by another test
+abbrev kept_error_suite : Program
+kept_error_suite = program (class (codes "X") (2 ∷ []) (102 ∷ 103 ∷ []) ∷ []) (static 32 (codes "e") (codes "Ljava/lang/RuntimeException;") Null ∷ [])
+    (fixed 32 (codes "keep") (codes "()V") (body 3 0 ((3, form.New 19) ∷ dup ∷ literal 1 ∷ (3, form.InvokeSpecial (kind.Class 19) 77) ∷ put_static 2 ∷ returns ∷ []))
+    ∷ fixed 32 (codes "toss") (codes "()V") (body 1 0 (get_static 2 ∷ (1, form.Throw) ∷ [])) ∷ [])
+    (codes "boom" ∷ []) (test 32 102 ∷ test 32 103 ∷ [])
+
+-- a simulated file that is asked for, made, looked at and dropped
+abbrev files_suite : Program
+files_suite = program (class (codes "F") [] (102 ∷ 103 ∷ 104 ∷ 105 ∷ []) ∷ []) []
+    (fixed 32 (codes "ask") (codes "()V") (body 1 0 (literal 1 ∷ call_static 44 ∷ print_number))
+    ∷ fixed 32 (codes "make") (codes "()V") (body 2 0 (literal 1 ∷ literal 2 ∷ call_static 41 ∷ returns ∷ []))
+    ∷ fixed 32 (codes "look") (codes "()V") (body 2 0 (get_static 0 ∷ literal 1 ∷ call_static 40 ∷ (3, form.InvokeVirtual (kind.Class 4) 34) ∷ returns ∷ []))
+    ∷ fixed 32 (codes "drop") (codes "()V") (body 1 0 (literal 1 ∷ call_static 43 ∷ (1, form.Pop) ∷ returns ∷ [])) ∷ [])
+    (codes "log" ∷ codes "hi" ∷ []) (test 32 102 ∷ test 32 103 ∷ test 32 104 ∷ test 32 105 ∷ [])
+
+-- a test's own clock and random numbers
+abbrev clock_suite : Program
+clock_suite = program (class (codes "K") [] (102 ∷ []) ∷ []) []
+    (fixed 32 (codes "t") (codes "()V") (body 3 0 (get_static 0 ∷ call_static 25 ∷ (3, form.InvokeVirtual (kind.Class 4) 36) ∷ call_static 46 ∷ print_number)) ∷ [])
+    [] (record (test 32 102) { clock = pos 100 } ∷ [])
+
+-- a class with a default interface, both with `<clinit>`
+abbrev default_suite : Program
+default_suite = program
+    (record (class (codes "Hi") [] (102 ∷ 103 ∷ [])) { flags = 0x0600; initialiser = Some 102 }
+    ∷ record (class (codes "D") [] (104 ∷ 105 ∷ [])) { interfaces = 32 ∷ []; initialiser = Some 104 }
+    ∷ class (codes "Dt") [] (106 ∷ []) ∷ [])
+    []
+    (fixed 32 (codes "<clinit>") (codes "()V") (body 1 0 (int_const 4 ∷ print_number))
+    ∷ plain 32 (codes "m") (codes "()V") (body 1 1 (int_const 1 ∷ print_number))
+    ∷ fixed 33 (codes "<clinit>") (codes "()V") (body 1 0 (int_const 5 ∷ print_number))
+    ∷ plain 33 (codes "<init>") (codes "()V") (body 1 1 plain_init)
+    ∷ fixed 34 (codes "go") (codes "()V") (body 2 0 ((3, form.New 33) ∷ dup ∷ (3, form.InvokeSpecial (kind.Class 33) 105) ∷ (5, form.InvokeInterface 32 103) ∷ returns ∷ [])) ∷ [])
+    [] (test 34 106 ∷ [])
+
+-- two default methods that conflict
+abbrev conflict_suite : Program
+conflict_suite = program
+    (record (class (codes "J1") [] (102 ∷ [])) { flags = 0x0600 }
+    ∷ record (class (codes "J2") [] (103 ∷ [])) { flags = 0x0600 }
+    ∷ record (class (codes "E") [] (104 ∷ [])) { interfaces = 32 ∷ 33 ∷ [] }
+    ∷ class (codes "Et") [] (105 ∷ []) ∷ [])
+    []
+    (plain 32 (codes "m") (codes "()V") (body 0 1 (returns ∷ []))
+    ∷ plain 33 (codes "m") (codes "()V") (body 0 1 (returns ∷ []))
+    ∷ plain 34 (codes "<init>") (codes "()V") (body 1 1 plain_init)
+    ∷ fixed 35 (codes "go") (codes "()V") (body 2 0 ((3, form.New 34) ∷ dup ∷ (3, form.InvokeSpecial (kind.Class 34) 104) ∷ (5, form.InvokeInterface 32 102) ∷ returns ∷ [])) ∷ [])
+    [] (test 35 105 ∷ [])
+
+return_runs : outcomes (runs return_suite (all_tests return_suite)) ≡ Some (passed [] 3 ∷ [])
+unfolding builtin_classes builtin_fields builtin_methods builtin_defs class_bound own_interfaces is_below implements default_interfaces is_trivial layout blank form_at next_place parameters return_type narrow opening tree one_test runs step row row_here row_throw throws row_raise handler_for row_finish row_fail parts_of begin row_moves row_arith row_branches row_statics read_static write_static row_fields row_create new_object row_calls calls argument_count row_return hands_on kept_method select select_virtual select_interface select_special row_native native_object native_throwable native_string native_builder native_system native_print native_files native_env drive drives drive_first drive_init drive_set_up drive_method drive_tear_down judge digits add64 utf16_chars encode
+return_runs = refl
+
+counter_runs : outcomes (runs counter_suite (all_tests counter_suite)) ≡ Some (passed [] 6 ∷ passed (line (codes "5")) 8 ∷ [])
+unfolding builtin_classes builtin_fields builtin_methods builtin_defs class_bound own_interfaces is_below implements default_interfaces is_trivial layout blank form_at next_place parameters return_type narrow opening tree one_test runs step row row_here row_throw throws row_raise handler_for row_finish row_fail parts_of begin row_moves row_arith row_branches row_statics read_static write_static row_fields row_create new_object row_calls calls argument_count row_return hands_on kept_method select select_virtual select_interface select_special row_native native_object native_throwable native_string native_builder native_system native_print native_files native_env drive drives drive_first drive_init drive_set_up drive_method drive_tear_down judge digits add64 utf16_chars encode
 counter_runs = refl
+
+again_runs : outcomes (runs again_suite (all_tests again_suite)) ≡ Some (passed [] 6 ∷ passed (line (codes "1")) 10 ∷ [])
+unfolding builtin_classes builtin_fields builtin_methods builtin_defs class_bound own_interfaces is_below implements default_interfaces is_trivial layout blank form_at next_place parameters return_type narrow opening tree one_test runs step row row_here row_throw throws row_raise handler_for row_finish row_fail parts_of begin row_moves row_arith row_branches row_statics read_static write_static row_fields row_create new_object row_calls calls argument_count row_return hands_on kept_method select select_virtual select_interface select_special row_native native_object native_throwable native_string native_builder native_system native_print native_files native_env drive drives drive_first drive_init drive_set_up drive_method drive_tear_down judge digits add64 utf16_chars encode
+again_runs = refl
+
+node_runs : outcomes (runs node_suite (all_tests node_suite)) ≡ Some (passed [] 35 ∷ passed [] 3 ∷ passed (line (codes "9")) 10 ∷ [])
+unfolding builtin_classes builtin_fields builtin_methods builtin_defs class_bound own_interfaces is_below implements default_interfaces is_trivial layout blank form_at next_place parameters return_type narrow opening tree one_test runs step row row_here row_throw throws row_raise handler_for row_finish row_fail parts_of begin row_moves row_arith row_branches row_statics read_static write_static row_fields row_create new_object row_calls calls argument_count row_return hands_on kept_method select select_virtual select_interface select_special row_native native_object native_throwable native_string native_builder native_system native_print native_files native_env drive drives drive_first drive_init drive_set_up drive_method drive_tear_down judge digits add64 utf16_chars encode
+node_runs = refl
+
+init_order_runs : outcomes (runs init_order_suite (all_tests init_order_suite)) ≡ Some (passed (line (codes "0") ++ line (codes "1")) 24 ∷ [])
+unfolding builtin_classes builtin_fields builtin_methods builtin_defs class_bound own_interfaces is_below implements default_interfaces is_trivial layout blank form_at next_place parameters return_type narrow opening tree one_test runs step row row_here row_throw throws row_raise handler_for row_finish row_fail parts_of begin row_moves row_arith row_branches row_statics read_static write_static row_fields row_create new_object row_calls calls argument_count row_return hands_on kept_method select select_virtual select_interface select_special row_native native_object native_throwable native_string native_builder native_system native_print native_files native_env drive drives drive_first drive_init drive_set_up drive_method drive_tear_down judge digits add64 utf16_chars encode
+init_order_runs = refl
+
+bad_init_runs : outcomes (runs bad_init_suite (all_tests bad_init_suite)) ≡ Some (error 13 None [] 17 ∷ error 14 None [] 7 ∷ [])
+unfolding builtin_classes builtin_fields builtin_methods builtin_defs class_bound own_interfaces is_below implements default_interfaces is_trivial layout blank form_at next_place parameters return_type narrow opening tree one_test runs step row row_here row_throw throws row_raise handler_for row_finish row_fail parts_of begin row_moves row_arith row_branches row_statics read_static write_static row_fields row_create new_object row_calls calls argument_count row_return hands_on kept_method select select_virtual select_interface select_special row_native native_object native_throwable native_string native_builder native_system native_print native_files native_env drive drives drive_first drive_init drive_set_up drive_method drive_tear_down judge digits add64 utf16_chars encode
+bad_init_runs = refl
+
+driver_runs : outcomes (runs driver_suite (all_tests driver_suite)) ≡ Some (failed 10 None (line (codes "1") ++ line (codes "2")) 36 ∷ [])
+unfolding builtin_classes builtin_fields builtin_methods builtin_defs class_bound own_interfaces is_below implements default_interfaces is_trivial layout blank form_at next_place parameters return_type narrow opening tree one_test runs step row row_here row_throw throws row_raise handler_for row_finish row_fail parts_of begin row_moves row_arith row_branches row_statics read_static write_static row_fields row_create new_object row_calls calls argument_count row_return hands_on kept_method select select_virtual select_interface select_special row_native native_object native_throwable native_string native_builder native_system native_print native_files native_env drive drives drive_first drive_init drive_set_up drive_method drive_tear_down judge digits add64 utf16_chars encode
+driver_runs = refl
+
+kept_error_runs : outcomes (runs kept_error_suite (all_tests kept_error_suite)) ≡ Some (passed [] 13 ∷ error 19 (Some (codes "boom")) [] 10 ∷ [])
+unfolding builtin_classes builtin_fields builtin_methods builtin_defs class_bound own_interfaces is_below implements default_interfaces is_trivial layout blank form_at next_place parameters return_type narrow opening tree one_test runs step row row_here row_throw throws row_raise handler_for row_finish row_fail parts_of begin row_moves row_arith row_branches row_statics read_static write_static row_fields row_create new_object row_calls calls argument_count row_return hands_on kept_method select select_virtual select_interface select_special row_native native_object native_throwable native_string native_builder native_system native_print native_files native_env drive drives drive_first drive_init drive_set_up drive_method drive_tear_down judge digits add64 utf16_chars encode
+kept_error_runs = refl
+
+files_runs : outcomes (runs files_suite (all_tests files_suite)) ≡ Some (passed (line (codes "0")) 12 ∷ passed [] 13 ∷ passed (line (codes "hi")) 18 ∷ passed [] 10 ∷ [])
+unfolding builtin_classes builtin_fields builtin_methods builtin_defs class_bound own_interfaces is_below implements default_interfaces is_trivial layout blank form_at next_place parameters return_type narrow opening tree one_test runs step row row_here row_throw throws row_raise handler_for row_finish row_fail parts_of begin row_moves row_arith row_branches row_statics read_static write_static row_fields row_create new_object row_calls calls argument_count row_return hands_on kept_method select select_virtual select_interface select_special row_native native_object native_throwable native_string native_builder native_system native_print native_files native_env drive drives drive_first drive_init drive_set_up drive_method drive_tear_down judge digits add64 utf16_chars encode
+files_runs = refl
+
+clock_runs : outcomes (runs clock_suite (all_tests clock_suite)) ≡ Some (passed (line (codes "100") ++ line (codes "335903614")) 25 ∷ [])
+unfolding builtin_classes builtin_fields builtin_methods builtin_defs class_bound own_interfaces is_below implements default_interfaces is_trivial layout blank form_at next_place parameters return_type narrow opening tree one_test runs step row row_here row_throw throws row_raise handler_for row_finish row_fail parts_of begin row_moves row_arith row_branches row_statics read_static write_static row_fields row_create new_object row_calls calls argument_count row_return hands_on kept_method select select_virtual select_interface select_special row_native native_object native_throwable native_string native_builder native_system native_print native_files native_env drive drives drive_first drive_init drive_set_up drive_method drive_tear_down judge digits add64 utf16_chars encode
+clock_runs = refl
+
+default_runs : outcomes (runs default_suite (all_tests default_suite)) ≡ Some (passed (line (codes "4") ++ (line (codes "5") ++ line (codes "1"))) 42 ∷ [])
+unfolding builtin_classes builtin_fields builtin_methods builtin_defs class_bound own_interfaces is_below implements default_interfaces is_trivial layout blank form_at next_place parameters return_type narrow opening tree one_test runs step row row_here row_throw throws row_raise handler_for row_finish row_fail parts_of begin row_moves row_arith row_branches row_statics read_static write_static row_fields row_create new_object row_calls calls argument_count row_return hands_on kept_method select select_virtual select_interface select_special row_native native_object native_throwable native_string native_builder native_system native_print native_files native_env drive drives drive_first drive_init drive_set_up drive_method drive_tear_down judge digits add64 utf16_chars encode
+default_runs = refl
+
+conflict_runs : outcomes (runs conflict_suite (all_tests conflict_suite)) ≡ Some (error 15 None [] 17 ∷ [])
+unfolding builtin_classes builtin_fields builtin_methods builtin_defs class_bound own_interfaces is_below implements default_interfaces is_trivial layout blank form_at next_place parameters return_type narrow opening tree one_test runs step row row_here row_throw throws row_raise handler_for row_finish row_fail parts_of begin row_moves row_arith row_branches row_statics read_static write_static row_fields row_create new_object row_calls calls argument_count row_return hands_on kept_method select select_virtual select_interface select_special row_native native_object native_throwable native_string native_builder native_system native_print native_files native_env drive drives drive_first drive_init drive_set_up drive_method drive_tear_down judge digits add64 utf16_chars encode
+conflict_runs = refl
+
+-- what is touched: the list, its second node and the field there; the static, the throwable and its message
+node_touches : last_places (places (runs node_suite (all_tests node_suite))) ≡ place.Static 4 ∷ place.Field 0 3 ∷ place.Field 1 2 ∷ []
+unfolding builtin_classes builtin_fields builtin_methods builtin_defs class_bound own_interfaces is_below implements default_interfaces is_trivial layout blank form_at next_place parameters return_type narrow opening tree one_test runs step row row_here row_throw throws row_raise handler_for row_finish row_fail parts_of begin row_moves row_arith row_branches row_statics read_static write_static row_fields row_create new_object row_calls calls argument_count row_return hands_on kept_method select select_virtual select_interface select_special row_native native_object native_throwable native_string native_builder native_system native_print native_files native_env drive drives drive_first drive_init drive_set_up drive_method drive_tear_down judge digits add64 utf16_chars encode
+node_touches = refl
+
+kept_error_touches : last_places (places (runs kept_error_suite (all_tests kept_error_suite))) ≡ place.Static 2 ∷ place.Head 0 ∷ place.Head 0 ∷ place.Field 0 1 ∷ []
+unfolding builtin_classes builtin_fields builtin_methods builtin_defs class_bound own_interfaces is_below implements default_interfaces is_trivial layout blank form_at next_place parameters return_type narrow opening tree one_test runs step row row_here row_throw throws row_raise handler_for row_finish row_fail parts_of begin row_moves row_arith row_branches row_statics read_static write_static row_fields row_create new_object row_calls calls argument_count row_return hands_on kept_method select select_virtual select_interface select_special row_native native_object native_throwable native_string native_builder native_system native_print native_files native_env drive drives drive_first drive_init drive_set_up drive_method drive_tear_down judge digits add64 utf16_chars encode
+kept_error_touches = refl
+
+bad_init_touches : last_places (places (runs bad_init_suite (all_tests bad_init_suite))) ≡ place.Init 32 ∷ place.Head 2 ∷ place.Field 2 1 ∷ place.Head 2 ∷ place.Head 2 ∷ place.Field 2 1 ∷ []
+unfolding builtin_classes builtin_fields builtin_methods builtin_defs class_bound own_interfaces is_below implements default_interfaces is_trivial layout blank form_at next_place parameters return_type narrow opening tree one_test runs step row row_here row_throw throws row_raise handler_for row_finish row_fail parts_of begin row_moves row_arith row_branches row_statics read_static write_static row_fields row_create new_object row_calls calls argument_count row_return hands_on kept_method select select_virtual select_interface select_special row_native native_object native_throwable native_string native_builder native_system native_print native_files native_env drive drives drive_first drive_init drive_set_up drive_method drive_tear_down judge digits add64 utf16_chars encode
+bad_init_touches = refl

@@ -1,7 +1,7 @@
 -- What a program says of its classes, fields and methods.
-use Rattle.std.specs.Prelude.{ℕ, zero, suc, List, [], ◌∷◌, ◌++◌, length, get_or, replicate, map, filter, Bool, true, false, not, ◌&&◌, ◌||◌, cond, nat_eq, nat_lt, ◌+◌, ◌-◌, ◌/◌, ◌%◌, pos, bit_and, Option, Some, None, flat_map, is_some}
+use Rattle.std.specs.Prelude.{ℕ, zero, suc, List, [], ◌∷◌, ◌++◌, get_or, replicate, map, filter, Bool, true, false, not, ◌&&◌, ◌||◌, cond, nat_eq, ◌-◌, ◌/◌, ◌%◌, pos, Option, Some, None, flat_map, is_some}
 use Rattle.jvm_model.specs.declared.values.Value.{Value}
-use Rattle.jvm_model.specs.declared.values.Value.TheVariants.{Int, Long, Null, Lit, Obj}
+use Rattle.jvm_model.specs.declared.values.Value.TheVariants.{Int, Long, Null}
 use Rattle.jvm_model.specs.declared.values.Kind.{Kind}
 use Rattle.jvm_model.specs.declared.values.Kind.TheVariants as kind
 use Rattle.jvm_model.specs.declared.values.Base.{Base}
@@ -15,7 +15,6 @@ use Rattle.jvm_model.specs.declared.program.Body.{Body}
 use Rattle.jvm_model.specs.declared.program.Placed.{Placed}
 use Rattle.jvm_model.specs.declared.instr.Instr.{Instr}
 use Rattle.jvm_model.specs.World.{Object, same_units}
-use Rattle.jvm_model.specs.Builtin.{object_class}
 
 -- what stands at a number that a program lacks
 abbrev pub no_class : ClassRec

@@ -1,6 +1,5 @@
--- What a method's descriptor says (JVMS 4.3.3), by the first unit of each type: B C F D I J S Z of the number types, L of
--- a class and [ of an array.
-use Rattle.std.specs.Prelude.{ℕ, List, [], ◌∷◌, length, Bool, true, false, nat_eq}
+-- What a method's descriptor says (JVMS 4.3.3).
+use Rattle.std.specs.Prelude.{ℕ, List, [], ◌∷◌, Bool, true, false, nat_eq}
 
 -- where a reader of a descriptor stands
 pub data Scan : Type 0 where
@@ -11,31 +10,27 @@ pub data Scan : Type 0 where
   -- in a class's name
   in_name : Scan
 
-abbrev pub scan_after : Scan → ℕ → Scan
-scan_after at_type u = elim (nat_eq u 76) [ true ↦ in_name | false ↦ elim (nat_eq u 91) [ true ↦ in_array | false ↦ at_type ] ]
-scan_after in_array u = elim (nat_eq u 76) [ true ↦ in_name | false ↦ elim (nat_eq u 91) [ true ↦ in_array | false ↦ at_type ] ]
-scan_after in_name u = elim (nat_eq u 59) [ true ↦ at_type | false ↦ in_name ]
+-- a unit more before the first text
+abbrev pub onto_first : ℕ → List (List ℕ) → List (List ℕ)
+onto_first u [] = (u ∷ []) ∷ []
+onto_first u (t ∷ ts) = (u ∷ t) ∷ ts
 
--- the first units of the types before the closing parenthesis
-abbrev pub letters : Scan → List ℕ → List ℕ
-letters s [] = []
-letters at_type (u ∷ us) = elim (nat_eq u 41) [ true ↦ [] | false ↦ u ∷ letters (scan_after at_type u) us ]
-letters in_array (u ∷ us) = letters (scan_after in_array u) us
-letters in_name (u ∷ us) = letters (scan_after in_name u) us
+-- the types before the closing parenthesis, 41; [ is 91, L is 76 and ; is 59
+abbrev pub types_in : Scan → List ℕ → List (List ℕ)
+types_in s [] = []
+types_in at_type (u ∷ us) = elim (nat_eq u 41) [ true ↦ [] | false ↦
+  elim (nat_eq u 91) [ true ↦ onto_first u (types_in in_array us) | false ↦
+    elim (nat_eq u 76) [ true ↦ onto_first u (types_in in_name us) | false ↦ (u ∷ []) ∷ types_in at_type us ] ] ]
+types_in in_array (u ∷ us) = elim (nat_eq u 91) [ true ↦ onto_first u (types_in in_array us) | false ↦
+  elim (nat_eq u 76) [ true ↦ onto_first u (types_in in_name us) | false ↦ (u ∷ []) ∷ types_in at_type us ] ]
+types_in in_name (u ∷ us) = elim (nat_eq u 59) [ true ↦ (u ∷ []) ∷ types_in at_type us | false ↦ onto_first u (types_in in_name us) ]
 
--- the first units of the parameter types
-unfoldable pub parameters : List ℕ → List ℕ
+-- the descriptors of the parameter types
+unfoldable pub parameters : List ℕ → List (List ℕ)
 parameters [] = []
-parameters (u ∷ us) = letters at_type us
+parameters (u ∷ us) = types_in at_type us
 
-abbrev pub past_close : List ℕ → List ℕ
-past_close [] = []
-past_close (u ∷ us) = elim (nat_eq u 41) [ true ↦ us | false ↦ past_close us ]
-
-abbrev pub first_or : ℕ → List ℕ → ℕ
-first_or d [] = d
-first_or d (u ∷ us) = u
-
--- the first unit of the return type, V of none
-unfoldable pub return_letter : List ℕ → ℕ
-return_letter us = first_or 86 (past_close us)
+-- the descriptor of the return type, V of none
+unfoldable pub return_type : List ℕ → List ℕ
+return_type [] = []
+return_type (u ∷ us) = elim (nat_eq u 41) [ true ↦ us | false ↦ return_type us ]

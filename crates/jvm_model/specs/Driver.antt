@@ -1,10 +1,8 @@
 -- The driver: what a test calls, in order, and how it is judged (this project's).
-use Rattle.std.specs.Prelude.{ℕ, List, [], ◌∷◌, ◌++◌, ◌+◌, length, Bool, true, false, not, ◌&&◌, cond, Option, Some, None}
+use Rattle.std.specs.Prelude.{ℕ, List, [], ◌∷◌, ◌+◌, length, not, ◌&&◌, cond, Option, Some, None}
 use Rattle.jvm_model.specs.declared.values.Value.{Value}
 use Rattle.jvm_model.specs.declared.values.Value.TheVariants.{Int, Long, Null, Lit, Obj}
 use Rattle.jvm_model.specs.declared.values.Location.TheVariants as place
-use Rattle.jvm_model.specs.declared.outcome.Cause.{Cause}
-use Rattle.jvm_model.specs.declared.outcome.Verdict.{Verdict}
 use Rattle.jvm_model.specs.declared.outcome.Verdict.TheVariants.{Passed, Failed, Error}
 use Rattle.jvm_model.specs.declared.program.Body.{Body}
 use Rattle.jvm_model.specs.declared.program.Program.{Program}
@@ -12,8 +10,8 @@ use Rattle.jvm_model.specs.World.{same_units}
 use Rattle.jvm_model.specs.Access.{Access, done, read, make, spend, bind}
 use Rattle.jvm_model.specs.Builtin.{abstract_method_error, assertion_error, message_field}
 use Rattle.jvm_model.specs.Classes.{class_at, method_at, literal_at, upwards, is_below, is_static, layout, blank, instance_head, init_name}
-use Rattle.jvm_model.specs.Entries.{Entries, with_entry, frame_of, frame_cost}
-use Rattle.jvm_model.specs.Raising.{class_of}
+use Rattle.jvm_model.specs.Entries.{with_entry, frame_of, frame_cost}
+use Rattle.jvm_model.specs.Kinds.{class_of}
 use Rattle.jvm_model.specs.Rows.{Used, ready, begun, refused, begin}
 use Rattle.jvm_model.specs.State.{Stage, first, made, built, set_up, called, last, State, Turn, next, ended, no_turn, test_at, with_entries}
 use Rattle.jvm_model.specs.Throwing.{throws}

@@ -1,7 +1,7 @@
 -- The list of entries: method frames (JVMS 2.6) and initialisation entries (this project's), the top one's parts open.
-use Rattle.std.specs.Prelude.{ℕ, suc, List, [], ◌∷◌, ◌++◌, length, replicate, take, drop, reverse, ◌-◌, ◌+◌, Bool, true, false, nat_le, Option, Some, None}
+use Rattle.std.specs.Prelude.{ℕ, List, [], ◌∷◌, ◌++◌, length, replicate, take, drop, reverse, ◌-◌, ◌+◌, Bool, false, nat_le}
 use Rattle.jvm_model.specs.declared.values.Value.{Value}
-use Rattle.jvm_model.specs.declared.values.Value.TheVariants.{Int, Long, Null, Lit, Obj}
+use Rattle.jvm_model.specs.declared.values.Value.TheVariants.{Long, Null}
 use Rattle.jvm_model.specs.declared.program.Body.{Body}
 
 pub data EntryKind : Type 0 where

@@ -1,7 +1,6 @@
 -- The built-in classes: what they are named, which fields and methods they have, and their records in a program.
-use Rattle.std.specs.Prelude.{ℕ, List, [], ◌∷◌, ◌++◌, length, ◌+◌, codes, map, Option, Some, None, Bool, true, false}
+use Rattle.std.specs.Prelude.{ℕ, List, [], ◌∷◌, ◌++◌, length, ◌+◌, codes, map, Option, Some, None, true, false}
 use Rattle.std.specs.List.{range_with_len}
-use Rattle.jvm_model.specs.declared.values.Value.{Value}
 use Rattle.jvm_model.specs.declared.values.Value.TheVariants.{Null, Lit}
 use Rattle.jvm_model.specs.declared.library.ClassDef.{ClassDef}
 use Rattle.jvm_model.specs.declared.library.FieldDef.{FieldDef}

@@ -1,23 +1,16 @@
 -- Raising a throwable: one step for each entry that is looked at (JVMS 2.10).
-use Rattle.std.specs.Prelude.{ℕ, List, [], ◌∷◌, Bool, true, false, cond, ◌&&◌, nat_le, nat_lt, Option, Some, None}
+use Rattle.std.specs.Prelude.{ℕ, List, [], ◌∷◌, Bool, true, cond, ◌&&◌, nat_le, nat_lt, Option, Some, None}
 use Rattle.jvm_model.specs.declared.values.Value.{Value}
-use Rattle.jvm_model.specs.declared.values.Kind.{Kind}
-use Rattle.jvm_model.specs.declared.values.Kind.TheVariants as kind
 use Rattle.jvm_model.specs.declared.values.Location.TheVariants as place
-use Rattle.jvm_model.specs.declared.outcome.Next.TheVariants.{Go, Raise}
+use Rattle.jvm_model.specs.declared.outcome.Next.TheVariants.{Raise}
 use Rattle.jvm_model.specs.declared.program.Body.{Body}
 use Rattle.jvm_model.specs.declared.program.Handler.{Handler}
 use Rattle.jvm_model.specs.declared.program.Program.{Program}
 use Rattle.jvm_model.specs.Access.{Access, done, read}
-use Rattle.jvm_model.specs.Builtin.{object_class}
 use Rattle.jvm_model.specs.Classes.{method_at, is_below}
 use Rattle.jvm_model.specs.Entries.{Entries, popped_entry}
+use Rattle.jvm_model.specs.Kinds.{class_of}
 use Rattle.jvm_model.specs.Rows.{Answer, answer, on_object, goes_to}
-
--- the class of an object; an array is of class Object
-abbrev pub class_of : Kind → ℕ
-class_of (kind.Class c) = c
-class_of (kind.Array dims b) = object_class
 
 abbrev pub catches : Program → Option ℕ → ℕ → Bool
 catches p None c = true

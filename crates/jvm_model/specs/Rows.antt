@@ -1,18 +1,19 @@
 -- The combinators of which the rows of the table of steps are made.
-use Rattle.std.specs.Prelude.{ℕ, ℤ, List, [], ◌∷◌, length, ◌+◌, Bool, true, false, cond, nat_le, nat_eq, Option, Some, None, get_or}
+use Rattle.std.specs.Prelude.{ℕ, ℤ, List, [], ◌∷◌, cond, nat_eq}
 use Rattle.jvm_model.specs.declared.values.Value.{Value}
 use Rattle.jvm_model.specs.declared.values.Value.TheVariants.{Int, Long, Null, Lit, Obj}
 use Rattle.jvm_model.specs.declared.values.InitState.{InitState}
 use Rattle.jvm_model.specs.declared.values.InitState.TheVariants.{Idle, Running, Done, Erroneous}
 use Rattle.jvm_model.specs.declared.values.Location.TheVariants as place
 use Rattle.jvm_model.specs.declared.outcome.Next.{Next}
-use Rattle.jvm_model.specs.declared.outcome.Next.TheVariants.{Go, Fault, Raise, Enter, Leave}
+use Rattle.jvm_model.specs.declared.outcome.Next.TheVariants.{Go, Fault}
 use Rattle.jvm_model.specs.declared.program.Program.{Program}
-use Rattle.jvm_model.specs.World.{Object}
-use Rattle.jvm_model.specs.Access.{Access, done, read, write, make, spend, bind}
+use Rattle.jvm_model.specs.Access.{Access, done, read, write, bind}
 use Rattle.jvm_model.specs.Classes.{is_trivial, next_place, literal_at}
 use Rattle.jvm_model.specs.Entries.{Entries, with_stack, with_place, with_entry, class_entry, is_full}
-use Rattle.jvm_model.specs.Builtin.{null_pointer_exception, no_class_error, stack_overflow_error}
+use Rattle.jvm_model.specs.Builtin.{null_pointer_exception, no_class_error, stack_overflow_error, stream_class, string_class}
+use Rattle.jvm_model.specs.declared.values.Kind.{Kind}
+use Rattle.jvm_model.specs.declared.values.Kind.TheVariants as kind
 
 -- How a row ends: how the step goes on, with the entries then, or there is no row.
 pub data Answer (S : Type 0) : Type 0 where
@@ -62,6 +63,26 @@ on_object s (Long n) k = none_here
 on_object s Null k = faults null_pointer_exception s
 on_object s (Lit n) k = none_here
 on_object s (Obj o) k = k o
+
+-- what comes at a reference; null throws, with these entries
+abbrev pub on_reference : {S : Type 0} → S → Value → Access (Answer S) → Access (Answer S)
+on_reference s (Int n) k = none_here
+on_reference s (Long n) k = none_here
+on_reference s Null k = faults null_pointer_exception s
+on_reference s (Lit n) k = k
+on_reference s (Obj o) k = k
+
+-- what a constant object is an instance of: the stream, or a string
+abbrev pub constant_kind : ℕ → Kind
+constant_kind n = kind.Class (cond (nat_eq n 0) stream_class string_class)
+
+-- what comes with what a nonnull value is an instance of: an object's head is read
+abbrev pub with_kind : {S : Type 0} → Value → (Kind → Access (Answer S)) → Access (Answer S)
+with_kind (Int n) k = none_here
+with_kind (Long n) k = none_here
+with_kind Null k = none_here
+with_kind (Lit n) k = k (constant_kind n)
+with_kind (Obj o) k = read (place.Head o) (λ h. k h.kind)
 
 -- what comes with the text of a string: a constant's is the program's, without a touch, another's is read; null throws
 abbrev pub on_text : {S : Type 0} → Program → S → Value → (List ℕ → Access (Answer S)) → Access (Answer S)

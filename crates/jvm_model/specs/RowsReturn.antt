@@ -1,14 +1,15 @@
 -- Returns (JVMS 6.5): the entry is popped, and a value, narrowed to the method's return type, goes to the frame below.
-use Rattle.std.specs.Prelude.{ℕ, ℤ, List, [], ◌∷◌, Bool, true, false, Option, Some, None}
+use Rattle.std.specs.Prelude.{List, [], ◌∷◌, Bool, true, false, Option, Some, None}
 use Rattle.jvm_model.specs.declared.values.Value.{Value}
 use Rattle.jvm_model.specs.declared.instr.Instr.{Instr}
 use Rattle.jvm_model.specs.declared.instr.Instr.TheVariants as form
+use Rattle.jvm_model.specs.declared.outcome.Next.{Next}
 use Rattle.jvm_model.specs.declared.outcome.Next.TheVariants.{Go, Leave}
 use Rattle.jvm_model.specs.declared.program.Program.{Program}
 use Rattle.jvm_model.specs.Access.{Access, done}
-use Rattle.jvm_model.specs.Classes.{method_at, next_place}
-use Rattle.jvm_model.specs.Descriptors.{return_letter}
-use Rattle.jvm_model.specs.Narrow.{narrow}
+use Rattle.jvm_model.specs.Classes.{method_at}
+use Rattle.jvm_model.specs.Descriptors.{return_type}
+use Rattle.jvm_model.specs.Narrow.{narrowed}
 use Rattle.jvm_model.specs.Entries.{EntryKind, absent, in_method, in_class, Entries, popped_entry}
 use Rattle.jvm_model.specs.Rows.{Answer, answer, none_here, goes_on, popping}
 
@@ -25,5 +26,5 @@ hands_on p vs s = handed_on (popped_entry s).top.kind p vs (popped_entry s)
 
 unfoldable pub row_return : Program → Instr → Entries → Access (Answer Entries)
 row_return p (form.Return None) s = hands_on p [] s
-row_return p (form.Return (Some x)) s = popping s.top.stack (λ v vs. hands_on p (narrow (return_letter (method_at p s.top.number).descriptor) v ∷ []) s)
+row_return p (form.Return (Some x)) s = popping s.top.stack (λ v vs. hands_on p (narrowed (return_type (method_at p s.top.number).descriptor) v ∷ []) s)
 row_return p _ s = none_here

@@ -1,11 +1,10 @@
 -- The state of a test beside the world, and what a step makes of it.
-use Rattle.std.specs.Prelude.{ℕ, ℤ, List, [], ◌∷◌, get_or, ◌-◌, Option, Some, None, pos}
+use Rattle.std.specs.Prelude.{ℕ, List, [], get_or, ◌-◌, Option, Some, None, pos}
 use Rattle.jvm_model.specs.declared.values.Value.{Value}
 use Rattle.jvm_model.specs.declared.outcome.Own.{Own}
 use Rattle.jvm_model.specs.declared.outcome.Verdict.{Verdict}
 use Rattle.jvm_model.specs.declared.program.Program.{Program}
 use Rattle.jvm_model.specs.declared.program.TestEntry.{TestEntry}
-use Rattle.jvm_model.specs.Access.{Access, done}
 use Rattle.jvm_model.specs.Entries.{EntryKind, absent, in_method, in_class, Entries, no_entries}
 
 -- What the driver does when no entry is left.

@@ -1,5 +1,5 @@
 -- The step of the machine: one case for each row of the table of steps.
-use Rattle.std.specs.Prelude.{ℕ, List, Option, Some, None}
+use Rattle.std.specs.Prelude.{Option, Some, None}
 use Rattle.jvm_model.specs.declared.values.Value.{Value}
 use Rattle.jvm_model.specs.declared.instr.Instr.{Instr}
 use Rattle.jvm_model.specs.declared.instr.Instr.TheVariants as form
@@ -12,6 +12,7 @@ use Rattle.jvm_model.specs.Entries.{EntryKind, absent, in_method, in_class, Entr
 use Rattle.jvm_model.specs.Rows.{Answer, answer, no_row, popping, on_object, none_here}
 use Rattle.jvm_model.specs.RowsMoves.{row_moves}
 use Rattle.jvm_model.specs.RowsArith.{row_arith}
+use Rattle.jvm_model.specs.RowsBranches.{row_branches}
 use Rattle.jvm_model.specs.RowsStatics.{row_statics}
 use Rattle.jvm_model.specs.RowsFields.{row_fields}
 use Rattle.jvm_model.specs.RowsCreate.{row_create}
@@ -19,7 +20,8 @@ use Rattle.jvm_model.specs.RowsArrays.{row_arrays}
 use Rattle.jvm_model.specs.RowsCasts.{row_casts}
 use Rattle.jvm_model.specs.RowsCalls.{row_calls}
 use Rattle.jvm_model.specs.RowsReturn.{row_return}
-use Rattle.jvm_model.specs.Natives.{Working, row_native}
+use Rattle.jvm_model.specs.Working.{Working}
+use Rattle.jvm_model.specs.Natives.{row_native}
 use Rattle.jvm_model.specs.Initialise.{row_finish, row_fail}
 use Rattle.jvm_model.specs.Raising.{row_raise}
 use Rattle.jvm_model.specs.State.{State, Turn, next, no_turn, raise, with_entries}
@@ -28,7 +30,7 @@ use Rattle.jvm_model.specs.Driver.{drive}
 
 -- the groups of forms
 pub data Group : Type 0 where
-  moves arith statics fields create arrays casts calls returns throw : Group
+  moves arith branches statics fields create arrays casts calls returns throw : Group
 
 -- the group of a form
 abbrev pub group_of : Instr → Group
@@ -52,13 +54,13 @@ group_of (form.Neg w) = arith
 group_of (form.Inc n by) = arith
 group_of (form.Convert x) = arith
 group_of form.Compare = arith
-group_of (form.IfZero x to) = moves
-group_of (form.IfInts x to) = moves
-group_of (form.IfRefs x to) = moves
-group_of (form.IfNull x to) = moves
-group_of (form.Goto to) = moves
-group_of (form.Table low ts to) = moves
-group_of (form.Lookup ps to) = moves
+group_of (form.IfZero x to) = branches
+group_of (form.IfInts x to) = branches
+group_of (form.IfRefs x to) = branches
+group_of (form.IfNull x to) = branches
+group_of (form.Goto to) = branches
+group_of (form.Table low ts to) = branches
+group_of (form.Lookup ps to) = branches
 group_of (form.Return x) = returns
 group_of (form.GetStatic f) = statics
 group_of (form.PutStatic f) = statics
@@ -75,7 +77,7 @@ group_of form.ArrayLength = arrays
 group_of form.Throw = throw
 group_of (form.CheckCast k) = casts
 group_of (form.InstanceOf k) = casts
-group_of form.Monitor = casts
+group_of form.Monitor = moves
 
 -- athrow: the throwable is raised; null throws
 unfoldable pub row_throw : Entries → Access (Answer Entries)
@@ -84,6 +86,7 @@ row_throw s = popping s.top.stack (λ v vs. on_object s v (λ o. done (answer (R
 abbrev pub row_of : Group → Program → Instr → Entries → Access (Answer Entries)
 row_of moves p i s = row_moves p i s
 row_of arith p i s = row_arith p i s
+row_of branches p i s = row_branches p i s
 row_of statics p i s = row_statics p i s
 row_of fields p i s = row_fields p i s
 row_of create p i s = row_create p i s

@@ -1,14 +1,13 @@
 -- One test, and lists of tests on one heap.
-use Rattle.std.specs.Prelude.{◌≡◌, ℕ, zero, suc, ◌+◌, ◌-◌, ◌<◌, ◌≤◌, List, [], ◌∷◌, map, length, Bool, true, false, cond, nat_le, nat_lt, min, Option, Some, None}
+use Rattle.std.specs.Prelude.{◌≡◌, ℕ, zero, suc, ◌+◌, ◌-◌, List, [], ◌∷◌, map, length, slice_get, Bool, true, false, cond, nat_le, min, Option, Some, None}
 use Rattle.std.specs.List.{range_with_len}
-use Rattle.jvm_model.specs.declared.values.Value.{Value}
 use Rattle.jvm_model.specs.declared.values.InitState.TheVariants.{Idle}
 use Rattle.jvm_model.specs.declared.values.Touch.{Touch}
 use Rattle.jvm_model.specs.declared.outcome.Outcome.{Outcome}
 use Rattle.jvm_model.specs.declared.outcome.Verdict.{Verdict}
 use Rattle.jvm_model.specs.declared.program.Program.{Program}
 use Rattle.jvm_model.specs.World.{World}
-use Rattle.jvm_model.specs.Access.{Access, done, bind, Ran, run}
+use Rattle.jvm_model.specs.Access.{Access, done, bind, run}
 use Rattle.jvm_model.specs.State.{State, Turn, next, ended, no_turn, test_at, started}
 use Rattle.jvm_model.specs.Step.{step}
 
@@ -93,9 +92,13 @@ outcome_in (Some x) = Some x.outcome
 unfoldable pub last_outcome : Program → List ℕ → Option Outcome
 last_outcome p l = outcome_in (last_in (runs p l))
 
+abbrev pub given_by_test : Option (List Given) → ℕ → Option Given
+given_by_test None t = None
+given_by_test (Some xs) t = slice_get xs (t - 1)
+
 -- what test t gives when the whole suite is run in order
 unfoldable pub seq : Program → ℕ → Option Outcome
-seq p t = last_outcome p (range_with_len 1 t)
+seq p t = outcome_in (given_by_test (runs p (all_tests p)) t)
 
 abbrev pub units_of : List Given → ℕ
 units_of [] = 0
@@ -105,13 +108,13 @@ units_of (x ∷ xs) = x.outcome.units + units_of xs
 unfoldable pub suite_limit : ℕ
 suite_limit = 67108864
 
--- the suite's own order ends within the limit
-abbrev pub is_detected : Program → Option (List Given) → Bool
-is_detected p None = false
-is_detected p (Some xs) = nat_le (units_of xs) suite_limit
+abbrev pub within_limit : Option (List Given) → Bool
+within_limit None = false
+within_limit (Some xs) = nat_le (units_of xs) suite_limit
 
-pub record Detected (p : Program) : Type 0 where
-  pub within : is_detected p (runs p (all_tests p)) ≡ true
+-- whether the suite in its own order ends within the limit
+unfoldable pub is_detected : Program → Bool
+is_detected p = within_limit (runs p (all_tests p))
 
 -- Why a detection run is refused: a test passes its own budget, or the rest of the suite's limit.
 pub data SuiteFault : Type 0 where
@@ -133,3 +136,8 @@ fault_on p w r (t ∷ l) = elim (one_test p w t (min (test_at p t).budget r)) [
 -- the first refusal of a detection run
 unfoldable pub suite_fault : Program → Option SuiteFault
 suite_fault p = fault_on p (opening p) suite_limit (all_tests p)
+
+-- the world after the tests of a list that began in w
+abbrev pub world_after : World → List Given → World
+world_after w [] = w
+world_after w (x ∷ xs) = world_after x.world xs

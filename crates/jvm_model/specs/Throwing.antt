@@ -1,5 +1,5 @@
 -- A step that throws by itself.
-use Rattle.std.specs.Prelude.{ℕ, List}
+use Rattle.std.specs.Prelude.{ℕ}
 use Rattle.jvm_model.specs.declared.values.Value.TheVariants.{Obj}
 use Rattle.jvm_model.specs.declared.program.Program.{Program}
 use Rattle.jvm_model.specs.Access.{Access, done, make, spend}

@@ -65,10 +65,20 @@ pub enum IfTest {
 pub enum Instr {
     Nop,
     Const(Value),
-    Load { of: Sort, local: u16 },
-    Store { of: Sort, local: u16 },
-    ArrayLoad { of: Cell },
-    ArrayStore { of: Cell },
+    Load {
+        of: Sort,
+        local: u16,
+    },
+    Store {
+        of: Sort,
+        local: u16,
+    },
+    ArrayLoad {
+        of: Cell,
+    },
+    ArrayStore {
+        of: Cell,
+    },
     Pop,
     Pop2,
     Dup,
@@ -78,33 +88,98 @@ pub enum Instr {
     Dup2X1,
     Dup2X2,
     Swap,
-    Binary { op: Op, wide: bool },
-    Neg { wide: bool },
-    Inc { local: u16, by: i32 },
-    Convert { to: Conv },
+    Binary {
+        op: Op,
+        wide: bool,
+    },
+    Neg {
+        wide: bool,
+    },
+    Inc {
+        local: u16,
+        by: i32,
+    },
+    Convert {
+        to: Conv,
+    },
     Compare,
-    IfZero { test: IfTest, to: u32 },
-    IfInts { test: IfTest, to: u32 },
-    IfRefs { same: bool, to: u32 },
-    IfNull { null: bool, to: u32 },
-    Goto { to: u32 },
-    Table { low: i32, targets: Items<u32>, other: u32 },
-    Lookup { pairs: Items<(i32, u32)>, other: u32 },
-    Return { of: Option<Sort> },
-    GetStatic { field: u32 },
-    PutStatic { field: u32 },
-    GetField { named: u32, field: u32 },
-    PutField { named: u32, field: u32 },
-    InvokeVirtual { named: Kind, method: u32 },
-    InvokeSpecial { named: Kind, method: u32 },
-    InvokeStatic { method: u32 },
-    InvokeInterface { named: u32, method: u32 },
-    New { class: u32 },
-    NewArray { kind: Kind },
-    MultiNewArray { kind: Kind, dims: u8 },
+    IfZero {
+        test: IfTest,
+        to: u32,
+    },
+    IfInts {
+        test: IfTest,
+        to: u32,
+    },
+    IfRefs {
+        same: bool,
+        to: u32,
+    },
+    IfNull {
+        null: bool,
+        to: u32,
+    },
+    Goto {
+        to: u32,
+    },
+    Table {
+        low: i32,
+        targets: Items<u32>,
+        other: u32,
+    },
+    Lookup {
+        pairs: Items<(i32, u32)>,
+        other: u32,
+    },
+    Return {
+        of: Option<Sort>,
+    },
+    GetStatic {
+        field: u32,
+    },
+    PutStatic {
+        field: u32,
+    },
+    GetField {
+        named: u32,
+        field: u32,
+    },
+    PutField {
+        named: u32,
+        field: u32,
+    },
+    InvokeVirtual {
+        named: Kind,
+        method: u32,
+    },
+    InvokeSpecial {
+        named: Kind,
+        method: u32,
+    },
+    InvokeStatic {
+        method: u32,
+    },
+    InvokeInterface {
+        named: u32,
+        method: u32,
+    },
+    New {
+        class: u32,
+    },
+    NewArray {
+        kind: Kind,
+    },
+    MultiNewArray {
+        kind: Kind,
+        dims: u8,
+    },
     ArrayLength,
     Throw,
-    CheckCast { kind: Kind },
-    InstanceOf { kind: Kind },
+    CheckCast {
+        kind: Kind,
+    },
+    InstanceOf {
+        kind: Kind,
+    },
     Monitor,
 }

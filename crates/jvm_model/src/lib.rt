@@ -11,6 +11,7 @@ pub use instr::{Cell, Conv, IfTest, Instr, Op, Sort};
 pub use library::{ClassDef, FieldDef, MethodDef, Native};
 pub use outcome::{Cause, Next, Outcome, Own, Verdict};
 pub use program::{
-    Body, ClassRec, FieldRec, FrameRec, Handler, MethodRec, Names, Placed, Program, TestEntry, TypeRec,
+    Body, ClassRec, FieldRec, FrameRec, Handler, MethodRec, Names, Placed, Program, TestEntry,
+    TypeRec,
 };
 pub use values::{Base, Head, InitState, Kind, Location, Touch, Value};

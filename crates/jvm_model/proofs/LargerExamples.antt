@@ -1,0 +1,81 @@
+-- Larger suites that are run by computation.
+use Rattle.std.proofs.Common.{◌≡◌, ℕ, List, [], ◌∷◌, ◌++◌, length, Option, Some, None, refl, pos, negsuc, true, false}
+use Rattle.std.specs.Prelude.{codes}
+use Rattle.std.specs.Fmt.{digits}
+use Rattle.std.specs.Char.Utf16.{utf16_chars}
+use lib.Utf8.{encode}
+use Rattle.std.specs.Int.{int_wrap}
+use Rattle.et_base.specs.Numbers.{add32, div32, add64}
+use Rattle.jvm_model.specs.declared.values.Value.TheVariants.{Int, Long, Null, Lit, Obj}
+use Rattle.jvm_model.specs.declared.values.Kind.TheVariants as kind
+use Rattle.jvm_model.specs.declared.values.Location.TheVariants as place
+use Rattle.jvm_model.specs.declared.instr.Instr.{Instr}
+use Rattle.jvm_model.specs.declared.instr.Instr.TheVariants as form
+use Rattle.jvm_model.specs.declared.instr.Op.TheVariants.{Add, Div}
+use Rattle.jvm_model.specs.declared.instr.Sort.TheVariants as sort
+use Rattle.jvm_model.specs.declared.instr.IfTest.TheVariants as if_test
+use Rattle.jvm_model.specs.declared.program.Program.{Program}
+use Rattle.jvm_model.specs.Library.{builtin_defs, builtin_classes, builtin_fields, builtin_methods}
+use Rattle.jvm_model.specs.Classes.{class_bound, own_interfaces, is_below, implements, default_interfaces, is_trivial, layout, blank, form_at, next_place}
+use Rattle.jvm_model.specs.Descriptors.{parameters, return_type}
+use Rattle.jvm_model.specs.Narrow.{narrow}
+use Rattle.jvm_model.specs.Suite.{opening, tree, one_test, runs, all_tests}
+use Rattle.jvm_model.specs.Step.{step, row, row_here, row_throw}
+use Rattle.jvm_model.specs.Throwing.{throws}
+use Rattle.jvm_model.specs.Raising.{row_raise, handler_for}
+use Rattle.jvm_model.specs.Initialise.{row_finish, row_fail, parts_of}
+use Rattle.jvm_model.specs.Rows.{begin}
+use Rattle.jvm_model.specs.RowsMoves.{row_moves}
+use Rattle.jvm_model.specs.RowsArith.{row_arith}
+use Rattle.jvm_model.specs.RowsBranches.{row_branches, lookup_target}
+use Rattle.jvm_model.specs.RowsStatics.{row_statics, read_static, write_static}
+use Rattle.jvm_model.specs.RowsFields.{row_fields}
+use Rattle.jvm_model.specs.RowsCreate.{row_create, new_object}
+use Rattle.jvm_model.specs.RowsCalls.{row_calls, calls, argument_count}
+use Rattle.jvm_model.specs.RowsReturn.{row_return, hands_on}
+use Rattle.jvm_model.specs.Selection.{kept_method, select, select_virtual, select_interface, select_special}
+use Rattle.jvm_model.specs.Natives.{row_native}
+use Rattle.jvm_model.specs.NativesObject.{native_object, native_throwable}
+use Rattle.jvm_model.specs.NativesString.{native_string, native_builder, hash_of}
+use Rattle.jvm_model.specs.NativesOutside.{native_system, native_print, native_files, native_env}
+use Rattle.jvm_model.specs.Driver.{drive, drives, drive_first, drive_init, drive_set_up, drive_method, drive_tear_down, judge}
+use Rattle.jvm_model.proofs.ExampleParts.{program, class, body, fixed, plain, static, field, static_int, test, int_const, literal, get_static, put_static, call_static, returns, load_this, dup, print, print_number, outcomes, passed, failed, error, places, last_places, line}
+
+-- a method that calls itself until no entry may be pushed
+abbrev recursion_suite : Program
+recursion_suite = program (class (codes "R") (2 ∷ []) (102 ∷ 103 ∷ []) ∷ []) (static_int 32 (codes "d") ∷ [])
+    (fixed 32 (codes "down") (codes "()V") (body 2 0 (get_static 2 ∷ int_const 1 ∷ (1, form.Binary Add false) ∷ put_static 2 ∷ call_static 102 ∷ returns ∷ []))
+    ∷ fixed 32 (codes "deep") (codes "()V") (record (body 1 0 (call_static 102 ∷ returns ∷ (1, form.Pop) ∷ get_static 2 ∷ print_number)) { handlers = record { from = 0; to = 3; at = 4; catches = Some 18 } ∷ [] }) ∷ [])
+    [] (test 32 103 ∷ [])
+
+recursion_runs : outcomes (runs recursion_suite (all_tests recursion_suite)) ≡ Some (passed (line (codes "1023")) 8200 ∷ [])
+unfolding builtin_classes builtin_fields builtin_methods builtin_defs class_bound own_interfaces is_below implements default_interfaces is_trivial layout blank form_at next_place parameters return_type narrow opening tree one_test runs step row row_here row_throw throws row_raise handler_for row_finish row_fail parts_of begin row_moves row_arith row_branches row_statics read_static write_static row_fields row_create new_object row_calls calls argument_count row_return hands_on kept_method select select_virtual select_interface select_special row_native native_object native_throwable native_string native_builder native_system native_print native_files native_env drive drives drive_first drive_init drive_set_up drive_method drive_tear_down judge digits add64 utf16_chars encode add32 int_wrap lookup_target hash_of
+recursion_runs = refl
+
+-- an inner class, a string switch, concatenation and a loop, as the usual compiler lays them out
+abbrev outer_suite : Program
+outer_suite = program
+    (class (codes "Outer$In") (2 ∷ []) (102 ∷ 103 ∷ []) ∷ class (codes "Outer") (3 ∷ []) (104 ∷ 105 ∷ []) ∷ [])
+    (field 32 (codes "this$0") (codes "LOuter;") Null ∷ field 33 (codes "n") (codes "I") (Int (pos 0)) ∷ [])
+    (plain 32 (codes "<init>") (codes "(LOuter;)V") (body 2 2 (load_this ∷ (1, form.Load sort.Ref 1) ∷ (3, form.PutField 32 2) ∷ load_this ∷ (3, form.InvokeSpecial (kind.Class 0) 0) ∷ returns ∷ []))
+    ∷ plain 32 (codes "twice") (codes "()I") (body 2 1 (load_this ∷ (3, form.GetField 32 2) ∷ (3, form.GetField 33 3) ∷ load_this ∷ (3, form.GetField 32 2) ∷ (3, form.GetField 33 3) ∷ (1, form.Binary Add false) ∷ (1, form.Return (Some sort.Int)) ∷ []))
+    ∷ plain 33 (codes "<init>") (codes "()V") (body 2 1 (load_this ∷ (3, form.InvokeSpecial (kind.Class 0) 0) ∷ load_this ∷ int_const 3 ∷ (3, form.PutField 33 3) ∷ returns ∷ []))
+    ∷ plain 33 (codes "testAll") (codes "()V") (body 5 4 (
+        (2, form.Const (Lit 1)) ∷ (1, form.Store sort.Ref 1) ∷ (1, form.Const (Int (pos 0))) ∷ (1, form.Store sort.Int 2) ∷ (1, form.Load sort.Int 2) ∷ (1, form.Const (Int (pos 3))) ∷ (3, form.IfInts if_test.Ge 35)
+        ∷ (3, form.New 2) ∷ dup ∷ (3, form.InvokeSpecial (kind.Class 2) 16) ∷ (1, form.Load sort.Ref 1) ∷ (3, form.InvokeVirtual (kind.Class 2) 18)
+        ∷ (1, form.Load sort.Int 2) ∷ (3, form.InvokeVirtual (kind.Class 2) 19) ∷ (3, form.InvokeVirtual (kind.Class 2) 24) ∷ (1, form.Store sort.Ref 1)
+        ∷ (3, form.Inc 2 (pos 1)) ∷ (3, form.Goto 5) ∷ (1, form.Load sort.Ref 1) ∷ (1, form.Store sort.Ref 2) ∷ (1, form.Const (Int (negsuc 0))) ∷ (1, form.Store sort.Int 3) ∷ (1, form.Load sort.Ref 2)
+        ∷ (3, form.InvokeVirtual (kind.Class 1) 7) ∷ (17, form.Lookup ((pos 47697, 60) ∷ []) 71)
+        ∷ (1, form.Load sort.Ref 2) ∷ (2, form.Const (Lit 2)) ∷ (3, form.InvokeVirtual (kind.Class 1) 6) ∷ (3, form.IfZero if_test.Eq 71) ∷ (1, form.Const (Int (pos 0))) ∷ (1, form.Store sort.Int 3)
+        ∷ (1, form.Load sort.Int 3) ∷ (20, form.Lookup ((pos 0, 92) ∷ []) 129)
+        ∷ get_static 0 ∷ (3, form.New 2) ∷ dup ∷ (3, form.InvokeSpecial (kind.Class 2) 16) ∷ (1, form.Load sort.Ref 1)
+        ∷ (3, form.InvokeVirtual (kind.Class 2) 18) ∷ (3, form.New 32) ∷ dup ∷ load_this
+        ∷ (3, form.InvokeSpecial (kind.Class 32) 102) ∷ (3, form.InvokeVirtual (kind.Class 32) 103) ∷ (3, form.InvokeVirtual (kind.Class 2) 19)
+        ∷ (3, form.InvokeVirtual (kind.Class 2) 24) ∷ (3, form.InvokeVirtual (kind.Class 4) 34) ∷ (3, form.Goto 138)
+        ∷ (3, form.New 10) ∷ dup ∷ (1, form.Load sort.Ref 1) ∷ (3, form.InvokeSpecial (kind.Class 10) 55)
+        ∷ (1, form.Throw) ∷ returns ∷ [])) ∷ [])
+    ([] ∷ codes "012" ∷ []) (test 33 105 ∷ [])
+
+outer_runs : outcomes (runs outer_suite (all_tests outer_suite)) ≡ Some (passed (line (codes "0126")) 166 ∷ [])
+unfolding builtin_classes builtin_fields builtin_methods builtin_defs class_bound own_interfaces is_below implements default_interfaces is_trivial layout blank form_at next_place parameters return_type narrow opening tree one_test runs step row row_here row_throw throws row_raise handler_for row_finish row_fail parts_of begin row_moves row_arith row_branches row_statics read_static write_static row_fields row_create new_object row_calls calls argument_count row_return hands_on kept_method select select_virtual select_interface select_special row_native native_object native_throwable native_string native_builder native_system native_print native_files native_env drive drives drive_first drive_init drive_set_up drive_method drive_tear_down judge digits add64 utf16_chars encode add32 int_wrap lookup_target hash_of
+outer_runs = refl
