@@ -30,14 +30,14 @@ pub struct Context<'a> {
 
 impl<'a> Model for Context<'a> {
     ghost use Rattle.std.specs.Prelude.{◌≡◌, map};
-    ghost use Rattle.type_frames.specs.Environment.{Environment, targets};
-    ghost use Rattle.type_frames.specs.Given.{places};
+    ghost use Rattle.type_frames.specs.Environment as environments;
+    ghost use Rattle.type_frames.specs.Given as maps;
 
-    ghost Value = { Environment };
+    ghost Value = { environments.Environment };
 
     ghost view = { λ e. record { class = e.class; starts = e.starts; args = e.args; result = e.result; body = e.body.now; given = e.given } };
 
-    ghost invariant = { λ e. (e.code ≡ places e.body.now.code) × (e.frames ≡ map (λ g. g.pc) e.given) × (e.targets ≡ targets e.body.now) };
+    ghost invariant = { λ e. (e.code ≡ maps.places e.body.now.code) × (e.frames ≡ map (λ g. g.pc) e.given) × (e.targets ≡ environments.targets e.body.now) };
 }
 
 // The places of given frames.
@@ -117,7 +117,7 @@ fn result_types(alloc: Global, m: &MethodRec) -> Result<Items<VType>, NoMemory>
 }
 
 /// The context of a method with this code and these given frames.
-pub fn context<'a>(alloc: Global, p: &Program, m: &MethodRec, b: &'a Body, given: Items<Frame>) -> Result<Context<'a>, NoMemory>
+pub fn context_of<'a>(alloc: Global, p: &Program, m: &MethodRec, b: &'a Body, given: Items<Frame>) -> Result<Context<'a>, NoMemory>
     ensures { IfOk result (λ e. e ≡ environment_of p.now m.now b.now given) }
 {
     let bound = b.length as usize;
@@ -140,7 +140,7 @@ pub fn context<'a>(alloc: Global, p: &Program, m: &MethodRec, b: &'a Body, given
 
 /// The frame that is given at a place.
 #[tactic(auto, unfolding(type_frames::specs::Environment::given_at))]
-pub fn given_at(e: &Context, pc: u32) -> Option<&Frame>
+pub fn given_at<'a>(e: &'a Context, pc: u32) -> Option<&'a Frame>
     ensures { MatchOption result (given_at e.now pc ≡ None) (λ g. given_at e.now pc ≡ Some g.now) }
 {
     match e.frames.find(u64::from(pc)) {

@@ -9,6 +9,7 @@ use Rattle.jvm_model.specs.declared.program.Placed.{Placed}
 use Rattle.jvm_model.specs.World.{same_units}
 use Rattle.jvm_model.specs.Classes.{class_at, field_at, method_at, is_private, is_interface, has_flag, clinit_name}
 use Rattle.jvm_model.specs.Builtin.{builtin_count}
+use Rattle.jvm_model.specs.Linked.{Linked}
 use Rattle.type_frames.specs.declared.vtype.Frame.{Frame}
 use Rattle.type_frames.specs.declared.sides.Sides.{Sides}
 use Rattle.type_frames.specs.declared.fault.CheckFault.{CheckFault}
@@ -138,8 +139,9 @@ pub record IsTypedMethod (p : Program) (m : MethodRec) : Type 0 where
   pub frames : (b : Body) → m.body ≡ Some b → is_some (given_frames p m) ≡ true
   pub each : (b : Body) (gs : List Frame) (k : ℕ) (x : Placed) → m.body ≡ Some b → given_frames p m ≡ Some gs → slice_get b.code k ≡ Some x → breach_at p (environment_of p m b gs) k x ≡ None
 
--- A typed program: each given class has only members that are served, and only typed methods.
+-- A typed program: it is linked, and each given class has only members that are served, and only typed methods.
 pub record IsTyped (p : Program) : Type 0 where
+  pub linked : Linked p
   pub fields : (i k n : ℕ) (c : ClassRec) → slice_get (given_classes p) i ≡ Some c → slice_get c.fields k ≡ Some n → unsupported_field c (field_at p n) ≡ None
   pub members : (i k n : ℕ) (c : ClassRec) → slice_get (given_classes p) i ≡ Some c → slice_get c.methods k ≡ Some n → unsupported_method c (method_at p n) ≡ None
   pub methods : (i k n : ℕ) (c : ClassRec) → slice_get (given_classes p) i ≡ Some c → slice_get c.methods k ≡ Some n → IsTypedMethod p (method_at p n)
