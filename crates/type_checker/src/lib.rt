@@ -1,5 +1,7 @@
 //! The check of programs: type checking with stack maps (JVMS 4.10.1).
 #![tactic(auto)]
 
+mod build;
 mod context;
+mod moves;
 mod shape;
