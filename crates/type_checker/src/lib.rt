@@ -3,5 +3,6 @@
 
 mod build;
 mod context;
+mod members;
 mod moves;
 mod shape;

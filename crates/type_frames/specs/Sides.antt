@@ -208,11 +208,16 @@ call_sides m receiver = record (plain (argument_needs m.descriptor ++ receiver) 
 abbrev pub special_need : Program → Environment → Kind → Need
 special_need p e named = cond (assignable p (object_of p e.class) (Object (kind_name p named))) (Fits (object_of p e.class)) Never
 
+-- the class is this one, if there is one
+abbrev pub is_that : ℕ → Option ℕ → Bool
+is_that c None = false
+is_that c (Some d) = nat_eq c d
+
 -- whether an `<init>` of the class may start this: what a `new` of the class made, or `this` of an `<init>` where the
 -- class is the current one or its superclass
 abbrev pub is_start : Program → Environment → ℕ → VType → Bool
-is_start p e c (Uninit pc) = elim (made_at e pc) [ None ↦ false | Some d ↦ nat_eq c d ]
-is_start p e c UninitThis = nat_eq c e.class || elim (class_at p e.class).superclass [ None ↦ false | Some d ↦ nat_eq c d ]
+is_start p e c (Uninit pc) = is_that c (made_at e pc)
+is_start p e c UninitThis = nat_eq c e.class || is_that c (class_at p e.class).superclass
 is_start p e c _ = false
 
 abbrev pub started : Program → Environment → ℕ → VType → VType
