@@ -6,3 +6,4 @@ mod context;
 mod members;
 mod moves;
 mod shape;
+mod sides;
