@@ -5,5 +5,6 @@ mod build;
 mod context;
 mod members;
 mod moves;
+mod rules;
 mod shape;
 mod sides;

@@ -129,8 +129,7 @@ abbrev pub fits_at : Program → Environment → Slots → ℕ → Bool
 fits_at p e f pc = fits_given p e f (given_at e pc)
 
 abbrev pub fits_targets : Program → Environment → Slots → List ℕ → Bool
-fits_targets p e f [] = true
-fits_targets p e f (k ∷ ks) = fits_at p e f k && fits_targets p e f ks
+fits_targets p e f ks = list_all (λ k. fits_at p e f k) ks
 
 -- the frame of the descriptor
 abbrev pub opening : Environment → Slots
@@ -162,8 +161,7 @@ abbrev pub handles : Program → Environment → ℕ → Slots → Handler → B
 handles p e pc f h = not (covers h pc) || (nat_lt 0 e.body.max_stack && (not f.flag && fits_at p e (thrown p f h) h.at))
 
 abbrev pub all_handle : Program → Environment → ℕ → Slots → List Handler → Bool
-all_handle p e pc f [] = true
-all_handle p e pc f (h ∷ hs) = handles p e pc f h && all_handle p e pc f hs
+all_handle p e pc f hs = list_all (λ h. handles p e pc f h) hs
 
 -- The rules: whether each is kept by instruction k, with this frame before it and these sides. Rule 8, that the stack map
 -- isn't malformed, comes before all else of a method.

@@ -6,6 +6,7 @@ ghost use Rattle.jvm_model.specs.Classes as classes;
 ghost use Rattle.jvm_model.specs.Classes.{class_at, class_bound, is_below, member, upwards_in};
 ghost use Rattle.type_frames.specs.Assign.{assignable, class_fits, class_named, element_fits, extends, is_array, object_fits, takes_any};
 ghost use Rattle.type_frames.specs.Frames.{same};
+ghost use Rattle.type_frames.specs.declared.vtype.VType.TheVariants as types;
 
 use jvm_model::Program;
 
@@ -191,6 +192,17 @@ pub fn assignable(p: &Program, from: &VType, to: &VType) -> bool
         (VType::Object(a), VType::Object(b)) => object_fits(p, a.as_slice(), b.as_slice()),
         (VType::UninitThis, VType::UninitThis) => true,
         (VType::Uninit { pc: a }, VType::Uninit { pc: b }) => *a == *b,
+        _ => false,
+    }
+}
+
+/// Whether an object of a class or array by its name may stand where a type is asked.
+pub fn object_assignable(p: &Program, name: &[u16], to: &VType) -> bool
+    ensures { result ≡ assignable p.now (types.Object name.now) to.now }
+{
+    match to {
+        VType::Top => true,
+        VType::Object(b) => object_fits(p, name, b.as_slice()),
         _ => false,
     }
 }

@@ -10,7 +10,7 @@ mod places;
 mod sides;
 mod vtype;
 
-pub use assign::{assignable, same, same_units};
+pub use assign::{assignable, object_assignable, same, same_units};
 pub use checked::Checked;
 pub use descriptors::{class_name, copy_units, push_all_types, push_types, texts_in};
 pub use fault::{CheckFault, FrameFault};
