@@ -1,8 +1,10 @@
 //! The check of programs: type checking with stack maps (JVMS 4.10.1).
 #![tactic(auto)]
 
+mod after;
 mod build;
 mod context;
+mod judge;
 mod members;
 mod moves;
 mod rules;
