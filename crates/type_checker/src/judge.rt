@@ -3,7 +3,7 @@
 ghost use Rattle.std.specs.Prelude.{◌≡◌, ◌<◌, IfOk, Some, length, slice_get};
 ghost use Rattle.jvm_model.specs.declared.program.Placed.{Placed};
 ghost use Rattle.type_frames.specs.Typing.{taken_at};
-ghost use Rattle.type_checker.specs.Walk.{IsJudged, IsStep, IsTurned};
+ghost use Rattle.type_checker.specs.Steps.{IsJudged, IsStep, IsTurned};
 
 use et_base::NoMemory;
 use jvm_model::{Placed, Program};

@@ -3,6 +3,7 @@
 
 mod after;
 mod build;
+mod checking;
 mod context;
 mod judge;
 mod members;
@@ -10,3 +11,7 @@ mod moves;
 mod rules;
 mod shape;
 mod sides;
+mod walk;
+
+pub use checking::check;
+pub use type_frames::CheckFault;

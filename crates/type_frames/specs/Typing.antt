@@ -74,7 +74,7 @@ is_native flags = has_flag 0x0100 flags
 
 -- an interface method with code, other than `<clinit>`, that is private or of a class file of version 50 or 51
 abbrev pub is_unserved : ClassRec → MethodRec → Bool
-is_unserved c m = is_interface c.flags && (is_some m.body && (not (same_units m.name clinit_name) && (is_private m.flags || nat_lt c.version 52)))
+is_unserved c m = is_some m.body && (is_interface c.flags && (not (same_units m.name clinit_name) && (is_private m.flags || nat_lt c.version 52)))
 
 abbrev pub unsupported_field : ClassRec → FieldRec → Option CheckFault
 unsupported_field c x = cond (has_float x.descriptor) (Some (Unsupported c.name x.name)) None
