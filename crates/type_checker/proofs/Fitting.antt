@@ -1,10 +1,9 @@
 -- Types that are assignable one by one.
-use Rattle.std.proofs.Common.{◌≡◌, ℕ, zero, suc, List, [], ◌∷◌, ◌++◌, length, reverse, ◌<◌, ◌+◌, ◌&&◌, Bool, true, false, refl, ap, sym, ◌∙◌, arith, get_or, drop, inl, inr, ◌⊎◌}
+use Rattle.std.proofs.Common.{◌≡◌, suc, List, [], ◌∷◌, ◌++◌, length, reverse, ◌&&◌, Bool, true, false, refl, ap, sym, ◌∙◌, arith, inl, inr, ◌⊎◌}
 use Rattle.std.proofs.lemmas.Bool.{cases_eq}
-use Rattle.std.proofs.lemmas.List.{reverse-append, length-reverse, drop_more, drop_all}
+use Rattle.std.proofs.lemmas.List.{reverse-append, length-reverse}
 use Rattle.jvm_model.specs.declared.program.Program.{Program}
 use Rattle.type_frames.specs.declared.vtype.VType.{VType}
-use Rattle.type_frames.specs.declared.vtype.VType.TheVariants.{Top, Object}
 use Rattle.type_frames.specs.Assign.{assignable}
 use Rattle.type_frames.specs.Rules.{fit_all}
 

@@ -10,7 +10,6 @@ use Rattle.jvm_model.specs.Classes.{field_at, method_at}
 use Rattle.jvm_model.specs.Linked.{Linked}
 use Rattle.type_frames.specs.declared.vtype.Frame.{Frame}
 use Rattle.type_frames.specs.declared.fault.CheckFault.{CheckFault}
-use Rattle.type_frames.specs.declared.fault.CheckFault.TheVariants.{Rule, NoFrame}
 use Rattle.type_frames.specs.Given.{given_frames}
 use Rattle.type_frames.specs.Environment.{Environment, environment_of}
 use Rattle.type_frames.specs.Typing.{IsTyped, IsTypedMethod, Breach, no_frame, rule, breach_at, fault_of, or_later, unsupported_field, unsupported_method, fields_fault, members_fault, code_fault, body_fault, method_fault, methods_fault, class_fault, classes_fault, check_fault, given_classes}
@@ -78,9 +77,10 @@ pub method_typed : (p : Program) (name : List ℕ) (j : ℕ) (m : MethodRec) →
 method_typed p name j m h = record {
   frames = λ b e. body_some p name j m b (given_frames p m) (body_of p name j m h b e);
   each = λ b gs k x e g s.
-    let q : body_fault p name j m b (Some gs) ≡ None = subst (λ o. body_fault p name j m b o ≡ None) g (body_of p name j m h b e) in
-    let z : 0 + k ≡ k = omega arith in
-    ap (λ n. breach_at p (environment_of p m b gs) n x) (sym z) ∙ code_each p name j (environment_of p m b gs) 0 b.code q k x s }
+      let q : body_fault p name j m b (Some gs) ≡ None = subst (λ o. body_fault p name j m b o ≡ None) g (body_of p name j m h b e) in
+      let z : 0 + k ≡ k = omega arith in
+      ap (λ n. breach_at p (environment_of p m b gs) n x) (sym z) ∙ code_each p name j (environment_of p m b gs) 0 b.code q k x s;
+}
 
 typed_body : (p : Program) (name : List ℕ) (j : ℕ) (m : MethodRec) (b : Body) (o : Option (List Frame)) → m.body ≡ Some b → given_frames p m ≡ o → is_some o ≡ true → IsTypedMethod p m → body_fault p name j m b o ≡ None
 typed_body p name j m b None e g s t = cc

@@ -6,7 +6,7 @@ use Rattle.type_frames.specs.declared.sides.Sides.{Sides}
 use Rattle.type_frames.specs.Frames.{Slots}
 use Rattle.type_frames.specs.Environment.{Environment}
 use Rattle.type_frames.specs.Rules.{broken}
-use Rattle.type_frames.specs.Typing.{Breach, no_frame, rule, passed, passed_on, judged, fault_of}
+use Rattle.type_frames.specs.Typing.{no_frame, rule, passed, passed_on, judged, fault_of}
 use Rattle.type_checker.specs.declared.judge.Judged.{Judged}
 use Rattle.type_checker.specs.declared.judge.Judged.TheVariants as judgement
 use Rattle.type_checker.specs.declared.judge.Turned.{Turned}

@@ -5,14 +5,19 @@ ghost use Rattle.type_frames.specs.Frames.{slots_of};
 ghost use Rattle.type_frames.specs.declared.vtype.VType.TheVariants as types;
 ghost use Rattle.type_frames.specs.Rules as rules;
 
-use et_base::{Items, NoMemory};
-use std::alloc::Global;
-
 use crate::context::Context;
 use crate::shape::Shape;
+use et_base::{Items, NoMemory};
+use std::alloc::Global;
 use type_frames::{Frame, Setting, Sides, Turn, VType, copy_type, padded, same};
 
-fn turn_one(alloc: Global, xs: &mut Vec<VType>, i: usize, from: &VType, to: &VType) -> Result<(), NoMemory>
+fn turn_one(
+    alloc: Global,
+    xs: &mut Vec<VType>,
+    i: usize,
+    from: &VType,
+    to: &VType,
+) -> Result<(), NoMemory>
     requires { i < length xs.old.items }
     ensures { OnOk result (xs.new.items ≡ slice_set xs.old.items i (rules.turned_one from.now to.now (slice_index_or xs.old.items i types.Top))) }
 {
@@ -127,10 +132,18 @@ fn locals_after(alloc: Global, locals: &mut Vec<VType>, s: &Sides) -> Result<(),
 pub fn after(alloc: Global, f: Shape, s: &Sides) -> Result<Shape, NoMemory>
     ensures { IfOk result (λ g. g ≡ rules.after f s.now) }
 {
-    let Shape { mut locals, mut stack, flag } = f;
+    let Shape {
+        mut locals,
+        mut stack,
+        flag,
+    } = f;
     locals_after(alloc, &mut locals, s)?;
     stack_after(alloc, &mut stack, s)?;
-    Ok(Shape { locals, stack, flag: flag_after(&s.turn, flag) })
+    Ok(Shape {
+        locals,
+        stack,
+        flag: flag_after(&s.turn, flag),
+    })
 }
 
 // The same types.
@@ -150,7 +163,11 @@ pub fn opening(alloc: Global, e: &Context) -> Result<Shape, NoMemory>
 {
     let args = Items::from_vec(copy_types(alloc, e.args.as_slice())?);
     let locals = padded(args, e.body.max_locals)?.into_vec();
-    Ok(Shape { locals, stack: Vec::new(alloc), flag: e.starts })
+    Ok(Shape {
+        locals,
+        stack: Vec::new(alloc),
+        flag: e.starts,
+    })
 }
 
 /// A given frame as one that goes on.

@@ -9,23 +9,30 @@ ghost use Rattle.type_frames.specs.Frames.{same};
 ghost use Rattle.type_frames.specs.Descriptors.{base_text, kind_name, result_text, types_of};
 ghost use Rattle.type_frames.specs.Sides.{argument_needs, int_need, int_type, long_need, long_type, needs_of, number_need, number_type, objects_text, on_stack, place_of, plain, result_types, two};
 
+use crate::shape::Shape;
 use et_base::{Items, NoMemory, Units};
 use jvm_model::{Base, Kind, Program};
 use std::alloc::Global;
-
-use crate::shape::Shape;
-use type_frames::{Need, Sides, Turn, VType, class_name, copy_type, copy_units, push_types, same, spread, texts_in};
+use type_frames::{
+    Need, Sides, Turn, VType, class_name, copy_type, copy_units, push_types, same, spread, texts_in,
+};
 
 /// The class `java.lang.Object`.
 pub const OBJECT: u32 = 0;
 
 /// The units of types.
 const BRACKET: u16 = 91;
+
 const SEMICOLON: u16 = 59;
+
 const D: u16 = 68;
+
 const F: u16 = 70;
+
 const J: u16 = 74;
+
 const L: u16 = 76;
+
 const V: u16 = 86;
 
 /// What takes and gives, and nothing else.
@@ -82,7 +89,11 @@ pub fn push_long(needs: &mut Items<Need>) -> Result<(), NoMemory>
 pub fn push_number(needs: &mut Items<Need>, wide: bool) -> Result<(), NoMemory>
     ensures { OnOk result (needs.new ≡ needs.old ++ number_need wide) }
 {
-    if wide { push_long(needs) } else { push_int(needs) }
+    if wide {
+        push_long(needs)
+    } else {
+        push_int(needs)
+    }
 }
 
 /// Appends the needs of two places: of a long, where the top one is the second half of one.
@@ -133,7 +144,11 @@ pub fn long_type(alloc: Global) -> Result<Items<VType>, NoMemory>
 pub fn number_type(alloc: Global, wide: bool) -> Result<Items<VType>, NoMemory>
     ensures { IfOk result (λ ts. ts ≡ number_type wide) }
 {
-    if wide { long_type(alloc) } else { int_type(alloc) }
+    if wide {
+        long_type(alloc)
+    } else {
+        int_type(alloc)
+    }
 }
 
 /// The type of a place of the stack, from its top.

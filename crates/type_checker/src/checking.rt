@@ -9,11 +9,10 @@ ghost use Rattle.std.specs.List.{list_any};
 ghost use Rattle.type_frames.specs.Typing as typing;
 ghost use Rattle.type_frames.specs.Typing.{IsTyped, all_frames, check_fault, class_fault, classes_fault, fields_fault, given_classes, is_native, is_unserved, members_fault, methods_fault, unsupported_field, unsupported_method};
 
+use crate::walk::method_fault;
 use et_base::{Items, NoMemory, Units};
 use jvm_model::{ClassRec, FieldRec, MethodRec, Program};
 use std::alloc::Global;
-
-use crate::walk::method_fault;
 use type_frames::{CheckFault, Checked, Frame, copy_units, given_frames, same_units, texts_in};
 
 /// The number of built-in classes, which stand first.
@@ -21,9 +20,13 @@ const BUILTIN: usize = 32;
 
 /// The units of `<clinit>` and of types.
 const CLINIT: [u16; 8] = [60, 99, 108, 105, 110, 105, 116, 62];
+
 const BRACKET: u16 = 91;
+
 const D: u16 = 68;
+
 const F: u16 = 70;
+
 const V: u16 = 86;
 
 // The letter of the innermost element type of a type.
@@ -62,10 +65,17 @@ fn has_float(alloc: Global, descriptor: &[u16]) -> Result<bool, NoMemory>
 fn unsupported(alloc: Global, class: &[u16], member: &[u16]) -> Result<CheckFault, NoMemory>
     ensures { IfOk result (λ e. e ≡ faults.Unsupported class.now member.now) }
 {
-    Ok(CheckFault::Unsupported { class: copy_units(alloc, class)?, member: copy_units(alloc, member)? })
+    Ok(CheckFault::Unsupported {
+        class: copy_units(alloc, class)?,
+        member: copy_units(alloc, member)?,
+    })
 }
 
-fn unsupported_field(alloc: Global, c: &ClassRec, x: &FieldRec) -> Result<Option<CheckFault>, NoMemory>
+fn unsupported_field(
+    alloc: Global,
+    c: &ClassRec,
+    x: &FieldRec,
+) -> Result<Option<CheckFault>, NoMemory>
     ensures { IfOk result (λ o. o ≡ unsupported_field c.now x.now) }
 {
     if has_float(alloc, x.descriptor.as_slice())? {
@@ -80,7 +90,9 @@ fn is_unserved(c: &ClassRec, m: &MethodRec) -> bool
 {
     let is_interface = c.flags / 0x0200 % 2 == 1;
     let is_private = m.flags / 0x0002 % 2 == 1;
-    m.body.is_some() && (is_interface && (!same_units(m.name.as_slice(), &CLINIT) && (is_private || c.version < 52)))
+    m.body.is_some()
+        && (is_interface
+            && (!same_units(m.name.as_slice(), &CLINIT) && (is_private || c.version < 52)))
 }
 
 fn is_native(m: &MethodRec) -> bool
@@ -89,7 +101,11 @@ fn is_native(m: &MethodRec) -> bool
     m.flags / 0x0100 % 2 == 1
 }
 
-fn unsupported_method(alloc: Global, c: &ClassRec, m: &MethodRec) -> Result<Option<CheckFault>, NoMemory>
+fn unsupported_method(
+    alloc: Global,
+    c: &ClassRec,
+    m: &MethodRec,
+) -> Result<Option<CheckFault>, NoMemory>
     ensures { IfOk result (λ o. o ≡ unsupported_method c.now m.now) }
 {
     if has_float(alloc, m.descriptor.as_slice())? || (is_native(m) || is_unserved(c, m)) {
@@ -100,7 +116,12 @@ fn unsupported_method(alloc: Global, c: &ClassRec, m: &MethodRec) -> Result<Opti
 
 // The same of a field by its number.
 #[tactic(auto, unfolding(type_frames::specs::Descriptors::texts_in))]
-fn field_fault(alloc: Global, p: &Program, c: &ClassRec, field: u32) -> Result<Option<CheckFault>, NoMemory>
+fn field_fault(
+    alloc: Global,
+    p: &Program,
+    c: &ClassRec,
+    field: u32,
+) -> Result<Option<CheckFault>, NoMemory>
     ensures { IfOk result (λ o. o ≡ unsupported_field c.now (classes.field_at p.now field)) }
 {
     match p.fields.as_slice().get(field as usize) {
@@ -110,7 +131,12 @@ fn field_fault(alloc: Global, p: &Program, c: &ClassRec, field: u32) -> Result<O
 }
 
 #[tactic(auto, unfolding(type_frames::specs::Descriptors::texts_in))]
-fn member_fault(alloc: Global, p: &Program, c: &ClassRec, method: u32) -> Result<Option<CheckFault>, NoMemory>
+fn member_fault(
+    alloc: Global,
+    p: &Program,
+    c: &ClassRec,
+    method: u32,
+) -> Result<Option<CheckFault>, NoMemory>
     ensures { IfOk result (λ o. o ≡ unsupported_method c.now (classes.method_at p.now method)) }
 {
     match p.methods.as_slice().get(method as usize) {
@@ -120,7 +146,13 @@ fn member_fault(alloc: Global, p: &Program, c: &ClassRec, method: u32) -> Result
 }
 
 #[tactic(auto, unfolding(type_frames::specs::Typing::method_fault))]
-fn numbered_fault(alloc: Global, p: &Program, name: &[u16], number: u32, method: u32) -> Result<Option<CheckFault>, NoMemory>
+fn numbered_fault(
+    alloc: Global,
+    p: &Program,
+    name: &[u16],
+    number: u32,
+    method: u32,
+) -> Result<Option<CheckFault>, NoMemory>
     ensures { IfOk result (λ o. o ≡ typing.method_fault p.now name.now number (classes.method_at p.now method)) }
 {
     match p.methods.as_slice().get(method as usize) {
@@ -194,7 +226,11 @@ fn given_classes(p: &Program) -> &[ClassRec]
     given
 }
 
-fn classes_fault(alloc: Global, p: &Program, cs: &[ClassRec]) -> Result<Option<CheckFault>, NoMemory>
+fn classes_fault(
+    alloc: Global,
+    p: &Program,
+    cs: &[ClassRec],
+) -> Result<Option<CheckFault>, NoMemory>
     ensures { IfOk result (λ o. o ≡ classes_fault p.now cs.now) }
 {
     for c in cs {

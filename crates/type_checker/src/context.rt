@@ -8,7 +8,6 @@ use et_base::{Items, NoMemory};
 use jvm_model::{Body, Instr, MethodRec, Placed, Program};
 use std::alloc::Global;
 use std::marker::Model;
-
 use type_frames::{
     Frame, Places, VType, code_places, entry_types, is_constructor, push_types, spread, texts_in,
 };
@@ -61,7 +60,11 @@ fn push_leads(places: &mut Vec<u32>, form: &Instr) -> Result<(), NoMemory>
         | Instr::IfRefs { same: _, to }
         | Instr::IfNull { null: _, to }
         | Instr::Goto { to } => places.push(*to)?,
-        Instr::Table { low: _, targets, other } => {
+        Instr::Table {
+            low: _,
+            targets,
+            other,
+        } => {
             places.push(*other)?;
             places.extend_from_slice(targets.as_slice())?;
         }
@@ -117,7 +120,13 @@ fn result_types(alloc: Global, m: &MethodRec) -> Result<Items<VType>, NoMemory>
 }
 
 /// The context of a method with this code and these given frames.
-pub fn context_of<'a>(alloc: Global, p: &Program, m: &MethodRec, b: &'a Body, given: Items<Frame>) -> Result<Context<'a>, NoMemory>
+pub fn context_of<'a>(
+    alloc: Global,
+    p: &Program,
+    m: &MethodRec,
+    b: &'a Body,
+    given: Items<Frame>,
+) -> Result<Context<'a>, NoMemory>
     ensures { IfOk result (λ e. e ≡ environment_of p.now m.now b.now given) }
 {
     let bound = b.length as usize;

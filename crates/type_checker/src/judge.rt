@@ -5,15 +5,14 @@ ghost use Rattle.jvm_model.specs.declared.program.Placed.{Placed};
 ghost use Rattle.type_frames.specs.Typing.{taken_at};
 ghost use Rattle.type_checker.specs.Steps.{IsJudged, IsStep, IsTurned};
 
-use et_base::NoMemory;
-use jvm_model::{Placed, Program};
-use std::alloc::Global;
-
 use crate::after::{after, shape_of};
 use crate::context::{Context, given_at, is_target};
 use crate::rules::{is_entered, leads_on, rule_1, rule_2, rule_3, rule_5, rule_9, rule_10};
 use crate::shape::Shape;
 use crate::sides::sides;
+use et_base::NoMemory;
+use jvm_model::{Placed, Program};
+use std::alloc::Global;
 use type_frames::{CheckFault, Sides, copy_units};
 
 /// What the rules say of an instruction: the lowest one that it breaks, or the frame that goes on, if control does.
@@ -40,7 +39,15 @@ pub enum Step {
 
 // The rules in order; the frame is used up.
 #[tactic(auto, unfolding(type_frames::specs::Rules::broken))]
-fn broken(alloc: Global, p: &Program, e: &Context, k: usize, x: &Placed, f: Shape, s: &Sides) -> Result<Judged, NoMemory>
+fn broken(
+    alloc: Global,
+    p: &Program,
+    e: &Context,
+    k: usize,
+    x: &Placed,
+    f: Shape,
+    s: &Sides,
+) -> Result<Judged, NoMemory>
     requires { k < length e.now.body.code }
     ensures { IfOk result (λ j. IsJudged p.now e.now k x.now f s.now j) }
 {
@@ -85,7 +92,14 @@ fn broken(alloc: Global, p: &Program, e: &Context, k: usize, x: &Placed, f: Shap
     Ok(Judged::Kept { next: None })
 }
 
-fn judge(alloc: Global, p: &Program, e: &Context, k: usize, x: &Placed, f: Shape) -> Result<Turned, NoMemory>
+fn judge(
+    alloc: Global,
+    p: &Program,
+    e: &Context,
+    k: usize,
+    x: &Placed,
+    f: Shape,
+) -> Result<Turned, NoMemory>
     requires { k < length e.now.body.code }
     ensures { IfOk result (λ t. IsTurned p.now e.now k x.now (Some f) t) }
 {
@@ -97,7 +111,14 @@ fn judge(alloc: Global, p: &Program, e: &Context, k: usize, x: &Placed, f: Shape
 }
 
 // Takes the frame given at the place, or the one that came in.
-fn turned_at(alloc: Global, p: &Program, e: &Context, k: usize, x: &Placed, running: Option<Shape>) -> Result<Turned, NoMemory>
+fn turned_at(
+    alloc: Global,
+    p: &Program,
+    e: &Context,
+    k: usize,
+    x: &Placed,
+    running: Option<Shape>,
+) -> Result<Turned, NoMemory>
     requires { k < length e.now.body.code }
     ensures { IfOk result (λ t. IsTurned p.now e.now k x.now (taken_at e.now x.now.pc running) t) }
 {
@@ -114,23 +135,49 @@ fn turned_at(alloc: Global, p: &Program, e: &Context, k: usize, x: &Placed, runn
     }
 }
 
-fn named_step(alloc: Global, p: &Program, e: &Context, name: &[u16], method: u32, k: usize, x: &Placed, running: Option<Shape>) -> Result<Step, NoMemory>
+fn named_step(
+    alloc: Global,
+    p: &Program,
+    e: &Context,
+    name: &[u16],
+    method: u32,
+    k: usize,
+    x: &Placed,
+    running: Option<Shape>,
+) -> Result<Step, NoMemory>
     requires { k < length e.now.body.code }
     ensures { IfOk result (λ t. IsStep p.now e.now name.now method k x.now (taken_at e.now x.now.pc running) t) }
 {
     match turned_at(alloc, p, e, k, x, running)? {
         Turned::NoFrame => Ok(Step::Faulty {
-            fault: CheckFault::NoFrame { class: copy_units(alloc, name)?, method, pc: x.pc },
+            fault: CheckFault::NoFrame {
+                class: copy_units(alloc, name)?,
+                method,
+                pc: x.pc,
+            },
         }),
         Turned::Broken { rule } => Ok(Step::Faulty {
-            fault: CheckFault::Rule { class: copy_units(alloc, name)?, method, pc: x.pc, rule },
+            fault: CheckFault::Rule {
+                class: copy_units(alloc, name)?,
+                method,
+                pc: x.pc,
+                rule,
+            },
         }),
         Turned::On { next } => Ok(Step::Onward { next }),
     }
 }
 
 /// The step at the k-th instruction.
-pub fn step_at(alloc: Global, p: &Program, e: &Context, name: &[u16], method: u32, k: usize, running: Option<Shape>) -> Result<Step, NoMemory>
+pub fn step_at(
+    alloc: Global,
+    p: &Program,
+    e: &Context,
+    name: &[u16],
+    method: u32,
+    k: usize,
+    running: Option<Shape>,
+) -> Result<Step, NoMemory>
     requires { k < length e.now.body.code }
     ensures { IfOk result (λ t. (x : Placed) → slice_get e.now.body.code k ≡ Some x → IsStep p.now e.now name.now method k x (taken_at e.now x.pc running) t) }
 {

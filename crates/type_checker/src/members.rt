@@ -10,24 +10,27 @@ ghost use Rattle.type_frames.specs.declared.sides.Need.TheVariants as wants;
 ghost use Rattle.type_frames.specs.Descriptors.{kind_name, types_of};
 ghost use Rattle.type_frames.specs.Sides.{argument_needs, array_need, call_sides, element_type, init_sides, int_need, int_type, is_that, is_raw, is_start, is_unset, leaving, loaded, needs_of, new_sides, object_of, on_stack, owner_need, place_of, plain, put_field_sides, ref_sides, refs_sides, return_sides, return_typed, returns, special_need, special_sides, started, stored};
 
-use et_base::{Items, NoMemory};
-use jvm_model::{Cell, Kind, Program, Sort};
-use std::alloc::Global;
-
 use crate::build::{
-    OBJECT, argument_needs, field_class, field_descriptor, int_need, int_type, kind_name, long_type, method_class,
-    method_descriptor, method_name, number_need, objects_text, one_need, one_type, place_of, plain, push_int,
-    push_needs, result_types, text_types,
+    OBJECT, argument_needs, field_class, field_descriptor, int_need, int_type, kind_name,
+    long_type, method_class, method_descriptor, method_name, number_need, objects_text, one_need,
+    one_type, place_of, plain, push_int, push_needs, result_types, text_types,
 };
 use crate::context::{Context, made_at};
 use crate::shape::Shape;
-use type_frames::{Need, Sides, Turn, VType, assignable, class_name, copy_type, copy_units, object_of, same, same_units};
+use et_base::{Items, NoMemory};
+use jvm_model::{Cell, Kind, Program, Sort};
+use std::alloc::Global;
+use type_frames::{
+    Need, Sides, Turn, VType, assignable, class_name, copy_type, copy_units, object_of, same,
+    same_units,
+};
 
 /// The class `java.lang.Throwable`.
 pub const THROWABLE: u32 = 7;
 
 /// The units of `<init>` and `<clinit>`.
 const INIT: [u16; 6] = [60, 105, 110, 105, 116, 62];
+
 const CLINIT: [u16; 8] = [60, 99, 108, 105, 110, 105, 116, 62];
 
 const L: u16 = 76;
@@ -96,7 +99,12 @@ fn returns(alloc: Global, takes: Items<Need>, well: bool) -> Sides
 }
 
 // The sides of a return, by the type that the descriptor has; a list of types is none or one of them.
-fn return_typed(alloc: Global, types: &[VType], early: bool, of: &Option<Sort>) -> Result<Sides, NoMemory>
+fn return_typed(
+    alloc: Global,
+    types: &[VType],
+    early: bool,
+    of: &Option<Sort>,
+) -> Result<Sides, NoMemory>
     ensures { IfOk result (λ s. s ≡ return_typed types.now early of.now) }
 {
     match (types, of) {
@@ -114,7 +122,12 @@ fn return_typed(alloc: Global, types: &[VType], early: bool, of: &Option<Sort>) 
     }
 }
 
-pub fn give_back(alloc: Global, e: &Context, f: &Shape, of: &Option<Sort>) -> Result<Sides, NoMemory>
+pub fn give_back(
+    alloc: Global,
+    e: &Context,
+    f: &Shape,
+    of: &Option<Sort>,
+) -> Result<Sides, NoMemory>
     ensures { IfOk result (λ s. s ≡ return_sides e.now f.now of.now) }
 {
     return_typed(alloc, e.result.as_slice(), e.starts && f.flag, of)
@@ -123,7 +136,11 @@ pub fn give_back(alloc: Global, e: &Context, f: &Shape, of: &Option<Sort>) -> Re
 pub fn get_static(alloc: Global, p: &Program, field: u32) -> Result<Sides, NoMemory>
     ensures { IfOk result (λ s. s ≡ plain [] (on_stack (types_of (field_at p.now field).descriptor))) }
 {
-    Ok(plain(alloc, Items::new(alloc), text_types(alloc, field_descriptor(p, field))?))
+    Ok(plain(
+        alloc,
+        Items::new(alloc),
+        text_types(alloc, field_descriptor(p, field))?,
+    ))
 }
 
 pub fn put_static(alloc: Global, p: &Program, field: u32) -> Result<Sides, NoMemory>
@@ -149,7 +166,14 @@ pub fn get_field(alloc: Global, p: &Program, named: u32, field: u32) -> Result<S
 }
 
 // The object of a putfield.
-fn owner_need(alloc: Global, p: &Program, e: &Context, named: u32, field: u32, t: &VType) -> Result<Need, NoMemory>
+fn owner_need(
+    alloc: Global,
+    p: &Program,
+    e: &Context,
+    named: u32,
+    field: u32,
+    t: &VType,
+) -> Result<Need, NoMemory>
     ensures { IfOk result (λ n. n ≡ owner_need p.now e.now named (field_at p.now field) t.now) }
 {
     if same(t, &VType::UninitThis) && field_class(p, field) == e.class {
@@ -158,7 +182,14 @@ fn owner_need(alloc: Global, p: &Program, e: &Context, named: u32, field: u32, t
     object_need(alloc, p, named)
 }
 
-pub fn put_field(alloc: Global, p: &Program, e: &Context, f: &Shape, named: u32, field: u32) -> Result<Sides, NoMemory>
+pub fn put_field(
+    alloc: Global,
+    p: &Program,
+    e: &Context,
+    f: &Shape,
+    named: u32,
+    field: u32,
+) -> Result<Sides, NoMemory>
     ensures { IfOk result (λ s. s ≡ put_field_sides p.now e.now f.now named (field_at p.now field)) }
 {
     let mut takes = Items::new(alloc);
@@ -176,7 +207,11 @@ fn call(alloc: Global, p: &Program, method: u32, receiver: Option<Need>) -> Resu
     if let Some(need) = receiver {
         takes.push(need)?;
     }
-    let mut s = plain(alloc, takes, result_types(alloc, method_descriptor(p, method))?);
+    let mut s = plain(
+        alloc,
+        takes,
+        result_types(alloc, method_descriptor(p, method))?,
+    );
     let name = method_name(p, method);
     s.calls_well = !(same_units(name, &CLINIT) || same_units(name, &INIT));
     Ok(s)
@@ -188,14 +223,24 @@ pub fn call_static(alloc: Global, p: &Program, method: u32) -> Result<Sides, NoM
     call(alloc, p, method, None)
 }
 
-pub fn call_virtual(alloc: Global, p: &Program, named: &Kind, method: u32) -> Result<Sides, NoMemory>
+pub fn call_virtual(
+    alloc: Global,
+    p: &Program,
+    named: &Kind,
+    method: u32,
+) -> Result<Sides, NoMemory>
     ensures { IfOk result (λ s. s ≡ call_sides (method_at p.now method) (wants.Fits (types.Object (kind_name p.now named.now)) ∷ [])) }
 {
     let need = Need::Fits(VType::Object(kind_name(alloc, p, named)?));
     call(alloc, p, method, Some(need))
 }
 
-pub fn call_interface(alloc: Global, p: &Program, named: u32, method: u32) -> Result<Sides, NoMemory>
+pub fn call_interface(
+    alloc: Global,
+    p: &Program,
+    named: u32,
+    method: u32,
+) -> Result<Sides, NoMemory>
     ensures { IfOk result (λ s. s ≡ call_sides (method_at p.now method) (wants.Fits (object_of p.now named) ∷ [])) }
 {
     let need = object_need(alloc, p, named)?;
@@ -240,7 +285,13 @@ fn is_start(p: &Program, e: &Context, class: u32, t: &VType) -> bool
     }
 }
 
-fn started(alloc: Global, p: &Program, e: &Context, class: u32, t: &VType) -> Result<VType, NoMemory>
+fn started(
+    alloc: Global,
+    p: &Program,
+    e: &Context,
+    class: u32,
+    t: &VType,
+) -> Result<VType, NoMemory>
     ensures { IfOk result (λ u. u ≡ started p.now e.now class t.now) }
 {
     match t {
@@ -255,7 +306,11 @@ fn init(alloc: Global, p: &Program, e: &Context, f: &Shape, method: u32) -> Resu
     let mut takes = argument_needs(alloc, method_descriptor(p, method))?;
     let t = place_of(alloc, f, takes.len())?;
     takes.push(Need::Raw)?;
-    let mut s = plain(alloc, takes, result_types(alloc, method_descriptor(p, method))?);
+    let mut s = plain(
+        alloc,
+        takes,
+        result_types(alloc, method_descriptor(p, method))?,
+    );
     let class = method_class(p, method);
     s.starts_well = is_start(p, e, class, &t);
     let to = started(alloc, p, e, class, &t)?;
@@ -263,7 +318,14 @@ fn init(alloc: Global, p: &Program, e: &Context, f: &Shape, method: u32) -> Resu
     Ok(s)
 }
 
-pub fn call_special(alloc: Global, p: &Program, e: &Context, f: &Shape, named: &Kind, method: u32) -> Result<Sides, NoMemory>
+pub fn call_special(
+    alloc: Global,
+    p: &Program,
+    e: &Context,
+    f: &Shape,
+    named: &Kind,
+    method: u32,
+) -> Result<Sides, NoMemory>
     ensures { IfOk result (λ s. s ≡ special_sides p.now e.now f.now named.now (method_at p.now method)) }
 {
     if same_units(method_name(p, method), &INIT) {
@@ -298,8 +360,15 @@ fn holds_made(stack: &[VType], pc: u32) -> bool
 pub fn create(alloc: Global, f: &Shape, pc: u32) -> Result<Sides, NoMemory>
     ensures { IfOk result (λ s. s ≡ new_sides f.now pc) }
 {
-    let mut s = plain(alloc, Items::new(alloc), one_type(alloc, VType::Uninit { pc })?);
-    s.turn = Turn::All { from: VType::Uninit { pc }, to: VType::Top };
+    let mut s = plain(
+        alloc,
+        Items::new(alloc),
+        one_type(alloc, VType::Uninit { pc })?,
+    );
+    s.turn = Turn::All {
+        from: VType::Uninit { pc },
+        to: VType::Top,
+    };
     s.starts_well = is_unset(&f.stack, pc);
     Ok(s)
 }

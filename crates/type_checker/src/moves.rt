@@ -5,15 +5,14 @@ ghost use Rattle.type_frames.specs.declared.vtype.VType.TheVariants as types;
 ghost use Rattle.type_frames.specs.declared.sides.Need.TheVariants as wants;
 ghost use Rattle.type_frames.specs.Sides.{const_type, convert_sides, dup2_sides, dup2_x1_sides, dup2_x2_sides, dup_sides, dup_x1_sides, dup_x2_sides, inc_sides, int_type, load_sides, long_need, number_need, number_type, place_of, plain, reading, second_need, setting, store_sides, swap_sides, two};
 
+use crate::build::{
+    int_need, int_type, is_half, long_type, moved, number_need, number_type, one_need, one_type,
+    place_of, plain, push_long, push_number, push_two,
+};
+use crate::shape::Shape;
 use et_base::{Items, NoMemory};
 use jvm_model::{Conv, Op, Program, Sort, Value};
 use std::alloc::Global;
-
-use crate::build::{
-    int_need, int_type, is_half, long_type, moved, number_need, number_type, one_need, one_type, place_of, plain,
-    push_long, push_number, push_two,
-};
-use crate::shape::Shape;
 use type_frames::{Need, Reading, Setting, Sides, VType, copy_type, object_of};
 
 /// The class `java.lang.String`.
@@ -36,7 +35,11 @@ pub fn pop2(alloc: Global, f: &Shape) -> Result<Sides, NoMemory>
 pub fn dup(alloc: Global, f: &Shape) -> Result<Sides, NoMemory>
     ensures { IfOk result (λ s. s ≡ dup_sides (place_of f.now 0)) }
 {
-    Ok(plain(alloc, one_need(alloc, Need::One)?, moved(alloc, f, &[0, 0])?))
+    Ok(plain(
+        alloc,
+        one_need(alloc, Need::One)?,
+        moved(alloc, f, &[0, 0])?,
+    ))
 }
 
 pub fn dup_x1(alloc: Global, f: &Shape) -> Result<Sides, NoMemory>
@@ -108,7 +111,9 @@ fn second_need(alloc: Global, op: &Op, wide: bool) -> Result<Items<Need>, NoMemo
 {
     match op {
         Op::Shl | Op::Shr | Op::Ushr => int_need(alloc),
-        Op::Add | Op::Sub | Op::Mul | Op::Div | Op::Rem | Op::And | Op::Or | Op::Xor => number_need(alloc, wide),
+        Op::Add | Op::Sub | Op::Mul | Op::Div | Op::Rem | Op::And | Op::Or | Op::Xor => number_need(
+            alloc, wide,
+        ),
     }
 }
 
@@ -132,7 +137,11 @@ pub fn conversion(alloc: Global, to: &Conv) -> Result<Sides, NoMemory>
     match to {
         Conv::I2l => Ok(plain(alloc, number_need(alloc, false)?, number_type(alloc, true)?)),
         Conv::L2i => Ok(plain(alloc, number_need(alloc, true)?, number_type(alloc, false)?)),
-        Conv::I2b | Conv::I2c | Conv::I2s => Ok(plain(alloc, number_need(alloc, false)?, number_type(alloc, false)?)),
+        Conv::I2b | Conv::I2c | Conv::I2s => Ok(plain(
+            alloc,
+            number_need(alloc, false)?,
+            number_type(alloc, false)?,
+        )),
     }
 }
 
@@ -145,11 +154,19 @@ pub fn comparison(alloc: Global) -> Result<Sides, NoMemory>
 }
 
 // Gives these types, and asks this of a local.
-fn with_reading(alloc: Global, gives: Items<VType>, local: u16, need: Need) -> Result<Sides, NoMemory>
+fn with_reading(
+    alloc: Global,
+    gives: Items<VType>,
+    local: u16,
+    need: Need,
+) -> Result<Sides, NoMemory>
     ensures { IfOk result (λ s. s ≡ record (plain [] gives) { reads = reading local need ∷ [] }) }
 {
     let mut s = plain(alloc, Items::new(alloc), gives);
-    s.reads.push(Reading { local: u32::from(local), need })?;
+    s.reads.push(Reading {
+        local: u32::from(local),
+        need,
+    })?;
     Ok(s)
 }
 
@@ -158,7 +175,10 @@ fn with_setting(alloc: Global, takes: Items<Need>, local: u16, to: VType) -> Res
     ensures { IfOk result (λ s. s ≡ record (plain takes []) { sets = setting local to ∷ [] }) }
 {
     let mut s = plain(alloc, takes, Items::new(alloc));
-    s.sets.push(Setting { local: u32::from(local), to })?;
+    s.sets.push(Setting {
+        local: u32::from(local),
+        to,
+    })?;
     Ok(s)
 }
 
@@ -177,7 +197,12 @@ pub fn load(alloc: Global, f: &Shape, of: &Sort, local: u16) -> Result<Sides, No
     match of {
         Sort::Int => with_reading(alloc, int_type(alloc)?, local, Need::Fits(VType::Int)),
         Sort::Long => with_reading(alloc, long_type(alloc)?, local, Need::Fits(VType::Long)),
-        Sort::Ref => with_reading(alloc, one_type(alloc, local_of(alloc, f, local)?)?, local, Need::Ref),
+        Sort::Ref => with_reading(
+            alloc,
+            one_type(alloc, local_of(alloc, f, local)?)?,
+            local,
+            Need::Ref,
+        ),
     }
 }
 
@@ -185,7 +210,10 @@ fn store_long(alloc: Global, local: u16) -> Result<Sides, NoMemory>
     ensures { IfOk result (λ s. s ≡ record (plain long_need []) { sets = setting local types.Long ∷ setting (local + 1) types.Top ∷ [] }) }
 {
     let mut s = with_setting(alloc, number_need(alloc, true)?, local, VType::Long)?;
-    s.sets.push(Setting { local: u32::from(local) + 1, to: VType::Top })?;
+    s.sets.push(Setting {
+        local: u32::from(local) + 1,
+        to: VType::Top,
+    })?;
     Ok(s)
 }
 
@@ -195,7 +223,12 @@ pub fn store(alloc: Global, f: &Shape, of: &Sort, local: u16) -> Result<Sides, N
     match of {
         Sort::Int => with_setting(alloc, int_need(alloc)?, local, VType::Int),
         Sort::Long => store_long(alloc, local),
-        Sort::Ref => with_setting(alloc, one_need(alloc, Need::Ref)?, local, place_of(alloc, f, 0)?),
+        Sort::Ref => with_setting(
+            alloc,
+            one_need(alloc, Need::Ref)?,
+            local,
+            place_of(alloc, f, 0)?,
+        ),
     }
 }
 

@@ -8,14 +8,13 @@ ghost use Rattle.type_frames.specs.Frames.{slots_of};
 ghost use Rattle.type_frames.specs.Environment.{leads};
 ghost use Rattle.type_frames.specs.Rules as rules;
 
-use et_base::NoMemory;
-use jvm_model::{Handler, Instr, Placed, Program};
-use std::alloc::Global;
-
 use crate::after::opening;
 use crate::context::{Context, given_at, made_at};
 use crate::members::{THROWABLE, is_raw};
 use crate::shape::Shape;
+use et_base::NoMemory;
+use jvm_model::{Handler, Instr, Placed, Program};
+use std::alloc::Global;
 use type_frames::{
     Frame, Need, Reading, Setting, Sides, VType, assignable, object_assignable, same,
 };
@@ -190,7 +189,8 @@ fn is_sound(e: &Context, g: &Frame) -> bool
 fn slots_fit(p: &Program, f: &Shape, g: &Frame) -> bool
     ensures { result ≡ rules.slots_fit p.now f.now (slots_of g.now) }
 {
-    fit_all(p, &f.locals, g.locals.as_slice()) && (fit_stack(p, &f.stack, g.stack.as_slice()) && (!f.flag || g.flag))
+    fit_all(p, &f.locals, g.locals.as_slice())
+        && (fit_stack(p, &f.stack, g.stack.as_slice()) && (!f.flag || g.flag))
 }
 
 /// Whether what is given at a place, if something is, takes a frame.
@@ -224,10 +224,13 @@ fn fits_leads(p: &Program, e: &Context, f: &Shape, form: &Instr) -> bool
         | Instr::IfRefs { same: _, to }
         | Instr::IfNull { null: _, to }
         | Instr::Goto { to } => fits_at(p, e, f, *to),
-        Instr::Table { low: _, targets, other } => {
-            fits_at(p, e, f, *other) && fits_targets(p, e, f, targets.as_slice())
-        }
-        Instr::Lookup { pairs, other } => fits_at(p, e, f, *other) && fits_pairs(p, e, f, pairs.as_slice()),
+        Instr::Table {
+            low: _,
+            targets,
+            other,
+        } => { fits_at(p, e, f, *other) && fits_targets(p, e, f, targets.as_slice()) }
+        Instr::Lookup { pairs, other } => fits_at(p, e, f, *other)
+            && fits_pairs(p, e, f, pairs.as_slice()),
         _ => true,
     }
 }
@@ -277,7 +280,11 @@ fn handles(p: &Program, e: &Context, pc: u32, f: &Shape, h: &Handler) -> bool
 pub fn rule_9(p: &Program, e: &Context, x: &Placed, f: &Shape) -> bool
     ensures { result ≡ rules.rule_9 p.now e.now x.now f.now }
 {
-    e.body.handlers.as_slice().iter().all(|h| handles(p, e, x.pc, f, h))
+    e.body
+        .handlers
+        .as_slice()
+        .iter()
+        .all(|h| handles(p, e, x.pc, f, h))
 }
 
 /// Rule 1: the stack has enough places, and doesn't grow past its end.
@@ -329,7 +336,13 @@ pub fn leads_on(p: &Program, e: &Context, k: usize, x: &Placed, g: &Shape, falls
 }
 
 /// The part of rule 4 on the first instruction: what is given there takes the descriptor's frame.
-pub fn is_entered(alloc: Global, p: &Program, e: &Context, k: usize, pc: u32) -> Result<bool, NoMemory>
+pub fn is_entered(
+    alloc: Global,
+    p: &Program,
+    e: &Context,
+    k: usize,
+    pc: u32,
+) -> Result<bool, NoMemory>
     ensures { IfOk result (λ b. b ≡ rules.is_entered p.now e.now k pc) }
 {
     if k == 0 {

@@ -1,7 +1,6 @@
 //! The frame before an instruction.
 
 use std::marker::Model;
-
 use type_frames::VType;
 
 /// The types of the locals and of the stack, whose last one is its top; contracts see the top first.

@@ -3,14 +3,13 @@
 ghost use Rattle.std.specs.Prelude.{◌≡◌, IfOk, []};
 ghost use Rattle.type_frames.specs.Sides.{plain, sides};
 
-use et_base::{Items, NoMemory};
-use jvm_model::{Instr, Program};
-use std::alloc::Global;
-
 use crate::build::plain;
 use crate::context::Context;
 use crate::shape::Shape;
 use crate::{members, moves};
+use et_base::{Items, NoMemory};
+use jvm_model::{Instr, Program};
+use std::alloc::Global;
 use type_frames::Sides;
 
 fn nothing(alloc: Global) -> Sides
@@ -21,7 +20,14 @@ fn nothing(alloc: Global) -> Sides
 
 /// The sides of an instruction at a place, with the frame before it.
 #[tactic(auto, unfolding(type_frames::specs::Sides::sides))]
-pub fn sides(alloc: Global, p: &Program, e: &Context, pc: u32, f: &Shape, form: &Instr) -> Result<Sides, NoMemory>
+pub fn sides(
+    alloc: Global,
+    p: &Program,
+    e: &Context,
+    pc: u32,
+    f: &Shape,
+    form: &Instr,
+) -> Result<Sides, NoMemory>
     ensures { IfOk result (λ s. s ≡ sides p.now e.now pc f.now form.now) }
 {
     match form {
@@ -50,7 +56,11 @@ pub fn sides(alloc: Global, p: &Program, e: &Context, pc: u32, f: &Shape, form: 
         Instr::IfRefs { same: _, to: _ } => members::references(alloc, f),
         Instr::IfNull { null: _, to: _ } => members::reference(alloc, f),
         Instr::Goto { to: _ } => Ok(members::leaving(nothing(alloc))),
-        Instr::Table { low: _, targets: _, other: _ } => Ok(members::leaving(members::test(alloc)?)),
+        Instr::Table {
+            low: _,
+            targets: _,
+            other: _,
+        } => Ok(members::leaving(members::test(alloc)?)),
         Instr::Lookup { pairs: _, other: _ } => Ok(members::leaving(members::test(alloc)?)),
         Instr::Return { of } => members::give_back(alloc, e, f, of),
         Instr::GetStatic { field } => members::get_static(alloc, p, *field),
@@ -58,9 +68,13 @@ pub fn sides(alloc: Global, p: &Program, e: &Context, pc: u32, f: &Shape, form: 
         Instr::GetField { named, field } => members::get_field(alloc, p, *named, *field),
         Instr::PutField { named, field } => members::put_field(alloc, p, e, f, *named, *field),
         Instr::InvokeVirtual { named, method } => members::call_virtual(alloc, p, named, *method),
-        Instr::InvokeSpecial { named, method } => members::call_special(alloc, p, e, f, named, *method),
+        Instr::InvokeSpecial { named, method } => members::call_special(
+            alloc, p, e, f, named, *method,
+        ),
         Instr::InvokeStatic { method } => members::call_static(alloc, p, *method),
-        Instr::InvokeInterface { named, method } => members::call_interface(alloc, p, *named, *method),
+        Instr::InvokeInterface { named, method } => members::call_interface(
+            alloc, p, *named, *method,
+        ),
         Instr::New { class: _ } => members::create(alloc, f, pc),
         Instr::NewArray { kind } => members::new_array(alloc, p, kind),
         Instr::MultiNewArray { kind, dims } => members::new_arrays(alloc, p, kind, *dims),

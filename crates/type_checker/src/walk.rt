@@ -3,13 +3,12 @@
 ghost use Rattle.std.specs.Prelude.{◌≡◌, IfOk, length};
 ghost use Rattle.type_frames.specs.Typing.{code_fault, method_fault};
 
-use et_base::{Items, NoMemory};
-use jvm_model::{MethodRec, Program};
-use std::alloc::Global;
-
 use crate::after::opening;
 use crate::context::{Context, context_of};
 use crate::judge::{Step, step_at};
+use et_base::{Items, NoMemory};
+use jvm_model::{MethodRec, Program};
+use std::alloc::Global;
 use type_frames::{CheckFault, copy_units, given_frames};
 
 fn code_length(e: &Context) -> usize
@@ -19,7 +18,13 @@ fn code_length(e: &Context) -> usize
 }
 
 // From the first instruction on, with the frame that goes on from each.
-fn code_fault(alloc: Global, p: &Program, e: &Context, name: &[u16], method: u32) -> Result<Option<CheckFault>, NoMemory>
+fn code_fault(
+    alloc: Global,
+    p: &Program,
+    e: &Context,
+    name: &[u16],
+    method: u32,
+) -> Result<Option<CheckFault>, NoMemory>
     ensures { IfOk result (λ o. o ≡ code_fault p.now name.now method e.now 0 e.now.body.code) }
 {
     let count = code_length(e);
@@ -35,7 +40,13 @@ fn code_fault(alloc: Global, p: &Program, e: &Context, name: &[u16], method: u32
 
 /// The first fault of a method, which has this number in its class file.
 #[tactic(auto, unfolding(type_frames::specs::Typing::method_fault))]
-pub fn method_fault(alloc: Global, p: &Program, name: &[u16], method: u32, m: &MethodRec) -> Result<Option<CheckFault>, NoMemory>
+pub fn method_fault(
+    alloc: Global,
+    p: &Program,
+    name: &[u16],
+    method: u32,
+    m: &MethodRec,
+) -> Result<Option<CheckFault>, NoMemory>
     ensures { IfOk result (λ o. o ≡ method_fault p.now name.now method m.now) }
 {
     let Some(b) = &m.body else {
@@ -43,7 +54,12 @@ pub fn method_fault(alloc: Global, p: &Program, name: &[u16], method: u32, m: &M
     };
     let Some(given) = given_frames(alloc, p, m)? else {
         let class = copy_units(alloc, name)?;
-        return Ok(Some(CheckFault::Rule { class, method, pc: 0, rule: 8 }));
+        return Ok(Some(CheckFault::Rule {
+            class,
+            method,
+            pc: 0,
+            rule: 8,
+        }));
     };
     let e = context_of(alloc, p, m, b, given)?;
     code_fault(alloc, p, &e, name, method)

@@ -1,5 +1,5 @@
 -- First indices: what the table keeps when the numbers up to an index were noted.
-use Rattle.std.proofs.Common.{◌≤◌, inl, inr, ◌⊎◌, ◌≡◌, ℕ, zero, suc, List, [], ◌∷◌, length, ◌<◌, ◌+◌, ◌-◌, Option, Some, None, slice_get, set, replicate, drop, get_or, eqb, cond, true, false, refl, ap, sym, ◌∙◌, subst, arith}
+use Rattle.std.proofs.Common.{◌≤◌, inl, inr, ◌⊎◌, ◌≡◌, ℕ, zero, suc, List, [], ◌∷◌, length, ◌<◌, ◌+◌, ◌-◌, Option, Some, None, slice_get, set, replicate, drop, get_or, eqb, cond, refl, ap, sym, ◌∙◌, arith}
 use Rattle.std.specs.List.{position_from}
 use Rattle.std.proofs.lemmas.List.{drop_more, drop_all}
 use Rattle.std.proofs.lemmas.Bool.{cases_eq, eq-eqb, ne_eqb}
@@ -64,6 +64,7 @@ Tracks-more ns i first lt t = record { at = λ k o e. go k o e (cases_eq (get_or
   where
     split : (k : ℕ) → index_from k i (drop i ns) ≡ cond (eqb (get_or ns i 0) k) (Some i) (index_from k (i + 1) (drop (i + 1) ns))
     split k = ap (index_from k i) (drop_more ns i 0 lt)
+
     go : (k : ℕ) (o : Option ℕ) → slice_get (noted first (get_or ns i 0) i) k ≡ Some o → (get_or ns i 0 ≡ k) ⊎ (get_or ns i 0 ≡ k → ⊥) → or_else o (index_from k (i + 1) (drop (i + 1) ns)) ≡ index_of k ns
     go k o e (inl s) =
         let h : slice_get (noted first (get_or ns i 0) i) (get_or ns i 0) ≡ Some o = ap (slice_get (noted first (get_or ns i 0) i)) s ∙ e in

@@ -33,7 +33,8 @@ element_fits p [] b = false
 element_fits p (u ∷ us) [] = false
 element_fits p (u ∷ us) (w ∷ ws) = elim (nat_eq w 76) [
   | true ↦ elim (nat_eq u 76) [ true ↦ class_fits p (class_name us) (class_name ws) | false ↦ nat_eq u 91 && takes_any p (class_name ws) ]
-  | false ↦ elim (nat_eq w 91) [ true ↦ nat_eq u 91 && element_fits p us ws | false ↦ nat_eq u w ] ]
+  | false ↦ elim (nat_eq w 91) [ true ↦ nat_eq u 91 && element_fits p us ws | false ↦ nat_eq u w ]
+]
 
 abbrev pub is_array : List ℕ → Bool
 is_array [] = false
@@ -43,7 +44,8 @@ is_array (u ∷ us) = nat_eq u 91
 unfoldable pub object_fits : Program → List ℕ → List ℕ → Bool
 object_fits p a b = elim (is_array a) [
   | true ↦ elim (is_array b) [ true ↦ element_fits p (drop 1 a) (drop 1 b) | false ↦ takes_any p b ]
-  | false ↦ not (is_array b) && class_fits p a b ]
+  | false ↦ not (is_array b) && class_fits p a b
+]
 
 -- a value of the first type may stand where the second is asked
 abbrev pub assignable : Program → VType → VType → Bool

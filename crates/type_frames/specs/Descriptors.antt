@@ -1,6 +1,6 @@
 -- The types that a descriptor names (JVMS 4.3), by units: ( ) are 40 and 41, ; is 59, [ is 91, and the letters are
 -- B 66, C 67, D 68, F 70, I 73, J 74, L 76, S 83, V 86, Z 90.
-use Rattle.std.specs.Prelude.{ℕ, List, [], ◌∷◌, ◌++◌, length, take, reverse, replicate, Bool, true, false, not, ◌&&◌, ◌||◌, nat_eq, ◌-◌, slice_index_or, flat_map}
+use Rattle.std.specs.Prelude.{ℕ, List, [], ◌∷◌, ◌++◌, length, take, replicate, Bool, true, false, not, ◌&&◌, ◌||◌, nat_eq, ◌-◌, slice_index_or}
 use Rattle.std.specs.List.{list_any}
 use Rattle.jvm_model.specs.declared.values.Kind.{Kind}
 use Rattle.jvm_model.specs.declared.values.Kind.TheVariants as kind
@@ -9,7 +9,7 @@ use Rattle.jvm_model.specs.declared.values.Base.TheVariants as base
 use Rattle.jvm_model.specs.declared.program.Program.{Program}
 use Rattle.jvm_model.specs.Classes.{class_at}
 use Rattle.type_frames.specs.declared.vtype.VType.{VType}
-use Rattle.type_frames.specs.declared.vtype.VType.TheVariants.{Top, Int, Long, Null, Object, UninitThis, Uninit}
+use Rattle.type_frames.specs.declared.vtype.VType.TheVariants.{Top, Int, Long, Object}
 
 -- the text of a type ends with this unit: in a class's name with its semicolon, else with any letter but L
 abbrev pub ends_with : Bool → ℕ → Bool
@@ -22,7 +22,9 @@ texts_from inside text (u ∷ us) = elim (not inside && (nat_eq u 40 || nat_eq u
   | true ↦ texts_from false [] us
   | false ↦ elim (ends_with inside u) [
     | true ↦ (text ++ u ∷ []) ∷ texts_from false [] us
-    | false ↦ texts_from (inside || nat_eq u 76) (text ++ u ∷ []) us ] ]
+    | false ↦ texts_from (inside || nat_eq u 76) (text ++ u ∷ []) us
+  ]
+]
 
 -- the texts of the types that a descriptor names; the last one of a method's is its result
 unfoldable pub texts_in : List ℕ → List (List ℕ)
@@ -42,12 +44,27 @@ class_name us = take (length us - 1) us
 -- nothing can use, in one place or two.
 abbrev pub types_of : List ℕ → List VType
 types_of [] = []
-types_of (u ∷ us) = elim (nat_eq u 74) [ true ↦ Long ∷ [] | false ↦
-  elim (nat_eq u 76) [ true ↦ Object (class_name us) ∷ [] | false ↦
-  elim (nat_eq u 91) [ true ↦ Object (u ∷ us) ∷ [] | false ↦
-  elim (nat_eq u 86) [ true ↦ [] | false ↦
-  elim (nat_eq u 70) [ true ↦ Top ∷ [] | false ↦
-  elim (nat_eq u 68) [ true ↦ Top ∷ Top ∷ [] | false ↦ Int ∷ [] ] ] ] ] ] ]
+types_of (u ∷ us) = elim (nat_eq u 74) [
+  | true ↦ Long ∷ []
+  | false ↦
+      elim (nat_eq u 76) [
+        | true ↦ Object (class_name us) ∷ []
+        | false ↦
+            elim (nat_eq u 91) [
+              | true ↦ Object (u ∷ us) ∷ []
+              | false ↦
+                  elim (nat_eq u 86) [
+                    | true ↦ []
+                    | false ↦
+                        elim (nat_eq u 70) [
+                          | true ↦ Top ∷ []
+                          | false ↦
+                              elim (nat_eq u 68) [ true ↦ Top ∷ Top ∷ [] | false ↦ Int ∷ [] ]
+                        ]
+                  ]
+            ]
+      ]
+]
 
 -- the letter of the innermost element type of a type
 abbrev pub element_letter : List ℕ → ℕ

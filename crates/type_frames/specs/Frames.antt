@@ -1,5 +1,5 @@
 -- Frames as the rules see them (JVMS 4.10.1.4).
-use Rattle.std.specs.Prelude.{ℕ, zero, suc, List, [], ◌∷◌, ◌++◌, length, map, reverse, replicate, Bool, true, false, cond, ◌&&◌, ◌||◌, nat_eq, ◌-◌, Option, Some, None, slice_index_or, flat_map}
+use Rattle.std.specs.Prelude.{ℕ, List, [], ◌∷◌, ◌++◌, length, reverse, replicate, Bool, true, false, nat_eq, ◌-◌, Option, slice_index_or, flat_map}
 use Rattle.std.specs.List.{position_from, list_any}
 use Rattle.jvm_model.specs.World.{same_units}
 use Rattle.type_frames.specs.declared.vtype.VType.{VType}

@@ -1,5 +1,5 @@
 -- The frames that a method's stack map gives (JVMS 4.7.4 and 4.10.1.5), or none where the map is malformed.
-use Rattle.std.specs.Prelude.{ℕ, suc, List, [], ◌∷◌, ◌++◌, length, take, map, Bool, true, false, not, ◌&&◌, ◌||◌, nat_eq, nat_lt, nat_le, ◌+◌, ◌-◌, Option, Some, None, flat_map, is_some}
+use Rattle.std.specs.Prelude.{ℕ, List, [], ◌∷◌, ◌++◌, length, take, map, Bool, true, false, not, ◌&&◌, ◌||◌, nat_eq, nat_lt, nat_le, ◌+◌, ◌-◌, Option, Some, None, flat_map, is_some}
 use Rattle.jvm_model.specs.declared.program.Program.{Program}
 use Rattle.jvm_model.specs.declared.program.MethodRec.{MethodRec}
 use Rattle.jvm_model.specs.declared.program.Body.{Body}
@@ -8,7 +8,7 @@ use Rattle.jvm_model.specs.declared.program.FrameRec.{FrameRec}
 use Rattle.jvm_model.specs.declared.program.TypeRec.{TypeRec}
 use Rattle.jvm_model.specs.declared.program.TypeRec.TheVariants as entry
 use Rattle.jvm_model.specs.World.{same_units}
-use Rattle.jvm_model.specs.Classes.{class_at, method_at, is_static, init_name}
+use Rattle.jvm_model.specs.Classes.{is_static, init_name}
 use Rattle.type_frames.specs.declared.vtype.VType.{VType}
 use Rattle.type_frames.specs.declared.vtype.VType.TheVariants.{Top, Int, Long, Null, Object, UninitThis, Uninit}
 use Rattle.type_frames.specs.declared.vtype.Frame.{Frame}
@@ -29,11 +29,23 @@ entry_types p m = this_types p m ++ flat_map types_of (parameter_texts m.descrip
 
 -- a type of a stack map entry (JVMS 4.7.4); none for float, double and tags past the last
 abbrev pub plain_type : ℕ → Option VType
-plain_type t = elim (nat_eq t 0) [ true ↦ Some Top | false ↦
-  elim (nat_eq t 1) [ true ↦ Some Int | false ↦
-  elim (nat_eq t 4) [ true ↦ Some Long | false ↦
-  elim (nat_eq t 5) [ true ↦ Some Null | false ↦
-  elim (nat_eq t 6) [ true ↦ Some UninitThis | false ↦ None ] ] ] ] ]
+plain_type t = elim (nat_eq t 0) [
+  | true ↦ Some Top
+  | false ↦
+      elim (nat_eq t 1) [
+        | true ↦ Some Int
+        | false ↦
+            elim (nat_eq t 4) [
+              | true ↦ Some Long
+              | false ↦
+                  elim (nat_eq t 5) [
+                    | true ↦ Some Null
+                    | false ↦
+                        elim (nat_eq t 6) [ true ↦ Some UninitThis | false ↦ None ]
+                  ]
+            ]
+      ]
+]
 
 abbrev pub type_of : TypeRec → Option VType
 type_of (entry.Plain t) = plain_type t
@@ -61,10 +73,19 @@ appended most ts (Some us) = elim (nat_le (length (spread (ts ++ us))) most) [ t
 
 -- the locals of an entry after those of the entry before it
 unfoldable pub locals_after : ℕ → List VType → FrameRec → Option (List VType)
-locals_after most ts f = elim (nat_lt f.tag 128 || (nat_eq f.tag 247 || nat_eq f.tag 251)) [ true ↦ Some ts | false ↦
-  elim (nat_lt f.tag 247) [ true ↦ None | false ↦
-  elim (nat_lt f.tag 251) [ true ↦ chopped ts (251 - f.tag) | false ↦
-  elim (nat_lt f.tag 255) [ true ↦ appended most ts (all_types f.locals) | false ↦ all_types f.locals ] ] ] ]
+locals_after most ts f = elim (nat_lt f.tag 128 || (nat_eq f.tag 247 || nat_eq f.tag 251)) [
+  | true ↦ Some ts
+  | false ↦
+      elim (nat_lt f.tag 247) [
+        | true ↦ None
+        | false ↦
+            elim (nat_lt f.tag 251) [
+              | true ↦ chopped ts (251 - f.tag)
+              | false ↦
+                  elim (nat_lt f.tag 255) [ true ↦ appended most ts (all_types f.locals) | false ↦ all_types f.locals ]
+            ]
+      ]
+]
 
 -- the places of the instructions
 abbrev pub places : List Placed → List ℕ
@@ -86,7 +107,8 @@ abbrev pub frames_from : Body → ℕ → List VType → List FrameRec → Optio
 frames_from b least ts [] = Some []
 frames_from b least ts (f ∷ fs) = elim (locals_after b.max_locals ts f) [
   | None ↦ None
-  | Some us ↦ frame_then b (least + f.delta) us (all_types f.stack) (frames_from b (least + f.delta + 1) us fs) ]
+  | Some us ↦ frame_then b (least + f.delta) us (all_types f.stack) (frames_from b (least + f.delta + 1) us fs)
+]
 
 unfoldable pub body_frames : Body → List VType → Option (List Frame)
 body_frames b ts = elim b.malformed [ true ↦ None | false ↦ frames_from b 0 ts b.frames ]

@@ -1,5 +1,5 @@
 -- What the parts of a reader of stack maps answer.
-use Rattle.std.specs.Prelude.{ℕ, List, [], ◌∷◌, ◌++◌, Option, Some, None, ◌≡◌, ◌+◌}
+use Rattle.std.specs.Prelude.{ℕ, List, ◌∷◌, ◌++◌, Option, Some, None, ◌≡◌, ◌+◌}
 use Rattle.jvm_model.specs.declared.program.Body.{Body}
 use Rattle.jvm_model.specs.declared.program.FrameRec.{FrameRec}
 use Rattle.type_frames.specs.declared.vtype.VType.{VType}

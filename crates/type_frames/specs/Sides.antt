@@ -26,7 +26,6 @@ use Rattle.type_frames.specs.declared.sides.Need.{Need}
 use Rattle.type_frames.specs.declared.sides.Need.TheVariants.{Fits, One, Half, Ref, Raw, Small, Array, Never}
 use Rattle.type_frames.specs.declared.sides.Reading.{Reading}
 use Rattle.type_frames.specs.declared.sides.Setting.{Setting}
-use Rattle.type_frames.specs.declared.sides.Turn.{Turn}
 use Rattle.type_frames.specs.declared.sides.Turn.TheVariants.{Keep, All}
 use Rattle.type_frames.specs.declared.sides.Sides.{Sides}
 use Rattle.type_frames.specs.Frames.{Slots, same, spread}
@@ -58,12 +57,27 @@ on_stack ts = reverse (spread ts)
 -- the needs of a value of a type's text, top first; nothing is a float or a double
 abbrev pub needs_of : List ℕ → List Need
 needs_of [] = []
-needs_of (u ∷ us) = elim (nat_eq u 74) [ true ↦ Half ∷ Fits Long ∷ [] | false ↦
-  elim (nat_eq u 76) [ true ↦ Fits (Object (class_name us)) ∷ [] | false ↦
-  elim (nat_eq u 91) [ true ↦ Fits (Object (u ∷ us)) ∷ [] | false ↦
-  elim (nat_eq u 86) [ true ↦ [] | false ↦
-  elim (nat_eq u 70) [ true ↦ Never ∷ [] | false ↦
-  elim (nat_eq u 68) [ true ↦ Never ∷ Never ∷ [] | false ↦ Fits Int ∷ [] ] ] ] ] ] ]
+needs_of (u ∷ us) = elim (nat_eq u 74) [
+  | true ↦ Half ∷ Fits Long ∷ []
+  | false ↦
+      elim (nat_eq u 76) [
+        | true ↦ Fits (Object (class_name us)) ∷ []
+        | false ↦
+            elim (nat_eq u 91) [
+              | true ↦ Fits (Object (u ∷ us)) ∷ []
+              | false ↦
+                  elim (nat_eq u 86) [
+                    | true ↦ []
+                    | false ↦
+                        elim (nat_eq u 70) [
+                          | true ↦ Never ∷ []
+                          | false ↦
+                              elim (nat_eq u 68) [ true ↦ Never ∷ Never ∷ [] | false ↦ Fits Int ∷ [] ]
+                        ]
+                  ]
+            ]
+      ]
+]
 
 abbrev pub long_need : List Need
 long_need = Half ∷ Fits Long ∷ []
@@ -230,7 +244,8 @@ init_sides p e f m t = record (plain (argument_needs m.descriptor ++ Raw ∷ [])
 abbrev pub special_sides : Program → Environment → Slots → Kind → MethodRec → Sides
 special_sides p e f named m = elim (same_units m.name init_name) [
   | true ↦ init_sides p e f m (place_of f (length (argument_needs m.descriptor)))
-  | false ↦ call_sides m (special_need p e named ∷ []) ]
+  | false ↦ call_sides m (special_need p e named ∷ [])
+]
 
 -- Objects and arrays.
 

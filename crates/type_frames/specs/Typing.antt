@@ -1,5 +1,5 @@
 -- The frame before an instruction, what it is for a program to be typed, and its first fault.
-use Rattle.std.specs.Prelude.{ℕ, zero, suc, List, [], ◌∷◌, ◌++◌, length, drop, map, Bool, true, false, not, ◌&&◌, ◌||◌, cond, nat_eq, nat_lt, ◌+◌, Option, Some, None, slice_get, is_some, ◌≡◌, unwrap_or}
+use Rattle.std.specs.Prelude.{ℕ, zero, suc, List, [], ◌∷◌, drop, map, Bool, true, not, ◌&&◌, ◌||◌, cond, nat_lt, Option, Some, None, slice_get, is_some, ◌≡◌, unwrap_or}
 use Rattle.jvm_model.specs.declared.program.Program.{Program}
 use Rattle.jvm_model.specs.declared.program.ClassRec.{ClassRec}
 use Rattle.jvm_model.specs.declared.program.FieldRec.{FieldRec}
@@ -7,7 +7,7 @@ use Rattle.jvm_model.specs.declared.program.MethodRec.{MethodRec}
 use Rattle.jvm_model.specs.declared.program.Body.{Body}
 use Rattle.jvm_model.specs.declared.program.Placed.{Placed}
 use Rattle.jvm_model.specs.World.{same_units}
-use Rattle.jvm_model.specs.Classes.{class_at, field_at, method_at, is_private, is_interface, has_flag, clinit_name}
+use Rattle.jvm_model.specs.Classes.{field_at, method_at, is_private, is_interface, has_flag, clinit_name}
 use Rattle.jvm_model.specs.Builtin.{builtin_count}
 use Rattle.jvm_model.specs.Linked.{Linked}
 use Rattle.type_frames.specs.declared.vtype.Frame.{Frame}

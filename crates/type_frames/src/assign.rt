@@ -8,16 +8,16 @@ ghost use Rattle.type_frames.specs.Assign.{assignable, class_fits, class_named, 
 ghost use Rattle.type_frames.specs.Frames.{same};
 ghost use Rattle.type_frames.specs.declared.vtype.VType.TheVariants as types;
 
-use jvm_model::Program;
-
 use crate::descriptors::class_name;
 use crate::vtype::VType;
+use jvm_model::Program;
 
 /// The class `java.lang.Object`.
 const OBJECT: usize = 0;
 
 /// The units of L and of an array's bracket.
 const L: u16 = 76;
+
 const BRACKET: u16 = 91;
 
 /// Whether two names are one.
@@ -48,7 +48,10 @@ pub fn same(a: &VType, b: &VType) -> bool
 fn class_named(p: &Program, name: &[u16]) -> Option<usize>
     ensures { result ≡ class_named p.now name.now }
 {
-    p.classes.as_slice().iter().position(|c| same_units(c.name.as_slice(), name))
+    p.classes
+        .as_slice()
+        .iter()
+        .position(|c| same_units(c.name.as_slice(), name))
 }
 
 // The number of the superclass of a class.

@@ -3,11 +3,10 @@
 ghost use Rattle.std.specs.Prelude.{◌≡◌, [], slice_index_or};
 ghost use Rattle.type_frames.specs.Typing.{IsTyped, all_frames};
 
+use crate::vtype::Frame;
 use et_base::Items;
 use jvm_model::Program;
 use std::marker::Model;
-
-use crate::vtype::Frame;
 
 /// A program that is typed (JVMS 4.10.1), with the frames that the stack maps of its methods give. Contracts see it as
 /// the program.

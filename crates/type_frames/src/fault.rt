@@ -19,11 +19,23 @@ pub enum FrameFault {
 #[derive(Debug, Drop)]
 pub enum CheckFault {
     /// An instruction breaks a rule, and none of a lower number.
-    Rule { class: Units, method: u32, pc: u32, rule: u32 },
+    Rule {
+        class: Units,
+        method: u32,
+        pc: u32,
+        rule: u32,
+    },
     /// There is no frame where one is needed: at a branch target, a handler, or after an unconditional transfer.
-    NoFrame { class: Units, method: u32, pc: u32 },
+    NoFrame {
+        class: Units,
+        method: u32,
+        pc: u32,
+    },
     /// A field or method that this project doesn't serve.
-    Unsupported { class: Units, member: Units },
+    Unsupported {
+        class: Units,
+        member: Units,
+    },
     /// An allocation was refused.
     NoMemory,
 }

@@ -10,15 +10,14 @@ ghost use Rattle.type_frames.specs.Descriptors.{parameter_texts};
 ghost use Rattle.type_frames.specs.Given.{all_types, appended, body_frames, chopped, entry_types, frame_at, frames_from, given_frames, is_constructor, locals_after, places, plain_type, this_types, type_of};
 ghost use Rattle.type_frames.specs.MapReading.{prefixed, IsTaken};
 
-use et_base::{Items, NoMemory};
-use jvm_model::{Body, FrameRec, MethodRec, Placed, Program, TypeRec};
-use std::alloc::Global;
-
 use crate::assign::{same, same_units};
 use crate::descriptors::{copy_units, push_all_types, texts_in};
 use crate::fault::FrameFault;
 use crate::places::Places;
 use crate::vtype::{Frame, VType};
+use et_base::{Items, NoMemory};
+use jvm_model::{Body, FrameRec, MethodRec, Placed, Program, TypeRec};
+use std::alloc::Global;
 
 /// The units of `<init>`.
 const INIT: [u16; 6] = [60, 105, 110, 105, 116, 62];
@@ -158,7 +157,11 @@ fn plain_type(tag: u8) -> Option<VType>
 }
 
 // The types with those of a list of entries behind them.
-fn with_types(alloc: Global, types: Items<VType>, entries: &[TypeRec]) -> Result<Option<Items<VType>>, NoMemory>
+fn with_types(
+    alloc: Global,
+    types: Items<VType>,
+    entries: &[TypeRec],
+) -> Result<Option<Items<VType>>, NoMemory>
     ensures { IfOk result (λ o. o ≡ prefixed types (all_types entries.now)) }
 {
     let mut all = types;
@@ -191,7 +194,12 @@ fn chopped(types: Items<VType>, count: usize) -> Option<Items<VType>>
 }
 
 // With further ones, if they stay within the locals.
-fn appended(alloc: Global, most: u16, types: Items<VType>, entries: &[TypeRec]) -> Result<Option<Items<VType>>, NoMemory>
+fn appended(
+    alloc: Global,
+    most: u16,
+    types: Items<VType>,
+    entries: &[TypeRec],
+) -> Result<Option<Items<VType>>, NoMemory>
     ensures { IfOk result (λ o. o ≡ appended most types (all_types entries.now)) }
 {
     let Some(all) = with_types(alloc, types, entries)? else {
@@ -205,7 +213,12 @@ fn appended(alloc: Global, most: u16, types: Items<VType>, entries: &[TypeRec]) 
 
 // The locals of an entry after those of the entry before it.
 #[tactic(auto, unfolding(crate::specs::Given::locals_after))]
-fn locals_after(alloc: Global, most: u16, types: Items<VType>, f: &FrameRec) -> Result<Option<Items<VType>>, NoMemory>
+fn locals_after(
+    alloc: Global,
+    most: u16,
+    types: Items<VType>,
+    f: &FrameRec,
+) -> Result<Option<Items<VType>>, NoMemory>
     ensures { IfOk result (λ o. o ≡ locals_after most types f.now) }
 {
     if f.tag < 128 || (f.tag == 247 || f.tag == 251) {
@@ -236,7 +249,13 @@ fn holds_this(types: &[VType]) -> bool
     types.iter().any(|t| same(t, &VType::UninitThis))
 }
 
-fn frame_at(alloc: Global, most: u16, pc: u32, locals: &[VType], stack: &[VType]) -> Result<Frame, NoMemory>
+fn frame_at(
+    alloc: Global,
+    most: u16,
+    pc: u32,
+    locals: &[VType],
+    stack: &[VType],
+) -> Result<Frame, NoMemory>
     ensures { IfOk result (λ g. g ≡ frame_at most pc locals.now stack.now) }
 {
     Ok(Frame {
@@ -248,7 +267,14 @@ fn frame_at(alloc: Global, most: u16, pc: u32, locals: &[VType], stack: &[VType]
 }
 
 // The frame of an entry whose offset delta leads from a least place on.
-fn read_entry(alloc: Global, b: &Body, code: &Places, least: u64, locals: Items<VType>, f: &FrameRec) -> Result<Option<NextFrame>, NoMemory>
+fn read_entry(
+    alloc: Global,
+    b: &Body,
+    code: &Places,
+    least: u64,
+    locals: Items<VType>,
+    f: &FrameRec,
+) -> Result<Option<NextFrame>, NoMemory>
     requires places { code.now ≡ places b.now.code }
     requires small { least < 2 ^ 33 }
     ensures { IfOk result (IsTaken b.now least locals f.now) }
@@ -263,7 +289,10 @@ fn read_entry(alloc: Global, b: &Body, code: &Places, least: u64, locals: Items<
         return Ok(None);
     };
     let frame = frame_at(alloc, b.max_locals, pc, next.as_slice(), stack.as_slice())?;
-    Ok(Some(NextFrame { frame, locals: next }))
+    Ok(Some(NextFrame {
+        frame,
+        locals: next,
+    }))
 }
 
 /// The places of the instructions of a method's code.
@@ -277,7 +306,12 @@ pub fn code_places(alloc: Global, code: &[Placed]) -> Result<Vec<u32>, NoMemory>
     Ok(places)
 }
 
-fn frames_in(alloc: Global, b: &Body, code: &Places, types: Items<VType>) -> Result<Option<Items<Frame>>, NoMemory>
+fn frames_in(
+    alloc: Global,
+    b: &Body,
+    code: &Places,
+    types: Items<VType>,
+) -> Result<Option<Items<Frame>>, NoMemory>
     requires { code.now ≡ places b.now.code }
     ensures { IfOk result (λ o. o ≡ frames_from b.now 0 types b.now.frames) }
 {
@@ -288,7 +322,10 @@ fn frames_in(alloc: Global, b: &Body, code: &Places, types: Items<VType>) -> Res
         let Some(next) = read_entry(alloc, b, code, least, locals, entry)? else {
             return Ok(None);
         };
-        let NextFrame { frame, locals: after } = next;
+        let NextFrame {
+            frame,
+            locals: after,
+        } = next;
         least = u64::from(frame.pc) + 1;
         locals = after;
         frames.push(frame)?;
@@ -297,19 +334,31 @@ fn frames_in(alloc: Global, b: &Body, code: &Places, types: Items<VType>) -> Res
 }
 
 #[tactic(auto, unfolding(crate::specs::Given::body_frames))]
-fn body_frames(alloc: Global, b: &Body, types: Items<VType>) -> Result<Option<Items<Frame>>, NoMemory>
+fn body_frames(
+    alloc: Global,
+    b: &Body,
+    types: Items<VType>,
+) -> Result<Option<Items<Frame>>, NoMemory>
     ensures { IfOk result (λ o. o ≡ body_frames b.now types) }
 {
     if b.malformed {
         return Ok(None);
     }
-    let code = Places::new(alloc, b.length as usize, code_places(alloc, b.code.as_slice())?)?;
+    let code = Places::new(
+        alloc,
+        b.length as usize,
+        code_places(alloc, b.code.as_slice())?,
+    )?;
     frames_in(alloc, b, &code, types)
 }
 
 /// The frames that a method's stack map gives; `None` where it is malformed. A method without code has none.
 #[tactic(auto, unfolding(crate::specs::Given::given_frames))]
-pub fn given_frames(alloc: Global, p: &Program, m: &MethodRec) -> Result<Option<Items<Frame>>, NoMemory>
+pub fn given_frames(
+    alloc: Global,
+    p: &Program,
+    m: &MethodRec,
+) -> Result<Option<Items<Frame>>, NoMemory>
     ensures { IfOk result (λ o. o ≡ given_frames p.now m.now) }
 {
     match &m.body {

@@ -14,7 +14,10 @@ pub use assign::{assignable, object_assignable, same, same_units};
 pub use checked::Checked;
 pub use descriptors::{class_name, copy_units, push_all_types, push_types, texts_in};
 pub use fault::{CheckFault, FrameFault};
-pub use given::{code_places, copy_type, entry_types, given_frames, is_constructor, object_of, padded, read_frames, spread};
+pub use given::{
+    code_places, copy_type, entry_types, given_frames, is_constructor, object_of, padded,
+    read_frames, spread,
+};
 pub use places::Places;
 pub use sides::{Need, Reading, Setting, Sides, Turn};
 pub use vtype::{Frame, VType};

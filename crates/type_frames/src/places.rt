@@ -50,7 +50,11 @@ fn no_indices(alloc: Global, bound: usize) -> Result<Vec<Option<usize>>, NoMemor
 }
 
 // The first index of each number below a bound.
-fn first_indices(alloc: Global, bound: usize, numbers: &[u32]) -> Result<Vec<Option<usize>>, NoMemory>
+fn first_indices(
+    alloc: Global,
+    bound: usize,
+    numbers: &[u32],
+) -> Result<Vec<Option<usize>>, NoMemory>
     ensures { IfOk result (λ v. IsIndex numbers.now v.items) }
 {
     let mut first = no_indices(alloc, bound)?;

@@ -1,5 +1,5 @@
-use Rattle.std.proofs.Common.{◌≡◌, Some, ap, sym, ◌∙◌, ◌<◌, ◌≤◌, length, refl, arith}
-use Rattle.type_checker.proofs.Onward.{at_start, faulty, onward, at_end}
+use Rattle.std.proofs.Common.{Some, ap, sym, ◌∙◌, ◌<◌, length, refl, arith}
+use Rattle.type_checker.proofs.Onward.{at_start, faulty, onward}
 use Rattle.type_checker.proofs.walk.code_fault.Goals as goal
 
 pub loop-k-init : goal.loop-k-init

@@ -1,4 +1,4 @@
-use Rattle.std.proofs.Common.{◌≤◌, length, arith}
+use Rattle.std.proofs.Common.{arith}
 use Rattle.type_frames.proofs.PlaceLemmas.{Tracks-none, Tracks-more, Tracks-all}
 use Rattle.type_frames.proofs.places.first_indices.Goals as goal
 
