@@ -6,7 +6,7 @@ ghost use Rattle.jvm_model.specs.Classes.{field_at, method_at};
 ghost use Rattle.type_frames.specs.declared.vtype.VType.TheVariants as types;
 ghost use Rattle.type_frames.specs.declared.sides.Need.TheVariants as wants;
 ghost use Rattle.type_frames.specs.Frames.{same};
-ghost use Rattle.type_frames.specs.Descriptors.{base_text, kind_name, result_text, types_of};
+ghost use Rattle.type_frames.specs.Descriptors.{base_text, kind_name, types_of};
 ghost use Rattle.type_frames.specs.Sides.{argument_needs, int_need, int_type, long_need, long_type, needs_of, number_need, number_type, objects_text, on_stack, place_of, plain, result_types, two};
 
 use crate::shape::Shape;
@@ -14,7 +14,7 @@ use et_base::{Items, NoMemory, Units};
 use jvm_model::{Base, Kind, Program};
 use std::alloc::Global;
 use type_frames::{
-    Need, Sides, Turn, VType, class_name, copy_type, copy_units, push_types, same, spread, texts_in,
+    Need, Sides, Turn, VType, class_name, copy_type, copy_units, parameters, push_types, return_type, same, spread,
 };
 
 /// The class `java.lang.Object`.
@@ -227,12 +227,8 @@ pub fn argument_needs(alloc: Global, descriptor: &[u16]) -> Result<Items<Need>, 
     ensures { IfOk result (λ ns. ns ≡ argument_needs descriptor.now) }
 {
     let mut needs = Items::new(alloc);
-    let texts = texts_in(alloc, descriptor)?;
-    let texts = texts.as_slice();
-    if texts.is_empty() {
-        return Ok(needs);
-    }
-    push_all_needs(alloc, &mut needs, &texts[..texts.len() - 1])?;
+    let texts = parameters(alloc, descriptor)?;
+    push_all_needs(alloc, &mut needs, texts.as_slice())?;
     Ok(needs)
 }
 
@@ -258,11 +254,7 @@ pub fn text_types(alloc: Global, text: &[u16]) -> Result<Items<VType>, NoMemory>
 pub fn result_types(alloc: Global, descriptor: &[u16]) -> Result<Items<VType>, NoMemory>
     ensures { IfOk result (λ ts. ts ≡ result_types descriptor.now) }
 {
-    let texts = texts_in(alloc, descriptor)?;
-    match texts.as_slice().last() {
-        None => Ok(Items::new(alloc)),
-        Some(text) => text_types(alloc, text.as_slice()),
-    }
+    text_types(alloc, return_type(descriptor))
 }
 
 fn push_brackets(text: &mut Units, dims: u8) -> Result<(), NoMemory>

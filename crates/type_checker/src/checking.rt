@@ -13,7 +13,7 @@ use crate::walk::method_fault;
 use et_base::{Items, NoMemory, Units};
 use jvm_model::{ClassRec, FieldRec, MethodRec, Program};
 use std::alloc::Global;
-use type_frames::{CheckFault, Checked, Frame, copy_units, given_frames, same_units, texts_in};
+use type_frames::{CheckFault, Checked, Frame, copy_units, given_frames, parameters, return_type, same_units};
 
 /// The number of built-in classes, which stand first.
 const BUILTIN: usize = 32;
@@ -54,12 +54,12 @@ fn any_float(texts: &[Units]) -> bool
     texts.iter().any(|text| is_float(text.as_slice()))
 }
 
-// Whether a descriptor names a float or a double, or an array of them.
+// Whether a method's descriptor names a float or a double, or an array of them.
 fn has_float(alloc: Global, descriptor: &[u16]) -> Result<bool, NoMemory>
     ensures { IfOk result (λ b. b ≡ descriptors.has_float descriptor.now) }
 {
-    let texts = texts_in(alloc, descriptor)?;
-    Ok(any_float(texts.as_slice()))
+    let texts = parameters(alloc, descriptor)?;
+    Ok(any_float(texts.as_slice()) || is_float(return_type(descriptor)))
 }
 
 fn unsupported(alloc: Global, class: &[u16], member: &[u16]) -> Result<CheckFault, NoMemory>
@@ -78,7 +78,7 @@ fn unsupported_field(
 ) -> Result<Option<CheckFault>, NoMemory>
     ensures { IfOk result (λ o. o ≡ unsupported_field c.now x.now) }
 {
-    if has_float(alloc, x.descriptor.as_slice())? {
+    if is_float(x.descriptor.as_slice()) {
         return Ok(Some(unsupported(alloc, c.name.as_slice(), x.name.as_slice())?));
     }
     Ok(None)
@@ -115,7 +115,6 @@ fn unsupported_method(
 }
 
 // The same of a field by its number.
-#[tactic(auto, unfolding(type_frames::specs::Descriptors::texts_in))]
 fn field_fault(
     alloc: Global,
     p: &Program,
@@ -130,7 +129,7 @@ fn field_fault(
     }
 }
 
-#[tactic(auto, unfolding(type_frames::specs::Descriptors::texts_in))]
+#[tactic(auto, unfolding(jvm_model::specs::Descriptors::parameters, jvm_model::specs::Descriptors::return_type))]
 fn member_fault(
     alloc: Global,
     p: &Program,

@@ -2,14 +2,15 @@
 
 ghost use Rattle.std.specs.Prelude.{◌≡◌, ◌++◌, IfOk, OnOk, MatchOption, Some, None, map, flat_map};
 ghost use Rattle.type_frames.specs.Environment.{class_made, environment_of, given_at, is_target, leads, made_at, targets, Environment};
-ghost use Rattle.type_frames.specs.Descriptors.{result_text, types_of};
+ghost use Rattle.jvm_model.specs.Descriptors.{return_type};
+ghost use Rattle.type_frames.specs.Descriptors.{types_of};
 
 use et_base::{Items, NoMemory};
 use jvm_model::{Body, Instr, MethodRec, Placed, Program};
 use std::alloc::Global;
 use std::marker::Model;
 use type_frames::{
-    Frame, Places, VType, code_places, entry_types, is_constructor, push_types, spread, texts_in,
+    Frame, Places, VType, code_places, entry_types, is_constructor, push_types, return_type, spread,
 };
 
 /// A method with its given frames, and where its instructions, frames and targets are. Contracts see it as its
@@ -109,13 +110,10 @@ fn branch_targets(alloc: Global, code: &[Placed]) -> Result<Vec<u32>, NoMemory>
 
 // The type that a method returns, none for void.
 fn result_types(alloc: Global, m: &MethodRec) -> Result<Items<VType>, NoMemory>
-    ensures { IfOk result (λ ts. ts ≡ types_of (result_text m.now.descriptor)) }
+    ensures { IfOk result (λ ts. ts ≡ types_of (return_type m.now.descriptor)) }
 {
     let mut types = Items::new(alloc);
-    let texts = texts_in(alloc, m.descriptor.as_slice())?;
-    if let Some(text) = texts.as_slice().last() {
-        push_types(alloc, &mut types, text.as_slice())?;
-    }
+    push_types(alloc, &mut types, return_type(m.descriptor.as_slice()))?;
     Ok(types)
 }
 

@@ -207,12 +207,16 @@ pub fn load(alloc: Global, f: &Shape, of: &Sort, local: u16) -> Result<Sides, No
 }
 
 fn store_long(alloc: Global, local: u16) -> Result<Sides, NoMemory>
-    ensures { IfOk result (λ s. s ≡ record (plain long_need []) { sets = setting local types.Long ∷ setting (local + 1) types.Top ∷ [] }) }
+    ensures { IfOk result (λ s. s ≡ record (plain long_need []) { sets = setting (local + 1) types.Top ∷ setting local types.Long ∷ [] }) }
 {
-    let mut s = with_setting(alloc, number_need(alloc, true)?, local, VType::Long)?;
+    let mut s = plain(alloc, number_need(alloc, true)?, Items::new(alloc));
     s.sets.push(Setting {
         local: u32::from(local) + 1,
         to: VType::Top,
+    })?;
+    s.sets.push(Setting {
+        local: u32::from(local),
+        to: VType::Long,
     })?;
     Ok(s)
 }

@@ -8,33 +8,9 @@ use Rattle.jvm_model.specs.declared.values.Base.{Base}
 use Rattle.jvm_model.specs.declared.values.Base.TheVariants as base
 use Rattle.jvm_model.specs.declared.program.Program.{Program}
 use Rattle.jvm_model.specs.Classes.{class_at}
+use Rattle.jvm_model.specs.Descriptors.{parameters, return_type}
 use Rattle.type_frames.specs.declared.vtype.VType.{VType}
 use Rattle.type_frames.specs.declared.vtype.VType.TheVariants.{Top, Int, Long, Object}
-
--- the text of a type ends with this unit: in a class's name with its semicolon, else with any letter but L
-abbrev pub ends_with : Bool → ℕ → Bool
-ends_with inside u = elim inside [ true ↦ nat_eq u 59 | false ↦ not (nat_eq u 91 || nat_eq u 76) ]
-
--- the texts of the types in order, parentheses left out; inside: in a class's name; text: what was read of a type
-abbrev pub texts_from : Bool → List ℕ → List ℕ → List (List ℕ)
-texts_from inside text [] = []
-texts_from inside text (u ∷ us) = elim (not inside && (nat_eq u 40 || nat_eq u 41)) [
-  | true ↦ texts_from false [] us
-  | false ↦ elim (ends_with inside u) [
-    | true ↦ (text ++ u ∷ []) ∷ texts_from false [] us
-    | false ↦ texts_from (inside || nat_eq u 76) (text ++ u ∷ []) us
-  ]
-]
-
--- the texts of the types that a descriptor names; the last one of a method's is its result
-unfoldable pub texts_in : List ℕ → List (List ℕ)
-texts_in d = texts_from false [] d
-
-abbrev pub parameter_texts : List ℕ → List (List ℕ)
-parameter_texts d = take (length (texts_in d) - 1) (texts_in d)
-
-abbrev pub result_text : List ℕ → List ℕ
-result_text d = slice_index_or (texts_in d) (length (texts_in d) - 1) []
 
 -- a class's name, from what follows the L of its text
 abbrev pub class_name : List ℕ → List ℕ
@@ -75,9 +51,9 @@ element_letter (u ∷ us) = elim (nat_eq u 91) [ true ↦ element_letter us | fa
 abbrev pub is_float : List ℕ → Bool
 is_float t = nat_eq (element_letter t) 70 || nat_eq (element_letter t) 68
 
--- whether a descriptor names one
+-- whether a method's descriptor names one
 abbrev pub has_float : List ℕ → Bool
-has_float d = list_any is_float (texts_in d)
+has_float d = list_any is_float (parameters d) || is_float (return_type d)
 
 -- the name of a class by its number
 abbrev pub name_of : Program → ℕ → List ℕ

@@ -9,7 +9,8 @@ use Rattle.jvm_model.specs.declared.instr.Instr.TheVariants as form
 use Rattle.type_frames.specs.declared.vtype.VType.{VType}
 use Rattle.type_frames.specs.declared.vtype.Frame.{Frame}
 use Rattle.type_frames.specs.Frames.{spread, index_of}
-use Rattle.type_frames.specs.Descriptors.{types_of, result_text}
+use Rattle.type_frames.specs.Descriptors.{types_of}
+use Rattle.jvm_model.specs.Descriptors.{return_type}
 use Rattle.type_frames.specs.Given.{is_constructor, entry_types, places}
 
 -- class: the current class; starts: the method is an instance `<init>`; args: the places of `this` and of the parameters;
@@ -23,7 +24,7 @@ pub record Environment : Type 0 where
   pub given : List Frame
 
 abbrev pub environment_of : Program → MethodRec → Body → List Frame → Environment
-environment_of p m b gs = record { class = m.class; starts = is_constructor m; args = spread (entry_types p m); result = types_of (result_text m.descriptor); body = b; given = gs }
+environment_of p m b gs = record { class = m.class; starts = is_constructor m; args = spread (entry_types p m); result = types_of (return_type m.descriptor); body = b; given = gs }
 
 -- the element at an index, if there is one
 abbrev pub found_at : {A : Type 0} → List A → Option ℕ → Option A

@@ -13,7 +13,8 @@ use Rattle.type_frames.specs.declared.vtype.VType.{VType}
 use Rattle.type_frames.specs.declared.vtype.VType.TheVariants.{Top, Int, Long, Null, Object, UninitThis, Uninit}
 use Rattle.type_frames.specs.declared.vtype.Frame.{Frame}
 use Rattle.type_frames.specs.Frames.{spread, padded, holds_this, index_of}
-use Rattle.type_frames.specs.Descriptors.{types_of, parameter_texts, name_of}
+use Rattle.type_frames.specs.Descriptors.{types_of, name_of}
+use Rattle.jvm_model.specs.Descriptors.{parameters}
 
 -- an instance method `<init>`; a static one is an ordinary method
 abbrev pub is_constructor : MethodRec → Bool
@@ -25,7 +26,7 @@ this_types p m = elim (is_static m.flags) [ true ↦ [] | false ↦ elim (is_con
 
 -- the types with which a method is entered, a long as one (JVMS 4.10.1.6)
 abbrev pub entry_types : Program → MethodRec → List VType
-entry_types p m = this_types p m ++ flat_map types_of (parameter_texts m.descriptor)
+entry_types p m = this_types p m ++ flat_map types_of (parameters m.descriptor)
 
 -- a type of a stack map entry (JVMS 4.7.4); none for float, double and tags past the last
 abbrev pub plain_type : ℕ → Option VType

@@ -4,6 +4,7 @@ pub mod Assign
 pub mod Given
 pub mod Places
 pub mod MapReading
+pub mod Scanning
 pub mod Environment
 pub mod Sides
 pub mod Rules

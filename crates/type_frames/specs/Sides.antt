@@ -19,6 +19,7 @@ use Rattle.jvm_model.specs.declared.instr.Conv.{Conv}
 use Rattle.jvm_model.specs.declared.instr.Conv.TheVariants as conv
 use Rattle.jvm_model.specs.World.{same_units}
 use Rattle.jvm_model.specs.Classes.{class_at, field_at, method_at, init_name, clinit_name}
+use Rattle.jvm_model.specs.Descriptors.{parameters, return_type}
 use Rattle.jvm_model.specs.Builtin.{object_class, string_class, throwable_class}
 use Rattle.type_frames.specs.declared.vtype.VType.{VType}
 use Rattle.type_frames.specs.declared.vtype.VType.TheVariants.{Top, Int, Long, Null, Object, UninitThis, Uninit}
@@ -29,7 +30,7 @@ use Rattle.type_frames.specs.declared.sides.Setting.{Setting}
 use Rattle.type_frames.specs.declared.sides.Turn.TheVariants.{Keep, All}
 use Rattle.type_frames.specs.declared.sides.Sides.{Sides}
 use Rattle.type_frames.specs.Frames.{Slots, same, spread}
-use Rattle.type_frames.specs.Descriptors.{types_of, parameter_texts, result_text, class_name, name_of, kind_name}
+use Rattle.type_frames.specs.Descriptors.{types_of, class_name, name_of, kind_name}
 use Rattle.type_frames.specs.Assign.{assignable}
 use Rattle.type_frames.specs.Environment.{Environment, made_at}
 
@@ -145,7 +146,7 @@ convert_sides conv.I2l = plain int_need long_type
 convert_sides conv.L2i = plain long_need int_type
 convert_sides _ = plain int_need int_type
 
--- Loads, stores and iinc.
+-- Loads, stores and iinc. A long's second place is set first: a place that is set cuts the long before it.
 
 abbrev pub load_sides : Slots → Sort → ℕ → Sides
 load_sides f sort.Int n = record (plain [] int_type) { reads = reading n (Fits Int) ∷ [] }
@@ -154,7 +155,7 @@ load_sides f sort.Ref n = record (plain [] (slice_index_or f.locals n Top ∷ []
 
 abbrev pub store_sides : Slots → Sort → ℕ → Sides
 store_sides f sort.Int n = record (plain int_need []) { sets = setting n Int ∷ [] }
-store_sides f sort.Long n = record (plain long_need []) { sets = setting n Long ∷ setting (n + 1) Top ∷ [] }
+store_sides f sort.Long n = record (plain long_need []) { sets = setting (n + 1) Top ∷ setting n Long ∷ [] }
 store_sides f sort.Ref n = record (plain (Ref ∷ []) []) { sets = setting n (place_of f 0) ∷ [] }
 
 abbrev pub inc_sides : ℕ → Sides
@@ -209,10 +210,10 @@ put_field_sides p e f named x = plain (needs_of x.descriptor ++ owner_need p e n
 
 -- the needs of a call's arguments, top first
 abbrev pub argument_needs : List ℕ → List Need
-argument_needs d = flat_map needs_of (reverse (parameter_texts d))
+argument_needs d = flat_map needs_of (reverse (parameters d))
 
 abbrev pub result_types : List ℕ → List VType
-result_types d = on_stack (types_of (result_text d))
+result_types d = on_stack (types_of (return_type d))
 
 -- a call with these needs of its receiver; `<clinit>` and `<init>` aren't called so
 abbrev pub call_sides : MethodRec → List Need → Sides

@@ -15,7 +15,7 @@ use Rattle.type_frames.specs.declared.sides.Sides.{Sides}
 use Rattle.type_frames.specs.declared.fault.CheckFault.{CheckFault}
 use Rattle.type_frames.specs.declared.fault.CheckFault.TheVariants.{Rule, NoFrame, Unsupported}
 use Rattle.type_frames.specs.Frames.{Slots, slots_of}
-use Rattle.type_frames.specs.Descriptors.{has_float}
+use Rattle.type_frames.specs.Descriptors.{has_float, is_float}
 use Rattle.type_frames.specs.Given.{given_frames}
 use Rattle.type_frames.specs.Environment.{Environment, environment_of, given_at, is_target}
 use Rattle.type_frames.specs.Sides.{sides}
@@ -77,7 +77,7 @@ abbrev pub is_unserved : ClassRec → MethodRec → Bool
 is_unserved c m = is_some m.body && (is_interface c.flags && (not (same_units m.name clinit_name) && (is_private m.flags || nat_lt c.version 52)))
 
 abbrev pub unsupported_field : ClassRec → FieldRec → Option CheckFault
-unsupported_field c x = cond (has_float x.descriptor) (Some (Unsupported c.name x.name)) None
+unsupported_field c x = cond (is_float x.descriptor) (Some (Unsupported c.name x.name)) None
 
 abbrev pub unsupported_method : ClassRec → MethodRec → Option CheckFault
 unsupported_method c m = cond (has_float m.descriptor || (is_native m.flags || is_unserved c m)) (Some (Unsupported c.name m.name)) None

@@ -1,15 +1,15 @@
 //! The types that a descriptor names (JVMS 4.3).
 
 ghost use Rattle.std.specs.Prelude.{◌≡◌, List, ℕ, ◌∷◌, ◌++◌, [], IfOk, OnOk, flat_map};
-ghost use Rattle.type_frames.specs.Descriptors.{class_name, ends_with, texts_from, texts_in, types_of};
+ghost use Rattle.jvm_model.specs.Descriptors.{at_type, in_array, in_name, parameters, return_type, types_in};
+ghost use Rattle.type_frames.specs.Descriptors.{class_name, types_of};
+ghost use Rattle.type_frames.specs.Scanning.{onto, texts_with};
 
 use crate::vtype::VType;
 use et_base::{Items, NoMemory, Units};
 use std::alloc::Global;
 
-/// The units of ( ) ; [ and of the letters of types.
-const OPEN: u16 = 40;
-
+/// The units of ) ; [ and of the letters of types.
 const CLOSE: u16 = 41;
 
 const SEMICOLON: u16 = 59;
@@ -26,75 +26,143 @@ const L: u16 = 76;
 
 const V: u16 = 86;
 
-// How far a descriptor was read: the texts of whole types, that of the next one as far as it goes, and whether it is in a
-// class's name.
+// Where a reader of a descriptor stands: before a type, before an array's element type, or in a class's name.
+#[derive(Clone, Copy, Debug, PartialEq, Eq)]
+enum Place {
+    Type,
+    Element,
+    Name,
+}
+
+// How far a descriptor was read: the texts of whole types, that of the next one as far as it goes, where the reader
+// stands, and whether the parameters have ended.
 #[derive(Drop)]
-struct Scan {
+struct Scanned {
     texts: Items<Units>,
     text: Units,
-    inside: bool,
+    place: Place,
+    closed: bool,
 }
 
-// The text of a type ends with this unit.
-fn ends_with(inside: bool, u: u16) -> bool
-    ensures { result ≡ ends_with inside u }
+// The text so far is a whole one, if there is some of it.
+#[tactic(auto, using(crate::proofs::ScanLemmas::rest_none, crate::proofs::ScanLemmas::rest_some))]
+fn with_rest(texts: Items<Units>, text: Units) -> Result<Items<Units>, NoMemory>
+    ensures { IfOk result (λ all. all ≡ texts ++ onto text []) }
 {
-    if inside {
-        return u == SEMICOLON;
+    if text.is_empty() {
+        return Ok(texts);
     }
-    !(u == BRACKET || u == L)
+    let mut all = texts;
+    all.push(text)?;
+    Ok(all)
 }
 
-fn with_unit(alloc: Global, scan: Scan, u: u16) -> Result<Scan, NoMemory>
-    ensures { IfOk result (λ s. (us : List ℕ) → s.texts ++ texts_from s.inside s.text us ≡ scan.texts ++ texts_from scan.inside scan.text (u ∷ us)) }
+// One unit more of a type that hasn't come to a class's name.
+#[tactic(auto, using(crate::proofs::ScanLemmas::onto_push, crate::proofs::ScanLemmas::whole))]
+fn with_element(alloc: Global, texts: Items<Units>, text: Units, u: u16) -> Result<Scanned, NoMemory>
+    ensures { IfOk result (λ s. (us : List ℕ) → texts_with s us ≡ texts ++ onto text (types_in in_array (u ∷ us))) }
 {
-    let Scan {
-        mut texts,
-        mut text,
-        inside,
-    } = scan;
-    if !inside && (u == OPEN || u == CLOSE) {
-        return Ok(Scan {
-            texts,
-            text: Items::new(alloc),
-            inside: false,
-        });
-    }
+    let mut texts = texts;
+    let mut text = text;
     text.push(u)?;
-    if ends_with(inside, u) {
-        texts.push(text)?;
-        return Ok(Scan {
-            texts,
-            text: Items::new(alloc),
-            inside: false,
-        });
+    if u == BRACKET {
+        return Ok(Scanned { texts, text, place: Place::Element, closed: false });
     }
-    Ok(Scan {
+    if u == L {
+        return Ok(Scanned { texts, text, place: Place::Name, closed: false });
+    }
+    texts.push(text)?;
+    Ok(Scanned { texts, text: Items::new(alloc), place: Place::Type, closed: false })
+}
+
+// One unit more of a class's name.
+#[tactic(auto, using(crate::proofs::ScanLemmas::onto_push, crate::proofs::ScanLemmas::whole))]
+fn with_name(alloc: Global, texts: Items<Units>, text: Units, u: u16) -> Result<Scanned, NoMemory>
+    ensures { IfOk result (λ s. (us : List ℕ) → texts_with s us ≡ texts ++ onto text (types_in in_name (u ∷ us))) }
+{
+    let mut texts = texts;
+    let mut text = text;
+    text.push(u)?;
+    if u == SEMICOLON {
+        texts.push(text)?;
+        return Ok(Scanned { texts, text: Items::new(alloc), place: Place::Type, closed: false });
+    }
+    Ok(Scanned { texts, text, place: Place::Name, closed: false })
+}
+
+fn with_unit(alloc: Global, scanned: Scanned, u: u16) -> Result<Scanned, NoMemory>
+    ensures { IfOk result (λ s. (us : List ℕ) → texts_with s us ≡ texts_with scanned (u ∷ us)) }
+{
+    if scanned.closed {
+        return Ok(scanned);
+    }
+    let Scanned {
         texts,
         text,
-        inside: inside || u == L,
-    })
+        place,
+        closed: _,
+    } = scanned;
+    match place {
+        Place::Name => with_name(alloc, texts, text, u),
+        Place::Element => with_element(alloc, texts, text, u),
+        Place::Type => {
+            if u == CLOSE {
+                return Ok(Scanned { texts: with_rest(texts, text)?, text: Items::new(alloc), place, closed: true });
+            }
+            with_element(alloc, texts, text, u)
+        }
+    }
 }
 
-/// The texts of the types that a descriptor names, in order; the last one of a method's is its result.
-#[tactic(auto, unfolding(crate::specs::Descriptors::texts_in))]
-pub fn texts_in(alloc: Global, descriptor: &[u16]) -> Result<Items<Units>, NoMemory>
-    ensures { IfOk result (λ texts. texts ≡ texts_in descriptor.now) }
+// The types before the closing parenthesis.
+fn types_before(alloc: Global, units: &[u16]) -> Result<Items<Units>, NoMemory>
+    ensures { IfOk result (λ texts. texts ≡ types_in at_type units.now) }
 {
-    let mut scan = Scan {
+    let mut scanned = Scanned {
         texts: Items::new(alloc),
         text: Items::new(alloc),
-        inside: false,
+        place: Place::Type,
+        closed: false,
     };
-    for u in descriptor {
-        scan = with_unit(alloc, scan, *u)?;
+    for u in units {
+        scanned = with_unit(alloc, scanned, *u)?;
     }
-    let Scan {
+    let Scanned {
         texts,
-        text: _,
-        inside: _,
-    } = scan;
-    Ok(texts)
+        text,
+        place: _,
+        closed,
+    } = scanned;
+    if closed {
+        return Ok(texts);
+    }
+    with_rest(texts, text)
+}
+
+/// The descriptors of a method's parameter types.
+#[tactic(auto, unfolding(jvm_model::specs::Descriptors::parameters))]
+pub fn parameters(alloc: Global, descriptor: &[u16]) -> Result<Items<Units>, NoMemory>
+    ensures { IfOk result (λ texts. texts ≡ parameters descriptor.now) }
+{
+    match descriptor.split_first() {
+        None => Ok(Items::new(alloc)),
+        Some((_, units)) => types_before(alloc, units),
+    }
+}
+
+/// The descriptor of what a method returns, V of nothing.
+#[tactic(auto, unfolding(jvm_model::specs::Descriptors::return_type))]
+pub fn return_type(descriptor: &[u16]) -> &[u16]
+    ensures { result.now ≡ return_type descriptor.now }
+{
+    let mut rest = descriptor;
+    while let Some((u, units)) = rest.split_first() {
+        if *u == CLOSE {
+            return units;
+        }
+        rest = units;
+    }
+    rest
 }
 
 /// The same units.

@@ -6,12 +6,11 @@ ghost use Rattle.jvm_model.specs.Classes as classes;
 ghost use Rattle.type_frames.specs.declared.fault.FrameFault.TheVariants as faults;
 ghost use Rattle.type_frames.specs.declared.vtype.VType.TheVariants as types;
 ghost use Rattle.type_frames.specs.Frames.{holds_this, padded, places_of, spread, index_of};
-ghost use Rattle.type_frames.specs.Descriptors.{parameter_texts};
 ghost use Rattle.type_frames.specs.Given.{all_types, appended, body_frames, chopped, entry_types, frame_at, frames_from, given_frames, is_constructor, locals_after, places, plain_type, this_types, type_of};
 ghost use Rattle.type_frames.specs.MapReading.{prefixed, IsTaken};
 
 use crate::assign::{same, same_units};
-use crate::descriptors::{copy_units, push_all_types, texts_in};
+use crate::descriptors::{copy_units, parameters, push_all_types};
 use crate::fault::FrameFault;
 use crate::places::Places;
 use crate::vtype::{Frame, VType};
@@ -115,12 +114,8 @@ pub fn entry_types(alloc: Global, p: &Program, m: &MethodRec) -> Result<Items<VT
     ensures { IfOk result (λ ts. ts ≡ entry_types p.now m.now) }
 {
     let mut types = this_types(alloc, p, m)?;
-    let texts = texts_in(alloc, m.descriptor.as_slice())?;
-    let texts = texts.as_slice();
-    if texts.is_empty() {
-        return Ok(types);
-    }
-    push_all_types(alloc, &mut types, &texts[..texts.len() - 1])?;
+    let texts = parameters(alloc, m.descriptor.as_slice())?;
+    push_all_types(alloc, &mut types, texts.as_slice())?;
     Ok(types)
 }
 
