@@ -14,7 +14,8 @@ use et_base::{Items, NoMemory, Units};
 use jvm_model::{Base, Kind, Program};
 use std::alloc::Global;
 use type_frames::{
-    Need, Sides, Turn, VType, class_name, copy_type, copy_units, parameters, push_types, return_type, same, spread,
+    Need, Sides, Turn, VType, class_name, copy_type, copy_units, parameters, push_types,
+    return_type, same, spread,
 };
 
 /// The class `java.lang.Object`.

@@ -13,7 +13,9 @@ use crate::walk::method_fault;
 use et_base::{Items, NoMemory, Units};
 use jvm_model::{ClassRec, FieldRec, MethodRec, Program};
 use std::alloc::Global;
-use type_frames::{CheckFault, Checked, Frame, copy_units, given_frames, parameters, return_type, same_units};
+use type_frames::{
+    CheckFault, Checked, Frame, copy_units, given_frames, parameters, return_type, same_units,
+};
 
 /// The number of built-in classes, which stand first.
 const BUILTIN: usize = 32;

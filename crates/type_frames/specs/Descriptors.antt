@@ -1,6 +1,6 @@
 -- The types that a descriptor names (JVMS 4.3), by units: ( ) are 40 and 41, ; is 59, [ is 91, and the letters are
 -- B 66, C 67, D 68, F 70, I 73, J 74, L 76, S 83, V 86, Z 90.
-use Rattle.std.specs.Prelude.{ℕ, List, [], ◌∷◌, ◌++◌, length, take, replicate, Bool, true, false, not, ◌&&◌, ◌||◌, nat_eq, ◌-◌, slice_index_or}
+use Rattle.std.specs.Prelude.{ℕ, List, [], ◌∷◌, ◌++◌, length, take, replicate, Bool, true, false, ◌||◌, nat_eq, ◌-◌}
 use Rattle.std.specs.List.{list_any}
 use Rattle.jvm_model.specs.declared.values.Kind.{Kind}
 use Rattle.jvm_model.specs.declared.values.Kind.TheVariants as kind

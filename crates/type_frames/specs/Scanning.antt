@@ -1,5 +1,5 @@
 -- A descriptor's types read unit by unit.
-use Rattle.std.specs.Prelude.{ℕ, List, [], ◌∷◌, ◌++◌, Bool, true, false}
+use Rattle.std.specs.Prelude.{ℕ, List, [], ◌∷◌, ◌++◌, true, false}
 use Rattle.jvm_model.specs.Descriptors.{Scan, at_type, in_array, in_name, onto_first, types_in}
 use Rattle.type_frames.specs.declared.descriptors.Place.{Place}
 use Rattle.type_frames.specs.declared.descriptors.Place.TheVariants as place

@@ -59,20 +59,40 @@ fn with_rest(texts: Items<Units>, text: Units) -> Result<Items<Units>, NoMemory>
 
 // One unit more of a type that hasn't come to a class's name.
 #[tactic(auto, using(crate::proofs::ScanLemmas::onto_push, crate::proofs::ScanLemmas::whole))]
-fn with_element(alloc: Global, texts: Items<Units>, text: Units, u: u16) -> Result<Scanned, NoMemory>
+fn with_element(
+    alloc: Global,
+    texts: Items<Units>,
+    text: Units,
+    u: u16,
+) -> Result<Scanned, NoMemory>
     ensures { IfOk result (λ s. (us : List ℕ) → texts_with s us ≡ texts ++ onto text (types_in in_array (u ∷ us))) }
 {
     let mut texts = texts;
     let mut text = text;
     text.push(u)?;
     if u == BRACKET {
-        return Ok(Scanned { texts, text, place: Place::Element, closed: false });
+        return Ok(Scanned {
+            texts,
+            text,
+            place: Place::Element,
+            closed: false,
+        });
     }
     if u == L {
-        return Ok(Scanned { texts, text, place: Place::Name, closed: false });
+        return Ok(Scanned {
+            texts,
+            text,
+            place: Place::Name,
+            closed: false,
+        });
     }
     texts.push(text)?;
-    Ok(Scanned { texts, text: Items::new(alloc), place: Place::Type, closed: false })
+    Ok(Scanned {
+        texts,
+        text: Items::new(alloc),
+        place: Place::Type,
+        closed: false,
+    })
 }
 
 // One unit more of a class's name.
@@ -85,9 +105,19 @@ fn with_name(alloc: Global, texts: Items<Units>, text: Units, u: u16) -> Result<
     text.push(u)?;
     if u == SEMICOLON {
         texts.push(text)?;
-        return Ok(Scanned { texts, text: Items::new(alloc), place: Place::Type, closed: false });
+        return Ok(Scanned {
+            texts,
+            text: Items::new(alloc),
+            place: Place::Type,
+            closed: false,
+        });
     }
-    Ok(Scanned { texts, text, place: Place::Name, closed: false })
+    Ok(Scanned {
+        texts,
+        text,
+        place: Place::Name,
+        closed: false,
+    })
 }
 
 fn with_unit(alloc: Global, scanned: Scanned, u: u16) -> Result<Scanned, NoMemory>
@@ -107,7 +137,12 @@ fn with_unit(alloc: Global, scanned: Scanned, u: u16) -> Result<Scanned, NoMemor
         Place::Element => with_element(alloc, texts, text, u),
         Place::Type => {
             if u == CLOSE {
-                return Ok(Scanned { texts: with_rest(texts, text)?, text: Items::new(alloc), place, closed: true });
+                return Ok(Scanned {
+                    texts: with_rest(texts, text)?,
+                    text: Items::new(alloc),
+                    place,
+                    closed: true,
+                });
             }
             with_element(alloc, texts, text, u)
         }

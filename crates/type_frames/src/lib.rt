@@ -12,7 +12,9 @@ mod vtype;
 
 pub use assign::{assignable, object_assignable, same, same_units};
 pub use checked::Checked;
-pub use descriptors::{class_name, copy_units, parameters, push_all_types, push_types, return_type};
+pub use descriptors::{
+    class_name, copy_units, parameters, push_all_types, push_types, return_type,
+};
 pub use fault::{CheckFault, FrameFault};
 pub use given::{
     code_places, copy_type, entry_types, given_frames, is_constructor, object_of, padded,
