@@ -1,0 +1,182 @@
+//! The frame after an instruction.
+
+ghost use Rattle.std.specs.Prelude.{◌≡◌, ◌++◌, drop, length, reverse, slice_index_or, slice_set, IfOk, OnOk, map, ◌<◌};
+ghost use Rattle.type_frames.specs.Frames.{slots_of};
+ghost use Rattle.type_frames.specs.declared.vtype.VType.TheVariants as types;
+ghost use Rattle.type_frames.specs.Rules as rules;
+
+use crate::context::Context;
+use crate::shape::Shape;
+use et_base::{Items, NoMemory};
+use std::alloc::Global;
+use type_frames::{Frame, Setting, Sides, Turn, VType, copy_type, padded, same};
+
+fn turn_one(
+    alloc: Global,
+    xs: &mut Vec<VType>,
+    i: usize,
+    from: &VType,
+    to: &VType,
+) -> Result<(), NoMemory>
+    requires { i < length xs.old.items }
+    ensures { OnOk result (xs.new.items ≡ slice_set xs.old.items i (rules.turned_one from.now to.now (slice_index_or xs.old.items i types.Top))) }
+{
+    if same(&xs[i], from) {
+        xs[i] = copy_type(alloc, to)?;
+    }
+    Ok(())
+}
+
+fn turn_each(alloc: Global, xs: &mut Vec<VType>, from: &VType, to: &VType) -> Result<(), NoMemory>
+    ensures { OnOk result (xs.new.items ≡ map (rules.turned_one from.now to.now) xs.old.items) }
+{
+    for i in 0..xs.len() {
+        turn_one(alloc, xs, i, from, to)?;
+    }
+    Ok(())
+}
+
+fn turn_all(alloc: Global, xs: &mut Vec<VType>, turn: &Turn) -> Result<(), NoMemory>
+    ensures { OnOk result (xs.new.items ≡ rules.turned turn.now xs.old.items) }
+{
+    match turn {
+        Turn::Keep => Ok(()),
+        Turn::All { from, to } => turn_each(alloc, xs, from, to),
+    }
+}
+
+fn cut_long(xs: &mut Vec<VType>, n: usize)
+    ensures { xs.new.items ≡ rules.cut_long xs.old.items n }
+{
+    if n > 0 && n - 1 < xs.len() {
+        if same(&xs[n - 1], &VType::Long) {
+            xs[n - 1] = VType::Top;
+        }
+    }
+}
+
+fn set_one(alloc: Global, xs: &mut Vec<VType>, s: &Setting) -> Result<(), NoMemory>
+    ensures { OnOk result (xs.new.items ≡ rules.set_one xs.old.items s.now) }
+{
+    let n = s.local as usize;
+    let to = copy_type(alloc, &s.to)?;
+    cut_long(xs, n);
+    if n < xs.len() {
+        xs[n] = to;
+    }
+    Ok(())
+}
+
+fn set_all(alloc: Global, xs: &mut Vec<VType>, sets: &[Setting]) -> Result<(), NoMemory>
+    ensures { OnOk result (xs.new.items ≡ rules.set_all xs.old.items sets.now) }
+{
+    if let Some((s, rest)) = sets.split_first() {
+        set_one(alloc, xs, s)?;
+        set_all(alloc, xs, rest)?;
+    }
+    Ok(())
+}
+
+// Takes places off the stack.
+#[tactic(auto, using(crate::proofs::Stacks::reverse_rest))]
+fn take_off(stack: &mut Vec<VType>, count: usize)
+    ensures { reverse stack.new.items ≡ drop count (reverse stack.old.items) }
+{
+    let depth = stack.len();
+    stack.truncate(depth.saturating_sub(count));
+}
+
+// Puts types onto the stack, the first one on top.
+fn push_all(alloc: Global, stack: &mut Vec<VType>, gives: &[VType]) -> Result<(), NoMemory>
+    ensures { OnOk result (reverse stack.new.items ≡ gives.now ++ reverse stack.old.items) }
+{
+    if let Some((t, rest)) = gives.split_last() {
+        stack.push(copy_type(alloc, t)?)?;
+        push_all(alloc, stack, rest)?;
+    }
+    Ok(())
+}
+
+fn flag_after(turn: &Turn, flag: bool) -> bool
+    ensures { result ≡ rules.flag_after turn.now flag }
+{
+    match turn {
+        Turn::Keep => flag,
+        Turn::All { from, to: _ } => !same(from, &VType::UninitThis) && flag,
+    }
+}
+
+#[tactic(auto, using(crate::proofs::Stacks::reverse_turned))]
+fn turn_stack(alloc: Global, stack: &mut Vec<VType>, turn: &Turn) -> Result<(), NoMemory>
+    ensures { OnOk result (reverse stack.new.items ≡ rules.turned turn.now (reverse stack.old.items)) }
+{
+    turn_all(alloc, stack, turn)
+}
+
+fn stack_after(alloc: Global, stack: &mut Vec<VType>, s: &Sides) -> Result<(), NoMemory>
+    ensures { OnOk result (reverse stack.new.items ≡ s.now.gives ++ rules.turned s.now.turn (drop (length s.now.takes) (reverse stack.old.items))) }
+{
+    take_off(stack, s.takes.len());
+    turn_stack(alloc, stack, &s.turn)?;
+    push_all(alloc, stack, s.gives.as_slice())
+}
+
+fn locals_after(alloc: Global, locals: &mut Vec<VType>, s: &Sides) -> Result<(), NoMemory>
+    ensures { OnOk result (locals.new.items ≡ rules.set_all (rules.turned s.now.turn locals.old.items) s.now.sets) }
+{
+    turn_all(alloc, locals, &s.turn)?;
+    set_all(alloc, locals, s.sets.as_slice())
+}
+
+/// The frame after an instruction with these sides.
+pub fn after(alloc: Global, f: Shape, s: &Sides) -> Result<Shape, NoMemory>
+    ensures { IfOk result (λ g. g ≡ rules.after f s.now) }
+{
+    let Shape {
+        mut locals,
+        mut stack,
+        flag,
+    } = f;
+    locals_after(alloc, &mut locals, s)?;
+    stack_after(alloc, &mut stack, s)?;
+    Ok(Shape {
+        locals,
+        stack,
+        flag: flag_after(&s.turn, flag),
+    })
+}
+
+// The same types.
+fn copy_types(alloc: Global, types: &[VType]) -> Result<Vec<VType>, NoMemory>
+    ensures { IfOk result (λ v. v.items ≡ types.now) }
+{
+    let mut copies = Vec::new(alloc);
+    for t in types {
+        copies.push(copy_type(alloc, t)?)?;
+    }
+    Ok(copies)
+}
+
+/// The frame of the descriptor.
+pub fn opening(alloc: Global, e: &Context) -> Result<Shape, NoMemory>
+    ensures { IfOk result (λ g. g ≡ rules.opening e.now) }
+{
+    let args = Items::from_vec(copy_types(alloc, e.args.as_slice())?);
+    let locals = padded(args, e.body.max_locals)?.into_vec();
+    Ok(Shape {
+        locals,
+        stack: Vec::new(alloc),
+        flag: e.starts,
+    })
+}
+
+/// A given frame as one that goes on.
+pub fn shape_of(alloc: Global, g: &Frame) -> Result<Shape, NoMemory>
+    ensures { IfOk result (λ f. f ≡ slots_of g.now) }
+{
+    Ok(Shape {
+        locals: copy_types(alloc, g.locals.as_slice())?,
+        stack: copy_types(alloc, g.stack.as_slice())?,
+        flag: g.flag,
+    })
+}

@@ -1,0 +1,370 @@
+//! Needs and types, put together.
+
+ghost use Rattle.std.specs.Prelude.{◌≡◌, ◌∷◌, ◌++◌, [], IfOk, OnOk, flat_map, map, replicate, reverse, cond, length, slice_index_or};
+ghost use Rattle.jvm_model.specs.declared.values.Base.TheVariants as jvm;
+ghost use Rattle.jvm_model.specs.Classes.{field_at, method_at};
+ghost use Rattle.type_frames.specs.declared.vtype.VType.TheVariants as types;
+ghost use Rattle.type_frames.specs.declared.sides.Need.TheVariants as wants;
+ghost use Rattle.type_frames.specs.Frames.{same};
+ghost use Rattle.type_frames.specs.Descriptors.{base_text, kind_name, types_of};
+ghost use Rattle.type_frames.specs.Sides.{argument_needs, int_need, int_type, long_need, long_type, needs_of, number_need, number_type, objects_text, on_stack, place_of, plain, result_types, two};
+
+use crate::shape::Shape;
+use et_base::{Items, NoMemory, Units};
+use jvm_model::{Base, Kind, Program};
+use std::alloc::Global;
+use type_frames::{
+    Need, Sides, Turn, VType, class_name, copy_type, copy_units, parameters, push_types,
+    return_type, same, spread,
+};
+
+/// The class `java.lang.Object`.
+pub const OBJECT: u32 = 0;
+
+/// The units of types.
+const BRACKET: u16 = 91;
+
+const SEMICOLON: u16 = 59;
+
+const D: u16 = 68;
+
+const F: u16 = 70;
+
+const J: u16 = 74;
+
+const L: u16 = 76;
+
+const V: u16 = 86;
+
+/// What takes and gives, and nothing else.
+pub fn plain(alloc: Global, takes: Items<Need>, gives: Items<VType>) -> Sides
+    ensures { result ≡ plain takes gives }
+{
+    Sides {
+        takes,
+        gives,
+        reads: Items::new(alloc),
+        sets: Items::new(alloc),
+        turn: Turn::Keep,
+        falls: true,
+        returns_well: true,
+        starts_well: true,
+        calls_well: true,
+    }
+}
+
+/// One need.
+pub fn one_need(alloc: Global, need: Need) -> Result<Items<Need>, NoMemory>
+    ensures { IfOk result (λ ns. ns ≡ need ∷ []) }
+{
+    let mut needs = Items::new(alloc);
+    needs.push(need)?;
+    Ok(needs)
+}
+
+/// One type.
+pub fn one_type(alloc: Global, t: VType) -> Result<Items<VType>, NoMemory>
+    ensures { IfOk result (λ ts. ts ≡ t ∷ []) }
+{
+    let mut types = Items::new(alloc);
+    types.push(t)?;
+    Ok(types)
+}
+
+/// Appends the need of an int.
+pub fn push_int(needs: &mut Items<Need>) -> Result<(), NoMemory>
+    ensures { OnOk result (needs.new ≡ needs.old ++ int_need) }
+{
+    needs.push(Need::Fits(VType::Int))
+}
+
+/// Appends the needs of a long.
+pub fn push_long(needs: &mut Items<Need>) -> Result<(), NoMemory>
+    ensures { OnOk result (needs.new ≡ needs.old ++ long_need) }
+{
+    needs.push(Need::Half)?;
+    needs.push(Need::Fits(VType::Long))
+}
+
+/// Appends the needs of a whole number of either width.
+pub fn push_number(needs: &mut Items<Need>, wide: bool) -> Result<(), NoMemory>
+    ensures { OnOk result (needs.new ≡ needs.old ++ number_need wide) }
+{
+    if wide {
+        push_long(needs)
+    } else {
+        push_int(needs)
+    }
+}
+
+/// Appends the needs of two places: of a long, where the top one is the second half of one.
+pub fn push_two(needs: &mut Items<Need>, half: bool) -> Result<(), NoMemory>
+    ensures { OnOk result (needs.new ≡ needs.old ++ cond half long_need (wants.One ∷ wants.One ∷ [])) }
+{
+    if half {
+        return push_long(needs);
+    }
+    needs.push(Need::One)?;
+    needs.push(Need::One)
+}
+
+/// The need of an int.
+pub fn int_need(alloc: Global) -> Result<Items<Need>, NoMemory>
+    ensures { IfOk result (λ ns. ns ≡ int_need) }
+{
+    one_need(alloc, Need::Fits(VType::Int))
+}
+
+/// The needs of a whole number of either width.
+pub fn number_need(alloc: Global, wide: bool) -> Result<Items<Need>, NoMemory>
+    ensures { IfOk result (λ ns. ns ≡ number_need wide) }
+{
+    let mut needs = Items::new(alloc);
+    push_number(&mut needs, wide)?;
+    Ok(needs)
+}
+
+/// The places of an int.
+pub fn int_type(alloc: Global) -> Result<Items<VType>, NoMemory>
+    ensures { IfOk result (λ ts. ts ≡ int_type) }
+{
+    one_type(alloc, VType::Int)
+}
+
+/// The places of a long, top first.
+pub fn long_type(alloc: Global) -> Result<Items<VType>, NoMemory>
+    ensures { IfOk result (λ ts. ts ≡ long_type) }
+{
+    let mut types = Items::new(alloc);
+    types.push(VType::Top)?;
+    types.push(VType::Long)?;
+    Ok(types)
+}
+
+/// The places of a whole number of either width.
+pub fn number_type(alloc: Global, wide: bool) -> Result<Items<VType>, NoMemory>
+    ensures { IfOk result (λ ts. ts ≡ number_type wide) }
+{
+    if wide {
+        long_type(alloc)
+    } else {
+        int_type(alloc)
+    }
+}
+
+/// The type of a place of the stack, from its top.
+#[tactic(auto, using(crate::proofs::Stacks::from_top, crate::proofs::Stacks::from_top_past))]
+pub fn place_of(alloc: Global, f: &Shape, n: usize) -> Result<VType, NoMemory>
+    ensures { IfOk result (λ t. t ≡ place_of f.now n) }
+{
+    let depth = f.stack.len();
+    if n < depth {
+        return copy_type(alloc, &f.stack[depth - 1 - n]);
+    }
+    Ok(VType::Top)
+}
+
+/// Whether a place of the stack is the second half of a long.
+pub fn is_half(alloc: Global, f: &Shape, n: usize) -> Result<bool, NoMemory>
+    ensures { IfOk result (λ b. b ≡ same (place_of f.now n) types.Top) }
+{
+    let t = place_of(alloc, f, n)?;
+    Ok(same(&t, &VType::Top))
+}
+
+/// The types of these places of the stack.
+pub fn moved(alloc: Global, f: &Shape, order: &[usize]) -> Result<Items<VType>, NoMemory>
+    ensures { IfOk result (λ ts. ts ≡ map (λ n. place_of f.now n) order.now) }
+{
+    let mut types = Items::new(alloc);
+    for n in order {
+        types.push(place_of(alloc, f, *n)?)?;
+    }
+    Ok(types)
+}
+
+/// Appends the needs of a value of a type's text, top first.
+pub fn push_needs(alloc: Global, needs: &mut Items<Need>, text: &[u16]) -> Result<(), NoMemory>
+    ensures { OnOk result (needs.new ≡ needs.old ++ needs_of text.now) }
+{
+    let Some((u, rest)) = text.split_first() else {
+        return Ok(());
+    };
+    if *u == J {
+        return push_long(needs);
+    }
+    if *u == L {
+        return needs.push(Need::Fits(VType::Object(copy_units(alloc, class_name(rest))?)));
+    }
+    if *u == BRACKET {
+        return needs.push(Need::Fits(VType::Object(copy_units(alloc, text)?)));
+    }
+    if *u == V {
+        return Ok(());
+    }
+    if *u == F {
+        return needs.push(Need::Never);
+    }
+    if *u == D {
+        needs.push(Need::Never)?;
+        return needs.push(Need::Never);
+    }
+    push_int(needs)
+}
+
+// Appends the needs of values of these texts, the last one's first.
+fn push_all_needs(alloc: Global, needs: &mut Items<Need>, texts: &[Units]) -> Result<(), NoMemory>
+    ensures { OnOk result (needs.new ≡ needs.old ++ flat_map needs_of (reverse texts.now)) }
+{
+    if let Some((text, rest)) = texts.split_last() {
+        push_needs(alloc, needs, text.as_slice())?;
+        push_all_needs(alloc, needs, rest)?;
+    }
+    Ok(())
+}
+
+/// The needs of a call's arguments, top first.
+pub fn argument_needs(alloc: Global, descriptor: &[u16]) -> Result<Items<Need>, NoMemory>
+    ensures { IfOk result (λ ns. ns ≡ argument_needs descriptor.now) }
+{
+    let mut needs = Items::new(alloc);
+    let texts = parameters(alloc, descriptor)?;
+    push_all_needs(alloc, &mut needs, texts.as_slice())?;
+    Ok(needs)
+}
+
+/// Types as they stand on the stack, top first.
+pub fn on_stack(alloc: Global, types: &[VType]) -> Result<Items<VType>, NoMemory>
+    ensures { IfOk result (λ ts. ts ≡ on_stack types.now) }
+{
+    let mut places = spread(alloc, types)?.into_vec();
+    places.reverse();
+    Ok(Items::from_vec(places))
+}
+
+/// The places of the type that a text says.
+pub fn text_types(alloc: Global, text: &[u16]) -> Result<Items<VType>, NoMemory>
+    ensures { IfOk result (λ ts. ts ≡ on_stack (types_of text.now)) }
+{
+    let mut types = Items::new(alloc);
+    push_types(alloc, &mut types, text)?;
+    on_stack(alloc, types.as_slice())
+}
+
+/// The places of what a method of this descriptor returns.
+pub fn result_types(alloc: Global, descriptor: &[u16]) -> Result<Items<VType>, NoMemory>
+    ensures { IfOk result (λ ts. ts ≡ result_types descriptor.now) }
+{
+    text_types(alloc, return_type(descriptor))
+}
+
+fn push_brackets(text: &mut Units, dims: u8) -> Result<(), NoMemory>
+    ensures { OnOk result (text.new ≡ text.old ++ replicate dims 91) }
+{
+    for done in 0..dims {
+        text.push(BRACKET)?;
+    }
+    Ok(())
+}
+
+fn push_class(p: &Program, text: &mut Units, class: u32) -> Result<(), NoMemory>
+    ensures { OnOk result (text.new ≡ text.old ++ base_text p.now (jvm.Class class)) }
+{
+    text.push(L)?;
+    if let Some(c) = p.classes.as_slice().get(class as usize) {
+        text.extend_from_slice(c.name.as_slice())?;
+    }
+    text.push(SEMICOLON)
+}
+
+fn push_base(p: &Program, text: &mut Units, base: &Base) -> Result<(), NoMemory>
+    ensures { OnOk result (text.new ≡ text.old ++ base_text p.now base.now) }
+{
+    match base {
+        Base::Boolean => text.push(90),
+        Base::Byte => text.push(66),
+        Base::Char => text.push(67),
+        Base::Short => text.push(83),
+        Base::Int => text.push(73),
+        Base::Long => text.push(J),
+        Base::Class(class) => push_class(p, text, *class),
+    }
+}
+
+/// The name of a class, or the descriptor of an array.
+pub fn kind_name(alloc: Global, p: &Program, kind: &Kind) -> Result<Units, NoMemory>
+    ensures { IfOk result (λ name. name ≡ kind_name p.now kind.now) }
+{
+    match kind {
+        Kind::Class(class) => match p.classes.as_slice().get(*class as usize) {
+            None => Ok(Items::new(alloc)),
+            Some(c) => copy_units(alloc, c.name.as_slice()),
+        },
+        Kind::Array { dims, base } => {
+            let mut text = Items::new(alloc);
+            push_brackets(&mut text, *dims)?;
+            push_base(p, &mut text, base)?;
+            Ok(text)
+        }
+    }
+}
+
+/// The array type of one dimension over Object.
+pub fn objects_text(alloc: Global, p: &Program) -> Result<Units, NoMemory>
+    ensures { IfOk result (λ text. text ≡ objects_text p.now) }
+{
+    let mut text = Items::new(alloc);
+    text.push(BRACKET)?;
+    push_class(p, &mut text, OBJECT)?;
+    Ok(text)
+}
+
+/// The descriptor of a field.
+pub fn field_descriptor(p: &Program, field: u32) -> &[u16]
+    ensures { result.now ≡ (field_at p.now field).descriptor }
+{
+    match p.fields.as_slice().get(field as usize) {
+        None => &[],
+        Some(x) => x.descriptor.as_slice(),
+    }
+}
+
+/// The class that declares a field.
+pub fn field_class(p: &Program, field: u32) -> u32
+    ensures { result ≡ (field_at p.now field).class }
+{
+    match p.fields.as_slice().get(field as usize) {
+        None => 0,
+        Some(x) => x.class,
+    }
+}
+
+/// The descriptor of a method.
+pub fn method_descriptor(p: &Program, method: u32) -> &[u16]
+    ensures { result.now ≡ (method_at p.now method).descriptor }
+{
+    match p.methods.as_slice().get(method as usize) {
+        None => &[],
+        Some(m) => m.descriptor.as_slice(),
+    }
+}
+
+/// The name of a method.
+pub fn method_name(p: &Program, method: u32) -> &[u16]
+    ensures { result.now ≡ (method_at p.now method).name }
+{
+    match p.methods.as_slice().get(method as usize) {
+        None => &[],
+        Some(m) => m.name.as_slice(),
+    }
+}
+
+/// The class that declares a method.
+pub fn method_class(p: &Program, method: u32) -> u32
+    ensures { result ≡ (method_at p.now method).class }
+{
+    match p.methods.as_slice().get(method as usize) {
+        None => 0,
+        Some(m) => m.class,
+    }
+}

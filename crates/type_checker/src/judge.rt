@@ -1,0 +1,186 @@
+//! One instruction judged, with the frame before it.
+
+ghost use Rattle.std.specs.Prelude.{◌≡◌, ◌<◌, IfOk, Some, length, slice_get};
+ghost use Rattle.jvm_model.specs.declared.program.Placed.{Placed};
+ghost use Rattle.type_frames.specs.Typing.{taken_at};
+ghost use Rattle.type_checker.specs.Steps.{IsJudged, IsStep, IsTurned};
+
+use crate::after::{after, shape_of};
+use crate::context::{Context, given_at, is_target};
+use crate::rules::{is_entered, leads_on, rule_1, rule_2, rule_3, rule_5, rule_9, rule_10};
+use crate::shape::Shape;
+use crate::sides::sides;
+use et_base::NoMemory;
+use jvm_model::{Placed, Program};
+use std::alloc::Global;
+use type_frames::{CheckFault, Sides, copy_units};
+
+/// What the rules say of an instruction: the lowest one that it breaks, or the frame that goes on, if control does.
+#[derive(Drop)]
+pub enum Judged {
+    Broken { rule: u32 },
+    Kept { next: Option<Shape> },
+}
+
+/// How the walk over a method goes on after an instruction.
+#[derive(Drop)]
+pub enum Turned {
+    NoFrame,
+    Broken { rule: u32 },
+    On { next: Option<Shape> },
+}
+
+/// The same, with the fault named.
+#[derive(Drop)]
+pub enum Step {
+    Faulty { fault: CheckFault },
+    Onward { next: Option<Shape> },
+}
+
+// The rules in order; the frame is used up.
+#[tactic(auto, unfolding(type_frames::specs::Rules::broken))]
+fn broken(
+    alloc: Global,
+    p: &Program,
+    e: &Context,
+    k: usize,
+    x: &Placed,
+    f: Shape,
+    s: &Sides,
+) -> Result<Judged, NoMemory>
+    requires { k < length e.now.body.code }
+    ensures { IfOk result (λ j. IsJudged p.now e.now k x.now f s.now j) }
+{
+    if !rule_1(e, &f, s) {
+        return Ok(Judged::Broken { rule: 1 });
+    }
+    if !rule_2(p, &f, s) {
+        return Ok(Judged::Broken { rule: 2 });
+    }
+    if !rule_3(p, e, &f, s) {
+        return Ok(Judged::Broken { rule: 3 });
+    }
+    if !is_entered(alloc, p, e, k, x.pc)? {
+        return Ok(Judged::Broken { rule: 4 });
+    }
+    let handled = rule_9(p, e, x, &f);
+    let g = after(alloc, f, s)?;
+    if !leads_on(p, e, k, x, &g, s.falls) {
+        return Ok(Judged::Broken { rule: 4 });
+    }
+    if !rule_5(e, k, s.falls) {
+        return Ok(Judged::Broken { rule: 5 });
+    }
+    if !s.returns_well {
+        return Ok(Judged::Broken { rule: 6 });
+    }
+    if !s.starts_well {
+        return Ok(Judged::Broken { rule: 7 });
+    }
+    if !handled {
+        return Ok(Judged::Broken { rule: 9 });
+    }
+    if !rule_10(e, k) {
+        return Ok(Judged::Broken { rule: 10 });
+    }
+    if !s.calls_well {
+        return Ok(Judged::Broken { rule: 11 });
+    }
+    if s.falls {
+        return Ok(Judged::Kept { next: Some(g) });
+    }
+    Ok(Judged::Kept { next: None })
+}
+
+fn judge(
+    alloc: Global,
+    p: &Program,
+    e: &Context,
+    k: usize,
+    x: &Placed,
+    f: Shape,
+) -> Result<Turned, NoMemory>
+    requires { k < length e.now.body.code }
+    ensures { IfOk result (λ t. IsTurned p.now e.now k x.now (Some f) t) }
+{
+    let s = sides(alloc, p, e, x.pc, &f, &x.form)?;
+    match broken(alloc, p, e, k, x, f, &s)? {
+        Judged::Broken { rule } => Ok(Turned::Broken { rule }),
+        Judged::Kept { next } => Ok(Turned::On { next }),
+    }
+}
+
+// Takes the frame given at the place, or the one that came in.
+fn turned_at(
+    alloc: Global,
+    p: &Program,
+    e: &Context,
+    k: usize,
+    x: &Placed,
+    running: Option<Shape>,
+) -> Result<Turned, NoMemory>
+    requires { k < length e.now.body.code }
+    ensures { IfOk result (λ t. IsTurned p.now e.now k x.now (taken_at e.now x.now.pc running) t) }
+{
+    if let Some(g) = given_at(e, x.pc) {
+        let f = shape_of(alloc, g)?;
+        return judge(alloc, p, e, k, x, f);
+    }
+    if is_target(e, x.pc) {
+        return Ok(Turned::NoFrame);
+    }
+    match running {
+        None => Ok(Turned::NoFrame),
+        Some(f) => judge(alloc, p, e, k, x, f),
+    }
+}
+
+fn named_step(
+    alloc: Global,
+    p: &Program,
+    e: &Context,
+    name: &[u16],
+    method: u32,
+    k: usize,
+    x: &Placed,
+    running: Option<Shape>,
+) -> Result<Step, NoMemory>
+    requires { k < length e.now.body.code }
+    ensures { IfOk result (λ t. IsStep p.now e.now name.now method k x.now (taken_at e.now x.now.pc running) t) }
+{
+    match turned_at(alloc, p, e, k, x, running)? {
+        Turned::NoFrame => Ok(Step::Faulty {
+            fault: CheckFault::NoFrame {
+                class: copy_units(alloc, name)?,
+                method,
+                pc: x.pc,
+            },
+        }),
+        Turned::Broken { rule } => Ok(Step::Faulty {
+            fault: CheckFault::Rule {
+                class: copy_units(alloc, name)?,
+                method,
+                pc: x.pc,
+                rule,
+            },
+        }),
+        Turned::On { next } => Ok(Step::Onward { next }),
+    }
+}
+
+/// The step at the k-th instruction.
+pub fn step_at(
+    alloc: Global,
+    p: &Program,
+    e: &Context,
+    name: &[u16],
+    method: u32,
+    k: usize,
+    running: Option<Shape>,
+) -> Result<Step, NoMemory>
+    requires { k < length e.now.body.code }
+    ensures { IfOk result (λ t. (x : Placed) → slice_get e.now.body.code k ≡ Some x → IsStep p.now e.now name.now method k x (taken_at e.now x.pc running) t) }
+{
+    let x = &e.body.code.as_slice()[k];
+    named_step(alloc, p, e, name, method, k, x, running)
+}

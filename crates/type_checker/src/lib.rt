@@ -1,0 +1,17 @@
+//! The check of programs: type checking with stack maps (JVMS 4.10.1).
+#![tactic(auto)]
+
+mod after;
+mod build;
+mod checking;
+mod context;
+mod judge;
+mod members;
+mod moves;
+mod rules;
+mod shape;
+mod sides;
+mod walk;
+
+pub use checking::check;
+pub use type_frames::CheckFault;

@@ -1,0 +1,4 @@
+pub mod Units
+pub mod PlaceLemmas
+pub mod MapLemmas
+pub mod ScanLemmas

@@ -1,0 +1,27 @@
+-- Lists that are read item by item.
+use Rattle.std.proofs.Common.{◌≡◌, ℕ, List, [], ◌∷◌, ◌++◌, Option, Some, None, refl, ap, sym, ◌∙◌, length, ◌<◌, ◌≤◌, ◌-◌, ◌+◌, replicate, arith}
+use Rattle.std.proofs.lemmas.List.{append_assoc, append-nil, length_push, replicate-append-replicate}
+use Rattle.type_frames.specs.Given.{joined}
+use Rattle.type_frames.specs.MapReading.{prefixed}
+use Rattle.type_frames.specs.declared.vtype.VType.{VType}
+use Rattle.type_frames.specs.Frames.{padded}
+use Rattle.type_frames.specs.declared.vtype.VType.TheVariants.{Top}
+
+pub prefixed_nothing : {A : Type 0} (o : Option (List A)) → prefixed [] o ≡ o
+prefixed_nothing None = refl
+prefixed_nothing (Some xs) = refl
+
+pub prefixed_push : {A : Type 0} (xs : List A) (x : A) (o : Option (List A)) → prefixed (xs ++ x ∷ []) o ≡ prefixed xs (joined (Some x) o)
+prefixed_push xs x None = refl
+prefixed_push xs x (Some ys) = ap Some (append_assoc xs (x ∷ []) ys)
+
+pub prefixed_end : {A : Type 0} (xs : List A) → prefixed xs (Some []) ≡ Some xs
+prefixed_end xs = ap Some (append-nil xs)
+
+pub padded_push : (n : ℕ) (ts : List VType) → length ts < n → padded n (ts ++ Top ∷ []) ≡ padded n ts
+padded_push n ts lt =
+    let e : n - length ts ≡ 1 + (n - (length ts + 1)) = omega arith in
+    append_assoc ts (Top ∷ []) _ ∙ ap (λ k. ts ++ (Top ∷ [] ++ replicate (n - k) Top)) (length_push ts Top) ∙ ap (λ us. ts ++ us) (sym (ap (λ k. replicate k Top) e ∙ sym (replicate-append-replicate 1 (n - (length ts + 1)) Top)))
+
+pub padded_full : (n : ℕ) (ts : List VType) → n ≤ length ts → padded n ts ≡ ts
+padded_full n ts le = let e : n - length ts ≡ 0 = omega arith in ap (λ k. ts ++ replicate k Top) e ∙ append-nil ts

@@ -1,0 +1,11 @@
+pub mod Frames
+pub mod Descriptors
+pub mod Assign
+pub mod Given
+pub mod Places
+pub mod MapReading
+pub mod Scanning
+pub mod Environment
+pub mod Sides
+pub mod Rules
+pub mod Typing

@@ -1,0 +1,25 @@
+//! Types of stack places and locals, given frames, and in `specs/` what it is for a program to be typed (JVMS 4.10.1).
+#![tactic(auto)]
+
+mod assign;
+mod checked;
+mod descriptors;
+mod fault;
+mod given;
+mod places;
+mod sides;
+mod vtype;
+
+pub use assign::{assignable, object_assignable, same, same_units};
+pub use checked::Checked;
+pub use descriptors::{
+    class_name, copy_units, parameters, push_all_types, push_types, return_type,
+};
+pub use fault::{CheckFault, FrameFault};
+pub use given::{
+    code_places, copy_type, entry_types, given_frames, is_constructor, object_of, padded,
+    read_frames, spread,
+};
+pub use places::Places;
+pub use sides::{Need, Reading, Setting, Sides, Turn};
+pub use vtype::{Frame, VType};
