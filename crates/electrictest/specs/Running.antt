@@ -1,5 +1,5 @@
 -- The whole suite run in order, with the rest of the suite's units.
-use Rattle.std.specs.Prelude.{◌≡◌, ℕ, ℤ, ◌+◌, ◌-◌, ◌++◌, List, length, map, true, Option, Some, None, option_map, min}
+use Rattle.std.specs.Prelude.{◌≡◌, ℕ, ℤ, ◌+◌, ◌-◌, ◌≤◌, ◌++◌, List, length, map, true, Option, Some, None, option_map, min}
 use Rattle.std.specs.List.{list_all, range_with_len}
 use Rattle.jvm_model.specs.declared.outcome.Outcome.{Outcome}
 use Rattle.jvm_model.specs.declared.program.Program.{Program}
@@ -22,6 +22,7 @@ pub record Ran (l : Loaded) (outcomes : List Outcome) : Type 0 where
   pub within : suite_fault l.program ≡ None
   pub ran : outcomes_of l.program ≡ Some outcomes
   pub passed : list_all is_passed outcomes ≡ true
+  pub each : length outcomes ≡ length l.program.tests
 
 -- a run that is refused: want of memory, or the suite's fault
 abbrev pub RunRefused : Loaded → Status → Type 0
@@ -48,4 +49,6 @@ pub record Along (l : Loaded) (i : ℕ) (statics : List ℤ) (rest : ℕ) (outco
   pub faults : fault_on l.program (world_of l.program statics) rest (tests_after l.program i) ≡ suite_fault l.program
   pub runs : outcomes_behind outcomes (runs_on l.program (world_of l.program statics) (tests_after l.program i)) ≡ outcomes_of l.program
   pub passed : list_all is_passed outcomes ≡ true
+  pub each : length outcomes ≡ i
+  pub upto : i ≤ length l.program.tests
   pub counts : now ≡ begun + units_in outcomes
