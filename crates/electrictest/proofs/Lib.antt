@@ -3,3 +3,4 @@ mod Eaches
 mod Serving
 mod Loads
 mod Runs
+mod Reports

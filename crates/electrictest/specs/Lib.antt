@@ -6,3 +6,4 @@ pub mod Replies
 pub mod Runnable
 pub mod Running
 pub mod Tests
+pub mod Commands

@@ -1,6 +1,7 @@
 //! The commands: from the words of a command line, the files of a depot to the text on a sink.
 #![tactic(auto)]
 
+mod commands;
 mod form_refusal;
 mod given;
 mod loaded;

@@ -1,0 +1,82 @@
+//! The top call: from the words of a command line to the text on a sink.
+
+ghost use Rattle.std.specs.Prelude.{◌≡◌, ◌≤◌, ◌+◌, IfOk, IfErr, IfSome, option_copied, Option};
+ghost use Rattle.electrictest.specs.Runnable.{IsRunnable};
+ghost use Rattle.electrictest.specs.declared.status.Status.TheVariants as ends;
+ghost use Rattle.electrictest.specs.Answers.{Answers, itself};
+ghost use Rattle.electrictest.specs.Commands.{NamedEnds, ReportEnds, Unreported, Reported, Writes};
+ghost use Rattle.electrictest.specs.Replies as reply;
+
+use crate::loaded::Loaded;
+use crate::loading::load;
+use crate::running::run_all;
+use crate::status::Status;
+use crate::texts::{fault_line, report};
+use et_base::Text;
+use outside::{Depot, Sink, Steps, write_text};
+use std::alloc::Global;
+use std::sync::ledger::Ledger;
+use suite_load::is_depot_name;
+
+// The suite's name in `run SUITE - 1 all`.
+#[tactic(auto, unfolding(crate::specs::Replies::suite_word))]
+fn suite_word(words: &[Text]) -> Option<&Text>
+    ensures { option_copied result ≡ reply.suite_word words.now }
+{
+    match words {
+        [command, suite, record, workers, selection] => {
+            let is_run = command.as_slice() == b"run".as_slice()
+                && is_depot_name(suite.as_slice())
+                && record.as_slice() == b"-".as_slice()
+                && workers.as_slice() == b"1".as_slice()
+                && selection.as_slice() == b"all".as_slice();
+            if is_run { Some(suite) } else { None }
+        }
+        _ => None,
+    }
+}
+
+// The suite that the words name, and its program.
+#[tactic(auto, unfolding(crate::specs::Replies::loaded_for))]
+fn load_named<D: Depot>(alloc: Global, words: &[Text], depot: &mut D) -> Result<Loaded, Status>
+    ensures told { D.told depot.new ≡ D.told depot.old }
+    ensures faults { D.faults depot.old ≤ D.faults depot.new }
+    ensures answers { IfSome (D.told depot.old) (λ files. Answers itself result (reply.loaded_for files words.now)) }
+    ensures ends { IfErr result (λ e. NamedEnds words.now e (D.faults depot.old) (D.faults depot.new)) }
+    ensures runs { IfOk result (λ l. IsRunnable l.program) }
+{
+    match suite_word(words) {
+        None => Err(Status::Words),
+        Some(name) => load(alloc, depot, name),
+    }
+}
+
+// The report that the words ask for.
+fn reported<D: Depot, L: Ledger>(
+    alloc: Global,
+    words: &[Text],
+    depot: &mut D,
+    steps: &mut Steps<L>,
+) -> Result<Text, Status>
+    ensures told { D.told depot.new ≡ D.told depot.old }
+    ensures faults { D.faults depot.old ≤ D.faults depot.new }
+    ensures reports { IfOk result (λ text. IfSome (D.told depot.old) (λ files. Reported files words.now text steps.old steps.new)) }
+    ensures refused { IfErr result (λ e. IfSome (D.told depot.old) (λ files. Unreported files words.now e)) }
+    ensures ends { IfErr result (λ e. ReportEnds words.now e (D.faults depot.old) (D.faults depot.new)) }
+{
+    let loaded = load_named(alloc, words, depot)?;
+    let outcomes = run_all(alloc, &loaded, steps)?;
+    let text = report(alloc, &loaded, outcomes.as_slice())?;
+    Ok(text)
+}
+
+// Writes a text, and answers the status or that the sink failed.
+fn written<S: Sink>(sink: &mut S, text: &Text, status: Status) -> Status
+    ensures faults { S.faults sink.old ≤ S.faults sink.new }
+    ensures writes { Writes text.now status result (S.told sink.old) (S.told sink.new) (S.faults sink.old) (S.faults sink.new) }
+{
+    match write_text(sink, text.as_slice()) {
+        Ok(()) => status,
+        Err(_) => Status::Sink,
+    }
+}
