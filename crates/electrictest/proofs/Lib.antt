@@ -2,3 +2,4 @@ mod Builtin
 mod Eaches
 mod Serving
 mod Loads
+mod TextLaws
