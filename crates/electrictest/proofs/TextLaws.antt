@@ -1,11 +1,9 @@
 -- Texts that grow at their end.
-use Rattle.std.proofs.Common.{◌≡◌, ℕ, suc, ◌+◌, ◌-◌, ◌<◌, ◌≤◌, Bool, true, false, ◌&&◌, List, [], ◌∷◌, ◌++◌, length, get_or, drop, refl, ap, sym, ◌∙◌, append_assoc, arith, add-one, codes, decimal}
-use Rattle.std.specs.List.{list_all}
-use Rattle.std.specs.Prelude.{count_by}
-use Rattle.std.proofs.Math.Seq.{drop-cons}
-use Rattle.std.proofs.Math.ListN.{drop_of_length-le}
-use Rattle.std.proofs.lemmas.List.{append-nil}
-use Rattle.std.proofs.lemmas.List.Folds.{list_all_at}
+use Rattle.std.proofs.Common.{◌≡◌, ℕ, ◌+◌, ◌-◌, Bool, true, false, cond, List, [], ◌∷◌, ◌++◌, length, get_or, refl, ap, sym, ◌∙◌, append_assoc, arith, codes, decimal}
+use Rattle.std.specs.Fmt.{digits}
+use Rattle.std.specs.List.{list_all, count_by}
+use Rattle.std.proofs.lemmas.Bool.{and_parts}
+use Rattle.std.proofs.lemmas.List.Sums.{sum_by-cons}
 use Rattle.jvm_model.specs.declared.outcome.Outcome.{Outcome}
 use Rattle.jvm_model.specs.declared.outcome.Verdict.{Verdict}
 use Rattle.jvm_model.specs.declared.outcome.Verdict.TheVariants as verdict
@@ -48,24 +46,41 @@ passed_lines names t o h =
     ∙ sym (shape (codes "test ") (decimal t) (get_or names.tests (t - 1) []) (codes " passed units " ++ (decimal o.units ++ (10 ∷ []))) (out_line o.output))
     ∙ ap (λ v. line_with names t o (verdict_text names v) ++ out_line o.output) (sym (verdict_passed o.verdict h))
 
--- one more test's lines
-pub lines_more : (names : Names) (os : List Outcome) (i : ℕ) (o : Outcome) (a : List ℕ) {b c : List ℕ} → i < length os → o ≡ get_or os i o → b ≡ a ++ outcome_lines names (i + 1) o →
-    a ++ reply.test_lines names (i + 1) (drop i os) ≡ c → b ++ reply.test_lines names (i + 1 + 1) (drop (i + 1) os) ≡ c
-lines_more names os i o a {b} {c} h there p e =
-    ap (λ n. b ++ reply.test_lines names (i + 1 + 1) (drop n os)) (add-one i)
-    ∙ ap (λ z. z ++ reply.test_lines names (i + 1 + 1) (drop (suc i) os)) p
-    ∙ append_assoc a (outcome_lines names (i + 1) o) (reply.test_lines names (i + 1 + 1) (drop (suc i) os))
-    ∙ sym (ap (λ z. a ++ reply.test_lines names (i + 1) z) (drop-cons os i o h ∙ ap (λ z. z ∷ drop (suc i) os) (sym there)))
-    ∙ e
+count_yes : (q : Outcome → Bool) (os : List Outcome) → list_all q os ≡ true → count_by q os ≡ length os
+count_yes q [] h = refl
+count_yes q (o ∷ os) h = let p = and_parts _ _ h in sum_by-cons (λ x. cond (q x) 1 0) o os ∙ ap (λ b. cond b 1 0 + count_by q os) p.0 ∙ ap (λ n. 1 + n) (count_yes q os p.1) ∙ omega arith
 
--- all lines were written
-pub lines_done : (names : Names) (os : List Outcome) (i : ℕ) (a : List ℕ) {c : List ℕ} → length os ≤ i → a ++ reply.test_lines names (i + 1) (drop i os) ≡ c → a ≡ c
-lines_done names os i a h e = sym (append-nil a) ∙ sym (ap (λ z. a ++ reply.test_lines names (i + 1) z) (drop_of_length-le os h)) ∙ e
+count_none : (q : Outcome → Bool) → ((o : Outcome) → reply.is_passed o ≡ true → q o ≡ false) → (os : List Outcome) → list_all reply.is_passed os ≡ true → count_by q os ≡ 0
+count_none q never [] h = refl
+count_none q never (o ∷ os) h = let p = and_parts _ _ h in sum_by-cons (λ x. cond (q x) 1 0) o os ∙ ap (λ b. cond b 1 0 + count_by q os) (never o p.0) ∙ ap (λ n. 0 + n) (count_none q never os p.1) ∙ omega arith
 
-not_false : (b : Bool) → (b ≡ false → false ≡ true) → b ≡ true
-not_false true f = refl
-not_false false f = f refl
+not_failed : (o : Outcome) → reply.is_passed o ≡ true → reply.is_failed o ≡ false
+not_failed o h = ap (λ (v : Verdict). (elim v [ verdict.Passed ↦ false | verdict.Failed c ↦ true | verdict.Error c ↦ false ])) (verdict_passed o.verdict h)
 
--- each test passed
-pub passed_at : (os : List Outcome) (i : ℕ) (o : Outcome) → i < length os → o ≡ get_or os i o → list_all reply.is_passed os ≡ true → reply.is_passed o ≡ true
-passed_at os i o h there all = ap reply.is_passed there ∙ not_false (reply.is_passed (get_or os i o)) (λ q. sym (list_all_at reply.is_passed os i o h q) ∙ all)
+not_error : (o : Outcome) → reply.is_passed o ≡ true → reply.is_error o ≡ false
+not_error o h = ap (λ (v : Verdict). (elim v [ verdict.Passed ↦ false | verdict.Failed c ↦ false | verdict.Error c ↦ true ])) (verdict_passed o.verdict h)
+
+counts_are : (os : List Outcome) → list_all reply.is_passed os ≡ true → count_line (length os) 0 0 ≡ count_line (count_by reply.is_passed os) (count_by reply.is_failed os) (count_by reply.is_error os)
+counts_are os h =
+    ap (λ n. count_line n 0 0) (sym (count_yes reply.is_passed os h))
+    ∙ ap (λ n. count_line (count_by reply.is_passed os) n 0) (sym (count_none reply.is_failed not_failed os h))
+    ∙ ap (λ n. count_line (count_by reply.is_passed os) (count_by reply.is_failed os) n) (sym (count_none reply.is_error not_error os h))
+
+-- 0 in digits
+pub zero_text : decimal 0 ≡ 48 ∷ []
+unfolding digits
+zero_text = refl
+
+-- the lines before those of the tests
+abbrev pub head_text : ℕ → List ℕ
+head_text n = codes "electric-run 1" ++ (10 ∷ (codes "selected " ++ (decimal n ++ (codes " executed " ++ (decimal n ++ (codes " chains -" ++ (10 ∷ [])))))))
+
+-- a report where each test passed
+pub report_is : (names : Names) (os : List Outcome) → list_all reply.is_passed os ≡ true → head_text (length os) ++ (reply.test_lines names 1 os ++ count_line (length os) 0 0) ≡ reply.report names os
+unfolding reply.report
+report_is names os h =
+    ap (λ z. codes "electric-run 1" ++ (10 ∷ (codes "selected " ++ z)))
+    (append_assoc (decimal (length os)) (codes " executed " ++ (decimal (length os) ++ (codes " chains -" ++ (10 ∷ [])))) (reply.test_lines names 1 os ++ count_line (length os) 0 0)
+    ∙ ap (λ z. decimal (length os) ++ (codes " executed " ++ z))
+    (append_assoc (decimal (length os)) (codes " chains -" ++ (10 ∷ [])) (reply.test_lines names 1 os ++ count_line (length os) 0 0)
+    ∙ ap (λ z. decimal (length os) ++ (codes " chains -" ++ (10 ∷ (reply.test_lines names 1 os ++ z)))) (counts_are os h)))
