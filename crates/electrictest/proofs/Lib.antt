@@ -4,3 +4,4 @@ mod Serving
 mod Loads
 mod Runs
 mod Reports
+mod TextLaws

@@ -10,5 +10,6 @@ mod program;
 mod references;
 mod running;
 mod status;
+mod texts;
 
 pub use status::{InputFault, OverFault, Status};
