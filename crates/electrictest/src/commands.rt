@@ -4,7 +4,7 @@ ghost use Rattle.std.specs.Prelude.{◌≡◌, ◌≤◌, ◌+◌, IfOk, IfErr, 
 ghost use Rattle.electrictest.specs.Runnable.{IsRunnable};
 ghost use Rattle.electrictest.specs.declared.status.Status.TheVariants as ends;
 ghost use Rattle.electrictest.specs.Answers.{Answers, itself};
-ghost use Rattle.electrictest.specs.Commands.{NamedEnds, ReportEnds, Unreported, Reported, Writes};
+ghost use Rattle.electrictest.specs.Commands.{NamedEnds, ReportEnds, Unreported, Reported, Writes, Refused, Served, Ends};
 ghost use Rattle.electrictest.specs.Replies as reply;
 
 use crate::loaded::Loaded;
@@ -78,5 +78,46 @@ fn written<S: Sink>(sink: &mut S, text: &Text, status: Status) -> Status
     match write_text(sink, text.as_slice()) {
         Ok(()) => status,
         Err(_) => Status::Sink,
+    }
+}
+
+// Writes the line of a refusal; want of memory has none.
+fn refused<S: Sink>(alloc: Global, sink: &mut S, status: Status) -> Status
+    ensures faults { S.faults sink.old ≤ S.faults sink.new }
+    ensures writes { Refused status result (S.told sink.old) (S.told sink.new) (S.faults sink.old) (S.faults sink.new) }
+{
+    match status {
+        Status::NoMemory => Status::NoMemory,
+        status => match fault_line(alloc, &status) {
+            Ok(text) => written(sink, &text, status),
+            Err(_) => Status::NoMemory,
+        },
+    }
+}
+
+/// Answers the words of a command line: `run SUITE - 1 all` runs the whole suite in order on one heap and writes the
+/// report, where every test passes; each other answer is a line `electric: ..` that says why.
+///
+/// - `Words`: the words have no form that is served.
+/// - `Input`: a file is absent, or in a form that isn't served yet.
+/// - `Over`: a test passed its budget, or the suite its number of units.
+/// - `Depot`, `Sink`: the depot or the sink failed, and its count of faults rose.
+/// - `NoMemory`: memory was refused; nothing was written.
+pub fn electric<D: Depot, S: Sink, L: Ledger>(
+    alloc: Global,
+    words: &[Text],
+    depot: &mut D,
+    sink: &mut S,
+    steps: &mut Steps<L>,
+) -> Status
+    ensures told { D.told depot.new ≡ D.told depot.old }
+    ensures depot_faults { D.faults depot.old ≤ D.faults depot.new }
+    ensures sink_faults { S.faults sink.old ≤ S.faults sink.new }
+    ensures served { IfSome (D.told depot.old) (λ files. Served files words.now result (S.told sink.old) (S.told sink.new) steps.old steps.new) }
+    ensures ends { Ends words.now result (D.faults depot.old) (D.faults depot.new) (S.faults sink.old) (S.faults sink.new) }
+{
+    match reported(alloc, words, depot, steps) {
+        Ok(text) => written(sink, &text, Status::Done),
+        Err(status) => refused(alloc, sink, status),
     }
 }

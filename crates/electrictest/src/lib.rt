@@ -12,4 +12,5 @@ mod running;
 mod status;
 mod texts;
 
+pub use commands::electric;
 pub use status::{InputFault, OverFault, Status};
