@@ -1,6 +1,6 @@
 //! The texts that are written: the report on a suite, and the line that answers a refusal.
 
-ghost use Rattle.std.specs.Prelude.{◌≡◌, ◌≤◌, ◌++◌, ◌∷◌, [], List, length, true, codes, decimal, OnOk, IfOk};
+ghost use Rattle.std.specs.Prelude.{◌≡◌, ◌≤◌, ◌++◌, ◌∷◌, [], length, true, codes, decimal, OnOk, IfOk};
 ghost use Rattle.std.specs.List.{list_all};
 ghost use Rattle.jvm_model.specs.Texts as line;
 ghost use Rattle.electrictest.specs.Replies as reply;
@@ -11,6 +11,7 @@ use et_base::{NoMemory, Text, push_decimal, push_quoted_bytes};
 use jvm_model::Outcome;
 use std::alloc::Global;
 
+// Appends why the input was refused.
 fn push_input(out: &mut Text, fault: &InputFault) -> Result<(), NoMemory>
     ensures { OnOk result (out.new ≡ out.old ++ reply.input_text fault.now) }
 {
@@ -26,6 +27,7 @@ fn push_input(out: &mut Text, fault: &InputFault) -> Result<(), NoMemory>
     }
 }
 
+// Appends which number of units was passed.
 fn push_over(out: &mut Text, fault: &OverFault) -> Result<(), NoMemory>
     ensures { OnOk result (out.new ≡ out.old ++ reply.over_text fault.now) }
 {

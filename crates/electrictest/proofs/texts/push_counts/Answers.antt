@@ -1,4 +1,4 @@
-use Rattle.std.proofs.Common.{◌≡◌, ◌++◌, ◌∷◌, [], ap, sym, ◌∙◌, codes, decimal}
+use Rattle.std.proofs.Common.{◌++◌, ◌∷◌, [], ap, sym, ◌∙◌, codes, decimal}
 use Rattle.jvm_model.specs.Texts.{count_line}
 use Rattle.electrictest.proofs.TextLaws.{join3, zero_text}
 use Rattle.electrictest.proofs.texts.push_counts.Goals as goal

@@ -1,4 +1,4 @@
-use Rattle.std.proofs.Common.{◌≡◌, ◌++◌, ◌∷◌, [], ap, ◌∙◌, codes, decimal}
+use Rattle.std.proofs.Common.{◌++◌, ◌∷◌, [], ap, ◌∙◌, codes, decimal}
 use Rattle.jvm_model.specs.Texts.{out_line}
 use Rattle.electrictest.specs.Replies as reply
 use Rattle.electrictest.proofs.TextLaws.{join4, passed_lines}

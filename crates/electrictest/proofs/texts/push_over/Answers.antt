@@ -1,5 +1,4 @@
-use Rattle.std.proofs.Common.{◌≡◌, ◌++◌, ◌∷◌, [], ap, ◌∙◌, codes, decimal}
-use Rattle.electrictest.specs.Replies as reply
+use Rattle.std.proofs.Common.{◌++◌, ◌∷◌, [], ap, ◌∙◌, codes, decimal}
 use Rattle.electrictest.proofs.TextLaws.{join2, join4}
 use Rattle.electrictest.proofs.texts.push_over.Goals as goal
 

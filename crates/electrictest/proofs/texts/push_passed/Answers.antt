@@ -1,4 +1,4 @@
-use Rattle.std.proofs.Common.{◌≡◌, ◌++◌, ◌∷◌, [], codes, decimal}
+use Rattle.std.proofs.Common.{◌∷◌, [], codes, decimal}
 use Rattle.electrictest.specs.Replies as reply
 use Rattle.electrictest.proofs.TextLaws.{join5}
 use Rattle.electrictest.proofs.texts.push_passed.Goals as goal

@@ -1,4 +1,4 @@
-use Rattle.std.proofs.Common.{◌≡◌, ◌++◌, [], ap, ◌∙◌, length}
+use Rattle.std.proofs.Common.{◌++◌, [], ap, ◌∙◌, length}
 use Rattle.jvm_model.specs.Texts.{count_line}
 use Rattle.electrictest.specs.Replies as reply
 use Rattle.electrictest.proofs.TextLaws.{join3, head_text, report_is}
