@@ -3,5 +3,5 @@ mod Eaches
 mod Serving
 mod Loads
 mod Runs
-mod Reports
+mod Replying
 mod TextLaws

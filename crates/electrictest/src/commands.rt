@@ -103,7 +103,7 @@ fn refused<S: Sink>(alloc: Global, sink: &mut S, status: Status) -> Status
 /// - `Over`: a test passed its budget, or the suite its number of units.
 /// - `Depot`, `Sink`: the depot or the sink failed, and its count of faults rose.
 /// - `NoMemory`: memory was refused; nothing was written.
-pub fn electric<D: Depot, S: Sink, L: Ledger>(
+pub fn electric_plain<D: Depot, S: Sink, L: Ledger>(
     alloc: Global,
     words: &[Text],
     depot: &mut D,
