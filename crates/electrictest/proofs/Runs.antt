@@ -1,5 +1,5 @@
 -- The run of a whole suite, test by test.
-use Rattle.std.proofs.Common.{◌≡◌, ℕ, ℤ, zero, suc, ◌+◌, ◌-◌, ◌<◌, ◌≤◌, List, [], ◌∷◌, ◌++◌, length, map, take, replicate, pos, min, Bool, true, false, nat_le, refl, sym, ◌∙◌, ap, subst, inl, inr, arith, Option, Some, None, Result, Ok, Err, IfErr}
+use Rattle.std.proofs.Common.{◌≡◌, ℕ, ℤ, zero, suc, ◌+◌, ◌-◌, ◌<◌, ◌≤◌, List, [], ◌∷◌, ◌++◌, length, map, take, replicate, pos, true, false, nat_le, refl, sym, ◌∙◌, ap, subst, inl, inr, arith, Option, Some, None, Result, Err, IfErr}
 use Rattle.std.specs.List.{list_all, range_with_len}
 use Rattle.std.proofs.lemmas.Bool.{cases_Bool}
 use Rattle.std.proofs.lemmas.List.{append_assoc, append-nil, length-replicate}
@@ -10,7 +10,7 @@ use Rattle.jvm_model.specs.declared.outcome.Verdict.TheVariants as verdict
 use Rattle.jvm_model.specs.declared.program.Program.{Program}
 use Rattle.jvm_model.specs.State.{test_at}
 use Rattle.jvm_model.specs.World.{World}
-use Rattle.jvm_model.specs.Suite.{Given, SuiteFault, over_budget, over_suite, fault_of, fault_on, suite_fault, suite_limit, runs, runs_on, with_first, all_tests, one_test, opening}
+use Rattle.jvm_model.specs.Suite.{Given, SuiteFault, over_budget, over_suite, fault_of, fault_on, suite_fault, suite_limit, runs, runs_on, with_first, all_tests, one_test}
 use Rattle.jvm_model.proofs.Budgets.{one_test_within, one_test_units}
 use Rattle.vm_interp.specs.Standing.{world_of}
 use Rattle.electrictest.specs.declared.loaded.Loaded.{Loaded}

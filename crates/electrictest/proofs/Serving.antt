@@ -1,5 +1,5 @@
 -- The program of a served class is one that the machine runs.
-use Rattle.std.proofs.Common.{◌≡◌, ℕ, zero, suc, ◌+◌, ◌-◌, ◌<◌, ◌≤◌, List, [], ◌∷◌, ◌++◌, length, get_or, drop, map, replicate, Bool, true, false, ◌&&◌, cond, if◌then◌else◌, nat_le, nat_lt, nat_eq, ◌==◌, refl, ap, sym, ◌∙◌, subst, arith, length-append, not, pos, Option, Some, None}
+use Rattle.std.proofs.Common.{◌≡◌, ℕ, zero, suc, ◌+◌, ◌-◌, ◌<◌, ◌≤◌, List, [], ◌∷◌, ◌++◌, length, get_or, drop, map, replicate, Bool, true, false, ◌&&◌, cond, if◌then◌else◌, nat_le, nat_eq, ◌==◌, refl, ap, sym, ◌∙◌, subst, arith, length-append, not, pos, Option, Some, None}
 use Rattle.std.specs.Prelude.{codes, is_none}
 use Rattle.std.specs.List.{list_all}
 use Rattle.std.proofs.lemmas.Bool.{and_parts, leb-true, eqb-true}

@@ -1,5 +1,5 @@
 -- What the top call promises: its status, the bytes on the sink and the steps (this project's).
-use Rattle.std.specs.Prelude.{◌≡◌, ◌≢◌, ◌⊎◌, ℕ, ◌+◌, List, ◌++◌, true, Option, None, Result, Ok, Err}
+use Rattle.std.specs.Prelude.{◌≡◌, ◌≢◌, ◌⊎◌, ℕ, ◌+◌, List, ◌++◌, true, Option, None, Err}
 use Rattle.outside.specs.Counts.{Rose}
 use Rattle.outside.specs.Sink.{appended}
 use Rattle.electrictest.specs.declared.status.Status.{Status}

@@ -1,7 +1,7 @@
 -- The programs that are served so far: a suite with at most one class, whose fields are static ints and whose methods are
 -- static, take and give nothing, and go straight on over ints, the class's fields, additions and
 -- `electric/Env.print(I)V` (this project's). Everything else has no program here.
-use Rattle.std.specs.Prelude.{ℕ, ℤ, pos, ◌-ℤ◌, ◌+◌, List, [], ◌∷◌, ◌++◌, length, drop, map, get_or, codes, Bool, true, false, not, ◌&&◌, ◌||◌, ◌==◌, nat_le, nat_lt, Option, Some, None, is_none, if◌then◌else◌}
+use Rattle.std.specs.Prelude.{ℕ, ℤ, pos, ◌-ℤ◌, ◌+◌, List, [], ◌∷◌, ◌++◌, length, drop, get_or, codes, Bool, true, false, not, ◌&&◌, ◌||◌, ◌==◌, nat_le, nat_lt, Option, Some, None, is_none, if◌then◌else◌}
 use Rattle.std.specs.Int.{w32, cast_unsigned}
 use Rattle.std.specs.List.{range_with_len, list_all}
 use Rattle.class_pool.specs.declared.pool.Entry.{Entry}

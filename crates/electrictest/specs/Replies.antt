@@ -4,16 +4,14 @@ use Rattle.std.specs.List.{list_all}
 use Rattle.std.specs.Str.{bytes_eq}
 use Rattle.et_base.specs.Quotes.{name_of}
 use Rattle.outside.specs.Depot.{content}
-use Rattle.outside.specs.Sink.{appended}
 use Rattle.class_reader.specs.declared.parts.ClassParts.{ClassParts}
 use Rattle.class_reader.specs.Faults.{class_of}
 use Rattle.class_reader.specs.declared.fault.ClassFault.TheVariants as fault
 use Rattle.jvm_model.specs.declared.outcome.Outcome.{Outcome}
-use Rattle.jvm_model.specs.declared.outcome.Verdict.{Verdict}
 use Rattle.jvm_model.specs.declared.outcome.Verdict.TheVariants as verdict
 use Rattle.jvm_model.specs.declared.program.Names.{Names}
 use Rattle.jvm_model.specs.declared.program.Program.{Program}
-use Rattle.jvm_model.specs.Suite.{Given, SuiteFault, over_budget, over_suite, runs, all_tests, suite_fault}
+use Rattle.jvm_model.specs.Suite.{SuiteFault, over_budget, over_suite, runs, all_tests, suite_fault}
 use Rattle.jvm_model.specs.Texts.{outcome_lines, count_line}
 use Rattle.suite_load.specs.declared.suite_text.SuiteText.{SuiteText}
 use Rattle.suite_load.specs.SuiteForm.{suite_of}

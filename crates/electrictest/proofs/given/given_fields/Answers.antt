@@ -1,6 +1,6 @@
-use Rattle.std.proofs.Common.{◌≡◌, [], ap, sym, ◌∙◌, subst, ◌++◌, ◌∷◌, ◌+◌, drop}
+use Rattle.std.proofs.Common.{ap, ◌∙◌, ◌+◌, drop}
 use Rattle.std.proofs.lemmas.Result.{err_from_is_err_and}
-use Rattle.electrictest.specs.First.{each, given_field, given_method, given_test, placed}
+use Rattle.electrictest.specs.First.{each, given_field}
 use Rattle.electrictest.proofs.Eaches.{each_more, each_lacks, each_done, lacks_exit}
 use Rattle.electrictest.proofs.given.given_fields.Goals as goal
 

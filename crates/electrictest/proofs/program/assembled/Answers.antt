@@ -1,4 +1,3 @@
-use Rattle.std.proofs.Common.{◌≡◌, ◌≤◌, length, sym, ap, subst, rules}
 use Rattle.electrictest.proofs.Builtin.{enough_methods}
 use Rattle.electrictest.proofs.program.assembled.Goals as goal
 

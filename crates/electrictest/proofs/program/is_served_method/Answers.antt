@@ -1,4 +1,4 @@
-use Rattle.std.proofs.Common.{◌≡◌, refl, sym, ap}
+use Rattle.std.proofs.Common.{sym, ap}
 use Rattle.vm_interp.specs.Fitting.{is_served_body}
 use Rattle.vm_interp.specs.Served.{body_or_none}
 use Rattle.electrictest.proofs.program.is_served_method.Goals as goal

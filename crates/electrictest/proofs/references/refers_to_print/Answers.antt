@@ -1,7 +1,7 @@
-use Rattle.std.proofs.Common.{◌≡◌, rules, true, false, Some, ap, sym, ◌∙◌, if◌then◌else◌, option_copied, codes}
+use Rattle.std.proofs.Common.{◌≡◌, rules, false, Some, ap, sym, ◌∙◌, if◌then◌else◌, codes}
 use Rattle.std.proofs.Math.Facts.{to_z-of_z}
 use Rattle.class_pool.specs.declared.pool.Entry.TheVariants as entry
-use Rattle.class_pool.specs.Pool.{entry_of, class_name_of}
+use Rattle.class_pool.specs.Pool.{entry_of}
 use Rattle.electrictest.specs.First.{is_text, pair_name, is_print, entry_at}
 use Rattle.electrictest.proofs.references.refers_to_print.Goals as goal
 
