@@ -4,7 +4,7 @@ use Rattle.std.specs.List.{list_all}
 use Rattle.class_pool.proofs.Laws.{picked_bool}
 use Rattle.std.proofs.Common.{Bool, true, false, cond, eqb, ltb, ◌&&◌, ◌||◌, [], ◌∷◌, ◌≡◌, ℕ, suc, ◌-◌, ◌+◌, ◌≤◌, ◌<◌, List, Option, Some, None, sym, ap, ◌∙◌, arith, length, refl}
 use Rattle.std.specs.Option.{option_and_then}
-use Rattle.class_pool.specs.Names.{is_plain, is_unqualified, parts_of, is_class_name, argument, after_close, closed, arguments, grown}
+use Rattle.et_base.specs.Names.{is_plain, is_unqualified, parts_of, is_class_name, argument, after_close, closed, arguments, grown}
 
 one_more : (n i so_far : ℕ) (us : List ℕ) (total : Option (ℕ × List ℕ)) → i < n → arguments (n - i) so_far us ≡ total
     → total ≡ closed so_far (after_close us) (option_and_then (λ x. arguments (n - (i + 1)) x.0 x.1) (argument so_far us))

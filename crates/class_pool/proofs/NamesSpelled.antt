@@ -8,7 +8,7 @@ use Rattle.std.specs.Option.{option_and_then, option_map}
 use Rattle.std.proofs.Math.ListN.{replicate}
 use Rattle.std.proofs.lemmas.Bool.{eqb-true, ltb-true, lt-ltb, leb-true, le-leb, ltb-false, le-ltb}
 use Rattle.std.proofs.lemmas.List.{take_at, drop_at, length-append, append-nil, length-replicate}
-use Rattle.class_pool.specs.Names.{is_plain, is_class_name, is_base, after_class, after_element, after_type, ends, is_field_descriptor, after_close, closed, argument, arguments, argument_units, is_return, units_of_type}
+use Rattle.et_base.specs.Names.{is_plain, is_class_name, is_base, after_class, after_element, after_type, ends, is_field_descriptor, after_close, closed, argument, arguments, argument_units, is_return, units_of_type}
 use Rattle.class_pool.specs.NamesGrammar.{IsElement, IsFieldType, IsMethodType}
 use Rattle.class_pool.proofs.Laws.{picked_bool, both_true, either_true}
 use Rattle.class_pool.proofs.NamesLaw.{is_named_on, named_from}

@@ -4,7 +4,7 @@ use Rattle.std.proofs.lemmas.Bool.{cases_lt}
 use Rattle.std.proofs.lemmas.List.{get_or_past, append-nil, take_more}
 use Rattle.class_pool.specs.declared.pool.Entry.{Entry}
 use Rattle.class_pool.specs.declared.pool.Entry.TheVariants.{Class, Field, Method, InterfaceMethod}
-use Rattle.class_pool.specs.Names.{is_class_entry_name}
+use Rattle.et_base.specs.Names.{is_class_entry_name}
 use Rattle.class_pool.specs.Pool.{entry_of, is_wide, is_second, NamesEntry, is_class, in_text, is_field_pair, is_method_pair, wants_at, wrong_index, wrong_name}
 use Rattle.class_pool.specs.PoolGrammar.{EntryFits, Laid, IsPool}
 use Rattle.class_pool.proofs.PoolSteps.{is_second-push}

@@ -1,7 +1,6 @@
 pub mod Reading
 pub mod Loops
 pub mod Grammar
-pub mod Names
 pub mod NamesGrammar
 pub mod Pool
 pub mod PoolGrammar

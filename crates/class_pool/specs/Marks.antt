@@ -3,7 +3,7 @@ use Rattle.std.specs.Prelude.{ℕ, zero, suc, List, Option, Some, false, slice_i
 use Rattle.class_pool.specs.declared.pool.Entry.{Entry}
 use Rattle.class_pool.specs.declared.pool.Entry.TheVariants.{Utf8}
 use Rattle.class_pool.specs.declared.passes.Mark.{Mark}
-use Rattle.class_pool.specs.Names.{is_unqualified, is_method_name, is_class_entry_name, is_field_descriptor, is_method_descriptor}
+use Rattle.et_base.specs.Names.{is_unqualified, is_method_name, is_class_entry_name, is_field_descriptor, is_method_descriptor}
 
 abbrev pub mark_of_text : List ℕ → Mark
 mark_of_text us = record { name = is_unqualified us; method_name = is_method_name us; class_name = is_class_entry_name us; field = is_field_descriptor us; method = is_method_descriptor us }

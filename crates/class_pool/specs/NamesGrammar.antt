@@ -2,7 +2,7 @@
 use Rattle.std.specs.Prelude.{◌≡◌, ◌≤◌, ◌⊎◌, ℕ, List, [], ◌∷◌, ◌++◌, true, sum_by}
 use Rattle.std.specs.List.{AllByRecursion, concat}
 use Rattle.std.proofs.Math.ListN.{replicate}
-use Rattle.class_pool.specs.Names.{is_class_name, is_base, units_of_type}
+use Rattle.et_base.specs.Names.{is_class_name, is_base, units_of_type}
 
 -- a type that is no array: a base type, or L, a class name and a semicolon
 abbrev pub IsElement : List ℕ → Type 0

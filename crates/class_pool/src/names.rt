@@ -3,7 +3,7 @@
 ghost use Rattle.class_pool.specs.NamesGrammar.{IsFieldType, IsMethodType};
 ghost use Rattle.std.specs.Prelude.{◌≡◌, ◌==◌, not, length, option_map, position, ℕ, ◌↔◌, IsTrue, IfSome, Some};
 ghost use Rattle.std.specs.List.{list_all};
-ghost use Rattle.class_pool.specs.Names.{is_plain, is_unqualified, is_special, is_unpointed, is_method_name, is_class_name, is_base, after_class, after_element, after_type, ends, is_field_descriptor, starts_array, is_class_entry_name, units_of_type, argument, after_close, arguments, is_return, argument_units, is_method_descriptor};
+ghost use Rattle.et_base.specs.Names.{is_plain, is_unqualified, is_special, is_unpointed, is_method_name, is_class_name, is_base, after_class, after_element, after_type, ends, is_field_descriptor, starts_array, is_class_entry_name, units_of_type, argument, after_close, arguments, is_return, argument_units, is_method_descriptor};
 
 const DOT: u16 = 46;
 
@@ -102,7 +102,7 @@ fn semicolon(units: &[u16]) -> Option<usize>
 }
 
 // What follows a class name and its semicolon.
-#[tactic(auto, unfolding(crate::specs::Names::after_class))]
+#[tactic(auto, unfolding(et_base::specs::Names::after_class))]
 fn after_class(units: &[u16]) -> Option<&[u16]>
     ensures { option_map (λ x. x.now) result ≡ after_class units.now }
 {
@@ -115,7 +115,7 @@ fn after_class(units: &[u16]) -> Option<&[u16]>
 }
 
 // What follows a type that is no array.
-#[tactic(auto, unfolding(crate::specs::Names::after_element))]
+#[tactic(auto, unfolding(et_base::specs::Names::after_element))]
 fn after_element(units: &[u16]) -> Option<&[u16]>
     ensures { option_map (λ x. x.now) result ≡ after_element units.now }
 {
@@ -142,7 +142,7 @@ fn brackets(units: &[u16]) -> Option<usize>
 
 /// What follows the field type at the front; none where none stands there. An array type has at most
 /// 255 dimensions (JVMS 4.3.2).
-#[tactic(auto, unfolding(crate::specs::Names::after_type))]
+#[tactic(auto, unfolding(et_base::specs::Names::after_type))]
 pub fn after_type(units: &[u16]) -> Option<&[u16]>
     ensures { option_map (λ x. x.now) result ≡ after_type units.now }
 {
@@ -154,7 +154,7 @@ pub fn after_type(units: &[u16]) -> Option<&[u16]>
     }
 }
 
-#[tactic(auto, unfolding(crate::specs::Names::is_field_descriptor))]
+#[tactic(auto, unfolding(et_base::specs::Names::is_field_descriptor))]
 fn is_whole_type(units: &[u16]) -> bool
     ensures { result ≡ is_field_descriptor units.now }
 {
@@ -171,7 +171,7 @@ pub fn is_field_descriptor(units: &[u16]) -> bool
 
 /// Whether a Class entry may have this name: that of a class or interface, or an array type's
 /// descriptor (JVMS 4.4.1).
-#[tactic(auto, unfolding(crate::specs::Names::is_class_entry_name))]
+#[tactic(auto, unfolding(et_base::specs::Names::is_class_entry_name))]
 pub fn is_class_entry_name(units: &[u16]) -> bool
     ensures { result ≡ is_class_entry_name units.now }
 {
@@ -190,7 +190,7 @@ fn units_of_type(units: &[u16]) -> u8
 }
 
 // One more argument type: how many units there are with it, and what follows.
-#[tactic(auto, unfolding(crate::specs::Names::argument))]
+#[tactic(auto, unfolding(et_base::specs::Names::argument))]
 fn argument(so_far: u8, units: &[u16]) -> Option<(u8, &[u16])>
     ensures { option_map (λ x. (x.0, x.1.now)) result ≡ argument so_far units.now }
 {
@@ -232,7 +232,7 @@ fn is_return(units: &[u16]) -> bool
     units == [86].as_slice() || is_field_descriptor(units)
 }
 
-#[tactic(auto, unfolding(crate::specs::Names::argument_units))]
+#[tactic(auto, unfolding(et_base::specs::Names::argument_units))]
 fn count_arguments(units: &[u16]) -> Option<u8>
     ensures { result ≡ argument_units units.now }
 {

@@ -4,8 +4,8 @@ use Rattle.std.specs.Str.{bytes_eq}
 use Rattle.class_pool.specs.declared.pool.Entry.{Entry}
 use Rattle.class_pool.specs.declared.pool.Entry.TheVariants.{Utf8, Integer, Float, Long, Double, Class, Str}
 use Rattle.class_pool.specs.Pool.{entry_of, in_text}
-use Rattle.class_pool.specs.Names.{is_unqualified, is_field_descriptor, argument_units}
-use Rattle.class_pool.specs.Names as names
+use Rattle.et_base.specs.Names.{is_unqualified, is_field_descriptor, argument_units}
+use Rattle.et_base.specs.Names as names
 use Rattle.class_reader.specs.declared.parts.MemberPart.{MemberPart}
 
 -- whether an entry is this text

@@ -5,7 +5,7 @@ use Rattle.std.specs.BTreeSet.{BTreeSet, contains}
 use Rattle.class_pool.specs.declared.pool.Entry.{Entry}
 use Rattle.class_pool.specs.declared.pool.Entry.TheVariants.{Utf8}
 use Rattle.class_pool.specs.Pool.{entry_of, is_text}
-use Rattle.class_pool.specs.Names.{argument_units}
+use Rattle.et_base.specs.Names.{argument_units}
 use Rattle.class_reader.specs.declared.parts.MemberPart.{MemberPart}
 use Rattle.class_reader.specs.declared.texts.Mark.{Mark}
 use Rattle.class_reader.specs.Names.{is_text_of, same_text, is_repeated, is_field_name, is_field_type, is_method_name}

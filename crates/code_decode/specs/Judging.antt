@@ -3,7 +3,7 @@ use Rattle.std.specs.Prelude.{ℕ, ◌+◌, List, [], length, take_while, slice_
 use Rattle.class_pool.specs.declared.pool.Entry.{Entry}
 use Rattle.class_pool.specs.declared.pool.Entry.TheVariants.{Integer, Long, Class, Str, Field, Method, InterfaceMethod, NameAndType}
 use Rattle.class_pool.specs.Pool.{entry_of, text_of, class_name_of}
-use Rattle.class_pool.specs.Names.{argument_units}
+use Rattle.et_base.specs.Names.{argument_units}
 use Rattle.code_decode.specs.declared.judging.Fit.{Fit}
 use Rattle.code_decode.specs.declared.judging.Fit.TheVariants.{Right, Wrong, Foreign}
 use Rattle.code_decode.specs.declared.opcodes.Constant.{Constant}

@@ -2,3 +2,4 @@ pub mod Utf
 pub mod UtfReading
 pub mod Numbers
 pub mod Quotes
+pub mod Names

@@ -10,7 +10,7 @@ use Rattle.jvm_model.specs.declared.program.MethodRec.{MethodRec}
 use Rattle.jvm_model.specs.Builtin.{builtin_count}
 use Rattle.jvm_model.specs.Library.{builtin_defs, builtin_classes, builtin_fields, builtin_methods}
 use Rattle.jvm_model.specs.Classes.{no_class, no_field, no_method, class_at, field_at, method_at}
-use Rattle.jvm_model.specs.Names.{is_class_name, is_unqualified, is_method_name, is_field_descriptor, is_method_descriptor}
+use Rattle.et_base.specs.Names.{is_class_name, is_unqualified, is_method_name, is_field_descriptor, is_method_descriptor}
 use Rattle.jvm_model.specs.Linked.{IsClass, IsMethod, HoldsBuiltins, NamesClass, opens}
 use Rattle.jvm_model.proofs.Builtins.{class_names, field_forms, method_forms, field_openings}
 

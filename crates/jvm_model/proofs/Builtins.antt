@@ -8,7 +8,7 @@ use Rattle.jvm_model.specs.World.{same_units}
 use Rattle.jvm_model.specs.Builtin.{builtin_count}
 use Rattle.jvm_model.specs.Library.{builtin_defs, builtin_classes, builtin_fields, builtin_methods}
 use Rattle.jvm_model.specs.Classes.{no_class, no_field}
-use Rattle.jvm_model.specs.Names.{is_class_name, is_unqualified, is_method_name, is_field_descriptor, is_method_descriptor, after_class, after_element, after_type, argument, arguments, argument_units}
+use Rattle.et_base.specs.Names.{is_class_name, is_unqualified, is_method_name, is_field_descriptor, is_method_descriptor, after_class, after_element, after_type, argument, arguments, argument_units}
 use Rattle.jvm_model.specs.Linked.{count, opens}
 
 -- the numbers of the tables' entries

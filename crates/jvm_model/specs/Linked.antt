@@ -23,7 +23,7 @@ use Rattle.jvm_model.specs.Selection.{named_class}
 use Rattle.jvm_model.specs.RowsCreate.{is_bare}
 use Rattle.jvm_model.specs.Lookup.{find_field, find_method, find_declared}
 use Rattle.jvm_model.specs.Driver.{no_arguments, plain_method_in}
-use Rattle.jvm_model.specs.Names.{is_unqualified, is_class_name, is_method_name, is_field_descriptor, is_method_descriptor}
+use Rattle.et_base.specs.Names.{is_unqualified, is_class_name, is_method_name, is_field_descriptor, is_method_descriptor}
 use Rattle.jvm_model.specs.Suite.{suite_limit}
 
 -- the first unit of a descriptor

@@ -1,5 +1,5 @@
 use Rattle.std.proofs.Common.{◌≡◌, ◌-◌, length}
-use Rattle.class_pool.specs.Names.{arguments}
+use Rattle.et_base.specs.Names.{arguments}
 use Rattle.class_pool.proofs.names.arguments.Given as goal
 
 abbrev pub invariant-loop : goal.invariant-loop

@@ -1,5 +1,5 @@
 use Rattle.std.proofs.Common.{◌≡◌, drop}
-use Rattle.class_pool.specs.Names.{is_class_name}
+use Rattle.et_base.specs.Names.{is_class_name}
 use Rattle.class_pool.proofs.NamesLaw.{is_named_on}
 use Rattle.class_pool.proofs.names.is_class_name.Given as goal
 
