@@ -1,0 +1,5 @@
+pub mod PartLaw
+pub mod MapLaw
+pub mod CodeLaw
+pub mod OperandLaw
+pub mod WriteLaw
