@@ -1,5 +1,5 @@
 -- Parts of small programs that are computed.
-use Rattle.std.proofs.Common.{ℕ, List, [], ◌∷◌, ◌++◌, ◌+◌, Option, Some, None, pos, false, map}
+use Rattle.std.proofs.Common.{ℕ, List, [], ◌∷◌, ◌++◌, ◌+◌, Option, Some, None, pos, Bool, true, false, map}
 use Rattle.std.specs.Prelude.{codes}
 use Rattle.jvm_model.specs.declared.values.Value.{Value}
 use Rattle.jvm_model.specs.declared.values.Value.TheVariants.{Int, Lit}
@@ -98,11 +98,7 @@ print = call_static 45
 abbrev pub print_number : List (ℕ × Instr)
 print_number = print ∷ returns ∷ []
 
--- the outcomes of a run of tests
-abbrev pub outcomes : Option (List Given) → Option (List Outcome)
-outcomes None = None
-outcomes (Some xs) = Some (map (λ x. x.outcome) xs)
-
+-- outcomes
 abbrev pub passed : List ℕ → ℕ → Outcome
 passed output units = record { verdict = Passed; output = output; units = units }
 
@@ -112,17 +108,17 @@ failed c text output units = record { verdict = Failed (record { class = c; mess
 abbrev pub error : ℕ → Option (List ℕ) → List ℕ → ℕ → Outcome
 error c text output units = record { verdict = Error (record { class = c; message = text }); output = output; units = units }
 
--- what each test touched, in order, whether written, and where
-abbrev pub places : Option (List Given) → Option (List (List Location))
-places None = None
-places (Some xs) = Some (map (λ x. map (λ t. t.location) x.touches) xs)
+-- a location that is read, and one that is written
+abbrev pub gets : Location → Bool × Location
+gets L = (false, L)
+
+abbrev pub sets : Location → Bool × Location
+sets L = (true, L)
+
+-- what each test gives, and what it touches, in order
+abbrev pub shown : Option (List Given) → Option (List (Outcome × List (Bool × Location)))
+shown None = None
+shown (Some xs) = Some (map (λ x. (x.outcome, map (λ t. (t.write, t.location)) x.touches)) xs)
 
 abbrev pub line : List ℕ → List ℕ
 line us = us ++ (10 ∷ [])
-
--- those of the last test
-abbrev pub last_places : Option (List (List Location)) → List Location
-last_places None = []
-last_places (Some []) = []
-last_places (Some (x ∷ [])) = x
-last_places (Some (x ∷ y ∷ ys)) = last_places (Some (y ∷ ys))

@@ -1,6 +1,6 @@
 -- Small suites that are run by computation: the definitions give the verdicts, outputs, units and touches that they
 -- should.
-use Rattle.std.proofs.Common.{◌≡◌, ℕ, List, [], ◌∷◌, ◌++◌, Some, None, refl, pos, false}
+use Rattle.std.proofs.Common.{◌≡◌, ℕ, List, [], ◌∷◌, ◌++◌, Some, None, refl, map, pos, false}
 use Rattle.std.specs.Prelude.{codes}
 use Rattle.std.specs.Fmt.{digits}
 use Rattle.std.specs.Char.Utf16.{utf16_chars}
@@ -8,16 +8,21 @@ use lib.Utf8.{encode}
 use Rattle.et_base.specs.Numbers.{add64}
 use Rattle.jvm_model.specs.declared.values.Value.TheVariants.{Int, Null}
 use Rattle.jvm_model.specs.declared.values.Kind.TheVariants as kind
+use Rattle.jvm_model.specs.declared.values.InitState.{InitState}
+use Rattle.jvm_model.specs.declared.values.InitState.TheVariants.{Idle, Running, Done}
 use Rattle.jvm_model.specs.declared.values.Location.TheVariants as place
 use Rattle.jvm_model.specs.declared.instr.Instr.{Instr}
 use Rattle.jvm_model.specs.declared.instr.Instr.TheVariants as form
 use Rattle.jvm_model.specs.declared.instr.Op.TheVariants.{Div}
 use Rattle.jvm_model.specs.declared.program.Program.{Program}
+use Rattle.jvm_model.specs.World.{at}
+use Rattle.jvm_model.specs.Access.{run}
+use Rattle.jvm_model.specs.State.{started}
 use Rattle.jvm_model.specs.Library.{builtin_defs, builtin_classes, builtin_fields, builtin_methods}
-use Rattle.jvm_model.specs.Classes.{class_bound, own_interfaces, is_below, implements, default_interfaces, is_trivial, layout, blank, form_at, next_place}
+use Rattle.jvm_model.specs.Classes.{literal_at, class_bound, own_interfaces, is_below, implements, default_interfaces, is_trivial, layout, blank, form_at, next_place}
 use Rattle.jvm_model.specs.Descriptors.{parameters, return_type}
 use Rattle.jvm_model.specs.Narrow.{narrow}
-use Rattle.jvm_model.specs.Suite.{opening, tree, one_test, runs, all_tests}
+use Rattle.jvm_model.specs.Suite.{opening, whole, tree, one_test, runs, all_tests}
 use Rattle.jvm_model.specs.Step.{step, row, row_here, row_throw}
 use Rattle.jvm_model.specs.Throwing.{throws}
 use Rattle.jvm_model.specs.Raising.{row_raise, handler_for}
@@ -37,7 +42,7 @@ use Rattle.jvm_model.specs.NativesObject.{native_object, native_throwable}
 use Rattle.jvm_model.specs.NativesString.{native_string, native_builder}
 use Rattle.jvm_model.specs.NativesOutside.{native_system, native_print, native_files, native_env}
 use Rattle.jvm_model.specs.Driver.{drive, drives, drive_first, drive_init, drive_set_up, drive_method, drive_tear_down, judge}
-use Rattle.jvm_model.proofs.ExampleParts.{program, class, body, fixed, plain, static, field, static_int, test, int_const, literal, get_static, put_static, call_static, returns, load_this, dup, print_number, outcomes, passed, failed, error, places, last_places, line}
+use Rattle.jvm_model.proofs.ExampleParts.{program, class, body, fixed, plain, static, field, static_int, test, int_const, literal, get_static, put_static, call_static, returns, load_this, dup, print_number, gets, sets, shown, passed, failed, error, line}
 
 -- a test that only returns
 abbrev return_suite : Program
@@ -55,6 +60,13 @@ abbrev again_suite : Program
 again_suite = program (class (codes "Counter") (2 ∷ []) (102 ∷ 103 ∷ []) ∷ []) (static_int 32 (codes "n") ∷ [])
     (fixed 32 (codes "set") (codes "()V") (body 1 0 (int_const 5 ∷ put_static 2 ∷ returns ∷ []))
     ∷ fixed 32 (codes "again") (codes "()V") (body 1 0 (int_const 1 ∷ put_static 2 ∷ get_static 2 ∷ print_number)) ∷ [])
+    [] (test 32 102 ∷ test 32 103 ∷ [])
+
+-- one test reads a static, the next writes it
+abbrev read_write_suite : Program
+read_write_suite = program (class (codes "P") (2 ∷ []) (102 ∷ 103 ∷ []) ∷ []) (static_int 32 (codes "n") ∷ [])
+    (fixed 32 (codes "read") (codes "()V") (body 1 0 (get_static 2 ∷ print_number))
+    ∷ fixed 32 (codes "write") (codes "()V") (body 1 0 (int_const 5 ∷ put_static 2 ∷ returns ∷ [])) ∷ [])
     [] (test 32 102 ∷ test 32 103 ∷ [])
 
 -- `<init>` that calls that of Object
@@ -155,63 +167,113 @@ conflict_suite = program
     ∷ fixed 35 (codes "go") (codes "()V") (body 2 0 ((3, form.New 34) ∷ dup ∷ (3, form.InvokeSpecial (kind.Class 34) 104) ∷ (5, form.InvokeInterface 32 102) ∷ returns ∷ [])) ∷ [])
     [] (test 35 105 ∷ [])
 
-return_runs : outcomes (runs return_suite (all_tests return_suite)) ≡ Some (passed [] 3 ∷ [])
+return_runs : shown (runs return_suite (all_tests return_suite)) ≡ Some (
+    (passed [] 3, []) ∷ [])
 unfolding builtin_classes builtin_fields builtin_methods builtin_defs class_bound own_interfaces is_below implements default_interfaces is_trivial layout blank form_at next_place parameters return_type narrow opening tree one_test runs step row row_here row_throw throws row_raise handler_for row_finish row_fail parts_of begin row_moves row_arith row_branches row_statics read_static write_static row_fields row_create new_object row_calls calls argument_count row_return hands_on kept_method select select_virtual select_interface select_special row_native native_object native_throwable native_string native_builder native_system native_print native_files native_env drive drives drive_first drive_init drive_set_up drive_method drive_tear_down judge digits add64 utf16_chars encode
 return_runs = refl
 
-counter_runs : outcomes (runs counter_suite (all_tests counter_suite)) ≡ Some (passed [] 6 ∷ passed (line (codes "5")) 8 ∷ [])
+counter_runs : shown (runs counter_suite (all_tests counter_suite)) ≡ Some (
+    (passed [] 6, sets (place.Static 2) ∷ []) ∷
+    (passed (line (codes "5")) 8, gets (place.Static 2) ∷ []) ∷ [])
 unfolding builtin_classes builtin_fields builtin_methods builtin_defs class_bound own_interfaces is_below implements default_interfaces is_trivial layout blank form_at next_place parameters return_type narrow opening tree one_test runs step row row_here row_throw throws row_raise handler_for row_finish row_fail parts_of begin row_moves row_arith row_branches row_statics read_static write_static row_fields row_create new_object row_calls calls argument_count row_return hands_on kept_method select select_virtual select_interface select_special row_native native_object native_throwable native_string native_builder native_system native_print native_files native_env drive drives drive_first drive_init drive_set_up drive_method drive_tear_down judge digits add64 utf16_chars encode
 counter_runs = refl
 
-again_runs : outcomes (runs again_suite (all_tests again_suite)) ≡ Some (passed [] 6 ∷ passed (line (codes "1")) 10 ∷ [])
+again_runs : shown (runs again_suite (all_tests again_suite)) ≡ Some (
+    (passed [] 6, sets (place.Static 2) ∷ []) ∷
+    (passed (line (codes "1")) 10, sets (place.Static 2) ∷ gets (place.Static 2) ∷ []) ∷ [])
 unfolding builtin_classes builtin_fields builtin_methods builtin_defs class_bound own_interfaces is_below implements default_interfaces is_trivial layout blank form_at next_place parameters return_type narrow opening tree one_test runs step row row_here row_throw throws row_raise handler_for row_finish row_fail parts_of begin row_moves row_arith row_branches row_statics read_static write_static row_fields row_create new_object row_calls calls argument_count row_return hands_on kept_method select select_virtual select_interface select_special row_native native_object native_throwable native_string native_builder native_system native_print native_files native_env drive drives drive_first drive_init drive_set_up drive_method drive_tear_down judge digits add64 utf16_chars encode
 again_runs = refl
 
-node_runs : outcomes (runs node_suite (all_tests node_suite)) ≡ Some (passed [] 35 ∷ passed [] 3 ∷ passed (line (codes "9")) 10 ∷ [])
+read_write_runs : shown (runs read_write_suite (all_tests read_write_suite)) ≡ Some (
+    (passed (line (codes "0")) 8, gets (place.Static 2) ∷ []) ∷
+    (passed [] 6, sets (place.Static 2) ∷ []) ∷ [])
+unfolding builtin_classes builtin_fields builtin_methods builtin_defs class_bound own_interfaces is_below implements default_interfaces is_trivial layout blank form_at next_place parameters return_type narrow opening tree one_test runs step row row_here row_throw throws row_raise handler_for row_finish row_fail parts_of begin row_moves row_arith row_branches row_statics read_static write_static row_fields row_create new_object row_calls calls argument_count row_return hands_on kept_method select select_virtual select_interface select_special row_native native_object native_throwable native_string native_builder native_system native_print native_files native_env drive drives drive_first drive_init drive_set_up drive_method drive_tear_down judge digits add64 utf16_chars encode
+read_write_runs = refl
+
+-- a new object: its head and each field are written
+node_runs : shown (runs node_suite (all_tests node_suite)) ≡ Some (
+    (passed [] 35, sets (place.Head 0) ∷ sets (place.Field 0 2) ∷ sets (place.Field 0 3) ∷ sets (place.Static 4) ∷ gets (place.Static 4) ∷ sets (place.Head 1) ∷ sets (place.Field 1 2) ∷ sets (place.Field 1 3) ∷ sets (place.Field 0 3) ∷ gets (place.Static 4) ∷ gets (place.Field 0 3) ∷ sets (place.Field 1 2) ∷ []) ∷
+    (passed [] 3, []) ∷
+    (passed (line (codes "9")) 10, gets (place.Static 4) ∷ gets (place.Field 0 3) ∷ gets (place.Field 1 2) ∷ []) ∷ [])
 unfolding builtin_classes builtin_fields builtin_methods builtin_defs class_bound own_interfaces is_below implements default_interfaces is_trivial layout blank form_at next_place parameters return_type narrow opening tree one_test runs step row row_here row_throw throws row_raise handler_for row_finish row_fail parts_of begin row_moves row_arith row_branches row_statics read_static write_static row_fields row_create new_object row_calls calls argument_count row_return hands_on kept_method select select_virtual select_interface select_special row_native native_object native_throwable native_string native_builder native_system native_print native_files native_env drive drives drive_first drive_init drive_set_up drive_method drive_tear_down judge digits add64 utf16_chars encode
 node_runs = refl
 
-init_order_runs : outcomes (runs init_order_suite (all_tests init_order_suite)) ≡ Some (passed (line (codes "0") ++ line (codes "1")) 24 ∷ [])
+-- the class is begun, then its superclass, whose `<clinit>` reads the class's static and ends; then its own runs and ends
+init_order_runs : shown (runs init_order_suite (all_tests init_order_suite)) ≡ Some (
+    (passed (line (codes "0") ++ line (codes "1")) 24, gets (place.Init 32) ∷ sets (place.Init 32) ∷ gets (place.Init 33) ∷ sets (place.Init 33) ∷ gets (place.Init 32) ∷ gets (place.Static 2) ∷ sets (place.Init 33) ∷ gets (place.Init 33) ∷ gets (place.Init 32) ∷ sets (place.Static 2) ∷ sets (place.Init 32) ∷ gets (place.Init 32) ∷ gets (place.Static 2) ∷ []) ∷ [])
 unfolding builtin_classes builtin_fields builtin_methods builtin_defs class_bound own_interfaces is_below implements default_interfaces is_trivial layout blank form_at next_place parameters return_type narrow opening tree one_test runs step row row_here row_throw throws row_raise handler_for row_finish row_fail parts_of begin row_moves row_arith row_branches row_statics read_static write_static row_fields row_create new_object row_calls calls argument_count row_return hands_on kept_method select select_virtual select_interface select_special row_native native_object native_throwable native_string native_builder native_system native_print native_files native_env drive drives drive_first drive_init drive_set_up drive_method drive_tear_down judge digits add64 utf16_chars encode
 init_order_runs = refl
 
-bad_init_runs : outcomes (runs bad_init_suite (all_tests bad_init_suite)) ≡ Some (error 13 None [] 17 ∷ error 14 None [] 7 ∷ [])
+-- what `<clinit>` threw is looked at by its frame and by the entry, which becomes erroneous and makes another throwable
+bad_init_runs : shown (runs bad_init_suite (all_tests bad_init_suite)) ≡ Some (
+    (error 13 None [] 17, gets (place.Init 32) ∷ sets (place.Init 32) ∷ sets (place.Head 0) ∷ sets (place.Field 0 1) ∷ gets (place.Head 0) ∷ gets (place.Head 0) ∷ sets (place.Init 32) ∷ sets (place.Head 1) ∷ sets (place.Field 1 1) ∷ gets (place.Head 1) ∷ gets (place.Head 1) ∷ gets (place.Field 1 1) ∷ []) ∷
+    (error 14 None [] 7, gets (place.Init 32) ∷ sets (place.Head 2) ∷ sets (place.Field 2 1) ∷ gets (place.Head 2) ∷ gets (place.Head 2) ∷ gets (place.Field 2 1) ∷ []) ∷ [])
 unfolding builtin_classes builtin_fields builtin_methods builtin_defs class_bound own_interfaces is_below implements default_interfaces is_trivial layout blank form_at next_place parameters return_type narrow opening tree one_test runs step row row_here row_throw throws row_raise handler_for row_finish row_fail parts_of begin row_moves row_arith row_branches row_statics read_static write_static row_fields row_create new_object row_calls calls argument_count row_return hands_on kept_method select select_virtual select_interface select_special row_native native_object native_throwable native_string native_builder native_system native_print native_files native_env drive drives drive_first drive_init drive_set_up drive_method drive_tear_down judge digits add64 utf16_chars encode
 bad_init_runs = refl
 
-driver_runs : outcomes (runs driver_suite (all_tests driver_suite)) ≡ Some (failed 10 None (line (codes "1") ++ line (codes "2")) 36 ∷ [])
+driver_runs : shown (runs driver_suite (all_tests driver_suite)) ≡ Some (
+    (failed 10 None (line (codes "1") ++ line (codes "2")) 36, sets (place.Head 0) ∷ sets (place.Head 1) ∷ sets (place.Field 1 1) ∷ gets (place.Head 1) ∷ gets (place.Head 1) ∷ gets (place.Field 1 1) ∷ []) ∷ [])
 unfolding builtin_classes builtin_fields builtin_methods builtin_defs class_bound own_interfaces is_below implements default_interfaces is_trivial layout blank form_at next_place parameters return_type narrow opening tree one_test runs step row row_here row_throw throws row_raise handler_for row_finish row_fail parts_of begin row_moves row_arith row_branches row_statics read_static write_static row_fields row_create new_object row_calls calls argument_count row_return hands_on kept_method select select_virtual select_interface select_special row_native native_object native_throwable native_string native_builder native_system native_print native_files native_env drive drives drive_first drive_init drive_set_up drive_method drive_tear_down judge digits add64 utf16_chars encode
 driver_runs = refl
 
-kept_error_runs : outcomes (runs kept_error_suite (all_tests kept_error_suite)) ≡ Some (passed [] 13 ∷ error 19 (Some (codes "boom")) [] 10 ∷ [])
+kept_error_runs : shown (runs kept_error_suite (all_tests kept_error_suite)) ≡ Some (
+    (passed [] 13, sets (place.Head 0) ∷ sets (place.Field 0 1) ∷ sets (place.Field 0 1) ∷ sets (place.Static 2) ∷ []) ∷
+    (error 19 (Some (codes "boom")) [] 10, gets (place.Static 2) ∷ gets (place.Head 0) ∷ gets (place.Head 0) ∷ gets (place.Field 0 1) ∷ []) ∷ [])
 unfolding builtin_classes builtin_fields builtin_methods builtin_defs class_bound own_interfaces is_below implements default_interfaces is_trivial layout blank form_at next_place parameters return_type narrow opening tree one_test runs step row row_here row_throw throws row_raise handler_for row_finish row_fail parts_of begin row_moves row_arith row_branches row_statics read_static write_static row_fields row_create new_object row_calls calls argument_count row_return hands_on kept_method select select_virtual select_interface select_special row_native native_object native_throwable native_string native_builder native_system native_print native_files native_env drive drives drive_first drive_init drive_set_up drive_method drive_tear_down judge digits add64 utf16_chars encode
 kept_error_runs = refl
 
-files_runs : outcomes (runs files_suite (all_tests files_suite)) ≡ Some (passed (line (codes "0")) 12 ∷ passed [] 13 ∷ passed (line (codes "hi")) 18 ∷ passed [] 10 ∷ [])
+files_runs : shown (runs files_suite (all_tests files_suite)) ≡ Some (
+    (passed (line (codes "0")) 12, gets (place.File (codes "log")) ∷ []) ∷
+    (passed [] 13, sets (place.File (codes "log")) ∷ []) ∷
+    (passed (line (codes "hi")) 18, gets (place.Static 0) ∷ gets (place.File (codes "log")) ∷ sets (place.Head 0) ∷ sets (place.Text 0) ∷ gets (place.Text 0) ∷ []) ∷
+    (passed [] 10, gets (place.File (codes "log")) ∷ sets (place.File (codes "log")) ∷ []) ∷ [])
 unfolding builtin_classes builtin_fields builtin_methods builtin_defs class_bound own_interfaces is_below implements default_interfaces is_trivial layout blank form_at next_place parameters return_type narrow opening tree one_test runs step row row_here row_throw throws row_raise handler_for row_finish row_fail parts_of begin row_moves row_arith row_branches row_statics read_static write_static row_fields row_create new_object row_calls calls argument_count row_return hands_on kept_method select select_virtual select_interface select_special row_native native_object native_throwable native_string native_builder native_system native_print native_files native_env drive drives drive_first drive_init drive_set_up drive_method drive_tear_down judge digits add64 utf16_chars encode
 files_runs = refl
 
-clock_runs : outcomes (runs clock_suite (all_tests clock_suite)) ≡ Some (passed (line (codes "100") ++ line (codes "335903614")) 25 ∷ [])
+clock_runs : shown (runs clock_suite (all_tests clock_suite)) ≡ Some (
+    (passed (line (codes "100") ++ line (codes "335903614")) 25, gets (place.Static 0) ∷ []) ∷ [])
 unfolding builtin_classes builtin_fields builtin_methods builtin_defs class_bound own_interfaces is_below implements default_interfaces is_trivial layout blank form_at next_place parameters return_type narrow opening tree one_test runs step row row_here row_throw throws row_raise handler_for row_finish row_fail parts_of begin row_moves row_arith row_branches row_statics read_static write_static row_fields row_create new_object row_calls calls argument_count row_return hands_on kept_method select select_virtual select_interface select_special row_native native_object native_throwable native_string native_builder native_system native_print native_files native_env drive drives drive_first drive_init drive_set_up drive_method drive_tear_down judge digits add64 utf16_chars encode
 clock_runs = refl
 
-default_runs : outcomes (runs default_suite (all_tests default_suite)) ≡ Some (passed (line (codes "4") ++ (line (codes "5") ++ line (codes "1"))) 42 ∷ [])
+-- the default interface is begun and ended before the class's own `<clinit>`
+default_runs : shown (runs default_suite (all_tests default_suite)) ≡ Some (
+    (passed (line (codes "4") ++ (line (codes "5") ++ line (codes "1"))) 42, gets (place.Init 33) ∷ sets (place.Init 33) ∷ gets (place.Init 32) ∷ sets (place.Init 32) ∷ sets (place.Init 32) ∷ gets (place.Init 32) ∷ sets (place.Init 33) ∷ gets (place.Init 33) ∷ sets (place.Head 0) ∷ gets (place.Head 0) ∷ []) ∷ [])
 unfolding builtin_classes builtin_fields builtin_methods builtin_defs class_bound own_interfaces is_below implements default_interfaces is_trivial layout blank form_at next_place parameters return_type narrow opening tree one_test runs step row row_here row_throw throws row_raise handler_for row_finish row_fail parts_of begin row_moves row_arith row_branches row_statics read_static write_static row_fields row_create new_object row_calls calls argument_count row_return hands_on kept_method select select_virtual select_interface select_special row_native native_object native_throwable native_string native_builder native_system native_print native_files native_env drive drives drive_first drive_init drive_set_up drive_method drive_tear_down judge digits add64 utf16_chars encode
 default_runs = refl
 
-conflict_runs : outcomes (runs conflict_suite (all_tests conflict_suite)) ≡ Some (error 15 None [] 17 ∷ [])
+conflict_runs : shown (runs conflict_suite (all_tests conflict_suite)) ≡ Some (
+    (error 15 None [] 17, sets (place.Head 0) ∷ gets (place.Head 0) ∷ sets (place.Head 1) ∷ sets (place.Field 1 1) ∷ gets (place.Head 1) ∷ gets (place.Head 1) ∷ gets (place.Field 1 1) ∷ []) ∷ [])
 unfolding builtin_classes builtin_fields builtin_methods builtin_defs class_bound own_interfaces is_below implements default_interfaces is_trivial layout blank form_at next_place parameters return_type narrow opening tree one_test runs step row row_here row_throw throws row_raise handler_for row_finish row_fail parts_of begin row_moves row_arith row_branches row_statics read_static write_static row_fields row_create new_object row_calls calls argument_count row_return hands_on kept_method select select_virtual select_interface select_special row_native native_object native_throwable native_string native_builder native_system native_print native_files native_env drive drives drive_first drive_init drive_set_up drive_method drive_tear_down judge digits add64 utf16_chars encode
 conflict_runs = refl
 
--- what is touched: the list, its second node and the field there; the static, the throwable and its message
-node_touches : last_places (places (runs node_suite (all_tests node_suite))) ≡ place.Static 4 ∷ place.Field 0 3 ∷ place.Field 1 2 ∷ []
-unfolding builtin_classes builtin_fields builtin_methods builtin_defs class_bound own_interfaces is_below implements default_interfaces is_trivial layout blank form_at next_place parameters return_type narrow opening tree one_test runs step row row_here row_throw throws row_raise handler_for row_finish row_fail parts_of begin row_moves row_arith row_branches row_statics read_static write_static row_fields row_create new_object row_calls calls argument_count row_return hands_on kept_method select select_virtual select_interface select_special row_native native_object native_throwable native_string native_builder native_system native_print native_files native_env drive drives drive_first drive_init drive_set_up drive_method drive_tear_down judge digits add64 utf16_chars encode
-node_touches = refl
+-- a class that is used once
+abbrev state_suite : Program
+state_suite = program
+    (record (class (codes "Up") (2 ∷ []) (102 ∷ [])) { initialiser = Some 102 } ∷ class (codes "Use") [] (103 ∷ []) ∷ [])
+    (static_int 32 (codes "n") ∷ [])
+    (fixed 32 (codes "<clinit>") (codes "()V") (body 0 0 (returns ∷ []))
+    ∷ fixed 33 (codes "use") (codes "()V") (body 1 0 (get_static 2 ∷ (1, form.Pop) ∷ returns ∷ [])) ∷ [])
+    [] (test 33 103 ∷ [])
 
-kept_error_touches : last_places (places (runs kept_error_suite (all_tests kept_error_suite))) ≡ place.Static 2 ∷ place.Head 0 ∷ place.Head 0 ∷ place.Field 0 1 ∷ []
-unfolding builtin_classes builtin_fields builtin_methods builtin_defs class_bound own_interfaces is_below implements default_interfaces is_trivial layout blank form_at next_place parameters return_type narrow opening tree one_test runs step row row_here row_throw throws row_raise handler_for row_finish row_fail parts_of begin row_moves row_arith row_branches row_statics read_static write_static row_fields row_create new_object row_calls calls argument_count row_return hands_on kept_method select select_virtual select_interface select_special row_native native_object native_throwable native_string native_builder native_system native_print native_files native_env drive drives drive_first drive_init drive_set_up drive_method drive_tear_down judge digits add64 utf16_chars encode
-kept_error_touches = refl
+-- its state after so many steps of the test
+abbrev state_after : ℕ → InitState
+state_after n = at (run (whole state_suite n (started state_suite 1)) (opening state_suite)).world (place.Init 32)
 
-bad_init_touches : last_places (places (runs bad_init_suite (all_tests bad_init_suite))) ≡ place.Init 32 ∷ place.Head 2 ∷ place.Field 2 1 ∷ place.Head 2 ∷ place.Head 2 ∷ place.Field 2 1 ∷ []
+-- The first step calls the test's method, the second begins the class, the third enters `<clinit>`, the fourth returns from
+-- it, and the fifth ends the initialisation.
+class_states : map state_after (1 ∷ 2 ∷ 3 ∷ 4 ∷ 5 ∷ []) ≡ Idle ∷ Running ∷ Running ∷ Running ∷ Done ∷ []
 unfolding builtin_classes builtin_fields builtin_methods builtin_defs class_bound own_interfaces is_below implements default_interfaces is_trivial layout blank form_at next_place parameters return_type narrow opening tree one_test runs step row row_here row_throw throws row_raise handler_for row_finish row_fail parts_of begin row_moves row_arith row_branches row_statics read_static write_static row_fields row_create new_object row_calls calls argument_count row_return hands_on kept_method select select_virtual select_interface select_special row_native native_object native_throwable native_string native_builder native_system native_print native_files native_env drive drives drive_first drive_init drive_set_up drive_method drive_tear_down judge digits add64 utf16_chars encode
-bad_init_touches = refl
+class_states = refl
+
+-- the stream is no string constant, and those are numbered from 1
+constant_texts : map (λ n. literal_at files_suite n) (0 ∷ 1 ∷ 2 ∷ 3 ∷ []) ≡ [] ∷ codes "log" ∷ codes "hi" ∷ [] ∷ []
+constant_texts = refl
+
+-- a class's name may hold a parenthesis
+odd_return : return_type (codes "(La)b;[I)V") ≡ codes "V"
+unfolding return_type
+odd_return = refl
+
+odd_parameters : parameters (codes "(La)b;[I)V") ≡ codes "La)b;" ∷ codes "[I" ∷ []
+unfolding parameters
+odd_parameters = refl

@@ -1,6 +1,6 @@
 -- Larger suites that are run by computation.
-use Rattle.std.proofs.Common.{◌≡◌, [], ◌∷◌, Some, refl, pos, negsuc, false}
-use Rattle.std.specs.Prelude.{codes}
+use Rattle.std.proofs.Common.{◌≡◌, [], ◌∷◌, ◌++◌, replicate, Some, refl, pos, negsuc, false}
+use Rattle.std.specs.Prelude.{codes, flat_map}
 use Rattle.std.specs.Fmt.{digits}
 use Rattle.std.specs.Char.Utf16.{utf16_chars}
 use lib.Utf8.{encode}
@@ -8,6 +8,7 @@ use Rattle.std.specs.Int.{int_wrap}
 use Rattle.et_base.specs.Numbers.{add32, add64}
 use Rattle.jvm_model.specs.declared.values.Value.TheVariants.{Int, Null, Lit}
 use Rattle.jvm_model.specs.declared.values.Kind.TheVariants as kind
+use Rattle.jvm_model.specs.declared.values.Location.TheVariants as place
 use Rattle.jvm_model.specs.declared.instr.Instr.TheVariants as form
 use Rattle.jvm_model.specs.declared.instr.Op.TheVariants.{Add}
 use Rattle.jvm_model.specs.declared.instr.Sort.TheVariants as sort
@@ -37,7 +38,7 @@ use Rattle.jvm_model.specs.NativesObject.{native_object, native_throwable}
 use Rattle.jvm_model.specs.NativesString.{native_string, native_builder, hash_of}
 use Rattle.jvm_model.specs.NativesOutside.{native_system, native_print, native_files, native_env}
 use Rattle.jvm_model.specs.Driver.{drive, drives, drive_first, drive_init, drive_set_up, drive_method, drive_tear_down, judge}
-use Rattle.jvm_model.proofs.ExampleParts.{program, class, body, fixed, plain, field, static_int, test, int_const, get_static, put_static, call_static, returns, load_this, dup, print_number, outcomes, passed, line}
+use Rattle.jvm_model.proofs.ExampleParts.{program, class, body, fixed, plain, field, static_int, test, int_const, get_static, put_static, call_static, returns, load_this, dup, print_number, gets, sets, shown, passed, line}
 
 -- a method that calls itself until no entry may be pushed
 abbrev recursion_suite : Program
@@ -46,7 +47,12 @@ recursion_suite = program (class (codes "R") (2 ∷ []) (102 ∷ 103 ∷ []) ∷
     ∷ fixed 32 (codes "deep") (codes "()V") (record (body 1 0 (call_static 102 ∷ returns ∷ (1, form.Pop) ∷ get_static 2 ∷ print_number)) { handlers = record { from = 0; to = 3; at = 4; catches = Some 18 } ∷ [] }) ∷ [])
     [] (test 32 103 ∷ [])
 
-recursion_runs : outcomes (runs recursion_suite (all_tests recursion_suite)) ≡ Some (passed (line (codes "1023")) 8200 ∷ [])
+-- each call reads and writes the static; the error is made once, and looked at by each frame that it leaves and the one that
+-- handles it
+recursion_runs : shown (runs recursion_suite (all_tests recursion_suite)) ≡ Some ((
+  passed (line (codes "1023")) 8200,
+  flat_map (λ x. x) (replicate 1023 (gets (place.Static 2) ∷ sets (place.Static 2) ∷ [])) ++ (sets (place.Head 0) ∷ sets (place.Field 0 1) ∷ (replicate 1024 (gets (place.Head 0)) ++ (gets (place.Static 2) ∷ []))),
+) ∷ [])
 unfolding builtin_classes builtin_fields builtin_methods builtin_defs class_bound own_interfaces is_below implements default_interfaces is_trivial layout blank form_at next_place parameters return_type narrow opening tree one_test runs step row row_here row_throw throws row_raise handler_for row_finish row_fail parts_of begin row_moves row_arith row_branches row_statics read_static write_static row_fields row_create new_object row_calls calls argument_count row_return hands_on kept_method select select_virtual select_interface select_special row_native native_object native_throwable native_string native_builder native_system native_print native_files native_env drive drives drive_first drive_init drive_set_up drive_method drive_tear_down judge digits add64 utf16_chars encode add32 int_wrap lookup_target hash_of
 recursion_runs = refl
 
@@ -74,6 +80,20 @@ outer_suite = program
     ∷ (1, form.Throw) ∷ returns ∷ [])) ∷ [])
     ([] ∷ codes "012" ∷ []) (test 33 105 ∷ [])
 
-outer_runs : outcomes (runs outer_suite (all_tests outer_suite)) ≡ Some (passed (line (codes "0126")) 166 ∷ [])
+outer_runs : shown (runs outer_suite (all_tests outer_suite)) ≡ Some ((
+  passed (line (codes "0126")) 166,
+  sets (place.Head 0) ∷ sets (place.Field 0 3) ∷ sets (place.Field 0 3) ∷ sets (place.Head 1) ∷ sets (place.Text 1) ∷ gets (place.Head 1) ∷
+      gets (place.Text 1) ∷ sets (place.Text 1) ∷ gets (place.Head 1) ∷ gets (place.Text 1) ∷ sets (place.Text 1) ∷ gets (place.Head 1) ∷
+      gets (place.Text 1) ∷ sets (place.Head 2) ∷ sets (place.Text 2) ∷ sets (place.Head 3) ∷ sets (place.Text 3) ∷ gets (place.Head 3) ∷
+      gets (place.Text 2) ∷ gets (place.Text 3) ∷ sets (place.Text 3) ∷ gets (place.Head 3) ∷ gets (place.Text 3) ∷ sets (place.Text 3) ∷
+      gets (place.Head 3) ∷ gets (place.Text 3) ∷ sets (place.Head 4) ∷ sets (place.Text 4) ∷ sets (place.Head 5) ∷ sets (place.Text 5) ∷
+      gets (place.Head 5) ∷ gets (place.Text 4) ∷ gets (place.Text 5) ∷ sets (place.Text 5) ∷ gets (place.Head 5) ∷ gets (place.Text 5) ∷
+      sets (place.Text 5) ∷ gets (place.Head 5) ∷ gets (place.Text 5) ∷ sets (place.Head 6) ∷ sets (place.Text 6) ∷ gets (place.Head 6) ∷
+      gets (place.Text 6) ∷ gets (place.Head 6) ∷ gets (place.Text 6) ∷ gets (place.Static 0) ∷ sets (place.Head 7) ∷ sets (place.Text 7) ∷
+      gets (place.Head 7) ∷ gets (place.Text 6) ∷ gets (place.Text 7) ∷ sets (place.Text 7) ∷ sets (place.Head 8) ∷ sets (place.Field 8 2) ∷
+      sets (place.Field 8 2) ∷ gets (place.Head 8) ∷ gets (place.Field 8 2) ∷ gets (place.Field 0 3) ∷ gets (place.Field 8 2) ∷ gets (place.Field 0 3) ∷
+      gets (place.Head 7) ∷ gets (place.Text 7) ∷ sets (place.Text 7) ∷ gets (place.Head 7) ∷ gets (place.Text 7) ∷ sets (place.Head 9) ∷
+      sets (place.Text 9) ∷ gets (place.Text 9) ∷ [],
+) ∷ [])
 unfolding builtin_classes builtin_fields builtin_methods builtin_defs class_bound own_interfaces is_below implements default_interfaces is_trivial layout blank form_at next_place parameters return_type narrow opening tree one_test runs step row row_here row_throw throws row_raise handler_for row_finish row_fail parts_of begin row_moves row_arith row_branches row_statics read_static write_static row_fields row_create new_object row_calls calls argument_count row_return hands_on kept_method select select_virtual select_interface select_special row_native native_object native_throwable native_string native_builder native_system native_print native_files native_env drive drives drive_first drive_init drive_set_up drive_method drive_tear_down judge digits add64 utf16_chars encode add32 int_wrap lookup_target hash_of
 outer_runs = refl

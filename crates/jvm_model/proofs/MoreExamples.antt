@@ -1,5 +1,5 @@
 -- Branches, arrays, strings, calls and budgets by computation.
-use Rattle.std.proofs.Common.{◌≡◌, ℕ, List, [], ◌∷◌, ◌++◌, Option, Some, None, refl, pos, false}
+use Rattle.std.proofs.Common.{◌≡◌, ℕ, ◌+◌, ◌-◌, ◌^◌, List, [], ◌∷◌, ◌++◌, Option, Some, None, refl, pos, false}
 use Rattle.std.specs.Prelude.{codes}
 use Rattle.std.specs.Fmt.{digits}
 use Rattle.std.specs.Char.Utf16.{utf16_chars}
@@ -45,7 +45,7 @@ use Rattle.jvm_model.specs.NativesObject.{native_object, native_throwable}
 use Rattle.jvm_model.specs.NativesString.{native_string, native_builder, hash_of}
 use Rattle.jvm_model.specs.NativesOutside.{native_system, native_print, native_files, native_env}
 use Rattle.jvm_model.specs.Driver.{drive, drives, drive_first, drive_init, drive_set_up, drive_method, drive_tear_down, judge}
-use Rattle.jvm_model.proofs.ExampleParts.{program, class, body, fixed, plain, test, int_const, literal, static_int, get_static, put_static, returns, load_this, print, print_number, outcomes, places, last_places, passed, error, line}
+use Rattle.jvm_model.proofs.ExampleParts.{program, class, body, fixed, plain, test, int_const, literal, static_int, get_static, put_static, returns, load_this, print, print_number, gets, sets, shown, passed, error, line}
 
 -- `<init>` that calls that of Object
 abbrev plain_init : List (ℕ × Instr)
@@ -63,7 +63,7 @@ sum_suite = program (class (codes "Q") [] (102 ∷ []) ∷ []) []
     ∷ (3, form.Inc 1 (pos 1)) ∷ (3, form.Goto 4) ∷ (1, form.Load sort.Int 0) ∷ print_number)) ∷ [])
     [] (test 32 102 ∷ [])
 
-sum_runs : outcomes (runs sum_suite (all_tests sum_suite)) ≡ Some (passed (line (codes "45")) 109 ∷ [])
+sum_runs : shown (runs sum_suite (all_tests sum_suite)) ≡ Some ((passed (line (codes "45")) 109, []) ∷ [])
 unfolding builtin_classes builtin_fields builtin_methods builtin_defs class_bound own_interfaces is_below implements default_interfaces is_trivial layout blank form_at next_place parameters return_type narrow opening tree one_test runs step row row_here row_throw throws row_raise handler_for row_finish row_fail parts_of begin row_moves row_arith row_branches row_statics read_static write_static row_fields row_create new_object row_calls calls argument_count row_return hands_on kept_method select select_virtual select_interface select_special row_native native_object native_throwable native_string native_builder native_system native_print native_files native_env drive drives drive_first drive_init drive_set_up drive_method drive_tear_down judge digits add64 utf16_chars encode add32 int_wrap lookup_target hash_of nest children nest_cost row_arrays kind_fits class_fits l2i
 sum_runs = refl
 
@@ -78,17 +78,19 @@ grid_suite = program (class (codes "G") [] (102 ∷ []) ∷ []) []
     (fixed 32 (codes "grid") (codes "()V") (body 2 0 (int_const 2 ∷ int_const 3 ∷ (4, form.MultiNewArray (kind.Array 2 base.Int) 2) ∷ int_const 1 ∷ (1, form.ArrayLoad cell.Ref) ∷ (1, form.ArrayLength) ∷ print_number)) ∷ [])
     [] (test 32 102 ∷ [])
 
-grid_runs : outcomes (runs grid_suite (all_tests grid_suite)) ≡ Some (passed (line (codes "3")) 25 ∷ [])
+grid_runs : shown (runs grid_suite (all_tests grid_suite)) ≡ Some ((
+  passed (line (codes "3")) 25,
+  sets (place.Head 0) ∷ sets (place.Elem 0 0) ∷ sets (place.Elem 0 1) ∷ sets (place.Head 1) ∷ sets (place.Elem 1 0) ∷ sets (place.Elem 1 1) ∷
+      sets (place.Elem 1 2) ∷ sets (place.Elem 0 0) ∷ sets (place.Head 2) ∷ sets (place.Elem 2 0) ∷ sets (place.Elem 2 1) ∷ sets (place.Elem 2 2) ∷
+      sets (place.Elem 0 1) ∷ gets (place.Head 0) ∷ gets (place.Elem 0 1) ∷ gets (place.Head 2) ∷ [],
+) ∷ [])
 unfolding builtin_classes builtin_fields builtin_methods builtin_defs class_bound own_interfaces is_below implements default_interfaces is_trivial layout blank form_at next_place parameters return_type narrow opening tree one_test runs step row row_here row_throw throws row_raise handler_for row_finish row_fail parts_of begin row_moves row_arith row_branches row_statics read_static write_static row_fields row_create new_object row_calls calls argument_count row_return hands_on kept_method select select_virtual select_interface select_special row_native native_object native_throwable native_string native_builder native_system native_print native_files native_env drive drives drive_first drive_init drive_set_up drive_method drive_tear_down judge digits add64 utf16_chars encode add32 int_wrap lookup_target hash_of nest children nest_cost row_arrays kind_fits class_fits l2i
 grid_runs = refl
 
-grid_touches : last_places (places (runs grid_suite (all_tests grid_suite))) ≡
-    place.Head 0 ∷ place.Elem 0 0 ∷ place.Elem 0 1
-    ∷ place.Head 1 ∷ place.Elem 1 0 ∷ place.Elem 1 1 ∷ place.Elem 1 2 ∷ place.Elem 0 0
-    ∷ place.Head 2 ∷ place.Elem 2 0 ∷ place.Elem 2 1 ∷ place.Elem 2 2 ∷ place.Elem 0 1
-    ∷ place.Head 0 ∷ place.Elem 0 1 ∷ place.Head 2 ∷ []
-unfolding builtin_classes builtin_fields builtin_methods builtin_defs class_bound own_interfaces is_below implements default_interfaces is_trivial layout blank form_at next_place parameters return_type narrow opening tree one_test runs step row row_here row_throw throws row_raise handler_for row_finish row_fail parts_of begin row_moves row_arith row_branches row_statics read_static write_static row_fields row_create new_object row_calls calls argument_count row_return hands_on kept_method select select_virtual select_interface select_special row_native native_object native_throwable native_string native_builder native_system native_print native_files native_env drive drives drive_first drive_init drive_set_up drive_method drive_tear_down judge digits add64 utf16_chars encode add32 int_wrap lookup_target hash_of nest children nest_cost row_arrays kind_fits class_fits l2i
-grid_touches = refl
+-- sizes whose sum of costs passes 64 bits: the step costs the greatest 64-bit number
+grid_limit : 1 + nest_cost 2147483647 (2147483647 ∷ 2147483647 ∷ []) ≡ 2 ^ 64 - 1
+unfolding nest_cost
+grid_limit = refl
 
 -- a String is stored into an array of Throwables, and null past its end
 abbrev store_suite : Program
@@ -97,7 +99,15 @@ store_suite = program (class (codes "S") [] (102 ∷ 103 ∷ []) ∷ []) []
     ∷ fixed 32 (codes "beyond") (codes "()V") (body 3 0 (int_const 1 ∷ (3, form.NewArray (kind.Array 1 (base.Class 7))) ∷ int_const 1 ∷ (1, form.Const Null) ∷ (1, form.ArrayStore cell.Ref) ∷ returns ∷ [])) ∷ [])
     (codes "x" ∷ []) (test 32 102 ∷ test 32 103 ∷ [])
 
-store_runs : outcomes (runs store_suite (all_tests store_suite)) ≡ Some (error 21 None [] 15 ∷ error 29 None [] 15 ∷ [])
+store_runs : shown (runs store_suite (all_tests store_suite)) ≡ Some ((
+  error 21 None [] 15,
+  sets (place.Head 0) ∷ sets (place.Elem 0 0) ∷ gets (place.Head 0) ∷ sets (place.Head 1) ∷ sets (place.Field 1 1) ∷ gets (place.Head 1) ∷
+      gets (place.Head 1) ∷ gets (place.Field 1 1) ∷ [],
+) ∷ (
+  error 29 None [] 15,
+  sets (place.Head 2) ∷ sets (place.Elem 2 0) ∷ gets (place.Head 2) ∷ sets (place.Head 3) ∷ sets (place.Field 3 1) ∷ gets (place.Head 3) ∷
+      gets (place.Head 3) ∷ gets (place.Field 3 1) ∷ [],
+) ∷ [])
 unfolding builtin_classes builtin_fields builtin_methods builtin_defs class_bound own_interfaces is_below implements default_interfaces is_trivial layout blank form_at next_place parameters return_type narrow opening tree one_test runs step row row_here row_throw throws row_raise handler_for row_finish row_fail parts_of begin row_moves row_arith row_branches row_statics read_static write_static row_fields row_create new_object row_calls calls argument_count row_return hands_on kept_method select select_virtual select_interface select_special row_native native_object native_throwable native_string native_builder native_system native_print native_files native_env drive drives drive_first drive_init drive_set_up drive_method drive_tear_down judge digits add64 utf16_chars encode add32 int_wrap lookup_target hash_of nest children nest_cost row_arrays kind_fits class_fits l2i
 store_runs = refl
 
@@ -109,7 +119,12 @@ text_suite = program (class (codes "T") [] (102 ∷ 103 ∷ []) ∷ []) []
     ∷ fixed 32 (codes "beyond") (codes "()V") (body 2 0 (literal 1 ∷ int_const 4 ∷ (3, form.InvokeVirtual (kind.Class 1) 5) ∷ print_number)) ∷ [])
     (codes "abcd" ∷ codes "!" ∷ []) (test 32 102 ∷ test 32 103 ∷ [])
 
-text_runs : outcomes (runs text_suite (all_tests text_suite)) ≡ Some (passed (line (codes "bc!")) 25 ∷ error 30 None [] 10 ∷ [])
+text_runs : shown (runs text_suite (all_tests text_suite)) ≡ Some ((
+  passed (line (codes "bc!")) 25,
+  gets (place.Static 0) ∷ sets (place.Head 0) ∷ sets (place.Text 0) ∷ gets (place.Head 0) ∷ gets (place.Text 0) ∷ sets (place.Head 1) ∷
+      sets (place.Text 1) ∷ gets (place.Text 1) ∷ [],
+) ∷
+    (error 30 None [] 10, sets (place.Head 2) ∷ sets (place.Field 2 1) ∷ gets (place.Head 2) ∷ gets (place.Head 2) ∷ gets (place.Field 2 1) ∷ []) ∷ [])
 unfolding builtin_classes builtin_fields builtin_methods builtin_defs class_bound own_interfaces is_below implements default_interfaces is_trivial layout blank form_at next_place parameters return_type narrow opening tree one_test runs step row row_here row_throw throws row_raise handler_for row_finish row_fail parts_of begin row_moves row_arith row_branches row_statics read_static write_static row_fields row_create new_object row_calls calls argument_count row_return hands_on kept_method select select_virtual select_interface select_special row_native native_object native_throwable native_string native_builder native_system native_print native_files native_env drive drives drive_first drive_init drive_set_up drive_method drive_tear_down judge digits add64 utf16_chars encode add32 int_wrap lookup_target hash_of nest children nest_cost row_arrays kind_fits class_fits l2i
 text_runs = refl
 
@@ -119,7 +134,7 @@ moves_suite = program (class (codes "M") [] (102 ∷ []) ∷ []) []
     (fixed 32 (codes "moves") (codes "()V") (body 6 0 ((1, form.Const (Int (pos 7))) ∷ (1, form.Const (Long (pos 1))) ∷ (1, form.Dup2X1) ∷ (1, form.Pop2) ∷ print ∷ (1, form.Convert conv.L2i) ∷ print_number)) ∷ [])
     [] (test 32 102 ∷ [])
 
-moves_runs : outcomes (runs moves_suite (all_tests moves_suite)) ≡ Some (passed (line (codes "7") ++ line (codes "1")) 20 ∷ [])
+moves_runs : shown (runs moves_suite (all_tests moves_suite)) ≡ Some ((passed (line (codes "7") ++ line (codes "1")) 20, []) ∷ [])
 unfolding builtin_classes builtin_fields builtin_methods builtin_defs class_bound own_interfaces is_below implements default_interfaces is_trivial layout blank form_at next_place parameters return_type narrow opening tree one_test runs step row row_here row_throw throws row_raise handler_for row_finish row_fail parts_of begin row_moves row_arith row_branches row_statics read_static write_static row_fields row_create new_object row_calls calls argument_count row_return hands_on kept_method select select_virtual select_interface select_special row_native native_object native_throwable native_string native_builder native_system native_print native_files native_env drive drives drive_first drive_init drive_set_up drive_method drive_tear_down judge digits add64 utf16_chars encode add32 int_wrap lookup_target hash_of nest children nest_cost row_arrays kind_fits class_fits l2i
 moves_runs = refl
 
@@ -138,7 +153,12 @@ super_suite = program
     ∷ plain 33 (codes "bare") (codes "()V") (body 1 1 (load_this ∷ (3, form.InvokeVirtual (kind.Class 32) 104) ∷ returns ∷ [])) ∷ [])
     [] (test 33 107 ∷ test 33 108 ∷ [])
 
-super_runs : outcomes (runs super_suite (all_tests super_suite)) ≡ Some (passed (line (codes "2") ++ line (codes "1")) 36 ∷ error 16 None [] 22 ∷ [])
+super_runs : shown (runs super_suite (all_tests super_suite)) ≡ Some (
+    (passed (line (codes "2") ++ line (codes "1")) 36, sets (place.Head 0) ∷ gets (place.Head 0) ∷ []) ∷ (
+      error 16 None [] 22,
+      sets (place.Head 1) ∷ gets (place.Head 1) ∷ sets (place.Head 2) ∷ sets (place.Field 2 1) ∷ gets (place.Head 2) ∷ gets (place.Head 2) ∷
+          gets (place.Field 2 1) ∷ [],
+    ) ∷ [])
 unfolding builtin_classes builtin_fields builtin_methods builtin_defs class_bound own_interfaces is_below implements default_interfaces is_trivial layout blank form_at next_place parameters return_type narrow opening tree one_test runs step row row_here row_throw throws row_raise handler_for row_finish row_fail parts_of begin row_moves row_arith row_branches row_statics read_static write_static row_fields row_create new_object row_calls calls argument_count row_return hands_on kept_method select select_virtual select_interface select_special row_native native_object native_throwable native_string native_builder native_system native_print native_files native_env drive drives drive_first drive_init drive_set_up drive_method drive_tear_down judge digits add64 utf16_chars encode add32 int_wrap lookup_target hash_of nest children nest_cost row_arrays kind_fits class_fits l2i
 super_runs = refl
 

@@ -1,5 +1,5 @@
 -- What a program says of its classes, fields and methods.
-use Rattle.std.specs.Prelude.{ℕ, zero, suc, List, [], ◌∷◌, ◌++◌, get_or, replicate, map, filter, Bool, true, false, not, ◌&&◌, cond, nat_eq, ◌-◌, ◌/◌, ◌%◌, pos, Option, Some, None, flat_map, is_some}
+use Rattle.std.specs.Prelude.{ℕ, zero, suc, List, [], ◌∷◌, ◌++◌, get_or, replicate, map, filter, Bool, true, false, not, ◌&&◌, cond, nat_eq, ◌/◌, ◌%◌, pos, Option, Some, None, flat_map, is_some}
 use Rattle.std.specs.List.{list_any, list_all}
 use Rattle.jvm_model.specs.declared.values.Value.{Value}
 use Rattle.jvm_model.specs.declared.values.Value.TheVariants.{Int, Long, Null}
@@ -36,9 +36,9 @@ field_at p f = get_or p.fields f no_field
 abbrev pub method_at : Program → ℕ → MethodRec
 method_at p m = get_or p.methods m no_method
 
--- the string constant n, numbered from 1
+-- the string constant n, numbered from 1; 0 is the stream, which has no text
 abbrev pub literal_at : Program → ℕ → List ℕ
-literal_at p n = get_or p.literals (n - 1) []
+literal_at p n = get_or ([] ∷ p.literals) n []
 
 -- whether an access flag (a power of two) is set (JVMS tables 4.1-B, 4.5-A and 4.6-A)
 abbrev pub has_flag : ℕ → ℕ → Bool

@@ -39,7 +39,22 @@ unfoldable pub parameters : List ℕ → List (List ℕ)
 parameters [] = []
 parameters (u ∷ us) = types_in at_type us
 
+-- where a reader stands after a unit outside a class's name
+abbrev pub scan_plain : ℕ → Scan
+scan_plain u = elim (nat_eq u 91) [ true ↦ in_array | false ↦ elim (nat_eq u 76) [ true ↦ in_name | false ↦ at_type ] ]
+
+-- where it stands after a unit of a class's name
+abbrev pub scan_name : ℕ → Scan
+scan_name u = elim (nat_eq u 59) [ true ↦ at_type | false ↦ in_name ]
+
+-- what follows the parenthesis that closes the parameters: a class's name may hold one too
+abbrev pub past_types : Scan → List ℕ → List ℕ
+past_types s [] = []
+past_types at_type (u ∷ us) = elim (nat_eq u 41) [ true ↦ us | false ↦ past_types (scan_plain u) us ]
+past_types in_array (u ∷ us) = past_types (scan_plain u) us
+past_types in_name (u ∷ us) = past_types (scan_name u) us
+
 -- the descriptor of the return type, V of none
 unfoldable pub return_type : List ℕ → List ℕ
 return_type [] = []
-return_type (u ∷ us) = elim (nat_eq u 41) [ true ↦ us | false ↦ return_type us ]
+return_type (u ∷ us) = past_types at_type us

@@ -45,9 +45,9 @@ abbrev pub nest_sum : ℕ → List ℕ → ℕ
 nest_sum n [] = 1 + n
 nest_sum n (m ∷ ms) = 1 + n + n * nest_sum m ms
 
--- sums of costs stay at the greatest 64-bit number
+-- with the 1 of its step a sum of costs stays at the greatest 64-bit number
 unfoldable pub nest_cost : ℕ → List ℕ → ℕ
-nest_cost n ms = min (nest_sum n ms) (2 ^ 64 - 1)
+nest_cost n ms = min (nest_sum n ms) (2 ^ 64 - 2)
 
 abbrev pub nested : Program → Kind → Entries → List Value → List ℕ → Access (Answer Entries)
 nested p k s vs [] = none_here

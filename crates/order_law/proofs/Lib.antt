@@ -17,3 +17,5 @@ pub mod Leaves
 pub mod Histories
 pub mod OwnRecord
 pub mod Plans
+pub mod Walks
+pub mod WalksThere

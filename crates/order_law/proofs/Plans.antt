@@ -29,11 +29,11 @@ member_later x y l false h = h
 
 claims_more : (e : Event) (es : List Event) (w i : ℕ) → Member i (claims es w) → Member i (claims (e ∷ es) w)
 claims_more (claim v c) es w i h = member_later i c (claims es w) (nat_eq v w) h
-claims_more (post v t r) es w i h = h
+claims_more (post v ls t r) es w i h = h
 
 posts_more : (e : Event) (es : List Event) (w x : ℕ) → Member x (posts es w) → Member x (posts (e ∷ es) w)
 posts_more (claim v c) es w x h = h
-posts_more (post v t r) es w x h = member_later x t (posts es w) (nat_eq v w) h
+posts_more (post v ls t r) es w x h = member_later x t (posts es w) (nat_eq v w) h
 
 -- a list around a member
 member_mid : (f : List ℕ) (t : ℕ) (r : List ℕ) → Member t (f ++ (t ∷ r))
@@ -53,8 +53,8 @@ in_claims es v c w i h = elim (cases_Bool (nat_eq v w)) [
   | inr b ↦ inr (member_past i c (claims es w) b h)
 ]
 
-in_posts : (es : List Event) (v t w x : ℕ) (o : Outcome) → Member x (posts (post v t o ∷ es) w) → ((v ≡ w) × (x ≡ t)) ⊎ Member x (posts es w)
-in_posts es v t w x o h = elim (cases_Bool (nat_eq v w)) [
+in_posts : (es : List Event) (v : ℕ) (ls : List ℕ) (t w x : ℕ) (o : Outcome) → Member x (posts (post v ls t o ∷ es) w) → ((v ≡ w) × (x ≡ t)) ⊎ Member x (posts es w)
+in_posts es v ls t w x o h = elim (cases_Bool (nat_eq v w)) [
   | inl b ↦ elim (member_at x t (posts es w) b h) [ inl e ↦ inl (eqb-true v w b, e) | inr k ↦ inr k ]
   | inr b ↦ inr (member_past x t (posts es w) b h)
 ]
@@ -75,7 +75,7 @@ module _ (p : Program) (R : List Edge) (is_record : RecordOf p R) (S : ℕ → T
   posted_where : (es : List Event) (w x : ℕ) → Legal p C n es → Member x (posts es w) → (i : ℕ) × Member i (claims es w) × Member x (chain_at C i)
   posted_where [] w x l h = absurd h
   posted_where (claim v c ∷ es) w x l h = let q = posted_where es w x l.1 h in (q.0, claims_more (claim v c) es w q.0 q.1, q.2)
-  posted_where (post v t r ∷ es) w x l h = elim (in_posts es v t w x r h) [
+  posted_where (post v ls t r ∷ es) w x l h = elim (in_posts es v ls t w x r h) [
     | inl e ↦ let m = l.0 in (m.0, subst (λ (z : ℕ). Member m.0 (claims es z)) e.0 (rw m.2 (inl refl)), rw (e.1, m.3.split) (member_mid m.3.front t m.3.rest))
     | inr k ↦ posted_where es w x l.1 k
   ]
@@ -86,12 +86,12 @@ module _ (p : Program) (R : List Edge) (is_record : RecordOf p R) (S : ℕ → T
     | inl a ↦ elim (in_claims es u c v i k) [ inl b ↦ sym a.0 ∙ b.0 | inr b ↦ absurd (l.0.3 v (subst (λ (z : ℕ). Member z (claims es v)) a.1 b)) ]
     | inr a ↦ elim (in_claims es u c v i k) [ inl b ↦ absurd (l.0.3 w (subst (λ (z : ℕ). Member z (claims es w)) b.1 a)) | inr b ↦ one_claimer es w v i l.1 a b ]
   ]
-  one_claimer (post u t r ∷ es) w v i l h k = one_claimer es w v i l.1 h k
+  one_claimer (post u ls t r ∷ es) w v i l h k = one_claimer es w v i l.1 h k
 
   prefix_posted : (es : List Event) (w x i y : ℕ) → Legal p C n es → Member x (posts es w) → Member x (chain_at C i) → Member y (chain_at C i) → y < x → Posted es y
   prefix_posted [] w x i y l h a b lt = absurd h
   prefix_posted (claim v c ∷ es) w x i y l h a b lt = let q = prefix_posted es w x i y l.1 h a b lt in (q.0, posts_more (claim v c) es q.0 y q.1)
-  prefix_posted (post v t r ∷ es) w x i y l h a b lt = elim (in_posts es v t w x r h) [
+  prefix_posted (post v ls t r ∷ es) w x i y l h a b lt = elim (in_posts es v ls t w x r h) [
     | inl e ↦
         let m = l.0 in
         let there : Member t (chain_at C m.0) = rw m.3.split (member_mid m.3.front t m.3.rest) in
@@ -100,8 +100,8 @@ module _ (p : Program) (R : List Edge) (is_record : RecordOf p R) (S : ℕ → T
         let asc : Ascending (m.3.front ++ (t ∷ m.3.rest)) = subst (λ (z : List ℕ). Ascending z) m.3.split (cs.ascending m.0) in
         let eq = e.1 in
         let q = m.3.posted y (below_mid m.3.front t m.3.rest asc y yin (omega arith)) in
-        (q.0, posts_more (post v t r) es q.0 y q.1)
-    | inr k ↦ let q = prefix_posted es w x i y l.1 k a b lt in (q.0, posts_more (post v t r) es q.0 y q.1)
+        (q.0, posts_more (post v ls t r) es q.0 y q.1)
+    | inr k ↦ let q = prefix_posted es w x i y l.1 k a b lt in (q.0, posts_more (post v ls t r) es q.0 y q.1)
   ]
 
   fits_post : (es : List Event) (w t : ℕ) → Legal p C n es → (m : (i : ℕ) × (rest : List ℕ) × (claims es w ≡ i ∷ rest) × NextOf es (chain_at C i) t) → Fits R (posts es w) t
@@ -132,7 +132,7 @@ module _ (p : Program) (R : List Edge) (is_record : RecordOf p R) (S : ℕ → T
   worker_lawful : (es : List Event) (w : ℕ) → Legal p C n es → History R (posts es w)
   worker_lawful [] w l = tt
   worker_lawful (claim v c ∷ es) w l = worker_lawful es w l.1
-  worker_lawful (post v t r ∷ es) w l = own_post es v w t (fits_post es v t l.1 (l.0.0, l.0.1, l.0.2, l.0.3)) (worker_lawful es w l.1) (nat_eq v w) refl
+  worker_lawful (post v ls t r ∷ es) w l = own_post es v w t (fits_post es v t l.1 (l.0.0, l.0.1, l.0.2, l.0.3)) (worker_lawful es w l.1) (nat_eq v w) refl
 
 -- a lawful history holds, and its tests run on one heap
 module _ (p : Program) (linked : Linked p) (R : List Edge) (is_record : RecordOf p R) (detected : is_detected p ≡ true) where
@@ -193,7 +193,10 @@ module _ (p : Program) (linked : Linked p) (R : List Edge) (is_record : RecordOf
     all_posts : (es : List Event) → Legal p C k es → PostsSequential p es
     all_posts [] l = tt
     all_posts (claim w c ∷ es) l = all_posts es l.1
-    all_posts (post w t o ∷ es) l = let m = l.0 in (same_outcome t (list_of es w t) o m.4 (next_result es w t m.0 m.1 l.1 m.2 m.3), m.3.open_yet, all_posts es l.1)
+    all_posts (post w ls t o ∷ es) l =
+        let m = l.0 in
+        let listed : list_of es w t ≡ ls ++ (t ∷ []) = reversed t (posts es w) ∙ ap (λ (x : List ℕ). x ++ (t ∷ [])) (sym m.4) in
+        (same_outcome t (list_of es w t) o (ap (λ (x : List ℕ). last_outcome p x) listed ∙ m.5) (next_result es w t m.0 m.1 l.1 m.2 m.3), m.3.open_yet, all_posts es l.1)
 
 pub law_of_interleavings : LawOfInterleavings
 law_of_interleavings p R set C n es linked detected is_record low closed cs l =

@@ -55,7 +55,7 @@ self_base base.Int = int_bases
 self_base base.Long = long_bases
 self_base (base.Class c) = class_bases (self c)
 
-self_kind : (k : Kind) → PairedKind (Tested nat_eq) k k
+pub self_kind : (k : Kind) → PairedKind (Tested nat_eq) k k
 self_kind (kind.Class c) = class_kinds (self c)
 self_kind (kind.Array d b) = array_kinds d (self_base b)
 

@@ -13,3 +13,4 @@ pub mod Plan
 pub mod RecordForm
 pub mod Reach
 pub mod OrderFault
+pub mod Walk

@@ -27,22 +27,28 @@ pub record Chains (R : List Edge) (S : ℕ → Type 0) (C : List (List ℕ)) : T
   pub apart : (i j t : ℕ) → Member t (chain_at C i) → Member t (chain_at C j) → i ≡ j
   pub ascending : (i : ℕ) → Ascending (chain_at C i)
 
+-- The chains as they are listed: none is empty, and they stand by their first tests.
+pub record ChainList (R : List Edge) (S : ℕ → Type 0) (C : List (List ℕ)) : Type 0 where
+  pub chains : Chains R S C
+  pub filled : (i : ℕ) → i < length C → (t : ℕ) × Member t (chain_at C i)
+  pub by_first : (i j t u : ℕ) (l m : List ℕ) → i < j → chain_at C i ≡ t ∷ l → chain_at C j ≡ u ∷ m → t < u
+
 pub data Event : Type 0 where
   -- a worker claims a chain
   claim : ℕ → ℕ → Event
-  -- a worker posts a test with its outcome
-  post : ℕ → ℕ → Outcome → Event
+  -- a worker posts these tests, which its machine has run, and then one more, with the outcome of that one
+  post : ℕ → List ℕ → ℕ → Outcome → Event
 
 -- the chains that a worker claimed, and the tests that it posted, the latest first
 abbrev pub claims : List Event → ℕ → List ℕ
 claims [] w = []
 claims (claim v c ∷ es) w = cond (nat_eq v w) (c ∷ claims es w) (claims es w)
-claims (post v t o ∷ es) w = claims es w
+claims (post v l t o ∷ es) w = claims es w
 
 abbrev pub posts : List Event → ℕ → List ℕ
 posts [] w = []
 posts (claim v c ∷ es) w = posts es w
-posts (post v t o ∷ es) w = cond (nat_eq v w) (t ∷ posts es w) (posts es w)
+posts (post v l t o ∷ es) w = cond (nat_eq v w) (t ∷ posts es w) (posts es w)
 
 abbrev pub Posted : List Event → ℕ → Type 0
 Posted es t = (w : ℕ) × Member t (posts es w)
@@ -60,21 +66,25 @@ abbrev pub list_of : List Event → ℕ → ℕ → List ℕ
 list_of es w t = reverse (t ∷ posts es w)
 
 -- The event may follow the others. A claim: a chain that nobody claimed, by a worker whose earlier chains are all posted. A
--- post: the next test of the worker's last chain, with its outcome after the worker's earlier posts.
+-- post: the worker's earlier posts and then the next test of its last chain, with its outcome after them.
 abbrev pub Meets : Program → List (List ℕ) → ℕ → Event → List Event → Type 0
 Meets p C n (claim w c) es = (0 < w) × (w ≤ n) × (c < length C) × ((v : ℕ) → Member c (claims es v) → ⊥) ×
     ((i t : ℕ) → Member i (claims es w) → Member t (chain_at C i) → Member t (posts es w))
-Meets p C n (post w t o) es = (i : ℕ) × (rest : List ℕ) × (claims es w ≡ i ∷ rest) × NextOf es (chain_at C i) t × (last_outcome p (list_of es w t) ≡ Some o)
+Meets p C n (post w l t o) es = (i : ℕ) × (rest : List ℕ) × (claims es w ≡ i ∷ rest) × NextOf es (chain_at C i) t × (l ≡ reverse (posts es w)) × (last_outcome p (l ++ (t ∷ [])) ≡ Some o)
 
 abbrev pub Legal : Program → List (List ℕ) → ℕ → List Event → Type 0
 Legal p C n [] = Unit {0}
 Legal p C n (e ∷ es) = Meets p C n e es × Legal p C n es
 
+-- a history is complete where each test of the chains is posted
+abbrev pub IsComplete : List (List ℕ) → List Event → Type 0
+IsComplete C es = (i t : ℕ) → Member t (chain_at C i) → Posted es t
+
 -- each post has the outcome of the suite's own order, and no test is posted twice
 abbrev pub PostsSequential : Program → List Event → Type 0
 PostsSequential p [] = Unit {0}
 PostsSequential p (claim w c ∷ es) = PostsSequential p es
-PostsSequential p (post w t o ∷ es) = (seq p t ≡ Some o) × (Posted es t → ⊥) × PostsSequential p es
+PostsSequential p (post w l t o ∷ es) = (seq p t ≡ Some o) × (Posted es t → ⊥) × PostsSequential p es
 
 -- Every interleaving. In every legal history over the chains of a set that is closed under raw edges each post has the
 -- outcome of the suite's own order, and what a worker runs next will have it too, so that it meets no budget.

@@ -5,6 +5,7 @@ ghost use Rattle.order_law.specs.FrameLaw.{FrameLaw};
 ghost use Rattle.order_law.specs.Histories.{LawOfOrder};
 ghost use Rattle.order_law.specs.Plan.{LawOfInterleavings};
 ghost use Rattle.order_law.specs.OwnRecord.{OwnLaw};
+ghost use Rattle.order_law.specs.Walk.{WalkLaw};
 
 mod edges;
 mod locations;
@@ -32,4 +33,10 @@ pub fn lawful_order_law()
 /// what a worker runs next will have it too, so that it meets no budget.
 pub fn interleavings_law()
     ensures { LawOfInterleavings }
+{}
+
+/// The walk to an object. To each object that an earlier test made and of which a test touches something, the test came by
+/// one walk of reads, which begins at a static.
+pub fn walk_law()
+    ensures { WalkLaw }
 {}

@@ -1,9 +1,9 @@
 //! The types that a descriptor names (JVMS 4.3).
 
 ghost use Rattle.std.specs.Prelude.{◌≡◌, List, ℕ, ◌∷◌, ◌++◌, [], IfOk, OnOk, flat_map};
-ghost use Rattle.jvm_model.specs.Descriptors.{at_type, in_array, in_name, parameters, return_type, types_in};
+ghost use Rattle.jvm_model.specs.Descriptors.{at_type, in_array, in_name, parameters, past_types, return_type, scan_name, scan_plain, types_in};
 ghost use Rattle.type_frames.specs.Descriptors.{class_name, types_of};
-ghost use Rattle.type_frames.specs.Scanning.{onto, texts_with};
+ghost use Rattle.type_frames.specs.Scanning.{onto, scan_of, texts_with};
 
 use crate::vtype::VType;
 use et_base::{Items, NoMemory, Units};
@@ -185,19 +185,49 @@ pub fn parameters(alloc: Global, descriptor: &[u16]) -> Result<Items<Units>, NoM
     }
 }
 
+// Where a reader stands after a unit.
+fn place_after(place: Place, u: u16) -> Place
+    ensures { scan_of result ≡ elim (scan_of place) [ in_name ↦ scan_name u | at_type ↦ scan_plain u | in_array ↦ scan_plain u ] }
+{
+    if place == Place::Name {
+        return if u == SEMICOLON {
+            Place::Type
+        } else {
+            Place::Name
+        };
+    }
+    match u {
+        BRACKET => Place::Element,
+        L => Place::Name,
+        _ => Place::Type,
+    }
+}
+
+// What follows the parenthesis that closes the parameters; a class's name may hold one too.
+fn past_types(units: &[u16]) -> &[u16]
+    ensures { result.now ≡ past_types at_type units.now }
+{
+    let mut place = Place::Type;
+    let mut rest = units;
+    while let Some((u, units)) = rest.split_first() {
+        if place == Place::Type && *u == CLOSE {
+            return units;
+        }
+        place = place_after(place, *u);
+        rest = units;
+    }
+    rest
+}
+
 /// The descriptor of what a method returns, V of nothing.
 #[tactic(auto, unfolding(jvm_model::specs::Descriptors::return_type))]
 pub fn return_type(descriptor: &[u16]) -> &[u16]
     ensures { result.now ≡ return_type descriptor.now }
 {
-    let mut rest = descriptor;
-    while let Some((u, units)) = rest.split_first() {
-        if *u == CLOSE {
-            return units;
-        }
-        rest = units;
+    match descriptor.split_first() {
+        None => descriptor,
+        Some((_, units)) => past_types(units),
     }
-    rest
 }
 
 /// The same units.
