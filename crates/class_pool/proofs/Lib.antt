@@ -10,3 +10,4 @@ pub mod OffsetsLaw
 pub mod PoolFacts
 pub mod NamesSpelled
 pub mod EntryFacts
+pub mod GrammarFacts
