@@ -6,3 +6,4 @@ pub mod FaultLaw
 pub mod SpellingLaw
 pub mod SpellingSwitches
 pub mod RespelledLaw
+pub mod ArgFacts
