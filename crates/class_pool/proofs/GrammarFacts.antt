@@ -1,5 +1,5 @@
 -- What holds of each item that a grammar spells.
-use Rattle.std.proofs.Common.{◌≡◌, ◌<◌, ℕ, zero, suc, List, [], ◌∷◌, ◌++◌, length, take, get_or, refl, sym, ap, subst, ◌∙◌, append_assoc, arith, All}
+use Rattle.std.proofs.Common.{◌≡◌, ◌<◌, ◌+◌, ℕ, zero, suc, List, [], ◌∷◌, ◌++◌, length, take, get_or, refl, sym, ap, subst, ◌∙◌, append_assoc, arith, All}
 use Rattle.std.specs.List.{AllByRecursion}
 use Rattle.std.proofs.lemmas.List.{append-nil}
 use Rattle.std.proofs.lemmas.List.Elements.{All-from_recursion}
@@ -45,3 +45,11 @@ pub chain_keeps : {A : Type 0} (T : A → List ℕ → A → Type 0) (I : A → 
     → (a : A) (n : ℕ) (text : List ℕ) (y : A) → I a → Chain T a n text y → I y
 chain_keeps T I f a zero text y i (nil, is) = subst I (sym is) i
 chain_keeps T I f a (suc n) text y i (mid, one, more, e, s, others) = chain_keeps T I f mid n more y (f a one mid i s) others
+
+-- the same, where each step counts
+pub chain_counts : {A : Type 0} (T : A → List ℕ → A → Type 0) (I : ℕ → A → Type 0) → ((k : ℕ) (a : A) (text : List ℕ) (b : A) → I k a → T a text b → I (suc k) b)
+    → (k : ℕ) (a : A) (n : ℕ) (text : List ℕ) (y : A) → I k a → Chain T a n text y → I (k + n) y
+chain_counts T I f k a zero text y i (nil, is) = let same : k ≡ k + 0 = omega arith in subst (λ m. I m y) same (subst (I k) (sym is) i)
+chain_counts T I f k a (suc n) text y i (mid, one, more, e, s, others) =
+    let same : suc k + n ≡ k + suc n = omega arith in
+    subst (λ m. I m y) same (chain_counts T I f (suc k) mid n more y (f k a one mid i s) others)
