@@ -7,3 +7,4 @@ pub mod SpellingLaw
 pub mod SpellingSwitches
 pub mod RespelledLaw
 pub mod ArgFacts
+pub mod CodeFacts
