@@ -5,4 +5,5 @@ pub mod MapSteps
 pub mod MapLaw
 pub mod ClassLaw
 pub mod MemberFacts
+pub mod PartFacts
 pub mod ClassFacts
