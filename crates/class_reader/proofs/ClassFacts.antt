@@ -17,7 +17,8 @@ use Rattle.class_reader.specs.declared.parts.ClassParts.{ClassParts}
 use Rattle.class_reader.specs.Indices.{Index}
 use Rattle.class_reader.specs.Names.{begins_array, is_own_class}
 use Rattle.class_reader.specs.ClassGrammar.{PartText, HeadText, InterfacesText, MembersText, parts_of, BodyText, class_bytes, IsClass}
-use Rattle.class_reader.proofs.MemberFacts.{FieldFacts, MethodFacts, MembersFacts, index_facts, fields_facts, methods_facts}
+use Rattle.class_reader.proofs.AttributeFacts.{index_facts}
+use Rattle.class_reader.proofs.MemberFacts.{FieldFacts, MethodFacts, MembersFacts, fields_facts, methods_facts}
 
 -- a class that is no array
 pub record OwnClass (slots : List (Option Entry)) (index : ℕ) : Type 0 where
@@ -30,8 +31,7 @@ pub record NamesShort (slots : List (Option Entry)) (index : ℕ) : Type 0 where
   pub small : index < 2 ^ 16
   pub class : NamesClass slots index
 
--- P holds of each method's code
-pub record ClassFactsBy (P : List (Option Entry) → CodePart → Type 0) (c : ClassParts) : Type 0 where
+pub record ClassFacts (c : ClassParts) : Type 0 where
   pub entries : EntryFacts c.pool
   pub minor : c.minor < 2 ^ 16
   pub lowest : 50 ≤ c.major
@@ -43,7 +43,7 @@ pub record ClassFactsBy (P : List (Option Entry) → CodePart → Type 0) (c : C
   pub interfaces : All (NamesShort c.pool) c.interfaces
   pub few_interfaces : length c.interfaces < 2 ^ 16
   pub fields : MembersFacts (FieldFacts c.pool) c.pool c.fields
-  pub methods : MembersFacts (MethodFacts (P c.pool) c.pool) c.pool c.methods
+  pub methods : MembersFacts (MethodFacts c.pool) c.pool c.methods
 
 -- ---- this class
 
@@ -95,24 +95,19 @@ interfaces_facts slots pool text xs (n, one, more, e, short, counted) = (
   subst (λ k. k < 2 ^ 16) (sym (counted_length (λ _ _. Index is_class slots) n more xs counted)) short.1,
 )
 
-abbrev MembersSo : (CodePart → Type 0) → List (Option Entry) → List MemberPart × List MemberPart → Type 0
-MembersSo P slots members = MembersFacts (FieldFacts slots) slots members.0 × MembersFacts (MethodFacts P slots) slots members.1
+abbrev MembersSo : List (Option Entry) → List MemberPart × List MemberPart → Type 0
+MembersSo slots members = MembersFacts (FieldFacts slots) slots members.0 × MembersFacts (MethodFacts slots) slots members.1
 
-members_so : (P : CodePart → Type 0) (slots : List (Option Entry)) → ((text : List ℕ) (x : CodePart) → Sized (PartText slots) text x → P x)
-    → (text : List ℕ) (members : List MemberPart × List MemberPart) → MembersText slots text members → MembersSo P slots members
-members_so P slots f text members (fields, t1, m1, e1, s1, (methods, t2, m2, e2, s2, (u, skipped, is))) =
-    subst (MembersSo P slots) (sym is) (fields_facts slots t1 fields s1, methods_facts P slots f t2 methods s2)
+members_so : (slots : List (Option Entry)) → IsPool slots → (text : List ℕ) (members : List MemberPart × List MemberPart) → MembersText slots text members → MembersSo slots members
+members_so slots pool text members (fields, t1, m1, e1, s1, (methods, t2, m2, e2, s2, (u, skipped, is))) =
+    subst (MembersSo slots) (sym is) (fields_facts slots t1 fields s1, methods_facts slots pool t2 methods s2)
 
--- the code of each method that is spelled is so
-abbrev pub CodeSo : (List (Option Entry) → CodePart → Type 0) → Type 0
-CodeSo P = (slots : List (Option Entry)) → IsPool slots → (text : List ℕ) (x : CodePart) → Sized (PartText slots) text x → P slots x
-
-body_facts : (P : List (Option Entry) → CodePart → Type 0) → CodeSo P → (version : ℕ × ℕ) (slots : List (Option Entry)) → IsVersion version → IsPool slots → (text : List ℕ) (c : ClassParts) → BodyText version slots text c → ClassFactsBy P c
-body_facts P f version slots v pool text c (flags, t1, m1, e1, s1, (this, t2, m2, e2, s2, (super, t3, m3, e3, s3, (interfaces, t4, m4, e4, s4, (members, s5, is))))) =
+body_facts : (version : ℕ × ℕ) (slots : List (Option Entry)) → IsVersion version → IsPool slots → (text : List ℕ) (c : ClassParts) → BodyText version slots text c → ClassFacts c
+body_facts version slots v pool text c (flags, t1, m1, e1, s1, (this, t2, m2, e2, s2, (super, t3, m3, e3, s3, (interfaces, t4, m4, e4, s4, (members, s5, is))))) =
     let own = index_facts (is_own_class slots) slots t2 this s2 in
     let above = interfaces_facts slots pool t4 interfaces s4 in
-    let both = members_so (P slots) slots (f slots pool) m4 members s5 in
-    let made : ClassFactsBy P (parts_of version slots flags this super interfaces members) = record {
+    let both = members_so slots pool m4 members s5 in
+    let made : ClassFacts (parts_of version slots flags this super interfaces members) = record {
       entries = entry_facts slots pool;
       minor = v.0;
       lowest = v.1;
@@ -126,11 +121,11 @@ body_facts P f version slots v pool text c (flags, t1, m1, e1, s1, (this, t2, m2
       fields = both.0;
       methods = both.1;
     } in
-    subst (ClassFactsBy P) (sym is) made
+    subst ClassFacts (sym is) made
 
-spelled_facts : (P : List (Option Entry) → CodePart → Type 0) → CodeSo P → (bytes : List ℕ) (c : ClassParts) → class_bytes bytes c → ClassFactsBy P c
+spelled_facts : (bytes : List ℕ) (c : ClassParts) → class_bytes bytes c → ClassFacts c
 unfolding class_bytes
-spelled_facts P f bytes c (version, t1, m1, e1, head, (slots, t2, m2, e2, pool, body)) = body_facts P f version slots (head_facts t1 version head) (pool_kept t2 slots pool) m2 c body
+spelled_facts bytes c (version, t1, m1, e1, head, (slots, t2, m2, e2, pool, body)) = body_facts version slots (head_facts t1 version head) (pool_kept t2 slots pool) m2 c body
 
-pub class_facts_by : (P : List (Option Entry) → CodePart → Type 0) → CodeSo P → (c : ClassParts) → IsClass c → ClassFactsBy P c
-class_facts_by P f c h = spelled_facts P f h.bytes c h.spelled
+pub class_facts : (c : ClassParts) → IsClass c → ClassFacts c
+class_facts c h = spelled_facts h.bytes c h.spelled
