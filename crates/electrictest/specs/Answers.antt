@@ -35,7 +35,7 @@ LoadEnds (ends.Over fault) old new = ⊥
 -- how a refusal of the depot at the file of a name is answered
 abbrev pub status_of : refused.the_data → List ℕ → Status
 status_of refused.Absent name = ends.Input (input.Absent name)
-status_of refused.TooLong name = ends.Input (input.NotYet name)
+status_of refused.TooLong name = ends.Input (input.TooLarge name)
 status_of refused.Failed name = ends.Depot name
 status_of refused.NoMemory name = ends.NoMemory
 

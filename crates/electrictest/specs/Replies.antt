@@ -6,6 +6,7 @@ use Rattle.et_base.specs.Quotes.{name_of}
 use Rattle.outside.specs.Depot.{content}
 use Rattle.class_reader.specs.declared.parts.ClassParts.{ClassParts}
 use Rattle.class_reader.specs.Faults.{class_of}
+use Rattle.class_reader.specs.declared.fault.ClassFault.{ClassFault}
 use Rattle.class_reader.specs.declared.fault.ClassFault.TheVariants as fault
 use Rattle.jvm_model.specs.declared.outcome.Outcome.{Outcome}
 use Rattle.jvm_model.specs.declared.outcome.Verdict.TheVariants as verdict
@@ -14,6 +15,8 @@ use Rattle.jvm_model.specs.declared.program.Program.{Program}
 use Rattle.jvm_model.specs.Suite.{SuiteFault, over_budget, over_suite, runs, all_tests, suite_fault}
 use Rattle.jvm_model.specs.Texts.{outcome_lines, count_line}
 use Rattle.suite_load.specs.declared.suite_text.SuiteText.{SuiteText}
+use Rattle.suite_load.specs.declared.suite_text.SuiteRefusal.{SuiteRefusal}
+use Rattle.suite_load.specs.declared.suite_text.SuiteRefusal.TheVariants as refusals
 use Rattle.suite_load.specs.SuiteForm.{suite_of}
 use Rattle.suite_load.specs.NameForms.{is_depot_name}
 use Rattle.electrictest.specs.declared.status.Status.{Status}
@@ -23,6 +26,7 @@ use Rattle.electrictest.specs.declared.status.OverFault.{OverFault}
 use Rattle.electrictest.specs.declared.status.OverFault.TheVariants as over
 use Rattle.electrictest.specs.declared.loaded.Loaded.{Loaded}
 use Rattle.electrictest.specs.First.{first_program}
+use Rattle.electrictest.specs.FaultTexts.{why_text, class_text}
 
 infixl 10 ◌>>=◌
 abbrev pub ◌>>=◌ : {A B : Type 0} → Result A Status → (A → Result B Status) → Result B Status
@@ -46,26 +50,31 @@ or_else None s = Err s
 abbrev pub file_limit : ℕ
 file_limit = 1048576
 
--- a file's bytes; a longer file isn't served
+-- a file's bytes; a longer file is too large
 unfoldable pub file_of : Files → List ℕ → Result (List ℕ) Status
-file_of files name = or_else (content files name) (ends.Input (input.Absent name)) >>= λ bytes. if nat_le (length bytes) file_limit then Ok bytes else Err (ends.Input (input.NotYet name))
+file_of files name = or_else (content files name) (ends.Input (input.Absent name)) >>= λ bytes. if nat_le (length bytes) file_limit then Ok bytes else Err (ends.Input (input.TooLarge name))
 
-abbrev pub ok_value : {A E : Type 0} → Result A E → Option A
-ok_value (Ok x) = Some x
-ok_value (Err e) = None
+-- what a suite text says; its first faulty line is named
+abbrev pub suite_said : Result SuiteText SuiteRefusal → Result SuiteText Status
+suite_said (Ok suite) = Ok suite
+suite_said (Err (refusals.Suite line why)) = Err (ends.Input (input.Suite line why))
+suite_said (Err refusals.NoMemory) = Err ends.NoMemory
 
--- what a suite text says
 unfoldable pub suite_in : Files → List ℕ → Result SuiteText Status
-suite_in files name = file_of files name >>= λ bytes. or_else (ok_value (suite_of bytes)) (ends.Input (input.NotYet name))
+suite_in files name = file_of files name >>= λ bytes. suite_said (suite_of bytes)
 
 -- how a fault of a class file is answered
-abbrev pub class_status : fault.the_data → List ℕ → Status
+abbrev pub class_status : ClassFault → List ℕ → Status
 class_status fault.NoMemory name = ends.NoMemory
-class_status _ name = ends.Input (input.NotYet name)
+class_status f name = ends.Input (input.Class name f)
+
+abbrev pub class_said : List ℕ → Result ClassParts ClassFault → Result ClassParts Status
+class_said name (Ok c) = Ok c
+class_said name (Err f) = Err (class_status f name)
 
 -- the class file of a name
 unfoldable pub class_in : Files → List ℕ → Result ClassParts Status
-class_in files name = file_of files name >>= λ bytes. or_else (ok_value (class_of bytes)) (ends.Input (input.NotYet name))
+class_in files name = file_of files name >>= λ bytes. class_said name (class_of bytes)
 
 -- the class file of a suite that has one; a suite of more isn't served
 unfoldable pub class_of_suite : Files → List ℕ → List (List ℕ) → Result (Option ClassParts) Status
@@ -126,6 +135,9 @@ units_in (o ∷ os) = o.units + units_in os
 -- the text after `electric: ` of each refusal
 abbrev pub input_text : input.the_data → List ℕ
 input_text (input.Absent name) = codes "absent " ++ name
+input_text (input.TooLarge name) = codes "too-large " ++ name
+input_text (input.Suite line why) = codes "suite " ++ (decimal line ++ (32 ∷ why_text why))
+input_text (input.Class name f) = codes "class " ++ (name ++ (32 ∷ class_text f))
 input_text (input.NotYet name) = codes "not-yet " ++ name
 
 abbrev pub over_text : OverFault → List ℕ

@@ -2,6 +2,7 @@
 #![tactic(auto)]
 
 mod commands;
+mod fault_texts;
 mod form_refusal;
 mod given;
 mod loaded;

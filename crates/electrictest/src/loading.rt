@@ -40,7 +40,7 @@ fn named(refusal: DepotRefusal, name: Text) -> Status
 {
     match refusal {
         DepotRefusal::Absent => Status::Input(InputFault::Absent { name }),
-        DepotRefusal::TooLong => Status::Input(InputFault::NotYet { name }),
+        DepotRefusal::TooLong => Status::Input(InputFault::TooLarge { name }),
         DepotRefusal::Failed => Status::Depot { name },
         DepotRefusal::NoMemory => Status::NoMemory,
     }
@@ -64,18 +64,15 @@ fn read_file<D: Depot>(alloc: Global, depot: &mut D, name: &Text) -> Result<Text
     }
 }
 
-// What the bytes of the suite of this name say.
-fn suite_of_bytes(alloc: Global, bytes: &[u8], name: &Text) -> Result<SuiteText, Status>
-    ensures answers { Answers itself result (reply.or_else (reply.ok_value (suite_of bytes.now)) (ends.Input (input.NotYet name.now))) }
+// What the bytes of a suite text say.
+fn suite_of_bytes(alloc: Global, bytes: &[u8]) -> Result<SuiteText, Status>
+    ensures answers { Answers itself result (reply.suite_said (suite_of bytes.now)) }
     ensures ends { IfErr result (λ e. LoadEnds e 0 0) }
 {
     match read_suite(alloc, bytes) {
         Ok(suite) => Ok(suite),
         Err(SuiteRefusal::NoMemory) => Err(Status::NoMemory),
-        Err(SuiteRefusal::Suite { .. }) => {
-            let name = copy_text(alloc, name)?;
-            Err(Status::Input(InputFault::NotYet { name }))
-        }
+        Err(SuiteRefusal::Suite { line, why }) => Err(Status::Input(InputFault::Suite { line, why })),
     }
 }
 
@@ -85,14 +82,14 @@ fn class_status(fault: ClassFault, name: Text) -> Status
 {
     match fault {
         ClassFault::NoMemory => Status::NoMemory,
-        _ => Status::Input(InputFault::NotYet { name }),
+        fault => Status::Input(InputFault::Class { name, fault }),
     }
 }
 
 // The class file of this name that the bytes spell.
 fn class_of_bytes(alloc: Global, bytes: &[u8], name: &Text) -> Result<ClassFile, Status>
     requires { length bytes.now < 2 ^ 32 }
-    ensures answers { Answers itself result (reply.or_else (reply.ok_value (class_of bytes.now)) (ends.Input (input.NotYet name.now))) }
+    ensures answers { Answers itself result (reply.class_said name.now (class_of bytes.now)) }
     ensures ends { IfErr result (λ e. LoadEnds e 0 0) }
 {
     match read_class(alloc, bytes) {
@@ -113,7 +110,7 @@ fn read_suite_text<D: Depot>(alloc: Global, depot: &mut D, name: &Text) -> Resul
     ensures ends { IfErr result (λ e. LoadEnds e (D.faults depot.old) (D.faults depot.new)) }
 {
     let bytes = read_file(alloc, depot, name)?;
-    let suite = suite_of_bytes(alloc, bytes.as_slice(), name)?;
+    let suite = suite_of_bytes(alloc, bytes.as_slice())?;
     Ok(suite)
 }
 
@@ -194,8 +191,8 @@ fn program_of(
 
 /// The suite of this name and its program.
 ///
-/// `Absent` comes where the depot lacks a file, `NotYet` where one is in no form that is served, `Depot` only where the
-/// depot's count of faults rose.
+/// `Absent` comes where the depot lacks a file, `TooLarge` where one is too long, `Suite` and `Class` where one isn't in
+/// its grammar, `NotYet` where all are and the program isn't served, `Depot` only where the depot's count of faults rose.
 #[tactic(auto, unfolding(crate::specs::Replies::loaded_from))]
 pub fn load<D: Depot>(alloc: Global, depot: &mut D, name: &Text) -> Result<Loaded, Status>
     ensures told { D.told depot.new ≡ D.told depot.old }

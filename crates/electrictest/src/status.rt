@@ -3,7 +3,9 @@
 ghost use Rattle.std.specs.Prelude.{◌≡◌};
 ghost use Rattle.electrictest.specs.Codes.{code_of};
 
+use class_reader::ClassFault;
 use et_base::{Items, NoMemory, Text};
+use suite_load::Why;
 
 /// How a command ended.
 #[derive(Debug, Drop)]
@@ -31,7 +33,13 @@ pub enum Status {
 pub enum InputFault {
     /// The depot has no file of this name.
     Absent { name: Text },
-    /// The file of this name is in a form that isn't served yet.
+    /// The file of this name is longer than 1 MiB.
+    TooLarge { name: Text },
+    /// The suite text's first faulty line, by its number from 1, and what is wrong with it.
+    Suite { line: u32, why: Why },
+    /// The file of this name is no class file; the fault is the first one, never `NoMemory`.
+    Class { name: Text, fault: ClassFault },
+    /// The suite of this name is in good form and isn't served yet.
     NotYet { name: Text },
 }
 

@@ -5,6 +5,7 @@ ghost use Rattle.std.specs.List.{list_all};
 ghost use Rattle.jvm_model.specs.Texts as line;
 ghost use Rattle.electrictest.specs.Replies as reply;
 
+use crate::fault_texts::{push_class_fault, push_suite_fault};
 use crate::loaded::Loaded;
 use crate::status::{InputFault, OverFault, Status};
 use et_base::{NoMemory, Text, push_decimal, push_quoted_bytes};
@@ -20,6 +21,12 @@ fn push_input(out: &mut Text, fault: &InputFault) -> Result<(), NoMemory>
             out.extend_from_slice(b"absent ")?;
             out.extend_from_slice(name.as_slice())
         }
+        InputFault::TooLarge { name } => {
+            out.extend_from_slice(b"too-large ")?;
+            out.extend_from_slice(name.as_slice())
+        }
+        InputFault::Suite { line, why } => push_suite_fault(out, *line, *why),
+        InputFault::Class { name, fault } => push_class_fault(out, name, *fault),
         InputFault::NotYet { name } => {
             out.extend_from_slice(b"not-yet ")?;
             out.extend_from_slice(name.as_slice())
