@@ -7,3 +7,4 @@ pub mod PlainRows
 pub mod ObjectRows
 pub mod Natives
 pub mod Nested
+pub mod Initialise

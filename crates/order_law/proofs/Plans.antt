@@ -14,7 +14,7 @@ use Rattle.order_law.specs.declared.edges.EdgeKind.{EdgeKind}
 use Rattle.order_law.specs.declared.edges.EdgeKind.TheVariants.{Raw, Waw, War}
 use Rattle.order_law.specs.Conflicts.{Member, HasEdge, Before, edge, chain, Fits, History, ClosedUnderRaw, itself, forth, back}
 use Rattle.order_law.specs.Histories.{after_history, RecordOf, IsTestNumber}
-use Rattle.order_law.specs.Plan.{NextOf, PostsSequential, chain_at, Ascending, Chains, Event, claim, post, claims, posts, Posted, list_of, Legal, LawOfInterleavings}
+use Rattle.order_law.specs.Plan.{NextOf, PostsSequential, chain_at, Ascending, Chains, Event, claim, post, claims, posts, Posted, list_of, Legal, PostsOnce, LawOfInterleavings}
 use Rattle.order_law.proofs.Histories.{Holds, holds_first, next_test}
 
 member_at : (x y : ℕ) (l : List ℕ) {b : Bool} → b ≡ true → Member x (cond b (y ∷ l) l) → (x ≡ y) ⊎ Member x l
@@ -58,6 +58,12 @@ in_posts es v ls t w x o h = elim (cases_Bool (nat_eq v w)) [
   | inl b ↦ elim (member_at x t (posts es w) b h) [ inl e ↦ inl (eqb-true v w b, e) | inr k ↦ inr k ]
   | inr b ↦ inr (member_past x t (posts es w) b h)
 ]
+
+-- a legal history posts no test twice and no test outside the chains
+pub legal_once : (p : Program) (C : List (List ℕ)) (n : ℕ) (es : List Event) → Legal p C n es → PostsOnce C es
+legal_once p C n [] l = tt
+legal_once p C n (claim w c ∷ es) l = legal_once p C n es l.1
+legal_once p C n (post w ls t o ∷ es) l = let m = l.0 in (m.3.open_yet, (m.0, rw m.3.split (member_mid m.3.front t m.3.rest)), legal_once p C n es l.1)
 
 -- `Before` leads to a higher number
 module _ (p : Program) (R : List Edge) (is_record : RecordOf p R) where

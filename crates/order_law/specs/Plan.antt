@@ -80,6 +80,12 @@ Legal p C n (e ∷ es) = Meets p C n e es × Legal p C n es
 abbrev pub IsComplete : List (List ℕ) → List Event → Type 0
 IsComplete C es = (i t : ℕ) → Member t (chain_at C i) → Posted es t
 
+-- no test is posted twice, and each is one of the chains
+abbrev pub PostsOnce : List (List ℕ) → List Event → Type 0
+PostsOnce C [] = Unit {0}
+PostsOnce C (claim w c ∷ es) = PostsOnce C es
+PostsOnce C (post w l t o ∷ es) = (Posted es t → ⊥) × ((i : ℕ) × Member t (chain_at C i)) × PostsOnce C es
+
 -- each post has the outcome of the suite's own order, and no test is posted twice
 abbrev pub PostsSequential : Program → List Event → Type 0
 PostsSequential p [] = Unit {0}
