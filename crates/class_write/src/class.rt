@@ -121,9 +121,10 @@ fn spelling(alloc: Global, parts: &ClassParts) -> Result<Vec<u8>, NoMemory>
     Ok(out)
 }
 
-/// The bytes of a class file, with its pool as it is. Of attributes it writes Code, ConstantValue and
-/// StackMapTable, which are all that a `ClassFile` has; each is named by the first entry of the pool
-/// that is its name. Padding is written as zeros (JVMS 4.1).
+/// The bytes of a class file (JVMS 4.1), with its pool as it is. Of attributes there are Code,
+/// ConstantValue and StackMapTable, all that a `ClassFile` has; each is named by the first entry of the
+/// pool that is its name. Padding in code is written as zeros. It takes time in proportion to the bytes
+/// and to the pool.
 pub fn write_class(alloc: Global, class: &ClassFile) -> Result<Vec<u8>, NoMemory>
     // What is written spells the class file.
     ensures written { IfOk result (λ v. class_bytes v.items class.now) }
