@@ -1,5 +1,7 @@
 -- What the indices of a pool name, down to the texts.
-use Rattle.std.proofs.Common.{◌≡◌, ◌<◌, ◌^◌, ◌+◌, ℕ, Bool, true, false, ◌&&◌, List, length, Option, Some, None, refl, ap, ◌∙◌, inl, inr}
+use Rattle.std.proofs.Common.{◌≡◌, ◌<◌, ◌^◌, ◌+◌, ℕ, zero, suc, Bool, true, false, ◌&&◌, List, length, Option, Some, None, is_some, refl, ap, ◌∙◌, arith, inl, inr}
+use Rattle.std.proofs.lemmas.Bool.{cases_lt}
+use Rattle.std.proofs.lemmas.List.{get_or_past}
 use Rattle.class_pool.specs.declared.pool.Entry.{Entry}
 use Rattle.class_pool.specs.declared.pool.Entry.TheVariants.{Utf8, Class, Str, Field, Method, InterfaceMethod, NameAndType}
 use Rattle.et_base.specs.Names.{is_unqualified, is_method_name, is_class_name, is_class_entry_name, is_field_descriptor, is_method_descriptor, starts_array}
@@ -89,6 +91,14 @@ unfolding is_class_entry_name
 plain_name us h bare = elim (either_true (is_class_name us) (starts_array us && is_field_descriptor us) h) [
   | inl named ↦ named
   | inr array ↦ absurd (let there : starts_array us ≡ true = (both_true _ _ array).0 in cc)
+]
+
+-- an index that names an entry is one of two bytes
+pub index_small : (slots : List (Option Entry)) (i : ℕ) → length slots + 1 < 2 ^ 16 → is_some (entry_of slots i) ≡ true → i < 2 ^ 16
+index_small slots zero few h = omega arith
+index_small slots (suc i) few h = elim (cases_lt i (length slots)) [
+  | inl lt ↦ omega (arith, lt, few)
+  | inr le ↦ absurd (let past : entry_of slots (suc i) ≡ None = get_or_past slots i None le in let none : is_some (entry_of slots (suc i)) ≡ false = ap is_some past in cc)
 ]
 
 -- the texts themselves

@@ -8,3 +8,4 @@ pub mod AttributeFacts
 pub mod PartFacts
 pub mod MemberFacts
 pub mod ClassFacts
+pub mod ConstantFacts

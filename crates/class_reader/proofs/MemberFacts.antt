@@ -1,5 +1,5 @@
 -- What is known of a class file's fields and methods.
-use Rattle.std.proofs.Common.{◌≡◌, ◌<◌, ◌≤◌, ◌^◌, ◌+◌, ℕ, zero, suc, Bool, true, false, not, cond, leb, ◌&&◌, ◌||◌, List, [], ◌∷◌, ◌++◌, length, take, get_or, Option, Some, None, is_some, refl, sym, ap, subst, ◌∙◌, arith, inl, inr, All}
+use Rattle.std.proofs.Common.{◌≡◌, ◌<◌, ◌≤◌, ◌^◌, ◌+◌, ℕ, zero, suc, Bool, true, false, not, cond, ◌&&◌, ◌||◌, List, [], ◌∷◌, ◌++◌, length, take, get_or, Option, Some, None, is_some, refl, sym, ap, subst, ◌∙◌, arith, inl, inr, All}
 use Rattle.std.specs.Prelude.{IfSome}
 use Rattle.std.specs.List.{AllByRecursion}
 use Rattle.std.proofs.lemmas.Bool.{cases_lt, leb-true, not-true}
@@ -8,11 +8,10 @@ use Rattle.std.proofs.lemmas.List.Elements.{All-from_recursion, All-weaker}
 use Rattle.std.proofs.lemmas.Slice.Eq.{bytes_eq-Decides}
 use Rattle.class_pool.specs.declared.pool.Entry.{Entry}
 use Rattle.class_pool.specs.declared.pool.Entry.TheVariants.{Utf8}
-use Rattle.class_pool.specs.Pool.{entry_of, is_text, text_of, in_text}
+use Rattle.class_pool.specs.Pool.{entry_of, is_text, text_of}
 use Rattle.class_pool.specs.Grammar.{Sized}
 use Rattle.class_pool.specs.PoolGrammar.{IsPool}
-use Rattle.class_pool.proofs.Laws.{chosen, both, both_true}
-use Rattle.class_pool.proofs.GrammarFacts.{Behind, behind_at, counted_behind, counted_all, counted_length, chain_keeps}
+use Rattle.class_pool.proofs.GrammarFacts.{Behind, behind_at, counted_behind, counted_length}
 use Rattle.class_pool.proofs.EntryFacts.{NamesText, text_from}
 use Rattle.et_base.specs.Names.{is_unqualified, is_field_descriptor, is_method_descriptor, argument_units}
 use Rattle.et_base.specs.Names as names
@@ -149,9 +148,9 @@ pub differ : (slots : List (Option Entry)) (ms : List MemberPart) → All (HasTe
 differ slots ms texts new i j d p q names types = elim (cases_lt i j) [
   | inl lt ↦ absurd (apart slots ms texts new i j d lt q names types)
   | inr le ↦ elim (cases_lt j i) [
-      | inl lt ↦ absurd (apart slots ms texts new j i d lt p (sym names) (sym types))
-      | inr ge ↦ omega (arith, le, ge)
-    ]
+    | inl lt ↦ absurd (apart slots ms texts new j i d lt p (sym names) (sym types))
+    | inr ge ↦ omega (arith, le, ge)
+  ]
 ]
 
 -- ---- all of them

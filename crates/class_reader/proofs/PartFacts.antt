@@ -1,29 +1,27 @@
 -- What is known of a method's code, its handlers and its stack map.
-use Rattle.std.proofs.Common.{◌≡◌, ◌≢◌, ◌⊎◌, ℕ, zero, suc, ◌-◌, ◌%◌, ◌^◌, ◌<◌, ◌≤◌, Bool, true, false, cond, eqb, eq-eqb, ltb, ◌&&◌, ◌||◌, List, [], ◌∷◌, ◌++◌, length, Option, Some, None, refl, sym, ap, subst, ◌∙◌, arith, inl, inr, All}
+use Rattle.std.proofs.Common.{◌≡◌, ◌≢◌, ◌⊎◌, ℕ, zero, suc, ◌-◌, ◌%◌, ◌^◌, ◌<◌, ◌≤◌, Bool, true, false, cond, eqb, ltb, ◌&&◌, ◌||◌, List, [], ◌∷◌, length, Option, refl, sym, subst, ◌∙◌, arith, inl, inr, All}
 use Rattle.std.specs.Prelude.{IfSome}
 use Rattle.std.specs.List.{AllByRecursion}
-use Rattle.std.proofs.lemmas.Bool.{eqb-true, ltb-true, ltb-false}
+use Rattle.std.proofs.lemmas.Bool.{eqb-true, ltb-true}
 use Rattle.std.proofs.lemmas.List.Elements.{All-from_recursion}
 use Rattle.class_pool.specs.declared.pool.Entry.{Entry}
 use Rattle.class_pool.specs.Pool.{entry_of, is_class}
-use Rattle.class_pool.specs.Grammar.{IsBytes, Counted, Sized}
+use Rattle.class_pool.specs.Grammar.{IsBytes, Sized}
 use Rattle.class_pool.specs.PoolGrammar.{IsPool}
 use Rattle.class_pool.proofs.Laws.{both_true, either_true, chosen}
 use Rattle.class_pool.proofs.GrammarFacts.{counted_all, counted_length}
 use Rattle.class_pool.proofs.EntryFacts.{NamesClass, class_from}
 use Rattle.code_decode.specs.declared.decoding.Code.{Code}
 use Rattle.code_decode.specs.Targets.{has_start}
-use Rattle.code_decode.specs.CodeGrammar.{CodeText}
 use Rattle.code_decode.proofs.CodeFacts.{CodeFacts, code_facts}
 use Rattle.class_reader.specs.declared.parts.CodePart.{CodePart}
 use Rattle.class_reader.specs.declared.parts.RawHandler.{RawHandler}
 use Rattle.class_reader.specs.declared.parts.MapType.{MapType}
 use Rattle.class_reader.specs.declared.parts.MapFrame.{MapFrame}
 use Rattle.class_reader.specs.declared.parts.MapPart.{MapPart}
-use Rattle.class_reader.specs.Indices.{Short, Index}
 use Rattle.class_reader.specs.Handlers.{begins_at, ends_at, is_caught, handler_of, RangeText, CatchText, HandlerText, HandlersText}
 use Rattle.class_reader.specs.Maps.{type_of, frame_of, is_object, is_frame_tag, tells_delta, stack_given, frame_at, has_bad_tag}
-use Rattle.class_reader.specs.MapGrammar.{TaggedText, TypeText, GivenText, TypesText, FrameText, FramesText, ContentText, MapText}
+use Rattle.class_reader.specs.MapGrammar.{TaggedText, TypeText, GivenText, TypesText, FrameText, FramesText, MapText}
 use Rattle.class_reader.specs.Names.{is_stack_map}
 use Rattle.class_reader.specs.ClassGrammar.{RunText, part_of, PartText}
 use Rattle.class_reader.proofs.AttributeFacts.{attributes_keep, index_facts}

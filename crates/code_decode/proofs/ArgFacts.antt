@@ -1,18 +1,17 @@
 -- What is known of an instruction's operands, form by form.
-use Rattle.std.proofs.Common.{◌≡◌, ℕ, zero, suc, ◌+◌, ◌-◌, ◌*◌, ◌%◌, ◌^◌, ◌<◌, ◌≤◌, ℤ, pos, negsuc, ◌+ℤ◌, ◌≤ℤ◌, ◌<ℤ◌, int_le, int_lt, FitsSigned, Bool, true, false, not, cond, eqb, ltb, leb, ◌&&◌, ◌||◌, List, [], ◌∷◌, ◌++◌, length, get_or, Option, Some, None, refl, sym, ap, subst, ◌∙◌, arith, inl, inr, All, T}
+use Rattle.std.proofs.Common.{◌≡◌, ℕ, zero, suc, ◌+◌, ◌-◌, ◌*◌, ◌%◌, ◌^◌, ◌<◌, ◌≤◌, ℤ, pos, negsuc, ◌+ℤ◌, ◌≤ℤ◌, ◌<ℤ◌, int_le, int_lt, FitsSigned, Bool, true, false, not, eqb, ltb, ◌||◌, List, [], ◌∷◌, ◌++◌, length, get_or, Option, Some, refl, sym, ap, subst, ◌∙◌, arith, All, T}
 use Rattle.std.specs.List.{list_all, enumerate_from}
 use Rattle.std.specs.Int.{Width, w8, w16, w32, byte_len, cast_signed}
 use lib.Signed.{le_z_yes, lt_z_yes}
 use borrow.Author.Gap.{read_sfits}
-use Rattle.std.proofs.lemmas.Bool.{eq-eqb, eqb-true, ltb-true, leb-true}
+use Rattle.std.proofs.lemmas.Bool.{eq-eqb, ltb-true, leb-true}
 use Rattle.std.proofs.lemmas.Bool.Decides.{nat_tests}
 use Rattle.std.proofs.lemmas.Int.{ints}
-use Rattle.std.proofs.lemmas.List.{length-append, get_or-append-add}
+use Rattle.std.proofs.lemmas.List.{length-append}
 use Rattle.std.proofs.lemmas.List.FromFn.{length-enumerate_from, get_or-enumerate_from}
 use Rattle.std.proofs.lemmas.List.Elements.{All-nil, All-push}
 use Rattle.class_pool.specs.declared.pool.Entry.{Entry}
 use Rattle.class_pool.specs.Pool.{entry_of}
-use Rattle.class_pool.specs.Grammar.{Chain, Counted}
 use Rattle.class_pool.proofs.Laws.{both_true}
 use Rattle.class_pool.proofs.GrammarFacts.{chain_counts}
 use Rattle.code_decode.specs.declared.instructions.RawOp.{RawOp}
@@ -24,7 +23,7 @@ use Rattle.code_decode.specs.declared.opcodes.Named.TheVariants.{Nested, Interfa
 use Rattle.code_decode.specs.Judging.{constant_fit, named_fit, kind_fit, class_name, dimensions, interface_units, counts_units}
 use Rattle.code_decode.specs.Switches.{span, keys_rise}
 use Rattle.code_decode.specs.Targets.{has_start, is_start, is_place, leads}
-use Rattle.code_decode.specs.CodeGrammar.{Word, OneText, IncrementText, is_right, FittingText, InterfaceText, DimensionsText, WordText, PlaceText, OtherText, EndsText, TableText, PairText, PairsText, LookupText, ArgsText}
+use Rattle.code_decode.specs.CodeGrammar.{OneText, IncrementText, is_right, FittingText, InterfaceText, DimensionsText, WordText, EndsText, TableText, PairText, PairsText, LookupText, ArgsText}
 
 -- ---- the facts
 

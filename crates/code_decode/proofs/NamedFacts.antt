@@ -1,5 +1,5 @@
 -- What an instruction names by an index that fits it.
-use Rattle.std.proofs.Common.{◌≡◌, ◌≢◌, ◌⊎◌, ℕ, suc, ◌+◌, ◌<◌, ◌≤◌, ℤ, FitsSigned, Bool, true, false, cond, eqb, ltb, eq-eqb, ◌&&◌, ◌||◌, List, [], ◌∷◌, length, take, Option, Some, None, refl, sym, ap, subst, ◌∙◌, arith, inl, inr}
+use Rattle.std.proofs.Common.{◌≡◌, ◌≢◌, ◌⊎◌, ℕ, ◌+◌, ◌<◌, ℤ, FitsSigned, Bool, true, false, cond, eqb, ltb, eq-eqb, ◌||◌, List, [], ◌∷◌, length, take, Option, Some, None, refl, sym, ap, subst, ◌∙◌, arith, inl, inr}
 use Rattle.std.specs.Prelude.{unwrap_or}
 use Rattle.std.specs.List.{prefix_len}
 use Rattle.std.specs.Int.{w32, w64}
@@ -8,7 +8,6 @@ use Rattle.std.proofs.lemmas.List.{length-take}
 use Rattle.class_pool.specs.declared.pool.Entry.{Entry}
 use Rattle.class_pool.specs.declared.pool.Entry.TheVariants.{Integer, Long, Class, Str, Field, Method, InterfaceMethod}
 use Rattle.class_pool.specs.Pool.{entry_of, is_class}
-use Rattle.class_pool.proofs.Laws.{both_true, either_true}
 use Rattle.class_pool.proofs.EntryFacts.{NamesText, NamesClass, NamesMember, EntryFacts, any_units, plain_name, class_name_is}
 use Rattle.et_base.specs.Names.{is_unqualified, is_method_name, is_class_name, is_class_entry_name, is_field_descriptor, is_method_descriptor, starts_array}
 use Rattle.code_decode.specs.declared.judging.Fit.{Fit}
