@@ -3,9 +3,9 @@
 
 ghost use Rattle.std.specs.Prelude.{◌≡◌, ◌<◌};
 
-use electrictest::{Status, electric_plain};
+use electrictest::{Status, electric_plain, written};
 use et_base::{Items, Text};
-use outside::{FolderDepot, Sink, StdSink, Steps, write_text};
+use outside::{FolderDepot, StdSink, Steps};
 use std::env;
 use std::io::ErrorKind;
 use std::marker::Brand;
@@ -59,13 +59,6 @@ fn fixed_text(words: &[Text]) -> Option<&'static [u8]> {
     }
 }
 
-fn written<S: Sink>(sink: &mut S, text: &[u8]) -> Status {
-    match write_text(sink, text) {
-        Ok(()) => Status::Done,
-        Err(_) => Status::Sink,
-    }
-}
-
 // Answers the command line.
 fn answer<L: Ledger>(rt: &HostRuntime, blank: Blank) -> Status
     requires name { blank.name ≡ L.name }
@@ -79,7 +72,7 @@ fn answer<L: Ledger>(rt: &HostRuntime, blank: Blank) -> Status
     };
     let mut sink = StdSink::new(rt);
     if let Some(text) = fixed_text(words.as_slice()) {
-        return written(&mut sink, text);
+        return written(&mut sink, text, Status::Done);
     }
     match String::from_str(alloc, ".") {
         Ok(folder) => {

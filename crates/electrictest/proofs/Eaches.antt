@@ -27,7 +27,3 @@ each_lacks f made xs i x refusal.NoMemory h there e q = tt
 pub each_done : {A B : Type 0} (f : A → Option B) (made : List B) (xs : List A) (i : ℕ) → length xs ≤ i → each f made (drop i xs) ≡ each f [] xs → each f [] xs ≡ Some made
 unfolding each
 each_done f made xs i h e = sym e ∙ ap (each f made) (drop_of_length-le xs h)
-
--- the answer of a refusal
-pub lacks_exit : {A B : Type 0} (view : A → B) (o : Option B) (r : Result A FormRefusal) (f : FormRefusal) → ((x : FormRefusal) × (r ≡ Err x) × (x ≡ f)) → Lacks f o → Finds view r o
-lacks_exit view o r f h q = subst (λ z. Finds view z o) (sym (h.1 ∙ ap (λ (z : FormRefusal). Err z) h.2)) q

@@ -1,5 +1,5 @@
 -- What is on the sink, from what was written.
-use Rattle.std.proofs.Common.{◌≢◌, ℕ, List, refl, sym, subst, inl, inr, Option, Some, None, IfSome}
+use Rattle.std.proofs.Common.{◌≡◌, ◌≢◌, ℕ, List, refl, sym, subst, inl, inr, Option, Some, None, IfSome}
 use Rattle.electrictest.specs.declared.status.Status.{Status}
 use Rattle.electrictest.specs.declared.status.Status.TheVariants as ends
 use Rattle.electrictest.specs.Replies.{Files, fault_line, IsAnswer}
@@ -14,10 +14,10 @@ done_at files words text result old new before after begun now r (inr w) =
     subst (λ z. Served files words z old new begun now) (sym w.0) (record { status = ends.Done; reply = reply; front = w.1.front; back = w.1.back; parts = w.1.parts; taken = w.1.taken })
 
 -- a report was written
-pub served_done : (told : Option Files) (words : List (List ℕ)) (text : List ℕ) (result : Status) (old new : Option (List ℕ)) (before after begun now : ℕ) → IfSome told (λ files. Reported files words text begun now) → Writes text ends.Done result old new before after →
+pub served_done : (told : Option Files) (words : List (List ℕ)) (text piece : List ℕ) (result : Status) (old new : Option (List ℕ)) (before after begun now : ℕ) → IfSome told (λ files. Reported files words text begun now) → piece ≡ text → Writes piece ends.Done result old new before after →
     IfSome told (λ files. Served files words result old new begun now)
-served_done None words text result old new before after begun now r w = tt
-served_done (Some files) words text result old new before after begun now r w = done_at files words text result old new before after begun now r w
+served_done None words text piece result old new before after begun now r e w = tt
+served_done (Some files) words text piece result old new before after begun now r e w = done_at files words text result old new before after begun now r (subst (λ z. Writes z ends.Done result old new before after) e w)
 
 line_answers : (files : Files) (words : List (List ℕ)) (s : Status) → s ≢ ends.NoMemory → Unreported files words s → IsAnswer files words s (fault_line s) 0
 line_answers files words ends.NoMemory n r = absurd (n refl)

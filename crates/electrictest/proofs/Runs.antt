@@ -154,7 +154,3 @@ along_refused l i rest begun now old os (ends.Input f) h a q = subst (RunRefused
 along_refused l i rest begun now old os (ends.Depot f) h a q = subst (RunRefused l) (sym q.1) (over_exit l i rest begun now old os h a q.0)
 along_refused l i rest begun now old os ends.Sink h a q = subst (RunRefused l) (sym q.1) (over_exit l i rest begun now old os h a q.0)
 along_refused l i rest begun now old os (ends.Over f) h a q = subst (RunRefused l) (sym q.1) (over_exit l i rest begun now old os h a q.0)
-
--- the answer of a refusal
-pub refused_exit : {A : Type 0} (l : Loaded) (r : Result A Status) (s : Status) → ((x : Status) × (r ≡ Err x) × (x ≡ s)) → RunRefused l s → IfErr r (RunRefused l)
-refused_exit l r s h q = subst (λ z. IfErr z (RunRefused l)) (sym (h.1 ∙ ap (λ (z : Status). Err z) h.2)) q

@@ -70,12 +70,13 @@ fn reported<D: Depot, L: Ledger>(
     Ok(text)
 }
 
-// Writes a text, and answers the status or that the sink failed.
-fn written<S: Sink>(sink: &mut S, text: &Text, status: Status) -> Status
+/// Writes a text, and answers this status, or `Sink` where the sink failed: it then took a prefix of the text, and its
+/// count of faults rose.
+pub fn written<S: Sink>(sink: &mut S, text: &[u8], status: Status) -> Status
     ensures faults { S.faults sink.old ≤ S.faults sink.new }
     ensures writes { Writes text.now status result (S.told sink.old) (S.told sink.new) (S.faults sink.old) (S.faults sink.new) }
 {
-    match write_text(sink, text.as_slice()) {
+    match write_text(sink, text) {
         Ok(()) => status,
         Err(_) => Status::Sink,
     }
@@ -89,7 +90,7 @@ fn refused<S: Sink>(alloc: Global, sink: &mut S, status: Status) -> Status
     match status {
         Status::NoMemory => Status::NoMemory,
         status => match fault_line(alloc, &status) {
-            Ok(text) => written(sink, &text, status),
+            Ok(text) => written(sink, text.as_slice(), status),
             Err(_) => Status::NoMemory,
         },
     }
@@ -117,7 +118,7 @@ pub fn electric_plain<D: Depot, S: Sink, L: Ledger>(
     ensures ends { Ends words.now result (D.faults depot.old) (D.faults depot.new) (S.faults sink.old) (S.faults sink.new) }
 {
     match reported(alloc, words, depot, steps) {
-        Ok(text) => written(sink, &text, Status::Done),
+        Ok(text) => written(sink, text.as_slice(), Status::Done),
         Err(status) => refused(alloc, sink, status),
     }
 }

@@ -13,5 +13,5 @@ mod running;
 mod status;
 mod texts;
 
-pub use commands::electric_plain;
+pub use commands::{electric_plain, written};
 pub use status::{InputFault, OverFault, Status};

@@ -384,10 +384,6 @@ judge_steps p b s t old st h mv within = record {
   ends = tt;
 }
 
--- the answer where the cost passed the budget
-pub refused_exit : (p : Program) (b : ℕ) (s : machine.State) (old : List ℤ) (r : Result (Unit {0}) RunFault) (f : RunFault) → ((x : RunFault) × (r ≡ Err x) × (x ≡ f)) → Refused p b s old f → IfErr r (Refused p b s old)
-refused_exit p b s old r f h q = subst (λ z. IfErr z (Refused p b s old)) (sym (h.1 ∙ ap (λ (z : RunFault). Err z) h.2)) q
-
 same_default : (ns : List ℤ) (i : ℕ) (d : ℤ) → i < length ns → get_or ns i d ≡ get_or ns i (get_or ns i d)
 same_default [] i d h = absurd (omega arith)
 same_default (m ∷ ns) zero d h = refl

@@ -1,3 +1,4 @@
+pub mod Exits
 mod Lists
 mod Given
 mod Forms

@@ -66,7 +66,3 @@ rest_first p b s t values e u =
 pub unended_along : {t t' : ℕ} {o o' : Option Given} (e : RunFault) → t ≡ t' → o ≡ o' → Unended t o e → Unended t' o' e
 unended_along fault.NoMemory p q h = tt
 unended_along (fault.OverBudget n) p q h = (h.0 ∙ p, sym q ∙ h.1)
-
--- the answer where the test wasn't run to its end
-pub unended_exit : {A : Type 0} (t : ℕ) (o : Option Given) (r : Result A RunFault) (f : RunFault) → ((x : RunFault) × (r ≡ Err x) × (x ≡ f)) → Unended t o f → IfErr r (Unended t o)
-unended_exit t o r f h q = subst (λ z. IfErr z (Unended t o)) (sym (h.1 ∙ ap (λ (z : RunFault). Err z) h.2)) q

@@ -1,12 +1,14 @@
-use Rattle.std.proofs.Common.{ap, ◌∙◌, ◌+◌, drop}
+use Rattle.std.proofs.Common.{[], ap, ◌∙◌, ◌+◌, drop}
 use Rattle.std.proofs.lemmas.Result.{err_from_is_err_and}
 use Rattle.electrictest.specs.First.{each, given_field}
-use Rattle.electrictest.proofs.Eaches.{each_more, each_lacks, each_done, lacks_exit}
+use Rattle.electrictest.proofs.Eaches.{each_more, each_lacks, each_done}
+use Rattle.vm_interp.proofs.Exits.{at_error}
+use Rattle.electrictest.specs.Finding.{Finds, same}
 use Rattle.electrictest.proofs.given.given_fields.Goals as goal
 
 pub returns-in_err-field : goal.returns-in_err-field
 returns-in_err-field c =
-    lacks_exit _ _ _ _ (err_from_is_err_and c.from_residual.result c.from_residual.ensures.1)
+    at_error (λ z. Finds same z (each (given_field c.args.slots.now) [] c.args.parts.now)) _ _ (err_from_is_err_and c.from_residual.result c.from_residual.ensures.1)
     (each_lacks (given_field c.args.slots.now) _ c.args.parts.now c.loop-part.part-index c.part-item.result _ c.loop-part-test.true c.part-item.is c.loop-part.invariant c.in_err-field.ensures)
 
 pub loop-part-preserved : goal.loop-part-preserved

@@ -1,9 +1,10 @@
-use Rattle.std.proofs.Common.{◌≡◌, ◌<◌, ◌+◌, ◌-◌, length, Some, drop, replicate, pos, arith, ap, sym, ◌∙◌, subst}
+use Rattle.std.proofs.Common.{IfErr, ◌≡◌, ◌<◌, ◌+◌, ◌-◌, length, Some, drop, replicate, pos, arith, ap, sym, ◌∙◌, subst}
 use Rattle.std.proofs.lemmas.Result.{err_from_is_err_and}
-use Rattle.electrictest.specs.Running.{Along, OneRefused, least}
+use Rattle.electrictest.specs.Running.{RunRefused, Along, OneRefused, least}
 use Rattle.jvm_model.specs.Suite.{one_test}
 use Rattle.vm_interp.specs.Standing.{world_of}
-use Rattle.electrictest.proofs.Runs.{along_first, along_more, along_last, along_refused, refused_exit, units_within, gave, refilled}
+use Rattle.electrictest.proofs.Runs.{along_first, along_more, along_last, along_refused, units_within, gave, refilled}
+use Rattle.vm_interp.proofs.Exits.{at_error}
 use Rattle.electrictest.proofs.running.run_all.Goals as goal
 
 pub loop-index-init : goal.loop-index-init
@@ -11,7 +12,7 @@ loop-index-init g c = along_first c.args.loaded.now c.args.steps.now c.in_ok-sta
 
 pub returns-in_err-outcome-clause-refused : goal.returns-in_err-outcome-clause-refused
 returns-in_err-outcome-clause-refused g c =
-    refused_exit c.args.loaded.now _ _ (err_from_is_err_and c.from_residual-in_err-outcome.result c.from_residual-in_err-outcome.ensures.1)
+    at_error (λ z. IfErr z (RunRefused c.args.loaded.now)) _ _ (err_from_is_err_and c.from_residual-in_err-outcome.result c.from_residual-in_err-outcome.ensures.1)
     (along_refused c.args.loaded.now c.loop-index.index c.loop-index.rest _ _ _ c.loop-index.outcomes _ (let t = c.loop-index-test.true in let e = c.len-index-end.ensures in omega arith) c.loop-index.invariant
     (subst (λ z. OneRefused c.args.loaded.now (world_of c.args.loaded.now.program z) (c.loop-index.index + 1) c.loop-index.rest c.in_err-outcome.field-0.0) c.deref_mut.ensures.value c.in_err-outcome.ensures.refused))
 

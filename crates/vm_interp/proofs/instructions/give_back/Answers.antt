@@ -1,13 +1,15 @@
-use Rattle.std.proofs.Common.{◌≡◌, rules, ◌∙◌, ◌+◌, ◌-◌, ◌<◌, ◌≤◌, ◌++◌, ◌∷◌, [], ℤ, List, length, ap, sym, subst, refl, arith, get_or}
+use Rattle.std.proofs.Common.{◌≡◌, rules, ◌∙◌, ◌+◌, ◌-◌, ◌<◌, ◌≤◌, ◌++◌, ◌∷◌, [], ℤ, List, length, ap, sym, subst, refl, arith, get_or, IfErr}
 use Rattle.std.proofs.lemmas.Result.{err_from_is_err_and}
 use Rattle.vm_interp.specs.declared.state.State as machine
-use Rattle.vm_interp.proofs.Acts.{refused_exit, refused_by, return_makes, return_steps}
+use Rattle.vm_interp.proofs.Acts.{refused_by, return_makes, return_steps}
+use Rattle.vm_interp.specs.Standing.{Refused}
+use Rattle.vm_interp.proofs.Exits.{at_error}
 use Rattle.vm_interp.proofs.instructions.give_back.Goals as goal
 
 -- the cost passed the budget
 pub returns-in_err-spend-clause-refused : goal.returns-in_err-spend-clause-refused
 returns-in_err-spend-clause-refused g c =
-    refused_exit c.args.p.now c.args.budget c.args.state.now c.args.statics.now _ _ (err_from_is_err_and c.from_residual.result c.from_residual.ensures.1)
+    at_error (λ z. IfErr z (Refused c.args.p.now c.args.budget c.args.state.now c.args.statics.now)) _ _ (err_from_is_err_and c.from_residual.result c.from_residual.ensures.1)
     (refused_by c.args.p.now c.args.budget c.args.state.now c.args.statics.now _ _ 1 (return_makes c.args.p.now c.args.budget c.args.state.now c.args.statics.now c.args.index c.requires.served c.requires.stands c.requires.here) c.in_err-spend.ensures.passed _ c.in_err-spend.ensures.over)
 
 pub returns-clause-goes : goal.returns-clause-goes

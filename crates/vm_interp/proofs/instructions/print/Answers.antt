@@ -1,8 +1,10 @@
-use Rattle.std.proofs.Common.{◌≡◌, rules, ◌∙◌, ◌+◌, ◌-◌, ◌<◌, ◌≤◌, ◌++◌, ◌∷◌, [], ℤ, List, length, ap, sym, subst, refl, arith, get_or}
+use Rattle.std.proofs.Common.{◌≡◌, rules, ◌∙◌, ◌+◌, ◌-◌, ◌<◌, ◌≤◌, ◌++◌, ◌∷◌, [], ℤ, List, length, ap, sym, subst, refl, arith, get_or, IfErr}
 use Rattle.std.proofs.lemmas.Result.{err_from_is_err_and}
 use Rattle.vm_interp.specs.Printed.{printed_line}
 use Rattle.vm_interp.specs.declared.state.State as machine
-use Rattle.vm_interp.proofs.Acts.{refused_exit, refused_by, print_makes, print_steps, print_stands, printed_own}
+use Rattle.vm_interp.proofs.Acts.{refused_by, print_makes, print_steps, print_stands, printed_own}
+use Rattle.vm_interp.specs.Standing.{Refused}
+use Rattle.vm_interp.proofs.Exits.{at_error}
 use Rattle.vm_interp.proofs.instructions.print.Goals as goal
 
 pub pop-number-requires : goal.pop-number-requires
@@ -13,7 +15,7 @@ pub returns-in_err-spend-clause-refused : goal.returns-in_err-spend-clause-refus
 returns-in_err-spend-clause-refused g c =
     let t : c.in_ok-text.text ≡ printed_line c.pop-number.result = search rules in
     let n = ap length t in
-    refused_exit c.args.p.now c.args.budget c.args.state.now c.args.statics.now _ _ (err_from_is_err_and c.from_residual-in_err-spend.result c.from_residual-in_err-spend.ensures.1)
+    at_error (λ z. IfErr z (Refused c.args.p.now c.args.budget c.args.state.now c.args.statics.now)) _ _ (err_from_is_err_and c.from_residual-in_err-spend.result c.from_residual-in_err-spend.ensures.1)
     (refused_by c.args.p.now c.args.budget c.args.state.now c.args.statics.now _ _ _ (print_makes c.args.p.now c.args.budget c.args.state.now c.args.statics.now c.args.index c.pop-number.new.stack.items c.pop-number.result c.requires.served c.requires.stands c.requires.here c.pop-number.ensures) (omega (arith, n, c.len.ensures, c.in_err-spend.ensures.passed)) _ c.in_err-spend.ensures.over)
 
 pub returns-clause-goes : goal.returns-clause-goes

@@ -1,15 +1,16 @@
-use Rattle.vm_interp.specs.Standing.{Stepped}
+use Rattle.vm_interp.specs.Standing.{Refused, Stepped}
 use Rattle.et_base.specs.Numbers.{add32}
-use Rattle.std.proofs.Common.{set, None, length-append, ◌≡◌, rules, ◌∙◌, ◌+◌, ◌-◌, ◌<◌, ◌≤◌, ◌++◌, ◌∷◌, [], ℤ, List, length, ap, sym, subst, refl, arith, get_or}
+use Rattle.std.proofs.Common.{set, None, length-append, ◌≡◌, rules, ◌∙◌, ◌+◌, ◌-◌, ◌<◌, ◌≤◌, ◌++◌, ◌∷◌, [], ℤ, List, length, ap, sym, subst, refl, arith, get_or, IfErr}
 use Rattle.std.proofs.lemmas.Result.{err_from_is_err_and}
 use Rattle.vm_interp.specs.declared.state.State as machine
-use Rattle.vm_interp.proofs.Acts.{refused_exit, refused_by, put_makes, put_steps, put_place, put_stands, put_units}
+use Rattle.vm_interp.proofs.Acts.{refused_by, put_makes, put_steps, put_place, put_stands, put_units}
+use Rattle.vm_interp.proofs.Exits.{at_error}
 use Rattle.vm_interp.proofs.instructions.put.Goals as goal
 
 -- the cost passed the budget
 pub returns-in_err-spend-clause-refused : goal.returns-in_err-spend-clause-refused
 returns-in_err-spend-clause-refused g c =
-    refused_exit c.args.p.now c.args.budget c.args.state.now c.args.statics.now _ _ (err_from_is_err_and c.from_residual.result c.from_residual.ensures.1)
+    at_error (λ z. IfErr z (Refused c.args.p.now c.args.budget c.args.state.now c.args.statics.now)) _ _ (err_from_is_err_and c.from_residual.result c.from_residual.ensures.1)
     (let m = put_units c.args.p.now c.args.budget c.args.state.now c.args.statics.now c.args.index c.args.field c.requires.served c.requires.stands c.requires.here in refused_by c.args.p.now c.args.budget c.args.state.now c.args.statics.now _ _ 1 m.2 c.in_err-spend.ensures.passed _ c.in_err-spend.ensures.over)
 
 pub pop-number-requires : goal.pop-number-requires

@@ -1,17 +1,19 @@
 use Rattle.jvm_model.specs.declared.program.Body.{Body}
 use Rattle.jvm_model.specs.Entries.{frame_cost}
 use Rattle.vm_interp.specs.Served.{body_of}
-use Rattle.std.proofs.Common.{◌≡◌, rules, ◌∙◌, ◌+◌, ◌-◌, ◌<◌, ◌≤◌, ◌++◌, ◌∷◌, [], ℤ, List, length, ap, sym, subst, refl, arith, get_or}
+use Rattle.std.proofs.Common.{◌≡◌, rules, ◌∙◌, ◌+◌, ◌-◌, ◌<◌, ◌≤◌, ◌++◌, ◌∷◌, [], ℤ, List, length, ap, sym, subst, refl, arith, get_or, IfErr}
 use Rattle.std.proofs.lemmas.Result.{err_from_is_err_and}
 use Rattle.vm_interp.specs.declared.state.State as machine
-use Rattle.vm_interp.proofs.Acts.{refused_exit, refused_by, call_makes, call_steps, start_stack}
+use Rattle.vm_interp.proofs.Acts.{refused_by, call_makes, call_steps, start_stack}
+use Rattle.vm_interp.specs.Standing.{Refused}
+use Rattle.vm_interp.proofs.Exits.{at_error}
 use Rattle.vm_interp.proofs.run.call.Goals as goal
 
 -- the cost passed the budget
 pub returns-in_err-spend-clause-refused : goal.returns-in_err-spend-clause-refused
 returns-in_err-spend-clause-refused g c =
     let n = ap (λ (z : Body). 1 + frame_cost z) c.body-body.ensures in
-    refused_exit c.args.p.now c.args.budget c.args.state.now c.args.statics.now _ _ (err_from_is_err_and c.from_residual.result c.from_residual.ensures.1)
+    at_error (λ z. IfErr z (Refused c.args.p.now c.args.budget c.args.state.now c.args.statics.now)) _ _ (err_from_is_err_and c.from_residual.result c.from_residual.ensures.1)
     (refused_by c.args.p.now c.args.budget c.args.state.now c.args.statics.now _ _ _ (call_makes c.args.p.now c.args.budget c.args.state.now c.args.statics.now c.requires.served c.requires.stands c.requires.place) (omega (arith, n, c.in_err-spend.ensures.passed)) _ c.in_err-spend.ensures.over)
 
 pub returns-clause-goes : goal.returns-clause-goes

@@ -1,15 +1,16 @@
-use Rattle.std.proofs.Common.{◌≡◌, suc, ◌+◌, ◌-◌, ◌≤◌, ◌<◌, List, [], ◌++◌, ap, sym, ◌∙◌, arith}
+use Rattle.std.proofs.Common.{◌≡◌, suc, ◌+◌, ◌-◌, ◌≤◌, ◌<◌, List, [], ◌++◌, ap, sym, ◌∙◌, arith, IfErr}
 use Rattle.std.proofs.lemmas.Result.{err_from_is_err_and}
 use Rattle.vm_interp.specs.Making.{given_on}
-use Rattle.vm_interp.specs.Standing.{state_of, world_of, Rest}
-use Rattle.vm_interp.proofs.Rests.{step_touches, rest_goes, rest_ends, rest_out, refused_rest, gave_along, unended_exit}
+use Rattle.vm_interp.specs.Standing.{Unended, state_of, world_of, Rest}
+use Rattle.vm_interp.proofs.Rests.{step_touches, rest_goes, rest_ends, rest_out, refused_rest, gave_along}
+use Rattle.vm_interp.proofs.Exits.{at_error}
 use Rattle.vm_interp.proofs.run.run_frames.Goals as goal
 
 -- the step was refused
 pub returns-in_err-ended-clause-refused : goal.returns-in_err-ended-clause-refused
 returns-in_err-ended-clause-refused g c =
     let r = c.loop.invariant.rest in
-    unended_exit c.args.state.now.test (Rest c.args.p.now c.args.budget c.args.state.now c.args.statics.now []) _ _ (err_from_is_err_and c.from_residual.result c.from_residual.ensures.1)
+    at_error (λ z. IfErr z (Unended c.args.state.now.test (Rest c.args.p.now c.args.budget c.args.state.now c.args.statics.now []))) _ _ (err_from_is_err_and c.from_residual.result c.from_residual.ensures.1)
     (refused_rest c.args.p.now c.args.budget ((c.args.budget - c.args.state.now.units) - c.loop.counter) c.loop.state c.loop.statics r.0 _ _ c.loop.invariant.same_test r.1 _ c.in_err-ended.ensures.refused)
 
 -- the step ended the test

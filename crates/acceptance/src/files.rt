@@ -1,0 +1,58 @@
+//! Class files and suite texts, and the reports on them.
+
+// `public class T { public static void t() {} }`
+pub const RETURN_CLASS: [u8; 97] = [
+    202, 254, 186, 190, 0, 0, 0, 52, 0, 8, 1, 0, 1, 84, 7, 0, 1, 1, 0, 16, 106, 97, 118, 97, 47,
+    108, 97, 110, 103, 47, 79, 98, 106, 101, 99, 116, 7, 0, 3, 1, 0, 1, 116, 1, 0, 3, 40, 41, 86,
+    1, 0, 4, 67, 111, 100, 101, 0, 33, 0, 2, 0, 4, 0, 0, 0, 0, 0, 1, 0, 9, 0, 5, 0, 6, 0, 1, 0, 7,
+    0, 0, 0, 13, 0, 0, 0, 0, 0, 0, 0, 1, 177, 0, 0, 0, 0, 0, 0,
+];
+
+pub const RETURN_SUITE: &[u8] = b"electric-suite 1
+class T.class
+test T.t
+end
+";
+
+pub const RETURN_REPORT: &[u8] = b"electric-run 1
+selected 1 executed 1 chains -
+test 1 T.t passed units 3
+passed 1 failed 0 error 0
+";
+
+// `class Counter { static int n; static void set() { n = 5; } static void show() { electric.Env.print(n); } }`
+pub const COUNTER_CLASS: [u8; 218] = [
+    202, 254, 186, 190, 0, 0, 0, 52, 0, 19, 1, 0, 7, 67, 111, 117, 110, 116, 101, 114, 7, 0, 1, 1,
+    0, 16, 106, 97, 118, 97, 47, 108, 97, 110, 103, 47, 79, 98, 106, 101, 99, 116, 7, 0, 3, 1, 0,
+    1, 110, 1, 0, 1, 73, 1, 0, 3, 115, 101, 116, 1, 0, 3, 40, 41, 86, 1, 0, 4, 67, 111, 100, 101,
+    12, 0, 5, 0, 6, 9, 0, 2, 0, 10, 1, 0, 4, 115, 104, 111, 119, 1, 0, 12, 101, 108, 101, 99, 116,
+    114, 105, 99, 47, 69, 110, 118, 7, 0, 13, 1, 0, 5, 112, 114, 105, 110, 116, 1, 0, 4, 40, 73,
+    41, 86, 12, 0, 15, 0, 16, 10, 0, 14, 0, 17, 0, 33, 0, 2, 0, 4, 0, 0, 0, 1, 0, 8, 0, 5, 0, 6, 0,
+    0, 0, 2, 0, 8, 0, 7, 0, 8, 0, 1, 0, 9, 0, 0, 0, 17, 0, 1, 0, 0, 0, 0, 0, 5, 8, 179, 0, 11, 177,
+    0, 0, 0, 0, 0, 8, 0, 12, 0, 8, 0, 1, 0, 9, 0, 0, 0, 19, 0, 1, 0, 0, 0, 0, 0, 7, 178, 0, 11,
+    184, 0, 18, 177, 0, 0, 0, 0, 0, 0,
+];
+
+pub const COUNTER_SUITE: &[u8] = b"electric-suite 1
+class Counter.class
+test Counter.set
+test Counter.show
+end
+";
+
+pub const COUNTER_REPORT: &[u8] = b"electric-run 1
+selected 2 executed 2 chains -
+test 1 Counter.set passed units 6
+test 2 Counter.show passed units 8
+out \"5\\n\"
+passed 2 failed 0 error 0
+";
+
+pub const EMPTY_SUITE: &[u8] = b"electric-suite 1
+end
+";
+
+pub const EMPTY_REPORT: &[u8] = b"electric-run 1
+selected 0 executed 0 chains -
+passed 0 failed 0 error 0
+";

@@ -1,0 +1,11 @@
+//! Tests of the top call: small suites in memory, what is written of them and how the call ends.
+#![tactic(auto)]
+
+#[cfg(test)]
+mod asking;
+#[cfg(test)]
+mod files;
+#[cfg(test)]
+mod outsides;
+#[cfg(test)]
+mod tests;
