@@ -4,6 +4,10 @@
 #[cfg(test)]
 mod asking;
 #[cfg(test)]
+mod class_files;
+#[cfg(test)]
+mod class_tests;
+#[cfg(test)]
 mod files;
 #[cfg(test)]
 mod outsides;

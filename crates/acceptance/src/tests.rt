@@ -27,7 +27,7 @@ const RUNS: [(&[File], u8, &[u8]); 12] = [
     (
         &[(b"s", b"electric-suite 2\nend\n")],
         3,
-        b"electric: not-yet s\n",
+        b"electric: suite 1 header\n",
     ),
     (
         &[(b"s", b"electric-suite 1\nfile a b\nend\n")],
@@ -56,7 +56,7 @@ const RUNS: [(&[File], u8, &[u8]); 12] = [
             (b"T", b"\xca\xfe\xba\xbe"),
         ],
         3,
-        b"electric: not-yet T\n",
+        b"electric: class T truncated 4\n",
     ),
     (
         &[
@@ -216,7 +216,7 @@ fn files_have_at_most_a_mebibyte(rt: HostRuntime) -> Result<(), Fail> {
             &mut depot_of_more,
             1000,
             3,
-            b"electric: not-yet T.class\n"
+            b"electric: too-large T.class\n"
         )?
     );
     let mut depot_of_more = depot(alloc, &[(b"s", &more)], &[])?;
@@ -227,7 +227,7 @@ fn files_have_at_most_a_mebibyte(rt: HostRuntime) -> Result<(), Fail> {
             &mut depot_of_more,
             1000,
             3,
-            b"electric: not-yet s\n"
+            b"electric: too-large s\n"
         )?
     );
     Ok(())
