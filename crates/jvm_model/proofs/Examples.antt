@@ -45,25 +45,25 @@ use Rattle.jvm_model.specs.Driver.{drive, drives, drive_first, drive_init, drive
 use Rattle.jvm_model.proofs.ExampleParts.{program, class, body, fixed, plain, static, field, static_int, test, int_const, literal, get_static, put_static, call_static, returns, load_this, dup, print_number, gets, sets, shown, passed, failed, error, line}
 
 -- a test that only returns
-abbrev return_suite : Program
+abbrev pub return_suite : Program
 return_suite = program (class (codes "T") [] (102 ∷ []) ∷ []) [] (fixed 32 (codes "t") (codes "()V") (body 0 0 (returns ∷ [])) ∷ []) [] (test 32 102 ∷ [])
 
 -- one test sets a static, the next prints it
-abbrev counter_suite : Program
+abbrev pub counter_suite : Program
 counter_suite = program (class (codes "Counter") (2 ∷ []) (102 ∷ 103 ∷ []) ∷ []) (static_int 32 (codes "n") ∷ [])
     (fixed 32 (codes "set") (codes "()V") (body 1 0 (int_const 5 ∷ put_static 2 ∷ returns ∷ []))
     ∷ fixed 32 (codes "show") (codes "()V") (body 1 0 (get_static 2 ∷ print_number)) ∷ [])
     [] (test 32 102 ∷ test 32 103 ∷ [])
 
 -- the second test writes before it reads
-abbrev again_suite : Program
+abbrev pub again_suite : Program
 again_suite = program (class (codes "Counter") (2 ∷ []) (102 ∷ 103 ∷ []) ∷ []) (static_int 32 (codes "n") ∷ [])
     (fixed 32 (codes "set") (codes "()V") (body 1 0 (int_const 5 ∷ put_static 2 ∷ returns ∷ []))
     ∷ fixed 32 (codes "again") (codes "()V") (body 1 0 (int_const 1 ∷ put_static 2 ∷ get_static 2 ∷ print_number)) ∷ [])
     [] (test 32 102 ∷ test 32 103 ∷ [])
 
 -- one test reads a static, the next writes it
-abbrev read_write_suite : Program
+abbrev pub read_write_suite : Program
 read_write_suite = program (class (codes "P") (2 ∷ []) (102 ∷ 103 ∷ []) ∷ []) (static_int 32 (codes "n") ∷ [])
     (fixed 32 (codes "read") (codes "()V") (body 1 0 (get_static 2 ∷ print_number))
     ∷ fixed 32 (codes "write") (codes "()V") (body 1 0 (int_const 5 ∷ put_static 2 ∷ returns ∷ [])) ∷ [])
@@ -74,7 +74,7 @@ abbrev plain_init : List (ℕ × Instr)
 plain_init = load_this ∷ (3, form.InvokeSpecial (kind.Class 0) 0) ∷ returns ∷ []
 
 -- two objects in a list, and their fields
-abbrev node_suite : Program
+abbrev pub node_suite : Program
 node_suite = program
     (class (codes "Node") (2 ∷ 3 ∷ []) (102 ∷ []) ∷ class (codes "List") (4 ∷ []) (103 ∷ 104 ∷ 105 ∷ []) ∷ [])
     (field 32 (codes "v") (codes "I") (Int (pos 0)) ∷ field 32 (codes "next") (codes "LNode;") Null ∷ static 33 (codes "head") (codes "LNode;") Null ∷ [])
@@ -99,7 +99,7 @@ init_order_suite = program
     [] (test 34 104 ∷ [])
 
 -- a class whose initialisation throws
-abbrev bad_init_suite : Program
+abbrev pub bad_init_suite : Program
 bad_init_suite = program
     (record (class (codes "Bad") (2 ∷ []) (102 ∷ [])) { initialiser = Some 102 } ∷ class (codes "Use") [] (103 ∷ 104 ∷ []) ∷ [])
     (static_int 32 (codes "v") ∷ [])
@@ -118,14 +118,14 @@ driver_suite = program (class (codes "I") [] (102 ∷ 103 ∷ 104 ∷ 105 ∷ []
     [] (test 32 104 ∷ [])
 
 -- a throwable that is kept in a static, and thrown by another test
-abbrev kept_error_suite : Program
+abbrev pub kept_error_suite : Program
 kept_error_suite = program (class (codes "X") (2 ∷ []) (102 ∷ 103 ∷ []) ∷ []) (static 32 (codes "e") (codes "Ljava/lang/RuntimeException;") Null ∷ [])
     (fixed 32 (codes "keep") (codes "()V") (body 3 0 ((3, form.New 19) ∷ dup ∷ literal 1 ∷ (3, form.InvokeSpecial (kind.Class 19) 77) ∷ put_static 2 ∷ returns ∷ []))
     ∷ fixed 32 (codes "toss") (codes "()V") (body 1 0 (get_static 2 ∷ (1, form.Throw) ∷ [])) ∷ [])
     (codes "boom" ∷ []) (test 32 102 ∷ test 32 103 ∷ [])
 
 -- a simulated file that is asked for, made, looked at and dropped
-abbrev files_suite : Program
+abbrev pub files_suite : Program
 files_suite = program (class (codes "F") [] (102 ∷ 103 ∷ 104 ∷ 105 ∷ []) ∷ []) []
     (fixed 32 (codes "ask") (codes "()V") (body 1 0 (literal 1 ∷ call_static 44 ∷ print_number))
     ∷ fixed 32 (codes "make") (codes "()V") (body 2 0 (literal 1 ∷ literal 2 ∷ call_static 41 ∷ returns ∷ []))

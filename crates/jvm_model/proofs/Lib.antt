@@ -16,7 +16,8 @@ pub mod Places
 pub mod Tests
 pub mod Pointwise
 pub mod Standing
-mod ExampleParts
-mod Examples
+pub mod ExampleParts
+pub mod Examples
 mod LargerExamples
 mod MoreExamples
+mod LinkedExample

@@ -19,3 +19,4 @@ pub mod OwnRecord
 pub mod Plans
 pub mod Walks
 pub mod WalksThere
+mod RecordExamples
