@@ -72,7 +72,10 @@ fn suite_of_bytes(alloc: Global, bytes: &[u8]) -> Result<SuiteText, Status>
     match read_suite(alloc, bytes) {
         Ok(suite) => Ok(suite),
         Err(SuiteRefusal::NoMemory) => Err(Status::NoMemory),
-        Err(SuiteRefusal::Suite { line, why }) => Err(Status::Input(InputFault::Suite { line, why })),
+        Err(SuiteRefusal::Suite { line, why }) => Err(Status::Input(InputFault::Suite {
+            line,
+            why,
+        })),
     }
 }
 
