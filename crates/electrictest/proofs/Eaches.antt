@@ -1,10 +1,10 @@
 -- A loop that makes something of each item.
-use Rattle.std.proofs.Common.{◌≡◌, ℕ, suc, ◌+◌, ◌<◌, ◌≤◌, List, [], ◌∷◌, ◌++◌, length, get_or, drop, ap, sym, ◌∙◌, subst, add-one, Option, Some, Result, Err}
+use Rattle.std.proofs.Common.{◌≡◌, ℕ, suc, ◌+◌, ◌<◌, ◌≤◌, List, [], ◌∷◌, ◌++◌, length, get_or, drop, ap, sym, ◌∙◌, add-one, Option, Some}
 use Rattle.std.proofs.Math.Seq.{drop-cons}
 use Rattle.std.proofs.Math.ListN.{drop_of_length-le}
 use Rattle.electrictest.specs.declared.form_refusal.FormRefusal.{FormRefusal}
 use Rattle.electrictest.specs.declared.form_refusal.FormRefusal.TheVariants as refusal
-use Rattle.electrictest.specs.Finding.{Finds, Lacks}
+use Rattle.electrictest.specs.Finding.{Lacks}
 use Rattle.electrictest.specs.First.{◌>>=◌, each}
 
 at_item : {A B : Type 0} (f : A → Option B) (made : List B) (xs : List A) (i : ℕ) (x : A) → i < length xs → x ≡ get_or xs i x → each f made (drop i xs) ≡ each f [] xs →

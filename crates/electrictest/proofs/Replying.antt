@@ -23,7 +23,7 @@ line_answers : (files : Files) (words : List (List ℕ)) (s : Status) → s ≢ 
 line_answers files words ends.NoMemory n r = absurd (n refl)
 line_answers files words ends.Words n r = (r, refl)
 line_answers files words (ends.Input f) n r = (r, refl)
-line_answers files words (ends.Depot name) n r = refl
+line_answers files words (ends.Depot name) n r = (r, refl)
 line_answers files words (ends.Over f) n r = (r, refl)
 line_answers files words ends.Done n r = absurd r
 line_answers files words ends.NotPassed n r = absurd r

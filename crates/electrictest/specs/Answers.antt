@@ -21,16 +21,17 @@ abbrev pub Answers : {A B : Type 0} → (A → B) → Result A Status → Result
 Answers view (Ok x) d = d ≡ Ok (view x)
 Answers view (Err s) d = Refuses s d
 
--- a failing depot is named only where its count of faults rose; loading ends in no other way than by input, depot or memory
-abbrev pub LoadEnds : Status → ℕ → ℕ → Type 0
-LoadEnds ends.NoMemory old new = Unit {0}
-LoadEnds (ends.Depot name) old new = Rose old new
-LoadEnds (ends.Input fault) old new = Unit {0}
-LoadEnds ends.Done old new = ⊥
-LoadEnds ends.NotPassed old new = ⊥
-LoadEnds ends.Words old new = ⊥
-LoadEnds ends.Sink old new = ⊥
-LoadEnds (ends.Over fault) old new = ⊥
+-- A failing depot is named only by a file that is read, and where its count of faults rose; loading ends in no other way
+-- than by input, depot or memory.
+abbrev pub LoadEnds : (List ℕ → Type 0) → Status → ℕ → ℕ → Type 0
+LoadEnds IsRead ends.NoMemory old new = Unit {0}
+LoadEnds IsRead (ends.Depot name) old new = IsRead name × Rose old new
+LoadEnds IsRead (ends.Input fault) old new = Unit {0}
+LoadEnds IsRead ends.Done old new = ⊥
+LoadEnds IsRead ends.NotPassed old new = ⊥
+LoadEnds IsRead ends.Words old new = ⊥
+LoadEnds IsRead ends.Sink old new = ⊥
+LoadEnds IsRead (ends.Over fault) old new = ⊥
 
 -- how a refusal of the depot at the file of a name is answered
 abbrev pub status_of : refused.the_data → List ℕ → Status

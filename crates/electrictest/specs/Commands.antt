@@ -1,26 +1,27 @@
 -- What the top call promises: its status, the bytes on the sink and the steps (this project's).
-use Rattle.std.specs.Prelude.{◌≡◌, ◌≢◌, ◌⊎◌, ℕ, ◌+◌, List, ◌++◌, true, Option, None, Err}
+use Rattle.std.specs.Prelude.{◌≡◌, ◌≢◌, ◌⊎◌, ℕ, ◌+◌, List, ◌++◌, true, Option, None, Err, IfSome}
 use Rattle.outside.specs.Counts.{Rose}
 use Rattle.outside.specs.Sink.{appended}
 use Rattle.electrictest.specs.declared.status.Status.{Status}
 use Rattle.electrictest.specs.declared.status.Status.TheVariants as ends
-use Rattle.electrictest.specs.Replies.{Files, suite_word, loaded_for, fault_line, IsReport, IsOver, IsAnswer}
+use Rattle.electrictest.specs.Replies.{Files, suite_word, loaded_for, fault_line, IsReadFor, IsReport, IsOver, IsAnswer}
 
--- loading is refused for the words only where they have no form, and else by input, depot or memory
-abbrev pub NamedEnds : List (List ℕ) → Status → ℕ → ℕ → Type 0
-NamedEnds words ends.NoMemory old new = Unit {0}
-NamedEnds words (ends.Depot name) old new = Rose old new
-NamedEnds words ends.Words old new = suite_word words ≡ None
-NamedEnds words (ends.Input f) old new = Unit {0}
-NamedEnds words (ends.Over f) old new = ⊥
-NamedEnds words ends.Done old new = ⊥
-NamedEnds words ends.NotPassed old new = ⊥
-NamedEnds words ends.Sink old new = ⊥
+-- loading is refused for the words only where they have no form, and else by input, by a depot at a file that is read, or
+-- by memory
+abbrev pub NamedEnds : Option Files → List (List ℕ) → Status → ℕ → ℕ → Type 0
+NamedEnds told words ends.NoMemory old new = Unit {0}
+NamedEnds told words (ends.Depot name) old new = IfSome told (λ files. IsReadFor files words name) × Rose old new
+NamedEnds told words ends.Words old new = suite_word words ≡ None
+NamedEnds told words (ends.Input f) old new = Unit {0}
+NamedEnds told words (ends.Over f) old new = ⊥
+NamedEnds told words ends.Done old new = ⊥
+NamedEnds told words ends.NotPassed old new = ⊥
+NamedEnds told words ends.Sink old new = ⊥
 
 -- why there is no report, where the files are told
 abbrev pub Unreported : Files → List (List ℕ) → Status → Type 0
 Unreported files words ends.NoMemory = Unit {0}
-Unreported files words (ends.Depot name) = Unit {0}
+Unreported files words (ends.Depot name) = IsReadFor files words name
 Unreported files words ends.Words = loaded_for files words ≡ Err ends.Words
 Unreported files words (ends.Input f) = loaded_for files words ≡ Err (ends.Input f)
 Unreported files words (ends.Over f) = IsOver files words f

@@ -1,5 +1,5 @@
 -- What the words ask of a depot's files, and what is answered (this project's).
-use Rattle.std.specs.Prelude.{◌≡◌, ℕ, ◌+◌, ◌-◌, List, [], ◌∷◌, ◌++◌, length, map, get_or, codes, decimal, count_by, Bool, true, false, ◌&&◌, nat_le, Option, Some, None, option_map, Result, Ok, Err, if◌then◌else◌}
+use Rattle.std.specs.Prelude.{◌≡◌, ◌⊎◌, ℕ, ◌+◌, ◌-◌, List, [], ◌∷◌, ◌++◌, length, map, get_or, codes, decimal, count_by, Bool, true, false, ◌&&◌, nat_le, Option, Some, None, option_map, Result, Ok, Err, if◌then◌else◌}
 use Rattle.std.specs.List.{list_all}
 use Rattle.std.specs.Str.{bytes_eq}
 use Rattle.et_base.specs.Quotes.{name_of}
@@ -90,6 +90,14 @@ loaded_from files name = do
   program ← or_else (first_program suite class) (ends.Input (input.NotYet name))
   Ok (record { suite = suite; program = program })
 
+-- a file that is read for the suite of a name: its text, or its class file where it has just one
+abbrev pub IsRead : Files → List ℕ → List ℕ → Type 0
+IsRead files name read = (read ≡ name) ⊎ ((suite : SuiteText) × (suite_in files name ≡ Ok suite) × (suite.classes ≡ read ∷ []))
+
+-- a file that is read for the words
+abbrev pub IsReadFor : Files → List (List ℕ) → List ℕ → Type 0
+IsReadFor files words read = (name : List ℕ) × (suite_word words ≡ Some name) × IsRead files name read
+
 unfoldable pub loaded_for : Files → List (List ℕ) → Result Loaded Status
 loaded_for files words = or_else (suite_word words) ends.Words >>= loaded_from files
 
@@ -176,13 +184,13 @@ pub record IsOver (files : Files) (words : List (List ℕ)) (f : OverFault) : Ty
   pub passes : suite_fault loaded.program ≡ Some found
   pub named : f ≡ over_fault loaded found
 
--- The words ask for this status and text, for so many units; where a depot or memory fails, for any.
+-- The words ask for this status and text, for so many units; a depot may fail at any file that is read.
 abbrev pub IsAnswer : Files → List (List ℕ) → Status → List ℕ → ℕ → Type 0
 IsAnswer files words ends.Done text units = IsReport files words true text units
 IsAnswer files words ends.NotPassed text units = IsReport files words false text units
 IsAnswer files words ends.Words text units = (loaded_for files words ≡ Err ends.Words) × (text ≡ fault_line ends.Words)
 IsAnswer files words (ends.Input f) text units = (loaded_for files words ≡ Err (ends.Input f)) × (text ≡ fault_line (ends.Input f))
 IsAnswer files words ends.NoMemory text units = ⊥
-IsAnswer files words (ends.Depot name) text units = text ≡ fault_line (ends.Depot name)
+IsAnswer files words (ends.Depot name) text units = IsReadFor files words name × (text ≡ fault_line (ends.Depot name))
 IsAnswer files words ends.Sink text units = ⊥
 IsAnswer files words (ends.Over f) text units = IsOver files words f × (text ≡ fault_line (ends.Over f))

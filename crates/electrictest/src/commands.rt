@@ -42,7 +42,7 @@ fn load_named<D: Depot>(alloc: Global, words: &[Text], depot: &mut D) -> Result<
     ensures told { D.told depot.new ≡ D.told depot.old }
     ensures faults { D.faults depot.old ≤ D.faults depot.new }
     ensures answers { IfSome (D.told depot.old) (λ files. Answers itself result (reply.loaded_for files words.now)) }
-    ensures ends { IfErr result (λ e. NamedEnds words.now e (D.faults depot.old) (D.faults depot.new)) }
+    ensures ends { IfErr result (λ e. NamedEnds (D.told depot.old) words.now e (D.faults depot.old) (D.faults depot.new)) }
     ensures runs { IfOk result (λ l. IsRunnable l.program) }
 {
     match suite_word(words) {

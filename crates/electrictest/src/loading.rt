@@ -1,6 +1,6 @@
 //! From a depot's files to a program.
 
-ghost use Rattle.std.specs.Prelude.{◌≡◌, ◌≤◌, ◌<◌, ◌^◌, IfOk, IfErr, IfSome, OnErr, option_copied, option_map, length, Option};
+ghost use Rattle.std.specs.Prelude.{◌≡◌, ◌≤◌, ◌<◌, ◌^◌, ◌∷◌, [], IfOk, IfErr, IfSome, OnErr, option_copied, option_map, length, Option};
 ghost use Rattle.class_reader.specs.Faults.{class_of};
 ghost use Rattle.suite_load.specs.SuiteForm.{suite_of};
 ghost use Rattle.electrictest.specs.Runnable.{IsRunnable};
@@ -52,7 +52,7 @@ fn read_file<D: Depot>(alloc: Global, depot: &mut D, name: &Text) -> Result<Text
     ensures told { D.told depot.new ≡ D.told depot.old }
     ensures faults { D.faults depot.old ≤ D.faults depot.new }
     ensures answers { IfSome (D.told depot.old) (λ files. Answers itself result (reply.file_of files name.now)) }
-    ensures ends { IfErr result (λ e. LoadEnds e (D.faults depot.old) (D.faults depot.new)) }
+    ensures ends { IfErr result (λ e. LoadEnds (λ read. read ≡ name.now) e (D.faults depot.old) (D.faults depot.new)) }
     ensures within { IfOk result (λ bytes. length bytes ≤ 1048576) }
 {
     match depot.read(name, FILE_LIMIT) {
@@ -67,7 +67,7 @@ fn read_file<D: Depot>(alloc: Global, depot: &mut D, name: &Text) -> Result<Text
 // What the bytes of a suite text say.
 fn suite_of_bytes(alloc: Global, bytes: &[u8]) -> Result<SuiteText, Status>
     ensures answers { Answers itself result (reply.suite_said (suite_of bytes.now)) }
-    ensures ends { IfErr result (λ e. LoadEnds e 0 0) }
+    ensures ends { IfErr result (λ e. LoadEnds (λ _. ⊥) e 0 0) }
 {
     match read_suite(alloc, bytes) {
         Ok(suite) => Ok(suite),
@@ -93,7 +93,7 @@ fn class_status(fault: ClassFault, name: Text) -> Status
 fn class_of_bytes(alloc: Global, bytes: &[u8], name: &Text) -> Result<ClassFile, Status>
     requires { length bytes.now < 2 ^ 32 }
     ensures answers { Answers itself result (reply.class_said name.now (class_of bytes.now)) }
-    ensures ends { IfErr result (λ e. LoadEnds e 0 0) }
+    ensures ends { IfErr result (λ e. LoadEnds (λ _. ⊥) e 0 0) }
 {
     match read_class(alloc, bytes) {
         Ok(class) => Ok(class),
@@ -110,7 +110,7 @@ fn read_suite_text<D: Depot>(alloc: Global, depot: &mut D, name: &Text) -> Resul
     ensures told { D.told depot.new ≡ D.told depot.old }
     ensures faults { D.faults depot.old ≤ D.faults depot.new }
     ensures answers { IfSome (D.told depot.old) (λ files. Answers itself result (reply.suite_in files name.now)) }
-    ensures ends { IfErr result (λ e. LoadEnds e (D.faults depot.old) (D.faults depot.new)) }
+    ensures ends { IfErr result (λ e. LoadEnds (λ read. read ≡ name.now) e (D.faults depot.old) (D.faults depot.new)) }
 {
     let bytes = read_file(alloc, depot, name)?;
     let suite = suite_of_bytes(alloc, bytes.as_slice())?;
@@ -123,7 +123,7 @@ fn read_class_file<D: Depot>(alloc: Global, depot: &mut D, name: &Text) -> Resul
     ensures told { D.told depot.new ≡ D.told depot.old }
     ensures faults { D.faults depot.old ≤ D.faults depot.new }
     ensures answers { IfSome (D.told depot.old) (λ files. Answers itself result (reply.class_in files name.now)) }
-    ensures ends { IfErr result (λ e. LoadEnds e (D.faults depot.old) (D.faults depot.new)) }
+    ensures ends { IfErr result (λ e. LoadEnds (λ read. read ≡ name.now) e (D.faults depot.old) (D.faults depot.new)) }
 {
     let bytes = read_file(alloc, depot, name)?;
     let class = class_of_bytes(alloc, bytes.as_slice(), name)?;
@@ -141,7 +141,7 @@ fn suite_class<D: Depot>(
     ensures told { D.told depot.new ≡ D.told depot.old }
     ensures faults { D.faults depot.old ≤ D.faults depot.new }
     ensures answers { IfSome (D.told depot.old) (λ files. Answers itself result (reply.class_of_suite files name.now classes.now)) }
-    ensures ends { IfErr result (λ e. LoadEnds e (D.faults depot.old) (D.faults depot.new)) }
+    ensures ends { IfErr result (λ e. LoadEnds (λ read. classes.now ≡ read ∷ []) e (D.faults depot.old) (D.faults depot.new)) }
 {
     match classes {
         [] => Ok(None),
@@ -179,7 +179,7 @@ fn program_of(
     name: &Text,
 ) -> Result<Program, Status>
     ensures answers { Answers itself result (reply.or_else (first.first_program suite.now class.now) (ends.Input (input.NotYet name.now))) }
-    ensures ends { IfErr result (λ e. LoadEnds e 0 0) }
+    ensures ends { IfErr result (λ e. LoadEnds (λ _. ⊥) e 0 0) }
     ensures runs { IfOk result IsRunnable }
 {
     match suite_program(alloc, suite, class) {
@@ -201,7 +201,7 @@ pub fn load<D: Depot>(alloc: Global, depot: &mut D, name: &Text) -> Result<Loade
     ensures told { D.told depot.new ≡ D.told depot.old }
     ensures faults { D.faults depot.old ≤ D.faults depot.new }
     ensures answers { IfSome (D.told depot.old) (λ files. Answers itself result (reply.loaded_from files name.now)) }
-    ensures ends { IfErr result (λ e. LoadEnds e (D.faults depot.old) (D.faults depot.new)) }
+    ensures ends { IfErr result (λ e. LoadEnds (λ read. IfSome (D.told depot.old) (λ files. reply.IsRead files name.now read)) e (D.faults depot.old) (D.faults depot.new)) }
     ensures runs { IfOk result (λ l. IsRunnable l.program) }
 {
     let suite = read_suite_text(alloc, depot, name)?;

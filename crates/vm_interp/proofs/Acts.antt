@@ -1,16 +1,14 @@
 -- The step of each served form, from the state of the code to its state.
-use Rattle.std.proofs.Common.{◌≡◌, ℕ, zero, suc, ℤ, pos, ◌+◌, ◌-◌, ◌<◌, ◌≤◌, List, [], ◌∷◌, ◌++◌, length, get_or, set, map, drop, reverse, Bool, true, false, nat_eq, nat_lt, nat_le, if◌then◌else◌, refl, ap, sym, ◌∙◌, subst, arith, add-one, length-append, Option, Some, None, Result, Ok, Err, IfErr, inl, inr}
+use Rattle.std.proofs.Common.{◌≡◌, ℕ, zero, suc, ℤ, pos, ◌+◌, ◌-◌, ◌<◌, ◌≤◌, List, [], ◌∷◌, ◌++◌, length, get_or, set, map, drop, reverse, Bool, true, false, nat_eq, nat_lt, nat_le, if◌then◌else◌, refl, ap, sym, ◌∙◌, subst, arith, add-one, length-append, Option, Some, None, inl, inr}
 use Rattle.std.proofs.Math.Seq.{drop-cons, drop-nil}
 use Rattle.std.proofs.lemmas.Bool.{eqb-true, leb-true, ltb-true, ltb-false, cases_Bool}
 use Rattle.std.proofs.lemmas.List.{reverse-append}
-use Rattle.jvm_model.specs.declared.values.Value.{Value}
-use Rattle.jvm_model.specs.declared.values.Value.TheVariants.{Int, Long, Null, Lit, Obj}
+use Rattle.jvm_model.specs.declared.values.Value.TheVariants.{Int, Null, Lit}
 use Rattle.jvm_model.specs.declared.instr.Instr.{Instr}
 use Rattle.jvm_model.specs.declared.instr.Instr.TheVariants as form
-use Rattle.jvm_model.specs.declared.instr.Op.TheVariants.{Add, Sub, Mul, Div, Rem, Shl, Shr, Ushr, And, Or, Xor}
+use Rattle.jvm_model.specs.declared.instr.Op.TheVariants.{Add}
 use Rattle.jvm_model.specs.declared.outcome.Own.{Own}
 use Rattle.jvm_model.specs.declared.program.Program.{Program}
-use Rattle.jvm_model.specs.declared.program.Body.{Body}
 use Rattle.jvm_model.specs.declared.program.Placed.{Placed}
 use Rattle.jvm_model.specs.Classes.{Found, found_in, found_of, method_at, form_at, next_place, place_after}
 use Rattle.jvm_model.specs.Suite.{opening}
@@ -25,7 +23,6 @@ use Rattle.et_base.specs.Numbers.{add32}
 use Rattle.std.proofs.lemmas.Bool.{and_parts}
 use Rattle.vm_interp.specs.declared.form.Form.{Form}
 use Rattle.vm_interp.specs.declared.form.Form.TheVariants as does
-use Rattle.vm_interp.specs.declared.state.Place.{Place}
 use Rattle.vm_interp.specs.declared.state.Place.TheVariants.{Start, At, End}
 use Rattle.vm_interp.specs.declared.state.State as machine
 use Rattle.vm_interp.specs.Making.{Makes}
@@ -34,7 +31,7 @@ use Rattle.vm_interp.specs.declared.state.RunFault.{RunFault}
 use Rattle.vm_interp.specs.declared.state.RunFault.TheVariants as fault
 use Rattle.vm_interp.specs.Standing.{Refused, state_at, state_of, world_of, Fits, Stands, Stepped, IsHere, Moved}
 use Rattle.vm_interp.proofs.Lists.{found_in_drop, get_ints, put_ints}
-use Rattle.vm_interp.proofs.Forms.{framed, frame_at, const_made, add_made, get_made, put_made, print_made, return_made, call_made, judge_made, and_prints, over_with}
+use Rattle.vm_interp.proofs.Forms.{framed, const_made, add_made, get_made, put_made, print_made, return_made, call_made, judge_made, and_prints, over_with}
 use Rattle.vm_interp.specs.Printed.{printed_line}
 
 -- the code from the instruction on

@@ -1,8 +1,8 @@
 -- What the step of each served form makes, from a frame at a place with these operands.
 use Rattle.std.proofs.lemmas.Bool.{le-leb}
-use Rattle.std.proofs.Common.{◌≡◌, ℕ, ℤ, ◌+◌, ◌≤◌, List, [], ◌∷◌, ◌++◌, length, nat_le, true, false, refl, ap, sym, ◌∙◌, subst, arith, cond, Option, Some, None}
+use Rattle.std.proofs.Common.{◌≡◌, ℕ, ℤ, ◌+◌, ◌≤◌, List, [], ◌∷◌, ◌++◌, length, nat_le, true, false, refl, ap, ◌∙◌, arith, cond, Some, None}
 use Rattle.jvm_model.specs.declared.values.Value.{Value}
-use Rattle.jvm_model.specs.declared.values.Value.TheVariants.{Int, Null}
+use Rattle.jvm_model.specs.declared.values.Value.TheVariants.{Int}
 use Rattle.jvm_model.specs.declared.values.Location.TheVariants as place
 use Rattle.jvm_model.specs.declared.instr.Instr.{Instr}
 use Rattle.jvm_model.specs.declared.instr.Instr.TheVariants as form
@@ -12,7 +12,6 @@ use Rattle.jvm_model.specs.declared.outcome.Own.{Own}
 use Rattle.jvm_model.specs.declared.outcome.Verdict.TheVariants.{Passed}
 use Rattle.jvm_model.specs.declared.program.Program.{Program}
 use Rattle.et_base.specs.Numbers.{add32}
-use Rattle.std.specs.Fmt.{signed_decimal}
 use Rattle.jvm_model.specs.Access.{Access, bind, done, read, spend, Ran, run}
 use Rattle.jvm_model.specs.Classes.{method_at, field_at, form_at, next_place, is_static, is_trivial}
 use Rattle.jvm_model.specs.Driver.{once_driven, driven, makes, drive, drive_first, drives, judge}
@@ -26,7 +25,7 @@ use Rattle.jvm_model.specs.RowsCalls.{row_calls, calls, enters_native, argument_
 use Rattle.jvm_model.specs.RowsMoves.{row_moves}
 use Rattle.jvm_model.specs.RowsReturn.{row_return, hands_on}
 use Rattle.jvm_model.specs.RowsStatics.{row_statics, read_static, write_static}
-use Rattle.jvm_model.specs.State.{State, Turn, next, ended, started, test_at}
+use Rattle.jvm_model.specs.State.{State, Turn, next, ended, test_at}
 use Rattle.jvm_model.specs.declared.state.Stage.TheVariants.{First, Last}
 use Rattle.jvm_model.specs.Step.{step, row, row_here, row_or_none, after_row, entered}
 use Rattle.jvm_model.specs.World.{World, at, put}

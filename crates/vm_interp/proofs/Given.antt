@@ -1,12 +1,12 @@
 -- What is left of a test after a step.
-use Rattle.std.proofs.Common.{◌≡◌, ℕ, zero, suc, ◌+◌, ◌<◌, ◌≤◌, List, [], ◌++◌, Bool, true, false, ◌&&◌, nat_le, cond, refl, ap, sym, ◌∙◌, arith, append_assoc, add_assoc, append-nil, add-zero, zero-add, Option, Some, None}
-use Rattle.std.proofs.lemmas.Bool.{leb-true, lt-leb, le-leb}
+use Rattle.std.proofs.Common.{◌≡◌, ℕ, suc, ◌+◌, ◌<◌, ◌≤◌, List, [], ◌++◌, Bool, true, false, ◌&&◌, refl, ap, ◌∙◌, arith, append_assoc, add_assoc, append-nil, add-zero, zero-add, Option, Some, None}
+use Rattle.std.proofs.lemmas.Bool.{lt-leb, le-leb}
 use Rattle.jvm_model.specs.declared.values.Touch.{Touch}
 use Rattle.jvm_model.specs.declared.outcome.Verdict.{Verdict}
 use Rattle.jvm_model.specs.declared.program.Program.{Program}
-use Rattle.jvm_model.specs.Access.{Access, done, Ran, run}
-use Rattle.jvm_model.specs.State.{State, Turn, next, ended, no_turn, started}
-use Rattle.jvm_model.specs.Step.{acts, step}
+use Rattle.jvm_model.specs.Access.{Access, Ran, run}
+use Rattle.jvm_model.specs.State.{State, Turn, next, ended, started}
+use Rattle.jvm_model.specs.Step.{step}
 use Rattle.jvm_model.specs.Suite.{Given, End, finished, stuck, out_of_steps, after_step, given_at, whole, tree, one_test}
 use Rattle.jvm_model.specs.World.{World}
 use Rattle.jvm_model.proofs.Binds.{run_bind}

@@ -1,9 +1,8 @@
 -- Code and statics as lists.
-use Rattle.std.proofs.Common.{◌≡◌, ℕ, zero, suc, ℤ, ◌+◌, ◌-◌, ◌<◌, ◌≤◌, List, [], ◌∷◌, ◌++◌, length, get_or, set, map, drop, refl, ap, sym, ◌∙◌, subst, arith, Bool, true, false, nat_eq, Option, Some, None}
+use Rattle.std.proofs.Common.{◌≡◌, ℕ, zero, suc, ℤ, ◌<◌, List, [], ◌∷◌, length, get_or, set, map, drop, refl, ap, sym, ◌∙◌, subst, arith, Bool, true, false, Option, Some}
 use Rattle.std.proofs.Math.Seq.{drop-nil}
 use Rattle.std.proofs.lemmas.Bool.{eq-eqb, ne_eqb}
-use Rattle.jvm_model.specs.declared.values.Value.{Value}
-use Rattle.jvm_model.specs.declared.values.Value.TheVariants.{Int, Null, Lit}
+use Rattle.jvm_model.specs.declared.values.Value.TheVariants.{Int, Null}
 use Rattle.jvm_model.specs.declared.program.Placed.{Placed}
 use Rattle.jvm_model.specs.Classes.{Found, found_in, place_after}
 use Rattle.jvm_model.specs.World.{put_at}

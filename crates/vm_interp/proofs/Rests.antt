@@ -1,10 +1,10 @@
 -- What is left of a test after a step of the machine.
-use Rattle.std.proofs.Common.{◌≡◌, ℕ, suc, ℤ, ◌+◌, ◌-◌, ◌<◌, ◌≤◌, List, [], ◌++◌, refl, ap, sym, ◌∙◌, subst, arith, Result, Ok, Err, IfErr, Option, Some, None}
+use Rattle.std.proofs.Common.{◌≡◌, ℕ, suc, ℤ, ◌+◌, ◌-◌, ◌≤◌, List, [], ◌++◌, ap, sym, ◌∙◌, arith, Option, Some, None}
 use Rattle.jvm_model.specs.declared.values.Touch.{Touch}
 use Rattle.jvm_model.specs.declared.outcome.Verdict.TheVariants.{Passed}
 use Rattle.jvm_model.specs.declared.program.Program.{Program}
 use Rattle.jvm_model.specs.Access.{run}
-use Rattle.jvm_model.specs.State.{State, Turn, next, ended, started}
+use Rattle.jvm_model.specs.State.{started}
 use Rattle.jvm_model.specs.Step.{step}
 use Rattle.jvm_model.specs.Suite.{Given, one_test}
 use Rattle.vm_interp.specs.declared.state.Ended.{Ended}
@@ -12,8 +12,8 @@ use Rattle.vm_interp.specs.declared.state.Ended.TheVariants.{Returned, Thrown}
 use Rattle.vm_interp.specs.declared.state.State as machine
 use Rattle.vm_interp.specs.declared.state.RunFault.{RunFault}
 use Rattle.vm_interp.specs.declared.state.RunFault.TheVariants as fault
-use Rattle.vm_interp.specs.Making.{Makes, given_on}
-use Rattle.vm_interp.specs.Standing.{state_of, world_of, Stands, Stepped, Passes, Refused, Rest, Gave, Unended}
+use Rattle.vm_interp.specs.Making.{given_on}
+use Rattle.vm_interp.specs.Standing.{state_of, world_of, Stepped, Passes, Refused, Rest, Gave, Unended}
 use Rattle.vm_interp.proofs.Given.{given_goes, given_ends, given_over, given_first, step_costs}
 
 -- the touches of the step

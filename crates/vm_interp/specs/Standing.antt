@@ -1,6 +1,5 @@
 -- What this machine's state and statics stand for.
-use Rattle.std.specs.Prelude.{◌≡◌, ℕ, suc, ℤ, ◌+◌, ◌-◌, ◌≤◌, ◌<◌, List, [], ◌∷◌, ◌++◌, length, get_or, map, drop, reverse, true, Option, Some, None}
-use Rattle.jvm_model.specs.declared.values.Value.{Value}
+use Rattle.std.specs.Prelude.{◌≡◌, ℕ, suc, ℤ, ◌+◌, ◌-◌, ◌≤◌, ◌<◌, List, [], ◌∷◌, length, get_or, map, drop, reverse, true, Option, Some, None}
 use Rattle.jvm_model.specs.declared.values.Value.TheVariants.{Int, Lit, Null}
 use Rattle.jvm_model.specs.declared.outcome.Verdict.TheVariants.{Passed}
 use Rattle.jvm_model.specs.declared.program.Program.{Program}

@@ -1,4 +1,4 @@
-use Rattle.std.proofs.Common.{◌≡◌, ◌≤◌, ◌<◌, drop, length}
+use Rattle.std.proofs.Common.{◌≡◌, ◌≤◌, drop}
 use Rattle.vm_interp.specs.Served.{is_straight}
 use Rattle.vm_interp.proofs.fitting.goes_straight.Given as goal
 

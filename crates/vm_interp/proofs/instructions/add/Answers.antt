@@ -1,9 +1,9 @@
-use Rattle.vm_interp.specs.Standing.{Refused, Stepped}
+use Rattle.vm_interp.specs.Standing.{Refused}
 use Rattle.et_base.specs.Numbers.{add32}
-use Rattle.std.proofs.Common.{set, None, length-append, ◌≡◌, rules, ◌∙◌, ◌+◌, ◌-◌, ◌<◌, ◌≤◌, ◌++◌, ◌∷◌, [], ℤ, List, length, ap, sym, subst, refl, arith, get_or, IfErr}
+use Rattle.std.proofs.Common.{length-append, ◌≡◌, rules, ◌∙◌, ◌++◌, ◌∷◌, [], length, ap, sym, refl, arith, IfErr}
 use Rattle.std.proofs.lemmas.Result.{err_from_is_err_and}
 use Rattle.vm_interp.specs.declared.state.State as machine
-use Rattle.vm_interp.proofs.Acts.{refused_by, add_makes, add_steps, add_stands, add_units}
+use Rattle.vm_interp.proofs.Acts.{refused_by, add_steps, add_stands, add_units}
 use Rattle.vm_interp.proofs.Exits.{at_error}
 use Rattle.vm_interp.proofs.instructions.add.Goals as goal
 

@@ -1,7 +1,7 @@
-use Rattle.std.proofs.Common.{◌≡◌, rules, ◌∙◌, ◌+◌, ◌-◌, ◌<◌, ◌≤◌, ◌++◌, ◌∷◌, [], ℤ, List, length, ap, sym, subst, refl, arith, get_or, IfErr}
+use Rattle.std.proofs.Common.{◌≡◌, rules, ◌∙◌, ◌++◌, ◌∷◌, [], ap, refl, IfErr}
 use Rattle.std.proofs.lemmas.Result.{err_from_is_err_and}
 use Rattle.vm_interp.specs.declared.state.State as machine
-use Rattle.vm_interp.proofs.Acts.{refused_by, get_makes, get_steps, get_place, get_units}
+use Rattle.vm_interp.proofs.Acts.{refused_by, get_steps, get_place, get_units}
 use Rattle.vm_interp.specs.Standing.{Refused}
 use Rattle.vm_interp.proofs.Exits.{at_error}
 use Rattle.vm_interp.proofs.instructions.get.Goals as goal

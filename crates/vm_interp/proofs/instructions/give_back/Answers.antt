@@ -1,4 +1,4 @@
-use Rattle.std.proofs.Common.{◌≡◌, rules, ◌∙◌, ◌+◌, ◌-◌, ◌<◌, ◌≤◌, ◌++◌, ◌∷◌, [], ℤ, List, length, ap, sym, subst, refl, arith, get_or, IfErr}
+use Rattle.std.proofs.Common.{ap, refl, IfErr}
 use Rattle.std.proofs.lemmas.Result.{err_from_is_err_and}
 use Rattle.vm_interp.specs.declared.state.State as machine
 use Rattle.vm_interp.proofs.Acts.{refused_by, return_makes, return_steps}

@@ -1,9 +1,8 @@
-use Rattle.vm_interp.specs.Standing.{Refused, Stepped}
-use Rattle.et_base.specs.Numbers.{add32}
-use Rattle.std.proofs.Common.{set, None, length-append, ◌≡◌, rules, ◌∙◌, ◌+◌, ◌-◌, ◌<◌, ◌≤◌, ◌++◌, ◌∷◌, [], ℤ, List, length, ap, sym, subst, refl, arith, get_or, IfErr}
+use Rattle.vm_interp.specs.Standing.{Refused}
+use Rattle.std.proofs.Common.{set, ◌≡◌, rules, ◌∙◌, ◌-◌, ap, sym, refl, IfErr}
 use Rattle.std.proofs.lemmas.Result.{err_from_is_err_and}
 use Rattle.vm_interp.specs.declared.state.State as machine
-use Rattle.vm_interp.proofs.Acts.{refused_by, put_makes, put_steps, put_place, put_stands, put_units}
+use Rattle.vm_interp.proofs.Acts.{refused_by, put_steps, put_place, put_stands, put_units}
 use Rattle.vm_interp.proofs.Exits.{at_error}
 use Rattle.vm_interp.proofs.instructions.put.Goals as goal
 

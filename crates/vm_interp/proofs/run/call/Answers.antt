@@ -1,7 +1,6 @@
 use Rattle.jvm_model.specs.declared.program.Body.{Body}
 use Rattle.jvm_model.specs.Entries.{frame_cost}
-use Rattle.vm_interp.specs.Served.{body_of}
-use Rattle.std.proofs.Common.{◌≡◌, rules, ◌∙◌, ◌+◌, ◌-◌, ◌<◌, ◌≤◌, ◌++◌, ◌∷◌, [], ℤ, List, length, ap, sym, subst, refl, arith, get_or, IfErr}
+use Rattle.std.proofs.Common.{◌∙◌, ◌+◌, ap, refl, arith, IfErr}
 use Rattle.std.proofs.lemmas.Result.{err_from_is_err_and}
 use Rattle.vm_interp.specs.declared.state.State as machine
 use Rattle.vm_interp.proofs.Acts.{refused_by, call_makes, call_steps, start_stack}

@@ -1,8 +1,6 @@
 use Rattle.jvm_model.specs.declared.program.Body.{Body}
-use Rattle.std.proofs.Common.{◌≡◌, rules, ◌∙◌, ◌+◌, ◌-◌, ◌<◌, ◌≤◌, ◌++◌, ◌∷◌, [], ℤ, List, length, ap, sym, subst, refl, arith, get_or}
-use Rattle.std.proofs.lemmas.Result.{err_from_is_err_and}
-use Rattle.vm_interp.specs.declared.state.State as machine
-use Rattle.vm_interp.proofs.Acts.{refused_by, none_unserved}
+use Rattle.std.proofs.Common.{◌∙◌, ap, sym, get_or}
+use Rattle.vm_interp.proofs.Acts.{none_unserved}
 use Rattle.vm_interp.proofs.run.instruction.Goals as goal
 
 pub unreachable-requires : goal.unreachable-requires

@@ -1,4 +1,4 @@
-use Rattle.std.proofs.Common.{◌≡◌, suc, ◌+◌, ◌-◌, ◌≤◌, ◌<◌, List, [], ◌++◌, ap, sym, ◌∙◌, arith, IfErr}
+use Rattle.std.proofs.Common.{◌≡◌, suc, ◌+◌, ◌-◌, [], ◌++◌, ap, sym, ◌∙◌, arith, IfErr}
 use Rattle.std.proofs.lemmas.Result.{err_from_is_err_and}
 use Rattle.vm_interp.specs.Making.{given_on}
 use Rattle.vm_interp.specs.Standing.{Unended, state_of, world_of, Rest}

@@ -1,4 +1,4 @@
-use Rattle.std.proofs.Common.{◌≡◌, [], ap, sym, ◌∙◌, arith, IfErr}
+use Rattle.std.proofs.Common.{sym, ◌∙◌, IfErr}
 use Rattle.std.proofs.lemmas.Result.{err_from_is_err_and}
 use Rattle.vm_interp.proofs.Rests.{rest_first, unended_along}
 use Rattle.jvm_model.specs.Suite.{one_test}
