@@ -1,0 +1,10 @@
+//! Linking: class files and tests to one program whose references are numbers, or the first fault of linking.
+#![tactic(auto)]
+
+mod fault;
+mod lines;
+mod references;
+
+pub use fault::LinkFault;
+pub use lines::{TestLine, TestLines};
+pub use references::{Target, Use};
