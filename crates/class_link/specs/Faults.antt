@@ -2,7 +2,7 @@
 use Rattle.std.specs.Prelude.{◌≡◌, ℕ, zero, suc, ◌+◌, ◌<◌, List, [], ◌∷◌, ◌++◌, length, map, option_and_then, is_some, is_none, Option, Some, None, Bool, true, false, not, ◌&&◌, ◌||◌, cond, nat_eq, nat_le}
 use Rattle.std.specs.List.{list_any, list_all, range_with_len}
 use Rattle.class_pool.specs.declared.pool.Entry.{Entry}
-use Rattle.class_pool.specs.Pool.{entry_of}
+use Rattle.class_pool.specs.Pool.{entry_of, is_class}
 use Rattle.class_reader.specs.declared.parts.ClassParts.{ClassParts}
 use Rattle.et_base.specs.Names.{starts_array}
 use Rattle.jvm_model.specs.declared.program.Program.{Program}
@@ -86,8 +86,9 @@ uses_at i (x ∷ xs) = cond (nat_eq x.0 i) (x.1 ∷ uses_at i xs) (uses_at i xs)
 abbrev pub all_fit : Program → ℕ → Option Entry → Target → List Use → Bool
 all_fit p n e t us = list_all (fits p n e t) us
 
+-- an array of floats or doubles, which only a handler can name here, is of the wrong kind
 abbrev pub target_fault : Setting → ℕ → ClassParts → ℕ → List Use → Option Target → Option LinkFault
-target_fault s n c i us None = Some (fault.NoMember (own_name c) i)
+target_fault s n c i us None = Some (cond (is_class (entry_of c.pool i)) (fault.WrongKind (own_name c) i) (fault.NoMember (own_name c) i))
 target_fault s n c i us (Some t) = wrong_unless (all_fit s.program n (entry_of c.pool i) t us) c i
 
 -- the fault of the entry i, used so by the class n: its class isn't there, or its member, or it is of the wrong kind

@@ -1,9 +1,8 @@
 -- Linking: the program of class files and tests, or the first fault (JVMS 5.3 and 5.4.3; the order of faults is this project's).
-use Rattle.std.specs.Prelude.{◌≡◌, ℕ, ◌+◌, ◌<◌, ◌≤◌, ◌^◌, List, [], ◌∷◌, ◌++◌, length, get_or, Option, Some, None, Result, Ok, Err, Bool, true, nat_lt, ◌&&◌, ◌||◌, nat_eq}
+use Rattle.std.specs.Prelude.{◌≡◌, ℕ, zero, suc, pos, ◌+◌, ◌<◌, ◌≤◌, ◌^◌, List, [], ◌∷◌, ◌++◌, length, get_or, Option, Some, None, Result, Ok, Err, Bool, true, nat_lt, ◌&&◌, ◌||◌, nat_eq}
 use Rattle.std.specs.List.{list_all, AllByRecursion}
 use Rattle.class_reader.specs.declared.parts.ClassParts.{ClassParts}
 use Rattle.class_reader.specs.declared.parts.CodePart.{CodePart}
-use Rattle.class_pool.specs.Reading.{◌>>=◌}
 use Rattle.jvm_model.specs.declared.program.Program.{Program}
 use Rattle.jvm_model.specs.declared.program.TestEntry.{TestEntry}
 use Rattle.jvm_model.specs.Builtin.{builtin_count}
@@ -20,6 +19,11 @@ use Rattle.class_link.specs.References.{Setting}
 use Rattle.class_link.specs.Bodies.{linked_body}
 use Rattle.class_link.specs.Faults.{first_some, duplicate_fault, headings_fault, all_references_fault, test_entry, IsFirstCycle}
 
+infixl 10 ◌>>=◌
+abbrev pub ◌>>=◌ : {A B : Type 0} → Result A LinkFault → (A → Result B LinkFault) → Result B LinkFault
+(Ok x) >>= f = f x
+(Err e) >>= f = Err e
+
 -- what references are resolved with
 abbrev pub setting : List ClassParts → Setting
 setting cs = record { program = skeleton cs; names = all_names cs; texts = literals cs }
@@ -32,7 +36,7 @@ unless (Some f) = Err f
 -- the name of the class file at a place
 abbrev pub name_of : List ClassParts → ℕ → List ℕ
 name_of [] i = []
-name_of (c ∷ cs) 0 = own_name c
+name_of (c ∷ cs) zero = own_name c
 name_of (c ∷ cs) (suc i) = name_of cs i
 
 abbrev pub cycle_fault : List ClassParts → Option ℕ → Option LinkFault

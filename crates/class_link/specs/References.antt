@@ -20,7 +20,7 @@ use Rattle.jvm_model.specs.Selection.{named_class}
 use Rattle.jvm_model.specs.Lookup.{find_field, find_method}
 use Rattle.jvm_model.specs.Linked.{is_interface_at}
 use Rattle.class_link.specs.declared.references.Use.{Use}
-use Rattle.class_link.specs.declared.references.Use.TheVariants as use
+use Rattle.class_link.specs.declared.references.Use.TheVariants as used
 use Rattle.class_link.specs.declared.references.Target.{Target}
 use Rattle.class_link.specs.declared.references.Target.TheVariants as target
 use Rattle.class_link.specs.ClassNames.{text_at, name_at, missing, kind_of}
@@ -71,13 +71,13 @@ missing_for names slots _ = None
 
 -- how an instruction uses the entry that it names (JVMS 6.5)
 unfoldable pub use_of : ℕ → Option Use
-use_of n = if n == 178 || n == 179 then Some use.StaticField
-    else if n == 180 || n == 181 then Some use.InstanceField
-    else if n == 182 then Some use.Virtual
-    else if n == 183 then Some use.Special
-    else if n == 184 then Some use.StaticCall
-    else if n == 185 then Some use.Interface
-    else if n == 187 || n == 189 || n == 192 || n == 193 || n == 197 then Some use.Type
+use_of n = if n == 178 || n == 179 then Some used.StaticField
+    else if n == 180 || n == 181 then Some used.InstanceField
+    else if n == 182 then Some used.Virtual
+    else if n == 183 then Some used.Special
+    else if n == 184 then Some used.StaticCall
+    else if n == 185 then Some used.Interface
+    else if n == 187 || n == 189 || n == 192 || n == 193 || n == 197 then Some used.Type
     else None
 
 -- the operand at a place, and the pool index that it is
@@ -92,7 +92,7 @@ op_use o = elim (use_of o.opcode) [ None ↦ [] | Some u ↦ (index_in o, u) ∷
 
 -- a handler that catches everything names no class
 abbrev pub handler_use : RawHandler → List (ℕ × Use)
-handler_use h = cond (nat_eq h.catch_class 0) [] ((h.catch_class, use.Caught) ∷ [])
+handler_use h = cond (nat_eq h.catch_class 0) [] ((h.catch_class, used.Caught) ∷ [])
 
 abbrev pub code_uses : Option CodePart → List (ℕ × Use)
 code_uses None = []
@@ -114,22 +114,22 @@ abbrev pub is_near : Program → ℕ → ℕ → Bool
 is_near p c d = nat_le 52 (class_at p c).version && (nat_eq d c || member d (class_at p c).interfaces)
 
 abbrev pub method_fits : Program → ℕ → Option Entry → Use → Kind → ℕ → Bool
-method_fits p c e use.Virtual k m = not (is_static (method_at p m).flags) && fits_sort p e k
-method_fits p c e use.Interface k m = not (is_static (method_at p m).flags) && fits_sort p e k
-method_fits p c e use.Special k m = not (is_static (method_at p m).flags) && (fits_sort p e k && (not (is_interface_at p (named_class k)) || is_near p c (named_class k)))
-method_fits p c e use.StaticCall k m = is_static (method_at p m).flags && (fits_sort p e k && (not (is_interface_at p (named_class k)) || nat_le 52 (class_at p c).version))
+method_fits p c e used.Virtual k m = not (is_static (method_at p m).flags) && fits_sort p e k
+method_fits p c e used.Interface k m = not (is_static (method_at p m).flags) && fits_sort p e k
+method_fits p c e used.Special k m = not (is_static (method_at p m).flags) && (fits_sort p e k && (not (is_interface_at p (named_class k)) || is_near p c (named_class k)))
+method_fits p c e used.StaticCall k m = is_static (method_at p m).flags && (fits_sort p e k && (not (is_interface_at p (named_class k)) || nat_le 52 (class_at p c).version))
 method_fits p c e _ k m = false
 
 -- an instance field is one that no interface declares
 abbrev pub field_fits : Program → Use → ℕ → Bool
-field_fits p use.StaticField f = is_static (field_at p f).flags
-field_fits p use.InstanceField f = not (is_static (field_at p f).flags) && not (is_interface_at p (field_at p f).class)
+field_fits p used.StaticField f = is_static (field_at p f).flags
+field_fits p used.InstanceField f = not (is_static (field_at p f).flags) && not (is_interface_at p (field_at p f).class)
 field_fits p _ f = false
 
 -- what a handler catches is a throwable
 abbrev pub type_fits : Program → Use → Kind → Bool
-type_fits p use.Type k = true
-type_fits p use.Caught (kind.Class d) = is_below p d throwable_class
+type_fits p used.Type k = true
+type_fits p used.Caught (kind.Class d) = is_below p d throwable_class
 type_fits p _ k = false
 
 -- the class c may use the entry e, which stands for the target, in this way
