@@ -3,6 +3,7 @@
 
 mod fault;
 mod lines;
+mod operands;
 mod references;
 
 pub use fault::LinkFault;
