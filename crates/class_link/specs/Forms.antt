@@ -150,14 +150,20 @@ test_of n = if n == 0 then test.Eq
     else if n == 4 then test.Gt
     else test.Le
 
+abbrev pub table : RawOp → Instr
+table o = form.Table (operand o 1) (places (drop 3 o.args)) (number_in o 0)
+
+abbrev pub look_up : RawOp → Instr
+look_up o = form.Lookup (pairs (drop 1 o.args)) (number_in o 0)
+
 -- 153 to 177: branches, switches and returns
 unfoldable pub branches : RawOp → Instr
 branches o = if nat_le 153 o.opcode && nat_le o.opcode 158 then form.IfZero (test_of (o.opcode - 153)) (number_in o 0)
     else if nat_le 159 o.opcode && nat_le o.opcode 164 then form.IfInts (test_of (o.opcode - 159)) (number_in o 0)
     else if o.opcode == 165 || o.opcode == 166 then form.IfRefs (o.opcode == 165) (number_in o 0)
     else if o.opcode == 167 then form.Goto (number_in o 0)
-    else if o.opcode == 170 then form.Table (operand o 1) (places (drop 3 o.args)) (number_in o 0)
-    else if o.opcode == 171 then form.Lookup (pairs (drop 1 o.args)) (number_in o 0)
+    else if o.opcode == 170 then table o
+    else if o.opcode == 171 then look_up o
     else if o.opcode == 172 then form.Return (Some sort.Int)
     else if o.opcode == 173 then form.Return (Some sort.Long)
     else if o.opcode == 176 then form.Return (Some sort.Ref)

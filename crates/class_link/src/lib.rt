@@ -3,6 +3,7 @@
 
 mod fault;
 mod lines;
+mod forms;
 mod operands;
 mod references;
 
