@@ -1,7 +1,7 @@
 -- What the entries of a pool stand for, and how code uses them (JVMS 5.4.3 and 6.5).
-use Rattle.std.specs.Prelude.{ℕ, ℤ, pos, List, [], ◌∷◌, ◌++◌, flat_map, map, get_or, option_map, option_and_then, Option, Some, None, Bool, true, false, not, ◌&&◌, ◌||◌, cond, nat_eq, nat_le, ◌==◌, if◌then◌else◌}
+use Rattle.std.specs.Prelude.{ℕ, ℤ, pos, ◌%◌, List, [], ◌∷◌, ◌++◌, flat_map, map, get_or, option_map, option_and_then, Option, Some, None, Bool, true, false, not, ◌&&◌, ◌||◌, cond, nat_eq, nat_le, ◌==◌, if◌then◌else◌}
 use Rattle.std.specs.List.{list_any}
-use Rattle.std.specs.Int.{w16, cast_unsigned}
+use Rattle.std.specs.Int.{w32, cast_unsigned}
 use Rattle.class_pool.specs.declared.pool.Entry.{Entry}
 use Rattle.class_pool.specs.declared.pool.Entry.TheVariants as entry
 use Rattle.class_pool.specs.Pool.{entry_of}
@@ -80,12 +80,16 @@ use_of n = if n == 178 || n == 179 then Some used.StaticField
     else if n == 187 || n == 189 || n == 192 || n == 193 || n == 197 then Some used.Type
     else None
 
--- the operand at a place, and the pool index that it is
+-- the operand at a place, and as a number of 32 bits without sign
 abbrev pub operand : RawOp → ℕ → ℤ
 operand o i = get_or o.args i (pos 0)
 
+abbrev pub number_in : RawOp → ℕ → ℕ
+number_in o i = cast_unsigned w32 (operand o i)
+
+-- the pool index that the first operand is, of 16 bits
 abbrev pub index_in : RawOp → ℕ
-index_in o = cast_unsigned w16 (operand o 0)
+index_in o = number_in o 0 % 65536
 
 abbrev pub op_use : RawOp → List (ℕ × Use)
 op_use o = elim (use_of o.opcode) [ None ↦ [] | Some u ↦ (index_in o, u) ∷ [] ]
