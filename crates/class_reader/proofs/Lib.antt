@@ -4,3 +4,6 @@ pub mod HandlerLaw
 pub mod MapSteps
 pub mod MapLaw
 pub mod ClassLaw
+pub mod MemberFacts
+pub mod PartFacts
+pub mod ClassFacts
