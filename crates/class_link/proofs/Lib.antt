@@ -2,3 +2,4 @@ pub mod Alike
 pub mod Blocks
 pub mod Assembled
 pub mod Numbered
+pub mod Records
