@@ -3,3 +3,4 @@ pub mod Blocks
 pub mod Assembled
 pub mod Numbered
 pub mod Records
+pub mod Tables
