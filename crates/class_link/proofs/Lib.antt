@@ -4,3 +4,4 @@ pub mod Assembled
 pub mod Numbered
 pub mod Records
 pub mod Tables
+pub mod Listed

@@ -1,5 +1,5 @@
 -- What the tables of the built-in classes, fields and methods keep, entry by entry: tests that are computed.
-use Rattle.std.proofs.Common.{◌≡◌, ◌⊎◌, ℕ, zero, suc, ◌+◌, ◌<◌, List, [], ◌∷◌, length, get_or, Bool, true, false, not, ◌&&◌, ◌||◌, nat_eq, refl, sym, ◌∙◌, ap, subst, arith, Option, Some, None}
+use Rattle.std.proofs.Common.{◌≡◌, ◌⊎◌, ℕ, zero, suc, ◌+◌, ◌<◌, List, [], ◌∷◌, length, get_or, Bool, true, false, not, ◌&&◌, ◌||◌, nat_eq, nat_lt, refl, sym, ◌∙◌, ap, subst, arith, Option, Some, None}
 use Rattle.std.specs.Prelude.{is_some, is_none}
 use Rattle.std.specs.List.{list_all, list_any}
 use Rattle.std.proofs.lemmas.Bool.{and_parts, not-true, or_parts}
@@ -7,6 +7,7 @@ use Rattle.jvm_model.specs.declared.program.ClassRec.{ClassRec}
 use Rattle.jvm_model.specs.declared.program.FieldRec.{FieldRec}
 use Rattle.jvm_model.specs.declared.program.MethodRec.{MethodRec}
 use Rattle.jvm_model.specs.World.{same_units}
+use Rattle.jvm_model.specs.Builtin.{builtin_count}
 use Rattle.jvm_model.specs.Library.{builtin_defs, builtin_classes, builtin_fields, builtin_methods}
 use Rattle.jvm_model.specs.Classes.{no_class, no_field, no_method, is_static, default_of}
 use Rattle.jvm_model.specs.Linked.{count}
@@ -42,24 +43,30 @@ all_differ_at same (x ∷ xs) (suc i) (suc j) d e h g = all_differ_at same xs i 
 
 -- ---- the tables
 
+abbrev pub own_field : ℕ → ℕ → Bool
+own_field c f = nat_lt f 2 && nat_eq (get_or builtin_fields f no_field).class c
+
+abbrev pub own_method : ℕ → ℕ → Bool
+own_method c m = nat_lt m 102 && nat_eq (get_or builtin_methods m no_method).class c
+
 -- a class lists its own members, has no initialiser, and if it isn't the first a superclass
 abbrev pub lists_own : ℕ → ClassRec → Bool
-lists_own c x = (list_all (λ f. nat_eq (get_or builtin_fields f no_field).class c) x.fields && list_all (λ m. nat_eq (get_or builtin_methods m no_method).class c) x.methods) && (is_none x.initialiser && (is_some x.superclass || nat_eq c 0))
+lists_own c x = (list_all (own_field c) x.fields && list_all (own_method c) x.methods) && (is_none x.initialiser && (is_some x.superclass || nat_eq c 0))
 
 pub classes_own : all_from lists_own 0 builtin_classes ≡ true
 unfolding builtin_classes builtin_fields builtin_methods builtin_defs
 classes_own = refl
 
--- a method is listed once by its class
+-- a method is one of a built-in class, which lists it once
 abbrev pub method_listed : ℕ → MethodRec → Bool
-method_listed m x = nat_eq (count m (get_or builtin_classes x.class no_class).methods) 1
+method_listed m x = nat_lt x.class builtin_count && nat_eq (count m (get_or builtin_classes x.class no_class).methods) 1
 
 pub methods_listed : all_from method_listed 0 builtin_methods ≡ true
 unfolding builtin_classes builtin_methods builtin_defs
 methods_listed = refl
 
 abbrev pub field_listed : ℕ → FieldRec → Bool
-field_listed f x = nat_eq (count f (get_or builtin_classes x.class no_class).fields) 1
+field_listed f x = nat_lt x.class builtin_count && nat_eq (count f (get_or builtin_classes x.class no_class).fields) 1
 
 pub fields_listed : all_from field_listed 0 builtin_fields ≡ true
 unfolding builtin_classes builtin_fields builtin_defs
