@@ -5,3 +5,4 @@ pub mod Numbered
 pub mod Records
 pub mod Tables
 pub mod Listed
+pub mod Distinct

@@ -30,7 +30,7 @@ abbrev pub all_differ : {X : Type 0} → (X → X → Bool) → List X → Bool
 all_differ same [] = true
 all_differ same (x ∷ xs) = not (list_any (λ y. same x y) xs) && all_differ same xs
 
-none_at : {X : Type 0} (test : X → Bool) (xs : List X) (i : ℕ) (d : X) → list_any test xs ≡ false → i < length xs → test (get_or xs i d) ≡ false
+pub none_at : {X : Type 0} (test : X → Bool) (xs : List X) (i : ℕ) (d : X) → list_any test xs ≡ false → i < length xs → test (get_or xs i d) ≡ false
 none_at test [] i d e h = absurd (omega arith)
 none_at test (x ∷ xs) zero d e h = (or_parts (test x) (list_any test xs) e).0
 none_at test (x ∷ xs) (suc i) d e h = none_at test xs i d (or_parts (test x) (list_any test xs) e).1 (omega arith)
