@@ -9,7 +9,7 @@ use Rattle.class_pool.specs.PoolGrammar.{PoolText, IsPool}
 use Rattle.class_pool.proofs.Laws.{both_true, either_true}
 use Rattle.class_pool.proofs.WriteLaw.{pool_kept}
 use Rattle.class_pool.proofs.GrammarFacts.{counted_all, counted_length}
-use Rattle.class_pool.proofs.EntryFacts.{NamesText, NamesClass, EntryFacts, class_from, units_are, entry_facts}
+use Rattle.class_pool.proofs.EntryFacts.{NamesText, NamesClass, EntryFacts, class_from, plain_name, units_are, entry_facts}
 use Rattle.et_base.specs.Names.{is_class_name, is_class_entry_name, is_field_descriptor, starts_array}
 use Rattle.class_reader.specs.declared.parts.CodePart.{CodePart}
 use Rattle.class_reader.specs.declared.parts.MemberPart.{MemberPart}
@@ -17,7 +17,8 @@ use Rattle.class_reader.specs.declared.parts.ClassParts.{ClassParts}
 use Rattle.class_reader.specs.Indices.{Index}
 use Rattle.class_reader.specs.Names.{begins_array, is_own_class}
 use Rattle.class_reader.specs.ClassGrammar.{PartText, HeadText, InterfacesText, MembersText, parts_of, BodyText, class_bytes, IsClass}
-use Rattle.class_reader.proofs.MemberFacts.{FieldFacts, MethodFacts, MembersFacts, index_facts, fields_facts, methods_facts}
+use Rattle.class_reader.proofs.AttributeFacts.{index_facts}
+use Rattle.class_reader.proofs.MemberFacts.{FieldFacts, MethodFacts, MembersFacts, fields_facts, methods_facts}
 
 -- a class that is no array
 pub record OwnClass (slots : List (Option Entry)) (index : ℕ) : Type 0 where
@@ -30,8 +31,7 @@ pub record NamesShort (slots : List (Option Entry)) (index : ℕ) : Type 0 where
   pub small : index < 2 ^ 16
   pub class : NamesClass slots index
 
--- P holds of each method's code
-pub record ClassFactsBy (P : List (Option Entry) → CodePart → Type 0) (c : ClassParts) : Type 0 where
+pub record ClassFacts (c : ClassParts) : Type 0 where
   pub entries : EntryFacts c.pool
   pub minor : c.minor < 2 ^ 16
   pub lowest : 50 ≤ c.major
@@ -43,16 +43,9 @@ pub record ClassFactsBy (P : List (Option Entry) → CodePart → Type 0) (c : C
   pub interfaces : All (NamesShort c.pool) c.interfaces
   pub few_interfaces : length c.interfaces < 2 ^ 16
   pub fields : MembersFacts (FieldFacts c.pool) c.pool c.fields
-  pub methods : MembersFacts (MethodFacts (P c.pool) c.pool) c.pool c.methods
+  pub methods : MembersFacts (MethodFacts c.pool) c.pool c.methods
 
 -- ---- this class
-
-own_name : (us : List ℕ) → is_class_entry_name us ≡ true → starts_array us ≡ false → is_class_name us ≡ true
-unfolding is_class_entry_name
-own_name us h bare = elim (either_true (is_class_name us) (starts_array us && is_field_descriptor us) h) [
-  | inl named ↦ named
-  | inr array ↦ absurd (let there : starts_array us ≡ true = (both_true _ _ array).0 in cc)
-]
 
 starts_as : (us : List ℕ) → begins_array (Some (Utf8 us)) ≡ starts_array us
 starts_as [] = refl
@@ -61,7 +54,7 @@ starts_as (u ∷ us) = refl
 own_from : (slots : List (Option Entry)) (i : ℕ) → (c : NamesClass slots i) → not (begins_array (entry_of slots c.name)) ≡ true → OwnClass slots i
 own_from slots i c bare =
     let plain : starts_array c.text.units ≡ false = sym (starts_as c.text.units) ∙ sym (ap begins_array c.text.entry) ∙ not-true _ bare in
-    record { name = c.name; entry = c.entry; text = record { units = c.text.units; entry = c.text.entry; fits = own_name c.text.units c.text.fits plain } }
+    record { name = c.name; entry = c.entry; text = record { units = c.text.units; entry = c.text.entry; fits = plain_name c.text.units c.text.fits plain } }
 
 own_is_class : (slots : List (Option Entry)) (e : Option Entry) → is_own_class slots e ≡ true → is_class e ≡ true
 own_is_class slots None h = absurd cc
@@ -95,24 +88,19 @@ interfaces_facts slots pool text xs (n, one, more, e, short, counted) = (
   subst (λ k. k < 2 ^ 16) (sym (counted_length (λ _ _. Index is_class slots) n more xs counted)) short.1,
 )
 
-abbrev MembersSo : (CodePart → Type 0) → List (Option Entry) → List MemberPart × List MemberPart → Type 0
-MembersSo P slots members = MembersFacts (FieldFacts slots) slots members.0 × MembersFacts (MethodFacts P slots) slots members.1
+abbrev MembersSo : List (Option Entry) → List MemberPart × List MemberPart → Type 0
+MembersSo slots members = MembersFacts (FieldFacts slots) slots members.0 × MembersFacts (MethodFacts slots) slots members.1
 
-members_so : (P : CodePart → Type 0) (slots : List (Option Entry)) → ((text : List ℕ) (x : CodePart) → Sized (PartText slots) text x → P x)
-    → (text : List ℕ) (members : List MemberPart × List MemberPart) → MembersText slots text members → MembersSo P slots members
-members_so P slots f text members (fields, t1, m1, e1, s1, (methods, t2, m2, e2, s2, (u, skipped, is))) =
-    subst (MembersSo P slots) (sym is) (fields_facts slots t1 fields s1, methods_facts P slots f t2 methods s2)
+members_so : (slots : List (Option Entry)) → IsPool slots → (text : List ℕ) (members : List MemberPart × List MemberPart) → MembersText slots text members → MembersSo slots members
+members_so slots pool text members (fields, t1, m1, e1, s1, (methods, t2, m2, e2, s2, (u, skipped, is))) =
+    subst (MembersSo slots) (sym is) (fields_facts slots t1 fields s1, methods_facts slots pool t2 methods s2)
 
--- the code of each method that is spelled is so
-abbrev pub CodeSo : (List (Option Entry) → CodePart → Type 0) → Type 0
-CodeSo P = (slots : List (Option Entry)) → IsPool slots → (text : List ℕ) (x : CodePart) → Sized (PartText slots) text x → P slots x
-
-body_facts : (P : List (Option Entry) → CodePart → Type 0) → CodeSo P → (version : ℕ × ℕ) (slots : List (Option Entry)) → IsVersion version → IsPool slots → (text : List ℕ) (c : ClassParts) → BodyText version slots text c → ClassFactsBy P c
-body_facts P f version slots v pool text c (flags, t1, m1, e1, s1, (this, t2, m2, e2, s2, (super, t3, m3, e3, s3, (interfaces, t4, m4, e4, s4, (members, s5, is))))) =
+body_facts : (version : ℕ × ℕ) (slots : List (Option Entry)) → IsVersion version → IsPool slots → (text : List ℕ) (c : ClassParts) → BodyText version slots text c → ClassFacts c
+body_facts version slots v pool text c (flags, t1, m1, e1, s1, (this, t2, m2, e2, s2, (super, t3, m3, e3, s3, (interfaces, t4, m4, e4, s4, (members, s5, is))))) =
     let own = index_facts (is_own_class slots) slots t2 this s2 in
     let above = interfaces_facts slots pool t4 interfaces s4 in
-    let both = members_so (P slots) slots (f slots pool) m4 members s5 in
-    let made : ClassFactsBy P (parts_of version slots flags this super interfaces members) = record {
+    let both = members_so slots pool m4 members s5 in
+    let made : ClassFacts (parts_of version slots flags this super interfaces members) = record {
       entries = entry_facts slots pool;
       minor = v.0;
       lowest = v.1;
@@ -126,11 +114,11 @@ body_facts P f version slots v pool text c (flags, t1, m1, e1, s1, (this, t2, m2
       fields = both.0;
       methods = both.1;
     } in
-    subst (ClassFactsBy P) (sym is) made
+    subst ClassFacts (sym is) made
 
-spelled_facts : (P : List (Option Entry) → CodePart → Type 0) → CodeSo P → (bytes : List ℕ) (c : ClassParts) → class_bytes bytes c → ClassFactsBy P c
+spelled_facts : (bytes : List ℕ) (c : ClassParts) → class_bytes bytes c → ClassFacts c
 unfolding class_bytes
-spelled_facts P f bytes c (version, t1, m1, e1, head, (slots, t2, m2, e2, pool, body)) = body_facts P f version slots (head_facts t1 version head) (pool_kept t2 slots pool) m2 c body
+spelled_facts bytes c (version, t1, m1, e1, head, (slots, t2, m2, e2, pool, body)) = body_facts version slots (head_facts t1 version head) (pool_kept t2 slots pool) m2 c body
 
-pub class_facts_by : (P : List (Option Entry) → CodePart → Type 0) → CodeSo P → (c : ClassParts) → IsClass c → ClassFactsBy P c
-class_facts_by P f c h = spelled_facts P f h.bytes c h.spelled
+pub class_facts : (c : ClassParts) → IsClass c → ClassFacts c
+class_facts c h = spelled_facts h.bytes c h.spelled

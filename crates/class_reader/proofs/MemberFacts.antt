@@ -10,6 +10,7 @@ use Rattle.class_pool.specs.declared.pool.Entry.{Entry}
 use Rattle.class_pool.specs.declared.pool.Entry.TheVariants.{Utf8}
 use Rattle.class_pool.specs.Pool.{entry_of, is_text, text_of, in_text}
 use Rattle.class_pool.specs.Grammar.{Sized}
+use Rattle.class_pool.specs.PoolGrammar.{IsPool}
 use Rattle.class_pool.proofs.Laws.{chosen, both, both_true}
 use Rattle.class_pool.proofs.GrammarFacts.{Behind, behind_at, counted_behind, counted_all, counted_length, chain_keeps}
 use Rattle.class_pool.proofs.EntryFacts.{NamesText, text_from}
@@ -17,9 +18,10 @@ use Rattle.et_base.specs.Names.{is_unqualified, is_field_descriptor, is_method_d
 use Rattle.et_base.specs.Names as names
 use Rattle.class_reader.specs.declared.parts.MemberPart.{MemberPart}
 use Rattle.class_reader.specs.declared.parts.CodePart.{CodePart}
-use Rattle.class_reader.specs.Indices.{Index, Form}
 use Rattle.class_reader.specs.Names.{is_field_name, is_field_type, is_method_name, is_method_type, own_units, has_room, fits_constant, same_text, is_repeated, has_code, fits_flags, is_code, is_constant_value}
-use Rattle.class_reader.specs.ClassGrammar.{OtherText, OnceText, AttributeText, AttributesText, ConstantText, PartText, field_of, FieldText, FieldsText, method_of, MethodText, MethodsText}
+use Rattle.class_reader.specs.ClassGrammar.{ConstantText, PartText, field_of, FieldText, FieldsText, method_of, MethodText, MethodsText}
+use Rattle.class_reader.proofs.AttributeFacts.{attributes_keep, index_facts, form_facts}
+use Rattle.class_reader.proofs.PartFacts.{PartFacts, part_facts}
 
 -- ---- the facts
 
@@ -37,43 +39,21 @@ pub record HasRoom (flags : ℕ) (descriptor : List ℕ) : Type 0 where
   pub counted : argument_units descriptor ≡ Some units
   pub few : own_units flags + units ≤ 255
 
--- a method, whose code is so
-pub record MethodFacts (P : CodePart → Type 0) (slots : List (Option Entry)) (m : MemberPart) : Type 0 where
+-- a method
+pub record MethodFacts (slots : List (Option Entry)) (m : MemberPart) : Type 0 where
   pub flags : m.flags < 2 ^ 16
   pub name : NamesText names.is_method_name slots m.name
   pub descriptor : NamesText is_method_descriptor slots m.descriptor
   pub room : HasRoom m.flags descriptor.units
   pub no_constant : m.constant ≡ None
   pub coded : is_some m.code ≡ has_code m.flags
-  pub code : IfSome m.code P
+  pub code : IfSome m.code (PartFacts slots)
 
 -- members in different places differ in their names or their descriptors
 abbrev pub Differ : List (Option Entry) → List MemberPart → Type 0
 Differ slots ms = (i j : ℕ) (d : MemberPart) → i < length ms → j < length ms
     → text_of (entry_of slots (get_or ms i d).name) ≡ text_of (entry_of slots (get_or ms j d).name)
     → text_of (entry_of slots (get_or ms i d).descriptor) ≡ text_of (entry_of slots (get_or ms j d).descriptor) → i ≡ j
-
--- ---- attributes
-
-once_keeps : {A : Type 0} (wanted : Bool) (S : List ℕ → A → Type 0) (P : A → Type 0) → ((text : List ℕ) (x : A) → S text x → P x)
-    → (found : Option A) (text : List ℕ) (now : Option A) → IfSome found P → OnceText wanted S found text now → IfSome now P
-once_keeps wanted S P f found text now h s = chosen wanted _ _ s
-    (λ _ (none, (x, t, is)). subst (λ o. IfSome o P) (sym is) (f text x t))
-    (λ _ (u, t, is). subst (λ o. IfSome o P) (sym is) h)
-
--- what is read of the attributes of a place is so
-pub attributes_keep : {A : Type 0} (wanted : Option Entry → Bool) (S : List ℕ → A → Type 0) (slots : List (Option Entry)) (P : A → Type 0) → ((text : List ℕ) (x : A) → S text x → P x)
-    → (text : List ℕ) (now : Option A) → AttributesText wanted S slots text now → IfSome now P
-attributes_keep wanted S slots P f text now (n, one, more, e, short, chain) =
-    chain_keeps (AttributeText wanted S slots) (λ o. IfSome o P) (λ found bytes next h (name, front, rest, joined, index, once). once_keeps (wanted (entry_of slots name)) S P f found rest next h once) None n more now tt chain
-
--- ---- indices
-
-pub index_facts : (fits : Option Entry → Bool) (slots : List (Option Entry)) (text : List ℕ) (i : ℕ) → Index fits slots text i → (i < 2 ^ 16) × (fits (entry_of slots i) ≡ true)
-index_facts fits slots text i (k, one, more, e, short, (right, (nil, is))) = (subst (λ n. n < 2 ^ 16) (sym is) short.1, ap (λ n. fits (entry_of slots n)) is ∙ right)
-
-form_facts : (form : Option Entry → Bool) (slots : List (Option Entry)) (text : List ℕ) (i : ℕ) → Form form slots text i → form (entry_of slots i) ≡ true
-form_facts form slots text i (k, one, more, e, index, (right, (nil, is))) = ap (λ n. form (entry_of slots n)) is ∙ right
 
 -- ---- a field
 
@@ -108,20 +88,20 @@ flags_fit : (wanted there : Bool) → cond wanted there (not there) ≡ true →
 flags_fit true there h = h
 flags_fit false there h = not-true there h
 
-method_made : (P : CodePart → Type 0) (slots : List (Option Entry)) (flags name descriptor : ℕ) (code : Option CodePart) → flags < 2 ^ 16 → is_method_name (entry_of slots name) ≡ true → is_method_type flags (entry_of slots descriptor) ≡ true
-    → fits_flags flags (is_some code) ≡ true → IfSome code P → MethodFacts P slots (method_of flags name descriptor code)
-method_made P slots flags name descriptor code small p q fits h =
+method_made : (slots : List (Option Entry)) (flags name descriptor : ℕ) (code : Option CodePart) → flags < 2 ^ 16 → is_method_name (entry_of slots name) ≡ true → is_method_type flags (entry_of slots descriptor) ≡ true
+    → fits_flags flags (is_some code) ≡ true → IfSome code (PartFacts slots) → MethodFacts slots (method_of flags name descriptor code)
+method_made slots flags name descriptor code small p q fits h =
     let t = typed_facts flags slots descriptor q in
     record { flags = small; name = text_from names.is_method_name slots name p; descriptor = t.0; room = t.1; no_constant = refl; coded = flags_fit (has_code flags) (is_some code) fits; code = h }
 
-abbrev pub MethodSo : (CodePart → Type 0) → List (Option Entry) → List MemberPart → MemberPart → Type 0
-MethodSo P slots before m = MethodFacts P slots m × (is_repeated slots before m.name m.descriptor ≡ false)
+abbrev pub MethodSo : List (Option Entry) → List MemberPart → MemberPart → Type 0
+MethodSo slots before m = MethodFacts slots m × (is_repeated slots before m.name m.descriptor ≡ false)
 
-method_so : (P : CodePart → Type 0) (slots : List (Option Entry)) → ((text : List ℕ) (x : CodePart) → Sized (PartText slots) text x → P x)
-    → (before : List MemberPart) (n : ℕ) (text : List ℕ) (m : MemberPart) → MethodText slots before text m → MethodSo P slots before m
-method_so P slots f before n text m (flags, t1, m1, e1, short, (name, t2, m2, e2, named, (descriptor, t3, m3, e3, typed, (new, (code, t4, m4, e4, attributes, (fits, (nil, is))))))) =
-    let kept = attributes_keep is_code (Sized (PartText slots)) slots P f t4 code attributes in
-    subst (MethodSo P slots before) (sym is) (method_made P slots flags name descriptor code short.1 (form_facts is_method_name slots t2 name named) (form_facts (is_method_type flags) slots t3 descriptor typed) fits kept, not-true (is_repeated slots before name descriptor) new)
+method_so : (slots : List (Option Entry)) → IsPool slots
+    → (before : List MemberPart) (n : ℕ) (text : List ℕ) (m : MemberPart) → MethodText slots before text m → MethodSo slots before m
+method_so slots pool before n text m (flags, t1, m1, e1, short, (name, t2, m2, e2, named, (descriptor, t3, m3, e3, typed, (new, (code, t4, m4, e4, attributes, (fits, (nil, is))))))) =
+    let kept = attributes_keep is_code (Sized (PartText slots)) slots (PartFacts slots) (part_facts slots pool) t4 code attributes in
+    subst (MethodSo slots before) (sym is) (method_made slots flags name descriptor code short.1 (form_facts is_method_name slots t2 name named) (form_facts (is_method_type flags) slots t3 descriptor typed) fits kept, not-true (is_repeated slots before name descriptor) new)
 
 -- ---- members differ
 
@@ -197,8 +177,7 @@ fields_facts slots text ms (n, one, more, e, short, counted) =
     members_facts (FieldFacts slots) slots ms (λ m h. (ap is_text h.name.entry, ap is_text h.descriptor.entry)) (subst (λ k. k < 2 ^ 16) (sym (counted_length (λ before _. FieldText slots before) n more ms counted)) short.1)
     (counted_behind (λ before _. FieldText slots before) (FieldSo slots) (field_so slots) n more ms counted)
 
-pub methods_facts : (P : CodePart → Type 0) (slots : List (Option Entry)) → ((text : List ℕ) (x : CodePart) → Sized (PartText slots) text x → P x)
-    → (text : List ℕ) (ms : List MemberPart) → MethodsText slots text ms → MembersFacts (MethodFacts P slots) slots ms
-methods_facts P slots f text ms (n, one, more, e, short, counted) =
-    members_facts (MethodFacts P slots) slots ms (λ m h. (ap is_text h.name.entry, ap is_text h.descriptor.entry)) (subst (λ k. k < 2 ^ 16) (sym (counted_length (λ before _. MethodText slots before) n more ms counted)) short.1)
-    (counted_behind (λ before _. MethodText slots before) (MethodSo P slots) (method_so P slots f) n more ms counted)
+pub methods_facts : (slots : List (Option Entry)) → IsPool slots → (text : List ℕ) (ms : List MemberPart) → MethodsText slots text ms → MembersFacts (MethodFacts slots) slots ms
+methods_facts slots pool text ms (n, one, more, e, short, counted) =
+    members_facts (MethodFacts slots) slots ms (λ m h. (ap is_text h.name.entry, ap is_text h.descriptor.entry)) (subst (λ k. k < 2 ^ 16) (sym (counted_length (λ before _. MethodText slots before) n more ms counted)) short.1)
+    (counted_behind (λ before _. MethodText slots before) (MethodSo slots) (method_so slots pool) n more ms counted)

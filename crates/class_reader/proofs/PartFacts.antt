@@ -26,7 +26,7 @@ use Rattle.class_reader.specs.Maps.{type_of, frame_of, is_object, is_frame_tag, 
 use Rattle.class_reader.specs.MapGrammar.{TaggedText, TypeText, GivenText, TypesText, FrameText, FramesText, ContentText, MapText}
 use Rattle.class_reader.specs.Names.{is_stack_map}
 use Rattle.class_reader.specs.ClassGrammar.{RunText, part_of, PartText}
-use Rattle.class_reader.proofs.MemberFacts.{index_facts, attributes_keep}
+use Rattle.class_reader.proofs.AttributeFacts.{attributes_keep, index_facts}
 
 -- ---- the facts
 

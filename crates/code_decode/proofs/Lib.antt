@@ -8,3 +8,4 @@ pub mod SpellingSwitches
 pub mod RespelledLaw
 pub mod ArgFacts
 pub mod CodeFacts
+pub mod NamedFacts
