@@ -4,9 +4,13 @@
 mod entries;
 mod fault;
 mod lines;
+mod literals;
+mod names;
 mod references;
 mod text_set;
 
 pub use fault::LinkFault;
 pub use lines::{TestLine, TestLines};
+pub use literals::{Literals, literals_of};
+pub use names::{ClassNames, kind_of, missing, needed_class};
 pub use references::{Target, Use};
