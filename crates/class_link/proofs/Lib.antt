@@ -1,0 +1,4 @@
+pub mod TextLaws
+pub mod LiteralLaws
+
+pub mod BodyLaws
