@@ -4,6 +4,7 @@ use Rattle.class_pool.specs.declared.pool.Entry.{Entry}
 use Rattle.class_pool.specs.Pool.{entry_of}
 use Rattle.code_decode.specs.declared.instructions.RawOp.{RawOp}
 use Rattle.class_reader.specs.declared.parts.CodePart.{CodePart}
+use Rattle.class_reader.specs.declared.parts.RawHandler.{RawHandler}
 use Rattle.jvm_model.specs.declared.program.Placed.{Placed}
 use Rattle.jvm_model.specs.declared.program.Handler.{Handler}
 use Rattle.jvm_model.specs.declared.program.FrameRec.{FrameRec}
@@ -29,10 +30,12 @@ same_code s slots [] = refl
 same_code s slots (o ∷ os) = (λ i. placed_by (target_in-targets s slots (index_in o) i) o ∷ same_code s slots os i)
 
 -- a body of these parts is the linked one
-pub made_of : (s : Setting) (slots : List (Option Entry)) (ts : List (Option Target)) (code : CodePart) (places : List Placed) (rows : List Handler) (frames : List FrameRec) (cut : Bool) → ts ≡ targets s slots
-    → places ≡ map (λ o. placed_by (target_in ts (index_in o)) o) code.code.ops → rows ≡ map (handler_rec s.names slots) code.handlers → frames ≡ frame_recs slots code.map → cut ≡ is_cut code.map
-    → record { max_stack = code.max_stack; max_locals = code.max_locals; length = code.code.length; code = places; handlers = rows; frames = frames; malformed = cut } ≡ linked_body s slots code
+pub made_of : (s : Setting) (slots : List (Option Entry)) (ts : List (Option Target)) (code : CodePart) (ops : List RawOp) (rows : List RawHandler) → ts ≡ targets s slots → ops ≡ code.code.ops → rows ≡ code.handlers
+    → (places : List Placed) (handlers : List Handler) (frames : List FrameRec) (cut : Bool)
+    → places ≡ map (λ o. placed_by (target_in ts (index_in o)) o) ops → handlers ≡ map (handler_rec s.names slots) rows → frames ≡ frame_recs slots code.map → cut ≡ is_cut code.map
+    → record { max_stack = code.max_stack; max_locals = code.max_locals; length = code.code.length; code = places; handlers = handlers; frames = frames; malformed = cut } ≡ linked_body s slots code
 unfolding linked_body
-made_of s slots ts code places rows frames cut h p q r t =
-    let all : places ≡ map (placed s slots) code.code.ops = p ∙ ap (λ us. map (λ o. placed_by (target_in us (index_in o)) o) code.code.ops) h ∙ same_code s slots code.code.ops in
-    (λ i. record { max_stack = code.max_stack; max_locals = code.max_locals; length = code.code.length; code = all i; handlers = q i; frames = r i; malformed = t i })
+made_of s slots ts code ops rows h o r places handlers frames cut p q f t =
+    let all : places ≡ map (placed s slots) code.code.ops = p ∙ ap (λ us. map (λ o. placed_by (target_in us (index_in o)) o) ops) h ∙ ap (map (λ o. placed_by (target_in (targets s slots) (index_in o)) o)) o ∙ same_code s slots code.code.ops in
+    let each : handlers ≡ map (handler_rec s.names slots) code.handlers = q ∙ ap (map (handler_rec s.names slots)) r in
+    (λ i. record { max_stack = code.max_stack; max_locals = code.max_locals; length = code.code.length; code = all i; handlers = each i; frames = f i; malformed = t i })
