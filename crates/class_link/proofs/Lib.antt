@@ -2,3 +2,4 @@ pub mod TextLaws
 pub mod LiteralLaws
 
 pub mod BodyLaws
+pub mod TestLaws

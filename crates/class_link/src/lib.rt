@@ -11,6 +11,7 @@ mod names;
 mod operands;
 mod references;
 mod setting;
+mod tests_of;
 mod text_set;
 
 pub use fault::LinkFault;
