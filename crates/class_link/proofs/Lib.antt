@@ -1,5 +1,5 @@
 pub mod TextLaws
 pub mod LiteralLaws
-
+pub mod NameLaws
 pub mod BodyLaws
 pub mod TestLaws

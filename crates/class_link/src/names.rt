@@ -11,6 +11,7 @@ ghost use Rattle.class_link.specs.Answers.{Gives, nothing};
 ghost use Rattle.class_link.specs.ClassNames.{all_names, own_name, class_number, number_or_first, within_type, element_class, needed_class, missing, base_of, array_kind, kind_of};
 ghost use Rattle.class_link.specs.Faults.{duplicate, duplicate_fault};
 ghost use Rattle.class_link.specs.Link.{unless};
+ghost use Rattle.class_link.specs.Literals.{noted};
 
 use crate::LinkFault;
 use crate::entries::{copy, name_at};
@@ -160,15 +161,10 @@ pub fn kind_of(names: &ClassNames, name: &[u16]) -> Option<Kind>
     }
 }
 
-// Notes the names of the built-in classes.
-fn note_builtins(
-    alloc: Global,
-    names: &mut TextSet,
-    classes: &[ClassRec],
-) -> Result<(), NoMemory>
-    requires empty { names.old ≡ [] }
-    requires builtin { classes.now ≡ builtin_classes }
-    ensures { OnOk result (names.new ≡ map (λ c. c.name) builtin_classes) }
+// Notes the names of classes, each once.
+fn note_records(alloc: Global, names: &mut TextSet, classes: &[ClassRec]) -> Result<(), NoMemory>
+    requires { length names.old + length classes.now < 4294967295 }
+    ensures { OnOk result (names.new ≡ noted names.old (map (λ c. c.name) classes.now)) }
 {
     for class in classes {
         names.note(alloc, class.name.as_slice())?;
@@ -211,7 +207,7 @@ fn note_classes(
 
 /// The names of the built-in classes, whose records these are, and of the class files behind them; or the first class file
 /// whose name is that of a built-in class or of an earlier one.
-#[tactic(auto, unfolding(crate::specs::ClassNames::all_names))]
+#[tactic(auto, using(crate::proofs::NameLaws::builtins_differ), unfolding(crate::specs::ClassNames::all_names))]
 pub fn names_of(
     alloc: Global,
     builtin: &[ClassRec],
@@ -223,7 +219,7 @@ pub fn names_of(
     ensures names { IfOk result (λ names. names ≡ all_names classes.now) }
 {
     let mut names = TextSet::new(alloc);
-    note_builtins(alloc, &mut names, builtin)?;
+    note_records(alloc, &mut names, builtin)?;
     note_classes(alloc, &mut names, classes)?;
     Ok(ClassNames { names })
 }
