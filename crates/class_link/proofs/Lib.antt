@@ -6,3 +6,8 @@ pub mod Records
 pub mod Tables
 pub mod Listed
 pub mod Distinct
+pub mod TextLaws
+pub mod LiteralLaws
+pub mod NameLaws
+pub mod BodyLaws
+pub mod TestLaws

@@ -12,3 +12,7 @@ Fails f given = given ≡ Err f
 abbrev pub Gives : {X Y : Type 0} → (X → Y) → Result X LinkFault → Result Y LinkFault → Type 0
 Gives view (Ok x) given = given ≡ Ok (view x)
 Gives view (Err f) given = Fails f given
+
+-- what a function that answers nothing but a fault gives
+abbrev pub nothing : {X : Type 0} → X → Unit {0}
+nothing x = tt

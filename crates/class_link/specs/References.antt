@@ -23,16 +23,11 @@ use Rattle.class_link.specs.declared.references.Use.{Use}
 use Rattle.class_link.specs.declared.references.Use.TheVariants as used
 use Rattle.class_link.specs.declared.references.Target.{Target}
 use Rattle.class_link.specs.declared.references.Target.TheVariants as target
+pub use Rattle.class_link.specs.declared.setting.Setting.{Setting}
 use Rattle.class_link.specs.ClassNames.{text_at, name_at, missing, kind_of}
 use Rattle.class_link.specs.Literals.{literal_number}
 
 -- ---- what an entry stands for
-
--- what references are resolved with: the program without bodies' instructions, the names of its classes and its string constants
-pub record Setting : Type 0 where
-  pub program : Program
-  pub names : List (List ℕ)
-  pub texts : List (List ℕ)
 
 -- the name and descriptor of a NameAndType entry
 abbrev pub pair_of : List (Option Entry) → Option Entry → List ℕ × List ℕ

@@ -1,6 +1,6 @@
 //! Texts that differ, for a fast look-up of their places.
 
-ghost use Rattle.std.specs.Prelude.{◌≡◌, ◌<◌, ℕ, List, [], ◌∷◌, ◌++◌, length, position, not, cond, IfOk, OnOk};
+ghost use Rattle.std.specs.Prelude.{◌≡◌, ◌<◌, ◌+◌, ℕ, List, [], ◌∷◌, ◌++◌, length, position, not, cond, IfSome, IfOk, OnOk};
 ghost use Rattle.std.specs.List.{list_any};
 ghost use Rattle.jvm_model.specs.World.{same_units};
 
@@ -37,7 +37,8 @@ impl TextSet {
 
     /// The place of a text, from 0.
     pub(crate) fn place(&self, text: &[u16]) -> Option<u32>
-        ensures { result ≡ position (same_units text.now) self.now }
+        ensures place { result ≡ position (same_units text.now) self.now }
+        ensures within { IfSome result (λ place. place + 1 < 4294967296) }
     {
         match self.texts.get_index_of(text) {
             Some(place) => Some(place as u32),
