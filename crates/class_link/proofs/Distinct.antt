@@ -11,7 +11,7 @@ use Rattle.class_pool.proofs.EntryFacts.{NamesText, units_are}
 use Rattle.class_reader.specs.declared.parts.ClassParts.{ClassParts}
 use Rattle.class_reader.specs.declared.parts.MemberPart.{MemberPart}
 use Rattle.class_reader.specs.declared.parts.CodePart.{CodePart}
-use Rattle.class_reader.proofs.ClassFacts.{ClassFactsBy}
+use Rattle.class_reader.proofs.ClassFacts.{ClassFacts}
 use Rattle.class_reader.proofs.MemberFacts.{FieldFacts, MethodFacts, MembersFacts, Differ}
 use Rattle.et_base.specs.Names.{is_unqualified, is_method_name, is_field_descriptor, is_method_descriptor}
 use Rattle.jvm_model.specs.declared.program.Program.{Program}
@@ -152,7 +152,7 @@ same_given members first cs named typed differ texts m n g h e en et =
     let w = h.number in
     omega arith
 
-module _ (P : List (Option Entry) → CodePart → Type 0) (body : ClassParts → CodePart → Body) (cs : List ClassParts) (tests : List TestEntry) (files : List (List ℕ × List ℕ)) where
+module _ (body : ClassParts → CodePart → Body) (cs : List ClassParts) (tests : List TestEntry) (files : List (List ℕ × List ℕ)) where
   abbrev p : Program
   p = assembled body cs tests files
 
@@ -223,7 +223,7 @@ module _ (P : List (Option Entry) → CodePart → Type 0) (body : ClassParts �
       let u : same_method (method_at p m) (method_at p n) ≡ same_method a b = ap (λ (y : MethodRec). same_method y (method_at p n)) x ∙ ap (λ (y : MethodRec). same_method a y) z in
       cc
 
-  module _ (known : AllKnown P cs) where
+  module _ (known : AllKnown cs) where
     fields_differ_all : (f g : ℕ) → IsField p f → IsField p g → (field_at p f).class ≡ (field_at p g).class → (field_at p f).name ≡ (field_at p g).name → (field_at p f).descriptor ≡ (field_at p g).descriptor → f ≡ g
     fields_differ_all f g h k e en et = elim (field_cases body cs tests files f h) [
       | inl a ↦ elim (field_cases body cs tests files g k) [
@@ -267,7 +267,7 @@ module _ (P : List (Option Entry) → CodePart → Type 0) (body : ClassParts �
               let z = method_record body cs tests files n b in
               let i : builtin_count + a.of.class ≡ builtin_count + b.of.class = ap (λ (y : MethodRec). y.class) (sym x) ∙ (e ∙ ap (λ (y : MethodRec). y.class) z) in
               same_given own_methods (length builtin_methods) cs is_method_name is_method_descriptor (λ l c w. (known l c w).methods.differ)
-                  (λ l j c y w v. let t : MethodFacts (P c.pool) c.pool y = all_there (MethodFacts (P c.pool) c.pool) c.methods j y (known l c w).methods.each v in (t.name, t.descriptor))
+                  (λ l j c y w v. let t : MethodFacts c.pool y = all_there (MethodFacts c.pool) c.methods j y (known l c w).methods.each v in (t.name, t.descriptor))
                   m n a b (omega arith) (ap (λ (y : MethodRec). y.name) (sym x) ∙ (en ∙ ap (λ (y : MethodRec). y.name) z)) (ap (λ (y : MethodRec). y.descriptor) (sym x) ∙ (et ∙ ap (λ (y : MethodRec). y.descriptor) z))
         ]
     ]

@@ -9,7 +9,7 @@ use Rattle.class_pool.proofs.EntryFacts.{NamesText, units_are}
 use Rattle.class_reader.specs.declared.parts.ClassParts.{ClassParts}
 use Rattle.class_reader.specs.declared.parts.MemberPart.{MemberPart}
 use Rattle.class_reader.specs.declared.parts.CodePart.{CodePart}
-use Rattle.class_reader.proofs.ClassFacts.{OwnClass, ClassFactsBy, own_name_is}
+use Rattle.class_reader.proofs.ClassFacts.{OwnClass, ClassFacts, own_name_is}
 use Rattle.class_reader.proofs.MemberFacts.{FieldFacts, MethodFacts}
 use Rattle.et_base.specs.Names.{is_class_name, is_unqualified, is_method_name, is_field_descriptor, is_method_descriptor}
 use Rattle.jvm_model.specs.declared.program.Program.{Program}
@@ -62,13 +62,13 @@ text_is test slots i t = ap (λ (o : Option (List ℕ)). unwrap_or o []) (units_
 pub text_fits : (test : List ℕ → Bool) (slots : List (Option Entry)) (i : ℕ) → NamesText test slots i → test (text_at slots i) ≡ true
 text_fits test slots i t = ap test (text_is test slots i t) ∙ t.fits
 
--- each class file is as P says
-abbrev pub AllKnown : (List (Option Entry) → CodePart → Type 0) → List ClassParts → Type 0
-AllKnown P cs = (i : ℕ) (c : ClassParts) → slice_get cs i ≡ Some c → ClassFactsBy P c
+-- the facts of each class file
+abbrev pub AllKnown : List ClassParts → Type 0
+AllKnown cs = (i : ℕ) (c : ClassParts) → slice_get cs i ≡ Some c → ClassFacts c
 
 -- ---- the laws
 
-module _ (P : List (Option Entry) → CodePart → Type 0) (body : ClassParts → CodePart → Body) (cs : List ClassParts) (tests : List TestEntry) (files : List (List ℕ × List ℕ)) (known : AllKnown P cs) where
+module _ (body : ClassParts → CodePart → Body) (cs : List ClassParts) (tests : List TestEntry) (files : List (List ℕ × List ℕ)) (known : AllKnown cs) where
   abbrev p : Program
   p = assembled body cs tests files
 
@@ -188,7 +188,7 @@ module _ (P : List (Option Entry) → CodePart → Type 0) (body : ClassParts �
     | inl g ↦ builtin_method_forms p (holds_builtins body cs tests files) m g
     | inr g ↦
         let o = g.of in
-        let x : MethodFacts (P o.parts.pool) o.parts.pool o.member = all_there (MethodFacts (P o.parts.pool) o.parts.pool) o.parts.methods o.index o.member (known o.class o.parts o.has_class).methods.each o.has_member in
+        let x : MethodFacts o.parts.pool o.member = all_there (MethodFacts o.parts.pool) o.parts.methods o.index o.member (known o.class o.parts o.has_class).methods.each o.has_member in
         subst (λ (y : MethodRec). (is_method_name y.name ≡ true) × (is_method_descriptor y.descriptor ≡ true)) (sym (method_record body cs tests files m g))
             (text_fits is_method_name o.parts.pool o.member.name x.name, text_fits is_method_descriptor o.parts.pool o.member.descriptor x.descriptor)
   ]
