@@ -11,3 +11,5 @@ pub mod LiteralLaws
 pub mod NameLaws
 pub mod BodyLaws
 pub mod TestLaws
+pub mod Pools
+pub mod Openings
