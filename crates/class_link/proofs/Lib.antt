@@ -13,3 +13,4 @@ pub mod BodyLaws
 pub mod TestLaws
 pub mod Pools
 pub mod Openings
+pub mod Skeleton
