@@ -14,3 +14,6 @@ pub mod TestLaws
 pub mod Pools
 pub mod Openings
 pub mod Skeleton
+pub mod ClassKinds
+pub mod Found
+pub mod SuiteTests
