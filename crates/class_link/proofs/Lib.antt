@@ -3,3 +3,4 @@ pub mod LiteralLaws
 pub mod NameLaws
 pub mod BodyLaws
 pub mod TestLaws
+pub mod FormCases
