@@ -17,3 +17,4 @@ pub mod Skeleton
 pub mod ClassKinds
 pub mod Found
 pub mod SuiteTests
+pub mod FormCases
