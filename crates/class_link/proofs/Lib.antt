@@ -18,3 +18,5 @@ pub mod ClassKinds
 pub mod Found
 pub mod SuiteTests
 pub mod FormCases
+pub mod TargetFacts
+pub mod Referenced

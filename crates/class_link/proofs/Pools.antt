@@ -34,16 +34,14 @@ standing slots (suc k) e h = record { place = k; index = refl; there = at_index 
 
 -- ---- the first of several answers
 
-some_or : {B : Type 0} → Option B → Option B → Option B
+abbrev pub some_or : {B : Type 0} → Option B → Option B → Option B
 some_or o rest = elim o [ Some z ↦ Some z | None ↦ rest ]
 
-none_both : {B : Type 0} (o rest : Option B) → some_or o rest ≡ None → (o ≡ None) × (rest ≡ None)
-unfolding some_or
+pub none_both : {B : Type 0} (o rest : Option B) → some_or o rest ≡ None → (o ≡ None) × (rest ≡ None)
 none_both None rest h = (refl, h)
 none_both (Some z) rest h = absurd (cc)
 
 pub first_none : {A B : Type 0} (f : A → Option B) (xs : List A) (i : ℕ) (x : A) → first_some f xs ≡ None → slice_get xs i ≡ Some x → f x ≡ None
-unfolding some_or
 first_none f [] i x h g = absurd (cc)
 first_none f (y ∷ xs) zero x h g = let e : y ≡ x = cc in ap f (sym e) ∙ (none_both (f y) (first_some f xs) h).0
 first_none f (y ∷ xs) (suc i) x h g = first_none f xs i x (none_both (f y) (first_some f xs) h).1 g
