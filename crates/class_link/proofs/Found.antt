@@ -15,26 +15,26 @@ use Rattle.jvm_model.specs.Linked.{IsClass, IsField, IsMethod, NamesClass, IsFou
 use Rattle.class_link.proofs.Numbered.{units_true, all_flat, all_mentions}
 
 -- what is found passes the test, and is so if each item is
-found : (Q : ℕ → Type 0) (test : ℕ → Bool) (xs : List ℕ) (n : ℕ) → All Q xs → find test xs ≡ Some n → Q n × (test n ≡ true)
+pub found : (Q : ℕ → Type 0) (test : ℕ → Bool) (xs : List ℕ) (n : ℕ) → All Q xs → find test xs ≡ Some n → Q n × (test n ≡ true)
 found Q test [] n h e = absurd (cc)
 found Q test (x ∷ xs) n h e = elim (cases_Bool (test x)) [
   | inl t ↦ let q : Some x ≡ Some n = sym (cond-true (test x) (Some x) (find test xs) t) ∙ e in let k : x ≡ n = cc in subst (λ y. Q y × (test y ≡ true)) k (All-head Q x xs h, t)
   | inr f ↦ found Q test xs n (All-tail Q x xs h) (sym (cond-false (test x) (Some x) (find test xs) f) ∙ e)
 ]
 
-one_of : (Q : ℕ → Type 0) (xs ys : List ℕ) (n : ℕ) → All Q xs → All Q ys → one_or_first xs ys ≡ Some n → Q n
+pub one_of : (Q : ℕ → Type 0) (xs ys : List ℕ) (n : ℕ) → All Q xs → All Q ys → one_or_first xs ys ≡ Some n → Q n
 one_of Q [] [] n h g e = absurd (cc)
 one_of Q [] (y ∷ ys) n h g e = let k : y ≡ n = cc in subst Q k (All-head Q y ys g)
 one_of Q (x ∷ []) ys n h g e = let k : x ≡ n = cc in subst Q k (All-head Q x [] h)
 one_of Q (x ∷ z ∷ xs) [] n h g e = absurd (cc)
 one_of Q (x ∷ z ∷ xs) (y ∷ ys) n h g e = let k : y ≡ n = cc in subst Q k (All-head Q y ys g)
 
-or_else_cases : (a b : Option ℕ) (n : ℕ) → or_else a b ≡ Some n → (a ≡ Some n) ⊎ (b ≡ Some n)
+pub or_else_cases : (a b : Option ℕ) (n : ℕ) → or_else a b ≡ Some n → (a ≡ Some n) ⊎ (b ≡ Some n)
 or_else_cases None b n e = inr e
 or_else_cases (Some x) b n e = inl e
 
 module _ (p : Program) (numbered : (c : ℕ) → IsClass p c → NamesClass p (class_at p c)) where
-  nothing_past : (c : ℕ) → length p.classes ≤ c → class_at p c ≡ no_class
+  pub nothing_past : (c : ℕ) → length p.classes ≤ c → class_at p c ≡ no_class
   nothing_past c h = get_or_past p.classes c no_class h
 
   listed_fields : (c : ℕ) → All (λ f. IsField p f) (class_at p c).fields

@@ -20,3 +20,4 @@ pub mod SuiteTests
 pub mod FormCases
 pub mod TargetFacts
 pub mod Referenced
+pub mod Owners
