@@ -4,3 +4,4 @@ pub mod NameLaws
 pub mod BodyLaws
 pub mod TestLaws
 pub mod FormCases
+pub mod FormFacts
