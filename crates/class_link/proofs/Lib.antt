@@ -1,3 +1,4 @@
 pub mod TextLaws
 pub mod LiteralLaws
 pub mod NameLaws
+pub mod FillLaws

@@ -124,3 +124,7 @@ bare_body code = record { max_stack = code.max_stack; max_locals = code.max_loca
 -- looked up in it.
 abbrev pub skeleton : List ClassParts → Program
 skeleton cs = assembled (λ c code. bare_body code) cs [] []
+
+-- the bodies of these classes' methods, in the methods' order
+abbrev pub bodies_of : (ClassParts → CodePart → Body) → List ClassParts → List (Option Body)
+bodies_of body cs = flat_map (λ c. map (λ m. option_map (body c) m.code) c.methods) cs

@@ -1,6 +1,7 @@
 //! Linking: class files and tests to one program whose references are numbers, or the first fault of linking.
 #![tactic(auto)]
 
+mod assembly;
 mod entries;
 mod fault;
 mod lines;
@@ -9,8 +10,10 @@ mod names;
 mod references;
 mod text_set;
 
+pub use assembly::with_bodies;
 pub use fault::LinkFault;
 pub use lines::{TestLine, TestLines};
 pub use literals::{Literals, literals_of};
 pub use names::{ClassNames, kind_of, missing, needed_class};
 pub use references::{Target, Use};
+
