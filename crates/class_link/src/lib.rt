@@ -2,10 +2,13 @@
 #![tactic(auto)]
 
 mod assembly;
+mod class_records;
 mod entries;
 mod fault;
 mod lines;
 mod literals;
+mod members;
+mod mentions;
 mod names;
 mod references;
 mod text_set;
