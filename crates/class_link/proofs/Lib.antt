@@ -2,3 +2,5 @@ pub mod TextLaws
 pub mod LiteralLaws
 pub mod NameLaws
 pub mod FillLaws
+pub mod MentionLaws
+pub mod ClassSizes

@@ -1,17 +1,31 @@
 //! The records of a program, put together.
 
-ghost use Rattle.std.specs.Prelude.{◌≡◌, ◌<◌, ◌+◌, List, length};
+ghost use Rattle.std.specs.Prelude.{◌≡◌, ◌≤◌, List, length, IfOk};
 ghost use Rattle.class_reader.specs.declared.parts.ClassParts.{ClassParts};
 ghost use Rattle.class_reader.specs.declared.parts.CodePart.{CodePart};
 ghost use Rattle.jvm_model.specs.declared.program.Body.{Body};
+ghost use Rattle.jvm_model.specs.Library.{builtin_classes, builtin_fields, builtin_methods};
+ghost use Rattle.class_link.specs.ClassNames.{all_names};
+ghost use Rattle.class_link.specs.Literals.{literals};
 ghost use Rattle.class_link.specs.Assembly.{assembled, skeleton, bodies_of};
 ghost use Rattle.class_link.specs.Filling.{filled, with_body};
 
-use et_base::{Items, Units};
+use crate::class_records::push_classes;
+use crate::literals::Literals;
+use crate::members::{push_all_fields, push_all_methods};
+use crate::names::ClassNames;
+use builtin_lib::BuiltinRecords;
+use class_reader::ClassFile;
+use et_base::{Items, NoMemory, Units};
 use jvm_model::{Body, MethodRec, Program, TestEntry};
+use std::alloc::Global;
 
-// The number of the first method of a class file: that of the built-in methods.
-const FIRST_METHOD: usize = 102;
+// The numbers of the first class file and of the first field and method of class files: those of the built-in ones.
+const FIRST_CLASS: u32 = 32;
+
+const FIRST_FIELD: u32 = 2;
+
+const FIRST_METHOD: u32 = 102;
 
 // Gives a method this body, if there is such a method.
 fn set_body(methods: &mut Vec<MethodRec>, place: usize, body: Option<Body>)
@@ -27,7 +41,7 @@ fn set_body(methods: &mut Vec<MethodRec>, place: usize, body: Option<Body>)
 fn fill(methods: &mut Vec<MethodRec>, bodies: Vec<Option<Body>>)
     ensures { methods.new.items ≡ filled 102 bodies.items methods.old.items }
 {
-    let mut place = FIRST_METHOD;
+    let mut place = FIRST_METHOD as usize;
     for body in bodies {
         set_body(methods, place, body);
         place += 1;
@@ -60,4 +74,40 @@ pub fn with_bodies(
         tests,
         files,
     }
+}
+
+/// The program before its references are resolved: the built-in classes with their fields and methods, and those of the class
+/// files behind them in the suite's order. No body has an instruction yet, and there are no tests and no files.
+#[tactic(auto, unfolding(crate::specs::Assembly::assembled))]
+pub fn skeleton(
+    alloc: Global,
+    builtin: BuiltinRecords,
+    files: &[ClassFile],
+    names: &ClassNames,
+    texts: &Literals,
+) -> Result<Program, NoMemory>
+    requires classes { builtin.classes ≡ builtin_classes }
+    requires fields { builtin.fields ≡ builtin_fields }
+    requires methods { builtin.methods ≡ builtin_methods }
+    requires few { length files.now ≤ 1024 }
+    requires names { names.now ≡ all_names files.now }
+    requires texts { texts.now ≡ literals files.now }
+    ensures { IfOk result (λ p. p ≡ skeleton files.now) }
+{
+    let BuiltinRecords {
+        mut classes,
+        mut fields,
+        mut methods,
+    } = builtin;
+    push_classes(alloc, &mut classes, names, FIRST_FIELD, FIRST_METHOD, files)?;
+    push_all_fields(alloc, &mut fields, texts, FIRST_CLASS, files)?;
+    push_all_methods(alloc, &mut methods, FIRST_CLASS, files)?;
+    Ok(Program {
+        classes,
+        fields,
+        methods,
+        literals: texts.contents(alloc)?,
+        tests: Items::new(alloc),
+        files: Items::new(alloc),
+    })
 }

@@ -13,10 +13,9 @@ mod names;
 mod references;
 mod text_set;
 
-pub use assembly::with_bodies;
+pub use assembly::{skeleton, with_bodies};
 pub use fault::LinkFault;
 pub use lines::{TestLine, TestLines};
 pub use literals::{Literals, literals_of};
-pub use names::{ClassNames, kind_of, missing, needed_class};
+pub use names::{ClassNames, kind_of, missing, names_of, needed_class};
 pub use references::{Target, Use};
-

@@ -7,7 +7,7 @@ use crate::entries::text_at;
 use crate::text_set::TextSet;
 use class_pool::Entry;
 use class_reader::ClassFile;
-use et_base::NoMemory;
+use et_base::{Items, NoMemory, Units};
 use std::alloc::Global;
 use std::marker::Model;
 
@@ -34,6 +34,13 @@ impl Literals {
             Some(place) => place + 1,
             None => 1,
         }
+    }
+
+    /// The contents, in the order of their numbers.
+    pub fn contents(&self, alloc: Global) -> Result<Items<Units>, NoMemory>
+        ensures { IfOk result (λ made. made ≡ self.now) }
+    {
+        self.texts.contents(alloc)
     }
 }
 
