@@ -4,3 +4,4 @@ pub mod NameLaws
 pub mod FillLaws
 pub mod MentionLaws
 pub mod ClassSizes
+pub mod AssemblyLaws

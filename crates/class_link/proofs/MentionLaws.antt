@@ -24,9 +24,13 @@ turned a x = grind (arith, nat_tests)
 any_others : (a x : ℕ) (ks : List ℕ) → nat_eq x a ≡ false → list_any (nat_eq x) (others a ks) ≡ list_any (nat_eq x) ks
 any_others a x ks h = any-filter_same (nat_eq x) (λ y. not (nat_eq a y)) true (λ k same. ap not (same_as a k x same ∙ h)) ks
 
+unless_not : (b : Bool) (xs : List ℕ) → cond (not b) xs [] ≡ cond b [] xs
+unless_not true xs = refl
+unless_not false xs = refl
+
 -- x alone, without those that are a
 others_one : (a x : ℕ) (b : Bool) → nat_eq x a ≡ b → others a (x ∷ []) ≡ cond b [] (x ∷ [])
-others_one a x b h = ap (λ t. cond (not t) (x ∷ []) []) (turned a x ∙ h) ∙ elim b [ true ↦ refl | false ↦ refl ]
+others_one a x b h = ap (λ t. cond (not t) (x ∷ []) []) (turned a x ∙ h) ∙ unless_not b (x ∷ [])
 
 others_push : (a x : ℕ) (ks : List ℕ) (b : Bool) → nat_eq x a ≡ b → others a (ks ++ x ∷ []) ≡ others a ks ++ cond b [] (x ∷ [])
 others_push a x ks b h = filter-append (λ y. not (nat_eq a y)) ks (x ∷ []) ∙ ap (λ ys. others a ks ++ ys) (others_one a x b h)

@@ -64,8 +64,9 @@ impl TextSet {
     pub(crate) fn contents(&self, alloc: Global) -> Result<Items<Units>, NoMemory>
         ensures { IfOk result (λ made. made ≡ self.now) }
     {
+        let texts = self.texts.as_slice();
         let mut made = Items::new(alloc);
-        for text in self.texts.as_slice() {
+        for text in texts {
             made.push(copy(alloc, text.as_slice())?)?;
         }
         Ok(made)
