@@ -1,5 +1,5 @@
 -- Methods whose bodies are put in one after another.
-use Rattle.std.proofs.Common.{◌≡◌, ◌+◌, ◌<◌, ℕ, List, [], ◌∷◌, ◌++◌, length, get_or, set, map, Option, option_map, refl, ap, sym, ◌∙◌, arith, append_assoc, length-append}
+use Rattle.std.proofs.Common.{◌≡◌, ◌+◌, ℕ, List, [], ◌∷◌, ◌++◌, length, map, Option, option_map, refl, ap, sym, ◌∙◌, arith, append_assoc, length-append}
 use Rattle.std.proofs.lemmas.List.{length-map, append-nil}
 use Rattle.class_pool.specs.declared.pool.Entry.{Entry}
 use Rattle.class_reader.specs.declared.parts.ClassParts.{ClassParts}
@@ -9,7 +9,6 @@ use Rattle.jvm_model.specs.declared.program.Body.{Body}
 use Rattle.jvm_model.specs.declared.program.MethodRec.{MethodRec}
 use Rattle.jvm_model.specs.declared.program.Program.{Program}
 use Rattle.jvm_model.specs.declared.program.TestEntry.{TestEntry}
-use Rattle.jvm_model.specs.Classes.{no_method}
 use Rattle.jvm_model.specs.Library.{builtin_defs, builtin_methods}
 use Rattle.class_link.specs.Assembly.{method_rec, method_recs, bodies_of, bare_body, assembled, skeleton}
 use Rattle.class_link.specs.Filling.{filled, with_body}

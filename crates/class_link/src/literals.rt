@@ -66,11 +66,7 @@ fn note_slot(
 
 // Notes the texts of a pool's String entries.
 #[tactic(auto, using(crate::proofs::LiteralLaws::noted_append))]
-fn note_strings(
-    alloc: Global,
-    texts: &mut TextSet,
-    slots: &[Option<Entry>],
-) -> Result<(), NoMemory>
+fn note_strings(alloc: Global, texts: &mut TextSet, slots: &[Option<Entry>]) -> Result<(), NoMemory>
     requires { length texts.old + length slots.now < 4294967295 }
     ensures noted { OnOk result (texts.new ≡ noted texts.old (strings_of slots.now)) }
     ensures few { OnOk result (length texts.new ≤ length texts.old + length slots.now) }

@@ -138,7 +138,14 @@ pub(crate) fn push_all_fields(
     let mut number = class;
     for file in files {
         let parts = file.parts();
-        push_fields(alloc, made, texts, number, parts.pool.slots(), parts.fields.as_slice())?;
+        push_fields(
+            alloc,
+            made,
+            texts,
+            number,
+            parts.pool.slots(),
+            parts.fields.as_slice(),
+        )?;
         number += 1;
     }
     Ok(())
@@ -215,7 +222,13 @@ pub(crate) fn push_all_methods(
     let mut number = class;
     for file in files {
         let parts = file.parts();
-        push_methods(alloc, made, number, parts.pool.slots(), parts.methods.as_slice())?;
+        push_methods(
+            alloc,
+            made,
+            number,
+            parts.pool.slots(),
+            parts.methods.as_slice(),
+        )?;
         number += 1;
     }
     Ok(())

@@ -34,7 +34,7 @@ loop-class-preserved c =
     let field = c.loop-class.field in
     let method = c.loop-class.method in
     let pushed : c.push.new.self ≡ made ++ class_rec names field method class ∷ [] =
-        c.in_ok-push.ensures.pushed ∙ ap (λ (x : ClassRec). made ++ x ∷ []) (c.in_ok-class_record.ensures ∙ ap (class_rec names field method) c.parts-parts.ensures.gives) in
+    c.in_ok-push.ensures.pushed ∙ ap (λ (x : ClassRec). made ++ x ∷ []) (c.in_ok-class_record.ensures ∙ ap (class_rec names field method) c.parts-parts.ensures.gives) in
     let fields : c.len.result ≡ length class.fields = c.len.ensures ∙ ap (λ (x : ClassParts). length x.fields) c.parts-parts.ensures.gives in
     let methods : c.len-in-loop-class.result ≡ length class.methods = c.len-in-loop-class.ensures ∙ ap (λ (x : ClassParts). length x.methods) c.parts-parts.ensures.gives in
     record {

@@ -1,4 +1,4 @@
-use Rattle.std.proofs.Common.{◌≡◌, ◌∙◌, ap, sym, List, ℕ, take, fold, nat_eq, ◌++◌, ◌∷◌, []}
+use Rattle.std.proofs.Common.{◌∙◌, ap, sym, List, ℕ, take, fold, nat_eq, ◌++◌, ◌∷◌, []}
 use Rattle.std.specs.List.{flat_map}
 use Rattle.std.proofs.lemmas.List.{flat_map_more, take_more}
 use Rattle.indexmap.specs.IndexSet.{insert_key}
