@@ -1,6 +1,10 @@
 pub mod TextLaws
 pub mod LiteralLaws
 pub mod NameLaws
+pub mod FillLaws
+pub mod MentionLaws
+pub mod ClassSizes
+pub mod AssemblyLaws
 pub mod BodyLaws
 pub mod TestLaws
 pub mod FormCases
