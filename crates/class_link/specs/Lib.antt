@@ -6,3 +6,4 @@ pub mod Forms
 pub mod Bodies
 pub mod Faults
 pub mod Link
+pub mod Ancestors

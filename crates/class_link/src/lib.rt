@@ -1,6 +1,7 @@
 //! Linking: class files and tests to one program whose references are numbers, or the first fault of linking.
 #![tactic(auto)]
 
+mod cycles;
 mod fault;
 mod lines;
 mod references;
