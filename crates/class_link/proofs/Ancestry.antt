@@ -16,10 +16,10 @@ use Rattle.class_link.specs.Ancestors.{directs, AreAncestors}
 
 -- ---- numbers that are noted
 
-any_append : (d : ℕ) (xs ys : List ℕ) → member d (xs ++ ys) ≡ (member d xs || member d ys)
+pub any_append : (d : ℕ) (xs ys : List ℕ) → member d (xs ++ ys) ≡ (member d xs || member d ys)
 any_append d xs ys = list_any-append (nat_eq d) xs ys
 
-member_self : (d : ℕ) → member d (d ∷ []) ≡ true
+pub member_self : (d : ℕ) → member d (d ∷ []) ≡ true
 member_self d = rw (eq-eqb d d refl) refl
 
 if_kept : (b : Bool) (ks : List ℕ) (x d : ℕ) → member d ks ≡ true → member d (if b then ks else ks ++ x ∷ []) ≡ true
@@ -34,11 +34,11 @@ if_from : (b : Bool) (ks : List ℕ) (x d : ℕ) → member d (if b then ks else
 if_from true ks x d m = inl m
 if_from false ks x d m = or_cases (member d ks) (member d (x ∷ [])) (sym (any_append d ks (x ∷ [])) ∙ m)
 
-member_kept : (ks xs : List ℕ) (d : ℕ) → member d ks ≡ true → member d (insert_all nat_eq ks xs) ≡ true
+pub member_kept : (ks xs : List ℕ) (d : ℕ) → member d ks ≡ true → member d (insert_all nat_eq ks xs) ≡ true
 member_kept ks [] d m = m
 member_kept ks (x ∷ xs) d m = member_kept (insert_key nat_eq ks x) xs d (if_kept (member x ks) ks x d m)
 
-member_there : (ks xs : List ℕ) (d : ℕ) → member d xs ≡ true → member d (insert_all nat_eq ks xs) ≡ true
+pub member_there : (ks xs : List ℕ) (d : ℕ) → member d xs ≡ true → member d (insert_all nat_eq ks xs) ≡ true
 member_there ks [] d m = absurd (cc)
 member_there ks (x ∷ xs) d m = elim (or_cases (nat_eq d x) (member d xs) m) [
   | inl q ↦ member_kept (insert_key nat_eq ks x) xs d (subst (λ y. member y (insert_key nat_eq ks x) ≡ true) (sym (eqb-true d x q)) (if_there (member x ks) ks x refl))
@@ -52,7 +52,7 @@ from_cons ks xs x d (inl m) = elim (if_from (member x ks) ks x d m) [
   | inr q ↦ elim (or_cases (nat_eq d x) false q) [ inl e ↦ inr (or_left (nat_eq d x) (member d xs) e) | inr e ↦ absurd (cc) ]
 ]
 
-member_from : (ks xs : List ℕ) (d : ℕ) → member d (insert_all nat_eq ks xs) ≡ true → (member d ks ≡ true) ⊎ (member d xs ≡ true)
+pub member_from : (ks xs : List ℕ) (d : ℕ) → member d (insert_all nat_eq ks xs) ≡ true → (member d ks ≡ true) ⊎ (member d xs ≡ true)
 member_from ks [] d m = inl m
 member_from ks (x ∷ xs) d m = from_cons ks xs x d (member_from (insert_key nat_eq ks x) xs d m)
 
@@ -79,12 +79,12 @@ insert_get : (ks xs : List ℕ) (j : ℕ) → j < length ks → get_or (insert_a
 insert_get ks [] j h = refl
 insert_get ks (x ∷ xs) j h = insert_get (insert_key nat_eq ks x) xs j (if_length (member x ks) ks x j h) ∙ if_get (member x ks) ks x j h
 
-member_get : (ks : List ℕ) (j : ℕ) → j < length ks → member (get_or ks j 0) ks ≡ true
+pub member_get : (ks : List ℕ) (j : ℕ) → j < length ks → member (get_or ks j 0) ks ≡ true
 member_get [] j h = absurd (omega arith)
 member_get (k ∷ ks) zero h = or_left (nat_eq k k) (member k ks) (eq-eqb k k refl)
 member_get (k ∷ ks) (suc j) h = or_right (nat_eq (get_or ks j 0) k) (member (get_or ks j 0) ks) (member_get ks j (omega arith))
 
-place_of : (ks : List ℕ) (d : ℕ) → member d ks ≡ true → (j : ℕ) × (j < length ks) × (get_or ks j 0 ≡ d)
+pub place_of : (ks : List ℕ) (d : ℕ) → member d ks ≡ true → (j : ℕ) × (j < length ks) × (get_or ks j 0 ≡ d)
 place_of [] d m = absurd (cc)
 place_of (k ∷ ks) d m = elim (or_cases (nat_eq d k) (member d ks) m) [
   | inl q ↦ (0, omega arith, sym (eqb-true d k q))

@@ -1,1 +1,2 @@
 pub mod Ancestry
+pub mod Walking

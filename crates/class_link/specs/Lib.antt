@@ -7,3 +7,4 @@ pub mod Bodies
 pub mod Faults
 pub mod Link
 pub mod Ancestors
+pub mod Walks

@@ -5,6 +5,7 @@ mod cycles;
 mod fault;
 mod lines;
 mod references;
+mod walk;
 
 pub use fault::LinkFault;
 pub use lines::{TestLine, TestLines};
