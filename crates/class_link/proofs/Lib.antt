@@ -1,2 +1,4 @@
 pub mod Ancestry
 pub mod Walking
+pub mod Mentions
+pub mod Lookups
