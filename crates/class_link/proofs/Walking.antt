@@ -3,6 +3,7 @@ use Rattle.std.proofs.Common.{◌≡◌, ◌⊎◌, ℕ, zero, suc, ◌+◌, ◌
 use Rattle.std.proofs.lemmas.Bool.{or_cases, or_left, or_right, eqb-true, eq-eqb, leb-true, cases_Bool}
 use Rattle.std.proofs.lemmas.List.{take_more}
 use Rattle.std.proofs.lemmas.List.Concat.{flat_map-append}
+use Rattle.std.specs.Map.{keys_of, lookup}
 use Rattle.indexmap.specs.IndexMap.{IndexMap, get, keys, Updates}
 use Rattle.indexmap.specs.IndexSet.{insert_key, insert_all}
 use Rattle.jvm_model.specs.declared.program.Program.{Program}
@@ -122,3 +123,21 @@ module _ (p : Program) (supers : Bool) where
         let joined : flat_map (λ d. walk p supers k d) (nexts p supers c) ≡ flat_map (λ d. walk p supers k d) xs ++ flat_map (λ d. walk p supers k d) above =
             flat_map-append (λ d. walk p supers k d) (class_at p c).interfaces above ∙ ap (λ (ys : List ℕ). flat_map (λ d. walk p supers k d) ys ++ flat_map (λ d. walk p supers k d) above) (sym e) in
         subst (λ ys. Visits p supers ys old new) (sym joined) (visits_append (flat_map (λ d. walk p supers k d) xs) (flat_map (λ d. walk p supers k d) above) old mid new v w)
+
+    -- no class is noted
+    pub walked_none : (m : IndexMap ℕ ℕ S) → m.entries ≡ [] → IsWalked p supers m
+    walked_none m e c k g d w = let q : lookup (nat_eq c) [] ≡ Some k = subst (λ (es : List (ℕ × ℕ)). lookup (nat_eq c) es ≡ Some k) e g in absurd (cc)
+
+    pub keys_none : (m : IndexMap ℕ ℕ S) → m.entries ≡ [] → keys m ≡ []
+    keys_none m e = ap keys_of e
+
+    -- what a walk from nothing notes
+    pub visits_all : (xs : List ℕ) (old new : IndexMap ℕ ℕ S) → old.entries ≡ [] → Visits p supers xs old new → keys new ≡ insert_all nat_eq [] xs
+    visits_all xs old new e v = v.noted ∙ ap (λ ks. insert_all nat_eq ks xs) (keys_none old e)
+
+    -- one list more
+    pub visits_flat : (g : ℕ → List ℕ) (i : ℕ) (cs : List ℕ) (old mid new : IndexMap ℕ ℕ S) → i < length cs → Visits p supers (flat_map g (take i cs)) old mid → Visits p supers (g (get_or cs i 0)) mid new → Visits p supers (flat_map g (take (i + 1) cs)) old new
+    visits_flat g i cs old mid new h v w =
+        let c = get_or cs i 0 in
+        let joined : flat_map g (take (i + 1) cs) ≡ flat_map g (take i cs) ++ g c = ap (λ xs. flat_map g xs) (take_more cs i 0 h) ∙ flat_map-append g (take i cs) (c ∷ []) ∙ ap (λ xs. flat_map g (take i cs) ++ xs) (append-nil (g c)) in
+        subst (λ xs. Visits p supers xs old new) (sym joined) (visits_append (flat_map g (take i cs)) (g c) old mid new v w)

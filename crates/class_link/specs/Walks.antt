@@ -1,9 +1,11 @@
 -- The classes above a class, in the order in which look-ups come to them.
-use Rattle.std.specs.Prelude.{◌≡◌, ℕ, zero, suc, List, [], ◌∷◌, ◌++◌, flat_map, Bool, true, false, cond, nat_eq, nat_le, Option, Some, None}
+use Rattle.std.specs.Prelude.{◌≡◌, ℕ, zero, suc, List, [], ◌∷◌, ◌++◌, flat_map, Bool, true, false, not, ◌&&◌, cond, nat_eq, nat_le, Option, Some, None}
 use Rattle.indexmap.specs.IndexMap.{IndexMap, get, keys}
 use Rattle.indexmap.specs.IndexSet.{insert_all}
 use Rattle.jvm_model.specs.declared.program.Program.{Program}
-use Rattle.jvm_model.specs.Classes.{class_at, member}
+use Rattle.jvm_model.specs.Classes.{class_at, method_at, class_bound, is_private, is_static, member}
+use Rattle.jvm_model.specs.Lookup.{is_method}
+use Rattle.jvm_model.specs.Selection.{has_code}
 use Rattle.class_link.specs.Assembly.{to_list}
 
 -- the classes just above one: its direct superinterfaces and, where asked, its superclass behind them
@@ -28,3 +30,15 @@ is_walked k (Some n) = nat_le k n
 pub record Visits {S : Type 0} (p : Program) (supers : Bool) (xs : List ℕ) (old new : IndexMap ℕ ℕ S) : Type 0 where
   pub noted : keys new ≡ insert_all nat_eq (keys old) xs
   pub walked : IsWalked p supers new
+
+-- the superinterfaces that the direct superinterfaces of a class lead to
+abbrev pub above_class : Program → ℕ → List ℕ
+above_class p c = flat_map (λ i. walk p false class_bound i) (class_at p c).interfaces
+
+-- a method of this name and descriptor, neither static nor private
+abbrev pub is_open : Program → List ℕ → List ℕ → ℕ → Bool
+is_open p name descriptor n = is_method p name descriptor n && (not (is_private (method_at p n).flags) && not (is_static (method_at p n).flags))
+
+-- a method with code whose class isn't one of these
+abbrev pub is_kept : Program → List ℕ → ℕ → Bool
+is_kept p above n = not (member (method_at p n).class above) && has_code p n

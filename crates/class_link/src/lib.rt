@@ -4,6 +4,7 @@
 mod cycles;
 mod fault;
 mod lines;
+mod lookup;
 mod references;
 mod walk;
 

@@ -100,9 +100,9 @@ fn visit_nexts(
     Ok(())
 }
 
-// Visits a class and those above it.
+/// Visits a class and those above it.
 #[cycle(walking)]
-fn visit(
+pub fn visit(
     p: &Program,
     supers: bool,
     steps: u32,
