@@ -3,3 +3,8 @@ pub mod Walking
 pub mod Mentions
 pub mod Lookups
 pub mod Units
+pub mod TextLaws
+pub mod LiteralLaws
+pub mod NameLaws
+pub mod BodyLaws
+pub mod TestLaws

@@ -1,5 +1,5 @@
 -- Classes by their names: the built-in ones first, then those of the class files, each by its place (JVMS 4.2.1 and 4.4.1).
-use Rattle.std.specs.Prelude.{ℕ, ◌-◌, List, [], ◌∷◌, ◌++◌, length, map, drop, take, position, unwrap_or, option_map, option_and_then, is_none, Option, Some, None, Bool, true, false, cond, ◌==◌, if◌then◌else◌}
+use Rattle.std.specs.Prelude.{ℕ, ◌-◌, List, [], ◌∷◌, ◌++◌, length, map, drop, take, position, unwrap_or, option_map, option_and_then, is_none, Option, Some, None, Bool, true, false, cond, nat_le, ◌==◌, if◌then◌else◌}
 use Rattle.class_pool.specs.declared.pool.Entry.{Entry}
 use Rattle.class_pool.specs.Pool.{entry_of, text_of, class_name_of}
 use Rattle.class_reader.specs.declared.parts.ClassParts.{ClassParts}
@@ -64,8 +64,14 @@ base_of names (u ∷ us) = if u == 90 then Some base.Boolean
     else if u == 76 then option_map (λ c. base.Class c) (class_number names (within_type us))
     else None
 
+-- an array type, which has at most 255 dimensions (JVMS 4.3.2)
+abbrev pub array_kind : List (List ℕ) → List ℕ → Option Kind
+array_kind names name = cond (nat_le (dimensions name) 255)
+    (option_map (λ b. kind.Array (dimensions name) b) (base_of names (drop (dimensions name) name)))
+    None
+
 -- the class or array type that a Class entry's name stands for
 unfoldable pub kind_of : List (List ℕ) → List ℕ → Option Kind
 kind_of names name = cond (starts_array name)
-    (option_map (λ b. kind.Array (dimensions name) b) (base_of names (drop (dimensions name) name)))
+    (array_kind names name)
     (option_map (λ c. kind.Class c) (class_number names name))

@@ -8,3 +8,4 @@ pub mod Faults
 pub mod Link
 pub mod Ancestors
 pub mod Walks
+pub mod Answers

@@ -1,6 +1,10 @@
 //! Why class files and tests make no program.
 
+ghost use Rattle.std.specs.Prelude.{◌≡◌};
+ghost use Rattle.class_link.specs.declared.fault.LinkFault.TheVariants.{NoMemory};
+
 use et_base::Units;
+use std::alloc::{AllocError, AllocFailed};
 
 /// The first fault of linking. Classes are named by their internal names (JVMS 4.2.1), pool entries by their indices in
 /// the class's file, and tests by their numbers from 1.
@@ -20,4 +24,28 @@ pub enum LinkFault {
     NotATest { test: u32 },
     /// An allocation was refused.
     NoMemory,
+}
+
+impl From<et_base::NoMemory> for LinkFault {
+    ghost from_gives = { λ _ f. f ≡ NoMemory };
+
+    fn from(_refused: et_base::NoMemory) -> LinkFault {
+        LinkFault::NoMemory
+    }
+}
+
+impl From<AllocError> for LinkFault {
+    ghost from_gives = { λ _ f. f ≡ NoMemory };
+
+    fn from(_refused: AllocError) -> LinkFault {
+        LinkFault::NoMemory
+    }
+}
+
+impl<T: Drop> From<AllocFailed<T>> for LinkFault {
+    ghost from_gives = { λ _ f. f ≡ NoMemory };
+
+    fn from(_refused: AllocFailed<T>) -> LinkFault {
+        LinkFault::NoMemory
+    }
 }

@@ -9,3 +9,5 @@ pub mod PoolFaults
 pub mod OffsetsLaw
 pub mod PoolFacts
 pub mod NamesSpelled
+pub mod EntryFacts
+pub mod GrammarFacts

@@ -4,3 +4,7 @@ pub mod HandlerLaw
 pub mod MapSteps
 pub mod MapLaw
 pub mod ClassLaw
+pub mod AttributeFacts
+pub mod PartFacts
+pub mod MemberFacts
+pub mod ClassFacts

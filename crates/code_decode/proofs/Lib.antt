@@ -6,3 +6,6 @@ pub mod FaultLaw
 pub mod SpellingLaw
 pub mod SpellingSwitches
 pub mod RespelledLaw
+pub mod ArgFacts
+pub mod CodeFacts
+pub mod NamedFacts

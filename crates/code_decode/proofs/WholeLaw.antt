@@ -28,7 +28,7 @@ abbrev step : Slots → ℕ → ℕ → List RawOp → List ℕ → Result (RawO
 step slots method total front rest = op_at slots (spot_at method total rest) rest
 
 -- no instruction is spelled by nothing
-some_bytes : (slots : Slots) (total pc : ℕ) (text : List ℕ) (o : RawOp) → OpText slots total pc text o → 0 < length text
+pub some_bytes : (slots : Slots) (total pc : ℕ) (text : List ℕ) (o : RawOp) → OpText slots total pc text o → 0 < length text
 some_bytes slots total pc text o (n, one, more, e, s, t) =
     let first : length one ≡ 1 = ap length s.0 ∙ wide8.len n in
     omega (arith, ap length e, length-append one more)
