@@ -1,3 +1,8 @@
+pub mod Ancestry
+pub mod Walking
+pub mod Mentions
+pub mod Lookups
+pub mod Units
 pub mod TextLaws
 pub mod LiteralLaws
 pub mod NameLaws
