@@ -6,9 +6,18 @@ pub mod Records
 pub mod Tables
 pub mod Listed
 pub mod Distinct
+pub mod Ancestry
+pub mod Walking
+pub mod Mentions
+pub mod Lookups
+pub mod Units
 pub mod TextLaws
 pub mod LiteralLaws
 pub mod NameLaws
+pub mod FillLaws
+pub mod MentionLaws
+pub mod ClassSizes
+pub mod AssemblyLaws
 pub mod BodyLaws
 pub mod TestLaws
 pub mod Pools
@@ -21,3 +30,4 @@ pub mod FormCases
 pub mod TargetFacts
 pub mod Referenced
 pub mod Owners
+pub mod FormFacts
