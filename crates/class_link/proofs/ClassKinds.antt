@@ -31,7 +31,7 @@ use Rattle.class_link.specs.Link.{setting}
 use Rattle.class_link.proofs.Blocks.{before}
 use Rattle.class_link.proofs.Assembled.{own_fields, own_methods, Given, class_given, class_cases}
 use Rattle.class_link.proofs.Pools.{Standing, standing, first_none}
-use Rattle.class_link.proofs.Skeleton.{class_same, below_same}
+use Rattle.class_link.proofs.SkeletonFacts.{class_same, below_same}
 use Rattle.class_link.proofs.Listed.{AllKnown}
 
 -- ---- faults that aren't there

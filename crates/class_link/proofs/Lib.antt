@@ -22,7 +22,7 @@ pub mod BodyLaws
 pub mod TestLaws
 pub mod Pools
 pub mod Openings
-pub mod Skeleton
+pub mod SkeletonFacts
 pub mod ClassKinds
 pub mod Found
 pub mod SuiteTests

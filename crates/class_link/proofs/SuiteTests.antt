@@ -27,7 +27,7 @@ use Rattle.class_link.specs.Link.{setting, tests_of, is_test_name}
 use Rattle.class_link.proofs.Alike.{Outline, outline}
 use Rattle.class_link.proofs.Numbered.{number_is}
 use Rattle.class_link.proofs.Records.{class_numbers}
-use Rattle.class_link.proofs.Skeleton.{class_same, outline_same, test_method_same, plain_method_same}
+use Rattle.class_link.proofs.SkeletonFacts.{class_same, outline_same, test_method_same, plain_method_same}
 use Rattle.class_link.proofs.Found.{declared_named}
 
 module _ (body : ClassParts → CodePart → Body) (cs : List ClassParts) (tests : List TestEntry) (files : List (List ℕ × List ℕ)) (budget : ℕ) (within : (0 < budget) × (budget ≤ suite_limit)) where

@@ -35,7 +35,7 @@ use Rattle.class_link.proofs.Assembled.{class_count}
 use Rattle.class_link.proofs.Numbered.{number_is}
 use Rattle.class_link.proofs.Records.{class_numbers}
 use Rattle.class_link.proofs.Pools.{literal_within}
-use Rattle.class_link.proofs.Skeleton.{find_field_same, find_method_same}
+use Rattle.class_link.proofs.SkeletonFacts.{find_field_same, find_method_same}
 use Rattle.class_link.proofs.Found.{field_again, method_again}
 
 -- a constant that code may push
