@@ -31,3 +31,4 @@ pub mod TargetFacts
 pub mod Referenced
 pub mod Owners
 pub mod FormFacts
+pub mod FitsAlike
