@@ -32,3 +32,4 @@ pub mod Referenced
 pub mod Owners
 pub mod FormFacts
 pub mod FitsAlike
+pub mod LinkedCode
