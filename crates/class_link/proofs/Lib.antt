@@ -33,3 +33,4 @@ pub mod Owners
 pub mod FormFacts
 pub mod FitsAlike
 pub mod LinkedCode
+pub mod LinkLaw
