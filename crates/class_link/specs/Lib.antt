@@ -9,3 +9,4 @@ pub mod Link
 pub mod Ancestors
 pub mod Walks
 pub mod Answers
+pub mod Marks

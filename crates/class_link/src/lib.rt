@@ -7,6 +7,7 @@ mod entries;
 mod fault;
 mod fits;
 mod forms;
+mod headings;
 mod lines;
 mod literals;
 mod lookup;
