@@ -2,7 +2,7 @@ pub mod Ancestry
 pub mod Walking
 pub mod Mentions
 pub mod Lookups
-pub mod Units
+pub mod FaultLaws
 pub mod TextLaws
 pub mod LiteralLaws
 pub mod NameLaws
