@@ -1,6 +1,6 @@
 pub mod Ancestry
 pub mod Walking
-pub mod Mentions
+pub mod MentionFacts
 pub mod Lookups
 pub mod FaultLaws
 pub mod TextLaws
@@ -14,3 +14,5 @@ pub mod BodyLaws
 pub mod TestLaws
 pub mod FormCases
 pub mod FormFacts
+pub mod ShapeFacts
+pub mod BodyFacts
