@@ -1,6 +1,6 @@
 //! The code of a method, its references resolved (JVMS 4.7.3 and 4.7.4).
 
-ghost use Rattle.std.specs.Prelude.{◌≡◌, ◌<◌, ◌++◌, length, map, option_map, IfOk, OnOk};
+ghost use Rattle.std.specs.Prelude.{◌≡◌, ◌++◌, [], get_or, map, option_map, IfOk, OnOk};
 ghost use Rattle.class_link.specs.References as references;
 ghost use Rattle.class_link.specs.Bodies as bodies;
 ghost use Rattle.class_link.specs.Assembly.{bodies_of};
@@ -11,7 +11,7 @@ use crate::names::ClassNames;
 use crate::operands::index_in;
 use crate::references::Target;
 use crate::setting::Setting;
-use crate::targets::targets_of;
+use crate::targets::Targets;
 use class_pool::Entry;
 use class_reader::{ClassFile, CodePart, MapFrame, MapPart, MapType, MemberPart, RawHandler};
 use code_decode::RawOp;
@@ -228,28 +228,49 @@ fn push_bodies(
 fn push_class(
     alloc: Global,
     setting: &Setting,
+    targets: &[Option<Target>],
     class: &ClassFile,
     made: &mut Items<Option<Body>>,
 ) -> Result<(), NoMemory>
+    requires { targets.now ≡ bodies.targets setting.now class.now.pool }
     ensures { OnOk result (made.new ≡ made.old ++ map (λ m. option_map (bodies.linked_body setting.now class.now.pool) m.code) class.now.methods) }
 {
     let parts = class.parts();
-    let slots = parts.pool.slots();
-    let targets = targets_of(alloc, setting, slots)?;
-    push_bodies(alloc, setting, slots, targets.as_slice(), parts.methods.as_slice(), made)
+    push_bodies(
+        alloc,
+        setting,
+        parts.pool.slots(),
+        targets,
+        parts.methods.as_slice(),
+        made,
+    )
 }
 
-/// The bodies of the methods of class files, in the methods' order.
+// The targets at a place; none where there is no such place.
+fn targets_at(targets: &[Targets], place: usize) -> &[Option<Target>]
+    ensures { result.now ≡ get_or targets.now place [] }
+{
+    match targets.get(place) {
+        None => &[],
+        Some(targets) => targets.as_slice(),
+    }
+}
+
+/// The bodies of the methods of class files whose pool entries stand for these targets, in the methods' order.
 pub fn bodies_of(
     alloc: Global,
     setting: &Setting,
+    targets: &[Targets],
     classes: &[ClassFile],
 ) -> Result<Items<Option<Body>>, NoMemory>
+    requires { targets.now ≡ map (λ c. bodies.targets setting.now c.pool) classes.now }
     ensures { IfOk result (λ made. made ≡ bodies_of (λ c code. bodies.linked_body setting.now c.pool code) classes.now) }
 {
     let mut made = Items::new(alloc);
+    let mut place = 0;
     for class in classes {
-        push_class(alloc, setting, class, &mut made)?;
+        push_class(alloc, setting, targets_at(targets, place), class, &mut made)?;
+        place += 1;
     }
     Ok(made)
 }

@@ -5,4 +5,7 @@ use Rattle.class_link.proofs.bodies.bodies_of.Given as goal
 
 -- the bodies so far and those of what is left
 abbrev pub invariant-loop-class : goal.invariant-loop-class
-invariant-loop-class l = l.made ++ bodies_of (λ c code. bodies.linked_body l.setting c.pool code) (drop l.class-index l.classes) ≡ bodies_of (λ c code. bodies.linked_body l.setting c.pool code) l.classes
+invariant-loop-class l = record {
+  place : l.place ≡ l.class-index;
+  rest : l.made ++ bodies_of (λ c code. bodies.linked_body l.setting c.pool code) (drop l.class-index l.classes) ≡ bodies_of (λ c code. bodies.linked_body l.setting c.pool code) l.classes;
+}
