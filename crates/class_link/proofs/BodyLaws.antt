@@ -1,5 +1,5 @@
 -- The table of targets serves for looking up each entry.
-use Rattle.std.proofs.Common.{◌≡◌, ℕ, zero, suc, ◌+◌, ◌<◌, List, [], ◌∷◌, Option, None, Bool, map, drop, length, arith, refl, subst, sym, ap, ◌∙◌, slice_index_or}
+use Rattle.std.proofs.Common.{◌≡◌, ℕ, zero, suc, List, [], ◌∷◌, Option, None, Bool, map, refl, sym, ap, ◌∙◌, slice_index_or}
 use Rattle.class_pool.specs.declared.pool.Entry.{Entry}
 use Rattle.class_pool.specs.Pool.{entry_of}
 use Rattle.code_decode.specs.declared.instructions.RawOp.{RawOp}
@@ -16,11 +16,6 @@ mapped_at : {A B : Type 0} (f : A → B) (xs : List A) (i : ℕ) (d : A) → sli
 mapped_at f [] i d = refl
 mapped_at f (x ∷ xs) zero d = refl
 mapped_at f (x ∷ xs) (suc i) d = mapped_at f xs i d
-
-mapped_from : {A B : Type 0} (f : A → B) (xs : List A) (i : ℕ) (d : A) → i < length xs → map f (drop i xs) ≡ f (slice_index_or xs i d) ∷ map f (drop (suc i) xs)
-mapped_from f [] i d lt = absurd (omega arith)
-mapped_from f (x ∷ xs) zero d lt = refl
-mapped_from f (x ∷ xs) (suc i) d lt = mapped_from f xs i d (omega arith)
 
 nothing_for : (s : Setting) (slots : List (Option Entry)) → target_of s slots None ≡ None
 unfolding target_of
@@ -44,9 +39,3 @@ made_of s slots ts code ops rows h o r places handlers frames cut p q f t =
     let all : places ≡ map (placed s slots) code.code.ops = p ∙ ap (λ us. map (λ o. placed_by (target_in us (index_in o)) o) ops) h ∙ ap (map (λ o. placed_by (target_in (targets s slots) (index_in o)) o)) o ∙ same_code s slots code.code.ops in
     let each : handlers ≡ map (handler_rec s.names slots) code.handlers = q ∙ ap (map (handler_rec s.names slots)) r in
     (λ i. record { max_stack = code.max_stack; max_locals = code.max_locals; length = code.code.length; code = all i; handlers = each i; frames = f i; malformed = t i })
-
--- the targets from a place on begin with that of the place
-pub next_target : (s : Setting) (slots : List (Option Entry)) (i : ℕ) → i < length slots → map (target_of s slots) (drop i slots) ≡ target_of s slots (entry_of slots (i + 1)) ∷ map (target_of s slots) (drop (i + 1) slots)
-next_target s slots i lt =
-    let one : suc i ≡ i + 1 = omega arith in
-    subst (λ j. map (target_of s slots) (drop i slots) ≡ target_of s slots (entry_of slots j) ∷ map (target_of s slots) (drop j slots)) one (mapped_from (target_of s slots) slots i None lt)

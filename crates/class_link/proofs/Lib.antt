@@ -8,9 +8,9 @@ pub mod Listed
 pub mod Distinct
 pub mod Ancestry
 pub mod Walking
-pub mod Mentions
+pub mod MentionFacts
 pub mod Lookups
-pub mod Units
+pub mod FaultLaws
 pub mod TextLaws
 pub mod LiteralLaws
 pub mod NameLaws
@@ -34,3 +34,5 @@ pub mod FormFacts
 pub mod FitsAlike
 pub mod LinkedCode
 pub mod LinkLaw
+pub mod ShapeFacts
+pub mod BodyFacts

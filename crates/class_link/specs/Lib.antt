@@ -10,3 +10,4 @@ pub mod Ancestors
 pub mod Walks
 pub mod Answers
 pub mod Filling
+pub mod Marks

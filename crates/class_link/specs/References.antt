@@ -43,12 +43,16 @@ abbrev pub method_target : Setting → Option Kind → List ℕ × List ℕ → 
 method_target s None pair = None
 method_target s (Some k) pair = option_map (λ m. target.Method k m) (find_method s.program (named_class k) pair.0 pair.1)
 
+-- the class or array type that a Class entry names
+abbrev pub type_target : List (List ℕ) → List ℕ → Option Target
+type_target names name = option_map (λ k. target.Type k) (kind_of names name)
+
 -- what an entry stands for; none where its class or member isn't there, and for entries that code can't use
 unfoldable pub target_of : Setting → List (Option Entry) → Option Entry → Option Target
 target_of s slots (Some (entry.Integer n)) = Some (target.Constant (Int n))
 target_of s slots (Some (entry.Long n)) = Some (target.Constant (Long n))
 target_of s slots (Some (entry.Str text)) = Some (target.Constant (Lit (literal_number s.texts (text_at slots text))))
-target_of s slots (Some (entry.Class name)) = option_map (λ k. target.Type k) (kind_of s.names (text_at slots name))
+target_of s slots (Some (entry.Class name)) = type_target s.names (text_at slots name)
 target_of s slots (Some (entry.Field class pair)) = field_target s (kind_of s.names (name_at slots class)) (pair_of slots (entry_of slots pair))
 target_of s slots (Some (entry.Method class pair)) = method_target s (kind_of s.names (name_at slots class)) (pair_of slots (entry_of slots pair))
 target_of s slots (Some (entry.InterfaceMethod class pair)) = method_target s (kind_of s.names (name_at slots class)) (pair_of slots (entry_of slots pair))
@@ -112,11 +116,19 @@ fits_sort p _ k = not (is_interface_at p (named_class k))
 abbrev pub is_near : Program → ℕ → ℕ → Bool
 is_near p c d = nat_le 52 (class_at p c).version && (nat_eq d c || member d (class_at p c).interfaces)
 
+-- what invokespecial names is a class, or an interface that is near
+abbrev pub special_fits : Program → ℕ → ℕ → Bool
+special_fits p c d = not (is_interface_at p d) || is_near p c d
+
+-- what invokestatic names is a class or, from version 52 on, an interface
+abbrev pub static_fits : Program → ℕ → ℕ → Bool
+static_fits p c d = not (is_interface_at p d) || nat_le 52 (class_at p c).version
+
 abbrev pub method_fits : Program → ℕ → Option Entry → Use → Kind → ℕ → Bool
 method_fits p c e used.Virtual k m = not (is_static (method_at p m).flags) && fits_sort p e k
 method_fits p c e used.Interface k m = not (is_static (method_at p m).flags) && fits_sort p e k
-method_fits p c e used.Special k m = not (is_static (method_at p m).flags) && (fits_sort p e k && (not (is_interface_at p (named_class k)) || is_near p c (named_class k)))
-method_fits p c e used.StaticCall k m = is_static (method_at p m).flags && (fits_sort p e k && (not (is_interface_at p (named_class k)) || nat_le 52 (class_at p c).version))
+method_fits p c e used.Special k m = not (is_static (method_at p m).flags) && (fits_sort p e k && special_fits p c (named_class k))
+method_fits p c e used.StaticCall k m = is_static (method_at p m).flags && (fits_sort p e k && static_fits p c (named_class k))
 method_fits p c e _ k m = false
 
 -- an instance field is one that no interface declares

@@ -26,7 +26,7 @@ const OBJECT: u32 = 0;
 const INIT: [u16; 6] = [60, 105, 110, 105, 116, 62];
 
 // Whether two names are one.
-#[tactic(auto, using(crate::proofs::Units::same_pointwise))]
+#[tactic(auto, using(crate::proofs::TextLaws::as_units))]
 fn same_units(a: &[u16], b: &[u16]) -> bool
     ensures { result ≡ same_units a.now b.now }
 {
@@ -35,7 +35,7 @@ fn same_units(a: &[u16], b: &[u16]) -> bool
 
 // The length that no chain of superclasses and superinterfaces passes.
 #[tactic(auto, unfolding(jvm_model::specs::Classes::class_bound))]
-fn class_bound() -> u32
+pub fn class_bound() -> u32
     ensures { result ≡ class_bound }
 {
     1200
@@ -154,7 +154,7 @@ fn is_private(p: &Program, method: u32) -> bool
     method_flags(p, method) / 0x0002 % 2 == 1
 }
 
-fn is_static(p: &Program, method: u32) -> bool
+pub fn is_static(p: &Program, method: u32) -> bool
     ensures { result ≡ classes.is_static (method_at p.now method).flags }
 {
     method_flags(p, method) / 0x0008 % 2 == 1
@@ -189,7 +189,7 @@ fn methods(p: &Program, class: u32) -> &[u32]
     }
 }
 
-fn is_interface(p: &Program, class: u32) -> bool
+pub fn is_interface(p: &Program, class: u32) -> bool
     ensures { result ≡ classes.is_interface (class_at p.now class).flags }
 {
     match p.classes.as_slice().get(class as usize) {
