@@ -62,9 +62,19 @@ link_by cycle cs lines = do
   tests ← tests_of (setting cs) lines.budget [] lines.tests
   Ok (program_of cs tests lines.files)
 
--- What linking says of an answer that isn't want of memory.
+-- the answer is that of linking, where cycle is the first class that is its own ancestor; it isn't looked for where names
+-- don't differ, or superclasses and superinterfaces are at fault
+abbrev pub LinksBy : Option ℕ → List ClassParts → TestLines → Result Program LinkFault → Type 0
+LinksBy cycle cs lines answer = (duplicate_fault cs ≡ None → first_some (headings_fault (setting cs)) cs ≡ None → IsFirstCycle (skeleton cs) cycle) × (answer ≡ link_by cycle cs lines)
+
+-- What linking says of its answer; want of memory says nothing.
 abbrev pub Links : List ClassParts → TestLines → Result Program LinkFault → Type 0
-Links cs lines answer = (cycle : Option ℕ) × IsFirstCycle (skeleton cs) cycle × (answer ≡ link_by cycle cs lines)
+Links cs lines (Err fault.NoMemory) = Unit {0}
+Links cs lines answer = (cycle : Option ℕ) × LinksBy cycle cs lines answer
+
+-- the fault names the first class file that is its own ancestor
+abbrev pub IsCycleFault : List ClassParts → LinkFault → Type 0
+IsCycleFault cs f = (i : ℕ) × IsFirstCycle (skeleton cs) (Some i) × (f ≡ fault.Cycle (name_of cs i))
 
 -- ---- what linking asks for
 
