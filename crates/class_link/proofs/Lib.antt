@@ -5,3 +5,6 @@ pub mod FillLaws
 pub mod MentionLaws
 pub mod ClassSizes
 pub mod AssemblyLaws
+pub mod BodyLaws
+pub mod TestLaws
+pub mod FormCases

@@ -5,7 +5,7 @@ use Rattle.std.specs.Cmp.Lexicographic.{pointwise}
 use Rattle.std.proofs.lemmas.List.{map-append, length-map}
 use Rattle.jvm_model.specs.World.{same_units}
 
-as_units : (x y : List ℕ) → pointwise nat_eq x y ≡ same_units x y
+pub as_units : (x y : List ℕ) → pointwise nat_eq x y ≡ same_units x y
 as_units [] [] = refl
 as_units [] (b ∷ y) = refl
 as_units (a ∷ x) [] = refl

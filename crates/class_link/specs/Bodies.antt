@@ -1,5 +1,5 @@
 -- The code of a method, its references resolved (JVMS 4.7.3 and 4.7.4).
-use Rattle.std.specs.Prelude.{ℕ, List, [], length, map, Option, Some, None, Bool, false, cond, nat_eq, nat_lt, ◌==◌, if◌then◌else◌}
+use Rattle.std.specs.Prelude.{ℕ, zero, suc, List, [], length, map, Option, Some, None, Bool, false, cond, nat_eq, nat_lt, slice_index_or, ◌==◌, if◌then◌else◌}
 use Rattle.class_pool.specs.declared.pool.Entry.{Entry}
 use Rattle.class_pool.specs.Pool.{entry_of}
 use Rattle.code_decode.specs.declared.instructions.RawOp.{RawOp}
@@ -14,12 +14,25 @@ use Rattle.jvm_model.specs.declared.program.Handler.{Handler}
 use Rattle.jvm_model.specs.declared.program.FrameRec.{FrameRec}
 use Rattle.jvm_model.specs.declared.program.TypeRec.{TypeRec}
 use Rattle.jvm_model.specs.declared.program.TypeRec.TheVariants.{Plain, Object, Uninit}
+use Rattle.class_link.specs.declared.references.Target.{Target}
 use Rattle.class_link.specs.ClassNames.{name_at, number_or_first}
 use Rattle.class_link.specs.References.{Setting, target_of, index_in}
 use Rattle.class_link.specs.Forms.{form_of}
 
+-- what the entries of a pool stand for, from index 1 on, and the one of an index
+abbrev pub targets : Setting → List (Option Entry) → List (Option Target)
+targets s slots = map (target_of s slots) slots
+
+abbrev pub target_in : List (Option Target) → ℕ → Option Target
+target_in ts zero = None
+target_in ts (suc i) = slice_index_or ts i None
+
+-- an instruction whose pool entry, if it names one, stands for this target
+abbrev pub placed_by : Option Target → RawOp → Placed
+placed_by t o = record { pc = o.pc; form = form_of t o }
+
 abbrev pub placed : Setting → List (Option Entry) → RawOp → Placed
-placed s slots o = record { pc = o.pc; form = form_of (target_of s slots (entry_of slots (index_in o))) o }
+placed s slots o = placed_by (target_of s slots (entry_of slots (index_in o))) o
 
 abbrev pub caught : List (List ℕ) → List (Option Entry) → ℕ → Option ℕ
 caught names slots i = cond (nat_eq i 0) None (Some (number_or_first names (name_at slots i)))

@@ -1,6 +1,6 @@
 -- The form of each instruction, its references resolved (JVMS 6.5).
-use Rattle.std.specs.Prelude.{ℕ, ℤ, pos, ◌+◌, ◌-◌, ◌%◌, ◌-ℤ◌, List, [], ◌∷◌, drop, map, get_or, Option, Some, None, Bool, true, false, not, ◌&&◌, ◌||◌, nat_le, ◌==◌, if◌then◌else◌}
-use Rattle.std.specs.Int.{w16, w32, w8, cast_unsigned}
+use Rattle.std.specs.Prelude.{ℕ, ℤ, pos, ◌+◌, ◌-◌, ◌%◌, ◌-ℤ◌, List, [], ◌∷◌, drop, map, min, Option, Some, None, Bool, true, false, not, ◌&&◌, ◌||◌, nat_le, ◌==◌, if◌then◌else◌}
+use Rattle.std.specs.Int.{w32, cast_unsigned}
 use Rattle.code_decode.specs.declared.instructions.RawOp.{RawOp}
 use Rattle.jvm_model.specs.declared.values.Value.{Value}
 use Rattle.jvm_model.specs.declared.values.Value.TheVariants.{Int, Long, Null}
@@ -22,18 +22,15 @@ use Rattle.jvm_model.specs.declared.instr.IfTest.TheVariants as test
 use Rattle.jvm_model.specs.Selection.{named_class}
 use Rattle.class_link.specs.declared.references.Target.{Target}
 use Rattle.class_link.specs.declared.references.Target.TheVariants as target
-use Rattle.class_link.specs.References.{operand}
+use Rattle.class_link.specs.References.{operand, number_in}
 
 -- ---- operands
 
--- a local variable
+-- a local variable, of 16 bits
 abbrev pub local_in : RawOp → ℕ
-local_in o = cast_unsigned w16 (operand o 0)
+local_in o = number_in o 0 % 65536
 
--- the place at an operand
-abbrev pub place_in : RawOp → ℕ → ℕ
-place_in o i = cast_unsigned w32 (operand o i)
-
+-- the places that operands are
 abbrev pub places : List ℤ → List ℕ
 places zs = map (λ z. cast_unsigned w32 z) zs
 
@@ -153,14 +150,20 @@ test_of n = if n == 0 then test.Eq
     else if n == 4 then test.Gt
     else test.Le
 
+abbrev pub table : RawOp → Instr
+table o = form.Table (operand o 1) (places (drop 3 o.args)) (number_in o 0)
+
+abbrev pub look_up : RawOp → Instr
+look_up o = form.Lookup (pairs (drop 1 o.args)) (number_in o 0)
+
 -- 153 to 177: branches, switches and returns
 unfoldable pub branches : RawOp → Instr
-branches o = if nat_le 153 o.opcode && nat_le o.opcode 158 then form.IfZero (test_of (o.opcode - 153)) (place_in o 0)
-    else if nat_le 159 o.opcode && nat_le o.opcode 164 then form.IfInts (test_of (o.opcode - 159)) (place_in o 0)
-    else if o.opcode == 165 || o.opcode == 166 then form.IfRefs (o.opcode == 165) (place_in o 0)
-    else if o.opcode == 167 then form.Goto (place_in o 0)
-    else if o.opcode == 170 then form.Table (operand o 1) (places (drop 3 o.args)) (place_in o 0)
-    else if o.opcode == 171 then form.Lookup (pairs (drop 1 o.args)) (place_in o 0)
+branches o = if nat_le 153 o.opcode && nat_le o.opcode 158 then form.IfZero (test_of (o.opcode - 153)) (number_in o 0)
+    else if nat_le 159 o.opcode && nat_le o.opcode 164 then form.IfInts (test_of (o.opcode - 159)) (number_in o 0)
+    else if o.opcode == 165 || o.opcode == 166 then form.IfRefs (o.opcode == 165) (number_in o 0)
+    else if o.opcode == 167 then form.Goto (number_in o 0)
+    else if o.opcode == 170 then table o
+    else if o.opcode == 171 then look_up o
     else if o.opcode == 172 then form.Return (Some sort.Int)
     else if o.opcode == 173 then form.Return (Some sort.Long)
     else if o.opcode == 176 then form.Return (Some sort.Ref)
@@ -185,10 +188,10 @@ members (Some (target.Field named f)) n = field_form n named f
 members (Some (target.Method named m)) n = method_form n named m
 members _ n = form.Nop
 
--- the array type of elements of a kind
+-- the array type of elements of a kind; none has more than 255 dimensions (JVMS 4.9.1)
 abbrev pub array_of : Kind → Kind
 array_of (kind.Class c) = kind.Array 1 (base.Class c)
-array_of (kind.Array d b) = kind.Array (d + 1) b
+array_of (kind.Array d b) = kind.Array (min (d + 1) 255) b
 
 -- the array type of a newarray (JVMS table 6.5.newarray-A)
 abbrev pub number_array : ℕ → Kind
@@ -204,7 +207,7 @@ type_form o k = if o.opcode == 187 then form.New (named_class k)
     else if o.opcode == 189 then form.NewArray (array_of k)
     else if o.opcode == 192 then form.CheckCast k
     else if o.opcode == 193 then form.InstanceOf k
-    else form.MultiNewArray k (cast_unsigned w8 (operand o 1))
+    else form.MultiNewArray k (number_in o 1 % 256)
 
 -- 187, 189, 192, 193 and 197: types
 unfoldable pub types : Option Target → RawOp → Instr
@@ -213,12 +216,12 @@ types _ o = form.Nop
 
 -- 188 and above: newarray, arraylength, athrow, monitors, ifnull, ifnonnull and goto_w, and types
 unfoldable pub others : Option Target → RawOp → Instr
-others t o = if o.opcode == 188 then form.NewArray (number_array (cast_unsigned w8 (operand o 0)))
+others t o = if o.opcode == 188 then form.NewArray (number_array (number_in o 0))
     else if o.opcode == 190 then form.ArrayLength
     else if o.opcode == 191 then form.Throw
     else if o.opcode == 194 || o.opcode == 195 then form.Monitor
-    else if o.opcode == 198 || o.opcode == 199 then form.IfNull (o.opcode == 198) (place_in o 0)
-    else if o.opcode == 200 then form.Goto (place_in o 0)
+    else if o.opcode == 198 || o.opcode == 199 then form.IfNull (o.opcode == 198) (number_in o 0)
+    else if o.opcode == 200 then form.Goto (number_in o 0)
     else types t o
 
 -- the form of an instruction whose pool entry, if it names one, stands for this target

@@ -1,7 +1,7 @@
 -- What the entries of a pool stand for, and how code uses them (JVMS 5.4.3 and 6.5).
-use Rattle.std.specs.Prelude.{ℕ, ℤ, pos, List, [], ◌∷◌, ◌++◌, flat_map, map, get_or, option_map, option_and_then, Option, Some, None, Bool, true, false, not, ◌&&◌, ◌||◌, cond, nat_eq, nat_le, ◌==◌, if◌then◌else◌}
+use Rattle.std.specs.Prelude.{ℕ, ℤ, pos, ◌%◌, List, [], ◌∷◌, ◌++◌, flat_map, map, get_or, option_map, option_and_then, Option, Some, None, Bool, true, false, not, ◌&&◌, ◌||◌, cond, nat_eq, nat_le, ◌==◌, if◌then◌else◌}
 use Rattle.std.specs.List.{list_any}
-use Rattle.std.specs.Int.{w16, cast_unsigned}
+use Rattle.std.specs.Int.{w32, cast_unsigned}
 use Rattle.class_pool.specs.declared.pool.Entry.{Entry}
 use Rattle.class_pool.specs.declared.pool.Entry.TheVariants as entry
 use Rattle.class_pool.specs.Pool.{entry_of}
@@ -23,16 +23,11 @@ use Rattle.class_link.specs.declared.references.Use.{Use}
 use Rattle.class_link.specs.declared.references.Use.TheVariants as used
 use Rattle.class_link.specs.declared.references.Target.{Target}
 use Rattle.class_link.specs.declared.references.Target.TheVariants as target
+pub use Rattle.class_link.specs.declared.setting.Setting.{Setting}
 use Rattle.class_link.specs.ClassNames.{text_at, name_at, missing, kind_of}
 use Rattle.class_link.specs.Literals.{literal_number}
 
 -- ---- what an entry stands for
-
--- what references are resolved with: the program without bodies' instructions, the names of its classes and its string constants
-pub record Setting : Type 0 where
-  pub program : Program
-  pub names : List (List ℕ)
-  pub texts : List (List ℕ)
 
 -- the name and descriptor of a NameAndType entry
 abbrev pub pair_of : List (Option Entry) → Option Entry → List ℕ × List ℕ
@@ -80,12 +75,16 @@ use_of n = if n == 178 || n == 179 then Some used.StaticField
     else if n == 187 || n == 189 || n == 192 || n == 193 || n == 197 then Some used.Type
     else None
 
--- the operand at a place, and the pool index that it is
+-- the operand at a place, and as a number of 32 bits without sign
 abbrev pub operand : RawOp → ℕ → ℤ
 operand o i = get_or o.args i (pos 0)
 
+abbrev pub number_in : RawOp → ℕ → ℕ
+number_in o i = cast_unsigned w32 (operand o i)
+
+-- the pool index that the first operand is, of 16 bits
 abbrev pub index_in : RawOp → ℕ
-index_in o = cast_unsigned w16 (operand o 0)
+index_in o = number_in o 0 % 65536
 
 abbrev pub op_use : RawOp → List (ℕ × Use)
 op_use o = elim (use_of o.opcode) [ None ↦ [] | Some u ↦ (index_in o, u) ∷ [] ]

@@ -5,16 +5,21 @@ ghost use Rattle.class_reader.specs.declared.parts.ClassParts.{ClassParts};
 ghost use Rattle.class_reader.specs.declared.parts.CodePart.{CodePart};
 ghost use Rattle.jvm_model.specs.declared.program.Body.{Body};
 ghost use Rattle.jvm_model.specs.Library.{builtin_classes, builtin_fields, builtin_methods};
+ghost use Rattle.class_link.specs.Answers.{Gives, nothing};
 ghost use Rattle.class_link.specs.ClassNames.{all_names};
 ghost use Rattle.class_link.specs.Literals.{literals};
 ghost use Rattle.class_link.specs.Assembly.{assembled, skeleton, bodies_of};
+ghost use Rattle.class_link.specs.Faults.{duplicate_fault};
+ghost use Rattle.class_link.specs.Link.{setting, unless};
 ghost use Rattle.class_link.specs.Filling.{filled, with_body};
 
 use crate::class_records::push_classes;
-use crate::literals::Literals;
+use crate::fault::LinkFault;
+use crate::literals::{Literals, literals_of};
 use crate::members::{push_all_fields, push_all_methods};
-use crate::names::ClassNames;
-use builtin_lib::BuiltinRecords;
+use crate::names::{ClassNames, names_of};
+use crate::setting::Setting;
+use builtin_lib::{BuiltinRecords, builtin_records};
 use class_reader::ClassFile;
 use et_base::{Items, NoMemory, Units};
 use jvm_model::{Body, MethodRec, Program, TestEntry};
@@ -109,5 +114,23 @@ pub fn skeleton(
         literals: texts.contents(alloc)?,
         tests: Items::new(alloc),
         files: Items::new(alloc),
+    })
+}
+
+/// What the references of class files are resolved with, or the first class file whose name is that of a built-in class or
+/// of an earlier one.
+pub fn setting_of(alloc: Global, files: &[ClassFile]) -> Result<Setting, LinkFault>
+    requires few { length files.now ≤ 1024 }
+    ensures fault { Gives nothing result (unless (duplicate_fault files.now)) }
+    ensures setting { IfOk result (λ s. s ≡ setting files.now) }
+{
+    let builtin = builtin_records(alloc)?;
+    let names = names_of(alloc, builtin.classes.as_slice(), files)?;
+    let texts = literals_of(alloc, files)?;
+    let program = skeleton(alloc, builtin, files, &names, &texts)?;
+    Ok(Setting {
+        program,
+        names,
+        texts,
     })
 }

@@ -2,18 +2,23 @@
 #![tactic(auto)]
 
 mod assembly;
+mod bodies;
 mod class_records;
 mod entries;
 mod fault;
+mod forms;
 mod lines;
 mod literals;
 mod members;
 mod mentions;
 mod names;
+mod operands;
 mod references;
+mod setting;
+mod tests_of;
 mod text_set;
 
-pub use assembly::{skeleton, with_bodies};
+pub use assembly::{setting_of, skeleton, with_bodies};
 pub use fault::LinkFault;
 pub use lines::{TestLine, TestLines};
 pub use literals::{Literals, literals_of};

@@ -1,11 +1,11 @@
 -- What the indices of a pool name, down to the texts.
-use Rattle.std.proofs.Common.{◌≡◌, ◌<◌, ◌^◌, ◌+◌, ℕ, Bool, true, List, length, Option, Some, None, refl, ap, ◌∙◌}
+use Rattle.std.proofs.Common.{◌≡◌, ◌<◌, ◌^◌, ◌+◌, ℕ, Bool, true, false, ◌&&◌, List, length, Option, Some, None, refl, ap, ◌∙◌, inl, inr}
 use Rattle.class_pool.specs.declared.pool.Entry.{Entry}
 use Rattle.class_pool.specs.declared.pool.Entry.TheVariants.{Utf8, Class, Str, Field, Method, InterfaceMethod, NameAndType}
-use Rattle.et_base.specs.Names.{is_unqualified, is_method_name, is_class_entry_name, is_field_descriptor, is_method_descriptor}
+use Rattle.et_base.specs.Names.{is_unqualified, is_method_name, is_class_name, is_class_entry_name, is_field_descriptor, is_method_descriptor, starts_array}
 use Rattle.class_pool.specs.Pool.{entry_of, is_text, is_class, text_of, class_name_of, in_text, in_pair}
 use Rattle.class_pool.specs.PoolGrammar.{EntryFits, IsPool}
-use Rattle.class_pool.proofs.Laws.{both_true}
+use Rattle.class_pool.proofs.Laws.{both_true, either_true}
 use Rattle.class_pool.proofs.PoolFacts.{wants_none, entry_fits, entry_indices, class_named, field_class, field_pair, method_class, method_pair, interface_method_class, interface_method_pair}
 
 -- ---- what an index may name
@@ -82,6 +82,14 @@ pair_at name_test descriptor_test slots class pair (Some e) of is h = absurd cc
 member_from : (name_test descriptor_test : List ℕ → Bool) (slots : List (Option Entry)) (class pair : ℕ) → NamesClass slots class → in_pair name_test descriptor_test slots (entry_of slots pair) ≡ true
     → NamesMember name_test descriptor_test slots class pair
 member_from name_test descriptor_test slots class pair of h = pair_at name_test descriptor_test slots class pair (entry_of slots pair) of refl h
+
+-- a name that begins with no bracket is that of a class and no array
+pub plain_name : (us : List ℕ) → is_class_entry_name us ≡ true → starts_array us ≡ false → is_class_name us ≡ true
+unfolding is_class_entry_name
+plain_name us h bare = elim (either_true (is_class_name us) (starts_array us && is_field_descriptor us) h) [
+  | inl named ↦ named
+  | inr array ↦ absurd (let there : starts_array us ≡ true = (both_true _ _ array).0 in cc)
+]
 
 -- the texts themselves
 pub units_are : (test : List ℕ → Bool) (slots : List (Option Entry)) (i : ℕ) → (t : NamesText test slots i) → text_of (entry_of slots i) ≡ Some t.units

@@ -9,7 +9,7 @@ use Rattle.class_pool.specs.PoolGrammar.{PoolText, IsPool}
 use Rattle.class_pool.proofs.Laws.{both_true, either_true}
 use Rattle.class_pool.proofs.WriteLaw.{pool_kept}
 use Rattle.class_pool.proofs.GrammarFacts.{counted_all, counted_length}
-use Rattle.class_pool.proofs.EntryFacts.{NamesText, NamesClass, EntryFacts, class_from, units_are, entry_facts}
+use Rattle.class_pool.proofs.EntryFacts.{NamesText, NamesClass, EntryFacts, class_from, plain_name, units_are, entry_facts}
 use Rattle.et_base.specs.Names.{is_class_name, is_class_entry_name, is_field_descriptor, starts_array}
 use Rattle.class_reader.specs.declared.parts.CodePart.{CodePart}
 use Rattle.class_reader.specs.declared.parts.MemberPart.{MemberPart}
@@ -47,13 +47,6 @@ pub record ClassFacts (c : ClassParts) : Type 0 where
 
 -- ---- this class
 
-own_name : (us : List ℕ) → is_class_entry_name us ≡ true → starts_array us ≡ false → is_class_name us ≡ true
-unfolding is_class_entry_name
-own_name us h bare = elim (either_true (is_class_name us) (starts_array us && is_field_descriptor us) h) [
-  | inl named ↦ named
-  | inr array ↦ absurd (let there : starts_array us ≡ true = (both_true _ _ array).0 in cc)
-]
-
 starts_as : (us : List ℕ) → begins_array (Some (Utf8 us)) ≡ starts_array us
 starts_as [] = refl
 starts_as (u ∷ us) = refl
@@ -61,7 +54,7 @@ starts_as (u ∷ us) = refl
 own_from : (slots : List (Option Entry)) (i : ℕ) → (c : NamesClass slots i) → not (begins_array (entry_of slots c.name)) ≡ true → OwnClass slots i
 own_from slots i c bare =
     let plain : starts_array c.text.units ≡ false = sym (starts_as c.text.units) ∙ sym (ap begins_array c.text.entry) ∙ not-true _ bare in
-    record { name = c.name; entry = c.entry; text = record { units = c.text.units; entry = c.text.entry; fits = own_name c.text.units c.text.fits plain } }
+    record { name = c.name; entry = c.entry; text = record { units = c.text.units; entry = c.text.entry; fits = plain_name c.text.units c.text.fits plain } }
 
 own_is_class : (slots : List (Option Entry)) (e : Option Entry) → is_own_class slots e ≡ true → is_class e ≡ true
 own_is_class slots None h = absurd cc

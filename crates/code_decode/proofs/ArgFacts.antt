@@ -1,11 +1,12 @@
 -- What is known of an instruction's operands, form by form.
-use Rattle.std.proofs.Common.{◌≡◌, ℕ, zero, suc, ◌+◌, ◌-◌, ◌*◌, ◌%◌, ◌^◌, ◌<◌, ◌≤◌, ℤ, pos, negsuc, ◌≤ℤ◌, ◌<ℤ◌, int_le, int_lt, FitsSigned, Bool, true, false, not, cond, eqb, ltb, leb, ◌&&◌, ◌||◌, List, [], ◌∷◌, ◌++◌, length, get_or, Option, Some, None, refl, sym, ap, subst, ◌∙◌, arith, inl, inr, All, T}
+use Rattle.std.proofs.Common.{◌≡◌, ℕ, zero, suc, ◌+◌, ◌-◌, ◌*◌, ◌%◌, ◌^◌, ◌<◌, ◌≤◌, ℤ, pos, negsuc, ◌+ℤ◌, ◌≤ℤ◌, ◌<ℤ◌, int_le, int_lt, FitsSigned, Bool, true, false, not, cond, eqb, ltb, leb, ◌&&◌, ◌||◌, List, [], ◌∷◌, ◌++◌, length, get_or, Option, Some, None, refl, sym, ap, subst, ◌∙◌, arith, inl, inr, All, T}
 use Rattle.std.specs.List.{list_all, enumerate_from}
 use Rattle.std.specs.Int.{Width, w8, w16, w32, byte_len, cast_signed}
 use lib.Signed.{le_z_yes, lt_z_yes}
 use borrow.Author.Gap.{read_sfits}
 use Rattle.std.proofs.lemmas.Bool.{eq-eqb, eqb-true, ltb-true, leb-true}
 use Rattle.std.proofs.lemmas.Bool.Decides.{nat_tests}
+use Rattle.std.proofs.lemmas.Int.{ints}
 use Rattle.std.proofs.lemmas.List.{length-append, get_or-append-add}
 use Rattle.std.proofs.lemmas.List.FromFn.{length-enumerate_from, get_or-enumerate_from}
 use Rattle.std.proofs.lemmas.List.Elements.{All-nil, All-push}
@@ -239,6 +240,13 @@ table_made ops total other ends xs so len h = record {
 table_facts : (ops : List RawOp) (total pc : ℕ) (text : List ℕ) (args : List ℤ) → TableText total pc text args → leads (Some shape.Table) (is_start ops total) args ≡ true → TableFacts ops total args
 table_facts ops total pc text args (other, t1, m1, e1, s1, (ends, t2, m2, e2, s2, (xs, is, len, joined))) h =
     subst (TableFacts ops total) (sym is) (table_made ops total other ends xs (ends_facts t2 ends s2) len (ap (leads (Some shape.Table) (is_start ops total)) (sym is) ∙ h))
+
+span_end : (low high : ℤ) (n : ℕ) → low ≤ℤ high → FitsSigned w32 high → n ≡ span low high → (low +ℤ pos n) ≤ℤ pos (2 ^ 31)
+span_end low high n order fits e = omega (arith, ints)
+
+-- the number past the highest is at most 2^31, and there is a place at least
+pub table_end : (ops : List RawOp) (total : ℕ) (args : List ℤ) → (t : TableFacts ops total args) → ((t.low +ℤ pos (length t.places)) ≤ℤ pos (2 ^ 31)) × (0 < length t.places)
+table_end ops total args t = (span_end t.low t.high (length t.places) t.order t.high_fits t.count, omega (arith, t.count))
 
 -- ---- lookupswitch
 

@@ -9,7 +9,7 @@ use Rattle.class_pool.specs.declared.pool.Entry.{Entry}
 use Rattle.class_pool.specs.declared.pool.Entry.TheVariants.{Integer, Long, Class, Str, Field, Method, InterfaceMethod}
 use Rattle.class_pool.specs.Pool.{entry_of, is_class}
 use Rattle.class_pool.proofs.Laws.{both_true, either_true}
-use Rattle.class_pool.proofs.EntryFacts.{NamesText, NamesClass, NamesMember, EntryFacts, any_units, class_name_is}
+use Rattle.class_pool.proofs.EntryFacts.{NamesText, NamesClass, NamesMember, EntryFacts, any_units, plain_name, class_name_is}
 use Rattle.et_base.specs.Names.{is_unqualified, is_method_name, is_class_name, is_class_entry_name, is_field_descriptor, is_method_descriptor, starts_array}
 use Rattle.code_decode.specs.declared.judging.Fit.{Fit}
 use Rattle.code_decode.specs.declared.judging.Fit.TheVariants as fit
@@ -97,13 +97,6 @@ no_brackets (u ∷ us) h = elim (eqb u 91) as (λ b. length (take (cond b (1 + p
   | true ↦ λ e. absurd (omega (arith, e, length-take (1 + prefix_len (λ x. eqb x 91) us) (u ∷ us)))
   | false ↦ λ e. refl
 ] h
-
-plain_name : (us : List ℕ) → is_class_entry_name us ≡ true → starts_array us ≡ false → is_class_name us ≡ true
-unfolding is_class_entry_name
-plain_name us h bare = elim (either_true (is_class_name us) (starts_array us && is_field_descriptor us) h) [
-  | inl named ↦ named
-  | inr array ↦ absurd (let there : starts_array us ≡ true = (both_true _ _ array).0 in cc)
-]
 
 made_name : (us : List ℕ) → is_class_entry_name us ≡ true → made_fit us ≡ fit.Right → is_class_name us ≡ true
 made_name us h f =
