@@ -105,8 +105,9 @@ fn is_method(p: &Program, name: &[u16], method: u32) -> bool
 {
     match p.methods.as_slice().get(method as usize) {
         None => false,
-        Some(record) => same_units(record.name.as_slice(), name)
-            && same_units(record.descriptor.as_slice(), &NO_ARGUMENTS),
+        Some(record) =>
+            same_units(record.name.as_slice(), name)
+                && same_units(record.descriptor.as_slice(), &NO_ARGUMENTS),
     }
 }
 
@@ -205,9 +206,8 @@ fn test_in(p: &Program, budget: u64, line: &TestLine, class: u32) -> Option<Test
         return None;
     }
     match test_method(p, class, line.method.as_slice()) {
-        Some(method) if is_test_method(p, class, method) => Some(entry_with(
-            budget, line, class, method,
-        )),
+        Some(method) if is_test_method(p, class, method) =>
+            Some(entry_with(budget, line, class, method)),
         _ => None,
     }
 }
