@@ -158,7 +158,7 @@ types_at t o a b c d = grind arith
 
 -- ---- all together
 
-by_test : {X : Type 0} (b : Bool) → (b ≡ true → X) → (b ≡ false → X) → X
+pub by_test : {X : Type 0} (b : Bool) → (b ≡ true → X) → (b ≡ false → X) → X
 by_test true f g = f refl
 by_test false f g = g refl
 
@@ -274,7 +274,7 @@ form_case P t o c = let n = o.opcode in
 
 -- ---- forms of a field, a method and a type
 
-differs : (a b : ℕ) → eqb a b ≡ false → a ≢ b
+pub differs : (a b : ℕ) → eqb a b ≡ false → a ≢ b
 differs a b h e = let same : eqb a b ≡ true = eq-eqb a b e in absurd cc
 
 got_static : (n c f : ℕ) → n ≡ 178 → field_form n c f ≡ form.GetStatic f

@@ -1,3 +1,8 @@
+pub mod Ancestry
+pub mod Walking
+pub mod Mentions
+pub mod Lookups
+pub mod Units
 pub mod TextLaws
 pub mod LiteralLaws
 pub mod NameLaws
@@ -8,3 +13,4 @@ pub mod AssemblyLaws
 pub mod BodyLaws
 pub mod TestLaws
 pub mod FormCases
+pub mod FormFacts

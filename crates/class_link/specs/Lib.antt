@@ -6,5 +6,7 @@ pub mod Forms
 pub mod Bodies
 pub mod Faults
 pub mod Link
+pub mod Ancestors
+pub mod Walks
 pub mod Answers
 pub mod Filling

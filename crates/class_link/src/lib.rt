@@ -4,11 +4,13 @@
 mod assembly;
 mod bodies;
 mod class_records;
+mod cycles;
 mod entries;
 mod fault;
 mod forms;
 mod lines;
 mod literals;
+mod lookup;
 mod members;
 mod mentions;
 mod names;
@@ -17,6 +19,7 @@ mod references;
 mod setting;
 mod tests_of;
 mod text_set;
+mod walk;
 
 pub use assembly::{setting_of, skeleton, with_bodies};
 pub use fault::LinkFault;
