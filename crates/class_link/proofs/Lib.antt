@@ -1,6 +1,6 @@
 pub mod Ancestry
 pub mod Walking
-pub mod Mentions
+pub mod MentionFacts
 pub mod Lookups
 pub mod Units
 pub mod TextLaws
