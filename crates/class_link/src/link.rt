@@ -1,10 +1,12 @@
 //! Linking as a whole.
 
-ghost use Rattle.std.specs.Prelude.{◌≡◌, ◌≤◌, ◌⊎◌, Option, Some, None, IfOk, IfErr, OnOk, length, All};
+ghost use Rattle.std.specs.Prelude.{◌≡◌, ◌≤◌, ◌⊎◌, Option, Some, None, IfOk, IfErr, OnOk, length};
+ghost use Rattle.std.specs.List.{AllByRecursion};
 ghost use Rattle.class_reader.specs.ClassGrammar as grammar;
 ghost use Rattle.class_link.specs.Assembly as assembly;
 ghost use Rattle.class_link.specs.Faults.{IsFirstCycle};
 ghost use Rattle.class_link.specs.Link as links;
+ghost use Rattle.jvm_model.specs.Linked.{Linked};
 ghost use Rattle.class_link.specs.declared.fault.LinkFault.TheVariants as faults;
 
 use crate::assembly::{setting_of, with_bodies};
@@ -39,12 +41,13 @@ fn copies(alloc: Global, files: &[(Units, Units)]) -> Result<Items<(Units, Units
 fn name_of(classes: &[ClassFile], place: usize) -> &[u16]
     ensures { result.now ≡ links.name_of classes.now place }
 {
-    match classes.get(place) {
-        None => &[],
-        Some(class) => {
+    match classes {
+        [] => &[],
+        [class, ..] if place == 0 => {
             let parts = class.parts();
             name_at(parts.pool.slots(), parts.this_class)
         }
+        [_, others @ ..] => name_of(others, place - 1),
     }
 }
 
@@ -65,9 +68,35 @@ fn check_cycles(alloc: Global, setting: &Setting, classes: &[ClassFile]) -> Resu
 
 // Each class file is spelled by some bytes.
 fn know(classes: &[ClassFile])
-    ensures { All (λ c. grammar.IsClass c) classes.now }
+    ensures { AllByRecursion (λ c. grammar.IsClass c) classes.now }
 {
     for class in classes {
         class.parts();
     }
+}
+
+/// The program of class files, tests and opening files, its references resolved; or the first fault of linking.
+///
+/// Faults come in this order, each the first one by class file, and within a class by pool index: a name that is built in or
+/// given before; a superclass or superinterface that isn't there or is of the wrong kind; a class that is its own ancestor;
+/// an entry that code uses and whose class or member isn't there, or that is of the wrong kind (JVMS 5.4.3); a line that
+/// names no test. It takes time in proportion to the class files, but for look-ups of members, which go through the members
+/// of the classes above.
+pub fn link(alloc: Global, classes: &[ClassFile], lines: &TestLines) -> Result<Program, LinkFault>
+    requires few { length classes.now ≤ 1024 }
+    requires lines { links.AreLines lines.now }
+    // Which program or fault it is.
+    ensures links { links.Links classes.now lines.now result }
+    // The program keeps each rule of linked programs.
+    ensures linked { IfOk result Linked }
+{
+    let setting = setting_of(alloc, classes)?;
+    check_all_headings(alloc, &setting, classes)?;
+    check_cycles(alloc, &setting, classes)?;
+    let targets = check_all_references(alloc, &setting, classes)?;
+    let tests = tests_of(alloc, &setting, lines.budget, lines.tests.as_slice())?;
+    let bodies = bodies_of(alloc, &setting, targets.as_slice(), classes)?;
+    let files = copies(alloc, lines.files.as_slice())?;
+    know(classes);
+    Ok(with_bodies(setting.program, bodies, tests, files))
 }

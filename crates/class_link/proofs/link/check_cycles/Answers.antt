@@ -1,0 +1,13 @@
+use Rattle.std.proofs.Common.{ap, subst, ◌∙◌}
+use Rattle.class_link.specs.declared.setting.Setting.{Setting}
+use Rattle.jvm_model.specs.declared.program.Program.{Program}
+use Rattle.class_link.specs.Faults.{IsFirstCycle}
+use Rattle.std.proofs.Common.{None}
+use Rattle.class_link.proofs.LinkSteps.{skeleton_builtins, skeleton_few}
+use Rattle.class_link.proofs.link.check_cycles.Goals as goal
+
+pub first_cycle-requires-clause-builtins : goal.first_cycle-requires-clause-builtins
+first_cycle-requires-clause-builtins c = skeleton_builtins c.args.setting.now.program c.args.classes.now (ap (λ (s : Setting). s.program) c.requires.setting)
+
+pub first_cycle-requires-clause-few : goal.first_cycle-requires-clause-few
+first_cycle-requires-clause-few c = skeleton_few c.args.setting.now.program c.args.classes.now (ap (λ (s : Setting). s.program) c.requires.setting) c.requires.few
