@@ -13,11 +13,13 @@ mod literals;
 mod lookup;
 mod names;
 mod operands;
+mod reference_faults;
 mod references;
 mod setting;
 mod targets;
 mod tests_of;
 mod text_set;
+mod uses;
 mod walk;
 
 pub use fault::LinkFault;
