@@ -3,6 +3,7 @@ pub mod Walking
 pub mod Mentions
 pub mod Lookups
 pub mod FaultLaws
+pub mod MarkLaws
 pub mod TextLaws
 pub mod LiteralLaws
 pub mod NameLaws
