@@ -1,5 +1,5 @@
 -- The table of targets serves for looking up each entry.
-use Rattle.std.proofs.Common.{◌≡◌, ℕ, zero, suc, ◌<◌, List, [], ◌∷◌, Option, None, Bool, map, refl, sym, ap, ◌∙◌, slice_index_or}
+use Rattle.std.proofs.Common.{◌≡◌, ℕ, zero, suc, List, [], ◌∷◌, Option, None, Bool, map, refl, sym, ap, ◌∙◌, slice_index_or}
 use Rattle.class_pool.specs.declared.pool.Entry.{Entry}
 use Rattle.class_pool.specs.Pool.{entry_of}
 use Rattle.code_decode.specs.declared.instructions.RawOp.{RawOp}

@@ -17,7 +17,7 @@ use Rattle.class_link.specs.Assembly.{to_list}
 use Rattle.class_link.specs.Walks.{IsWalked, Visits, above_class, is_kept, is_open, nexts, walk}
 use Rattle.class_link.proofs.Ancestry.{any_append}
 use Rattle.class_link.proofs.Walking.{insert_append, visits_all}
-use Rattle.class_link.proofs.Mentions.{find_mentions, flat_mentions, filter_mentions, filter_both, filter_flat, first_is, member_mentions, any_flat}
+use Rattle.class_link.proofs.MentionFacts.{find_mentions, flat_mentions, filter_mentions, filter_both, filter_flat, first_is, member_mentions, any_flat}
 
 -- ---- the paths of look-ups are walks
 

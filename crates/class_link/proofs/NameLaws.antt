@@ -1,6 +1,5 @@
 -- The names of the built-in classes.
-use Rattle.std.proofs.Common.{◌≡◌, List, ℕ, [], map, length, refl}
-use Rattle.jvm_model.specs.declared.program.ClassRec.{ClassRec}
+use Rattle.std.proofs.Common.{◌≡◌, [], map, length, refl}
 use Rattle.jvm_model.specs.Library.{builtin_defs, builtin_classes}
 use Rattle.class_link.specs.Literals.{noted}
 

@@ -1,6 +1,6 @@
 -- The records of a program, whatever the bodies of its methods are: built-in classes, fields and methods first, then those
 -- of the class files in the suite's order.
-use Rattle.std.specs.Prelude.{ℕ, ◌+◌, List, [], ◌∷◌, ◌++◌, length, map, flat_map, option_map, option_and_then, Option, Some, None, is_some, Bool, true, false, ◌&&◌, cond}
+use Rattle.std.specs.Prelude.{ℕ, ◌+◌, List, [], ◌∷◌, ◌++◌, length, map, flat_map, option_map, option_and_then, Option, Some, None, is_some, Bool, false, ◌&&◌, cond}
 use Rattle.std.specs.List.{range_with_len}
 use Rattle.class_pool.specs.declared.pool.Entry.{Entry}
 use Rattle.class_pool.specs.declared.pool.Entry.TheVariants as entry
@@ -124,3 +124,7 @@ bare_body code = record { max_stack = code.max_stack; max_locals = code.max_loca
 -- looked up in it.
 abbrev pub skeleton : List ClassParts → Program
 skeleton cs = assembled (λ c code. bare_body code) cs [] []
+
+-- the bodies of these classes' methods, in the methods' order
+abbrev pub bodies_of : (ClassParts → CodePart → Body) → List ClassParts → List (Option Body)
+bodies_of body cs = flat_map (λ c. map (λ m. option_map (body c) m.code) c.methods) cs

@@ -1,5 +1,5 @@
 -- Classes by their names: the built-in ones first, then those of the class files, each by its place (JVMS 4.2.1 and 4.4.1).
-use Rattle.std.specs.Prelude.{ℕ, ◌-◌, List, [], ◌∷◌, ◌++◌, length, map, drop, take, position, unwrap_or, option_map, option_and_then, is_none, Option, Some, None, Bool, true, false, cond, nat_le, ◌==◌, if◌then◌else◌}
+use Rattle.std.specs.Prelude.{ℕ, ◌-◌, List, [], ◌∷◌, ◌++◌, length, map, drop, take, position, unwrap_or, option_map, option_and_then, is_none, Option, Some, None, cond, nat_le, ◌==◌, if◌then◌else◌}
 use Rattle.class_pool.specs.declared.pool.Entry.{Entry}
 use Rattle.class_pool.specs.Pool.{entry_of, text_of, class_name_of}
 use Rattle.class_reader.specs.declared.parts.ClassParts.{ClassParts}

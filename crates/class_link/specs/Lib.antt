@@ -9,4 +9,5 @@ pub mod Link
 pub mod Ancestors
 pub mod Walks
 pub mod Answers
+pub mod Filling
 pub mod Marks

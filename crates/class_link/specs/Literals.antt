@@ -1,6 +1,6 @@
 -- String constants: one for each content, numbered from 1 in the order of first mention, by class in the suite's order and
 -- by pool index (this project's).
-use Rattle.std.specs.Prelude.{ℕ, suc, List, [], ◌∷◌, ◌++◌, flat_map, position, unwrap_or, Option, Some, None, cond}
+use Rattle.std.specs.Prelude.{ℕ, suc, List, [], ◌∷◌, ◌++◌, flat_map, position, unwrap_or, Option, Some, cond}
 use Rattle.std.specs.List.{list_any}
 use Rattle.class_pool.specs.declared.pool.Entry.{Entry}
 use Rattle.class_pool.specs.declared.pool.Entry.TheVariants.{Str}

@@ -1,8 +1,9 @@
 //! The code of a method, its references resolved (JVMS 4.7.3 and 4.7.4).
 
-ghost use Rattle.std.specs.Prelude.{◌≡◌, map, IfOk};
+ghost use Rattle.std.specs.Prelude.{◌≡◌, ◌++◌, [], get_or, map, option_map, IfOk, OnOk};
 ghost use Rattle.class_link.specs.References as references;
 ghost use Rattle.class_link.specs.Bodies as bodies;
+ghost use Rattle.class_link.specs.Assembly.{bodies_of};
 
 use crate::entries::{copy, name_at};
 use crate::forms::form_of;
@@ -10,8 +11,9 @@ use crate::names::ClassNames;
 use crate::operands::index_in;
 use crate::references::Target;
 use crate::setting::Setting;
+use crate::targets::Targets;
 use class_pool::Entry;
-use class_reader::{CodePart, MapFrame, MapPart, MapType, RawHandler};
+use class_reader::{ClassFile, CodePart, MapFrame, MapPart, MapType, MemberPart, RawHandler};
 use code_decode::RawOp;
 use et_base::{Items, NoMemory};
 use jvm_model::{Body, FrameRec, Handler, Placed, TypeRec};
@@ -186,4 +188,89 @@ pub fn linked_body(
         frames,
         malformed: is_cut(&code.map),
     })
+}
+
+fn method_body(
+    alloc: Global,
+    setting: &Setting,
+    slots: &[Option<Entry>],
+    targets: &[Option<Target>],
+    method: &MemberPart,
+) -> Result<Option<Body>, NoMemory>
+    requires { targets.now ≡ bodies.targets setting.now slots.now }
+    ensures { IfOk result (λ body. body ≡ option_map (bodies.linked_body setting.now slots.now) method.now.code) }
+{
+    match &method.code {
+        None => Ok(None),
+        Some(code) => Ok(Some(linked_body(alloc, setting, slots, targets, code)?)),
+    }
+}
+
+// Adds the bodies of methods of a class with these pool entries, which stand for these targets.
+fn push_bodies(
+    alloc: Global,
+    setting: &Setting,
+    slots: &[Option<Entry>],
+    targets: &[Option<Target>],
+    methods: &[MemberPart],
+    made: &mut Items<Option<Body>>,
+) -> Result<(), NoMemory>
+    requires { targets.now ≡ bodies.targets setting.now slots.now }
+    ensures { OnOk result (made.new ≡ made.old ++ map (λ m. option_map (bodies.linked_body setting.now slots.now) m.code) methods.now) }
+{
+    for method in methods {
+        made.push(method_body(alloc, setting, slots, targets, method)?)?;
+    }
+    Ok(())
+}
+
+// Adds the bodies of a class's methods.
+fn push_class(
+    alloc: Global,
+    setting: &Setting,
+    targets: &[Option<Target>],
+    class: &ClassFile,
+    made: &mut Items<Option<Body>>,
+) -> Result<(), NoMemory>
+    requires { targets.now ≡ bodies.targets setting.now class.now.pool }
+    ensures { OnOk result (made.new ≡ made.old ++ map (λ m. option_map (bodies.linked_body setting.now class.now.pool) m.code) class.now.methods) }
+{
+    let parts = class.parts();
+    push_bodies(
+        alloc,
+        setting,
+        parts.pool.slots(),
+        targets,
+        parts.methods.as_slice(),
+        made,
+    )
+}
+
+// The targets at a place; none where there is no such place.
+fn targets_at(targets: &[Targets], place: usize) -> &[Option<Target>]
+    ensures { result.now ≡ get_or targets.now place [] }
+{
+    match targets.get(place) {
+        None => &[],
+        Some(targets) => targets.as_slice(),
+    }
+}
+
+/// The bodies of the methods of class files whose pool entries stand for these targets, in the methods' order.
+pub fn bodies_of(
+    alloc: Global,
+    setting: &Setting,
+    targets: &[Targets],
+    classes: &[ClassFile],
+) -> Result<Items<Option<Body>>, NoMemory>
+    requires { targets.now ≡ map (λ c. bodies.targets setting.now c.pool) classes.now }
+    ensures { IfOk result (λ made. made ≡ bodies_of (λ c code. bodies.linked_body setting.now c.pool code) classes.now) }
+{
+    let mut made = Items::new(alloc);
+    let mut place = 0;
+    for class in classes {
+        push_class(alloc, setting, targets_at(targets, place), class, &mut made)?;
+        place += 1;
+    }
+    Ok(made)
 }

@@ -3,8 +3,7 @@
 ghost use Rattle.std.specs.Prelude.{◌≡◌, IfOk};
 ghost use Rattle.class_link.specs.ClassNames.{text_at, name_at};
 
-use class_pool::Entry;
-use class_pool::lookup;
+use class_pool::{Entry, lookup};
 use et_base::{NoMemory, Units};
 use std::alloc::Global;
 

@@ -1,7 +1,9 @@
 //! Linking: class files and tests to one program whose references are numbers, or the first fault of linking.
 #![tactic(auto)]
 
+mod assembly;
 mod bodies;
+mod class_records;
 mod cycles;
 mod entries;
 mod fault;
@@ -11,6 +13,8 @@ mod headings;
 mod lines;
 mod literals;
 mod lookup;
+mod members;
+mod mentions;
 mod names;
 mod operands;
 mod reference_faults;
@@ -22,8 +26,9 @@ mod text_set;
 mod uses;
 mod walk;
 
+pub use assembly::{setting_of, skeleton, with_bodies};
 pub use fault::LinkFault;
 pub use lines::{TestLine, TestLines};
 pub use literals::{Literals, literals_of};
-pub use names::{ClassNames, kind_of, missing, needed_class};
+pub use names::{ClassNames, kind_of, missing, names_of, needed_class};
 pub use references::{Target, Use};

@@ -7,7 +7,7 @@ use crate::entries::text_at;
 use crate::text_set::TextSet;
 use class_pool::Entry;
 use class_reader::ClassFile;
-use et_base::NoMemory;
+use et_base::{Items, NoMemory, Units};
 use std::alloc::Global;
 use std::marker::Model;
 
@@ -35,6 +35,13 @@ impl Literals {
             None => 1,
         }
     }
+
+    /// The contents, in the order of their numbers.
+    pub fn contents(&self, alloc: Global) -> Result<Items<Units>, NoMemory>
+        ensures { IfOk result (λ made. made ≡ self.now) }
+    {
+        self.texts.contents(alloc)
+    }
 }
 
 // Notes the text of a String entry.
@@ -59,11 +66,7 @@ fn note_slot(
 
 // Notes the texts of a pool's String entries.
 #[tactic(auto, using(crate::proofs::LiteralLaws::noted_append))]
-fn note_strings(
-    alloc: Global,
-    texts: &mut TextSet,
-    slots: &[Option<Entry>],
-) -> Result<(), NoMemory>
+fn note_strings(alloc: Global, texts: &mut TextSet, slots: &[Option<Entry>]) -> Result<(), NoMemory>
     requires { length texts.old + length slots.now < 4294967295 }
     ensures noted { OnOk result (texts.new ≡ noted texts.old (strings_of slots.now)) }
     ensures few { OnOk result (length texts.new ≤ length texts.old + length slots.now) }

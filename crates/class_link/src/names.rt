@@ -99,11 +99,7 @@ pub fn needed_class(name: &[u16]) -> Option<&[u16]>
 
 /// The class that such a name needs, where it isn't there.
 #[tactic(auto, unfolding(crate::specs::ClassNames::missing))]
-pub fn missing(
-    alloc: Global,
-    names: &ClassNames,
-    name: &[u16],
-) -> Result<Option<Units>, NoMemory>
+pub fn missing(alloc: Global, names: &ClassNames, name: &[u16]) -> Result<Option<Units>, NoMemory>
     ensures { IfOk result (λ x. x ≡ missing names.now name.now) }
 {
     match needed_class(name) {
@@ -190,11 +186,7 @@ fn note_class(alloc: Global, names: &mut TextSet, class: &ClassFile) -> Result<(
 }
 
 // Notes the names of class files behind those that are there.
-fn note_classes(
-    alloc: Global,
-    names: &mut TextSet,
-    classes: &[ClassFile],
-) -> Result<(), LinkFault>
+fn note_classes(alloc: Global, names: &mut TextSet, classes: &[ClassFile]) -> Result<(), LinkFault>
     requires { length names.old + length classes.now < 4294967295 }
     ensures fault { Gives nothing result (unless (duplicate names.old classes.now)) }
     ensures names { OnOk result (names.new ≡ names.old ++ map own_name classes.now) }

@@ -4,7 +4,8 @@ ghost use Rattle.std.specs.Prelude.{◌≡◌, ◌<◌, ◌+◌, ℕ, List, [], 
 ghost use Rattle.std.specs.List.{list_any};
 ghost use Rattle.jvm_model.specs.World.{same_units};
 
-use et_base::NoMemory;
+use crate::entries::copy;
+use et_base::{Items, NoMemory, Units};
 use indexmap::IndexSet;
 use std::alloc::Global;
 use std::marker::Model;
@@ -57,5 +58,17 @@ impl TextSet {
         }
         self.texts.insert(Vec::from_slice(alloc, text)?)?;
         Ok(true)
+    }
+
+    /// The texts in order.
+    pub(crate) fn contents(&self, alloc: Global) -> Result<Items<Units>, NoMemory>
+        ensures { IfOk result (λ made. made ≡ self.now) }
+    {
+        let texts = self.texts.as_slice();
+        let mut made = Items::new(alloc);
+        for text in texts {
+            made.push(copy(alloc, text.as_slice())?)?;
+        }
+        Ok(made)
     }
 }

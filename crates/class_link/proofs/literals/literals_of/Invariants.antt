@@ -1,4 +1,4 @@
-use Rattle.std.proofs.Common.{◌≡◌, ◌≤◌, ◌+◌, ◌*◌, length, drop, []}
+use Rattle.std.proofs.Common.{◌≡◌, ◌≤◌, ◌*◌, length, drop, []}
 use Rattle.class_link.specs.Literals.{noted, strings_of}
 use Rattle.std.specs.List.{flat_map}
 use Rattle.class_link.proofs.literals.literals_of.Given as goal

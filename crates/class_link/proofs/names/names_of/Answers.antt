@@ -1,6 +1,5 @@
-use Rattle.std.proofs.Common.{◌≡◌, ◌∙◌, ap, length, map, arith, [], List, ℕ}
+use Rattle.std.proofs.Common.{◌≡◌, ◌∙◌, ap, length, map, arith}
 use Rattle.jvm_model.specs.Library.{builtin_classes}
-use Rattle.class_link.specs.Literals.{noted}
 use Rattle.class_link.proofs.NameLaws.{builtins_differ, builtins_count, names_count}
 use Rattle.class_link.proofs.names.names_of.Goals as goal
 
