@@ -13,6 +13,8 @@ mod headings;
 mod lines;
 mod literals;
 mod lookup;
+#[cfg(test)]
+mod lookup_tests;
 mod members;
 mod mentions;
 mod names;
