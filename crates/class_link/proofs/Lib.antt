@@ -11,6 +11,7 @@ pub mod Walking
 pub mod MentionFacts
 pub mod Lookups
 pub mod FaultLaws
+pub mod MarkLaws
 pub mod TextLaws
 pub mod LiteralLaws
 pub mod NameLaws

@@ -14,6 +14,8 @@ mod lines;
 mod link;
 mod literals;
 mod lookup;
+#[cfg(test)]
+mod lookup_tests;
 mod members;
 mod mentions;
 mod names;
@@ -24,6 +26,7 @@ mod setting;
 mod targets;
 mod tests_of;
 mod text_set;
+mod uses;
 mod walk;
 
 pub use assembly::{setting_of, skeleton, with_bodies};

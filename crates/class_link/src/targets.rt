@@ -163,3 +163,16 @@ pub fn missing_for(
         _ => Ok(None),
     }
 }
+
+/// What the entry of an index stands for.
+pub fn target_in(targets: &[Option<Target>], index: u16) -> Option<Target>
+    ensures { result ≡ bodies.target_in targets.now index }
+{
+    if index == 0 {
+        return None;
+    }
+    match targets.get(index as usize - 1) {
+        None => None,
+        Some(target) => *target,
+    }
+}
