@@ -1,15 +1,13 @@
 -- What linking answers is a linked program.
-use Rattle.std.proofs.Common.{◌≡◌, ℕ, zero, suc, ◌+◌, ◌<◌, ◌≤◌, List, [], ◌∷◌, length, get_or, slice_get, Bool, true, false, is_none, refl, sym, ◌∙◌, ap, subst, inl, inr, arith, Option, Some, None, IfSome, Result, Ok, Err, All}
+use Rattle.std.proofs.Common.{◌≡◌, ℕ, ◌+◌, ◌≤◌, List, [], length, slice_get, Bool, true, is_none, refl, sym, subst, inl, inr, arith, Option, Some, None, IfSome, Result, Ok, Err, All}
 use Rattle.std.specs.Prelude.{option_map}
 use Rattle.std.specs.List.{list_all}
-use Rattle.std.proofs.lemmas.List.Elements.{All-nil, All-weaker}
-use Rattle.std.proofs.lemmas.Option.{slice_get_within}
-use Rattle.class_pool.specs.declared.pool.Entry.{Entry}
+use Rattle.std.proofs.lemmas.List.Elements.{All-nil}
 use Rattle.class_reader.specs.declared.parts.ClassParts.{ClassParts}
 use Rattle.class_reader.specs.declared.parts.MemberPart.{MemberPart}
 use Rattle.class_reader.specs.declared.parts.CodePart.{CodePart}
 use Rattle.class_reader.specs.ClassGrammar as grammar
-use Rattle.class_reader.proofs.ClassFacts.{ClassFacts, class_facts}
+use Rattle.class_reader.proofs.ClassFacts.{class_facts}
 use Rattle.class_reader.proofs.MemberFacts.{MethodFacts}
 use Rattle.class_reader.proofs.PartFacts.{PartFacts, HandlerFacts}
 use Rattle.code_decode.specs.declared.instructions.RawOp.{RawOp}
@@ -22,7 +20,7 @@ use Rattle.jvm_model.specs.Builtin.{builtin_count}
 use Rattle.jvm_model.specs.Library.{builtin_defs, builtin_methods}
 use Rattle.jvm_model.specs.Classes.{method_at, is_static}
 use Rattle.jvm_model.specs.Lookup.{find_method}
-use Rattle.jvm_model.specs.Linked.{IsMethod, NamesBody, IsBodyKind, IsBody, IsFormFound, is_interface_at, IsTest, Linked}
+use Rattle.jvm_model.specs.Linked.{IsMethod, NamesBody, IsBodyKind, IsBody, IsFormFound, is_interface_at, Linked}
 use Rattle.jvm_model.proofs.BuiltinRules.{method_keeps}
 use Rattle.class_link.specs.declared.fault.LinkFault.{LinkFault}
 use Rattle.class_link.specs.declared.lines.TestLines.{TestLines}
@@ -30,8 +28,7 @@ use Rattle.class_link.specs.Assembly.{assembled, skeleton}
 use Rattle.class_link.specs.Bodies.{linked_body}
 use Rattle.class_link.specs.Faults.{first_some, duplicate_fault, headings_fault, all_references_fault, IsFirstCycle}
 use Rattle.class_link.specs.Link.{◌>>=◌, setting, unless, cycle_fault, tests_of, program_of, link_by, AreLines, AreDifferent}
-use Rattle.class_link.proofs.Blocks.{Block}
-use Rattle.class_link.proofs.Assembled.{GivenMember, own_methods, holds_builtins, class_count, method_cases}
+use Rattle.class_link.proofs.Assembled.{holds_builtins, class_count, method_cases}
 use Rattle.class_link.proofs.Records.{class_numbers, field_class, method_class, method_record}
 use Rattle.class_link.proofs.Listed.{AllKnown, all_there, is_listed}
 use Rattle.class_link.proofs.Distinct.{is_distinct}
@@ -80,7 +77,7 @@ module _ (cs : List ClassParts) (ts : List TestEntry) (files : List (List ℕ ×
     | inr g ↦
         let b = g.of in
         subst (λ (r : MethodRec). IfSome r.body (λ y. Q r.class y)) (sym (method_record body cs ts files m g))
-            (mapped_holds (λ y. Q (builtin_count + b.class) y) (body b.parts) b.member.code (λ code e. f b.class b.index b.parts b.member code b.has_class b.has_member e))
+        (mapped_holds (λ y. Q (builtin_count + b.class) y) (body b.parts) b.member.code (λ code e. f b.class b.index b.parts b.member code b.has_class b.has_member e))
   ]
 
   module _ (known : AllKnown cs) (coded : AllCoded cs) (different : duplicate_fault cs ≡ None) (headed : first_some (headings_fault (setting cs)) cs ≡ None) (acyclic : IsFirstCycle (skeleton cs) None)
