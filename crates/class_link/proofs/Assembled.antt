@@ -1,7 +1,7 @@
 -- The program that is assembled of class files, whatever bodies its methods have: which records stand where.
-use Rattle.std.proofs.Common.{◌≡◌, ◌⊎◌, ℕ, zero, suc, ◌+◌, ◌<◌, ◌≤◌, List, [], ◌∷◌, ◌++◌, length, map, get_or, slice_get, ◌-◌, refl, sym, ◌∙◌, ap, subst, inl, inr, arith, Option, Some, None}
+use Rattle.std.proofs.Common.{◌≡◌, ◌⊎◌, ℕ, zero, suc, ◌+◌, ◌<◌, List, [], ◌∷◌, ◌++◌, length, map, get_or, slice_get, ◌-◌, refl, ◌∙◌, ap, subst, inl, inr, arith, Some}
 use Rattle.std.proofs.lemmas.Bool.{cases_lt}
-use Rattle.std.proofs.lemmas.List.{length-append, length-map, take_at}
+use Rattle.std.proofs.lemmas.List.{length-append, take_at}
 use Rattle.std.proofs.lemmas.Option.{slice_get_within, get_or_from_slice_get}
 use Rattle.class_reader.specs.declared.parts.ClassParts.{ClassParts}
 use Rattle.class_reader.specs.declared.parts.MemberPart.{MemberPart}
@@ -9,7 +9,6 @@ use Rattle.class_reader.specs.declared.parts.CodePart.{CodePart}
 use Rattle.jvm_model.specs.declared.program.Program.{Program}
 use Rattle.jvm_model.specs.declared.program.Body.{Body}
 use Rattle.jvm_model.specs.declared.program.TestEntry.{TestEntry}
-use Rattle.jvm_model.specs.declared.program.ClassRec.{ClassRec}
 use Rattle.jvm_model.specs.declared.program.FieldRec.{FieldRec}
 use Rattle.jvm_model.specs.declared.program.MethodRec.{MethodRec}
 use Rattle.jvm_model.specs.Builtin.{builtin_count}
@@ -19,7 +18,7 @@ use Rattle.jvm_model.specs.Linked.{IsClass, IsField, IsMethod, HoldsBuiltins}
 use Rattle.class_link.specs.ClassNames.{all_names}
 use Rattle.class_link.specs.Literals.{literals}
 use Rattle.class_link.specs.Assembly.{class_rec, class_recs, field_rec, field_recs, method_rec, method_recs, assembled}
-use Rattle.class_link.proofs.Blocks.{At, at_place, right_place, before, Block, blocks, block_at, block_of}
+use Rattle.class_link.proofs.Blocks.{at_place, right_place, before, Block, blocks, block_at, block_of}
 
 -- the numbers of the built-in classes, fields and methods
 pub counts : (length builtin_classes ≡ builtin_count) × (length builtin_fields ≡ 2) × (length builtin_methods ≡ 102)
@@ -121,7 +120,7 @@ module _ (body : ClassParts → CodePart → Body) (cs : List ClassParts) (tests
   unfolding assembled
   field_given i k c x h g =
       let q : slice_get (field_recs (literals cs) builtin_count cs) (before own_fields cs i + k) ≡ Some (field_rec (literals cs) c.pool (builtin_count + i) x) =
-          ap (λ (xs : List FieldRec). slice_get xs (before own_fields cs i + k)) (field_blocks (literals cs) builtin_count cs) ∙ block_at (make_field (literals cs)) own_fields builtin_count cs i k c x h g in
+      ap (λ (xs : List FieldRec). slice_get xs (before own_fields cs i + k)) (field_blocks (literals cs) builtin_count cs) ∙ block_at (make_field (literals cs)) own_fields builtin_count cs i k c x h g in
       beyond builtin_fields (field_recs (literals cs) builtin_count cs) (length builtin_fields) (before own_fields cs i + k) _ no_field refl q
 
   pub method_given : (i k : ℕ) (c : ClassParts) (x : MemberPart) → slice_get cs i ≡ Some c → slice_get c.methods k ≡ Some x →
@@ -129,7 +128,7 @@ module _ (body : ClassParts → CodePart → Body) (cs : List ClassParts) (tests
   unfolding assembled
   method_given i k c x h g =
       let q : slice_get (method_recs body builtin_count cs) (before own_methods cs i + k) ≡ Some (method_rec (body c) c.pool (builtin_count + i) x) =
-          ap (λ (xs : List MethodRec). slice_get xs (before own_methods cs i + k)) (method_blocks body builtin_count cs) ∙ block_at (make_method body) own_methods builtin_count cs i k c x h g in
+      ap (λ (xs : List MethodRec). slice_get xs (before own_methods cs i + k)) (method_blocks body builtin_count cs) ∙ block_at (make_method body) own_methods builtin_count cs i k c x h g in
       beyond builtin_methods (method_recs body builtin_count cs) (length builtin_methods) (before own_methods cs i + k) _ no_method refl q
 
   -- each number is built in or given

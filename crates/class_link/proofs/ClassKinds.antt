@@ -1,7 +1,6 @@
 -- Where headings have no fault, superclasses and superinterfaces are of their kinds.
-use Rattle.std.proofs.Common.{◌≡◌, ◌⊎◌, ℕ, zero, suc, ◌+◌, ◌-◌, ◌<◌, ◌≤◌, List, [], ◌∷◌, length, map, get_or, slice_get, Bool, true, false, not, ◌&&◌, ◌||◌, nat_eq, nat_le, cond, refl, sym, ◌∙◌, ap, subst, inl, inr, arith, Option, Some, None, IfSome, All}
-use Rattle.std.specs.List.{range_with_len}
-use Rattle.std.proofs.lemmas.Bool.{cases_Bool, and_parts, or_cases, or_left, or_right, not-true, eqb-true, eq-eqb, leb-true, cond-true}
+use Rattle.std.proofs.Common.{◌≡◌, ◌⊎◌, ℕ, ◌+◌, ◌-◌, ◌<◌, ◌≤◌, List, length, map, get_or, slice_get, Bool, true, false, not, ◌||◌, nat_eq, nat_le, refl, sym, ◌∙◌, ap, subst, inl, inr, arith, Option, Some, None, IfSome, All}
+use Rattle.std.proofs.lemmas.Bool.{and_parts, or_cases, or_left, or_right, not-true, eqb-true, eq-eqb, leb-true, cond-true}
 use Rattle.std.proofs.lemmas.List.Elements.{All-map}
 use Rattle.std.proofs.lemmas.List.Folds.{list_any_at}
 use Rattle.std.proofs.lemmas.List.FromFn.{length-range_with_len, get_or-range_with_len}
@@ -9,28 +8,24 @@ use Rattle.std.proofs.lemmas.Option.{slice_get_within, slice_get-get_or}
 use Rattle.class_pool.specs.declared.pool.Entry.{Entry}
 use Rattle.class_pool.specs.declared.pool.Entry.TheVariants.{Class}
 use Rattle.class_pool.specs.Pool.{entry_of}
-use Rattle.class_pool.proofs.EntryFacts.{NamesClass}
 use Rattle.class_reader.specs.declared.parts.ClassParts.{ClassParts}
 use Rattle.class_reader.specs.declared.parts.CodePart.{CodePart}
-use Rattle.class_reader.proofs.ClassFacts.{ClassFacts, NamesShort}
-use Rattle.et_base.specs.Names.{starts_array}
+use Rattle.class_reader.proofs.ClassFacts.{ClassFacts}
 use Rattle.jvm_model.specs.declared.program.Program.{Program}
 use Rattle.jvm_model.specs.declared.program.ClassRec.{ClassRec}
 use Rattle.jvm_model.specs.declared.program.Body.{Body}
 use Rattle.jvm_model.specs.declared.program.TestEntry.{TestEntry}
 use Rattle.jvm_model.specs.Builtin.{builtin_count, object_class, throwable_class}
-use Rattle.jvm_model.specs.Library.{builtin_fields, builtin_methods}
 use Rattle.jvm_model.specs.Classes.{class_at, is_interface, is_below, member}
-use Rattle.jvm_model.specs.Linked.{IsClass, IsGiven, is_interface_at, IsClassKind}
+use Rattle.jvm_model.specs.Linked.{IsGiven, is_interface_at, IsClassKind}
 use Rattle.class_link.specs.declared.fault.LinkFault.{LinkFault}
-use Rattle.class_link.specs.ClassNames.{name_at, all_names, number_or_first, missing}
-use Rattle.class_link.specs.Assembly.{class_rec, assembled, skeleton}
+use Rattle.class_link.specs.ClassNames.{name_at, number_or_first, missing}
+use Rattle.class_link.specs.Assembly.{assembled, skeleton}
 use Rattle.class_link.specs.References.{Setting}
 use Rattle.class_link.specs.Faults.{first_some, indices, superclass_fits, heading_fits, missing_or, wrong_unless, heading_fault, headings_fault}
 use Rattle.class_link.specs.Link.{setting}
-use Rattle.class_link.proofs.Blocks.{before}
-use Rattle.class_link.proofs.Assembled.{own_fields, own_methods, Given, class_given, class_cases}
-use Rattle.class_link.proofs.Pools.{Standing, standing, first_none}
+use Rattle.class_link.proofs.Assembled.{class_given, class_cases}
+use Rattle.class_link.proofs.Pools.{standing, first_none}
 use Rattle.class_link.proofs.SkeletonFacts.{class_same, below_same}
 use Rattle.class_link.proofs.Listed.{AllKnown}
 
@@ -97,9 +92,9 @@ module _ (body : ClassParts → CodePart → Body) (cs : List ClassParts) (tests
   opened_by d h = elim (or_cases (nat_le builtin_count d) _ h) [
     | inl e ↦ inl (leb-true builtin_count d e)
     | inr e ↦ inr (elim (or_cases (nat_eq d object_class) _ e) [
-        | inl z ↦ inl (eqb-true d object_class z)
-        | inr z ↦ inr (below_same body cs tests files d throwable_class ∙ z)
-      ])
+      | inl z ↦ inl (eqb-true d object_class z)
+      | inr z ↦ inr (below_same body cs tests files d throwable_class ∙ z)
+    ])
   ]
 
   kind_given : (i : ℕ) (c : ClassParts) → slice_get cs i ≡ Some c → IsClassKind p (builtin_count + i)
@@ -114,7 +109,7 @@ module _ (body : ClassParts → CodePart → Body) (cs : List ClassParts) (tests
       let super : (class_at p (builtin_count + i)).superclass ≡ Some d = ap (λ (y : ClassRec). y.superclass) r in
       let plain : is_interface_at p d ≡ false = interface_same d ∙ not-true (is_interface_at s.program d) a.0 in
       let above : All (λ n. is_interface_at p n ≡ true) (map (λ k. number s c k) c.interfaces) =
-          All-map (λ n. is_interface_at p n ≡ true) (λ k. number s c k) c.interfaces (λ k z w. interface_same _ ∙ interface_fits s c (known i c h) none k z w) in
+      All-map (λ n. is_interface_at p n ≡ true) (λ k. number s c k) c.interfaces (λ k z w. interface_same _ ∙ interface_fits s c (known i c h) none k z w) in
       record {
         superclass = subst (λ o. IfSome o (λ n. is_interface_at p n ≡ false)) (sym super) plain;
         opened = subst (λ o. IfSome o (λ n. (builtin_count ≤ n) ⊎ ((n ≡ object_class) ⊎ (is_below p n throwable_class ≡ true)))) (sym super) (opened_by d b.0);

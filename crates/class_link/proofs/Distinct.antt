@@ -1,9 +1,9 @@
 -- What has to differ in a linked program differs: classes, members, string constants, files.
-use Rattle.std.proofs.Common.{◌≡◌, ℕ, zero, suc, ◌+◌, ◌<◌, ◌≤◌, List, [], ◌∷◌, ◌++◌, length, map, get_or, slice_get, Bool, true, false, ◌&&◌, ◌||◌, nat_eq, nat_lt, cond, refl, sym, ◌∙◌, ap, subst, inl, inr, arith, append_assoc, Option, Some, None}
-use Rattle.std.specs.Prelude.{flat_map, unwrap_or}
+use Rattle.std.proofs.Common.{◌≡◌, ℕ, zero, suc, ◌+◌, ◌<◌, List, [], ◌∷◌, ◌++◌, length, map, get_or, slice_get, Bool, true, false, ◌&&◌, nat_eq, nat_lt, cond, refl, sym, ◌∙◌, ap, subst, inl, inr, arith, append_assoc, Option, Some, None}
+use Rattle.std.specs.Prelude.{flat_map}
 use Rattle.std.specs.List.{list_any}
-use Rattle.std.proofs.lemmas.Bool.{cases_Bool, cases_lt, cases_order, and_parts, and_from, ltb-true, eqb-true, eq-eqb, or_parts, cond-true, cond-false, false_from_ne_true}
-use Rattle.std.proofs.lemmas.List.{length-append, length-map, length_push, get_or_at, get_or_push, get_or_append_left, append-nil}
+use Rattle.std.proofs.lemmas.Bool.{cases_Bool, cases_lt, cases_order, and_parts, and_from, ltb-true, eq-eqb, cond-true, cond-false}
+use Rattle.std.proofs.lemmas.List.{length-map, length_push, get_or_at, get_or_push, get_or_append_left}
 use Rattle.std.proofs.lemmas.Option.{slice_get_within, get_or_from_slice_get}
 use Rattle.class_pool.specs.declared.pool.Entry.{Entry}
 use Rattle.class_pool.specs.Pool.{entry_of, text_of}
@@ -11,8 +11,7 @@ use Rattle.class_pool.proofs.EntryFacts.{NamesText, units_are}
 use Rattle.class_reader.specs.declared.parts.ClassParts.{ClassParts}
 use Rattle.class_reader.specs.declared.parts.MemberPart.{MemberPart}
 use Rattle.class_reader.specs.declared.parts.CodePart.{CodePart}
-use Rattle.class_reader.proofs.ClassFacts.{ClassFacts}
-use Rattle.class_reader.proofs.MemberFacts.{FieldFacts, MethodFacts, MembersFacts, Differ}
+use Rattle.class_reader.proofs.MemberFacts.{FieldFacts, MethodFacts, Differ}
 use Rattle.et_base.specs.Names.{is_unqualified, is_method_name, is_field_descriptor, is_method_descriptor}
 use Rattle.jvm_model.specs.declared.program.Program.{Program}
 use Rattle.jvm_model.specs.declared.program.ClassRec.{ClassRec}
@@ -28,14 +27,14 @@ use Rattle.jvm_model.specs.Linked.{IsClass, IsField, IsMethod, count, IsDistinct
 use Rattle.jvm_model.proofs.BuiltinRules.{builtin_class, builtin_field, builtin_method}
 use Rattle.class_link.specs.ClassNames.{text_at, own_name, all_names}
 use Rattle.class_link.specs.Literals.{strings_of, noted, literals}
-use Rattle.class_link.specs.Assembly.{field_rec, method_rec, assembled}
+use Rattle.class_link.specs.Assembly.{assembled}
 use Rattle.class_link.specs.Faults.{duplicate, duplicate_fault}
 use Rattle.class_link.specs.Link.{AreDifferent}
-use Rattle.class_link.proofs.Blocks.{before, Block}
-use Rattle.class_link.proofs.Assembled.{counts, own_fields, own_methods, Given, GivenMember, holds_builtins, class_cases, field_cases, method_cases}
-use Rattle.class_link.proofs.Numbered.{units_true, units_same, units_refl, name_of_class}
+use Rattle.class_link.proofs.Blocks.{before}
+use Rattle.class_link.proofs.Assembled.{counts, own_fields, own_methods, GivenMember, holds_builtins, class_cases, field_cases, method_cases}
+use Rattle.class_link.proofs.Numbered.{units_same, name_of_class}
 use Rattle.class_link.proofs.Records.{field_record, method_record}
-use Rattle.class_link.proofs.Tables.{none_at, all_from, all_from_at, all_differ_at, same_name, names_differ, same_method, methods_differ, same_class, fields_differ, method_listed, methods_listed, field_listed, fields_listed}
+use Rattle.class_link.proofs.Tables.{none_at, all_from, all_from_at, all_differ_at, same_name, names_differ, same_method, methods_differ, same_class, fields_differ, methods_listed, fields_listed}
 use Rattle.class_link.proofs.Listed.{AllKnown, all_there, text_is}
 
 -- ---- lists whose entries differ
@@ -48,9 +47,9 @@ unfolding AreApart
 apart_same xs a i j h g e = elim (cases_order i j) [
   | inl q ↦ q
   | inr o ↦ elim o [
-      | inl l ↦ absurd (a i j l g e)
-      | inr l ↦ absurd (a j i l h (sym e))
-    ]
+    | inl l ↦ absurd (a i j l g e)
+    | inr l ↦ absurd (a j i l h (sym e))
+  ]
 ]
 
 apart_push : (xs : List (List ℕ)) (x : List ℕ) → AreApart xs → list_any (same_units x) xs ≡ false → AreApart (xs ++ x ∷ [])
@@ -101,7 +100,7 @@ fresh_more front x cs f again c (suc i) h g q =
     let a : names_of (front ++ own_name x ∷ []) cs ≡ names_of front (x ∷ cs) = append_assoc front (own_name x ∷ []) (map own_name cs) in
     let z : length front + suc i ≡ length (front ++ own_name x ∷ []) + i = omega arith in
     again c i (omega arith) (omega arith)
-        (ap (λ (xs : List (List ℕ)). get_or xs c []) a ∙ (q ∙ (ap (λ (n : ℕ). get_or (names_of front (x ∷ cs)) n []) z ∙ ap (λ (xs : List (List ℕ)). get_or xs (length (front ++ own_name x ∷ []) + i) []) (sym a))))
+    (ap (λ (xs : List (List ℕ)). get_or xs c []) a ∙ (q ∙ (ap (λ (n : ℕ). get_or (names_of front (x ∷ cs)) n []) z ∙ ap (λ (xs : List (List ℕ)). get_or xs (length (front ++ own_name x ∷ []) + i) []) (sym a))))
 
 fresh_names : (front : List (List ℕ)) (cs : List ClassParts) → duplicate front cs ≡ None → Fresh front cs
 unfolding Fresh
@@ -123,8 +122,8 @@ same_member slots xs named typed d i j x y h g nx ny tx ty en et =
     let a : text_of (entry_of slots x.name) ≡ text_of (entry_of slots y.name) = same_text named x.name y.name nx ny en in
     let b : text_of (entry_of slots x.descriptor) ≡ text_of (entry_of slots y.descriptor) = same_text typed x.descriptor y.descriptor tx ty et in
     d i j x (slice_get_within xs i x h) (slice_get_within xs j y g)
-        (ap (λ (m : MemberPart). text_of (entry_of slots m.name)) p ∙ (a ∙ ap (λ (m : MemberPart). text_of (entry_of slots m.name)) (sym q)))
-        (ap (λ (m : MemberPart). text_of (entry_of slots m.descriptor)) p ∙ (b ∙ ap (λ (m : MemberPart). text_of (entry_of slots m.descriptor)) (sym q)))
+    (ap (λ (m : MemberPart). text_of (entry_of slots m.name)) p ∙ (a ∙ ap (λ (m : MemberPart). text_of (entry_of slots m.name)) (sym q)))
+    (ap (λ (m : MemberPart). text_of (entry_of slots m.descriptor)) p ∙ (b ∙ ap (λ (m : MemberPart). text_of (entry_of slots m.descriptor)) (sym q)))
   where
     same_text : (test : List ℕ → Bool) (a b : ℕ) → NamesText test slots a → NamesText test slots b → text_at slots a ≡ text_at slots b → text_of (entry_of slots a) ≡ text_of (entry_of slots b)
     same_text test a b s t e = units_are test slots a s ∙ (ap (λ (us : List ℕ). Some us) (sym (text_is test slots a s) ∙ (e ∙ text_is test slots b t)) ∙ sym (units_are test slots b t))
@@ -144,7 +143,7 @@ same_given members first cs named typed differ texts m n g h e en et =
     let tx = texts a.class a.index a.parts a.member a.has_class a.has_member in
     let ty = texts a.class b.index a.parts b.member a.has_class hb in
     let k : a.index ≡ b.index = same_member a.parts.pool (members a.parts) named typed (differ a.class a.parts a.has_class) a.index b.index a.member b.member a.has_member hb tx.0 ty.0 tx.1 ty.1
-        (en ∙ ap (λ (x : ClassParts). text_at x.pool b.member.name) c) (et ∙ ap (λ (x : ClassParts). text_at x.pool b.member.descriptor) c) in
+    (en ∙ ap (λ (x : ClassParts). text_at x.pool b.member.name) c) (et ∙ ap (λ (x : ClassParts). text_at x.pool b.member.descriptor) c) in
     let z : before members cs a.class ≡ before members cs b.class = ap (before members cs) e in
     let o = a.place in
     let u = b.place in
@@ -183,9 +182,9 @@ module _ (body : ClassParts → CodePart → Body) (cs : List ClassParts) (tests
   classes_differ e c d h g q = elim (cases_order c d) [
     | inl k ↦ k
     | inr o ↦ elim o [
-        | inl l ↦ absurd (names_apart e c d l h g q)
-        | inr l ↦ absurd (names_apart e d c l g h (sym q))
-      ]
+      | inl l ↦ absurd (names_apart e c d l h g q)
+      | inr l ↦ absurd (names_apart e d c l g h (sym q))
+    ]
   ]
 
   -- ---- fields and methods
@@ -227,49 +226,49 @@ module _ (body : ClassParts → CodePart → Body) (cs : List ClassParts) (tests
     fields_differ_all : (f g : ℕ) → IsField p f → IsField p g → (field_at p f).class ≡ (field_at p g).class → (field_at p f).name ≡ (field_at p g).name → (field_at p f).descriptor ≡ (field_at p g).descriptor → f ≡ g
     fields_differ_all f g h k e en et = elim (field_cases body cs tests files f h) [
       | inl a ↦ elim (field_cases body cs tests files g k) [
-          | inl b ↦ elim (cases_order f g) [
-              | inl q ↦ q
-              | inr o ↦ elim o [
-                  | inl l ↦ absurd (fields_apart f g l b e)
-                  | inr l ↦ absurd (fields_apart g f l a (sym e))
-                ]
-            ]
-          | inr b ↦ let q = field_built_in f a in let r = ap (λ (y : FieldRec). y.class) (field_record body cs tests files g b) in absurd (omega arith)
+        | inl b ↦ elim (cases_order f g) [
+          | inl q ↦ q
+          | inr o ↦ elim o [
+            | inl l ↦ absurd (fields_apart f g l b e)
+            | inr l ↦ absurd (fields_apart g f l a (sym e))
+          ]
         ]
+        | inr b ↦ let q = field_built_in f a in let r = ap (λ (y : FieldRec). y.class) (field_record body cs tests files g b) in absurd (omega arith)
+      ]
       | inr a ↦ elim (field_cases body cs tests files g k) [
-          | inl b ↦ let q = field_built_in g b in let r = ap (λ (y : FieldRec). y.class) (field_record body cs tests files f a) in absurd (omega arith)
-          | inr b ↦
-              let x = field_record body cs tests files f a in
-              let z = field_record body cs tests files g b in
-              let i : builtin_count + a.of.class ≡ builtin_count + b.of.class = ap (λ (y : FieldRec). y.class) (sym x) ∙ (e ∙ ap (λ (y : FieldRec). y.class) z) in
-              same_given own_fields (length builtin_fields) cs is_unqualified is_field_descriptor (λ n c w. (known n c w).fields.differ)
-                  (λ n j c y w v. let t : FieldFacts c.pool y = all_there (FieldFacts c.pool) c.fields j y (known n c w).fields.each v in (t.name, t.descriptor))
-                  f g a b (omega arith) (ap (λ (y : FieldRec). y.name) (sym x) ∙ (en ∙ ap (λ (y : FieldRec). y.name) z)) (ap (λ (y : FieldRec). y.descriptor) (sym x) ∙ (et ∙ ap (λ (y : FieldRec). y.descriptor) z))
-        ]
+        | inl b ↦ let q = field_built_in g b in let r = ap (λ (y : FieldRec). y.class) (field_record body cs tests files f a) in absurd (omega arith)
+        | inr b ↦
+            let x = field_record body cs tests files f a in
+            let z = field_record body cs tests files g b in
+            let i : builtin_count + a.of.class ≡ builtin_count + b.of.class = ap (λ (y : FieldRec). y.class) (sym x) ∙ (e ∙ ap (λ (y : FieldRec). y.class) z) in
+            same_given own_fields (length builtin_fields) cs is_unqualified is_field_descriptor (λ n c w. (known n c w).fields.differ)
+            (λ n j c y w v. let t : FieldFacts c.pool y = all_there (FieldFacts c.pool) c.fields j y (known n c w).fields.each v in (t.name, t.descriptor))
+            f g a b (omega arith) (ap (λ (y : FieldRec). y.name) (sym x) ∙ (en ∙ ap (λ (y : FieldRec). y.name) z)) (ap (λ (y : FieldRec). y.descriptor) (sym x) ∙ (et ∙ ap (λ (y : FieldRec). y.descriptor) z))
+      ]
     ]
 
     methods_differ_all : (m n : ℕ) → IsMethod p m → IsMethod p n → (method_at p m).class ≡ (method_at p n).class → (method_at p m).name ≡ (method_at p n).name → (method_at p m).descriptor ≡ (method_at p n).descriptor → m ≡ n
     methods_differ_all m n h k e en et = elim (method_cases body cs tests files m h) [
       | inl a ↦ elim (method_cases body cs tests files n k) [
-          | inl b ↦ elim (cases_order m n) [
-              | inl q ↦ q
-              | inr o ↦ elim o [
-                  | inl l ↦ absurd (methods_apart m n l b e en et)
-                  | inr l ↦ absurd (methods_apart n m l a (sym e) (sym en) (sym et))
-                ]
-            ]
-          | inr b ↦ let q = method_built_in m a in let r = ap (λ (y : MethodRec). y.class) (method_record body cs tests files n b) in absurd (omega arith)
+        | inl b ↦ elim (cases_order m n) [
+          | inl q ↦ q
+          | inr o ↦ elim o [
+            | inl l ↦ absurd (methods_apart m n l b e en et)
+            | inr l ↦ absurd (methods_apart n m l a (sym e) (sym en) (sym et))
+          ]
         ]
+        | inr b ↦ let q = method_built_in m a in let r = ap (λ (y : MethodRec). y.class) (method_record body cs tests files n b) in absurd (omega arith)
+      ]
       | inr a ↦ elim (method_cases body cs tests files n k) [
-          | inl b ↦ let q = method_built_in n b in let r = ap (λ (y : MethodRec). y.class) (method_record body cs tests files m a) in absurd (omega arith)
-          | inr b ↦
-              let x = method_record body cs tests files m a in
-              let z = method_record body cs tests files n b in
-              let i : builtin_count + a.of.class ≡ builtin_count + b.of.class = ap (λ (y : MethodRec). y.class) (sym x) ∙ (e ∙ ap (λ (y : MethodRec). y.class) z) in
-              same_given own_methods (length builtin_methods) cs is_method_name is_method_descriptor (λ l c w. (known l c w).methods.differ)
-                  (λ l j c y w v. let t : MethodFacts c.pool y = all_there (MethodFacts c.pool) c.methods j y (known l c w).methods.each v in (t.name, t.descriptor))
-                  m n a b (omega arith) (ap (λ (y : MethodRec). y.name) (sym x) ∙ (en ∙ ap (λ (y : MethodRec). y.name) z)) (ap (λ (y : MethodRec). y.descriptor) (sym x) ∙ (et ∙ ap (λ (y : MethodRec). y.descriptor) z))
-        ]
+        | inl b ↦ let q = method_built_in n b in let r = ap (λ (y : MethodRec). y.class) (method_record body cs tests files m a) in absurd (omega arith)
+        | inr b ↦
+            let x = method_record body cs tests files m a in
+            let z = method_record body cs tests files n b in
+            let i : builtin_count + a.of.class ≡ builtin_count + b.of.class = ap (λ (y : MethodRec). y.class) (sym x) ∙ (e ∙ ap (λ (y : MethodRec). y.class) z) in
+            same_given own_methods (length builtin_methods) cs is_method_name is_method_descriptor (λ l c w. (known l c w).methods.differ)
+            (λ l j c y w v. let t : MethodFacts c.pool y = all_there (MethodFacts c.pool) c.methods j y (known l c w).methods.each v in (t.name, t.descriptor))
+            m n a b (omega arith) (ap (λ (y : MethodRec). y.name) (sym x) ∙ (en ∙ ap (λ (y : MethodRec). y.name) z)) (ap (λ (y : MethodRec). y.descriptor) (sym x) ∙ (et ∙ ap (λ (y : MethodRec). y.descriptor) z))
+      ]
     ]
 
     literals_differ : (i j : ℕ) → i < length p.literals → j < length p.literals → get_or p.literals i [] ≡ get_or p.literals j [] → i ≡ j

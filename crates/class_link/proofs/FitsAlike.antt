@@ -1,5 +1,5 @@
 -- What fits in the skeleton fits in the linked program.
-use Rattle.std.proofs.Common.{◌≡◌, ℕ, List, Bool, true, false, not, ◌&&◌, ◌||◌, refl, sym, ◌∙◌, ap, Option, Some, None}
+use Rattle.std.proofs.Common.{◌≡◌, ℕ, List, refl, ap, Option, Some, None}
 use Rattle.class_pool.specs.declared.pool.Entry.{Entry}
 use Rattle.class_pool.specs.declared.pool.Entry.TheVariants as entry
 use Rattle.class_reader.specs.declared.parts.ClassParts.{ClassParts}
@@ -11,14 +11,13 @@ use Rattle.jvm_model.specs.declared.program.Body.{Body}
 use Rattle.jvm_model.specs.declared.program.TestEntry.{TestEntry}
 use Rattle.jvm_model.specs.Builtin.{throwable_class}
 use Rattle.jvm_model.specs.Classes.{method_at, is_static}
-use Rattle.jvm_model.specs.Selection.{named_class}
 use Rattle.class_link.specs.declared.references.Use.{Use}
 use Rattle.class_link.specs.declared.references.Use.TheVariants as used
 use Rattle.class_link.specs.declared.references.Target.{Target}
 use Rattle.class_link.specs.declared.references.Target.TheVariants as target
 use Rattle.class_link.specs.Assembly.{assembled, skeleton}
-use Rattle.class_link.specs.References.{fits_sort, is_near, method_fits, field_fits, type_fits, fits}
-use Rattle.class_link.proofs.Alike.{Outline, outline}
+use Rattle.class_link.specs.References.{fits_sort, method_fits, field_fits, type_fits, fits}
+use Rattle.class_link.proofs.Alike.{Outline}
 use Rattle.class_link.proofs.SkeletonFacts.{outline_same, below_same}
 
 module _ (body : ClassParts → CodePart → Body) (cs : List ClassParts) (tests : List TestEntry) (files : List (List ℕ × List ℕ)) where

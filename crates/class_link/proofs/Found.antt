@@ -1,9 +1,9 @@
 -- A member that a look-up finds is one of the program, and has the name and descriptor that were asked for.
-use Rattle.std.proofs.Common.{◌≡◌, ◌⊎◌, ℕ, zero, suc, ◌+◌, ◌<◌, ◌≤◌, List, [], ◌∷◌, length, filter, get_or, Bool, true, false, not, ◌&&◌, cond, refl, sym, ◌∙◌, ap, subst, inl, inr, arith, Option, Some, None, IfSome, All}
+use Rattle.std.proofs.Common.{◌≡◌, ◌⊎◌, ℕ, ◌≤◌, List, [], ◌∷◌, length, filter, Bool, true, not, ◌&&◌, sym, ◌∙◌, subst, inl, inr, Option, Some, None, All}
 use Rattle.std.specs.Prelude.{find, flat_map}
 use Rattle.std.proofs.lemmas.Bool.{cases_Bool, cases_lt, and_parts, cond-true, cond-false}
 use Rattle.std.proofs.lemmas.List.{get_or_past}
-use Rattle.std.proofs.lemmas.List.Elements.{All-nil, All-cons, All-head, All-tail, All-filter, All-weaker, filter_passes}
+use Rattle.std.proofs.lemmas.List.Elements.{All-nil, All-head, All-tail, All-filter, filter_passes}
 use Rattle.jvm_model.specs.declared.program.Program.{Program}
 use Rattle.jvm_model.specs.declared.program.ClassRec.{ClassRec}
 use Rattle.jvm_model.specs.World.{same_units}
@@ -106,15 +106,15 @@ module _ (p : Program) (numbered : (c : ℕ) → IsClass p c → NamesClass p (c
   method_found c name descriptor m e = elim (cases_Bool (same_units name init_name)) [
     | inl t ↦ declared_found name descriptor (c ∷ []) m (rw t at e)
     | inr t ↦ elim (cases_Bool (is_interface (class_at p c).flags)) [
-        | inl i ↦ elim (or_else_cases _ _ m (rw (t, i) at e)) [
-            | inl q ↦ declared_found name descriptor (c ∷ []) m q
-            | inr q ↦ elim (or_else_cases _ _ m q) [
-                | inl z ↦ object_found name descriptor m z
-                | inr z ↦ interfaces_found c name descriptor m z
-              ]
-          ]
-        | inr i ↦ in_either name descriptor c m (upwards p c) (rw (t, i) at e)
+      | inl i ↦ elim (or_else_cases _ _ m (rw (t, i) at e)) [
+        | inl q ↦ declared_found name descriptor (c ∷ []) m q
+        | inr q ↦ elim (or_else_cases _ _ m q) [
+          | inl z ↦ object_found name descriptor m z
+          | inr z ↦ interfaces_found c name descriptor m z
+        ]
       ]
+      | inr i ↦ in_either name descriptor c m (upwards p c) (rw (t, i) at e)
+    ]
   ]
 
   -- the look-up of the method that was found finds it again

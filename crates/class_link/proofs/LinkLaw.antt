@@ -1,15 +1,17 @@
 -- What linking answers is a linked program.
-use Rattle.std.proofs.Common.{◌≡◌, ℕ, zero, suc, ◌+◌, ◌<◌, ◌≤◌, List, [], ◌∷◌, length, get_or, slice_get, Bool, true, false, is_none, refl, sym, ◌∙◌, ap, subst, inl, inr, arith, Option, Some, None, IfSome, Result, Ok, Err, All}
+use Rattle.std.proofs.Common.{◌≡◌, ℕ, ◌+◌, ◌≤◌, List, [], length, slice_get, Bool, true, is_none, refl, sym, subst, inl, inr, arith, Option, Some, None, IfSome, Result, Ok, Err, All}
 use Rattle.std.specs.Prelude.{option_map}
 use Rattle.std.specs.List.{list_all}
-use Rattle.std.proofs.lemmas.List.Elements.{All-nil, All-weaker}
-use Rattle.std.proofs.lemmas.Option.{slice_get_within}
-use Rattle.class_pool.specs.declared.pool.Entry.{Entry}
+use Rattle.std.proofs.lemmas.List.Elements.{All-nil}
 use Rattle.class_reader.specs.declared.parts.ClassParts.{ClassParts}
 use Rattle.class_reader.specs.declared.parts.MemberPart.{MemberPart}
 use Rattle.class_reader.specs.declared.parts.CodePart.{CodePart}
 use Rattle.class_reader.specs.ClassGrammar as grammar
-use Rattle.class_reader.proofs.ClassFacts.{ClassFacts, class_facts}
+use Rattle.class_reader.proofs.ClassFacts.{class_facts}
+use Rattle.class_reader.proofs.MemberFacts.{MethodFacts}
+use Rattle.class_reader.proofs.PartFacts.{PartFacts, HandlerFacts}
+use Rattle.code_decode.specs.declared.instructions.RawOp.{RawOp}
+use Rattle.code_decode.proofs.CodeFacts.{OpFacts}
 use Rattle.jvm_model.specs.declared.program.Program.{Program}
 use Rattle.jvm_model.specs.declared.program.MethodRec.{MethodRec}
 use Rattle.jvm_model.specs.declared.program.Body.{Body}
@@ -18,7 +20,7 @@ use Rattle.jvm_model.specs.Builtin.{builtin_count}
 use Rattle.jvm_model.specs.Library.{builtin_defs, builtin_methods}
 use Rattle.jvm_model.specs.Classes.{method_at, is_static}
 use Rattle.jvm_model.specs.Lookup.{find_method}
-use Rattle.jvm_model.specs.Linked.{IsMethod, NamesBody, IsBodyKind, IsBody, IsFormFound, is_interface_at, IsTest, Linked}
+use Rattle.jvm_model.specs.Linked.{IsMethod, NamesBody, IsBodyKind, IsBody, IsFormFound, is_interface_at, Linked}
 use Rattle.jvm_model.proofs.BuiltinRules.{method_keeps}
 use Rattle.class_link.specs.declared.fault.LinkFault.{LinkFault}
 use Rattle.class_link.specs.declared.lines.TestLines.{TestLines}
@@ -26,8 +28,7 @@ use Rattle.class_link.specs.Assembly.{assembled, skeleton}
 use Rattle.class_link.specs.Bodies.{linked_body}
 use Rattle.class_link.specs.Faults.{first_some, duplicate_fault, headings_fault, all_references_fault, IsFirstCycle}
 use Rattle.class_link.specs.Link.{◌>>=◌, setting, unless, cycle_fault, tests_of, program_of, link_by, AreLines, AreDifferent}
-use Rattle.class_link.proofs.Blocks.{Block}
-use Rattle.class_link.proofs.Assembled.{GivenMember, own_methods, holds_builtins, class_count, method_cases}
+use Rattle.class_link.proofs.Assembled.{holds_builtins, class_count, method_cases}
 use Rattle.class_link.proofs.Records.{class_numbers, field_class, method_class, method_record}
 use Rattle.class_link.proofs.Listed.{AllKnown, all_there, is_listed}
 use Rattle.class_link.proofs.Distinct.{is_distinct}
@@ -37,6 +38,8 @@ use Rattle.class_link.proofs.ClassKinds.{class_kinds}
 use Rattle.class_link.proofs.SuiteTests.{IsGood, all_good}
 use Rattle.class_link.proofs.Owners.{static_owner}
 use Rattle.class_link.proofs.LinkedCode.{CodeRules, names_body, body_kind, body_found}
+use Rattle.class_link.proofs.ShapeFacts.{calls_by_sort}
+use Rattle.class_link.proofs.BodyFacts.{makes_nested, is_body}
 
 -- the code of each class file is as its rules say
 abbrev pub AllCoded : List ClassParts → Type 0
@@ -74,7 +77,7 @@ module _ (cs : List ClassParts) (ts : List TestEntry) (files : List (List ℕ ×
     | inr g ↦
         let b = g.of in
         subst (λ (r : MethodRec). IfSome r.body (λ y. Q r.class y)) (sym (method_record body cs ts files m g))
-            (mapped_holds (λ y. Q (builtin_count + b.class) y) (body b.parts) b.member.code (λ code e. f b.class b.index b.parts b.member code b.has_class b.has_member e))
+        (mapped_holds (λ y. Q (builtin_count + b.class) y) (body b.parts) b.member.code (λ code e. f b.class b.index b.parts b.member code b.has_class b.has_member e))
   ]
 
   module _ (known : AllKnown cs) (coded : AllCoded cs) (different : duplicate_fault cs ≡ None) (headed : first_some (headings_fault (setting cs)) cs ≡ None) (acyclic : IsFirstCycle (skeleton cs) None)
@@ -131,16 +134,38 @@ no_cycle cs (Some i) h e = absurd (cc)
 known_from : (cs : List ClassParts) → All (λ c. grammar.IsClass c) cs → AllKnown cs
 known_from cs h i c e = class_facts c (all_there (λ x. grammar.IsClass x) cs i c h e)
 
--- What linking answers is a linked program.
-pub linked_by : (cs : List ClassParts) (lines : TestLines) (cycle : Option ℕ) (p : Program) → length cs ≤ 1024 → All (λ c. grammar.IsClass c) cs → AllCoded cs → AreLines lines → IsFirstCycle (skeleton cs) cycle → link_by cycle cs lines ≡ Ok p → Linked p
+-- the rules of code, from what is known of a class file
+coded_from : (cs : List ClassParts) → AllKnown cs → AllCoded cs
+coded_from cs known i k c x code h g e =
+    let m : MethodFacts c.pool x = all_there (MethodFacts c.pool) c.methods k x (known i c h).methods.each g in
+    let f : PartFacts c.pool code = subst (λ o. IfSome o (PartFacts c.pool)) e m.code in
+    let op : (j : ℕ) (o : RawOp) → slice_get code.code.ops j ≡ Some o → OpFacts c.pool code.code.ops code.code.length o = λ j o q. all_there (OpFacts c.pool code.code.ops code.code.length) code.code.ops j o f.code.each q in
+    record {
+      nested = λ j o q. makes_nested (setting cs) c.pool code.code.ops code.code.length o (op j o q);
+      sorts = λ j o q. calls_by_sort c.pool code.code.ops code.code.length o (op j o q);
+      caught = λ j r q. (all_there (HandlerFacts c.pool code.code) code.handlers j r f.handlers q).caught;
+      body = is_body (setting cs) c.pool code f;
+    }
+
+-- What linking answers is a linked program, where the first cycle is known at least if names differ and headings have no fault.
+pub linked_by : (cs : List ClassParts) (lines : TestLines) (cycle : Option ℕ) (p : Program) → length cs ≤ 1024 → All (λ c. grammar.IsClass c) cs → AreLines lines
+    → (duplicate_fault cs ≡ None → first_some (headings_fault (setting cs)) cs ≡ None → IsFirstCycle (skeleton cs) cycle) → link_by cycle cs lines ≡ Ok p → Linked p
 unfolding link_by
-linked_by cs lines cycle p few classes coded are first e =
+linked_by cs lines cycle p few classes are first e =
     let s = setting cs in
+    let known = known_from cs classes in
     let a = bound (unless (duplicate_fault cs)) _ p e in
     let b = bound (unless (first_some (headings_fault s) cs)) _ p a.2 in
     let c = bound (unless (cycle_fault cs cycle)) _ p b.2 in
     let d = bound (unless (all_references_fault s builtin_count cs)) _ p c.2 in
     let t = bound (tests_of s lines.budget [] lines.tests) (λ ts. Ok (program_of cs ts lines.files)) p d.2 in
     let q : program_of cs t.0 lines.files ≡ p = (let z : ◌≡◌ {A = Result Program LinkFault} (Ok (program_of cs t.0 lines.files)) (Ok p) = t.2 in cc) in
-    subst Linked q (program_linked cs t.0 lines.files (known_from cs classes) coded (unless_none (duplicate_fault cs) a.0 a.1) (unless_none (first_some (headings_fault s) cs) b.0 b.1)
-        (no_cycle cs cycle first (unless_none (cycle_fault cs cycle) c.0 c.1)) (unless_none (all_references_fault s builtin_count cs) d.0 d.1) lines are few t.1 refl)
+    let different = unless_none (duplicate_fault cs) a.0 a.1 in
+    let headed = unless_none (first_some (headings_fault s) cs) b.0 b.1 in
+    let acyclic = no_cycle cs cycle (first different headed) (unless_none (cycle_fault cs cycle) c.0 c.1) in
+    let resolved = unless_none (all_references_fault s builtin_count cs) d.0 d.1 in
+    subst Linked q (program_linked cs t.0 lines.files known (coded_from cs known) different headed acyclic resolved lines are few t.1 refl)
+
+-- the same, where it is known
+pub linked : (cs : List ClassParts) (lines : TestLines) (cycle : Option ℕ) (p : Program) → length cs ≤ 1024 → All (λ c. grammar.IsClass c) cs → AreLines lines → IsFirstCycle (skeleton cs) cycle → link_by cycle cs lines ≡ Ok p → Linked p
+linked cs lines cycle p few classes are first e = linked_by cs lines cycle p few classes are (λ _ _. first) e

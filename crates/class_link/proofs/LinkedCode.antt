@@ -1,8 +1,8 @@
 -- The instructions and handlers of linked bodies: their numbers name entries, what they name is of its kind, and members are
 -- those that the look-up finds.
-use Rattle.std.proofs.Common.{◌≡◌, ◌⊎◌, ℕ, zero, suc, ◌+◌, ◌<◌, ◌≤◌, List, [], ◌∷◌, length, map, get_or, slice_get, Bool, true, false, nat_eq, nat_le, cond, refl, sym, ◌∙◌, ap, subst, inl, inr, arith, Option, Some, None, IfSome, All}
+use Rattle.std.proofs.Common.{◌≡◌, ◌⊎◌, ℕ, ◌+◌, ◌<◌, List, [], length, get_or, slice_get, Bool, true, false, nat_eq, nat_le, cond, refl, sym, ◌∙◌, ap, subst, inl, inr, arith, Option, Some, None, IfSome, All}
 use Rattle.std.specs.Prelude.{option_map, unwrap_or, drop}
-use Rattle.std.proofs.lemmas.Bool.{cases_Bool, cond-true, cond-false, ne_eqb, eqb-true, eq-eqb}
+use Rattle.std.proofs.lemmas.Bool.{cases_Bool, cond-true, cond-false, eq-eqb}
 use Rattle.std.proofs.lemmas.List.Elements.{All-map}
 use Rattle.std.proofs.lemmas.Option.{slice_get-get_or}
 use Rattle.class_pool.specs.declared.pool.Entry.{Entry}
@@ -16,37 +16,34 @@ use Rattle.class_reader.specs.declared.parts.MemberPart.{MemberPart}
 use Rattle.class_reader.specs.declared.parts.CodePart.{CodePart}
 use Rattle.class_reader.specs.declared.parts.RawHandler.{RawHandler}
 use Rattle.et_base.specs.Names.{starts_array}
-use Rattle.jvm_model.specs.declared.values.Value.{Value}
 use Rattle.jvm_model.specs.declared.values.Value.TheVariants.{Int, Long, Null, Lit, Obj}
 use Rattle.jvm_model.specs.declared.values.Kind.{Kind}
 use Rattle.jvm_model.specs.declared.values.Kind.TheVariants as kind
-use Rattle.jvm_model.specs.declared.instr.Instr.TheVariants as form
 use Rattle.jvm_model.specs.declared.program.Program.{Program}
 use Rattle.jvm_model.specs.declared.program.Body.{Body}
 use Rattle.jvm_model.specs.declared.program.Placed.{Placed}
 use Rattle.jvm_model.specs.declared.program.Handler.{Handler}
 use Rattle.jvm_model.specs.declared.program.TestEntry.{TestEntry}
 use Rattle.jvm_model.specs.Builtin.{builtin_count, throwable_class}
-use Rattle.jvm_model.specs.Classes.{class_at, method_at, is_static, is_below}
+use Rattle.jvm_model.specs.Classes.{method_at, is_static, is_below}
 use Rattle.jvm_model.specs.Selection.{named_class}
 use Rattle.jvm_model.specs.Lookup.{find_method}
-use Rattle.jvm_model.specs.Linked.{IsClass, IsMethod, IsGiven, IsClassKind, NamesForm, NamesBody, IsFormKind, IsBodyKind, IsFormFound, IsBody, is_interface_at}
-use Rattle.class_link.specs.declared.references.Use.{Use}
+use Rattle.jvm_model.specs.Linked.{IsClass, NamesForm, NamesBody, IsFormKind, IsBodyKind, IsFormFound, IsBody, is_interface_at}
 use Rattle.class_link.specs.declared.references.Use.TheVariants as used
 use Rattle.class_link.specs.declared.references.Target.{Target}
 use Rattle.class_link.specs.declared.references.Target.TheVariants as target
 use Rattle.class_link.specs.ClassNames.{text_at, name_at, all_names, class_number, number_or_first, base_of, array_kind, kind_of}
 use Rattle.class_link.specs.Assembly.{skeleton}
-use Rattle.class_link.specs.References.{Setting, target_of, use_of, index_in, type_fits, fits}
+use Rattle.class_link.specs.References.{Setting, target_of, index_in, fits}
 use Rattle.class_link.specs.Forms.{form_of}
 use Rattle.class_link.specs.Bodies.{placed, caught, handler_rec, linked_body}
 use Rattle.class_link.specs.Faults.{all_references_fault, references_fault}
 use Rattle.class_link.specs.Link.{setting, program_of}
-use Rattle.class_link.proofs.Assembled.{class_count, holds_builtins}
+use Rattle.class_link.proofs.Assembled.{class_count}
 use Rattle.class_link.proofs.Numbered.{if_some, number_class}
 use Rattle.class_link.proofs.SkeletonFacts.{below_same}
-use Rattle.class_link.proofs.TargetFacts.{IsConstant, IsTarget, target_is}
-use Rattle.class_link.proofs.Referenced.{Has, Fitting, use_fits, op_used, handler_used, no_fault}
+use Rattle.class_link.proofs.TargetFacts.{IsTarget, target_is}
+use Rattle.class_link.proofs.Referenced.{use_fits, op_used, handler_used, no_fault}
 use Rattle.class_link.proofs.FitsAlike.{fits_same}
 use Rattle.class_link.proofs.FormFacts.{NamesTarget, FindsTarget, MakesNested, FitsUse, CallsBySort, OwnsStatics, names_form, found_form, kind_form}
 
@@ -100,7 +97,7 @@ class_kind names name d e = elim (cases_Bool (starts_array name)) [
     no_array : array_kind names name ≡ Some (kind.Class d) → class_number names name ≡ Some d
     no_array q = elim (cases_Bool (nat_le (dimensions name) 255)) [
       | inl l ↦ let m = mapped (λ b. kind.Array (dimensions name) b) (base_of names (drop (dimensions name) name)) (kind.Class d)
-            (sym (cond-true (nat_le (dimensions name) 255) (option_map (λ b. kind.Array (dimensions name) b) (base_of names (drop (dimensions name) name))) None l) ∙ q) in absurd (let z = m.2 in cc)
+          (sym (cond-true (nat_le (dimensions name) 255) (option_map (λ b. kind.Array (dimensions name) b) (base_of names (drop (dimensions name) name))) None l) ∙ q) in absurd (let z = m.2 in cc)
       | inr l ↦ absurd (let z = sym (cond-false (nat_le (dimensions name) 255) (option_map (λ b. kind.Array (dimensions name) b) (base_of names (drop (dimensions name) name))) None l) ∙ q in cc)
     ]
 

@@ -1,5 +1,5 @@
 -- Members are listed once, by their own classes, and names are in their forms.
-use Rattle.std.proofs.Common.{◌≡◌, ℕ, zero, suc, ◌+◌, ◌<◌, ◌≤◌, List, [], ◌∷◌, length, map, get_or, slice_get, Bool, true, false, ◌&&◌, nat_eq, nat_lt, cond, refl, sym, ◌∙◌, ap, subst, inl, inr, arith, Option, Some, None, IfSome, All}
+use Rattle.std.proofs.Common.{◌≡◌, ℕ, zero, suc, ◌+◌, ◌<◌, ◌≤◌, List, [], length, get_or, slice_get, Bool, true, false, nat_eq, nat_lt, refl, sym, ◌∙◌, ap, subst, inl, inr, arith, Option, Some, None, IfSome, All}
 use Rattle.std.specs.Prelude.{is_some, is_none, option_map, unwrap_or}
 use Rattle.std.specs.List.{list_all, range_with_len}
 use Rattle.std.proofs.lemmas.Bool.{and_parts, cases_order, or_cases, ltb-true, eqb-true, ne_eqb, eq-eqb}
@@ -7,9 +7,8 @@ use Rattle.std.proofs.lemmas.Option.{slice_get_within, get_or_from_slice_get}
 use Rattle.class_pool.specs.declared.pool.Entry.{Entry}
 use Rattle.class_pool.proofs.EntryFacts.{NamesText, units_are}
 use Rattle.class_reader.specs.declared.parts.ClassParts.{ClassParts}
-use Rattle.class_reader.specs.declared.parts.MemberPart.{MemberPart}
 use Rattle.class_reader.specs.declared.parts.CodePart.{CodePart}
-use Rattle.class_reader.proofs.ClassFacts.{OwnClass, ClassFacts, own_name_is}
+use Rattle.class_reader.proofs.ClassFacts.{ClassFacts, own_name_is}
 use Rattle.class_reader.proofs.MemberFacts.{FieldFacts, MethodFacts}
 use Rattle.et_base.specs.Names.{is_class_name, is_unqualified, is_method_name, is_field_descriptor, is_method_descriptor}
 use Rattle.jvm_model.specs.declared.program.Program.{Program}
@@ -24,14 +23,13 @@ use Rattle.jvm_model.specs.Library.{builtin_classes, builtin_fields, builtin_met
 use Rattle.jvm_model.specs.Classes.{class_at, field_at, method_at, no_class, no_field, no_method, is_static, clinit_name}
 use Rattle.jvm_model.specs.Driver.{no_arguments}
 use Rattle.jvm_model.specs.Linked.{IsClass, IsField, IsMethod, count, IsInitialiser, IsListed}
-use Rattle.jvm_model.proofs.BuiltinRules.{all_at, builtin_class, builtin_field, builtin_method, builtin_field_class, builtin_method_class, builtin_class_name, builtin_field_forms, builtin_method_forms, builtin_names}
-use Rattle.class_link.specs.ClassNames.{text_at, own_name, all_names}
-use Rattle.class_link.specs.Literals.{literals}
-use Rattle.class_link.specs.Assembly.{is_initialiser, initialiser_from, class_rec, field_rec, method_rec, assembled}
-use Rattle.class_link.proofs.Blocks.{At, at_place, before, Block}
-use Rattle.class_link.proofs.Assembled.{counts, own_fields, own_methods, Given, GivenMember, holds_builtins, class_given, field_given, method_given, class_cases, field_cases, method_cases}
+use Rattle.jvm_model.proofs.BuiltinRules.{all_at, builtin_class, builtin_field, builtin_method, builtin_class_name, builtin_field_forms, builtin_method_forms}
+use Rattle.class_link.specs.ClassNames.{text_at, own_name}
+use Rattle.class_link.specs.Assembly.{initialiser_from, method_rec, assembled}
+use Rattle.class_link.proofs.Blocks.{at_place, before}
+use Rattle.class_link.proofs.Assembled.{counts, own_fields, own_methods, holds_builtins, class_given, field_given, method_given, class_cases, field_cases, method_cases}
 use Rattle.class_link.proofs.Numbered.{units_true, if_some, all_range}
-use Rattle.class_link.proofs.Records.{initialiser_is, class_numbers, field_record, method_record}
+use Rattle.class_link.proofs.Records.{initialiser_is, field_record, method_record}
 use Rattle.class_link.proofs.Tables.{all_from_at, own_field, own_method, lists_own, classes_own, method_listed, methods_listed, field_listed, fields_listed, top}
 
 -- ---- a number stands once in a range
@@ -45,9 +43,9 @@ count_range n a zero h g = absurd (omega arith)
 count_range n a (suc k) h g = elim (cases_order n a) [
   | inl e ↦ let q : nat_eq n a ≡ true = eq-eqb n a e in rw q (ap suc (count_past n (a + 1) k (omega arith)))
   | inr o ↦ elim o [
-      | inl l ↦ absurd (omega arith)
-      | inr l ↦ let q : nat_eq n a ≡ false = ne_eqb n a (λ z. omega arith) in rw q (count_range n (a + 1) k (omega arith) (omega arith))
-    ]
+    | inl l ↦ absurd (omega arith)
+    | inr l ↦ let q : nat_eq n a ≡ false = ne_eqb n a (λ z. omega arith) in rw q (count_range n (a + 1) k (omega arith) (omega arith))
+  ]
 ]
 
 -- ---- facts of class files
@@ -130,17 +128,17 @@ module _ (body : ClassParts → CodePart → Body) (cs : List ClassParts) (tests
     | inl g ↦
         let q = and_parts (list_all (own_field c) (class_at p c).fields) _ (and_parts _ _ (table_class c g)).0 in
         λ k d l.
-          let f = get_or (class_at p c).fields k d in
-          let r = and_parts (nat_lt f 2) _ (all_at (own_field c) (class_at p c).fields k d q.0 l) in
-          ap (λ (y : FieldRec). y.class) (builtin_field p (holds_builtins body cs tests files) f (ltb-true f 2 r.0)) ∙ eqb-true _ c r.1
+        let f = get_or (class_at p c).fields k d in
+        let r = and_parts (nat_lt f 2) _ (all_at (own_field c) (class_at p c).fields k d q.0 l) in
+        ap (λ (y : FieldRec). y.class) (builtin_field p (holds_builtins body cs tests files) f (ltb-true f 2 r.0)) ∙ eqb-true _ c r.1
     | inr g ↦
         let own : All (λ f. (field_at p f).class ≡ builtin_count + g.index) (range_with_len (length builtin_fields + before own_fields cs g.index) (length g.parts.fields)) =
-            all_range (λ f. (field_at p f).class ≡ builtin_count + g.index) (length builtin_fields + before own_fields cs g.index) (length g.parts.fields) (λ k l.
-                let a = at_place g.parts.fields k l in
-                let z : (length builtin_fields + before own_fields cs g.index) + k ≡ length builtin_fields + (before own_fields cs g.index + k) = omega arith in
-                ap (λ (n : ℕ). (field_at p n).class) z ∙ ap (λ (y : FieldRec). y.class) (field_given body cs tests files g.index k g.parts a.item g.there a.there)) in
+        all_range (λ f. (field_at p f).class ≡ builtin_count + g.index) (length builtin_fields + before own_fields cs g.index) (length g.parts.fields) (λ k l.
+        let a = at_place g.parts.fields k l in
+        let z : (length builtin_fields + before own_fields cs g.index) + k ≡ length builtin_fields + (before own_fields cs g.index + k) = omega arith in
+        ap (λ (n : ℕ). (field_at p n).class) z ∙ ap (λ (y : FieldRec). y.class) (field_given body cs tests files g.index k g.parts a.item g.there a.there)) in
         subst (λ n. All (λ f. (field_at p f).class ≡ n) (class_at p n).fields) (sym g.number)
-            (subst (λ (y : ClassRec). All (λ f. (field_at p f).class ≡ builtin_count + g.index) y.fields) (sym (class_given body cs tests files g.index g.parts g.there)) own)
+        (subst (λ (y : ClassRec). All (λ f. (field_at p f).class ≡ builtin_count + g.index) y.fields) (sym (class_given body cs tests files g.index g.parts g.there)) own)
   ]
 
   own_methods_of : (c : ℕ) → IsClass p c → All (λ m. (method_at p m).class ≡ c) (class_at p c).methods
@@ -148,17 +146,17 @@ module _ (body : ClassParts → CodePart → Body) (cs : List ClassParts) (tests
     | inl g ↦
         let q = and_parts (list_all (own_field c) (class_at p c).fields) _ (and_parts _ _ (table_class c g)).0 in
         λ k d l.
-          let m = get_or (class_at p c).methods k d in
-          let r = and_parts (nat_lt m 102) _ (all_at (own_method c) (class_at p c).methods k d q.1 l) in
-          ap (λ (y : MethodRec). y.class) (builtin_method p (holds_builtins body cs tests files) m (ltb-true m 102 r.0)) ∙ eqb-true _ c r.1
+        let m = get_or (class_at p c).methods k d in
+        let r = and_parts (nat_lt m 102) _ (all_at (own_method c) (class_at p c).methods k d q.1 l) in
+        ap (λ (y : MethodRec). y.class) (builtin_method p (holds_builtins body cs tests files) m (ltb-true m 102 r.0)) ∙ eqb-true _ c r.1
     | inr g ↦
         let own : All (λ m. (method_at p m).class ≡ builtin_count + g.index) (range_with_len (length builtin_methods + before own_methods cs g.index) (length g.parts.methods)) =
-            all_range (λ m. (method_at p m).class ≡ builtin_count + g.index) (length builtin_methods + before own_methods cs g.index) (length g.parts.methods) (λ k l.
-                let a = at_place g.parts.methods k l in
-                let z : (length builtin_methods + before own_methods cs g.index) + k ≡ length builtin_methods + (before own_methods cs g.index + k) = omega arith in
-                ap (λ (n : ℕ). (method_at p n).class) z ∙ ap (λ (y : MethodRec). y.class) (method_given body cs tests files g.index k g.parts a.item g.there a.there)) in
+        all_range (λ m. (method_at p m).class ≡ builtin_count + g.index) (length builtin_methods + before own_methods cs g.index) (length g.parts.methods) (λ k l.
+        let a = at_place g.parts.methods k l in
+        let z : (length builtin_methods + before own_methods cs g.index) + k ≡ length builtin_methods + (before own_methods cs g.index + k) = omega arith in
+        ap (λ (n : ℕ). (method_at p n).class) z ∙ ap (λ (y : MethodRec). y.class) (method_given body cs tests files g.index k g.parts a.item g.there a.there)) in
         subst (λ n. All (λ m. (method_at p m).class ≡ n) (class_at p n).methods) (sym g.number)
-            (subst (λ (y : ClassRec). All (λ m. (method_at p m).class ≡ builtin_count + g.index) y.methods) (sym (class_given body cs tests files g.index g.parts g.there)) own)
+        (subst (λ (y : ClassRec). All (λ m. (method_at p m).class ≡ builtin_count + g.index) y.methods) (sym (class_given body cs tests files g.index g.parts g.there)) own)
   ]
 
   -- ---- names
@@ -180,7 +178,7 @@ module _ (body : ClassParts → CodePart → Body) (cs : List ClassParts) (tests
         let o = g.of in
         let x : FieldFacts o.parts.pool o.member = all_there (FieldFacts o.parts.pool) o.parts.fields o.index o.member (known o.class o.parts o.has_class).fields.each o.has_member in
         subst (λ (y : FieldRec). (is_unqualified y.name ≡ true) × (is_field_descriptor y.descriptor ≡ true)) (sym (field_record body cs tests files f g))
-            (text_fits is_unqualified o.parts.pool o.member.name x.name, text_fits is_field_descriptor o.parts.pool o.member.descriptor x.descriptor)
+        (text_fits is_unqualified o.parts.pool o.member.name x.name, text_fits is_field_descriptor o.parts.pool o.member.descriptor x.descriptor)
   ]
 
   named_method : (m : ℕ) → IsMethod p m → (is_method_name (method_at p m).name ≡ true) × (is_method_descriptor (method_at p m).descriptor ≡ true)
@@ -190,7 +188,7 @@ module _ (body : ClassParts → CodePart → Body) (cs : List ClassParts) (tests
         let o = g.of in
         let x : MethodFacts o.parts.pool o.member = all_there (MethodFacts o.parts.pool) o.parts.methods o.index o.member (known o.class o.parts o.has_class).methods.each o.has_member in
         subst (λ (y : MethodRec). (is_method_name y.name ≡ true) × (is_method_descriptor y.descriptor ≡ true)) (sym (method_record body cs tests files m g))
-            (text_fits is_method_name o.parts.pool o.member.name x.name, text_fits is_method_descriptor o.parts.pool o.member.descriptor x.descriptor)
+        (text_fits is_method_name o.parts.pool o.member.name x.name, text_fits is_method_descriptor o.parts.pool o.member.descriptor x.descriptor)
   ]
 
   -- ---- superclasses, initialisers and built-in methods
@@ -198,9 +196,9 @@ module _ (body : ClassParts → CodePart → Body) (cs : List ClassParts) (tests
   root_is : (c : ℕ) → IsClass p c → (class_at p c).superclass ≡ None → c ≡ object_class
   root_is c h e = elim (class_cases body cs tests files c h) [
     | inl g ↦ elim (or_cases (is_some (class_at p c).superclass) (nat_eq c 0) (and_parts _ _ (and_parts _ _ (table_class c g)).1).1) [
-        | inl s ↦ absurd (let z : is_some (class_at p c).superclass ≡ false = rw e refl in cc)
-        | inr z ↦ eqb-true c 0 z
-      ]
+      | inl s ↦ absurd (let z : is_some (class_at p c).superclass ≡ false = rw e refl in cc)
+      | inr z ↦ eqb-true c 0 z
+    ]
     | inr g ↦
         let s : (class_at p c).superclass ≡ Some _ = ap (λ (n : ℕ). (class_at p n).superclass) g.number ∙ ap (λ (y : ClassRec). y.superclass) (class_given body cs tests files g.index g.parts g.there) in
         absurd (cc)
@@ -235,8 +233,8 @@ module _ (body : ClassParts → CodePart → Body) (cs : List ClassParts) (tests
     | inl g ↦ no_value (class_at p c).initialiser (λ m. IsInitialiser p c m) (and_parts _ _ (and_parts _ _ (table_class c g)).1).0
     | inr g ↦
         subst (λ n. IfSome (class_at p n).initialiser (λ m. IsInitialiser p n m)) (sym g.number)
-            (subst (λ (y : ClassRec). IfSome y.initialiser (λ m. IsInitialiser p (builtin_count + g.index) m)) (sym (class_given body cs tests files g.index g.parts g.there))
-                (if_some (λ m. IsInitialiser p (builtin_count + g.index) m) (initialiser_from (length builtin_methods + before own_methods cs g.index) g.parts.pool g.parts.methods) (initialiser_made g.index g.parts g.there)))
+        (subst (λ (y : ClassRec). IfSome y.initialiser (λ m. IsInitialiser p (builtin_count + g.index) m)) (sym (class_given body cs tests files g.index g.parts g.there))
+        (if_some (λ m. IsInitialiser p (builtin_count + g.index) m) (initialiser_from (length builtin_methods + before own_methods cs g.index) g.parts.pool g.parts.methods) (initialiser_made g.index g.parts g.there)))
   ]
     where
       no_value : (o : Option ℕ) (Q : ℕ → Type 0) → is_none o ≡ true → IfSome o Q

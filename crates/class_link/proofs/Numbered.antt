@@ -1,9 +1,9 @@
 -- Names to numbers: a class's number names an entry of the program, and that entry has the name.
-use Rattle.std.proofs.Common.{◌≡◌, ◌⊎◌, ℕ, zero, suc, ◌+◌, ◌<◌, ◌≤◌, List, [], ◌∷◌, ◌++◌, length, map, filter, get_or, slice_get, Bool, true, false, ◌&&◌, nat_eq, refl, sym, ◌∙◌, ap, subst, inl, inr, arith, Option, Some, None, IfSome, All}
-use Rattle.std.specs.Prelude.{flat_map, option_and_then, unwrap_or, position}
+use Rattle.std.proofs.Common.{◌≡◌, ℕ, zero, suc, ◌+◌, ◌<◌, List, [], ◌∷◌, ◌++◌, length, map, get_or, true, nat_eq, refl, sym, ◌∙◌, ap, subst, arith, Option, Some, None, IfSome, All}
+use Rattle.std.specs.Prelude.{flat_map, option_and_then, unwrap_or}
 use Rattle.std.specs.List.{range_with_len}
 use Rattle.std.proofs.lemmas.Bool.{and_parts, eqb-true, eq-eqb}
-use Rattle.std.proofs.lemmas.List.{length-append, length-map, map-append}
+use Rattle.std.proofs.lemmas.List.{length-map, map-append}
 use Rattle.std.proofs.lemmas.List.Elements.{All-nil, All-cons, All-head, All-tail, All-append, All-filter, All-from_get_or}
 use Rattle.std.proofs.lemmas.List.FromFn.{length-range_with_len, get_or-range_with_len}
 use Rattle.std.proofs.lemmas.List.Quantifiers.{position-Some}
@@ -14,7 +14,6 @@ use Rattle.jvm_model.specs.declared.program.Body.{Body}
 use Rattle.jvm_model.specs.declared.program.ClassRec.{ClassRec}
 use Rattle.jvm_model.specs.declared.program.TestEntry.{TestEntry}
 use Rattle.jvm_model.specs.World.{same_units}
-use Rattle.jvm_model.specs.Builtin.{builtin_count}
 use Rattle.jvm_model.specs.Library.{builtin_classes, builtin_fields, builtin_methods}
 use Rattle.jvm_model.specs.Classes.{class_at, no_class, first_mentions}
 use Rattle.jvm_model.specs.Linked.{IsClass}

@@ -1,12 +1,12 @@
 -- Fields open with values of their types.
-use Rattle.std.proofs.Common.{◌≡◌, ◌⊎◌, ℕ, zero, suc, ◌+◌, ◌<◌, ◌≤◌, ◌-◌, ◌%◌, ℤ, pos, negsuc, List, [], ◌∷◌, ◌++◌, length, drop, get_or, slice_get, Bool, true, false, not, ◌&&◌, ◌||◌, nat_eq, nat_le, nat_lt, cond, refl, sym, ◌∙◌, ap, subst, inl, inr, arith, Option, Some, None, IfSome, codes}
-use Rattle.std.specs.Prelude.{position, option_and_then, unwrap_or, FitsSigned, int_le, int_lt}
-use Rattle.std.proofs.lemmas.Bool.{cases_Bool, or_cases, and_from, eqb-true, ne_eqb, lt-ltb, le-leb, cond-true, cond-false}
+use Rattle.std.proofs.Common.{◌≡◌, ℕ, suc, ◌<◌, ◌≤◌, ◌-◌, ◌%◌, ℤ, pos, negsuc, List, [], ◌∷◌, length, slice_get, true, false, ◌&&◌, nat_eq, nat_le, nat_lt, refl, sym, ◌∙◌, ap, subst, inl, inr, arith, Option, Some, None, IfSome, codes}
+use Rattle.std.specs.Prelude.{FitsSigned, int_le, int_lt}
+use Rattle.std.proofs.lemmas.Bool.{cases_Bool, or_cases, and_from, eqb-true, ne_eqb, lt-ltb, le-leb}
 use Rattle.std.specs.Int.{w8, w16, int_wrap, int_rem_euclid}
 use Rattle.std.proofs.lemmas.Int.{ints, SFits-int_wrap}
 use Rattle.et_base.specs.Numbers.{i2b, i2s, i2c}
 use Rattle.jvm_model.specs.Narrow.{narrow_int, narrow, narrowed}
-use Rattle.et_base.specs.Names.{is_base, after_class, after_element, after_type, ends, is_field_descriptor}
+use Rattle.et_base.specs.Names.{is_base, after_element, after_type, ends, is_field_descriptor}
 use Rattle.std.proofs.lemmas.Slice.Eq.{bytes_eq-Decides}
 use Rattle.class_pool.specs.declared.pool.Entry.{Entry}
 use Rattle.class_pool.specs.declared.pool.Entry.TheVariants as entry
@@ -20,8 +20,7 @@ use Rattle.class_reader.proofs.MemberFacts.{FieldFacts}
 use Rattle.jvm_model.specs.declared.program.FieldRec.{FieldRec}
 use Rattle.jvm_model.specs.declared.program.Body.{Body}
 use Rattle.jvm_model.specs.declared.program.TestEntry.{TestEntry}
-use Rattle.jvm_model.specs.declared.values.Value.{Value}
-use Rattle.jvm_model.specs.declared.values.Value.TheVariants.{Int, Long, Null, Lit, Obj}
+use Rattle.jvm_model.specs.declared.values.Value.TheVariants.{Int, Lit}
 use Rattle.jvm_model.specs.declared.program.Program.{Program}
 use Rattle.jvm_model.specs.Classes.{member, is_static, default_of}
 use Rattle.jvm_model.specs.Linked.{fits_int, opens, HasOpenings}
@@ -40,24 +39,24 @@ use Rattle.class_link.proofs.Pools.{literal_within}
 base_opens : (p : Program) (u : ℕ) (us : List ℕ) → is_base u ≡ true → opens p (u ∷ us) (default_of (u ∷ us)) ≡ true
 base_opens p u us h = elim (or_cases _ (nat_eq u 90) h) [
   | inl h ↦ elim (or_cases _ (nat_eq u 83) h) [
-      | inl h ↦ elim (or_cases _ (nat_eq u 74) h) [
-          | inl h ↦ elim (or_cases _ (nat_eq u 73) h) [
-              | inl h ↦ elim (or_cases _ (nat_eq u 70) h) [
-                  | inl h ↦ elim (or_cases _ (nat_eq u 68) h) [
-                      | inl h ↦ elim (or_cases _ (nat_eq u 67) h) [
-                          | inl h ↦ let q = eqb-true u 66 h in rw q refl
-                          | inr e ↦ let q = eqb-true u 67 e in rw q refl
-                        ]
-                      | inr e ↦ let q = eqb-true u 68 e in rw q refl
-                    ]
-                  | inr e ↦ let q = eqb-true u 70 e in rw q refl
-                ]
-              | inr e ↦ let q = eqb-true u 73 e in rw q refl
+    | inl h ↦ elim (or_cases _ (nat_eq u 74) h) [
+      | inl h ↦ elim (or_cases _ (nat_eq u 73) h) [
+        | inl h ↦ elim (or_cases _ (nat_eq u 70) h) [
+          | inl h ↦ elim (or_cases _ (nat_eq u 68) h) [
+            | inl h ↦ elim (or_cases _ (nat_eq u 67) h) [
+              | inl h ↦ let q = eqb-true u 66 h in rw q refl
+              | inr e ↦ let q = eqb-true u 67 e in rw q refl
             ]
-          | inr e ↦ let q = eqb-true u 74 e in rw q refl
+            | inr e ↦ let q = eqb-true u 68 e in rw q refl
+          ]
+          | inr e ↦ let q = eqb-true u 70 e in rw q refl
         ]
-      | inr e ↦ let q = eqb-true u 83 e in rw q refl
+        | inr e ↦ let q = eqb-true u 73 e in rw q refl
+      ]
+      | inr e ↦ let q = eqb-true u 74 e in rw q refl
     ]
+    | inr e ↦ let q = eqb-true u 83 e in rw q refl
+  ]
   | inr e ↦ let q = eqb-true u 90 e in rw q refl
 ]
 
@@ -66,9 +65,9 @@ unfolding after_element
 element_opens p u us h = elim (cases_Bool (is_base u)) [
   | inl b ↦ base_opens p u us b
   | inr b ↦ elim (cases_Bool (nat_eq u 76)) [
-      | inl e ↦ let q = eqb-true u 76 e in rw q refl
-      | inr e ↦ let z : ends (after_element (u ∷ us)) ≡ false = rw (after_element, b, e) refl in absurd (cc)
-    ]
+    | inl e ↦ let q = eqb-true u 76 e in rw q refl
+    | inr e ↦ let z : ends (after_element (u ∷ us)) ≡ false = rw (after_element, b, e) refl in absurd (cc)
+  ]
 ]
 
 -- each type's default opens its fields
@@ -106,18 +105,18 @@ unfolding i2b i2s i2c
 narrowed_fits u n h = elim (or_cases (nat_eq u 66) _ h) [
   | inl e ↦ let q = eqb-true u 66 e in rw q (byte_fits (int_wrap w8 n) (SFits-int_wrap w8 n))
   | inr h ↦ elim (or_cases (nat_eq u 67) _ h) [
-      | inl e ↦ let q = eqb-true u 67 e in rw q (remainder_fits n 65536 (omega arith))
-      | inr h ↦ elim (or_cases (nat_eq u 73) _ h) [
-          | inl e ↦ let q = eqb-true u 73 e in rw q refl
-          | inr h ↦ elim (or_cases (nat_eq u 83) _ h) [
-              | inl e ↦ let q = eqb-true u 83 e in rw q (short_fits (int_wrap w16 n) (SFits-int_wrap w16 n))
-              | inr h ↦ elim (or_cases (nat_eq u 90) false h) [
-                  | inl e ↦ let q = eqb-true u 90 e in rw q (remainder_fits n 2 (omega arith))
-                  | inr e ↦ absurd (cc)
-                ]
-            ]
+    | inl e ↦ let q = eqb-true u 67 e in rw q (remainder_fits n 65536 (omega arith))
+    | inr h ↦ elim (or_cases (nat_eq u 73) _ h) [
+      | inl e ↦ let q = eqb-true u 73 e in rw q refl
+      | inr h ↦ elim (or_cases (nat_eq u 83) _ h) [
+        | inl e ↦ let q = eqb-true u 83 e in rw q (short_fits (int_wrap w16 n) (SFits-int_wrap w16 n))
+        | inr h ↦ elim (or_cases (nat_eq u 90) false h) [
+          | inl e ↦ let q = eqb-true u 90 e in rw q (remainder_fits n 2 (omega arith))
+          | inr e ↦ absurd (cc)
         ]
+      ]
     ]
+  ]
 ]
 
 texts_are : (units text : List ℕ) → is_text_of text (Some (Utf8 units)) ≡ true → units ≡ text
@@ -131,15 +130,15 @@ small_opens : (p : Program) (units : List ℕ) (n : ℤ) → is_small (Some (Utf
 small_opens p units n h = elim (or_cases _ (is_text_of (codes "Z") (Some (Utf8 units))) h) [
   | inr e ↦ small_units 90 p units n refl (texts_are units (codes "Z") e)
   | inl h ↦ elim (or_cases _ (is_text_of (codes "B") (Some (Utf8 units))) h) [
-      | inr e ↦ small_units 66 p units n refl (texts_are units (codes "B") e)
-      | inl h ↦ elim (or_cases _ (is_text_of (codes "C") (Some (Utf8 units))) h) [
-          | inr e ↦ small_units 67 p units n refl (texts_are units (codes "C") e)
-          | inl h ↦ elim (or_cases _ (is_text_of (codes "S") (Some (Utf8 units))) h) [
-              | inr e ↦ small_units 83 p units n refl (texts_are units (codes "S") e)
-              | inl e ↦ small_units 73 p units n refl (texts_are units (codes "I") e)
-            ]
-        ]
+    | inr e ↦ small_units 66 p units n refl (texts_are units (codes "B") e)
+    | inl h ↦ elim (or_cases _ (is_text_of (codes "C") (Some (Utf8 units))) h) [
+      | inr e ↦ small_units 67 p units n refl (texts_are units (codes "C") e)
+      | inl h ↦ elim (or_cases _ (is_text_of (codes "S") (Some (Utf8 units))) h) [
+        | inr e ↦ small_units 83 p units n refl (texts_are units (codes "S") e)
+        | inl e ↦ small_units 73 p units n refl (texts_are units (codes "I") e)
+      ]
     ]
+  ]
 ]
 
 string_opens : (p : Program) (units : List ℕ) (n : ℕ) → suc n ≤ length p.literals → units ≡ codes "Ljava/lang/String;" → opens p units (Lit (suc n)) ≡ true
@@ -175,7 +174,7 @@ module _ (body : ClassParts → CodePart → Body) (cs : List ClassParts) (tests
       let e = text_is is_field_descriptor c.pool x.descriptor t in
       let q : fits_constant (Some (Utf8 t.units)) (entry_of c.pool k) ≡ true = subst (λ (d : Option Entry). fits_constant d (entry_of c.pool k) ≡ true) t.entry g in
       subst (λ us. opens p us (constant_opening (literals cs) c.pool us (entry_of c.pool k)) ≡ true) (sym e)
-          (constant_opens p (literals cs) c.pool t.units (entry_of c.pool k) t.fits (λ text s. literal_is i c k text h s) q)
+      (constant_opens p (literals cs) c.pool t.units (entry_of c.pool k) t.fits (λ text s. literal_is i c k text h s) q)
 
   opening_fits : (i : ℕ) (c : ClassParts) → slice_get cs i ≡ Some c → (x : MemberPart) → FieldFacts c.pool x → opens p (text_at c.pool x.descriptor) (opening (literals cs) c.pool x) ≡ true
   unfolding opening

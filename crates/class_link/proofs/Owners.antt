@@ -1,6 +1,6 @@
 -- A static method of an interface is found from an interface alone.
-use Rattle.std.proofs.Common.{◌≡◌, ◌⊎◌, ℕ, zero, suc, ◌+◌, ◌<◌, ◌≤◌, List, [], ◌∷◌, ◌++◌, length, filter, Bool, true, false, not, ◌&&◌, nat_lt, cond, refl, sym, ◌∙◌, ap, subst, inl, inr, arith, Option, Some, None, IfSome, All}
-use Rattle.std.specs.Prelude.{find, flat_map}
+use Rattle.std.proofs.Common.{◌≡◌, ℕ, zero, suc, ◌<◌, ◌≤◌, List, [], ◌∷◌, length, filter, Bool, true, false, not, ◌&&◌, nat_lt, refl, sym, ap, subst, inl, inr, Option, Some, None, IfSome, All}
+use Rattle.std.specs.Prelude.{flat_map}
 use Rattle.std.specs.List.{list_all}
 use Rattle.std.proofs.lemmas.Bool.{cases_Bool, cases_lt, and_parts, not-true, ltb-true}
 use Rattle.std.proofs.lemmas.List.{get_or_past}
@@ -12,11 +12,11 @@ use Rattle.jvm_model.specs.Builtin.{builtin_count, object_class}
 use Rattle.jvm_model.specs.Library.{builtin_defs, builtin_classes}
 use Rattle.jvm_model.specs.Classes.{class_at, method_at, no_class, is_private, is_static, is_interface, class_bound, upwards_in, upwards, first_mentions, init_name}
 use Rattle.jvm_model.specs.Selection.{kept_of, has_code}
-use Rattle.jvm_model.specs.Lookup.{is_method, superinterfaces, interface_methods, find_in_interfaces, or_else, find_declared, find_in_object, find_method}
-use Rattle.jvm_model.specs.Linked.{IsClass, IsMethod, IsGiven, HoldsBuiltins, is_interface_at, IsClassKind}
+use Rattle.jvm_model.specs.Lookup.{is_method, superinterfaces, interface_methods, find_in_interfaces, find_declared, find_in_object, find_method}
+use Rattle.jvm_model.specs.Linked.{IsClass, IsGiven, HoldsBuiltins, is_interface_at, IsClassKind}
 use Rattle.jvm_model.proofs.BuiltinRules.{class_keeps}
 use Rattle.class_link.proofs.Numbered.{all_mentions}
-use Rattle.class_link.proofs.Found.{found, one_of, or_else_cases, nothing_past}
+use Rattle.class_link.proofs.Found.{found, one_of, or_else_cases}
 
 -- ---- the built-in classes are no interfaces, and neither are those above them
 
@@ -49,9 +49,9 @@ module _ (p : Program) (holds : HoldsBuiltins p) (kinds : (c : ℕ) → IsGiven 
         let w = within_some (class_at p c).superclass d a.1 e in
         not-true _ (and_parts (not (is_interface (class_at p d).flags)) _ (class_keeps p holds plain_class plain_classes d w)).0
     | inr g ↦ elim (cases_lt c (length p.classes)) [
-        | inl l ↦ subst (λ o. IfSome o (λ n. is_interface_at p n ≡ false)) e (kinds c (g, l)).superclass
-        | inr l ↦ absurd (let z : (class_at p c).superclass ≡ None = ap (λ (r : ClassRec). r.superclass) (nothing_at c l) in cc)
-      ]
+      | inl l ↦ subst (λ o. IfSome o (λ n. is_interface_at p n ≡ false)) e (kinds c (g, l)).superclass
+      | inr l ↦ absurd (let z : (class_at p c).superclass ≡ None = ap (λ (r : ClassRec). r.superclass) (nothing_at c l) in cc)
+    ]
   ]
     where
       nothing_at : (c : ℕ) → length p.classes ≤ c → class_at p c ≡ no_class
@@ -110,10 +110,10 @@ module _ (p : Program) (holds : HoldsBuiltins p) (kinds : (c : ℕ) → IsGiven 
   static_owner c name descriptor m e s i = elim (cases_Bool (same_units name init_name)) [
     | inl t ↦ subst (λ n. is_interface_at p n ≡ true) (own_declared name descriptor c m (rw t at e)) i
     | inr t ↦ elim (cases_Bool (is_interface (class_at p c).flags)) [
-        | inl l ↦ l
-        | inr l ↦ elim (or_else_cases _ _ m (rw (t, l) at e)) [
-            | inl q ↦ not_both _ i (plain_declared name descriptor (upwards p c) m (upwards_plain class_bound c l) q)
-            | inr q ↦ not_both _ s (interfaces_dynamic c name descriptor m q)
-          ]
+      | inl l ↦ l
+      | inr l ↦ elim (or_else_cases _ _ m (rw (t, l) at e)) [
+        | inl q ↦ not_both _ i (plain_declared name descriptor (upwards p c) m (upwards_plain class_bound c l) q)
+        | inr q ↦ not_both _ s (interfaces_dynamic c name descriptor m q)
       ]
+    ]
   ]

@@ -1,5 +1,5 @@
 -- Each number in a record of a class, a field or a method names an entry.
-use Rattle.std.proofs.Common.{◌≡◌, ℕ, zero, suc, ◌+◌, ◌<◌, List, [], ◌∷◌, length, map, slice_get, Bool, true, false, cond, refl, sym, ◌∙◌, ap, subst, inl, inr, arith, Option, Some, None, IfSome, All}
+use Rattle.std.proofs.Common.{◌≡◌, ℕ, suc, ◌+◌, ◌<◌, List, [], ◌∷◌, length, slice_get, true, refl, sym, ◌∙◌, ap, subst, inl, inr, arith, Option, Some, All}
 use Rattle.std.specs.Prelude.{flat_map}
 use Rattle.std.proofs.lemmas.Bool.{cases_Bool, cond-true, cond-false}
 use Rattle.std.proofs.lemmas.List.Elements.{All-map, All-nil}
@@ -10,7 +10,6 @@ use Rattle.class_reader.specs.declared.parts.ClassParts.{ClassParts}
 use Rattle.class_reader.specs.declared.parts.MemberPart.{MemberPart}
 use Rattle.class_reader.specs.declared.parts.CodePart.{CodePart}
 use Rattle.jvm_model.specs.declared.program.Program.{Program}
-use Rattle.jvm_model.specs.declared.program.ClassRec.{ClassRec}
 use Rattle.jvm_model.specs.declared.program.FieldRec.{FieldRec}
 use Rattle.jvm_model.specs.declared.program.MethodRec.{MethodRec}
 use Rattle.jvm_model.specs.declared.program.Body.{Body}
@@ -22,9 +21,9 @@ use Rattle.jvm_model.specs.Linked.{IsClass, IsField, IsMethod, NamesClass}
 use Rattle.jvm_model.proofs.BuiltinRules.{builtin_names, builtin_field_class, builtin_method_class}
 use Rattle.class_link.specs.ClassNames.{text_at, name_at, all_names, class_number, number_or_first, needed_class}
 use Rattle.class_link.specs.Literals.{literals}
-use Rattle.class_link.specs.Assembly.{mentioned_by, mentions, is_initialiser, initialiser_from, class_rec, field_rec, method_rec, assembled}
-use Rattle.class_link.proofs.Blocks.{At, at_place, before, Block}
-use Rattle.class_link.proofs.Assembled.{own_fields, own_methods, Given, GivenMember, holds_builtins, class_given, field_given, method_given, class_cases, field_cases, method_cases, given_class_is, given_field_is, given_method_is}
+use Rattle.class_link.specs.Assembly.{mentioned_by, is_initialiser, initialiser_from, class_rec, field_rec, method_rec, assembled}
+use Rattle.class_link.proofs.Blocks.{at_place, before}
+use Rattle.class_link.proofs.Assembled.{own_fields, own_methods, GivenMember, holds_builtins, class_given, field_given, method_given, class_cases, field_cases, method_cases, given_class_is, given_field_is, given_method_is}
 use Rattle.class_link.proofs.Numbered.{if_some, all_range, all_flat, all_mentions, all_to_list, and_then_some, number_class, number_class_some}
 
 -- the initialiser's number is that of a method which is one

@@ -1,25 +1,22 @@
 -- Where references have no fault, what an entry stands for fits each use of it.
-use Rattle.std.proofs.Common.{◌≡◌, ℕ, zero, suc, ◌+◌, ◌-◌, ◌<◌, ◌≤◌, List, [], ◌∷◌, ◌++◌, length, slice_get, Bool, true, false, ◌&&◌, nat_eq, cond, refl, sym, ◌∙◌, ap, subst, inl, inr, arith, Option, Some, None}
+use Rattle.std.proofs.Common.{◌≡◌, ℕ, zero, suc, ◌+◌, ◌-◌, List, [], ◌∷◌, ◌++◌, length, slice_get, Bool, true, false, nat_eq, cond, refl, sym, ◌∙◌, ap, subst, arith, Option, Some, None}
 use Rattle.std.specs.Prelude.{flat_map}
 use Rattle.std.specs.List.{list_all}
-use Rattle.std.proofs.lemmas.Bool.{cases_Bool, and_parts, eq-eqb}
+use Rattle.std.proofs.lemmas.Bool.{and_parts, eq-eqb}
 use Rattle.class_pool.specs.declared.pool.Entry.{Entry}
-use Rattle.class_pool.specs.Pool.{entry_of, is_class}
+use Rattle.class_pool.specs.Pool.{entry_of}
 use Rattle.code_decode.specs.declared.instructions.RawOp.{RawOp}
 use Rattle.class_reader.specs.declared.parts.ClassParts.{ClassParts}
 use Rattle.class_reader.specs.declared.parts.MemberPart.{MemberPart}
 use Rattle.class_reader.specs.declared.parts.CodePart.{CodePart}
 use Rattle.class_reader.specs.declared.parts.RawHandler.{RawHandler}
-use Rattle.jvm_model.specs.declared.program.Program.{Program}
-use Rattle.jvm_model.specs.Builtin.{builtin_count}
-use Rattle.class_link.specs.declared.fault.LinkFault.{LinkFault}
 use Rattle.class_link.specs.declared.references.Use.{Use}
 use Rattle.class_link.specs.declared.references.Use.TheVariants as used
 use Rattle.class_link.specs.declared.references.Target.{Target}
 use Rattle.class_link.specs.References.{Setting, target_of, missing_for, use_of, index_in, op_use, handler_use, code_uses, uses, fits}
-use Rattle.class_link.specs.Faults.{first_some, indices, uses_at, all_fit, missing_or, wrong_unless, target_fault, entry_fault, references_fault, all_references_fault}
+use Rattle.class_link.specs.Faults.{indices, uses_at, all_fit, target_fault, entry_fault, references_fault, all_references_fault}
 use Rattle.class_link.proofs.Blocks.{left_place, right_place}
-use Rattle.class_link.proofs.Pools.{some_or, none_both, first_none}
+use Rattle.class_link.proofs.Pools.{none_both, first_none}
 use Rattle.class_link.proofs.ClassKinds.{index_listed, not_missing, not_wrong}
 
 -- ---- what stands in a list

@@ -1,10 +1,10 @@
 -- Each test of a linked program is one.
-use Rattle.std.proofs.Common.{◌≡◌, ℕ, zero, suc, ◌+◌, ◌<◌, ◌≤◌, List, [], ◌∷◌, ◌++◌, length, Bool, true, false, not, ◌&&◌, ◌||◌, nat_eq, nat_le, cond, refl, sym, ◌∙◌, ap, subst, inl, inr, arith, Option, Some, None, Result, Ok, Err, All}
+use Rattle.std.proofs.Common.{◌≡◌, ℕ, suc, ◌+◌, ◌<◌, ◌≤◌, List, [], ◌∷◌, ◌++◌, length, true, false, ◌||◌, nat_eq, nat_le, cond, refl, sym, ◌∙◌, ap, subst, inl, inr, arith, Option, Some, None, Result, Ok, Err, All}
 use Rattle.std.specs.Prelude.{is_some, option_and_then}
 use Rattle.std.specs.List.{list_all}
 use Rattle.std.proofs.lemmas.Bool.{cases_Bool, and_parts, or_cases, not-true, leb-true, cond-true, cond-false}
 use Rattle.std.proofs.lemmas.List.{length_push}
-use Rattle.std.proofs.lemmas.List.Elements.{All-nil, All-push}
+use Rattle.std.proofs.lemmas.List.Elements.{All-push}
 use Rattle.class_reader.specs.declared.parts.ClassParts.{ClassParts}
 use Rattle.class_reader.specs.declared.parts.CodePart.{CodePart}
 use Rattle.jvm_model.specs.declared.program.Program.{Program}
@@ -16,7 +16,7 @@ use Rattle.jvm_model.specs.Suite.{suite_limit}
 use Rattle.jvm_model.specs.Classes.{class_at, method_at, is_static, is_abstract, is_interface, init_name, upwards}
 use Rattle.jvm_model.specs.RowsCreate.{is_bare}
 use Rattle.jvm_model.specs.Driver.{no_arguments, plain_method_in}
-use Rattle.jvm_model.specs.Linked.{IsClass, IsMethod, is_word, test_method, IsTest}
+use Rattle.jvm_model.specs.Linked.{IsMethod, is_word, test_method, IsTest}
 use Rattle.class_link.specs.declared.fault.LinkFault.{LinkFault}
 use Rattle.class_link.specs.declared.fault.LinkFault.TheVariants as fault
 use Rattle.class_link.specs.declared.lines.TestLine.{TestLine}
