@@ -37,5 +37,4 @@ pub mod LinkedCode
 pub mod LinkLaw
 pub mod ShapeFacts
 pub mod BodyFacts
-pub mod CodeLaw
 pub mod LinkSteps

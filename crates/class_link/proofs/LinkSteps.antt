@@ -1,7 +1,6 @@
 -- Linking step by step.
 use Rattle.std.proofs.Common.{◌≡◌, ◌⊎◌, ℕ, zero, suc, ◌+◌, ◌<◌, ◌≤◌, ◌^◌, List, [], ◌∷◌, length, take, drop, Option, Some, None, Result, Ok, Err, refl, sym, ap, subst, ◌∙◌, arith, inl, inr, All}
-use Rattle.std.specs.Prelude.{IfErr, OnOk}
-use Rattle.std.specs.List.{AllByRecursion}
+use Rattle.std.specs.Result.{IsErrAnd}
 use Rattle.class_reader.specs.declared.parts.ClassParts.{ClassParts}
 use Rattle.jvm_model.specs.declared.program.Program.{Program}
 use Rattle.jvm_model.specs.declared.program.TestEntry.{TestEntry}
@@ -57,6 +56,11 @@ unless_some (Some g) f e h = absurd cc
 unless_tt : (o : Option LinkFault) (u : Unit {0}) → unless o ≡ Ok u → unless o ≡ Ok tt
 unless_tt None u e = refl
 unless_tt (Some g) u e = absurd cc
+
+-- an answer that passes a fault on
+pub passes_on : (cs : List ClassParts) (lines : TestLines) (result : Result Program LinkFault) (f : LinkFault) → IsErrAnd result (λ x. x ≡ f) → Links cs lines (Err f) → Links cs lines result
+passes_on cs lines (Ok p) f h k = absurd h
+passes_on cs lines (Err g) f h k = subst (λ x. Links cs lines (Err x)) (sym h) k
 
 module _ (cs : List ClassParts) (lines : TestLines) where
   abbrev names : Result (Unit {0}) LinkFault
