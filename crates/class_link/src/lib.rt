@@ -11,7 +11,7 @@ mod fits;
 mod forms;
 mod headings;
 mod lines;
-mod link;
+mod linking;
 mod literals;
 mod lookup;
 #[cfg(test)]
@@ -32,6 +32,7 @@ mod walk;
 pub use assembly::{setting_of, skeleton, with_bodies};
 pub use fault::LinkFault;
 pub use lines::{TestLine, TestLines};
+pub use linking::link;
 pub use literals::{Literals, literals_of};
 pub use names::{ClassNames, kind_of, missing, names_of, needed_class};
 pub use references::{Target, Use};

@@ -16,7 +16,7 @@ use Rattle.class_link.specs.References.{Setting}
 use Rattle.class_link.specs.Link.{setting, unless, tests_of, program_of}
 use Rattle.class_link.proofs.LinkSteps.{passes_on, names_said, headings_said, cycles_said, references_said, tests_said, linked_so, program_said}
 use Rattle.class_link.proofs.LinkLaw.{linked_by}
-use Rattle.class_link.proofs.link.link.Goals as goal
+use Rattle.class_link.proofs.linking.link.Goals as goal
 
 pub returns-in_err-setting-clause-links : goal.returns-in_err-setting-clause-links
 returns-in_err-setting-clause-links c =

@@ -4,7 +4,7 @@ use Rattle.std.proofs.lemmas.List.{at_drop_more}
 use Rattle.std.specs.List.{AllByRecursion}
 use Rattle.class_reader.specs.declared.parts.ClassParts.{ClassParts}
 use Rattle.class_reader.specs.ClassGrammar as grammar
-use Rattle.class_link.proofs.link.know.Goals as goal
+use Rattle.class_link.proofs.linking.know.Goals as goal
 
 pub loop-class-preserved : goal.loop-class-preserved
 loop-class-preserved c = λ rest.

@@ -4,7 +4,7 @@ use Rattle.jvm_model.specs.declared.program.Program.{Program}
 use Rattle.class_link.specs.Faults.{IsFirstCycle}
 use Rattle.std.proofs.Common.{ℕ, Option, None}
 use Rattle.class_link.proofs.LinkSteps.{skeleton_builtins, skeleton_few}
-use Rattle.class_link.proofs.link.check_cycles.Goals as goal
+use Rattle.class_link.proofs.linking.check_cycles.Goals as goal
 
 pub first_cycle-requires-clause-builtins : goal.first_cycle-requires-clause-builtins
 first_cycle-requires-clause-builtins c = skeleton_builtins c.args.setting.now.program c.args.classes.now (ap (λ (s : Setting). s.program) c.requires.setting)

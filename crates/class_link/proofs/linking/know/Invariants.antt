@@ -1,7 +1,7 @@
 use Rattle.std.proofs.Common.{drop}
 use Rattle.std.specs.List.{AllByRecursion}
 use Rattle.class_reader.specs.ClassGrammar as grammar
-use Rattle.class_link.proofs.link.know.Given as goal
+use Rattle.class_link.proofs.linking.know.Given as goal
 
 -- the classes so far are known: where those of what is left are, all are
 abbrev pub invariant-loop-class : goal.invariant-loop-class

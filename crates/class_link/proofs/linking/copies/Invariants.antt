@@ -1,5 +1,5 @@
 use Rattle.std.proofs.Common.{◌≡◌, ◌++◌, drop}
-use Rattle.class_link.proofs.link.copies.Given as goal
+use Rattle.class_link.proofs.linking.copies.Given as goal
 
 -- the copies so far and what is left
 abbrev pub invariant-loop-file : goal.invariant-loop-file
