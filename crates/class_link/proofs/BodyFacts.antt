@@ -35,7 +35,7 @@ use Rattle.jvm_model.specs.Linked.{IsForm, IsPlace, IsHandler, IsBody, KeysAscen
 use Rattle.class_link.specs.declared.references.Target.{Target}
 use Rattle.class_link.specs.declared.references.Target.TheVariants as target
 use Rattle.class_link.specs.ClassNames.{text_at, name_at, class_number, base_of, array_kind, kind_of}
-use Rattle.class_link.specs.References.{Setting, field_target, method_target, target_of, operand, number_in, index_in}
+use Rattle.class_link.specs.References.{Setting, field_target, lacks_method, method_target, target_of, operand, number_in, index_in}
 use Rattle.class_link.specs.Forms as forms
 use Rattle.class_link.specs.Forms.{form_of}
 use Rattle.class_link.specs.Bodies.{placed, handler_rec, frame_recs, is_cut, linked_body}
@@ -66,9 +66,13 @@ field_no_object : (s : Setting) (k : Option Kind) (pair : List ℕ × List ℕ) 
 field_no_object s None pair = tt
 field_no_object s (Some k) pair = mapped_field (named_class k) (find_field s.program (named_class k) pair.0 pair.1)
 
+unless_holds : (b : Bool) (o : Option Target) → IfSome o NoObject → IfSome (cond b None o) NoObject
+unless_holds true o h = tt
+unless_holds false o h = h
+
 method_no_object : (s : Setting) (k : Option Kind) (pair : List ℕ × List ℕ) → IfSome (method_target s k pair) NoObject
 method_no_object s None pair = tt
-method_no_object s (Some k) pair = mapped_method k (find_method s.program (named_class k) pair.0 pair.1)
+method_no_object s (Some k) pair = unless_holds (lacks_method k pair.0) _ (mapped_method k (find_method s.program (named_class k) pair.0 pair.1))
 
 pub no_object : (s : Setting) (slots : List (Option Entry)) (e : Option Entry) → IfSome (target_of s slots e) NoObject
 unfolding target_of
@@ -144,7 +148,7 @@ makes_nested s slots ops total o facts typed a b c d k is =
     let some : 0 < n.count = n.so.1 in
     let most : n.count ≤ dimensions (class_name slots (entry_of slots n.index)) = n.so.2 in
     let dims : dims_of k ≡ dimensions (class_name slots (entry_of slots n.index)) =
-        type_dims s slots (entry_of slots n.index) k (omega (arith, some, most)) (sym (ap (λ i. target_of s slots (entry_of slots i)) index) ∙ is) in
+    type_dims s slots (entry_of slots n.index) k (omega (arith, some, most)) (sym (ap (λ i. target_of s slots (entry_of slots i)) index) ∙ is) in
     (omega (arith, made, some), omega (arith, made, most, dims))
 
 -- ---- the form of an instruction

@@ -268,11 +268,11 @@ field_kind p c e o t h low high d f at = let n = o.opcode in field_case (IsFormK
     (λ is. field_use p c e o t h used.StaticField (ap use_of is ∙ use_179) d f at)
     (λ is. plain_field p f (field_use p c e o t h used.InstanceField (ap use_of is ∙ use_180) d f at))
     (λ a b g. which_member n low high a b g
-      (λ is. plain_field p f (field_use p c e o t h used.InstanceField (ap use_of is ∙ use_181) d f at))
-      (λ is. no_use (field_use p c e o t h used.Virtual (ap use_of is ∙ use_182) d f at))
-      (λ is. no_use (field_use p c e o t h used.Special (ap use_of is ∙ use_183) d f at))
-      (λ is. no_use (field_use p c e o t h used.StaticCall (ap use_of is ∙ use_184) d f at))
-      (λ is. no_use (field_use p c e o t h used.Interface (ap use_of is ∙ use_185) d f at)))
+    (λ is. plain_field p f (field_use p c e o t h used.InstanceField (ap use_of is ∙ use_181) d f at))
+    (λ is. no_use (field_use p c e o t h used.Virtual (ap use_of is ∙ use_182) d f at))
+    (λ is. no_use (field_use p c e o t h used.Special (ap use_of is ∙ use_183) d f at))
+    (λ is. no_use (field_use p c e o t h used.StaticCall (ap use_of is ∙ use_184) d f at))
+    (λ is. no_use (field_use p c e o t h used.Interface (ap use_of is ∙ use_185) d f at)))
 
 unlike : (a : Bool) → not a ≡ true → a ≡ true → ⊥
 unlike true h e = cc
@@ -288,11 +288,13 @@ interface_kind p c e k m class pair is h =
 
 special_kind : (p : Program) (c : ℕ) (e : Option Entry) (k : Kind) (m : ℕ) → method_fits p c e used.Special k m ≡ true → IsPlainMethod p m × IsSpecialCall p c (named_class k)
 special_kind p c e k m h =
-    let b = both_true _ _ h in let d = both_true _ _ b.1 in
-    (not-true _ b.0, λ interface. elim (either_true _ _ d.1) [
-      | inl none ↦ absurd (unlike _ none interface)
-      | inr near ↦ let g = both_true _ _ near in (leb-true _ _ g.0, elim (either_true _ _ g.1) [ inl same ↦ inl (eqb-true _ _ same) | inr direct ↦ inr direct ])
-    ])
+    let b = both_true _ _ h in let d = both_true _ _ b.1 in (
+      not-true _ b.0,
+      λ interface. elim (either_true _ _ d.1) [
+        | inl none ↦ absurd (unlike _ none interface)
+        | inr near ↦ let g = both_true _ _ near in (leb-true _ _ g.0, elim (either_true _ _ g.1) [ inl same ↦ inl (eqb-true _ _ same) | inr direct ↦ inr direct ])
+      ],
+    )
 
 static_kind : (p : Program) (c : ℕ) (e : Option Entry) (k : Kind) (m : ℕ) → (is_static (method_at p m).flags ≡ true → is_interface_at p (method_at p m).class ≡ true → is_interface_at p (named_class k) ≡ true) → method_fits p c e used.StaticCall k m ≡ true → IsStaticMethod p m × IsStaticCall p c m
 static_kind p c e k m owns h =
@@ -305,15 +307,15 @@ method_kind p c e o t h sorts owns low high k m at = let n = o.opcode in method_
     (λ is. special_kind p c e k m (method_use p c e o t h used.Special (ap use_of is ∙ use_183) k m at))
     (λ is. static_kind p c e k m (owns k m at) (method_use p c e o t h used.StaticCall (ap use_of is ∙ use_184) k m at))
     (λ a b g.
-      by_test (eqb n 178) (λ z. no_use (method_use p c e o t h used.StaticField (ap use_of (eqb-true n 178 z) ∙ use_178) k m at)) (λ h1.
-      by_test (eqb n 179) (λ z. no_use (method_use p c e o t h used.StaticField (ap use_of (eqb-true n 179 z) ∙ use_179) k m at)) (λ h2.
-      by_test (eqb n 180) (λ z. no_use (method_use p c e o t h used.InstanceField (ap use_of (eqb-true n 180 z) ∙ use_180) k m at)) (λ h3.
-      which_member n low high (differs n 178 h1) (differs n 179 h2) (differs n 180 h3)
-        (λ is. no_use (method_use p c e o t h used.InstanceField (ap use_of is ∙ use_181) k m at))
-        (λ is. absurd (a is))
-        (λ is. absurd (b is))
-        (λ is. absurd (g is))
-        (λ is. let s = sorts.interface is in interface_kind p c e k m s.0 s.1 s.2 (method_use p c e o t h used.Interface (ap use_of is ∙ use_185) k m at))))))
+    by_test (eqb n 178) (λ z. no_use (method_use p c e o t h used.StaticField (ap use_of (eqb-true n 178 z) ∙ use_178) k m at)) (λ h1.
+    by_test (eqb n 179) (λ z. no_use (method_use p c e o t h used.StaticField (ap use_of (eqb-true n 179 z) ∙ use_179) k m at)) (λ h2.
+    by_test (eqb n 180) (λ z. no_use (method_use p c e o t h used.InstanceField (ap use_of (eqb-true n 180 z) ∙ use_180) k m at)) (λ h3.
+    which_member n low high (differs n 178 h1) (differs n 179 h2) (differs n 180 h3)
+    (λ is. no_use (method_use p c e o t h used.InstanceField (ap use_of is ∙ use_181) k m at))
+    (λ is. absurd (a is))
+    (λ is. absurd (b is))
+    (λ is. absurd (g is))
+    (λ is. let s = sorts.interface is in interface_kind p c e k m s.0 s.1 s.2 (method_use p c e o t h used.Interface (ap use_of is ∙ use_185) k m at))))))
 
 -- the kinds of what an instruction's form names
 pub kind_form : (p : Program) (c : ℕ) (e : Option Entry) (t : Option Target) (o : RawOp) → FitsUse p c e o t → CallsBySort o e → OwnsStatics p t → IsFormKind p c (form_of t o)

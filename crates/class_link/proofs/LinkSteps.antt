@@ -86,12 +86,22 @@ module _ (cs : List ClassParts) (lines : TestLines) where
   linked_is cycle = refl
 
   pub names_said : (f : LinkFault) → Fails f names → Links cs lines (Err f)
-  names_said f h = said cs lines f names h (λ e. (None, ((λ none _. absurd (unless_some (duplicate_fault cs) f e none)),
-      sym (linked_is None ∙ ap (λ a. after_all a headings (unless (cycle_fault cs None)) references tests) e))))
+  names_said f h = said cs lines f names h (λ e. (
+    None,
+    (
+      (λ none _. absurd (unless_some (duplicate_fault cs) f e none)),
+      sym (linked_is None ∙ ap (λ a. after_all a headings (unless (cycle_fault cs None)) references tests) e),
+    ),
+  ))
 
   pub headings_said : (f : LinkFault) → names ≡ Ok tt → Fails f headings → Links cs lines (Err f)
-  headings_said f n h = said cs lines f headings h (λ e. (None, ((λ _ none. absurd (unless_some (first_some (headings_fault (setting cs)) cs) f e none)),
-      sym (linked_is None ∙ (λ i. after_all (n i) (e i) (unless (cycle_fault cs None)) references tests)))))
+  headings_said f n h = said cs lines f headings h (λ e. (
+    None,
+    (
+      (λ _ none. absurd (unless_some (first_some (headings_fault (setting cs)) cs) f e none)),
+      sym (linked_is None ∙ (λ i. after_all (n i) (e i) (unless (cycle_fault cs None)) references tests)),
+    ),
+  ))
 
   abbrev erred : LinkFault → Result Program LinkFault
   erred f = Err f
@@ -104,12 +114,22 @@ module _ (cs : List ClassParts) (lines : TestLines) where
   cycles_said f n h (inr at) = let k = cycle_known f n h at in said cs lines f (failed f) (itself f) (λ _. k)
 
   pub references_said : (f : LinkFault) → names ≡ Ok tt → headings ≡ Ok tt → IsFirstCycle (skeleton cs) None → Fails f references → Links cs lines (Err f)
-  references_said f n h first r = said cs lines f references r (λ e. (None, ((λ _ _. first),
-      sym (linked_is None ∙ (λ i. after_all (n i) (h i) (Ok tt) (e i) tests)))))
+  references_said f n h first r = said cs lines f references r (λ e. (
+    None,
+    (
+      (λ _ _. first),
+      sym (linked_is None ∙ (λ i. after_all (n i) (h i) (Ok tt) (e i) tests)),
+    ),
+  ))
 
   pub tests_said : (f : LinkFault) → names ≡ Ok tt → headings ≡ Ok tt → IsFirstCycle (skeleton cs) None → references ≡ Ok tt → Fails f tests → Links cs lines (Err f)
-  tests_said f n h first r t = said cs lines f tests t (λ e. (None, ((λ _ _. first),
-      sym (linked_is None ∙ (λ i. after_all (n i) (h i) (Ok tt) (r i) (e i))))))
+  tests_said f n h first r t = said cs lines f tests t (λ e. (
+    None,
+    (
+      (λ _ _. first),
+      sym (linked_is None ∙ (λ i. after_all (n i) (h i) (Ok tt) (r i) (e i))),
+    ),
+  ))
 
   pub linked_so : (ts : List TestEntry) → names ≡ Ok tt → headings ≡ Ok tt → references ≡ Ok tt → tests ≡ Ok ts → link_by None cs lines ≡ Ok (program_of cs ts lines.files)
   linked_so ts n h r t = linked_is None ∙ (λ i. after_all (n i) (h i) (Ok tt) (r i) (t i))

@@ -151,7 +151,7 @@ pub two_kept : (q : ℕ → Bool) (ms : List ℕ) (i a : ℕ) → i < length ms 
 two_kept q ms i a h e t =
     let more : filter q (take (i + 1) ms) ≡ a ∷ get_or ms i 0 ∷ [] = filter_more q ms i 0 h ∙ ap (λ l. l ++ cond (q (get_or ms i 0)) (get_or ms i 0 ∷ []) []) e ∙ ap (λ b. a ∷ cond b (get_or ms i 0 ∷ []) []) t in
     let whole : filter q ms ≡ a ∷ get_or ms i 0 ∷ filter q (drop (i + 1) ms) =
-        ap (λ l. filter q l) (sym (take-append-drop (i + 1) ms)) ∙ filter-append q (take (i + 1) ms) (drop (i + 1) ms) ∙ ap (λ l. l ++ filter q (drop (i + 1) ms)) more in
+    ap (λ l. filter q l) (sym (take-append-drop (i + 1) ms)) ∙ filter-append q (take (i + 1) ms) (drop (i + 1) ms) ∙ ap (λ l. l ++ filter q (drop (i + 1) ms)) more in
     ap (λ l. one_or_first l ms) whole ∙ one_of_two a (get_or ms i 0) (filter q (drop (i + 1) ms)) ms
 
 bound_positive : 0 < class_bound
@@ -191,9 +191,9 @@ module _ {S : Type 0} (p : Program) (c : ℕ) where
       let here : chain p k (Some d) ≡ d ∷ chain p (k - 1) above = chain_step p k d h ∙ ap (λ o. d ∷ chain p (k - 1) o) (sym f) in
       record {
         noted = ap (λ ks. insert_all nat_eq ks rest) (v.noted ∙ ap (λ n. insert_all nat_eq (keys mid) (flat_map (λ i. walk p false n i) xs)) l ∙ ap (λ (ys : List ℕ). insert_all nat_eq (keys mid) (flat_map (λ i. walk p false class_bound i) ys)) e)
-          ∙ sym (insert_append (keys mid) (above_class p d) rest)
-          ∙ sym (ap (λ cs. insert_all nat_eq (keys mid) (flat_map (λ x. above_class p x) cs)) here)
-          ∙ m.noted;
+            ∙ sym (insert_append (keys mid) (above_class p d) rest)
+            ∙ sym (ap (λ cs. insert_all nat_eq (keys mid) (flat_map (λ x. above_class p x) cs)) here)
+            ∙ m.noted;
         walked = v.walked;
       }
 

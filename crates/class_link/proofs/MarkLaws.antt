@@ -64,7 +64,7 @@ module _ (p : Program) (n : ℕ) (slots : List (Option Entry)) (ts : List (Optio
       ≡ after (λ w. fits_target p n (entry_of slots i) (target_in ts i) w) (mark_at ms i) (cond t (u ∷ uses_at i us) (uses_at i us))
   mark_step i j u us ms true h g e =
       let here : mark_at (noted ms j (fits_target p n (entry_of slots j) (target_in ts j) u)) i ≡ marked_with (mark_at ms i) (fits_target p n (entry_of slots i) (target_in ts i) u) =
-          subst (λ (k : ℕ). mark_at (noted ms k (fits_target p n (entry_of slots k) (target_in ts k) u)) i ≡ marked_with (mark_at ms i) (fits_target p n (entry_of slots i) (target_in ts i) u)) (sym (eqb-true j i e)) (noted_here ms i (fits_target p n (entry_of slots i) (target_in ts i) u) h g) in
+      subst (λ (k : ℕ). mark_at (noted ms k (fits_target p n (entry_of slots k) (target_in ts k) u)) i ≡ marked_with (mark_at ms i) (fits_target p n (entry_of slots i) (target_in ts i) u)) (sym (eqb-true j i e)) (noted_here ms i (fits_target p n (entry_of slots i) (target_in ts i) u) h g) in
       ap (λ o. after (λ w. fits_target p n (entry_of slots i) (target_in ts i) w) o (uses_at i us)) here
   mark_step i j u us ms false h g e = ap (λ o. after (λ w. fits_target p n (entry_of slots i) (target_in ts i) w) o (uses_at i us)) (noted_other ms i j (fits_target p n (entry_of slots j) (target_in ts j) u) h e)
 
@@ -119,7 +119,7 @@ pub fault_all : (s : Setting) (n : ℕ) (c : ClassParts) (slots : List (Option E
     → ms ≡ all_noted s.program n slots known (replicate (length slots) None) (uses c) → first_some (λ i. mark_fault s c i (target_in ts i) (mark_at ms i)) (indices c) ≡ references_fault s n c
 fault_all s n c slots ts known ms e f g h =
     let marks : ms ≡ all_noted s.program n c.pool (targets s c.pool) (replicate (length c.pool) None) (uses c) =
-        h ∙ ap (λ k. all_noted s.program n slots k (replicate (length slots) None) (uses c)) g ∙ ap (λ (y : List (Option Entry)). all_noted s.program n y (targets s y) (replicate (length y) None) (uses c)) e in
+    h ∙ ap (λ k. all_noted s.program n slots k (replicate (length slots) None) (uses c)) g ∙ ap (λ (y : List (Option Entry)). all_noted s.program n y (targets s y) (replicate (length y) None) (uses c)) e in
     let resolved : ts ≡ targets s c.pool = f ∙ ap (λ (y : List (Option Entry)). targets s y) e in
     ap (λ (t : List (Option Target)). first_some (λ i. mark_fault s c i (target_in t i) (mark_at ms i)) (indices c)) resolved
     ∙ ap (λ (m : List (Option Bool)). first_some (λ i. mark_fault s c i (target_in (targets s c.pool) i) (mark_at m i)) (indices c)) marks

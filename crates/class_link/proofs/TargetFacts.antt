@@ -28,7 +28,7 @@ use Rattle.class_link.specs.declared.references.Target.TheVariants as target
 use Rattle.class_link.specs.ClassNames.{text_at, name_at, all_names, class_number, within_type, base_of, array_kind, kind_of}
 use Rattle.class_link.specs.Literals.{literals, literal_number}
 use Rattle.class_link.specs.Assembly.{assembled, skeleton}
-use Rattle.class_link.specs.References.{pair_of, field_target, method_target, target_of}
+use Rattle.class_link.specs.References.{pair_of, field_target, lacks_method, method_target, target_of}
 use Rattle.class_link.specs.Link.{setting}
 use Rattle.class_link.proofs.Assembled.{class_count}
 use Rattle.class_link.proofs.Numbered.{number_is}
@@ -117,9 +117,13 @@ module _ (body : ClassParts → CodePart → Body) (cs : List ClassParts) (tests
       let r = field_again p (class_numbers body cs tests files) (named_class k) pair.0 pair.1 f (find_field_same body cs tests files (named_class k) pair.0 pair.1 ∙ q) in
       (named_is k (h k refl), r.0, r.1))
 
+  unless_some : (b : Bool) (o : Option Target) (t : Target) → cond b None o ≡ Some t → o ≡ Some t
+  unless_some true o t e = absurd (cc)
+  unless_some false o t e = e
+
   method_is : (o : Option Kind) (pair : List ℕ × List ℕ) (t : Target) → ((k : Kind) → o ≡ Some k → IsKind p k) → method_target (setting cs) o pair ≡ Some t → IsTarget p t
   method_is None pair t h e = absurd (cc)
-  method_is (Some k) pair t h e = mapped (IsTarget p) (λ m. target.Method k m) (find_method (skeleton cs) (named_class k) pair.0 pair.1) t e (λ m q.
+  method_is (Some k) pair t h e = mapped (IsTarget p) (λ m. target.Method k m) (find_method (skeleton cs) (named_class k) pair.0 pair.1) t (unless_some (lacks_method k pair.0) _ t e) (λ m q.
       let r = method_again p (class_numbers body cs tests files) (named_class k) pair.0 pair.1 m (find_method_same body cs tests files (named_class k) pair.0 pair.1 ∙ q) in
       (h k refl, r.0, r.1))
 

@@ -112,7 +112,7 @@ module _ (p : Program) (supers : Bool) where
     visits_more k i cs old mid new h v w =
         let c = get_or cs i 0 in
         let joined : flat_map (λ d. walk p supers k d) (take (i + 1) cs) ≡ flat_map (λ d. walk p supers k d) (take i cs) ++ walk p supers k c =
-            ap (λ xs. flat_map (λ d. walk p supers k d) xs) (take_more cs i 0 h) ∙ flat_map-append (λ d. walk p supers k d) (take i cs) (c ∷ []) ∙ ap (λ xs. flat_map (λ d. walk p supers k d) (take i cs) ++ xs) (append-nil (walk p supers k c)) in
+        ap (λ xs. flat_map (λ d. walk p supers k d) xs) (take_more cs i 0 h) ∙ flat_map-append (λ d. walk p supers k d) (take i cs) (c ∷ []) ∙ ap (λ xs. flat_map (λ d. walk p supers k d) (take i cs) ++ xs) (append-nil (walk p supers k c)) in
         subst (λ xs. Visits p supers xs old new) (sym joined) (visits_append (flat_map (λ d. walk p supers k d) (take i cs)) (walk p supers k c) old mid new v w)
 
     -- the superinterfaces and then the superclass
@@ -121,7 +121,7 @@ module _ (p : Program) (supers : Bool) where
     visits_nexts k c xs old mid new e v w =
         let above = cond supers (to_list (class_at p c).superclass) [] in
         let joined : flat_map (λ d. walk p supers k d) (nexts p supers c) ≡ flat_map (λ d. walk p supers k d) xs ++ flat_map (λ d. walk p supers k d) above =
-            flat_map-append (λ d. walk p supers k d) (class_at p c).interfaces above ∙ ap (λ (ys : List ℕ). flat_map (λ d. walk p supers k d) ys ++ flat_map (λ d. walk p supers k d) above) (sym e) in
+        flat_map-append (λ d. walk p supers k d) (class_at p c).interfaces above ∙ ap (λ (ys : List ℕ). flat_map (λ d. walk p supers k d) ys ++ flat_map (λ d. walk p supers k d) above) (sym e) in
         subst (λ ys. Visits p supers ys old new) (sym joined) (visits_append (flat_map (λ d. walk p supers k d) xs) (flat_map (λ d. walk p supers k d) above) old mid new v w)
 
     -- no class is noted

@@ -84,8 +84,8 @@ fn heading_fits(setting: &Setting, class: &ClassParts, index: u16, named: bool) 
 {
     let name = name_at(class.pool.slots(), index);
     let above = setting.names.number_or_first(name);
-    let as_superclass =
-        index != class.super_class || superclass_fits(&setting.program, class, above);
+    let as_superclass = index != class.super_class
+        || superclass_fits(&setting.program, class, above);
     let as_interface = !named || is_interface(&setting.program, above);
     !starts_array(name) && (as_superclass && as_interface)
 }
@@ -105,7 +105,13 @@ fn check_heading(
         return Ok(());
     }
     let needed = missing(alloc, &setting.names, name_at(class.pool.slots(), index))?;
-    judged(alloc, class, needed, heading_fits(setting, class, index, named), index)
+    judged(
+        alloc,
+        class,
+        needed,
+        heading_fits(setting, class, index, named),
+        index,
+    )
 }
 
 // So many times false.

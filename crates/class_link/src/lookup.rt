@@ -23,11 +23,11 @@ use std::alloc::Global;
 const OBJECT: u32 = 0;
 
 // The units of `<init>`.
-const INIT: [u16; 6] = [60, 105, 110, 105, 116, 62];
+pub const INIT: [u16; 6] = [60, 105, 110, 105, 116, 62];
 
 // Whether two names are one.
 #[tactic(auto, using(crate::proofs::TextLaws::as_units))]
-fn same_units(a: &[u16], b: &[u16]) -> bool
+pub fn same_units(a: &[u16], b: &[u16]) -> bool
     ensures { result ≡ same_units a.now b.now }
 {
     a == b
@@ -209,12 +209,7 @@ fn own_method(p: &Program, class: u32, name: &[u16], descriptor: &[u16]) -> Opti
 }
 
 // The first method of a name and descriptor that a class or a superclass declares.
-fn declared_upwards(
-    p: &Program,
-    class: u32,
-    name: &[u16],
-    descriptor: &[u16],
-) -> Option<u32>
+fn declared_upwards(p: &Program, class: u32, name: &[u16], descriptor: &[u16]) -> Option<u32>
     ensures { result ≡ find_declared p.now name.now descriptor.now (upwards p.now class) }
 {
     let mut next = Some(class);
@@ -235,10 +230,8 @@ fn declared_upwards(
 fn find_in_object(p: &Program, name: &[u16], descriptor: &[u16]) -> Option<u32>
     ensures { result ≡ find_in_object p.now name.now descriptor.now }
 {
-    methods(p, OBJECT)
-        .iter()
-        .copied()
-        .find(|method| is_method(p, *method, name, descriptor) && !is_static(p, *method))
+    methods(p, OBJECT).iter().copied().find(|method| is_method(p, *method, name, descriptor)
+        && !is_static(p, *method))
 }
 
 // ---- methods of superinterfaces
@@ -317,7 +310,13 @@ fn above_methods(alloc: Global, p: &Program, methods: &[u32]) -> Result<Visited,
 {
     let mut seen = IndexMap::new(alloc);
     for method in methods {
-        visit_all(p, false, class_bound(), interfaces(p, class_of(p, *method)), &mut seen)?;
+        visit_all(
+            p,
+            false,
+            class_bound(),
+            interfaces(p, class_of(p, *method)),
+            &mut seen,
+        )?;
     }
     Ok(seen)
 }

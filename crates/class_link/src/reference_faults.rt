@@ -48,12 +48,7 @@ fn check_entry(
         return Ok(());
     };
     let slots = class.pool.slots();
-    let needed = missing_for(
-        alloc,
-        &setting.names,
-        slots,
-        lookup::entry_at(slots, index),
-    )?;
+    let needed = missing_for(alloc, &setting.names, slots, lookup::entry_at(slots, index))?;
     if needed.is_none() && (target.is_none() && !lookup::names_class(slots, index)) {
         return Err(LinkFault::NoMember {
             class: own_name(alloc, class)?,
@@ -76,7 +71,14 @@ fn check_entries(
     let end = class.pool.slots().len() + 1;
     for index in 1..end {
         let target = target_in(targets, index as u16);
-        check_entry(alloc, setting, class, index as u16, target, mark_at(marks, index))?;
+        check_entry(
+            alloc,
+            setting,
+            class,
+            index as u16,
+            target,
+            mark_at(marks, index),
+        )?;
     }
     Ok(())
 }

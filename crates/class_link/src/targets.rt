@@ -8,12 +8,11 @@ ghost use Rattle.class_link.specs.ClassNames.{kind_of, name_at};
 ghost use Rattle.class_link.specs.References as references;
 
 use crate::entries::{name_at, text_at};
-use crate::lookup::{find_field, find_method};
+use crate::lookup::{INIT, find_field, find_method, same_units};
 use crate::names::{ClassNames, kind_of, missing};
 use crate::references::Target;
 use crate::setting::Setting;
-use class_pool::Entry;
-use class_pool::lookup;
+use class_pool::{Entry, lookup};
 use et_base::{Items, NoMemory, Units};
 use jvm_model::{Kind, Value};
 use std::alloc::Global;
@@ -73,6 +72,16 @@ fn field_target(
     }
 }
 
+// An array class declares no `<init>`.
+fn lacks_method(named: Kind, name: &[u16]) -> bool
+    ensures { result ≡ references.lacks_method named name.now }
+{
+    match named {
+        Kind::Class(_) => false,
+        Kind::Array { .. } => same_units(name, &INIT),
+    }
+}
+
 // The method that a Methodref or an InterfaceMethodref names.
 fn method_target(
     alloc: Global,
@@ -87,8 +96,17 @@ fn method_target(
         return Ok(None);
     };
     let name = pair_name(slots, pair);
+    if lacks_method(named, name) {
+        return Ok(None);
+    }
     let descriptor = pair_descriptor(slots, pair);
-    match find_method(alloc, &setting.program, named_class(named), name, descriptor)? {
+    match find_method(
+        alloc,
+        &setting.program,
+        named_class(named),
+        name,
+        descriptor,
+    )? {
         None => Ok(None),
         Some(method) => Ok(Some(Target::Method { named, method })),
     }

@@ -15,6 +15,7 @@ ghost use Rattle.class_link.specs.Link as links;
 
 use crate::fault::LinkFault;
 use crate::lines::TestLine;
+use crate::lookup::{INIT, same_units};
 use crate::setting::Setting;
 use et_base::Items;
 use jvm_model::{ClassRec, MethodRec, Program, TestEntry};
@@ -25,16 +26,6 @@ const BUILTIN_COUNT: u32 = 32;
 
 /// The units of `()V`.
 const NO_ARGUMENTS: [u16; 3] = [40, 41, 86];
-
-/// The units of `<init>`.
-const INIT: [u16; 6] = [60, 105, 110, 105, 116, 62];
-
-#[tactic(auto, using(crate::proofs::TextLaws::as_units))]
-fn same_units(a: &[u16], b: &[u16]) -> bool
-    ensures { result ≡ same_units a.now b.now }
-{
-    a == b
-}
 
 fn is_static(flags: u16) -> bool
     ensures { result ≡ is_static flags }
@@ -105,9 +96,8 @@ fn is_method(p: &Program, name: &[u16], method: u32) -> bool
 {
     match p.methods.as_slice().get(method as usize) {
         None => false,
-        Some(record) =>
-            same_units(record.name.as_slice(), name)
-                && same_units(record.descriptor.as_slice(), &NO_ARGUMENTS),
+        Some(record) => same_units(record.name.as_slice(), name)
+            && same_units(record.descriptor.as_slice(), &NO_ARGUMENTS),
     }
 }
 
@@ -206,8 +196,9 @@ fn test_in(p: &Program, budget: u64, line: &TestLine, class: u32) -> Option<Test
         return None;
     }
     match test_method(p, class, line.method.as_slice()) {
-        Some(method) if is_test_method(p, class, method) =>
-            Some(entry_with(budget, line, class, method)),
+        Some(method) if is_test_method(p, class, method) => Some(entry_with(
+            budget, line, class, method,
+        )),
         _ => None,
     }
 }

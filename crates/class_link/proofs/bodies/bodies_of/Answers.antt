@@ -17,8 +17,8 @@ loop-class-preserved c =
     record {
       place = ap (λ n. n + 1) c.loop-class.invariant.place;
       rest = ap (λ xs. xs ++ bodies_of body others) c.in_ok-push_class.ensures
-    ∙ append_assoc made (map (λ m. option_map (linked_body s class.pool) m.code) class.methods) (bodies_of body others)
-    ∙ ap (λ (x : ClassParts). made ++ bodies_of body (x ∷ others)) c.class-item.is
-    ∙ sym (at_drop_more (λ xs. made ++ bodies_of body xs) c.args.classes.now c.loop-class.class-index class c.loop-class-test.true)
-    ∙ c.loop-class.invariant.rest;
+          ∙ append_assoc made (map (λ m. option_map (linked_body s class.pool) m.code) class.methods) (bodies_of body others)
+          ∙ ap (λ (x : ClassParts). made ++ bodies_of body (x ∷ others)) c.class-item.is
+          ∙ sym (at_drop_more (λ xs. made ++ bodies_of body xs) c.args.classes.now c.loop-class.class-index class c.loop-class-test.true)
+          ∙ c.loop-class.invariant.rest;
     }

@@ -64,7 +64,7 @@ returns-in_err-tests-clause-links c =
     let resolved = sym (ap (λ (s : Setting). unless (all_references_fault s builtin_count cs)) is) ∙ c.in_ok-targets.ensures.fault in
     passes_on cs lines c.from_residual-in_err-tests.result f c.from_residual-in_err-tests.ensures.1
     (tests_said cs lines f c.in_ok-setting.ensures.fault headed c.in_ok-check_cycles.ensures.ok resolved
-        (subst (λ (xs : List TestLine). Fails f (tests_of (setting cs) lines.budget [] xs)) c.as_slice.ensures (subst (λ (s : Setting). Fails f (tests_of s lines.budget [] c.as_slice.result.now)) is c.in_err-tests.ensures)))
+    (subst (λ (xs : List TestLine). Fails f (tests_of (setting cs) lines.budget [] xs)) c.as_slice.ensures (subst (λ (s : Setting). Fails f (tests_of s lines.budget [] c.as_slice.result.now)) is c.in_err-tests.ensures)))
 
 pub returns-clause-links : goal.returns-clause-links
 returns-clause-links c =
@@ -75,12 +75,12 @@ returns-clause-links c =
     let headed = sym (ap (λ (s : Setting). unless (first_some (headings_fault s) cs)) is) ∙ c.in_ok-check_all_headings.ensures in
     let resolved = sym (ap (λ (s : Setting). unless (all_references_fault s builtin_count cs)) is) ∙ c.in_ok-targets.ensures.fault in
     let told : tests_of (setting cs) lines.budget [] lines.tests ≡ Ok ts =
-        sym (ap (λ (xs : List TestLine). tests_of (setting cs) lines.budget [] xs) c.as_slice.ensures) ∙ sym (ap (λ (s : Setting). tests_of s lines.budget [] c.as_slice.result.now) is) ∙ c.in_ok-tests.ensures in
+    sym (ap (λ (xs : List TestLine). tests_of (setting cs) lines.budget [] xs) c.as_slice.ensures) ∙ sym (ap (λ (s : Setting). tests_of s lines.budget [] c.as_slice.result.now) is) ∙ c.in_ok-tests.ensures in
     let body = λ (x : ClassParts) (code : CodePart). linked_body (setting cs) x.pool code in
     let bodies : c.in_ok-bodies.bodies ≡ bodies_of body cs = c.in_ok-bodies.ensures ∙ ap (λ (s : Setting). bodies_of (λ x code. linked_body s x.pool code) cs) is in
     let files : c.in_ok-files.files ≡ lines.files = c.in_ok-files.ensures ∙ c.as_slice-3.ensures in
     let made : c.with_bodies.result ≡ program_of cs ts lines.files =
-        c.with_bodies.ensures body cs (ap (λ (s : Setting). s.program) is) bodies ∙ ap (λ (xs : List (List ℕ × List ℕ)). assembled body cs ts xs) files in
+    c.with_bodies.ensures body cs (ap (λ (s : Setting). s.program) is) bodies ∙ ap (λ (xs : List (List ℕ × List ℕ)). assembled body cs ts xs) files in
     program_said cs lines c.with_bodies.result ts made c.in_ok-setting.ensures.fault headed c.in_ok-check_cycles.ensures.ok resolved told
 
 pub returns-clause-linked : goal.returns-clause-linked
@@ -92,11 +92,11 @@ returns-clause-linked c =
     let headed = sym (ap (λ (s : Setting). unless (first_some (headings_fault s) cs)) is) ∙ c.in_ok-check_all_headings.ensures in
     let resolved = sym (ap (λ (s : Setting). unless (all_references_fault s builtin_count cs)) is) ∙ c.in_ok-targets.ensures.fault in
     let told : tests_of (setting cs) lines.budget [] lines.tests ≡ Ok ts =
-        sym (ap (λ (xs : List TestLine). tests_of (setting cs) lines.budget [] xs) c.as_slice.ensures) ∙ sym (ap (λ (s : Setting). tests_of s lines.budget [] c.as_slice.result.now) is) ∙ c.in_ok-tests.ensures in
+    sym (ap (λ (xs : List TestLine). tests_of (setting cs) lines.budget [] xs) c.as_slice.ensures) ∙ sym (ap (λ (s : Setting). tests_of s lines.budget [] c.as_slice.result.now) is) ∙ c.in_ok-tests.ensures in
     let body = λ (x : ClassParts) (code : CodePart). linked_body (setting cs) x.pool code in
     let bodies : c.in_ok-bodies.bodies ≡ bodies_of body cs = c.in_ok-bodies.ensures ∙ ap (λ (s : Setting). bodies_of (λ x code. linked_body s x.pool code) cs) is in
     let files : c.in_ok-files.files ≡ lines.files = c.in_ok-files.ensures ∙ c.as_slice-3.ensures in
     let made : c.with_bodies.result ≡ program_of cs ts lines.files =
-        c.with_bodies.ensures body cs (ap (λ (s : Setting). s.program) is) bodies ∙ ap (λ (xs : List (List ℕ × List ℕ)). assembled body cs ts xs) files in
+    c.with_bodies.ensures body cs (ap (λ (s : Setting). s.program) is) bodies ∙ ap (λ (xs : List (List ℕ × List ℕ)). assembled body cs ts xs) files in
     subst Linked (sym made) (linked_by cs lines None (program_of cs ts lines.files) c.requires.few (All-from_recursion (λ x. grammar.IsClass x) cs c.know.ensures) c.requires.lines (λ _ _. c.in_ok-check_cycles.ensures.ok)
-        (linked_so cs lines ts c.in_ok-setting.ensures.fault headed resolved told))
+    (linked_so cs lines ts c.in_ok-setting.ensures.fault headed resolved told))
