@@ -1,0 +1,171 @@
+-- What linking answers is a linked program.
+use Rattle.std.proofs.Common.{◌≡◌, ℕ, ◌+◌, ◌≤◌, List, [], length, slice_get, Bool, true, is_none, refl, sym, subst, inl, inr, arith, Option, Some, None, IfSome, Result, Ok, Err, All}
+use Rattle.std.specs.Prelude.{option_map}
+use Rattle.std.specs.List.{list_all}
+use Rattle.std.proofs.lemmas.List.Elements.{All-nil}
+use Rattle.class_reader.specs.declared.parts.ClassParts.{ClassParts}
+use Rattle.class_reader.specs.declared.parts.MemberPart.{MemberPart}
+use Rattle.class_reader.specs.declared.parts.CodePart.{CodePart}
+use Rattle.class_reader.specs.ClassGrammar as grammar
+use Rattle.class_reader.proofs.ClassFacts.{class_facts}
+use Rattle.class_reader.proofs.MemberFacts.{MethodFacts}
+use Rattle.class_reader.proofs.PartFacts.{PartFacts, HandlerFacts}
+use Rattle.code_decode.specs.declared.instructions.RawOp.{RawOp}
+use Rattle.code_decode.proofs.CodeFacts.{OpFacts}
+use Rattle.jvm_model.specs.declared.program.Program.{Program}
+use Rattle.jvm_model.specs.declared.program.MethodRec.{MethodRec}
+use Rattle.jvm_model.specs.declared.program.Body.{Body}
+use Rattle.jvm_model.specs.declared.program.TestEntry.{TestEntry}
+use Rattle.jvm_model.specs.Builtin.{builtin_count}
+use Rattle.jvm_model.specs.Library.{builtin_defs, builtin_methods}
+use Rattle.jvm_model.specs.Classes.{method_at, is_static}
+use Rattle.jvm_model.specs.Lookup.{find_method}
+use Rattle.jvm_model.specs.Linked.{IsMethod, NamesBody, IsBodyKind, IsBody, IsFormFound, is_interface_at, Linked}
+use Rattle.jvm_model.proofs.BuiltinRules.{method_keeps}
+use Rattle.class_link.specs.declared.fault.LinkFault.{LinkFault}
+use Rattle.class_link.specs.declared.lines.TestLines.{TestLines}
+use Rattle.class_link.specs.Assembly.{assembled, skeleton}
+use Rattle.class_link.specs.Bodies.{linked_body}
+use Rattle.class_link.specs.Faults.{first_some, duplicate_fault, headings_fault, all_references_fault, IsFirstCycle}
+use Rattle.class_link.specs.Link.{◌>>=◌, setting, unless, cycle_fault, tests_of, program_of, link_by, AreLines, AreDifferent}
+use Rattle.class_link.proofs.Assembled.{holds_builtins, class_count, method_cases}
+use Rattle.class_link.proofs.Records.{class_numbers, field_class, method_class, method_record}
+use Rattle.class_link.proofs.Listed.{AllKnown, all_there, is_listed}
+use Rattle.class_link.proofs.Distinct.{is_distinct}
+use Rattle.class_link.proofs.Openings.{has_openings}
+use Rattle.class_link.proofs.SkeletonFacts.{ancestor_same}
+use Rattle.class_link.proofs.ClassKinds.{class_kinds}
+use Rattle.class_link.proofs.SuiteTests.{IsGood, all_good}
+use Rattle.class_link.proofs.Owners.{static_owner}
+use Rattle.class_link.proofs.LinkedCode.{CodeRules, names_body, body_kind, body_found}
+use Rattle.class_link.proofs.ShapeFacts.{calls_by_sort}
+use Rattle.class_link.proofs.BodyFacts.{makes_nested, is_body}
+
+-- the code of each class file is as its rules say
+abbrev pub AllCoded : List ClassParts → Type 0
+AllCoded cs = (i k : ℕ) (c : ClassParts) (x : MemberPart) (code : CodePart) → slice_get cs i ≡ Some c → slice_get c.methods k ≡ Some x → x.code ≡ Some code → CodeRules (setting cs) c.pool code
+
+-- a built-in method has no code
+no_body : MethodRec → Bool
+no_body m = is_none m.body
+
+no_bodies : list_all no_body builtin_methods ≡ true
+unfolding builtin_methods builtin_defs no_body
+no_bodies = refl
+
+none_holds : (Q : Body → Type 0) (o : Option Body) → is_none o ≡ true → IfSome o Q
+none_holds Q None h = tt
+none_holds Q (Some b) h = absurd (cc)
+
+mapped_holds : (Q : Body → Type 0) (f : CodePart → Body) (o : Option CodePart) → ((code : CodePart) → o ≡ Some code → Q (f code)) → IfSome (option_map f o) Q
+mapped_holds Q f None h = tt
+mapped_holds Q f (Some code) h = h code refl
+
+module _ (cs : List ClassParts) (ts : List TestEntry) (files : List (List ℕ × List ℕ)) where
+  abbrev p : Program
+  p = program_of cs ts files
+
+  abbrev body : ClassParts → CodePart → Body
+  body c code = linked_body (setting cs) c.pool code
+
+  -- what holds of the body of each code of a class file holds of each body
+  each_body : (Q : ℕ → Body → Type 0) → ((i k : ℕ) (c : ClassParts) (x : MemberPart) (code : CodePart) → slice_get cs i ≡ Some c → slice_get c.methods k ≡ Some x → x.code ≡ Some code → Q (builtin_count + i) (body c code)) →
+      (m : ℕ) → IsMethod p m → IfSome (method_at p m).body (λ b. Q (method_at p m).class b)
+  unfolding no_body
+  each_body Q f m h = elim (method_cases body cs ts files m h) [
+    | inl g ↦ none_holds (λ b. Q (method_at p m).class b) (method_at p m).body (method_keeps p (holds_builtins body cs ts files) no_body no_bodies m g)
+    | inr g ↦
+        let b = g.of in
+        subst (λ (r : MethodRec). IfSome r.body (λ y. Q r.class y)) (sym (method_record body cs ts files m g))
+        (mapped_holds (λ y. Q (builtin_count + b.class) y) (body b.parts) b.member.code (λ code e. f b.class b.index b.parts b.member code b.has_class b.has_member e))
+  ]
+
+  module _ (known : AllKnown cs) (coded : AllCoded cs) (different : duplicate_fault cs ≡ None) (headed : first_some (headings_fault (setting cs)) cs ≡ None) (acyclic : IsFirstCycle (skeleton cs) None)
+      (resolved : all_references_fault (setting cs) builtin_count cs ≡ None) (lines : TestLines) (are : AreLines lines) (few : length cs ≤ 1024) (answer : tests_of (setting cs) lines.budget [] lines.tests ≡ Ok ts) (same_files : files ≡ lines.files) where
+    owners : (c : ℕ) (name descriptor : List ℕ) (m : ℕ) → find_method p c name descriptor ≡ Some m → is_static (method_at p m).flags ≡ true → is_interface_at p (method_at p m).class ≡ true → is_interface_at p c ≡ true
+    owners = static_owner p (holds_builtins body cs ts files) (class_kinds body cs ts files known headed) (is_listed body cs ts files known).own_methods
+
+    good : All (IsGood body cs ts files lines.budget are.budget) ts × (length ts ≡ 0 + length lines.tests)
+    good = all_good body cs ts files lines.budget are.budget [] lines.tests ts (All-nil (IsGood body cs ts files lines.budget are.budget)) are.names answer
+
+    test_count : length ts ≤ 1024
+    test_count = let n = good.1 in let b = are.few_tests in omega arith
+
+    pub program_linked : Linked p
+    unfolding assembled
+    program_linked = record {
+      builtins = holds_builtins body cs ts files;
+      numbers = record {
+        classes = class_numbers body cs ts files;
+        fields = field_class body cs ts files;
+        methods = method_class body cs ts files;
+        bodies = each_body (λ c b. NamesBody p b) (λ i k c x code h g e. names_body cs ts files resolved owners i k c x code h g e (coded i k c x code h g e));
+        tests = λ j d h. (let t = good.0 j d h in (t.0.given.1, t.1));
+      };
+      acyclic = λ c a. acyclic c (ancestor_same body cs ts files a);
+      kinds = record {
+        classes = class_kinds body cs ts files known headed;
+        bodies = each_body (λ c b. IsBodyKind p c b) (λ i k c x code h g e. body_kind cs ts files resolved owners i k c x code h g e (coded i k c x code h g e));
+      };
+      distinct = is_distinct body cs ts files known different (subst (λ fs. AreDifferent fs ([], []) (λ x. x.0)) (sym same_files) are.files);
+      listed = is_listed body cs ts files known;
+      bodies = each_body (λ c b. IsBody b) (λ i k c x code h g e. (coded i k c x code h g e).body);
+      members = record { bodies = each_body (λ c b. All (λ y. IsFormFound p y.form) b.code) (λ i k c x code h g e. body_found cs ts files resolved owners i k c x code h g e (coded i k c x code h g e)) };
+      openings = has_openings body cs ts files known;
+      tests = λ j d h. (good.0 j d h).0;
+      few_classes = let n = class_count body cs ts files in omega arith;
+      few_tests = test_count;
+    }
+
+-- ---- from the answer
+
+bound : {A B : Type 0} (r : Result A LinkFault) (f : A → Result B LinkFault) (y : B) → (r >>= f) ≡ Ok y → (x : A) × (r ≡ Ok x) × (f x ≡ Ok y)
+bound (Ok x) f y e = (x, refl, e)
+bound (Err z) f y e = absurd (cc)
+
+unless_none : (o : Option LinkFault) (u : Unit {0}) → unless o ≡ Ok u → o ≡ None
+unless_none None u e = refl
+unless_none (Some f) u e = absurd (cc)
+
+no_cycle : (cs : List ClassParts) (cycle : Option ℕ) → IsFirstCycle (skeleton cs) cycle → cycle_fault cs cycle ≡ None → IsFirstCycle (skeleton cs) None
+no_cycle cs None h e = h
+no_cycle cs (Some i) h e = absurd (cc)
+
+known_from : (cs : List ClassParts) → All (λ c. grammar.IsClass c) cs → AllKnown cs
+known_from cs h i c e = class_facts c (all_there (λ x. grammar.IsClass x) cs i c h e)
+
+-- the rules of code, from what is known of a class file
+coded_from : (cs : List ClassParts) → AllKnown cs → AllCoded cs
+coded_from cs known i k c x code h g e =
+    let m : MethodFacts c.pool x = all_there (MethodFacts c.pool) c.methods k x (known i c h).methods.each g in
+    let f : PartFacts c.pool code = subst (λ o. IfSome o (PartFacts c.pool)) e m.code in
+    let op : (j : ℕ) (o : RawOp) → slice_get code.code.ops j ≡ Some o → OpFacts c.pool code.code.ops code.code.length o = λ j o q. all_there (OpFacts c.pool code.code.ops code.code.length) code.code.ops j o f.code.each q in
+    record {
+      nested = λ j o q. makes_nested (setting cs) c.pool code.code.ops code.code.length o (op j o q);
+      sorts = λ j o q. calls_by_sort c.pool code.code.ops code.code.length o (op j o q);
+      caught = λ j r q. (all_there (HandlerFacts c.pool code.code) code.handlers j r f.handlers q).caught;
+      body = is_body (setting cs) c.pool code f;
+    }
+
+-- What linking answers is a linked program, where the first cycle is known at least if names differ and headings have no fault.
+pub linked_by : (cs : List ClassParts) (lines : TestLines) (cycle : Option ℕ) (p : Program) → length cs ≤ 1024 → All (λ c. grammar.IsClass c) cs → AreLines lines
+    → (duplicate_fault cs ≡ None → first_some (headings_fault (setting cs)) cs ≡ None → IsFirstCycle (skeleton cs) cycle) → link_by cycle cs lines ≡ Ok p → Linked p
+unfolding link_by
+linked_by cs lines cycle p few classes are first e =
+    let s = setting cs in
+    let known = known_from cs classes in
+    let a = bound (unless (duplicate_fault cs)) _ p e in
+    let b = bound (unless (first_some (headings_fault s) cs)) _ p a.2 in
+    let c = bound (unless (cycle_fault cs cycle)) _ p b.2 in
+    let d = bound (unless (all_references_fault s builtin_count cs)) _ p c.2 in
+    let t = bound (tests_of s lines.budget [] lines.tests) (λ ts. Ok (program_of cs ts lines.files)) p d.2 in
+    let q : program_of cs t.0 lines.files ≡ p = (let z : ◌≡◌ {A = Result Program LinkFault} (Ok (program_of cs t.0 lines.files)) (Ok p) = t.2 in cc) in
+    let different = unless_none (duplicate_fault cs) a.0 a.1 in
+    let headed = unless_none (first_some (headings_fault s) cs) b.0 b.1 in
+    let acyclic = no_cycle cs cycle (first different headed) (unless_none (cycle_fault cs cycle) c.0 c.1) in
+    let resolved = unless_none (all_references_fault s builtin_count cs) d.0 d.1 in
+    subst Linked q (program_linked cs t.0 lines.files known (coded_from cs known) different headed acyclic resolved lines are few t.1 refl)
+
+-- the same, where it is known
+pub linked : (cs : List ClassParts) (lines : TestLines) (cycle : Option ℕ) (p : Program) → length cs ≤ 1024 → All (λ c. grammar.IsClass c) cs → AreLines lines → IsFirstCycle (skeleton cs) cycle → link_by cycle cs lines ≡ Ok p → Linked p
+linked cs lines cycle p few classes are first e = linked_by cs lines cycle p few classes are (λ _ _. first) e

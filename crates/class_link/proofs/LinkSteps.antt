@@ -1,0 +1,138 @@
+-- Linking step by step.
+use Rattle.std.proofs.Common.{◌≡◌, ◌⊎◌, ℕ, zero, suc, ◌+◌, ◌<◌, ◌≤◌, ◌^◌, List, [], ◌∷◌, length, take, drop, Option, Some, None, Result, Ok, Err, refl, sym, ap, subst, ◌∙◌, arith, inl, inr, All}
+use Rattle.std.specs.Result.{IsErrAnd}
+use Rattle.class_reader.specs.declared.parts.ClassParts.{ClassParts}
+use Rattle.jvm_model.specs.declared.program.Program.{Program}
+use Rattle.jvm_model.specs.declared.program.TestEntry.{TestEntry}
+use Rattle.jvm_model.specs.Builtin.{builtin_count}
+use Rattle.jvm_model.specs.Library.{builtin_classes}
+use Rattle.class_link.specs.declared.fault.LinkFault.{LinkFault}
+use Rattle.class_link.specs.declared.fault.LinkFault.TheVariants as fault
+use Rattle.class_link.specs.declared.lines.TestLines.{TestLines}
+use Rattle.class_link.specs.Answers.{Fails}
+use Rattle.class_link.specs.Assembly.{skeleton, bare_body}
+use Rattle.class_link.specs.Faults.{first_some, duplicate_fault, headings_fault, all_references_fault, IsFirstCycle}
+use Rattle.class_link.specs.Link.{◌>>=◌, setting, unless, cycle_fault, tests_of, program_of, link_by, LinksBy, Links, IsCycleFault}
+use Rattle.class_link.proofs.Assembled.{holds_builtins, class_count}
+
+-- ---- the skeleton
+
+pub skeleton_builtins : (p : Program) (cs : List ClassParts) → p ≡ skeleton cs → take builtin_count p.classes ≡ builtin_classes
+skeleton_builtins p cs is = ap (λ (q : Program). take builtin_count q.classes) is ∙ (holds_builtins (λ c code. bare_body code) cs [] []).classes
+
+pub skeleton_few : (p : Program) (cs : List ClassParts) → p ≡ skeleton cs → length cs ≤ 1024 → length p.classes < 2 ^ 32
+skeleton_few p cs is few =
+    let n : length p.classes ≡ builtin_count + length cs = ap (λ (q : Program). length q.classes) is ∙ class_count (λ c code. bare_body code) cs [] [] in
+    omega (arith, n, few)
+
+-- ---- answers
+
+-- an answer that is an error is that of linking, unless it is want of memory
+said : (cs : List ClassParts) (lines : TestLines) (f : LinkFault) {X : Type 0} (given : Result X LinkFault) → Fails f given → (given ≡ Err f → (cycle : Option ℕ) × LinksBy cycle cs lines (Err f)) → Links cs lines (Err f)
+said cs lines fault.NoMemory given h k = tt
+said cs lines (fault.Duplicate c) given h k = k h
+said cs lines (fault.Missing c n) given h k = k h
+said cs lines (fault.Cycle c) given h k = k h
+said cs lines (fault.NoMember c i) given h k = k h
+said cs lines (fault.WrongKind c i) given h k = k h
+said cs lines (fault.NotATest n) given h k = k h
+
+abbrev failed : LinkFault → Result (Unit {0}) LinkFault
+failed f = Err f
+
+itself : (f : LinkFault) → Fails f (failed f)
+itself fault.NoMemory = tt
+itself (fault.Duplicate c) = refl
+itself (fault.Missing c n) = refl
+itself (fault.Cycle c) = refl
+itself (fault.NoMember c i) = refl
+itself (fault.WrongKind c i) = refl
+itself (fault.NotATest n) = refl
+
+unless_some : (o : Option LinkFault) (f : LinkFault) → unless o ≡ Err f → o ≡ None → ⊥
+unless_some None f e h = absurd cc
+unless_some (Some g) f e h = absurd cc
+
+unless_tt : (o : Option LinkFault) (u : Unit {0}) → unless o ≡ Ok u → unless o ≡ Ok tt
+unless_tt None u e = refl
+unless_tt (Some g) u e = absurd cc
+
+-- an answer that passes a fault on
+pub passes_on : (cs : List ClassParts) (lines : TestLines) (result : Result Program LinkFault) (f : LinkFault) → IsErrAnd result (λ x. x ≡ f) → Links cs lines (Err f) → Links cs lines result
+passes_on cs lines (Ok p) f h k = absurd h
+passes_on cs lines (Err g) f h k = subst (λ x. Links cs lines (Err x)) (sym h) k
+
+module _ (cs : List ClassParts) (lines : TestLines) where
+  abbrev names : Result (Unit {0}) LinkFault
+  names = unless (duplicate_fault cs)
+
+  abbrev headings : Result (Unit {0}) LinkFault
+  headings = unless (first_some (headings_fault (setting cs)) cs)
+
+  abbrev references : Result (Unit {0}) LinkFault
+  references = unless (all_references_fault (setting cs) builtin_count cs)
+
+  abbrev tests : Result (List TestEntry) LinkFault
+  tests = tests_of (setting cs) lines.budget [] lines.tests
+
+  abbrev after_tests : Result (List TestEntry) LinkFault → Result Program LinkFault
+  after_tests t = t >>= (λ ts. Ok (program_of cs ts lines.files))
+
+  abbrev after_all : Result (Unit {0}) LinkFault → Result (Unit {0}) LinkFault → Result (Unit {0}) LinkFault → Result (Unit {0}) LinkFault → Result (List TestEntry) LinkFault → Result Program LinkFault
+  after_all a b c d t = a >>= (λ _. b >>= (λ _. c >>= (λ _. d >>= (λ _. after_tests t))))
+
+  linked_is : (cycle : Option ℕ) → link_by cycle cs lines ≡ after_all names headings (unless (cycle_fault cs cycle)) references tests
+  unfolding link_by
+  linked_is cycle = refl
+
+  pub names_said : (f : LinkFault) → Fails f names → Links cs lines (Err f)
+  names_said f h = said cs lines f names h (λ e. (
+    None,
+    (
+      (λ none _. absurd (unless_some (duplicate_fault cs) f e none)),
+      sym (linked_is None ∙ ap (λ a. after_all a headings (unless (cycle_fault cs None)) references tests) e),
+    ),
+  ))
+
+  pub headings_said : (f : LinkFault) → names ≡ Ok tt → Fails f headings → Links cs lines (Err f)
+  headings_said f n h = said cs lines f headings h (λ e. (
+    None,
+    (
+      (λ _ none. absurd (unless_some (first_some (headings_fault (setting cs)) cs) f e none)),
+      sym (linked_is None ∙ (λ i. after_all (n i) (e i) (unless (cycle_fault cs None)) references tests)),
+    ),
+  ))
+
+  abbrev erred : LinkFault → Result Program LinkFault
+  erred f = Err f
+
+  cycle_known : (f : LinkFault) → names ≡ Ok tt → headings ≡ Ok tt → IsCycleFault cs f → (cycle : Option ℕ) × LinksBy cycle cs lines (Err f)
+  cycle_known f n h (i, first, is) = (Some i, ((λ _ _. first), sym (linked_is (Some i) ∙ (λ j. after_all (n j) (h j) (unless (cycle_fault cs (Some i))) references tests) ∙ ap erred (sym is))))
+
+  pub cycles_said : (f : LinkFault) → names ≡ Ok tt → headings ≡ Ok tt → (f ≡ fault.NoMemory) ⊎ IsCycleFault cs f → Links cs lines (Err f)
+  cycles_said f n h (inl none) = subst (λ g. Links cs lines (Err g)) (sym none) tt
+  cycles_said f n h (inr at) = let k = cycle_known f n h at in said cs lines f (failed f) (itself f) (λ _. k)
+
+  pub references_said : (f : LinkFault) → names ≡ Ok tt → headings ≡ Ok tt → IsFirstCycle (skeleton cs) None → Fails f references → Links cs lines (Err f)
+  references_said f n h first r = said cs lines f references r (λ e. (
+    None,
+    (
+      (λ _ _. first),
+      sym (linked_is None ∙ (λ i. after_all (n i) (h i) (Ok tt) (e i) tests)),
+    ),
+  ))
+
+  pub tests_said : (f : LinkFault) → names ≡ Ok tt → headings ≡ Ok tt → IsFirstCycle (skeleton cs) None → references ≡ Ok tt → Fails f tests → Links cs lines (Err f)
+  tests_said f n h first r t = said cs lines f tests t (λ e. (
+    None,
+    (
+      (λ _ _. first),
+      sym (linked_is None ∙ (λ i. after_all (n i) (h i) (Ok tt) (r i) (e i))),
+    ),
+  ))
+
+  pub linked_so : (ts : List TestEntry) → names ≡ Ok tt → headings ≡ Ok tt → references ≡ Ok tt → tests ≡ Ok ts → link_by None cs lines ≡ Ok (program_of cs ts lines.files)
+  linked_so ts n h r t = linked_is None ∙ (λ i. after_all (n i) (h i) (Ok tt) (r i) (t i))
+
+  pub program_said : (p : Program) (ts : List TestEntry) → p ≡ program_of cs ts lines.files → names ≡ Ok tt → headings ≡ Ok tt → IsFirstCycle (skeleton cs) None → references ≡ Ok tt → tests ≡ Ok ts → Links cs lines (Ok p)
+  program_said p ts is n h first r t = (None, ((λ _ _. first), (λ i. Ok (is i)) ∙ sym (linked_so ts n h r t)))

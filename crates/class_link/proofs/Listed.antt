@@ -1,0 +1,271 @@
+-- Members are listed once, by their own classes, and names are in their forms.
+use Rattle.std.proofs.Common.{◌≡◌, ℕ, zero, suc, ◌+◌, ◌<◌, ◌≤◌, List, [], length, get_or, slice_get, Bool, true, false, nat_eq, nat_lt, refl, sym, ◌∙◌, ap, subst, inl, inr, arith, Option, Some, None, IfSome, All}
+use Rattle.std.specs.Prelude.{is_some, is_none, option_map, unwrap_or}
+use Rattle.std.specs.List.{list_all, range_with_len}
+use Rattle.std.proofs.lemmas.Bool.{and_parts, cases_order, or_cases, ltb-true, eqb-true, ne_eqb, eq-eqb}
+use Rattle.std.proofs.lemmas.Option.{slice_get_within, get_or_from_slice_get}
+use Rattle.class_pool.specs.declared.pool.Entry.{Entry}
+use Rattle.class_pool.proofs.EntryFacts.{NamesText, units_are}
+use Rattle.class_reader.specs.declared.parts.ClassParts.{ClassParts}
+use Rattle.class_reader.specs.declared.parts.CodePart.{CodePart}
+use Rattle.class_reader.proofs.ClassFacts.{ClassFacts, own_name_is}
+use Rattle.class_reader.proofs.MemberFacts.{FieldFacts, MethodFacts}
+use Rattle.et_base.specs.Names.{is_class_name, is_unqualified, is_method_name, is_field_descriptor, is_method_descriptor}
+use Rattle.jvm_model.specs.declared.program.Program.{Program}
+use Rattle.jvm_model.specs.declared.program.ClassRec.{ClassRec}
+use Rattle.jvm_model.specs.declared.program.FieldRec.{FieldRec}
+use Rattle.jvm_model.specs.declared.program.MethodRec.{MethodRec}
+use Rattle.jvm_model.specs.declared.program.Body.{Body}
+use Rattle.jvm_model.specs.declared.program.TestEntry.{TestEntry}
+use Rattle.jvm_model.specs.Builtin.{builtin_count, object_class}
+use Rattle.jvm_model.specs.World.{same_units}
+use Rattle.jvm_model.specs.Library.{builtin_classes, builtin_fields, builtin_methods}
+use Rattle.jvm_model.specs.Classes.{class_at, field_at, method_at, no_class, no_field, no_method, is_static, clinit_name}
+use Rattle.jvm_model.specs.Driver.{no_arguments}
+use Rattle.jvm_model.specs.Linked.{IsClass, IsField, IsMethod, count, IsInitialiser, IsListed}
+use Rattle.jvm_model.proofs.BuiltinRules.{all_at, builtin_class, builtin_field, builtin_method, builtin_class_name, builtin_field_forms, builtin_method_forms}
+use Rattle.class_link.specs.ClassNames.{text_at, own_name}
+use Rattle.class_link.specs.Assembly.{initialiser_from, method_rec, assembled}
+use Rattle.class_link.proofs.Blocks.{at_place, before}
+use Rattle.class_link.proofs.Assembled.{counts, own_fields, own_methods, holds_builtins, class_given, field_given, method_given, class_cases, field_cases, method_cases}
+use Rattle.class_link.proofs.Numbered.{units_true, if_some, all_range}
+use Rattle.class_link.proofs.Records.{initialiser_is, field_record, method_record}
+use Rattle.class_link.proofs.Tables.{all_from_at, own_field, own_method, lists_own, classes_own, method_listed, methods_listed, field_listed, fields_listed, top}
+
+-- ---- a number stands once in a range
+
+count_past : (n a k : ℕ) → n < a → count n (range_with_len a k) ≡ 0
+count_past n a zero h = refl
+count_past n a (suc k) h = let e : nat_eq n a ≡ false = ne_eqb n a (λ q. omega arith) in rw e (count_past n (a + 1) k (omega arith))
+
+count_range : (n a k : ℕ) → a ≤ n → n < a + k → count n (range_with_len a k) ≡ 1
+count_range n a zero h g = absurd (omega arith)
+count_range n a (suc k) h g = elim (cases_order n a) [
+  | inl e ↦ let q : nat_eq n a ≡ true = eq-eqb n a e in rw q (ap suc (count_past n (a + 1) k (omega arith)))
+  | inr o ↦ elim o [
+    | inl l ↦ absurd (omega arith)
+    | inr l ↦ let q : nat_eq n a ≡ false = ne_eqb n a (λ z. omega arith) in rw q (count_range n (a + 1) k (omega arith) (omega arith))
+  ]
+]
+
+-- ---- facts of class files
+
+-- what holds of each item holds at a place
+pub all_there : {X : Type 0} (P : X → Type 0) (xs : List X) (k : ℕ) (x : X) → All P xs → slice_get xs k ≡ Some x → P x
+all_there P xs k x h e = subst P (get_or_from_slice_get xs k x x e) (h k x (slice_get_within xs k x e))
+
+pub text_is : (test : List ℕ → Bool) (slots : List (Option Entry)) (i : ℕ) (t : NamesText test slots i) → text_at slots i ≡ t.units
+text_is test slots i t = ap (λ (o : Option (List ℕ)). unwrap_or o []) (units_are test slots i t)
+
+pub text_fits : (test : List ℕ → Bool) (slots : List (Option Entry)) (i : ℕ) → NamesText test slots i → test (text_at slots i) ≡ true
+text_fits test slots i t = ap test (text_is test slots i t) ∙ t.fits
+
+-- the facts of each class file
+abbrev pub AllKnown : List ClassParts → Type 0
+AllKnown cs = (i : ℕ) (c : ClassParts) → slice_get cs i ≡ Some c → ClassFacts c
+
+-- ---- the laws
+
+module _ (body : ClassParts → CodePart → Body) (cs : List ClassParts) (tests : List TestEntry) (files : List (List ℕ × List ℕ)) (known : AllKnown cs) where
+  abbrev p : Program
+  p = assembled body cs tests files
+
+  table_class : (c : ℕ) → c < builtin_count → lists_own c (class_at p c) ≡ true
+  table_class c g =
+      let n = counts.0 in
+      let z : 0 + c ≡ c = omega arith in
+      let q : lists_own (0 + c) (get_or builtin_classes c no_class) ≡ true = all_from_at lists_own 0 builtin_classes c no_class classes_own (omega arith) in
+      ap (lists_own c) (builtin_class p (holds_builtins body cs tests files) c g) ∙ rw z at q
+
+  fields_once : (f : ℕ) → IsField p f → count f (class_at p (field_at p f).class).fields ≡ 1
+  fields_once f h = elim (field_cases body cs tests files f h) [
+    | inl g ↦
+        let b = holds_builtins body cs tests files in
+        let n = counts.1 in
+        let x = get_or builtin_fields f no_field in
+        let z : 0 + f ≡ f = omega arith in
+        let s : field_listed (0 + f) x ≡ true = all_from_at field_listed 0 builtin_fields f no_field fields_listed (omega arith) in
+        let t : field_listed f x ≡ true = rw z at s in
+        let q = and_parts (nat_lt x.class builtin_count) _ t in
+        ap (λ (y : FieldRec). count f (class_at p y.class).fields) (builtin_field p b f g)
+        ∙ (ap (λ (y : ClassRec). count f y.fields) (builtin_class p b x.class (ltb-true x.class builtin_count q.0))
+        ∙ eqb-true _ 1 q.1)
+    | inr g ↦
+        let o = g.of in
+        let e : f ≡ length builtin_fields + (before own_fields cs o.class + o.index) = g.number ∙ ap (λ (n : ℕ). length builtin_fields + n) o.place in
+        let w = slice_get_within (own_fields o.parts) o.index o.member o.has_member in
+        ap (λ (y : FieldRec). count f (class_at p y.class).fields) (field_record body cs tests files f g)
+        ∙ (ap (λ (y : ClassRec). count f y.fields) (class_given body cs tests files o.class o.parts o.has_class)
+        ∙ count_range f (length builtin_fields + before own_fields cs o.class) (length o.parts.fields) (omega arith) (omega arith))
+  ]
+
+  methods_once : (m : ℕ) → IsMethod p m → count m (class_at p (method_at p m).class).methods ≡ 1
+  methods_once m h = elim (method_cases body cs tests files m h) [
+    | inl g ↦
+        let b = holds_builtins body cs tests files in
+        let n = counts.2 in
+        let x = get_or builtin_methods m no_method in
+        let z : 0 + m ≡ m = omega arith in
+        let s : method_listed (0 + m) x ≡ true = all_from_at method_listed 0 builtin_methods m no_method methods_listed (omega arith) in
+        let t : method_listed m x ≡ true = rw z at s in
+        let q = and_parts (nat_lt x.class builtin_count) _ t in
+        ap (λ (y : MethodRec). count m (class_at p y.class).methods) (builtin_method p b m g)
+        ∙ (ap (λ (y : ClassRec). count m y.methods) (builtin_class p b x.class (ltb-true x.class builtin_count q.0))
+        ∙ eqb-true _ 1 q.1)
+    | inr g ↦
+        let o = g.of in
+        let e : m ≡ length builtin_methods + (before own_methods cs o.class + o.index) = g.number ∙ ap (λ (n : ℕ). length builtin_methods + n) o.place in
+        let w = slice_get_within (own_methods o.parts) o.index o.member o.has_member in
+        ap (λ (y : MethodRec). count m (class_at p y.class).methods) (method_record body cs tests files m g)
+        ∙ (ap (λ (y : ClassRec). count m y.methods) (class_given body cs tests files o.class o.parts o.has_class)
+        ∙ count_range m (length builtin_methods + before own_methods cs o.class) (length o.parts.methods) (omega arith) (omega arith))
+  ]
+
+  -- ---- members are those of their class
+
+  own_fields_of : (c : ℕ) → IsClass p c → All (λ f. (field_at p f).class ≡ c) (class_at p c).fields
+  own_fields_of c h = elim (class_cases body cs tests files c h) [
+    | inl g ↦
+        let q = and_parts (list_all (own_field c) (class_at p c).fields) _ (and_parts _ _ (table_class c g)).0 in
+        λ k d l.
+        let f = get_or (class_at p c).fields k d in
+        let r = and_parts (nat_lt f 2) _ (all_at (own_field c) (class_at p c).fields k d q.0 l) in
+        ap (λ (y : FieldRec). y.class) (builtin_field p (holds_builtins body cs tests files) f (ltb-true f 2 r.0)) ∙ eqb-true _ c r.1
+    | inr g ↦
+        let own : All (λ f. (field_at p f).class ≡ builtin_count + g.index) (range_with_len (length builtin_fields + before own_fields cs g.index) (length g.parts.fields)) =
+        all_range (λ f. (field_at p f).class ≡ builtin_count + g.index) (length builtin_fields + before own_fields cs g.index) (length g.parts.fields) (λ k l.
+        let a = at_place g.parts.fields k l in
+        let z : (length builtin_fields + before own_fields cs g.index) + k ≡ length builtin_fields + (before own_fields cs g.index + k) = omega arith in
+        ap (λ (n : ℕ). (field_at p n).class) z ∙ ap (λ (y : FieldRec). y.class) (field_given body cs tests files g.index k g.parts a.item g.there a.there)) in
+        subst (λ n. All (λ f. (field_at p f).class ≡ n) (class_at p n).fields) (sym g.number)
+        (subst (λ (y : ClassRec). All (λ f. (field_at p f).class ≡ builtin_count + g.index) y.fields) (sym (class_given body cs tests files g.index g.parts g.there)) own)
+  ]
+
+  own_methods_of : (c : ℕ) → IsClass p c → All (λ m. (method_at p m).class ≡ c) (class_at p c).methods
+  own_methods_of c h = elim (class_cases body cs tests files c h) [
+    | inl g ↦
+        let q = and_parts (list_all (own_field c) (class_at p c).fields) _ (and_parts _ _ (table_class c g)).0 in
+        λ k d l.
+        let m = get_or (class_at p c).methods k d in
+        let r = and_parts (nat_lt m 102) _ (all_at (own_method c) (class_at p c).methods k d q.1 l) in
+        ap (λ (y : MethodRec). y.class) (builtin_method p (holds_builtins body cs tests files) m (ltb-true m 102 r.0)) ∙ eqb-true _ c r.1
+    | inr g ↦
+        let own : All (λ m. (method_at p m).class ≡ builtin_count + g.index) (range_with_len (length builtin_methods + before own_methods cs g.index) (length g.parts.methods)) =
+        all_range (λ m. (method_at p m).class ≡ builtin_count + g.index) (length builtin_methods + before own_methods cs g.index) (length g.parts.methods) (λ k l.
+        let a = at_place g.parts.methods k l in
+        let z : (length builtin_methods + before own_methods cs g.index) + k ≡ length builtin_methods + (before own_methods cs g.index + k) = omega arith in
+        ap (λ (n : ℕ). (method_at p n).class) z ∙ ap (λ (y : MethodRec). y.class) (method_given body cs tests files g.index k g.parts a.item g.there a.there)) in
+        subst (λ n. All (λ m. (method_at p m).class ≡ n) (class_at p n).methods) (sym g.number)
+        (subst (λ (y : ClassRec). All (λ m. (method_at p m).class ≡ builtin_count + g.index) y.methods) (sym (class_given body cs tests files g.index g.parts g.there)) own)
+  ]
+
+  -- ---- names
+
+  named_class : (c : ℕ) → IsClass p c → is_class_name (class_at p c).name ≡ true
+  named_class c h = elim (class_cases body cs tests files c h) [
+    | inl g ↦ builtin_class_name p (holds_builtins body cs tests files) c g
+    | inr g ↦
+        let o = (known g.index g.parts g.there).this_class in
+        let e : own_name g.parts ≡ o.text.units = ap (λ (x : Option (List ℕ)). unwrap_or x []) (own_name_is g.parts.pool g.parts.this_class o) in
+        ap (λ (n : ℕ). is_class_name (class_at p n).name) g.number
+        ∙ (ap (λ (y : ClassRec). is_class_name y.name) (class_given body cs tests files g.index g.parts g.there) ∙ (ap is_class_name e ∙ o.text.fits))
+  ]
+
+  named_field : (f : ℕ) → IsField p f → (is_unqualified (field_at p f).name ≡ true) × (is_field_descriptor (field_at p f).descriptor ≡ true)
+  named_field f h = elim (field_cases body cs tests files f h) [
+    | inl g ↦ builtin_field_forms p (holds_builtins body cs tests files) f g
+    | inr g ↦
+        let o = g.of in
+        let x : FieldFacts o.parts.pool o.member = all_there (FieldFacts o.parts.pool) o.parts.fields o.index o.member (known o.class o.parts o.has_class).fields.each o.has_member in
+        subst (λ (y : FieldRec). (is_unqualified y.name ≡ true) × (is_field_descriptor y.descriptor ≡ true)) (sym (field_record body cs tests files f g))
+        (text_fits is_unqualified o.parts.pool o.member.name x.name, text_fits is_field_descriptor o.parts.pool o.member.descriptor x.descriptor)
+  ]
+
+  named_method : (m : ℕ) → IsMethod p m → (is_method_name (method_at p m).name ≡ true) × (is_method_descriptor (method_at p m).descriptor ≡ true)
+  named_method m h = elim (method_cases body cs tests files m h) [
+    | inl g ↦ builtin_method_forms p (holds_builtins body cs tests files) m g
+    | inr g ↦
+        let o = g.of in
+        let x : MethodFacts o.parts.pool o.member = all_there (MethodFacts o.parts.pool) o.parts.methods o.index o.member (known o.class o.parts o.has_class).methods.each o.has_member in
+        subst (λ (y : MethodRec). (is_method_name y.name ≡ true) × (is_method_descriptor y.descriptor ≡ true)) (sym (method_record body cs tests files m g))
+        (text_fits is_method_name o.parts.pool o.member.name x.name, text_fits is_method_descriptor o.parts.pool o.member.descriptor x.descriptor)
+  ]
+
+  -- ---- superclasses, initialisers and built-in methods
+
+  root_is : (c : ℕ) → IsClass p c → (class_at p c).superclass ≡ None → c ≡ object_class
+  root_is c h e = elim (class_cases body cs tests files c h) [
+    | inl g ↦ elim (or_cases (is_some (class_at p c).superclass) (nat_eq c 0) (and_parts _ _ (and_parts _ _ (table_class c g)).1).1) [
+      | inl s ↦ absurd (let z : is_some (class_at p c).superclass ≡ false = rw e refl in cc)
+      | inr z ↦ eqb-true c 0 z
+    ]
+    | inr g ↦
+        let s : (class_at p c).superclass ≡ Some _ = ap (λ (n : ℕ). (class_at p n).superclass) g.number ∙ ap (λ (y : ClassRec). y.superclass) (class_given body cs tests files g.index g.parts g.there) in
+        absurd (cc)
+  ]
+
+  top_is : (class_at p object_class).superclass ≡ None
+  top_is = ap (λ (y : ClassRec). y.superclass) (builtin_class p (holds_builtins body cs tests files) 0 (omega arith)) ∙ top
+
+  initialiser_made : (i : ℕ) (c : ClassParts) → slice_get cs i ≡ Some c → (m : ℕ) → initialiser_from (length builtin_methods + before own_methods cs i) c.pool c.methods ≡ Some m → IsInitialiser p (builtin_count + i) m
+  initialiser_made i c h m e =
+      let r = initialiser_is (length builtin_methods + before own_methods cs i) c.pool c.methods m e in
+      let x = r.member in
+      let z : m ≡ length builtin_methods + (before own_methods cs i + r.index) = (let k = r.number in omega arith) in
+      let y : method_at p m ≡ method_rec (body c) c.pool (builtin_count + i) x = ap (λ (n : ℕ). method_at p n) z ∙ method_given body cs tests files i r.index c x h r.there in
+      let a = and_parts (is_static x.flags) _ r.is in
+      let b = and_parts (same_units (text_at c.pool x.name) clinit_name) _ a.1 in
+      let d = and_parts (same_units (text_at c.pool x.descriptor) no_arguments) (is_some x.code) b.1 in
+      record {
+        own = ap (λ (y : MethodRec). y.class) y;
+        static = ap (λ (y : MethodRec). is_static y.flags) y ∙ a.0;
+        name = ap (λ (y : MethodRec). y.name) y ∙ units_true _ _ b.0;
+        descriptor = ap (λ (y : MethodRec). y.descriptor) y ∙ units_true _ _ d.0;
+        code = ap (λ (y : MethodRec). is_some y.body) y ∙ mapped x.code d.1;
+      }
+    where
+      mapped : (o : Option CodePart) → is_some o ≡ true → is_some (option_map (body c) o) ≡ true
+      mapped None q = q
+      mapped (Some x) q = refl
+
+  initialisers_are : (c : ℕ) → IsClass p c → IfSome (class_at p c).initialiser (λ m. IsInitialiser p c m)
+  initialisers_are c h = elim (class_cases body cs tests files c h) [
+    | inl g ↦ no_value (class_at p c).initialiser (λ m. IsInitialiser p c m) (and_parts _ _ (and_parts _ _ (table_class c g)).1).0
+    | inr g ↦
+        subst (λ n. IfSome (class_at p n).initialiser (λ m. IsInitialiser p n m)) (sym g.number)
+        (subst (λ (y : ClassRec). IfSome y.initialiser (λ m. IsInitialiser p (builtin_count + g.index) m)) (sym (class_given body cs tests files g.index g.parts g.there))
+        (if_some (λ m. IsInitialiser p (builtin_count + g.index) m) (initialiser_from (length builtin_methods + before own_methods cs g.index) g.parts.pool g.parts.methods) (initialiser_made g.index g.parts g.there)))
+  ]
+    where
+      no_value : (o : Option ℕ) (Q : ℕ → Type 0) → is_none o ≡ true → IfSome o Q
+      no_value None Q q = tt
+      no_value (Some x) Q q = absurd (cc)
+
+  no_natives : (m : ℕ) → IsMethod p m → builtin_count ≤ (method_at p m).class → (method_at p m).native ≡ None
+  no_natives m h l = elim (method_cases body cs tests files m h) [
+    | inl g ↦
+        let n = counts.2 in
+        let x = get_or builtin_methods m no_method in
+        let z : 0 + m ≡ m = omega arith in
+        let s : method_listed (0 + m) x ≡ true = all_from_at method_listed 0 builtin_methods m no_method methods_listed (omega arith) in
+        let t : method_listed m x ≡ true = rw z at s in
+        let w : x.class < builtin_count = ltb-true x.class builtin_count (and_parts (nat_lt x.class builtin_count) _ t).0 in
+        let e : (method_at p m).class ≡ x.class = ap (λ (y : MethodRec). y.class) (builtin_method p (holds_builtins body cs tests files) m g) in
+        absurd (omega arith)
+    | inr g ↦ ap (λ (y : MethodRec). y.native) (method_record body cs tests files m g)
+  ]
+
+  pub is_listed : IsListed p
+  is_listed = record {
+    fields = fields_once;
+    methods = methods_once;
+    own_fields = own_fields_of;
+    own_methods = own_methods_of;
+    class_names = named_class;
+    field_names = named_field;
+    method_names = named_method;
+    root = root_is;
+    top = top_is;
+    initialisers = initialisers_are;
+    natives = no_natives;
+  }

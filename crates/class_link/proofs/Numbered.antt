@@ -1,0 +1,119 @@
+-- Names to numbers: a class's number names an entry of the program, and that entry has the name.
+use Rattle.std.proofs.Common.{◌≡◌, ℕ, zero, suc, ◌+◌, ◌<◌, List, [], ◌∷◌, ◌++◌, length, map, get_or, true, nat_eq, refl, sym, ◌∙◌, ap, subst, arith, Option, Some, None, IfSome, All}
+use Rattle.std.specs.Prelude.{flat_map, option_and_then, unwrap_or}
+use Rattle.std.specs.List.{range_with_len}
+use Rattle.std.proofs.lemmas.Bool.{and_parts, eqb-true, eq-eqb}
+use Rattle.std.proofs.lemmas.List.{length-map, map-append}
+use Rattle.std.proofs.lemmas.List.Elements.{All-nil, All-cons, All-head, All-tail, All-append, All-filter, All-from_get_or}
+use Rattle.std.proofs.lemmas.List.FromFn.{length-range_with_len, get_or-range_with_len}
+use Rattle.std.proofs.lemmas.List.Quantifiers.{position-Some}
+use Rattle.class_reader.specs.declared.parts.ClassParts.{ClassParts}
+use Rattle.class_reader.specs.declared.parts.CodePart.{CodePart}
+use Rattle.jvm_model.specs.declared.program.Program.{Program}
+use Rattle.jvm_model.specs.declared.program.Body.{Body}
+use Rattle.jvm_model.specs.declared.program.ClassRec.{ClassRec}
+use Rattle.jvm_model.specs.declared.program.TestEntry.{TestEntry}
+use Rattle.jvm_model.specs.World.{same_units}
+use Rattle.jvm_model.specs.Library.{builtin_classes, builtin_fields, builtin_methods}
+use Rattle.jvm_model.specs.Classes.{class_at, no_class, first_mentions}
+use Rattle.jvm_model.specs.Linked.{IsClass}
+use Rattle.class_link.specs.ClassNames.{own_name, all_names, class_number, number_or_first}
+use Rattle.class_link.specs.Assembly.{class_recs, to_list, assembled}
+use Rattle.class_link.proofs.Assembled.{class_count}
+
+-- ---- units
+
+pub units_true : (x y : List ℕ) → same_units x y ≡ true → x ≡ y
+units_true [] [] e = refl
+units_true [] (y ∷ ys) e = absurd (cc)
+units_true (x ∷ xs) [] e = absurd (cc)
+units_true (x ∷ xs) (y ∷ ys) e =
+    let q = and_parts (nat_eq x y) (same_units xs ys) e in
+    let a : x ≡ y = eqb-true x y q.0 in
+    let b = units_true xs ys q.1 in
+    rw (a, b) refl
+
+pub units_refl : (x : List ℕ) → same_units x x ≡ true
+units_refl [] = refl
+units_refl (x ∷ xs) = let a = eq-eqb x x refl in let b = units_refl xs in rw (a, b) refl
+
+pub units_same : (x y : List ℕ) → x ≡ y → same_units x y ≡ true
+units_same x y e = subst (λ z. same_units x z ≡ true) e (units_refl x)
+
+-- ---- lists
+
+pub if_some : {A : Type 0} (P : A → Type 0) (o : Option A) → ((x : A) → o ≡ Some x → P x) → IfSome o P
+if_some P None f = tt
+if_some P (Some x) f = f x refl
+
+pub get_or_map : {A B : Type 0} (f : A → B) (xs : List A) (i : ℕ) (d : A) (e : B) → i < length xs → get_or (map f xs) i e ≡ f (get_or xs i d)
+get_or_map f [] i d e h = absurd (omega arith)
+get_or_map f (x ∷ xs) zero d e h = refl
+get_or_map f (x ∷ xs) (suc i) d e h = get_or_map f xs i d e (omega arith)
+
+pub all_range : (P : ℕ → Type 0) (a n : ℕ) → ((k : ℕ) → k < n → P (a + k)) → All P (range_with_len a n)
+all_range P a n f = All-from_get_or P (range_with_len a n) 0 (λ i h. let l = length-range_with_len a n in let g : i < n = omega arith in subst P (sym (get_or-range_with_len a n i 0 g)) (f i g))
+
+pub all_flat : {A : Type 0} (P : ℕ → Type 0) (f : A → List ℕ) (xs : List A) → ((x : A) → All P (f x)) → All P (flat_map f xs)
+all_flat P f [] h = All-nil P
+all_flat P f (x ∷ xs) h = All-append P (f x) (flat_map f xs) (h x) (all_flat P f xs h)
+
+pub all_mentions : (P : ℕ → Type 0) (xs : List ℕ) → All P xs → All P (first_mentions xs)
+all_mentions P [] h = All-nil P
+all_mentions P (x ∷ xs) h = All-cons P x _ (All-head P x xs h) (All-filter _ P (first_mentions xs) (all_mentions P xs (All-tail P x xs h)))
+
+pub all_to_list : (P : ℕ → Type 0) (o : Option ℕ) → IfSome o P → All P (to_list o)
+all_to_list P None h = All-nil P
+all_to_list P (Some x) h = All-cons P x [] h (All-nil P)
+
+pub and_then_some : {A : Type 0} (P : ℕ → Type 0) (f : A → Option ℕ) (o : Option A) → ((x : A) → IfSome (f x) P) → IfSome (option_and_then f o) P
+and_then_some P f None h = tt
+and_then_some P f (Some x) h = h x
+
+-- ---- names
+
+-- a class's number is within the names, and the name stands there
+pub number_found : (names : List (List ℕ)) (name : List ℕ) (n : ℕ) → class_number names name ≡ Some n → (n < length names) × (get_or names n [] ≡ name)
+number_found names name n e = let q = position-Some (same_units name) names n [] e in (q.0, sym (units_true name (get_or names n []) q.1))
+
+pub number_within : (names : List (List ℕ)) (name : List ℕ) → 0 < length names → number_or_first names name < length names
+number_within names name h = some_within (class_number names name) (if_some (λ n. n < length names) (class_number names name) (λ n e. (number_found names name n e).0))
+  where
+    some_within : (o : Option ℕ) → IfSome o (λ n. n < length names) → unwrap_or o 0 < length names
+    some_within None g = h
+    some_within (Some n) g = g
+
+rec_names : (names : List (List ℕ)) (f m : ℕ) (cs : List ClassParts) → map (λ (c : ClassRec). c.name) (class_recs names f m cs) ≡ map own_name cs
+rec_names names f m [] = refl
+rec_names names f m (c ∷ cs) = ap (λ (xs : List (List ℕ)). own_name c ∷ xs) (rec_names names (f + length c.fields) (m + length c.methods) cs)
+
+module _ (body : ClassParts → CodePart → Body) (cs : List ClassParts) (tests : List TestEntry) (files : List (List ℕ × List ℕ)) where
+  abbrev p : Program
+  p = assembled body cs tests files
+
+  pub names_are : all_names cs ≡ map (λ (c : ClassRec). c.name) p.classes
+  unfolding assembled all_names
+  names_are =
+      let name : ClassRec → List ℕ = λ c. c.name in
+      let f = length builtin_fields in
+      let m = length builtin_methods in
+      sym (map-append name builtin_classes (class_recs (all_names cs) f m cs) ∙ ap (λ (xs : List (List ℕ)). map name builtin_classes ++ xs) (rec_names (all_names cs) f m cs))
+
+  pub names_length : length (all_names cs) ≡ length p.classes
+  names_length = ap length names_are ∙ length-map p.classes (λ (c : ClassRec). c.name)
+
+  pub name_of_class : (c : ℕ) → IsClass p c → get_or (all_names cs) c [] ≡ (class_at p c).name
+  name_of_class c h = ap (λ (xs : List (List ℕ)). get_or xs c []) names_are ∙ get_or_map (λ (x : ClassRec). x.name) p.classes c no_class [] h
+
+  -- the number of a name is that of a class of this name
+  pub number_is : (name : List ℕ) (n : ℕ) → class_number (all_names cs) name ≡ Some n → IsClass p n × ((class_at p n).name ≡ name)
+  number_is name n e =
+      let q = number_found (all_names cs) name n e in
+      let h : IsClass p n = subst (λ k. n < k) names_length q.0 in
+      (h, sym (name_of_class n h) ∙ q.1)
+
+  pub number_class : (name : List ℕ) → IsClass p (number_or_first (all_names cs) name)
+  number_class name = let a = class_count body cs tests files in let b = names_length in subst (λ k. number_or_first (all_names cs) name < k) names_length (number_within (all_names cs) name (omega arith))
+
+  pub number_class_some : (name : List ℕ) → IfSome (class_number (all_names cs) name) (λ n. IsClass p n)
+  number_class_some name = if_some (λ n. IsClass p n) (class_number (all_names cs) name) (λ n e. (number_is name n e).0)

@@ -1,0 +1,206 @@
+-- Fields open with values of their types.
+use Rattle.std.proofs.Common.{◌≡◌, ℕ, suc, ◌<◌, ◌≤◌, ◌-◌, ◌%◌, ℤ, pos, negsuc, List, [], ◌∷◌, length, slice_get, true, false, ◌&&◌, nat_eq, nat_le, nat_lt, refl, sym, ◌∙◌, ap, subst, inl, inr, arith, Option, Some, None, IfSome, codes}
+use Rattle.std.specs.Prelude.{FitsSigned, int_le, int_lt}
+use Rattle.std.proofs.lemmas.Bool.{cases_Bool, or_cases, and_from, eqb-true, ne_eqb, lt-ltb, le-leb}
+use Rattle.std.specs.Int.{w8, w16, int_wrap, int_rem_euclid}
+use Rattle.std.proofs.lemmas.Int.{ints, SFits-int_wrap}
+use Rattle.et_base.specs.Numbers.{i2b, i2s, i2c}
+use Rattle.jvm_model.specs.Narrow.{narrow_int, narrow, narrowed}
+use Rattle.et_base.specs.Names.{is_base, after_element, after_type, ends, is_field_descriptor}
+use Rattle.std.proofs.lemmas.Slice.Eq.{bytes_eq-Decides}
+use Rattle.class_pool.specs.declared.pool.Entry.{Entry}
+use Rattle.class_pool.specs.declared.pool.Entry.TheVariants as entry
+use Rattle.class_pool.specs.declared.pool.Entry.TheVariants.{Utf8, Str}
+use Rattle.class_pool.specs.Pool.{entry_of}
+use Rattle.class_reader.specs.declared.parts.ClassParts.{ClassParts}
+use Rattle.class_reader.specs.declared.parts.MemberPart.{MemberPart}
+use Rattle.class_reader.specs.declared.parts.CodePart.{CodePart}
+use Rattle.class_reader.specs.Names.{is_text_of, is_small, fits_constant}
+use Rattle.class_reader.proofs.MemberFacts.{FieldFacts}
+use Rattle.jvm_model.specs.declared.program.FieldRec.{FieldRec}
+use Rattle.jvm_model.specs.declared.program.Body.{Body}
+use Rattle.jvm_model.specs.declared.program.TestEntry.{TestEntry}
+use Rattle.jvm_model.specs.declared.values.Value.TheVariants.{Int, Lit}
+use Rattle.jvm_model.specs.declared.program.Program.{Program}
+use Rattle.jvm_model.specs.Classes.{member, is_static, default_of}
+use Rattle.jvm_model.specs.Linked.{fits_int, opens, HasOpenings}
+use Rattle.jvm_model.proofs.BuiltinRules.{builtin_field, builtin_opens}
+use Rattle.class_link.specs.ClassNames.{text_at}
+use Rattle.class_link.specs.Literals.{literals, literal_number}
+use Rattle.class_link.specs.Assembly.{constant_opening, static_opening, opening, assembled}
+use Rattle.class_link.proofs.Assembled.{holds_builtins, field_cases}
+use Rattle.class_link.proofs.Records.{field_record}
+use Rattle.class_link.proofs.Tables.{instance_opening}
+use Rattle.class_link.proofs.Listed.{AllKnown, all_there, text_is, text_fits}
+use Rattle.class_link.proofs.Pools.{literal_within}
+
+-- ---- defaults
+
+base_opens : (p : Program) (u : ℕ) (us : List ℕ) → is_base u ≡ true → opens p (u ∷ us) (default_of (u ∷ us)) ≡ true
+base_opens p u us h = elim (or_cases _ (nat_eq u 90) h) [
+  | inl h ↦ elim (or_cases _ (nat_eq u 83) h) [
+    | inl h ↦ elim (or_cases _ (nat_eq u 74) h) [
+      | inl h ↦ elim (or_cases _ (nat_eq u 73) h) [
+        | inl h ↦ elim (or_cases _ (nat_eq u 70) h) [
+          | inl h ↦ elim (or_cases _ (nat_eq u 68) h) [
+            | inl h ↦ elim (or_cases _ (nat_eq u 67) h) [
+              | inl h ↦ let q = eqb-true u 66 h in rw q refl
+              | inr e ↦ let q = eqb-true u 67 e in rw q refl
+            ]
+            | inr e ↦ let q = eqb-true u 68 e in rw q refl
+          ]
+          | inr e ↦ let q = eqb-true u 70 e in rw q refl
+        ]
+        | inr e ↦ let q = eqb-true u 73 e in rw q refl
+      ]
+      | inr e ↦ let q = eqb-true u 74 e in rw q refl
+    ]
+    | inr e ↦ let q = eqb-true u 83 e in rw q refl
+  ]
+  | inr e ↦ let q = eqb-true u 90 e in rw q refl
+]
+
+element_opens : (p : Program) (u : ℕ) (us : List ℕ) → ends (after_element (u ∷ us)) ≡ true → opens p (u ∷ us) (default_of (u ∷ us)) ≡ true
+unfolding after_element
+element_opens p u us h = elim (cases_Bool (is_base u)) [
+  | inl b ↦ base_opens p u us b
+  | inr b ↦ elim (cases_Bool (nat_eq u 76)) [
+    | inl e ↦ let q = eqb-true u 76 e in rw q refl
+    | inr e ↦ let z : ends (after_element (u ∷ us)) ≡ false = rw (after_element, b, e) refl in absurd (cc)
+  ]
+]
+
+-- each type's default opens its fields
+pub default_opens : (p : Program) (t : List ℕ) → is_field_descriptor t ≡ true → opens p t (default_of t) ≡ true
+unfolding is_field_descriptor after_type
+default_opens p [] h = absurd (cc)
+default_opens p (u ∷ us) h = elim (cases_Bool (nat_eq u 91)) [
+  | inl e ↦ let q = eqb-true u 91 e in rw q refl
+  | inr e ↦
+      let l : nat_lt 0 (suc (length us)) ≡ true = lt-ltb 0 (suc (length us)) (omega arith) in
+      let g = rw e at h in
+      element_opens p u us (rw l at g)
+]
+
+-- ---- constants
+
+byte_fits : (n : ℤ) → FitsSigned w8 n → (int_le (negsuc 127) n && int_lt n (pos 128)) ≡ true
+byte_fits (pos a) h = let q : a < 128 = omega (arith, ints) in lt-ltb a 128 q
+byte_fits (negsuc a) h = let q : a ≤ 127 = omega (arith, ints) in let e = le-leb a 127 q in rw e refl
+
+short_fits : (n : ℤ) → FitsSigned w16 n → (int_le (negsuc 32767) n && int_lt n (pos 32768)) ≡ true
+short_fits (pos a) h = let q : a < 32768 = omega (arith, ints) in lt-ltb a 32768 q
+short_fits (negsuc a) h = let q : a ≤ 32767 = omega (arith, ints) in let e = le-leb a 32767 q in rw e refl
+
+remainder_fits : (n : ℤ) (d : ℕ) → 0 < d → (int_le (pos 0) (int_rem_euclid n (pos d)) && int_lt (int_rem_euclid n (pos d)) (pos d)) ≡ true
+remainder_fits (pos a) d h = let q : a % d < d = omega arith in and_from _ _ (le-leb 0 (a % d) (omega arith)) (lt-ltb (a % d) d q)
+remainder_fits (negsuc a) d h = let q : d - 1 - a % d < d = omega arith in and_from _ _ (le-leb 0 (d - 1 - a % d) (omega arith)) (lt-ltb (d - 1 - a % d) d q)
+
+abbrev pub smalls : List ℕ
+smalls = 66 ∷ 67 ∷ 73 ∷ 83 ∷ 90 ∷ []
+
+-- a narrowed int is one of its type
+pub narrowed_fits : (u : ℕ) (n : ℤ) → member u smalls ≡ true → fits_int u (narrow_int u n) ≡ true
+unfolding i2b i2s i2c
+narrowed_fits u n h = elim (or_cases (nat_eq u 66) _ h) [
+  | inl e ↦ let q = eqb-true u 66 e in rw q (byte_fits (int_wrap w8 n) (SFits-int_wrap w8 n))
+  | inr h ↦ elim (or_cases (nat_eq u 67) _ h) [
+    | inl e ↦ let q = eqb-true u 67 e in rw q (remainder_fits n 65536 (omega arith))
+    | inr h ↦ elim (or_cases (nat_eq u 73) _ h) [
+      | inl e ↦ let q = eqb-true u 73 e in rw q refl
+      | inr h ↦ elim (or_cases (nat_eq u 83) _ h) [
+        | inl e ↦ let q = eqb-true u 83 e in rw q (short_fits (int_wrap w16 n) (SFits-int_wrap w16 n))
+        | inr h ↦ elim (or_cases (nat_eq u 90) false h) [
+          | inl e ↦ let q = eqb-true u 90 e in rw q (remainder_fits n 2 (omega arith))
+          | inr e ↦ absurd (cc)
+        ]
+      ]
+    ]
+  ]
+]
+
+texts_are : (units text : List ℕ) → is_text_of text (Some (Utf8 units)) ≡ true → units ≡ text
+texts_are units text h = (bytes_eq-Decides units text).0 h
+
+small_units : (u : ℕ) (p : Program) (units : List ℕ) (n : ℤ) → member u smalls ≡ true → units ≡ u ∷ [] → opens p units (narrowed units (Int n)) ≡ true
+unfolding narrow
+small_units u p units n h e = rw e (narrowed_fits u n h)
+
+small_opens : (p : Program) (units : List ℕ) (n : ℤ) → is_small (Some (Utf8 units)) ≡ true → opens p units (narrowed units (Int n)) ≡ true
+small_opens p units n h = elim (or_cases _ (is_text_of (codes "Z") (Some (Utf8 units))) h) [
+  | inr e ↦ small_units 90 p units n refl (texts_are units (codes "Z") e)
+  | inl h ↦ elim (or_cases _ (is_text_of (codes "B") (Some (Utf8 units))) h) [
+    | inr e ↦ small_units 66 p units n refl (texts_are units (codes "B") e)
+    | inl h ↦ elim (or_cases _ (is_text_of (codes "C") (Some (Utf8 units))) h) [
+      | inr e ↦ small_units 67 p units n refl (texts_are units (codes "C") e)
+      | inl h ↦ elim (or_cases _ (is_text_of (codes "S") (Some (Utf8 units))) h) [
+        | inr e ↦ small_units 83 p units n refl (texts_are units (codes "S") e)
+        | inl e ↦ small_units 73 p units n refl (texts_are units (codes "I") e)
+      ]
+    ]
+  ]
+]
+
+string_opens : (p : Program) (units : List ℕ) (n : ℕ) → suc n ≤ length p.literals → units ≡ codes "Ljava/lang/String;" → opens p units (Lit (suc n)) ≡ true
+string_opens p units n h e =
+    let z : nat_eq (suc n) 0 ≡ false = ne_eqb (suc n) 0 (λ q. omega arith) in
+    let l : nat_le (suc n) (length p.literals) ≡ true = le-leb (suc n) (length p.literals) h in
+    rw (e, z, l) refl
+
+-- a constant opens a field that it fits
+constant_opens : (p : Program) (texts : List (List ℕ)) (slots : List (Option Entry)) (units : List ℕ) (e : Option Entry) → is_field_descriptor units ≡ true →
+    ((text : ℕ) → e ≡ Some (Str text) → literal_number texts (text_at slots text) ≤ length p.literals) → fits_constant (Some (Utf8 units)) e ≡ true → opens p units (constant_opening texts slots units e) ≡ true
+constant_opens p texts slots units None t l h = absurd (cc)
+constant_opens p texts slots units (Some (entry.Integer n)) t l h = small_opens p units n h
+constant_opens p texts slots units (Some (entry.Float n)) t l h = default_opens p units t
+constant_opens p texts slots units (Some (entry.Long n)) t l h = let e = texts_are units (codes "J") h in rw e refl
+constant_opens p texts slots units (Some (entry.Double n)) t l h = default_opens p units t
+constant_opens p texts slots units (Some (entry.Str text)) t l h = string_opens p units _ (l text refl) (texts_are units (codes "Ljava/lang/String;") h)
+constant_opens p texts slots units (Some e) t l h = absurd (cc)
+
+module _ (body : ClassParts → CodePart → Body) (cs : List ClassParts) (tests : List TestEntry) (files : List (List ℕ × List ℕ)) (known : AllKnown cs) where
+  abbrev p : Program
+  p = assembled body cs tests files
+
+  literal_is : (i : ℕ) (c : ClassParts) (k text : ℕ) → slice_get cs i ≡ Some c → entry_of c.pool k ≡ Some (Str text) → literal_number (literals cs) (text_at c.pool text) ≤ length p.literals
+  unfolding assembled
+  literal_is i c k text h e = literal_within cs i c k text h e (text_at c.pool text)
+
+  static_opens : (i : ℕ) (c : ClassParts) → slice_get cs i ≡ Some c → (x : MemberPart) → FieldFacts c.pool x → (o : Option ℕ) → IfSome o (λ k. fits_constant (entry_of c.pool x.descriptor) (entry_of c.pool k) ≡ true) →
+      opens p (text_at c.pool x.descriptor) (static_opening (literals cs) c.pool (text_at c.pool x.descriptor) o) ≡ true
+  static_opens i c h x f None g = default_opens p (text_at c.pool x.descriptor) (text_fits is_field_descriptor c.pool x.descriptor f.descriptor)
+  static_opens i c h x f (Some k) g =
+      let t = f.descriptor in
+      let e = text_is is_field_descriptor c.pool x.descriptor t in
+      let q : fits_constant (Some (Utf8 t.units)) (entry_of c.pool k) ≡ true = subst (λ (d : Option Entry). fits_constant d (entry_of c.pool k) ≡ true) t.entry g in
+      subst (λ us. opens p us (constant_opening (literals cs) c.pool us (entry_of c.pool k)) ≡ true) (sym e)
+      (constant_opens p (literals cs) c.pool t.units (entry_of c.pool k) t.fits (λ text s. literal_is i c k text h s) q)
+
+  opening_fits : (i : ℕ) (c : ClassParts) → slice_get cs i ≡ Some c → (x : MemberPart) → FieldFacts c.pool x → opens p (text_at c.pool x.descriptor) (opening (literals cs) c.pool x) ≡ true
+  unfolding opening
+  opening_fits i c h x f = elim (cases_Bool (is_static x.flags)) [
+    | inl s ↦ rw s (static_opens i c h x f x.constant f.constant)
+    | inr s ↦ rw s (default_opens p (text_at c.pool x.descriptor) (text_fits is_field_descriptor c.pool x.descriptor f.descriptor))
+  ]
+
+  pub has_openings : HasOpenings p
+  unfolding opening
+  has_openings = record {
+    values = λ f h. (elim (field_cases body cs tests files f h) [
+      | inl g ↦ builtin_opens p (holds_builtins body cs tests files) f g
+      | inr g ↦
+          let b = g.of in
+          let x : FieldFacts b.parts.pool b.member = all_there (FieldFacts b.parts.pool) b.parts.fields b.index b.member (known b.class b.parts b.has_class).fields.each b.has_member in
+          subst (λ (y : FieldRec). opens p y.descriptor y.opening ≡ true) (sym (field_record body cs tests files f g)) (opening_fits b.class b.parts b.has_class b.member x)
+    ]);
+    defaults = λ f h s. (elim (field_cases body cs tests files f h) [
+      | inl g ↦
+          let e = builtin_field p (holds_builtins body cs tests files) f g in
+          subst (λ (y : FieldRec). y.opening ≡ default_of y.descriptor) (sym e) (instance_opening f g (ap (λ (y : FieldRec). is_static y.flags) (sym e) ∙ s))
+      | inr g ↦
+          let b = g.of in
+          let e = field_record body cs tests files f g in
+          let n : is_static b.member.flags ≡ false = ap (λ (y : FieldRec). is_static y.flags) (sym e) ∙ s in
+          subst (λ (y : FieldRec). y.opening ≡ default_of y.descriptor) (sym e) (rw n refl)
+    ]);
+  }

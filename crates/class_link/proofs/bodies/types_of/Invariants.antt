@@ -1,0 +1,7 @@
+use Rattle.std.proofs.Common.{◌≡◌, ◌++◌, map, drop}
+use Rattle.class_link.specs.Bodies as bodies
+use Rattle.class_link.proofs.bodies.types_of.Given as goal
+
+-- the types so far and those of what is left
+abbrev pub invariant-loop-kind : goal.invariant-loop-kind
+invariant-loop-kind l = l.types ++ map (bodies.type_rec l.slots) (drop l.kind-index l.kinds) ≡ map (bodies.type_rec l.slots) l.kinds

@@ -1,0 +1,126 @@
+-- The faults of linking, each by itself.
+use Rattle.std.specs.Prelude.{◌≡◌, ℕ, zero, suc, ◌+◌, ◌<◌, List, [], ◌∷◌, ◌++◌, length, map, option_and_then, is_some, is_none, Option, Some, None, Bool, true, false, not, ◌&&◌, ◌||◌, cond, nat_eq, nat_le}
+use Rattle.std.specs.List.{list_any, list_all, range_with_len}
+use Rattle.class_pool.specs.declared.pool.Entry.{Entry}
+use Rattle.class_pool.specs.Pool.{entry_of, is_class}
+use Rattle.class_reader.specs.declared.parts.ClassParts.{ClassParts}
+use Rattle.et_base.specs.Names.{starts_array}
+use Rattle.jvm_model.specs.declared.program.Program.{Program}
+use Rattle.jvm_model.specs.declared.program.TestEntry.{TestEntry}
+use Rattle.jvm_model.specs.World.{same_units}
+use Rattle.jvm_model.specs.Builtin.{builtin_count, object_class, throwable_class}
+use Rattle.jvm_model.specs.Library.{builtin_classes}
+use Rattle.jvm_model.specs.Classes.{class_at, method_at, is_static, is_interface, is_below, member, init_name}
+use Rattle.jvm_model.specs.RowsCreate.{is_bare}
+use Rattle.jvm_model.specs.Driver.{plain_method_in}
+use Rattle.jvm_model.specs.Linked.{is_interface_at, IsAncestor, test_method}
+use Rattle.class_link.specs.declared.fault.LinkFault.{LinkFault}
+use Rattle.class_link.specs.declared.fault.LinkFault.TheVariants as fault
+use Rattle.class_link.specs.declared.lines.TestLine.{TestLine}
+use Rattle.class_link.specs.declared.references.Use.{Use}
+use Rattle.class_link.specs.declared.references.Target.{Target}
+use Rattle.class_link.specs.ClassNames.{name_at, own_name, class_number, number_or_first, missing}
+use Rattle.class_link.specs.References.{Setting, target_of, missing_for, uses, fits}
+
+-- the first of what f gives for the items
+abbrev pub first_some : {A B : Type 0} → (A → Option B) → List A → Option B
+first_some f [] = None
+first_some f (x ∷ xs) = elim (f x) [ Some y ↦ Some y | None ↦ first_some f xs ]
+
+-- the pool indices of a class
+abbrev pub indices : ClassParts → List ℕ
+indices c = range_with_len 1 (length c.pool)
+
+-- ---- names
+
+-- the first class whose name stands among those before it
+abbrev pub duplicate : List (List ℕ) → List ClassParts → Option LinkFault
+duplicate before [] = None
+duplicate before (c ∷ cs) = cond (list_any (same_units (own_name c)) before) (Some (fault.Duplicate (own_name c))) (duplicate (before ++ own_name c ∷ []) cs)
+
+abbrev pub duplicate_fault : List ClassParts → Option LinkFault
+duplicate_fault cs = duplicate (map (λ c. c.name) builtin_classes) cs
+
+-- ---- superclasses and superinterfaces
+
+-- the class d may stand as a superclass: no interface, and of the built-in ones Object or a throwable; above an interface
+-- stands Object
+abbrev pub superclass_fits : Program → ClassParts → ℕ → Bool
+superclass_fits p c d = not (is_interface_at p d) && ((nat_le builtin_count d || (nat_eq d object_class || is_below p d throwable_class)) && (not (is_interface c.flags) || nat_eq d object_class))
+
+-- the entry i serves where the class names it: as its superclass, as a superinterface
+abbrev pub heading_fits : Setting → ClassParts → ℕ → Bool
+heading_fits s c i = let name = name_at c.pool i in let d = number_or_first s.names name in
+    not (starts_array name) && ((not (nat_eq i c.super_class) || superclass_fits s.program c d) && (not (member i c.interfaces) || is_interface_at s.program d))
+
+abbrev pub missing_or : ClassParts → Option (List ℕ) → Option LinkFault → Option LinkFault
+missing_or c (Some name) f = Some (fault.Missing (own_name c) name)
+missing_or c None f = f
+
+abbrev pub wrong_unless : Bool → ClassParts → ℕ → Option LinkFault
+wrong_unless true c i = None
+wrong_unless false c i = Some (fault.WrongKind (own_name c) i)
+
+unfoldable pub heading_fault : Setting → ClassParts → ℕ → Option LinkFault
+heading_fault s c i = cond (nat_eq i c.super_class || member i c.interfaces) (missing_or c (missing s.names (name_at c.pool i)) (wrong_unless (heading_fits s c i) c i)) None
+
+-- the first fault of a class's superclass and superinterfaces, by pool index
+unfoldable pub headings_fault : Setting → ClassParts → Option LinkFault
+headings_fault s c = first_some (heading_fault s c) (indices c)
+
+-- ---- cycles
+
+-- the first given class that is its own ancestor, by its place among the class files
+abbrev pub IsFirstCycle : Program → Option ℕ → Type 0
+IsFirstCycle p None = (c : ℕ) → IsAncestor p c c → ⊥
+IsFirstCycle p (Some i) = IsAncestor p (builtin_count + i) (builtin_count + i) × ((c : ℕ) → c < builtin_count + i → IsAncestor p c c → ⊥)
+
+-- ---- references
+
+-- how the class uses the entry i
+abbrev pub uses_at : ℕ → List (ℕ × Use) → List Use
+uses_at i [] = []
+uses_at i (x ∷ xs) = cond (nat_eq x.0 i) (x.1 ∷ uses_at i xs) (uses_at i xs)
+
+-- the target fits each of these uses by the class n
+abbrev pub all_fit : Program → ℕ → Option Entry → Target → List Use → Bool
+all_fit p n e t us = list_all (fits p n e t) us
+
+-- an array of floats or doubles, which only a handler can name here, is of the wrong kind
+abbrev pub target_fault : Setting → ℕ → ClassParts → ℕ → List Use → Option Target → Option LinkFault
+target_fault s n c i us None = Some (cond (is_class (entry_of c.pool i)) (fault.WrongKind (own_name c) i) (fault.NoMember (own_name c) i))
+target_fault s n c i us (Some t) = wrong_unless (all_fit s.program n (entry_of c.pool i) t us) c i
+
+-- the fault of the entry i, used so by the class n: its class isn't there, or its member, or it is of the wrong kind
+unfoldable pub entry_fault : Setting → ℕ → ClassParts → ℕ → List Use → Option LinkFault
+entry_fault s n c i [] = None
+entry_fault s n c i us = missing_or c (missing_for s.names c.pool (entry_of c.pool i)) (target_fault s n c i us (target_of s c.pool (entry_of c.pool i)))
+
+-- the first fault of the entries that the code of the class n uses, by pool index
+unfoldable pub references_fault : Setting → ℕ → ClassParts → Option LinkFault
+references_fault s n c = first_some (λ i. entry_fault s n c i (uses_at i (uses c))) (indices c)
+
+-- the same of several classes, the first of which has the number n
+abbrev pub all_references_fault : Setting → ℕ → List ClassParts → Option LinkFault
+all_references_fault s n [] = None
+all_references_fault s n (c ∷ cs) = elim (references_fault s n c) [ Some f ↦ Some f | None ↦ all_references_fault s (n + 1) cs ]
+
+-- ---- tests
+
+-- the class may be that of a test: one of the class files that can have instances
+abbrev pub holds_tests : Program → ℕ → Bool
+holds_tests p c = nat_le builtin_count c && not (is_bare p c)
+
+-- a method with code; of an instance one where its class declares an instance method `<init>` with `()V`
+abbrev pub is_test_method : Program → ℕ → ℕ → Bool
+is_test_method p c m = is_some (method_at p m).body && (is_static (method_at p m).flags || is_some (plain_method_in p init_name (class_at p c).methods))
+
+abbrev pub entry_with : ℕ → TestLine → ℕ → ℕ → TestEntry
+entry_with budget line c m = record { class = c; method = m; clock = line.clock; seed = line.seed; budget = budget }
+
+abbrev pub test_in : Program → ℕ → TestLine → ℕ → Option TestEntry
+test_in p budget line c = cond (holds_tests p c) (option_and_then (λ m. cond (is_test_method p c m) (Some (entry_with budget line c m)) None) (test_method p c line.method)) None
+
+-- the test of a line, if it is one: the first method of the name with `()V` from the class upwards (this project's)
+unfoldable pub test_entry : Setting → ℕ → TestLine → Option TestEntry
+test_entry s budget line = option_and_then (test_in s.program budget line) (class_number s.names line.class)

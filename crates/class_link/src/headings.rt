@@ -1,0 +1,167 @@
+//! Superclasses and superinterfaces that can't stand where a class names them.
+
+ghost use Rattle.std.specs.Prelude.{◌≡◌, ◌+◌, ◌<◌, ◌^◌, IfOk, []};
+ghost use Rattle.et_base.specs.Names.{starts_array};
+ghost use Rattle.jvm_model.specs.Classes.{member};
+ghost use Rattle.class_link.specs.Answers.{Gives, nothing};
+ghost use Rattle.class_link.specs.ClassNames as names;
+ghost use Rattle.class_link.specs.Faults as faults;
+ghost use Rattle.class_link.specs.Faults.{first_some, missing_or, wrong_unless};
+ghost use Rattle.class_link.specs.Link.{unless};
+ghost use Rattle.class_link.specs.Marks.{Lists};
+
+use crate::entries::{copy, name_at};
+use crate::fault::LinkFault;
+use crate::fits::is_below;
+use crate::lookup::is_interface;
+use crate::names::missing;
+use crate::setting::Setting;
+use class_reader::{ClassFile, ClassParts};
+use et_base::{NoMemory, Units};
+use jvm_model::Program;
+use std::alloc::Global;
+
+// The number of the built-in classes, which stand first.
+const BUILTIN: u32 = 32;
+
+// The classes `java.lang.Object` and `java.lang.Throwable`.
+const OBJECT: u32 = 0;
+
+const THROWABLE: u32 = 7;
+
+/// A class's own name.
+pub fn own_name(alloc: Global, class: &ClassParts) -> Result<Units, NoMemory>
+    ensures { IfOk result (λ name. name ≡ names.own_name class.now) }
+{
+    copy(alloc, name_at(class.pool.slots(), class.this_class))
+}
+
+/// The fault of an entry: the class that isn't there, or else that it is of the wrong kind unless it fits.
+pub fn judged(
+    alloc: Global,
+    class: &ClassParts,
+    missing: Option<Units>,
+    fits: bool,
+    index: u16,
+) -> Result<(), LinkFault>
+    ensures { Gives nothing result (unless (missing_or class.now missing (wrong_unless fits class.now index))) }
+{
+    match missing {
+        Some(name) => Err(LinkFault::Missing {
+            class: own_name(alloc, class)?,
+            name,
+        }),
+        None if fits => Ok(()),
+        None => Err(LinkFault::WrongKind {
+            class: own_name(alloc, class)?,
+            index: u32::from(index),
+        }),
+    }
+}
+
+fn starts_array(name: &[u16]) -> bool
+    ensures { result ≡ starts_array name.now }
+{
+    match name {
+        [] => false,
+        [unit, ..] => *unit == 91,
+    }
+}
+
+// The class may stand above an interface, or above a class.
+fn superclass_fits(p: &Program, class: &ClassParts, above: u32) -> bool
+    ensures { result ≡ faults.superclass_fits p.now class.now above }
+{
+    let is_open = BUILTIN <= above || (above == OBJECT || is_below(p, above, THROWABLE));
+    let suits = class.flags / 0x0200 % 2 == 0 || above == OBJECT;
+    !is_interface(p, above) && (is_open && suits)
+}
+
+// The entry serves where the class names it; `named` says that this is among its superinterfaces.
+fn heading_fits(setting: &Setting, class: &ClassParts, index: u16, named: bool) -> bool
+    requires { named ≡ member index class.now.interfaces }
+    ensures { result ≡ faults.heading_fits setting.now class.now index }
+{
+    let name = name_at(class.pool.slots(), index);
+    let above = setting.names.number_or_first(name);
+    let as_superclass = index != class.super_class
+        || superclass_fits(&setting.program, class, above);
+    let as_interface = !named || is_interface(&setting.program, above);
+    !starts_array(name) && (as_superclass && as_interface)
+}
+
+#[tactic(auto, unfolding(crate::specs::Faults::heading_fault))]
+fn check_heading(
+    alloc: Global,
+    setting: &Setting,
+    class: &ClassParts,
+    index: u16,
+    named: bool,
+) -> Result<(), LinkFault>
+    requires { named ≡ member index class.now.interfaces }
+    ensures { Gives nothing result (unless (faults.heading_fault setting.now class.now index)) }
+{
+    if index != class.super_class && !named {
+        return Ok(());
+    }
+    let needed = missing(alloc, &setting.names, name_at(class.pool.slots(), index))?;
+    judged(
+        alloc,
+        class,
+        needed,
+        heading_fits(setting, class, index, named),
+        index,
+    )
+}
+
+// So many times false.
+fn unlisted(alloc: Global, size: usize) -> Result<Vec<bool>, NoMemory>
+    ensures { IfOk result (λ table. Lists table.items size []) }
+{
+    let mut table = Vec::with_capacity(alloc, size)?;
+    for place in 0..size {
+        table.push(false)?;
+    }
+    Ok(table)
+}
+
+// Which of the indices below a size are listed.
+fn listed(alloc: Global, size: usize, indices: &[u16]) -> Result<Vec<bool>, NoMemory>
+    ensures { IfOk result (λ table. Lists table.items size indices.now) }
+{
+    let mut table = unlisted(alloc, size)?;
+    for index in indices {
+        let place = *index as usize;
+        if place < table.len() {
+            table[place] = true;
+        }
+    }
+    Ok(table)
+}
+
+// The first fault of a class's superclass and superinterfaces, by pool index.
+#[tactic(auto, unfolding(crate::specs::Faults::headings_fault))]
+fn check_headings(alloc: Global, setting: &Setting, class: &ClassParts) -> Result<(), LinkFault>
+    ensures { Gives nothing result (unless (faults.headings_fault setting.now class.now)) }
+{
+    let end = class.pool.slots().len() + 1;
+    let table = listed(alloc, end, class.interfaces.as_slice())?;
+    for index in 1..end {
+        check_heading(alloc, setting, class, index as u16, table[index])?;
+    }
+    Ok(())
+}
+
+/// The first fault of the superclasses and superinterfaces of class files: each is there and may stand where it is named.
+pub fn check_all_headings(
+    alloc: Global,
+    setting: &Setting,
+    classes: &[ClassFile],
+) -> Result<(), LinkFault>
+    ensures { Gives nothing result (unless (first_some (faults.headings_fault setting.now) classes.now)) }
+{
+    for class in classes {
+        check_headings(alloc, setting, class.parts())?;
+    }
+    Ok(())
+}

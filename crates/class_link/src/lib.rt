@@ -1,0 +1,38 @@
+//! Linking: class files and tests to one program whose references are numbers, or the first fault of linking.
+#![tactic(auto)]
+
+mod assembly;
+mod bodies;
+mod class_records;
+mod cycles;
+mod entries;
+mod fault;
+mod fits;
+mod forms;
+mod headings;
+mod lines;
+mod linking;
+mod literals;
+mod lookup;
+#[cfg(test)]
+mod lookup_tests;
+mod members;
+mod mentions;
+mod names;
+mod operands;
+mod reference_faults;
+mod references;
+mod setting;
+mod targets;
+mod tests_of;
+mod text_set;
+mod uses;
+mod walk;
+
+pub use assembly::{setting_of, skeleton, with_bodies};
+pub use fault::LinkFault;
+pub use lines::{TestLine, TestLines};
+pub use linking::link;
+pub use literals::{Literals, literals_of};
+pub use names::{ClassNames, kind_of, missing, names_of, needed_class};
+pub use references::{Target, Use};

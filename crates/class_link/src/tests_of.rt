@@ -1,0 +1,237 @@
+//! The tests of a suite's lines.
+
+ghost use Rattle.std.specs.Prelude.{◌≡◌, ◌≤◌, [], find, is_some, length};
+ghost use Rattle.jvm_model.specs.World.{same_units};
+ghost use Rattle.jvm_model.specs.Classes as classes;
+ghost use Rattle.jvm_model.specs.Classes.{class_at, class_bound, init_name, is_abstract, is_interface, is_static, method_at, upwards_in};
+ghost use Rattle.jvm_model.specs.RowsCreate.{is_bare};
+ghost use Rattle.jvm_model.specs.Driver.{no_arguments, plain_method_in};
+ghost use Rattle.jvm_model.specs.Lookup as lookup;
+ghost use Rattle.jvm_model.specs.Lookup.{find_declared};
+ghost use Rattle.jvm_model.specs.Linked as linked;
+ghost use Rattle.class_link.specs.Answers.{Gives};
+ghost use Rattle.class_link.specs.Faults as faults;
+ghost use Rattle.class_link.specs.Link as links;
+
+use crate::fault::LinkFault;
+use crate::lines::TestLine;
+use crate::lookup::{INIT, same_units};
+use crate::setting::Setting;
+use et_base::Items;
+use jvm_model::{ClassRec, MethodRec, Program, TestEntry};
+use std::alloc::Global;
+
+/// The number of built-in classes, which stand first.
+const BUILTIN_COUNT: u32 = 32;
+
+/// The units of `()V`.
+const NO_ARGUMENTS: [u16; 3] = [40, 41, 86];
+
+fn is_static(flags: u16) -> bool
+    ensures { result ≡ is_static flags }
+{
+    flags / 0x0008 % 2 == 1
+}
+
+fn is_interface(flags: u16) -> bool
+    ensures { result ≡ is_interface flags }
+{
+    flags / 0x0200 % 2 == 1
+}
+
+fn is_abstract(flags: u16) -> bool
+    ensures { result ≡ is_abstract flags }
+{
+    flags / 0x0400 % 2 == 1
+}
+
+fn class_flags(p: &Program, class: u32) -> u16
+    ensures { result ≡ (class_at p.now class).flags }
+{
+    match p.classes.as_slice().get(class as usize) {
+        None => 0,
+        Some(record) => record.flags,
+    }
+}
+
+fn class_methods(p: &Program, class: u32) -> &[u32]
+    ensures { result.now ≡ (class_at p.now class).methods }
+{
+    match p.classes.as_slice().get(class as usize) {
+        None => &[],
+        Some(record) => record.methods.as_slice(),
+    }
+}
+
+fn superclass(p: &Program, class: u32) -> Option<u32>
+    ensures { result ≡ (class_at p.now class).superclass }
+{
+    match p.classes.as_slice().get(class as usize) {
+        None => None,
+        Some(record) => record.superclass,
+    }
+}
+
+fn method_flags(p: &Program, method: u32) -> u16
+    ensures { result ≡ (method_at p.now method).flags }
+{
+    match p.methods.as_slice().get(method as usize) {
+        None => 0,
+        Some(record) => record.flags,
+    }
+}
+
+fn has_code(p: &Program, method: u32) -> bool
+    ensures { result ≡ is_some (method_at p.now method).body }
+{
+    match p.methods.as_slice().get(method as usize) {
+        None => false,
+        Some(record) => record.body.is_some(),
+    }
+}
+
+// The method has this name and `()V`.
+fn is_method(p: &Program, name: &[u16], method: u32) -> bool
+    ensures { result ≡ lookup.is_method p.now name.now no_arguments method }
+{
+    match p.methods.as_slice().get(method as usize) {
+        None => false,
+        Some(record) => same_units(record.name.as_slice(), name)
+            && same_units(record.descriptor.as_slice(), &NO_ARGUMENTS),
+    }
+}
+
+// The first of these methods with this name and `()V`.
+fn declared_in(p: &Program, name: &[u16], methods: &[u32]) -> Option<u32>
+    ensures { result ≡ find (λ n. lookup.is_method p.now name.now no_arguments n) methods.now }
+{
+    for method in methods {
+        if is_method(p, name, *method) {
+            return Some(*method);
+        }
+    }
+    None
+}
+
+// The first method of this name and `()V` from a class upwards, at most so many steps up.
+#[tactic(auto, using(crate::proofs::TestLaws::declared_above))]
+fn test_method_in(p: &Program, name: &[u16], steps: u32, class: u32) -> Option<u32>
+    ensures { result ≡ find_declared p.now name.now no_arguments (upwards_in p.now steps class) }
+{
+    if steps == 0 {
+        return None;
+    }
+    match declared_in(p, name, class_methods(p, class)) {
+        Some(method) => Some(method),
+        None => match superclass(p, class) {
+            None => None,
+            Some(above) => test_method_in(p, name, steps - 1, above),
+        },
+    }
+}
+
+// The length that no chain of superclasses passes.
+#[tactic(auto, unfolding(jvm_model::specs::Classes::class_bound))]
+fn class_bound() -> u32
+    ensures { result ≡ class_bound }
+{
+    1200
+}
+
+fn test_method(p: &Program, class: u32, name: &[u16]) -> Option<u32>
+    ensures { result ≡ linked.test_method p.now class name.now }
+{
+    test_method_in(p, name, class_bound(), class)
+}
+
+// One of these methods is an instance method of this name and `()V`.
+fn has_plain_method(p: &Program, name: &[u16], methods: &[u32]) -> bool
+    ensures { result ≡ is_some (plain_method_in p.now name.now methods.now) }
+{
+    for method in methods {
+        if !is_static(method_flags(p, *method)) && is_method(p, name, *method) {
+            return true;
+        }
+    }
+    false
+}
+
+// The class can have no instances.
+fn is_bare(p: &Program, class: u32) -> bool
+    ensures { result ≡ is_bare p.now class }
+{
+    is_abstract(class_flags(p, class)) || is_interface(class_flags(p, class))
+}
+
+fn holds_tests(p: &Program, class: u32) -> bool
+    ensures { result ≡ faults.holds_tests p.now class }
+{
+    BUILTIN_COUNT <= class && !is_bare(p, class)
+}
+
+fn is_test_method(p: &Program, class: u32, method: u32) -> bool
+    ensures { result ≡ faults.is_test_method p.now class method }
+{
+    has_code(p, method)
+        && (is_static(method_flags(p, method))
+            || has_plain_method(p, &INIT, class_methods(p, class)))
+}
+
+fn entry_with(budget: u64, line: &TestLine, class: u32, method: u32) -> TestEntry
+    ensures { result ≡ faults.entry_with budget line.now class method }
+{
+    TestEntry {
+        class,
+        method,
+        clock: line.clock,
+        seed: line.seed,
+        budget,
+    }
+}
+
+fn test_in(p: &Program, budget: u64, line: &TestLine, class: u32) -> Option<TestEntry>
+    ensures { result ≡ faults.test_in p.now budget line.now class }
+{
+    if !holds_tests(p, class) {
+        return None;
+    }
+    match test_method(p, class, line.method.as_slice()) {
+        Some(method) if is_test_method(p, class, method) => Some(entry_with(
+            budget, line, class, method,
+        )),
+        _ => None,
+    }
+}
+
+/// The test of a line, if it is one: the first method of the name with `()V` from the class upwards (this project's).
+#[tactic(auto, unfolding(crate::specs::Faults::test_entry))]
+pub fn test_entry(setting: &Setting, budget: u64, line: &TestLine) -> Option<TestEntry>
+    ensures { result ≡ faults.test_entry setting.now budget line.now }
+{
+    match setting.names.number(line.class.as_slice()) {
+        None => None,
+        Some(class) => test_in(&setting.program, budget, line, class),
+    }
+}
+
+/// The tests of a suite's lines, or the first line that names none, by its number from 1.
+pub fn tests_of(
+    alloc: Global,
+    setting: &Setting,
+    budget: u64,
+    lines: &[TestLine],
+) -> Result<Items<TestEntry>, LinkFault>
+    requires { length lines.now ≤ 1024 }
+    ensures { Gives (λ tests. tests) result (links.tests_of setting.now budget [] lines.now) }
+{
+    let mut tests = Items::new(alloc);
+    for line in lines {
+        let Some(test) = test_entry(setting, budget, line) else {
+            return Err(LinkFault::NotATest {
+                test: tests.len() as u32 + 1,
+            });
+        };
+        tests.push(test)?;
+    }
+    Ok(tests)
+}

@@ -1,0 +1,74 @@
+//! Texts that differ, for a fast look-up of their places.
+
+ghost use Rattle.std.specs.Prelude.{◌≡◌, ◌<◌, ◌+◌, ℕ, List, [], ◌∷◌, ◌++◌, length, position, not, cond, IfSome, IfOk, OnOk};
+ghost use Rattle.std.specs.List.{list_any};
+ghost use Rattle.jvm_model.specs.World.{same_units};
+
+use crate::entries::copy;
+use et_base::{Items, NoMemory, Units};
+use indexmap::IndexSet;
+use std::alloc::Global;
+use std::marker::Model;
+
+/// Different texts, fewer than 2^32 - 1, in the order in which they came. Contracts see the list of them.
+#[derive(Drop)]
+pub(crate) struct TextSet {
+    texts: IndexSet<Vec<u16>>,
+}
+
+impl Model for TextSet {
+    ghost use Rattle.std.specs.Prelude.{◌<◌, ℕ, List, length, map};
+
+    ghost Value = { List (List ℕ) };
+
+    ghost view = { λ s. map (λ v. v.items) s.texts.keys };
+
+    ghost invariant = { λ s. length s.texts.keys < 4294967295 };
+}
+
+impl TextSet {
+    /// No texts. It takes no memory until the first is noted.
+    pub(crate) fn new(alloc: Global) -> TextSet
+        ensures { result ≡ [] }
+    {
+        TextSet {
+            texts: IndexSet::new(alloc),
+        }
+    }
+
+    /// The place of a text, from 0.
+    pub(crate) fn place(&self, text: &[u16]) -> Option<u32>
+        ensures place { result ≡ position (same_units text.now) self.now }
+        ensures within { IfSome result (λ place. place + 1 < 4294967296) }
+    {
+        match self.texts.get_index_of(text) {
+            Some(place) => Some(place as u32),
+            None => None,
+        }
+    }
+
+    /// Puts a text last, unless it is there. Answers whether it is new.
+    pub(crate) fn note(&mut self, alloc: Global, text: &[u16]) -> Result<bool, NoMemory>
+        requires { length self.old + 1 < 4294967295 }
+        ensures is_new { IfOk result (λ is_new. is_new ≡ not (list_any (same_units text.now) self.old)) }
+        ensures texts { OnOk result (self.new ≡ cond (list_any (same_units text.now) self.old) self.old (self.old ++ text.now ∷ [])) }
+    {
+        if self.texts.contains(text) {
+            return Ok(false);
+        }
+        self.texts.insert(Vec::from_slice(alloc, text)?)?;
+        Ok(true)
+    }
+
+    /// The texts in order.
+    pub(crate) fn contents(&self, alloc: Global) -> Result<Items<Units>, NoMemory>
+        ensures { IfOk result (λ made. made ≡ self.now) }
+    {
+        let texts = self.texts.as_slice();
+        let mut made = Items::new(alloc);
+        for text in texts {
+            made.push(copy(alloc, text.as_slice())?)?;
+        }
+        Ok(made)
+    }
+}
