@@ -29,13 +29,13 @@ use Rattle.jvm_model.specs.declared.program.Program.{Program}
 use Rattle.jvm_model.specs.declared.program.Body.{Body}
 use Rattle.jvm_model.specs.declared.program.Placed.{Placed}
 use Rattle.jvm_model.specs.declared.program.Handler.{Handler}
-use Rattle.jvm_model.specs.Lookup.{find_field, find_method}
+use Rattle.jvm_model.specs.Lookup.{find_field, find_method, lacks_method}
 use Rattle.jvm_model.specs.Selection.{named_class}
 use Rattle.jvm_model.specs.Linked.{IsForm, IsPlace, IsHandler, IsBody, KeysAscend, Ascends, place_listed, dims_of}
 use Rattle.class_link.specs.declared.references.Target.{Target}
 use Rattle.class_link.specs.declared.references.Target.TheVariants as target
 use Rattle.class_link.specs.ClassNames.{text_at, name_at, class_number, base_of, array_kind, kind_of}
-use Rattle.class_link.specs.References.{Setting, field_target, lacks_method, method_target, target_of, operand, number_in, index_in}
+use Rattle.class_link.specs.References.{Setting, field_target, method_target, target_of, operand, number_in, index_in}
 use Rattle.class_link.specs.Forms as forms
 use Rattle.class_link.specs.Forms.{form_of}
 use Rattle.class_link.specs.Bodies.{placed, handler_rec, frame_recs, is_cut, linked_body}

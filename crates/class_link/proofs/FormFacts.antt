@@ -19,7 +19,7 @@ use Rattle.jvm_model.specs.declared.program.Program.{Program}
 use Rattle.jvm_model.specs.declared.program.Body.{Body}
 use Rattle.jvm_model.specs.Classes.{class_at, field_at, method_at, is_static, member}
 use Rattle.jvm_model.specs.Selection.{named_class}
-use Rattle.jvm_model.specs.Linked.{IsClass, IsField, IsMethod, IsLiteral, IsBase, IsKind, IsArray, NamesForm, IsFormKind, IsFormFound, IsForm, IsFound, IsFoundField, IsStaticField, IsPlainField, IsStaticMethod, IsPlainMethod, IsStaticCall, IsSpecialCall, is_interface_at, dims_of}
+use Rattle.jvm_model.specs.Linked.{IsClass, IsField, IsMethod, IsLiteral, IsBase, IsKind, IsArray, NamesForm, IsFormKind, IsFormFound, IsForm, IsFoundIn, IsFoundField, IsStaticField, IsPlainField, IsStaticMethod, IsPlainMethod, IsStaticCall, IsSpecialCall, is_interface_at, dims_of}
 use Rattle.class_link.specs.declared.references.Use.{Use}
 use Rattle.class_link.specs.declared.references.Use.TheVariants as used
 use Rattle.class_link.specs.declared.references.Target.{Target}
@@ -171,7 +171,7 @@ names_form p t o some h nested = form_case (NamesForm p) t o (record {
 -- a member is the one that the look-up finds
 abbrev pub FindsTarget : Program → Target → Type 0
 FindsTarget p (target.Field c f) = IsFoundField p c f
-FindsTarget p (target.Method k m) = IsFound p (named_class k) m
+FindsTarget p (target.Method k m) = IsFoundIn p k m
 FindsTarget p _ = Unit {0}
 
 pub found_form : (p : Program) (t : Option Target) (o : RawOp) → IfSome t (FindsTarget p) → IsFormFound p (form_of t o)
@@ -186,7 +186,7 @@ found_form p t o h = form_case (IsFormFound p) t o (record {
   table = λ _. tt;
   look_up = λ _. tt;
   field = λ _ _ c f e. let n = some_is (FindsTarget p) t (target.Field c f) h e in field_case (IsFormFound p) o.opcode c f (λ _. tt) (λ _. tt) (λ _. n) (λ _ _ _. n);
-  method = λ _ _ k m e. let n = some_is (FindsTarget p) t (target.Method k m) h e in method_case (IsFormFound p) o.opcode k m (λ _. n) (λ _. n) (λ _. tt) (λ _ _ _. n);
+  method = λ _ _ k m e. let n = some_is (FindsTarget p) t (target.Method k m) h e in method_case (IsFormFound p) o.opcode k m (λ _. n) (λ _. n) (λ _. tt) (λ _ _ _. n.1);
   numbers = λ _. tt;
   type = λ typed k e. type_case (IsFormFound p) o k (λ _. tt) (λ _. tt) (λ _. tt) (λ _. tt) (λ _ _ _ _. tt);
 })

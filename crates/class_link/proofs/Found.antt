@@ -124,7 +124,7 @@ module _ (p : Program) (numbered : (c : ℕ) → IsClass p c → NamesClass p (c
       let b = and_parts (same_units (method_at p m).name name) (same_units (method_at p m).descriptor descriptor) q.1 in
       let x = units_true (method_at p m).name name b.0 in
       let y = units_true (method_at p m).descriptor descriptor b.1 in
-      (q.0, rw (x, y) e)
+      (q.0, rw (x, y) e, x)
 
   -- a declared method has the name and descriptor
   pub declared_named : (name descriptor : List ℕ) (cs : List ℕ) (m : ℕ) → find_declared p name descriptor cs ≡ Some m → IsMethod p m × ((method_at p m).name ≡ name) × ((method_at p m).descriptor ≡ descriptor)

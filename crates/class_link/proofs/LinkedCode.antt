@@ -131,7 +131,7 @@ module _ (cs : List ClassParts) (tests : List TestEntry) (files : List (List ℕ
       fits_same body cs tests files (builtin_count + i) (entry_of c.pool n) t u ∙ subst (λ z. fits (skeleton cs) (builtin_count + i) (entry_of c.pool n) z u ≡ true) same f.fits)
 
   owns : (o : RawOp) → OwnsStatics p (at_op o)
-  owns o d m at = let t = is_there (index_in o) (target.Method d m) at in owners (named_class d) (method_at p m).name (method_at p m).descriptor m t.2
+  owns o d m at = let t = is_there (index_in o) (target.Method d m) at in owners (named_class d) (method_at p m).name (method_at p m).descriptor m t.2.1
 
   -- ---- instructions
 

@@ -1,5 +1,5 @@
 -- What an entry stands for is in the program: each number names an entry, and members are those that the look-up finds.
-use Rattle.std.proofs.Common.{◌≡◌, ℕ, ◌+◌, ◌<◌, List, [], ◌∷◌, drop, Bool, true, false, nat_eq, nat_le, cond, refl, sym, ◌∙◌, subst, inl, inr, arith, slice_get, Option, Some, None}
+use Rattle.std.proofs.Common.{◌≡◌, ℕ, ◌+◌, ◌<◌, List, [], ◌∷◌, drop, Bool, true, false, nat_eq, nat_le, cond, refl, sym, ap, ◌∙◌, subst, inl, inr, arith, slice_get, Option, Some, None}
 use Rattle.std.specs.Prelude.{option_map}
 use Rattle.std.specs.List.{prefix_len}
 use Rattle.std.proofs.lemmas.List.Folds.{length-prefix_len}
@@ -21,14 +21,14 @@ use Rattle.jvm_model.specs.declared.program.Program.{Program}
 use Rattle.jvm_model.specs.declared.program.Body.{Body}
 use Rattle.jvm_model.specs.declared.program.TestEntry.{TestEntry}
 use Rattle.jvm_model.specs.Selection.{named_class}
-use Rattle.jvm_model.specs.Lookup.{find_field, find_method}
-use Rattle.jvm_model.specs.Linked.{IsClass, IsField, IsMethod, IsLiteral, IsBase, IsKind, IsFound, IsFoundField}
+use Rattle.jvm_model.specs.Lookup.{find_field, find_method, lacks_method}
+use Rattle.jvm_model.specs.Linked.{IsClass, IsField, IsMethod, IsLiteral, IsBase, IsKind, IsFoundIn, IsFoundField}
 use Rattle.class_link.specs.declared.references.Target.{Target}
 use Rattle.class_link.specs.declared.references.Target.TheVariants as target
 use Rattle.class_link.specs.ClassNames.{text_at, name_at, all_names, class_number, within_type, base_of, array_kind, kind_of}
 use Rattle.class_link.specs.Literals.{literals, literal_number}
 use Rattle.class_link.specs.Assembly.{assembled, skeleton}
-use Rattle.class_link.specs.References.{pair_of, field_target, lacks_method, method_target, target_of}
+use Rattle.class_link.specs.References.{pair_of, field_target, method_target, target_of}
 use Rattle.class_link.specs.Link.{setting}
 use Rattle.class_link.proofs.Assembled.{class_count}
 use Rattle.class_link.proofs.Numbered.{number_is}
@@ -50,7 +50,7 @@ abbrev pub IsTarget : Program → Target → Type 0
 IsTarget p (target.Constant v) = IsConstant p v
 IsTarget p (target.Type k) = IsKind p k
 IsTarget p (target.Field c f) = IsClass p c × IsField p f × IsFoundField p c f
-IsTarget p (target.Method k m) = IsKind p k × IsMethod p m × IsFound p (named_class k) m
+IsTarget p (target.Method k m) = IsKind p k × IsMethod p m × IsFoundIn p k m
 
 -- what an optional value is made to
 mapped : {A B : Type 0} (Q : B → Type 0) (f : A → B) (o : Option A) (y : B) → option_map f o ≡ Some y → ((x : A) → o ≡ Some x → Q (f x)) → Q y
@@ -117,15 +117,15 @@ module _ (body : ClassParts → CodePart → Body) (cs : List ClassParts) (tests
       let r = field_again p (class_numbers body cs tests files) (named_class k) pair.0 pair.1 f (find_field_same body cs tests files (named_class k) pair.0 pair.1 ∙ q) in
       (named_is k (h k refl), r.0, r.1))
 
-  unless_some : (b : Bool) (o : Option Target) (t : Target) → cond b None o ≡ Some t → o ≡ Some t
+  unless_some : (b : Bool) (o : Option Target) (t : Target) → cond b None o ≡ Some t → (b ≡ false) × (o ≡ Some t)
   unless_some true o t e = absurd (cc)
-  unless_some false o t e = e
+  unless_some false o t e = (refl, e)
 
   method_is : (o : Option Kind) (pair : List ℕ × List ℕ) (t : Target) → ((k : Kind) → o ≡ Some k → IsKind p k) → method_target (setting cs) o pair ≡ Some t → IsTarget p t
   method_is None pair t h e = absurd (cc)
-  method_is (Some k) pair t h e = mapped (IsTarget p) (λ m. target.Method k m) (find_method (skeleton cs) (named_class k) pair.0 pair.1) t (unless_some (lacks_method k pair.0) _ t e) (λ m q.
+  method_is (Some k) pair t h e = let some = unless_some (lacks_method k pair.0) _ t e in mapped (IsTarget p) (λ m. target.Method k m) (find_method (skeleton cs) (named_class k) pair.0 pair.1) t some.1 (λ m q.
       let r = method_again p (class_numbers body cs tests files) (named_class k) pair.0 pair.1 m (find_method_same body cs tests files (named_class k) pair.0 pair.1 ∙ q) in
-      (h k refl, r.0, r.1))
+      (h k refl, r.0, ap (lacks_method k) r.2 ∙ some.0, r.1))
 
   -- ---- entries
 

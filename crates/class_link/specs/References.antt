@@ -15,10 +15,10 @@ use Rattle.jvm_model.specs.declared.values.Kind.TheVariants as kind
 use Rattle.jvm_model.specs.declared.values.Value.TheVariants.{Int, Long, Lit}
 use Rattle.jvm_model.specs.declared.program.Program.{Program}
 use Rattle.jvm_model.specs.Builtin.{throwable_class}
-use Rattle.jvm_model.specs.Classes.{class_at, field_at, method_at, is_static, is_interface, is_below, member, init_name}
+use Rattle.jvm_model.specs.Classes.{class_at, field_at, method_at, is_static, is_interface, is_below, member}
 use Rattle.jvm_model.specs.World.{same_units}
 use Rattle.jvm_model.specs.Selection.{named_class}
-use Rattle.jvm_model.specs.Lookup.{find_field, find_method}
+use Rattle.jvm_model.specs.Lookup.{find_field, find_method, lacks_method}
 use Rattle.jvm_model.specs.Linked.{is_interface_at}
 use Rattle.class_link.specs.declared.references.Use.{Use}
 use Rattle.class_link.specs.declared.references.Use.TheVariants as used
@@ -39,11 +39,6 @@ pair_of slots _ = ([], [])
 abbrev pub field_target : Setting → Option Kind → List ℕ × List ℕ → Option Target
 field_target s None pair = None
 field_target s (Some k) pair = option_map (λ f. target.Field (named_class k) f) (find_field s.program (named_class k) pair.0 pair.1)
-
--- an array class declares no `<init>`
-abbrev pub lacks_method : Kind → List ℕ → Bool
-lacks_method (kind.Class c) name = false
-lacks_method (kind.Array d b) name = same_units name init_name
 
 abbrev pub method_target : Setting → Option Kind → List ℕ × List ℕ → Option Target
 method_target s None pair = None

@@ -2,6 +2,7 @@
 
 ghost use Rattle.std.specs.Prelude.{◌≡◌, IfOk, option_copied};
 ghost use Rattle.class_pool.specs.Pool.{entry_of};
+ghost use Rattle.jvm_model.specs.Lookup as members;
 ghost use Rattle.jvm_model.specs.Selection as selection;
 ghost use Rattle.class_link.specs.Bodies as bodies;
 ghost use Rattle.class_link.specs.ClassNames.{kind_of, name_at};
@@ -74,7 +75,7 @@ fn field_target(
 
 // An array class declares no `<init>`.
 fn lacks_method(named: Kind, name: &[u16]) -> bool
-    ensures { result ≡ references.lacks_method named name.now }
+    ensures { result ≡ members.lacks_method named name.now }
 {
     match named {
         Kind::Class(_) => false,

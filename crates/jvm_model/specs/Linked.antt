@@ -21,7 +21,7 @@ use Rattle.jvm_model.specs.Builtin.{builtin_count, object_class, throwable_class
 use Rattle.jvm_model.specs.Classes.{class_at, field_at, method_at, is_static, is_interface, is_below, upwards, member, clinit_name, init_name, default_of}
 use Rattle.jvm_model.specs.Selection.{named_class}
 use Rattle.jvm_model.specs.RowsCreate.{is_bare}
-use Rattle.jvm_model.specs.Lookup.{find_field, find_method, find_declared}
+use Rattle.jvm_model.specs.Lookup.{find_field, find_method, find_declared, lacks_method}
 use Rattle.jvm_model.specs.Driver.{no_arguments, plain_method_in}
 use Rattle.et_base.specs.Names.{is_unqualified, is_class_name, is_method_name, is_field_descriptor, is_method_descriptor}
 use Rattle.jvm_model.specs.Suite.{suite_limit}
@@ -260,11 +260,15 @@ IsFound p c m = find_method p c (method_at p m).name (method_at p m).descriptor 
 abbrev pub IsFoundField : Program → ℕ → ℕ → Type 0
 IsFoundField p c f = find_field p c (field_at p f).name (field_at p f).descriptor ≡ Some f
 
+-- the method m is the one that the look-up finds from the class or array type
+abbrev pub IsFoundIn : Program → Kind → ℕ → Type 0
+IsFoundIn p k m = (lacks_method k (method_at p m).name ≡ false) × IsFound p (named_class k) m
+
 abbrev pub IsFormFound : Program → Instr → Type 0
 IsFormFound p (form.GetField c f) = IsFoundField p c f
 IsFormFound p (form.PutField c f) = IsFoundField p c f
-IsFormFound p (form.InvokeVirtual k m) = IsFound p (named_class k) m
-IsFormFound p (form.InvokeSpecial k m) = IsFound p (named_class k) m
+IsFormFound p (form.InvokeVirtual k m) = IsFoundIn p k m
+IsFormFound p (form.InvokeSpecial k m) = IsFoundIn p k m
 IsFormFound p (form.InvokeInterface c m) = IsFound p c m
 IsFormFound p _ = Unit {0}
 

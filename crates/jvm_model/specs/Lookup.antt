@@ -1,5 +1,7 @@
 -- The look-up of fields and methods (JVMS 5.4.3.2 to 5.4.3.4, without access).
-use Rattle.std.specs.Prelude.{ℕ, zero, suc, List, [], ◌∷◌, ◌++◌, Bool, not, ◌&&◌, cond, filter, flat_map, find, Option, Some, None}
+use Rattle.std.specs.Prelude.{ℕ, zero, suc, List, [], ◌∷◌, ◌++◌, Bool, false, not, ◌&&◌, cond, filter, flat_map, find, Option, Some, None}
+use Rattle.jvm_model.specs.declared.values.Kind.{Kind}
+use Rattle.jvm_model.specs.declared.values.Kind.TheVariants as kind
 use Rattle.jvm_model.specs.declared.program.Program.{Program}
 use Rattle.jvm_model.specs.World.{same_units}
 use Rattle.jvm_model.specs.Builtin.{object_class}
@@ -69,3 +71,8 @@ find_method p c name descriptor = cond (same_units name init_name)
     (cond (is_interface (class_at p c).flags)
     (or_else (find_declared p name descriptor (c ∷ [])) (or_else (find_in_object p name descriptor) (find_in_interfaces p c name descriptor)))
     (or_else (find_declared p name descriptor (upwards p c)) (find_in_interfaces p c name descriptor)))
+
+-- an array type has the methods of Object, but it declares no `<init>`
+abbrev pub lacks_method : Kind → List ℕ → Bool
+lacks_method (kind.Class c) name = false
+lacks_method (kind.Array d b) name = same_units name init_name
