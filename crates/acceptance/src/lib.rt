@@ -1,4 +1,5 @@
-//! Tests of the top call: small suites in memory, what is written of them and how the call ends.
+//! Tests of the top call: small suites in memory, what is written of them and how the call ends. Tests of class files that are
+//! written, linked and checked.
 #![tactic(auto)]
 
 #[cfg(test)]

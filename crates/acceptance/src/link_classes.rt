@@ -45,8 +45,8 @@ pub const BASE: [u8; 219] = [
     7, 136, 172, 0, 0, 0, 0, 0, 0,
 ];
 
-// Loops over longs, a switch over strings, try, catch and finally, constructors with branches before the call of their
-// superclass's, an object made across a branch, arrays of arrays, and a test.
+// Loops over longs, a switch over strings, try, catch and finally, nested conditional expressions in a constructor before the
+// call of its superclass's, an object made across a branch, arrays of arrays, and a test.
 pub const USES: [u8; 1949] = [
     202, 254, 186, 190, 0, 0, 0, 52, 0, 128, 5, 0, 0, 0, 0, 0, 0, 0, 7, 5, 0, 0, 0, 0, 0, 0, 0, 9,
     10, 0, 6, 0, 7, 7, 0, 8, 12, 0, 9, 0, 10, 1, 0, 4, 66, 97, 115, 101, 1, 0, 6, 60, 105, 110,
