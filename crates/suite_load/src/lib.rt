@@ -9,6 +9,8 @@ mod line_forms;
 mod lines_before;
 mod linking;
 mod load_fault;
+#[cfg(test)]
+mod load_tests;
 mod loaded;
 mod name_set;
 mod names;

@@ -4,7 +4,7 @@ ghost use Rattle.std.specs.Prelude.{◌≡◌, ◌≤◌, ◌<◌, IfOk, IfErr, 
 ghost use Rattle.class_link.specs.Link.{AreLines};
 ghost use Rattle.type_frames.specs.Typing.{IsTyped};
 ghost use Rattle.suite_load.specs.Loading as loading;
-ghost use Rattle.suite_load.specs.LoadAnswers.{Checks};
+ghost use Rattle.suite_load.specs.LoadAnswers.{Checks, DepotFails};
 
 use crate::load_fault::LoadFault;
 use crate::suite_text::{FileLine, SuiteText, TestLine, Why};
@@ -100,6 +100,7 @@ pub fn program_of(
     requires few { length classes.now ≤ 1024 }
     requires lines { AreLines (loading.lines_of suite.now) }
     ensures goes { Checks suite.now classes.now result }
+    ensures depot { IfErr result (λ e. DepotFails (λ _. ⊥) e 0 0) }
     ensures typed { IfOk result IsTyped }
 {
     let lines = lines_of(alloc, suite)?;
