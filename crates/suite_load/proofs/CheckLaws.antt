@@ -14,7 +14,7 @@ use Rattle.suite_load.specs.declared.suite_text.SuiteText.{SuiteText}
 use Rattle.suite_load.specs.declared.load_fault.LoadFault.{LoadFault}
 use Rattle.suite_load.specs.declared.load_fault.LoadFault.TheVariants as fault
 use Rattle.suite_load.specs.Loading.{◌>>=◌, lines_of, link_fault, link_said, check_said, loaded_of, checked_of, Goes}
-use Rattle.suite_load.specs.LoadAnswers.{Refuses, DepotFails, Checks}
+use Rattle.suite_load.specs.LoadAnswers.{Checks, check_answer}
 
 no_fault : (p : Program) → IsTyped p → (found : Option CheckFault) → check_fault p ≡ found → found ≡ None
 no_fault p t None e = refl
@@ -31,13 +31,19 @@ linked_goes suite classes lines p q e (cycle, by) s t =
     let said = ap (λ x. check_said p x >>= λ typed. Ok (loaded_of suite typed)) (typed_is_faultless p t) in
     subst (λ z. Goes (Ok (suite, classes)) (Ok (loaded_of suite z))) (sym s) (cycle, Ok p, here, sym said)
 
--- the class files link, and the program isn't typed
-pub not_typed : (suite : SuiteText) (classes : List ClassParts) (lines : TestLines) (p : Program) (e : CheckFault) → lines ≡ lines_of suite → Links classes lines (Ok p) → check_fault p ≡ Some e → Checks suite classes (Err (fault.Check e))
+untyped_goes : (suite : SuiteText) (classes : List ClassParts) (lines : TestLines) (p : Program) (e : CheckFault) → lines ≡ lines_of suite → Links classes lines (Ok p) → check_fault p ≡ Some e → Goes (Ok (suite, classes)) (Err (fault.Check e))
 unfolding checked_of
-not_typed suite classes lines p e same (cycle, by) h =
+untyped_goes suite classes lines p e same (cycle, by) h =
     let here = subst (λ ls. LinksBy cycle classes ls (Ok p)) same by in
     let said = ap (λ x. check_said p x >>= λ typed. Ok (loaded_of suite typed)) h in
     (cycle, Ok p, here, sym said)
+
+-- the class files link, and the program isn't typed
+pub not_typed : (suite : SuiteText) (classes : List ClassParts) (lines : TestLines) (p : Program) (e : CheckFault) → lines ≡ lines_of suite → Links classes lines (Ok p) → ((e ≡ checking.NoMemory → ⊥) → check_fault p ≡ Some e) → Checks suite classes (Err (check_answer e))
+not_typed suite classes lines p checking.NoMemory same l h = tt
+not_typed suite classes lines p (checking.Rule class method pc rule) same l h = untyped_goes suite classes lines p (checking.Rule class method pc rule) same l (h (λ q. cc))
+not_typed suite classes lines p (checking.NoFrame class method pc) same l h = untyped_goes suite classes lines p (checking.NoFrame class method pc) same l (h (λ q. cc))
+not_typed suite classes lines p (checking.Unsupported class member) same l h = untyped_goes suite classes lines p (checking.Unsupported class member) same l (h (λ q. cc))
 
 fault_goes : (suite : SuiteText) (classes : List ClassParts) (lines : TestLines) (f : LinkFault) → lines ≡ lines_of suite → ((cycle : Option ℕ) × LinksBy cycle classes lines (Err f)) → Goes (Ok (suite, classes)) (Err (link_fault suite f))
 unfolding checked_of
@@ -52,13 +58,3 @@ not_linked suite classes lines (linking.Cycle class) same h = fault_goes suite c
 not_linked suite classes lines (linking.NoMember class index) same h = fault_goes suite classes lines (linking.NoMember class index) same h
 not_linked suite classes lines (linking.WrongKind class index) same h = fault_goes suite classes lines (linking.WrongKind class index) same h
 not_linked suite classes lines (linking.NotATest test) same h = fault_goes suite classes lines (linking.NotATest test) same h
-
--- linking reads no file
-pub link_reads_none : (suite : SuiteText) (f : LinkFault) → DepotFails (λ _. ⊥) (link_fault suite f) 0 0
-link_reads_none suite linking.NoMemory = tt
-link_reads_none suite (linking.Duplicate class) = tt
-link_reads_none suite (linking.Missing class name) = tt
-link_reads_none suite (linking.Cycle class) = tt
-link_reads_none suite (linking.NoMember class index) = tt
-link_reads_none suite (linking.WrongKind class index) = tt
-link_reads_none suite (linking.NotATest test) = tt

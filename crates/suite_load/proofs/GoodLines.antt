@@ -1,5 +1,6 @@
 -- What good lines say is in the form that linking asks for.
 use Rattle.std.proofs.Common.{◌≡◌, ℕ, ℤ, ◌+◌, ◌<◌, ◌≤◌, ◌==◌, Bool, true, false, not, List, [], ◌∷◌, ◌++◌, length, map, get_or, nat_lt, eqb, Option, Some, None, Result, Ok, Err, refl, sym, ap, ◌∙◌, subst, inl, inr, arith}
+use Rattle.std.specs.Prelude.{codes}
 use Rattle.std.specs.Option.{ok_or}
 use Rattle.std.specs.List.{list_all, list_any}
 use Rattle.std.specs.Str.{bytes_eq}
@@ -19,11 +20,12 @@ use Rattle.suite_load.specs.declared.suite_text.SuiteRefusal.{SuiteRefusal}
 use Rattle.suite_load.specs.declared.suite_text.Why.TheVariants as why
 use Rattle.suite_load.specs.declared.first_word.FirstWord.{FirstWord}
 use Rattle.suite_load.specs.declared.first_word.FirstWord.TheVariants as words
+use Rattle.suite_load.specs.ContentForm.{content_of}
 use Rattle.suite_load.specs.LineForms.{Row, rows, cut}
 use Rattle.suite_load.specs.NameForms.{is_test_name}
 use Rattle.suite_load.specs.NumberForms.{budget_of}
 use Rattle.suite_load.specs.Reading.{◌>>=◌, tested}
-use Rattle.suite_load.specs.SuiteForm.{added, empty_suite, suite_from, class_names, file_names, test_names, fault, fresh, one_field, is_in_order, placed, second_header, budget_line, class_name, class_line, file_fields, file_line, stream_fields, test_from, test_of, test_line, end_line, first_word, line_of, is_formed, later_line, first_line, next_line, is_ended, missing, whole, lines_from, suite_of}
+use Rattle.suite_load.specs.SuiteForm.{added, empty_suite, suite_from, class_names, file_names, test_names, fault, fresh, one_field, is_in_order, placed, second_header, budget_line, class_name, class_line, file_fields, file_line, stream_fields, stream_of, test_from, test_of, test_line, end_line, first_word, line_of, is_formed, later_line, first_line, next_line, is_ended, missing, whole, lines_from, suite_of}
 use Rattle.suite_load.specs.Loading as loading
 use Rattle.suite_load.proofs.NumberLaws.{budget_bounds}
 use Rattle.suite_load.proofs.ReadingLaws.{went_on, held, was_some}
@@ -80,7 +82,7 @@ unfolding file_line
 file_fits before rest line h =
     let a = went_on (file_fields before rest) _ line h in
     let b = went_on (placed before 3 _) _ line a.2 in
-    let d = went_on (ok_or _ (fault before why.Number)) _ line b.2 in
+    let d = went_on (ok_or (content_of a.0.1) (fault before why.Number)) _ line b.2 in
     let e = went_on (fresh before (file_names before) a.0.0) _ line d.2 in
     subst (Fits before) (same_line line (File a.0.0 d.0) e.2) (is_fresh before (file_names before) a.0.0 e.0 e.1)
 
@@ -92,7 +94,7 @@ test_of_fits : (before : List SuiteLine) (name : List ℕ) (fields : List ℕ ×
 unfolding test_of
 test_of_fits before name fields test h =
     let a = went_on (placed before 4 (is_test_name name)) _ test h in
-    let b = went_on _ _ test a.2 in
+    let b = went_on (stream_of before fields) _ test a.2 in
     let d = went_on (fresh before (test_names before) name) _ test b.2 in
     let same : test_from (length before + 1) name b.0.0 b.0.1 ≡ test = cc in
     ((is_fresh before (test_names before) name d.0 d.1).1, subst HasWords same (has_words (length before + 1) name b.0.0 b.0.1 (is_placed before 4 (is_test_name name) a.0 a.1)))
@@ -133,7 +135,7 @@ later_fits before row line h =
 first_fits : (before : List SuiteLine) (row : Row) (line : SuiteLine) → first_line before row ≡ Ok line → Fits before line
 unfolding first_line
 first_fits before row line h =
-    let a = went_on (tested _ (fault before why.Header)) _ line h in
+    let a = went_on (tested (bytes_eq row.bytes (codes "electric-suite 1")) (fault before why.Header)) _ line h in
     let b = went_on (tested row.ended (fault before why.Form)) _ line a.2 in
     subst (Fits before) (same_line line Header b.2) tt
 
@@ -172,8 +174,8 @@ different_push xs y d none i j h g e = elim (cases_lt i (length xs)) [
   | inr k ↦
       let at : length xs ≡ i = omega (arith, length_push xs y) in
       elim (cases_lt j (length xs)) [
-      | inl l ↦ absurd (none j l (sym (ap first (get_or_append_left xs (y ∷ []) ([], []) j l)) ∙ sym e ∙ ap first (get_or_push xs y ([], []) i at)))
-      | inr l ↦ omega (arith, length_push xs y)
+        | inl l ↦ absurd (none j l (sym (ap first (get_or_append_left xs (y ∷ []) ([], []) j l)) ∙ sym e ∙ ap first (get_or_push xs y ([], []) i at)))
+        | inr l ↦ omega (arith, length_push xs y)
       ]
 ]
 

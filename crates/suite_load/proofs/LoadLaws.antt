@@ -3,13 +3,14 @@ use Rattle.std.proofs.Common.{◌≡◌, ◌≤◌, ◌<◌, ◌⊎◌, ℕ, zer
 use Rattle.std.proofs.lemmas.List.{take_more, take_all, take-append-drop, drop_more, get_or_default}
 use Rattle.outside.specs.Counts.{Rose}
 use Rattle.class_reader.specs.declared.parts.ClassParts.{ClassParts}
+use Rattle.jvm_model.specs.declared.program.Names.{Names}
 use Rattle.jvm_model.specs.declared.program.Program.{Program}
 use Rattle.suite_load.specs.declared.suite_text.SuiteText.{SuiteText}
 use Rattle.suite_load.specs.declared.load_fault.LoadFault.{LoadFault}
 use Rattle.suite_load.specs.declared.load_fault.LoadFault.TheVariants as fault
 use Rattle.suite_load.specs.declared.loaded.Loaded.{Loaded}
-use Rattle.suite_load.specs.Loading.{◌>>=◌, Files, suite_in, class_in, classes_in, read_in, Goes, Loads, IsReadAmong, IsRead, loaded_of}
-use Rattle.suite_load.specs.LoadAnswers.{Refuses, Answers, itself, DepotFails, LoadAnswers, Checks}
+use Rattle.suite_load.specs.Loading.{◌>>=◌, Files, suite_in, class_in, classes_in, read_in, Goes, Loads, IsReadAmong, names_in}
+use Rattle.suite_load.specs.LoadAnswers.{Refuses, DepotFails, LoadAnswers, Checks}
 
 -- ---- refusals
 
@@ -37,17 +38,6 @@ depot_weaker P Q (fault.Suite line why) first old new h le r = tt
 depot_weaker P Q (fault.Class name f) first old new h le r = tt
 depot_weaker P Q (fault.Link f) first old new h le r = tt
 depot_weaker P Q (fault.Check f) first old new h le r = tt
-
--- what reads no file names no failing depot
-pub never_depot : (Q : List ℕ → Type 0) (e : LoadFault) (old new : ℕ) → DepotFails (λ _. ⊥) e 0 0 → DepotFails Q e old new
-never_depot Q fault.NoMemory old new r = tt
-never_depot Q (fault.Depot name) old new r = absurd r.0
-never_depot Q (fault.Absent name) old new r = tt
-never_depot Q (fault.TooLarge name) old new r = tt
-never_depot Q (fault.Suite line why) old new r = tt
-never_depot Q (fault.Class name f) old new r = tt
-never_depot Q (fault.Link f) old new r = tt
-never_depot Q (fault.Check f) old new r = tt
 
 -- ---- class files one after another
 
@@ -139,8 +129,8 @@ unread_class (Some files) was name suite names e w n s h =
     let there = subst (λ o. IfSome o (λ files. Refuses (λ f. classes_in files 0 names ≡ Err f) e)) w h in
     refuses_weaker (λ f. classes_in files 0 names ≡ Err f) (λ f. Loads files name (Err f)) e
     (λ f k.
-        let whole = ap (λ r. r >>= λ t. classes_in files 0 t.classes >>= λ cs. Ok (t, cs)) s ∙ ap (λ r. r >>= λ cs. Ok (suite, cs)) (ap (classes_in files 0) (sym n) ∙ k) in
-        subst (λ r. Goes r (Err f)) (sym whole) refl) there
+    let whole = ap (λ r. r >>= λ t. classes_in files 0 t.classes >>= λ cs. Ok (t, cs)) s ∙ ap (λ r. r >>= λ cs. Ok (suite, cs)) (ap (classes_in files 0) (sym n) ∙ k) in
+    subst (λ r. Goes r (Err f)) (sym whole) refl) there
 
 -- the files are read
 pub all_read : (told was : Option Files) (name : List ℕ) (suite : SuiteText) (names : List (List ℕ)) (classes : List ClassParts) → was ≡ told → names ≡ suite.classes → IfSome told (λ files. suite_in files name ≡ Ok suite) → IfSome was (λ files. classes_in files 0 names ≡ Ok classes) →
@@ -154,26 +144,9 @@ pub not_checked : (told : Option Files) (name : List ℕ) (suite : SuiteText) (c
 not_checked None name suite classes e r h = tt
 not_checked (Some files) name suite classes e r h = refuses_weaker (λ f. Goes (Ok (suite, classes)) (Err f)) (λ f. Loads files name (Err f)) e (λ f k. subst (λ x. Goes x (Err f)) (sym r) k) h
 
-pub loads_all : (told : Option Files) (name : List ℕ) (suite : SuiteText) (classes : List ClassParts) (l : Loaded) → IfSome told (λ files. read_in files name ≡ Ok (suite, classes)) → Goes (Ok (suite, classes)) (Ok l) → IfSome told (λ files. LoadAnswers files name (Ok l))
-loads_all None name suite classes l r h = tt
-loads_all (Some files) name suite classes l r h = subst (λ x. Goes x (Ok l)) (sym r) h
-
--- a class file that is read is a file that is read
-pub depot_at_class : (told was : Option Files) (name : List ℕ) (suite : SuiteText) (names : List (List ℕ)) (e : LoadFault) (first old new : ℕ) → was ≡ told → names ≡ suite.classes → IfSome told (λ files. suite_in files name ≡ Ok suite) → first ≤ old →
-    DepotFails (λ read. IfSome was (λ files. IsReadAmong files names read)) e old new → DepotFails (λ read. IfSome told (λ files. IsRead files name read)) e first new
-depot_at_class told was name suite names e first old new w n s le d =
-    depot_weaker (λ read. IfSome was (λ files. IsReadAmong files names read)) (λ read. IfSome told (λ files. IsRead files name read)) e first old new (λ read h. by told w s read h) le d
-  where
-    by : (o : Option Files) → was ≡ o → IfSome o (λ files. suite_in files name ≡ Ok suite) → (read : List ℕ) → IfSome was (λ files. IsReadAmong files names read) → IfSome o (λ files. IsRead files name read)
-    by None w s read h = tt
-    by (Some files) w s read h =
-        let there = subst (λ o. IfSome o (λ files. IsReadAmong files names read)) w h in
-        inr (suite, s, subst (λ ns. IsReadAmong files ns read) n there)
-
--- so is the suite text
-pub depot_at_suite : (told : Option Files) (name : List ℕ) (e : LoadFault) (old new : ℕ) → DepotFails (λ read. read ≡ name) e old new → DepotFails (λ read. IfSome told (λ files. IsRead files name read)) e old new
-depot_at_suite told name e old new d = depot_weaker (λ read. read ≡ name) (λ read. IfSome told (λ files. IsRead files name read)) e old old new (by told) (omega arith) d
-  where
-    by : (o : Option Files) (read : List ℕ) → read ≡ name → IfSome o (λ files. IsRead files name read)
-    by None read h = tt
-    by (Some files) read h = inl h
+pub loads_all : (told : Option Files) (name : List ℕ) (suite : SuiteText) (classes : List ClassParts) (p q : Program) (names : Names) → names ≡ names_in suite q → q ≡ p → IfSome told (λ files. read_in files name ≡ Ok (suite, classes)) → Checks suite classes (Ok p) →
+    IfSome told (λ files. LoadAnswers files name (Ok (record { checked = p; names = names })))
+loads_all None name suite classes p q names e s r h = tt
+loads_all (Some files) name suite classes p q names e s r h =
+    let made : Names → Loaded = λ n. record { checked = p; names = n } in
+    subst (λ x. Goes x (Ok (made names))) (sym r) (subst (λ n. Goes (Ok (suite, classes)) (Ok (made n))) (sym (e ∙ ap (names_in suite) s)) h)

@@ -103,7 +103,7 @@ method_is_word name h =
     let n = length name - suffix_len (λ b. not (is_dot b)) name in
     let each : AllPass is_name_byte name = AllPass-from_list_all is_name_byte name (name_bytes name h) in
     list_all-from_AllPass is_word (drop n name) (λ k d lt.
-        let at = get_or-drop n name k d in
-        let there : n + k < length name = omega (arith, length-drop n name) in
-        let low : n ≤ n + k = omega arith in
-        ap is_word at ∙ word_unless_dot (get_or name (n + k) d) (each (n + k) d there) (not-true _ (no_dot name (n + k) d low there)))
+    let at = get_or-drop n name k d in
+    let there : n + k < length name = omega (arith, length-drop n name) in
+    let low : n ≤ n + k = omega arith in
+    ap is_word at ∙ word_unless_dot (get_or name (n + k) d) (each (n + k) d there) (not-true _ (no_dot name (n + k) d low there)))

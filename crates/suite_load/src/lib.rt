@@ -20,9 +20,9 @@ mod suite_line;
 mod suite_reading;
 mod suite_text;
 mod test_line;
-mod whole_suite;
 #[cfg(test)]
 mod tests;
+mod whole_suite;
 
 pub use load_fault::LoadFault;
 pub use loaded::Loaded;

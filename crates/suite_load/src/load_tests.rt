@@ -28,7 +28,10 @@ fn empty_suite(rt: HostRuntime) -> Result<(), Fail> {
         .ok_or("refused")?;
     assert_eq!(rt; suite.checked.program().tests.len(), 0);
     assert_eq!(rt; suite.names.tests.len(), 0);
-    assert_eq!(rt; suite.names.classes.len(), suite.checked.program().classes.len());
+    assert_eq!(rt;
+        suite.names.classes.len(),
+        suite.checked.program().classes.len()
+    );
     Ok(())
 }
 
