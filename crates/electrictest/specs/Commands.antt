@@ -2,9 +2,10 @@
 use Rattle.std.specs.Prelude.{◌≡◌, ◌≢◌, ◌⊎◌, ℕ, ◌+◌, List, ◌++◌, true, Option, None, Err, IfSome}
 use Rattle.outside.specs.Counts.{Rose}
 use Rattle.outside.specs.Sink.{appended}
+use Rattle.suite_load.specs.Loading.{Files}
 use Rattle.electrictest.specs.declared.status.Status.{Status}
 use Rattle.electrictest.specs.declared.status.Status.TheVariants as ends
-use Rattle.electrictest.specs.Replies.{Files, suite_word, loaded_for, fault_line, IsReadFor, IsReport, IsOver, IsAnswer}
+use Rattle.electrictest.specs.Replies.{suite_word, LoadsFor, fault_line, IsReadFor, IsReport, IsOver, IsAnswer}
 
 -- loading is refused for the words only where they have no form, and else by input, by a depot at a file that is read, or
 -- by memory
@@ -22,8 +23,8 @@ NamedEnds told words ends.Sink old new = ⊥
 abbrev pub Unreported : Files → List (List ℕ) → Status → Type 0
 Unreported files words ends.NoMemory = Unit {0}
 Unreported files words (ends.Depot name) = IsReadFor files words name
-Unreported files words ends.Words = loaded_for files words ≡ Err ends.Words
-Unreported files words (ends.Input f) = loaded_for files words ≡ Err (ends.Input f)
+Unreported files words ends.Words = LoadsFor files words (Err ends.Words)
+Unreported files words (ends.Input f) = LoadsFor files words (Err (ends.Input f))
 Unreported files words (ends.Over f) = IsOver files words f
 Unreported files words ends.Done = ⊥
 Unreported files words ends.NotPassed = ⊥

@@ -3,12 +3,11 @@
 ghost use Rattle.std.specs.Prelude.{◌≡◌, ◌≤◌, ◌+◌, IfOk, IfErr, IfSome, option_copied, Option};
 ghost use Rattle.electrictest.specs.Runnable.{IsRunnable};
 ghost use Rattle.electrictest.specs.declared.status.Status.TheVariants as ends;
-ghost use Rattle.electrictest.specs.Answers.{Answers, itself};
+ghost use Rattle.electrictest.specs.Answers.{Answers};
 ghost use Rattle.electrictest.specs.Commands.{NamedEnds, ReportEnds, Unreported, Reported, Writes, Refused, Served, Ends};
 ghost use Rattle.electrictest.specs.Replies as reply;
 
-use crate::loaded::Loaded;
-use crate::loading::load;
+use crate::loading::load_named;
 use crate::running::run_all;
 use crate::status::Status;
 use crate::texts::{fault_line, report};
@@ -16,7 +15,7 @@ use et_base::Text;
 use outside::{Depot, Sink, Steps, write_text};
 use std::alloc::Global;
 use std::sync::ledger::Ledger;
-use suite_load::is_depot_name;
+use suite_load::{Loaded, is_depot_name};
 
 // The suite's name in `run SUITE - 1 all`.
 #[tactic(auto, unfolding(crate::specs::Replies::suite_word))]
@@ -36,18 +35,17 @@ fn suite_word(words: &[Text]) -> Option<&Text>
     }
 }
 
-// The suite that the words name, and its program.
-#[tactic(auto, unfolding(crate::specs::Replies::loaded_for))]
-fn load_named<D: Depot>(alloc: Global, words: &[Text], depot: &mut D) -> Result<Loaded, Status>
+// The suite that the words name.
+fn load_for<D: Depot>(alloc: Global, words: &[Text], depot: &mut D) -> Result<Loaded, Status>
     ensures told { D.told depot.new ≡ D.told depot.old }
     ensures faults { D.faults depot.old ≤ D.faults depot.new }
-    ensures answers { IfSome (D.told depot.old) (λ files. Answers itself result (reply.loaded_for files words.now)) }
+    ensures answers { IfSome (D.told depot.old) (λ files. Answers (reply.LoadsFor files words.now) result) }
     ensures ends { IfErr result (λ e. NamedEnds (D.told depot.old) words.now e (D.faults depot.old) (D.faults depot.new)) }
-    ensures runs { IfOk result (λ l. IsRunnable l.program) }
+    ensures runs { IfOk result (λ l. IsRunnable l.checked) }
 {
     match suite_word(words) {
         None => Err(Status::Words),
-        Some(name) => load(alloc, depot, name),
+        Some(name) => load_named(alloc, depot, name),
     }
 }
 
@@ -64,9 +62,9 @@ fn reported<D: Depot, L: Ledger>(
     ensures refused { IfErr result (λ e. IfSome (D.told depot.old) (λ files. Unreported files words.now e)) }
     ensures ends { IfErr result (λ e. ReportEnds words.now e (D.faults depot.old) (D.faults depot.new)) }
 {
-    let loaded = load_named(alloc, words, depot)?;
+    let loaded = load_for(alloc, words, depot)?;
     let outcomes = run_all(alloc, &loaded, steps)?;
-    let text = report(alloc, &loaded, outcomes.as_slice())?;
+    let text = report(alloc, &loaded.names, outcomes.as_slice())?;
     Ok(text)
 }
 
@@ -100,7 +98,8 @@ fn refused<S: Sink>(alloc: Global, sink: &mut S, status: Status) -> Status
 /// report, where every test passes; each other answer is a line `electric: ..` that says why.
 ///
 /// - `Words`: the words have no form that is served.
-/// - `Input`: a file is absent, or in a form that isn't served yet.
+/// - `Input`: a file is absent, too large or faulty, the class files don't link, the program isn't typed, or the first
+///   machine doesn't run it yet.
 /// - `Over`: a test passed its budget, or the suite its number of units.
 /// - `Depot`, `Sink`: the depot or the sink failed, and its count of faults rose.
 /// - `NoMemory`: memory was refused; nothing was written.

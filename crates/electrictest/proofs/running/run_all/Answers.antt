@@ -14,7 +14,7 @@ pub returns-in_err-outcome-clause-refused : goal.returns-in_err-outcome-clause-r
 returns-in_err-outcome-clause-refused g c =
     at_error (λ z. IfErr z (RunRefused c.args.loaded.now)) _ _ (err_from_is_err_and c.from_residual-in_err-outcome.result c.from_residual-in_err-outcome.ensures.1)
     (along_refused c.args.loaded.now c.loop-index.index c.loop-index.rest _ _ _ c.loop-index.outcomes _ (let t = c.loop-index-test.true in let e = c.len-index-end.ensures in omega arith) c.loop-index.invariant
-    (subst (λ z. OneRefused c.args.loaded.now (world_of c.args.loaded.now.program z) (c.loop-index.index + 1) c.loop-index.rest c.in_err-outcome.field-0.0) c.deref_mut.ensures.value c.in_err-outcome.ensures.refused))
+    (subst (λ z. OneRefused c.args.loaded.now (world_of c.args.loaded.now.checked z) (c.loop-index.index + 1) c.loop-index.rest c.in_err-outcome.field-0.0) c.deref_mut.ensures.value c.in_err-outcome.ensures.refused))
 
 pub overflow_sub-rest : goal.overflow_sub-rest
 overflow_sub-rest g c = units_within c.args.loaded.now _ _ _ c.loop-index.rest _ _ c.in_ok-outcome.ensures.gives.1
@@ -24,9 +24,9 @@ loop-index-preserved g c =
     let l = c.args.loaded.now in
     let items = c.loop-index.statics.items in
     let fresh = c.run_one.new.statics in
-    let here : c.loop-index.index < length l.program.tests = (let t = c.loop-index-test.true in let e = c.len-index-end.ensures in omega arith) in
+    let here : c.loop-index.index < length l.checked.tests = (let t = c.loop-index-test.true in let e = c.len-index-end.ensures in omega arith) in
     let same : length fresh ≡ length items = c.run_one.auto.statics ∙ ap length c.deref_mut.ensures.value in
-    let gives = subst (λ z. one_test l.program (world_of l.program z) (c.loop-index.index + 1) (least l.program (c.loop-index.index + 1) c.loop-index.rest) ≡ Some (gave l.program c.in_ok-outcome.outcome fresh c.in_ok-outcome.ensures.gives.0)) c.deref_mut.ensures.value c.in_ok-outcome.ensures.gives.1 in
+    let gives = subst (λ z. one_test l.checked (world_of l.checked z) (c.loop-index.index + 1) (least l.checked (c.loop-index.index + 1) c.loop-index.rest) ≡ Some (gave l.checked c.in_ok-outcome.outcome fresh c.in_ok-outcome.ensures.gives.0)) c.deref_mut.ensures.value c.in_ok-outcome.ensures.gives.1 in
     let more = along_more l c.loop-index.index c.loop-index.rest c.args.steps.now c.loop-index.steps c.run_one.new.steps items fresh c.loop-index.outcomes c.in_ok-outcome.outcome c.in_ok-outcome.ensures.gives.0 here c.loop-index.invariant same gives c.in_ok-outcome.ensures.passes c.in_ok-outcome.ensures.counted in
     let written = refilled c.loop-index.statics.len fresh (drop (length fresh) items) (c.loop-index.statics.ok.0 ∙ sym same) in
     subst (λ z. Along l (c.loop-index.index + 1) z (c.loop-index.rest - c.in_ok-outcome.outcome.units) c.push.new.self c.args.steps.now c.run_one.new.steps) (sym written)
