@@ -1,6 +1,6 @@
 -- A linked body is as the code grammar allows.
-use Rattle.std.proofs.Common.{◌≡◌, ◌≢◌, ◌⊎◌, ℕ, zero, suc, ◌+◌, ◌%◌, ◌^◌, ◌<◌, ◌≤◌, ℤ, pos, ◌+ℤ◌, ◌≤ℤ◌, Bool, true, false, cond, eqb, leb, ◌||◌, List, [], ◌∷◌, length, map, drop, get_or, Option, Some, None, refl, sym, ap, subst, ◌∙◌, arith, inl, inr, All}
-use Rattle.std.specs.Prelude.{IfSome, option_map, unwrap_or}
+use Rattle.std.proofs.Common.{◌≡◌, ℕ, ◌+◌, ◌%◌, ◌^◌, ◌<◌, ◌≤◌, ℤ, pos, ◌+ℤ◌, ◌≤ℤ◌, Bool, true, false, cond, eqb, leb, ◌||◌, List, [], ◌∷◌, length, map, drop, get_or, Option, Some, None, refl, sym, ap, subst, ◌∙◌, arith, inl, inr}
+use Rattle.std.specs.Prelude.{IfSome, option_map}
 use Rattle.std.specs.Int.{w32, cast_unsigned}
 use Rattle.std.proofs.lemmas.Bool.Decides.{nat_tests}
 use Rattle.std.proofs.lemmas.List.{length-map}
@@ -16,30 +16,28 @@ use Rattle.code_decode.proofs.ArgFacts.{OnePlace, TableFacts, LookupFacts, Index
 use Rattle.code_decode.proofs.CodeFacts.{OpFacts, Ascend, CodeFacts}
 use Rattle.class_reader.specs.declared.parts.CodePart.{CodePart}
 use Rattle.class_reader.specs.declared.parts.RawHandler.{RawHandler}
-use Rattle.class_reader.proofs.PartFacts.{Begins, HandlerFacts, PartFacts}
+use Rattle.class_reader.proofs.PartFacts.{HandlerFacts, PartFacts}
 use Rattle.et_base.specs.Names.{starts_array}
 use Rattle.jvm_model.specs.declared.values.Value.{Value}
 use Rattle.jvm_model.specs.declared.values.Value.TheVariants.{Int, Long, Null, Lit, Obj}
 use Rattle.jvm_model.specs.declared.values.Base.{Base}
 use Rattle.jvm_model.specs.declared.values.Kind.{Kind}
 use Rattle.jvm_model.specs.declared.values.Kind.TheVariants as kind
-use Rattle.jvm_model.specs.declared.instr.Instr.{Instr}
 use Rattle.jvm_model.specs.declared.instr.Instr.TheVariants as form
 use Rattle.jvm_model.specs.declared.program.Program.{Program}
 use Rattle.jvm_model.specs.declared.program.Body.{Body}
 use Rattle.jvm_model.specs.declared.program.Placed.{Placed}
-use Rattle.jvm_model.specs.declared.program.Handler.{Handler}
 use Rattle.jvm_model.specs.Lookup.{find_field, find_method, lacks_method}
 use Rattle.jvm_model.specs.Selection.{named_class}
 use Rattle.jvm_model.specs.Linked.{IsForm, IsPlace, IsHandler, IsBody, KeysAscend, Ascends, place_listed, dims_of}
 use Rattle.class_link.specs.declared.references.Target.{Target}
 use Rattle.class_link.specs.declared.references.Target.TheVariants as target
 use Rattle.class_link.specs.ClassNames.{text_at, name_at, class_number, base_of, array_kind, kind_of}
-use Rattle.class_link.specs.References.{Setting, field_target, method_target, target_of, operand, number_in, index_in}
+use Rattle.class_link.specs.References.{Setting, field_target, method_target, target_of, number_in, index_in}
 use Rattle.class_link.specs.Forms as forms
 use Rattle.class_link.specs.Forms.{form_of}
-use Rattle.class_link.specs.Bodies.{placed, handler_rec, frame_recs, is_cut, linked_body}
-use Rattle.class_link.proofs.FormCases.{is_plain, FormCases, form_case, field_case, method_case, type_case}
+use Rattle.class_link.specs.Bodies.{placed, handler_rec, linked_body}
+use Rattle.class_link.proofs.FormCases.{form_case, field_case, method_case, type_case}
 use Rattle.class_link.proofs.FormFacts.{MakesNested, plain_form}
 use Rattle.class_link.proofs.ShapeFacts.{branch_args, null_args, far_args, table_args, look_up_args, nested_args, first_index}
 

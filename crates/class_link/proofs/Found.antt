@@ -118,7 +118,7 @@ module _ (p : Program) (numbered : (c : ℕ) → IsClass p c → NamesClass p (c
   ]
 
   -- the look-up of the method that was found finds it again
-  pub method_again : (c : ℕ) (name descriptor : List ℕ) (m : ℕ) → find_method p c name descriptor ≡ Some m → IsMethod p m × IsFound p c m
+  pub method_again : (c : ℕ) (name descriptor : List ℕ) (m : ℕ) → find_method p c name descriptor ≡ Some m → IsMethod p m × IsFound p c m × ((method_at p m).name ≡ name)
   method_again c name descriptor m e =
       let q = method_found c name descriptor m e in
       let b = and_parts (same_units (method_at p m).name name) (same_units (method_at p m).descriptor descriptor) q.1 in

@@ -1,5 +1,5 @@
 -- What looking up fields and methods finds, where each class is visited once.
-use Rattle.std.proofs.Common.{◌≡◌, ℕ, zero, suc, ◌+◌, ◌-◌, ◌<◌, List, [], ◌∷◌, ◌++◌, append-nil, add-one, length, get_or, take, drop, filter, find, flat_map, Bool, true, false, not, ◌||◌, ◌&&◌, cond, nat_eq, refl, sym, ◌∙◌, ap, subst, arith, lit<, is_some, slice_get, Option, Some, None}
+use Rattle.std.proofs.Common.{◌≡◌, ℕ, zero, suc, ◌+◌, ◌-◌, ◌<◌, List, [], ◌∷◌, ◌++◌, append-nil, add-one, length, get_or, take, drop, filter, find, flat_map, Bool, true, false, not, ◌||◌, ◌&&◌, cond, nat_eq, refl, sym, ◌∙◌, ap, arith, lit<, is_some, slice_get, Option, Some, None}
 use Rattle.std.specs.List.{list_any}
 use Rattle.std.specs.Option.{option_or}
 use Rattle.std.proofs.lemmas.List.Concat.{flat_map-append}

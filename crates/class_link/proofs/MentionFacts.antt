@@ -1,11 +1,11 @@
 -- Lists without later mentions, and what looks the same in them.
-use Rattle.std.proofs.Common.{◌≡◌, ℕ, zero, suc, List, [], ◌∷◌, ◌++◌, append-nil, append_assoc, filter, find, flat_map, Bool, true, false, not, ◌||◌, ◌&&◌, cond, if◌then◌else◌, nat_eq, refl, sym, ◌∙◌, ap, subst, inl, inr, Option, Some, None}
+use Rattle.std.proofs.Common.{◌≡◌, ℕ, List, [], ◌∷◌, ◌++◌, append-nil, append_assoc, filter, find, flat_map, Bool, true, false, not, ◌||◌, ◌&&◌, cond, if◌then◌else◌, nat_eq, refl, sym, ◌∙◌, ap, subst, inl, inr, Option, Some, None}
 use Rattle.std.specs.List.{list_any}
 use Rattle.std.specs.Option.{option_or}
-use Rattle.std.proofs.lemmas.Bool.{or_cases, or_left, or_right, eqb-true, eq-eqb}
+use Rattle.std.proofs.lemmas.Bool.{eqb-true, eq-eqb}
 use Rattle.std.proofs.lemmas.List.Elements.{filter-append, filter_agree}
-use Rattle.std.proofs.lemmas.List.Folds.{find-append, list_any-append}
-use Rattle.indexmap.specs.IndexSet.{insert_key, insert_all}
+use Rattle.std.proofs.lemmas.List.Folds.{find-append}
+use Rattle.indexmap.specs.IndexSet.{insert_all}
 use Rattle.jvm_model.specs.Classes.{member, first_mentions}
 use Rattle.class_link.proofs.Ancestry.{any_append, member_kept, member_there, member_from}
 use Rattle.class_link.proofs.Walking.{insert_append, insert_known}

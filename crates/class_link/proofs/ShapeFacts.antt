@@ -1,6 +1,5 @@
 -- What is known of the operands of an instruction by its opcode.
-use Rattle.std.proofs.Common.{◌≡◌, ◌≢◌, ◌⊎◌, ℕ, suc, ◌+◌, ◌%◌, ◌^◌, ◌<◌, ◌≤◌, ℤ, pos, Bool, true, false, eqb, leb, ◌||◌, List, [], ◌∷◌, get_or, Option, Some, None, refl, sym, ap, subst, ◌∙◌, arith, inl, inr}
-use Rattle.std.specs.Prelude.{is_some}
+use Rattle.std.proofs.Common.{◌≡◌, ◌≢◌, ℕ, ◌+◌, ◌%◌, ◌^◌, ◌<◌, ◌≤◌, ℤ, pos, Bool, true, false, eqb, leb, ◌||◌, List, [], ◌∷◌, get_or, Option, Some, None, refl, sym, ap, subst, ◌∙◌, arith, inl, inr}
 use Rattle.std.specs.Int.{w32, cast_unsigned}
 use Rattle.std.proofs.lemmas.Bool.{eqb-true}
 use Rattle.std.proofs.lemmas.Bool.Decides.{nat_tests}
@@ -15,7 +14,7 @@ use Rattle.code_decode.specs.declared.opcodes.Named.TheVariants as named
 use Rattle.code_decode.specs.Judging.{named_fit}
 use Rattle.code_decode.specs.Opcodes.{shape_of, takes_local}
 use Rattle.code_decode.proofs.ArgFacts.{OneNumber, IndexCount, CallsInterface, ArgFacts}
-use Rattle.code_decode.proofs.CodeFacts.{PlainFacts, WideFacts, OpFacts}
+use Rattle.code_decode.proofs.CodeFacts.{PlainFacts, OpFacts}
 use Rattle.class_link.specs.References.{number_in, index_in}
 use Rattle.class_link.proofs.FormCases.{IsTyped, by_test, differs}
 use Rattle.class_link.proofs.FormFacts.{CallsBySort}

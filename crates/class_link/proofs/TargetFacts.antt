@@ -125,7 +125,7 @@ module _ (body : ClassParts → CodePart → Body) (cs : List ClassParts) (tests
   method_is None pair t h e = absurd (cc)
   method_is (Some k) pair t h e = let some = unless_some (lacks_method k pair.0) _ t e in mapped (IsTarget p) (λ m. target.Method k m) (find_method (skeleton cs) (named_class k) pair.0 pair.1) t some.1 (λ m q.
       let r = method_again p (class_numbers body cs tests files) (named_class k) pair.0 pair.1 m (find_method_same body cs tests files (named_class k) pair.0 pair.1 ∙ q) in
-      (h k refl, r.0, ap (lacks_method k) r.2 ∙ some.0, r.1))
+      (h k refl, r.0, (ap (lacks_method k) r.2 ∙ some.0, r.1)))
 
   -- ---- entries
 

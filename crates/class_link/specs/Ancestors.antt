@@ -1,5 +1,5 @@
 -- Superclasses and superinterfaces of a class, as lists.
-use Rattle.std.specs.Prelude.{ℕ, List, ◌++◌, ◌≡◌, ◌↔◌, true, nat_eq}
+use Rattle.std.specs.Prelude.{ℕ, List, ◌++◌, ◌≡◌, ◌↔◌, true}
 use Rattle.jvm_model.specs.declared.program.Program.{Program}
 use Rattle.jvm_model.specs.Classes.{class_at, member}
 use Rattle.jvm_model.specs.Linked.{IsAncestor}

@@ -1,8 +1,7 @@
 -- The form of each instruction, its references resolved (JVMS 6.5).
-use Rattle.std.specs.Prelude.{ℕ, ℤ, pos, ◌+◌, ◌-◌, ◌%◌, ◌-ℤ◌, List, [], ◌∷◌, drop, map, min, Option, Some, None, Bool, true, false, not, ◌&&◌, ◌||◌, nat_le, ◌==◌, if◌then◌else◌}
+use Rattle.std.specs.Prelude.{ℕ, ℤ, pos, ◌+◌, ◌-◌, ◌%◌, ◌-ℤ◌, List, [], ◌∷◌, drop, map, min, Option, Some, None, Bool, ◌&&◌, ◌||◌, nat_le, ◌==◌, if◌then◌else◌}
 use Rattle.std.specs.Int.{w32, cast_unsigned}
 use Rattle.code_decode.specs.declared.instructions.RawOp.{RawOp}
-use Rattle.jvm_model.specs.declared.values.Value.{Value}
 use Rattle.jvm_model.specs.declared.values.Value.TheVariants.{Int, Long, Null}
 use Rattle.jvm_model.specs.declared.values.Base.TheVariants as base
 use Rattle.jvm_model.specs.declared.values.Kind.{Kind}
@@ -11,11 +10,9 @@ use Rattle.jvm_model.specs.declared.instr.Instr.{Instr}
 use Rattle.jvm_model.specs.declared.instr.Instr.TheVariants as form
 use Rattle.jvm_model.specs.declared.instr.Sort.{Sort}
 use Rattle.jvm_model.specs.declared.instr.Sort.TheVariants as sort
-use Rattle.jvm_model.specs.declared.instr.Cell.{Cell}
 use Rattle.jvm_model.specs.declared.instr.Cell.TheVariants as cell
 use Rattle.jvm_model.specs.declared.instr.Op.{Op}
 use Rattle.jvm_model.specs.declared.instr.Op.TheVariants as op
-use Rattle.jvm_model.specs.declared.instr.Conv.{Conv}
 use Rattle.jvm_model.specs.declared.instr.Conv.TheVariants as conv
 use Rattle.jvm_model.specs.declared.instr.IfTest.{IfTest}
 use Rattle.jvm_model.specs.declared.instr.IfTest.TheVariants as test

@@ -11,7 +11,7 @@ use Rattle.class_link.specs.declared.fault.LinkFault.TheVariants as fault
 use Rattle.class_link.specs.declared.references.Use.{Use}
 use Rattle.class_link.specs.declared.references.Target.{Target}
 use Rattle.class_link.specs.ClassNames.{own_name}
-use Rattle.class_link.specs.References.{Setting, target_of, missing_for, fits}
+use Rattle.class_link.specs.References.{Setting, missing_for, fits}
 use Rattle.class_link.specs.Bodies.{target_in}
 use Rattle.class_link.specs.Faults.{missing_or, wrong_unless}
 

@@ -1,13 +1,11 @@
 -- What the entries of a pool stand for, and how code uses them (JVMS 5.4.3 and 6.5).
-use Rattle.std.specs.Prelude.{ℕ, ℤ, pos, ◌%◌, List, [], ◌∷◌, ◌++◌, flat_map, map, get_or, option_map, option_and_then, Option, Some, None, Bool, true, false, not, ◌&&◌, ◌||◌, cond, nat_eq, nat_le, ◌==◌, if◌then◌else◌}
-use Rattle.std.specs.List.{list_any}
+use Rattle.std.specs.Prelude.{ℕ, ℤ, pos, ◌%◌, List, [], ◌∷◌, ◌++◌, flat_map, get_or, option_map, Option, Some, None, Bool, true, false, not, ◌&&◌, ◌||◌, cond, nat_eq, nat_le, ◌==◌, if◌then◌else◌}
 use Rattle.std.specs.Int.{w32, cast_unsigned}
 use Rattle.class_pool.specs.declared.pool.Entry.{Entry}
 use Rattle.class_pool.specs.declared.pool.Entry.TheVariants as entry
 use Rattle.class_pool.specs.Pool.{entry_of}
 use Rattle.code_decode.specs.declared.instructions.RawOp.{RawOp}
 use Rattle.class_reader.specs.declared.parts.ClassParts.{ClassParts}
-use Rattle.class_reader.specs.declared.parts.MemberPart.{MemberPart}
 use Rattle.class_reader.specs.declared.parts.CodePart.{CodePart}
 use Rattle.class_reader.specs.declared.parts.RawHandler.{RawHandler}
 use Rattle.jvm_model.specs.declared.values.Kind.{Kind}
@@ -15,8 +13,7 @@ use Rattle.jvm_model.specs.declared.values.Kind.TheVariants as kind
 use Rattle.jvm_model.specs.declared.values.Value.TheVariants.{Int, Long, Lit}
 use Rattle.jvm_model.specs.declared.program.Program.{Program}
 use Rattle.jvm_model.specs.Builtin.{throwable_class}
-use Rattle.jvm_model.specs.Classes.{class_at, field_at, method_at, is_static, is_interface, is_below, member}
-use Rattle.jvm_model.specs.World.{same_units}
+use Rattle.jvm_model.specs.Classes.{class_at, field_at, method_at, is_static, is_below, member}
 use Rattle.jvm_model.specs.Selection.{named_class}
 use Rattle.jvm_model.specs.Lookup.{find_field, find_method, lacks_method}
 use Rattle.jvm_model.specs.Linked.{is_interface_at}

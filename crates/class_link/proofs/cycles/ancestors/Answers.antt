@@ -1,7 +1,5 @@
-use Rattle.std.proofs.Common.{nat_eq, List, ℕ, subst, sym, arith}
-use Rattle.indexmap.specs.IndexSet.{insert_all}
-use Rattle.class_link.specs.Ancestors.{directs}
-use Rattle.class_link.proofs.Ancestry.{Searches, searches_none, searches_more, searches_all}
+use Rattle.std.proofs.Common.{arith}
+use Rattle.class_link.proofs.Ancestry.{searches_none, searches_more, searches_all}
 use Rattle.class_link.proofs.cycles.ancestors.Goals as goal
 
 pub loop-place-init : goal.loop-place-init

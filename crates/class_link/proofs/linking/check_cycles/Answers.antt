@@ -1,4 +1,4 @@
-use Rattle.std.proofs.Common.{ap, subst, ◌∙◌}
+use Rattle.std.proofs.Common.{ap, subst}
 use Rattle.class_link.specs.declared.setting.Setting.{Setting}
 use Rattle.jvm_model.specs.declared.program.Program.{Program}
 use Rattle.class_link.specs.Faults.{IsFirstCycle}

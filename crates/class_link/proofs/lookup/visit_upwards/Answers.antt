@@ -1,5 +1,5 @@
 use Rattle.std.proofs.Common.{arith, subst}
-use Rattle.class_link.proofs.Lookups.{Climbs, climbs_none, climbs_more, climbs_all, chain_over}
+use Rattle.class_link.proofs.Lookups.{Climbs, climbs_more}
 use Rattle.class_link.proofs.lookup.visit_upwards.Goals as goal
 
 pub loop-next-preserved : goal.loop-next-preserved

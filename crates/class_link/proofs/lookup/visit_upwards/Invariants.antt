@@ -1,8 +1,3 @@
-use Rattle.std.proofs.Common.{◌≡◌, nat_eq, flat_map, false}
-use Rattle.indexmap.specs.IndexMap.{keys}
-use Rattle.indexmap.specs.IndexSet.{insert_all}
-use Rattle.jvm_model.specs.Classes.{upwards}
-use Rattle.class_link.specs.Walks.{IsWalked, above_class}
 use Rattle.class_link.proofs.Lookups.{Climbs}
 use Rattle.class_link.proofs.lookup.visit_upwards.Given as goal
 

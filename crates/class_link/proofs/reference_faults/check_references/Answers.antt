@@ -1,4 +1,4 @@
-use Rattle.std.proofs.Common.{◌≡◌, ◌∙◌, sym, ap, subst, Option}
+use Rattle.std.proofs.Common.{◌∙◌, sym, ap, subst, Option}
 use Rattle.class_link.specs.declared.fault.LinkFault.{LinkFault}
 use Rattle.class_link.specs.Answers.{Fails}
 use Rattle.class_link.specs.Link.{unless}

@@ -1,7 +1,7 @@
 use Rattle.std.proofs.Common.{nat_eq, arith, sym, ap, ◌∙◌}
 use Rattle.std.specs.Map.{keys_of}
 use Rattle.indexmap.proofs.SetLemmas.{keys_insert_entry}
-use Rattle.class_link.proofs.Walking.{visits_none, visits_append, visits_known, walked_start, visits_walk, visits_more, visits_nexts}
+use Rattle.class_link.proofs.Walking.{visits_none, visits_known, walked_start, visits_walk, visits_more, visits_nexts}
 use Rattle.class_link.proofs.walk.+walking.Goals as goal
 
 pub visit-returns-then-is_walked : goal.visit-returns-then-is_walked
