@@ -10,6 +10,10 @@ mod class_tests;
 #[cfg(test)]
 mod files;
 #[cfg(test)]
+mod link_classes;
+#[cfg(test)]
+mod link_tests;
+#[cfg(test)]
 mod outsides;
 #[cfg(test)]
 mod tests;

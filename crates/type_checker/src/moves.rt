@@ -3,7 +3,7 @@
 ghost use Rattle.std.specs.Prelude.{◌≡◌, ◌∷◌, ◌++◌, [], IfOk, OnOk, slice_index_or, ◌+◌};
 ghost use Rattle.type_frames.specs.declared.vtype.VType.TheVariants as types;
 ghost use Rattle.type_frames.specs.declared.sides.Need.TheVariants as wants;
-ghost use Rattle.type_frames.specs.Sides.{const_type, convert_sides, dup2_sides, dup2_x1_sides, dup2_x2_sides, dup_sides, dup_x1_sides, dup_x2_sides, inc_sides, int_type, load_sides, long_need, number_need, number_type, place_of, plain, reading, second_need, setting, store_sides, swap_sides, two};
+ghost use Rattle.type_frames.specs.Sides.{const_type, convert_sides, dup2_sides, dup2_x1_sides, dup2_x2_sides, dup_sides, dup_x1_sides, dup_x2_sides, inc_sides, int_type, load_sides, long_need, long_type, number_need, number_type, place_of, plain, reading, second_need, setting, store_sides, swap_sides, two};
 
 use crate::build::{
     int_need, int_type, is_half, long_type, moved, number_need, number_type, one_need, one_type,
@@ -191,12 +191,27 @@ fn local_of(alloc: Global, f: &Shape, n: u16) -> Result<VType, NoMemory>
     }
 }
 
+fn load_long(alloc: Global, local: u16) -> Result<Sides, NoMemory>
+    ensures { IfOk result (λ s. s ≡ record (plain [] long_type) { reads = reading local (wants.Fits types.Long) ∷ reading (local + 1) wants.Half ∷ [] }) }
+{
+    let mut s = plain(alloc, Items::new(alloc), long_type(alloc)?);
+    s.reads.push(Reading {
+        local: u32::from(local),
+        need: Need::Fits(VType::Long),
+    })?;
+    s.reads.push(Reading {
+        local: u32::from(local) + 1,
+        need: Need::Half,
+    })?;
+    Ok(s)
+}
+
 pub fn load(alloc: Global, f: &Shape, of: &Sort, local: u16) -> Result<Sides, NoMemory>
     ensures { IfOk result (λ s. s ≡ load_sides f.now of.now local) }
 {
     match of {
         Sort::Int => with_reading(alloc, int_type(alloc)?, local, Need::Fits(VType::Int)),
-        Sort::Long => with_reading(alloc, long_type(alloc)?, local, Need::Fits(VType::Long)),
+        Sort::Long => load_long(alloc, local),
         Sort::Ref => with_reading(
             alloc,
             one_type(alloc, local_of(alloc, f, local)?)?,

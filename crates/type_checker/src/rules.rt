@@ -267,7 +267,7 @@ fn handles(p: &Program, e: &Context, pc: u32, f: &Shape, h: &Handler) -> bool
     if !(h.from <= pc && pc < h.to) {
         return true;
     }
-    if e.body.max_stack == 0 || f.flag {
+    if e.body.max_stack == 0 || (e.starts && f.flag) {
         return false;
     }
     match given_at(e, h.at) {

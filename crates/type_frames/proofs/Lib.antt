@@ -2,3 +2,4 @@ pub mod Units
 pub mod PlaceLemmas
 pub mod MapLemmas
 pub mod ScanLemmas
+pub mod AssignLaws

@@ -156,8 +156,9 @@ caught h = elim h.catches [ None ↦ throwable_class | Some c ↦ c ]
 abbrev pub thrown : Program → Slots → Handler → Slots
 thrown p f h = record f { stack = object_of p (caught h) ∷ [] }
 
+-- the locals before the instruction and what is caught are taken, and no `<init>` has still to call another one
 abbrev pub handles : Program → Environment → ℕ → Slots → Handler → Bool
-handles p e pc f h = not (covers h pc) || (nat_lt 0 e.body.max_stack && (not f.flag && fits_at p e (thrown p f h) h.at))
+handles p e pc f h = not (covers h pc) || (nat_lt 0 e.body.max_stack && (not (e.starts && f.flag) && fits_at p e (thrown p f h) h.at))
 
 abbrev pub all_handle : Program → Environment → ℕ → Slots → List Handler → Bool
 all_handle p e pc f hs = list_all (λ h. handles p e pc f h) hs

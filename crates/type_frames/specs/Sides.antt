@@ -146,11 +146,11 @@ convert_sides conv.I2l = plain int_need long_type
 convert_sides conv.L2i = plain long_need int_type
 convert_sides _ = plain int_need int_type
 
--- Loads, stores and iinc. A long's second place is set first: a place that is set cuts the long before it.
+-- Loads, stores and iinc. A long has two places (JVMS 2.6.1). Its second one is set first: a place that is set cuts the long before it.
 
 abbrev pub load_sides : Slots → Sort → ℕ → Sides
 load_sides f sort.Int n = record (plain [] int_type) { reads = reading n (Fits Int) ∷ [] }
-load_sides f sort.Long n = record (plain [] long_type) { reads = reading n (Fits Long) ∷ [] }
+load_sides f sort.Long n = record (plain [] long_type) { reads = reading n (Fits Long) ∷ reading (n + 1) Half ∷ [] }
 load_sides f sort.Ref n = record (plain [] (slice_index_or f.locals n Top ∷ [])) { reads = reading n Ref ∷ [] }
 
 abbrev pub store_sides : Slots → Sort → ℕ → Sides
