@@ -1,8 +1,9 @@
 -- What is on the sink, from what was written.
 use Rattle.std.proofs.Common.{◌≡◌, ◌≢◌, ℕ, List, refl, sym, subst, inl, inr, Option, Some, None, IfSome}
+use Rattle.suite_load.specs.Loading.{Files}
 use Rattle.electrictest.specs.declared.status.Status.{Status}
 use Rattle.electrictest.specs.declared.status.Status.TheVariants as ends
-use Rattle.electrictest.specs.Replies.{Files, fault_line, IsAnswer}
+use Rattle.electrictest.specs.Replies.{fault_line, IsAnswer}
 use Rattle.electrictest.specs.Commands.{Unreported, Reported, Writes, Refused, Counted, Answering, Replied, Served}
 
 done_at : (files : Files) (words : List (List ℕ)) (text : List ℕ) (result : Status) (old new : Option (List ℕ)) (before after begun now : ℕ) → Reported files words text begun now → Writes text ends.Done result old new before after → Served files words result old new begun now

@@ -1,7 +1,6 @@
 -- A linked program of the first machine is one that it runs.
-use Rattle.std.proofs.Common.{◌≡◌, ℕ, ℤ, zero, suc, ◌+◌, ◌-◌, ◌<◌, ◌≤◌, List, [], ◌∷◌, ◌++◌, length, get_or, take, drop, map, replicate, Bool, true, false, ◌&&◌, not, cond, nat_le, nat_eq, pos, is_none, is_some, refl, ap, sym, ◌∙◌, arith, codes, Option, Some, None, IsSome}
+use Rattle.std.proofs.Common.{◌≡◌, ℕ, zero, suc, ◌+◌, ◌-◌, ◌<◌, ◌≤◌, List, [], ◌∷◌, ◌++◌, length, get_or, take, drop, map, replicate, Bool, true, false, ◌&&◌, not, cond, nat_le, nat_eq, pos, is_none, is_some, refl, ap, sym, ◌∙◌, arith, codes, Option, Some, None, IsSome}
 use Rattle.std.specs.List.{list_all}
-use Rattle.std.specs.Ordering.{int_eq}
 use Rattle.std.proofs.lemmas.Bool.{and_parts, leb-true, eqb-true}
 use Rattle.std.proofs.lemmas.Bool.Decides.{Decides-int_eq}
 use Rattle.std.proofs.lemmas.List.{map-append, get_or-drop, take-append-drop, length-drop}
@@ -23,11 +22,10 @@ use Rattle.jvm_model.specs.RowsCalls.{argument_count}
 use Rattle.jvm_model.specs.State.{test_at, no_test}
 use Rattle.jvm_model.specs.Suite.{opening}
 use Rattle.jvm_model.proofs.BuiltinRules.{all_at, builtin_method, enough_fields}
-use Rattle.class_link.proofs.Numbered.{units_true}
-use Rattle.vm_interp.specs.Served.{print_method, body_of, body_or_none, AllAbove, Ascends, is_straight, IsServed, IsServedTest, IsServedField}
+use Rattle.vm_interp.specs.Served.{print_method, body_of, body_or_none, AllAbove, Ascends, is_straight, IsServed, IsServedTest}
 use Rattle.vm_interp.specs.Fitting.{ascends_from, is_served_body}
 use Rattle.vm_interp.specs.Standing.{world_of}
-use Rattle.electrictest.specs.FirstMachine.{is_zero, is_first_field, is_first_method, is_first_test, is_first_program, given_fields}
+use Rattle.electrictest.specs.FirstMachine.{is_zero, is_first_field, is_first_test, is_first_program, given_fields}
 use Rattle.electrictest.specs.Runnable.{IsRunnable}
 
 -- ---- classes
@@ -75,8 +73,13 @@ zero_is Null e = absurd (cc)
 zero_is (Lit n) e = absurd (cc)
 zero_is (Obj o) e = absurd (cc)
 
+int_alone : (d : List ℕ) → same_units d (73 ∷ []) ≡ true → d ≡ 73 ∷ []
+int_alone [] e = absurd (cc)
+int_alone (u ∷ []) e = ap (λ k. k ∷ []) (eqb-true u 73 (and_parts (nat_eq u 73) true e).0)
+int_alone (u ∷ v ∷ us) e = let q = (and_parts (nat_eq u 73) false e).1 in absurd (cc)
+
 field_parts : (f : FieldRec) → is_first_field f ≡ true → (f.descriptor ≡ 73 ∷ []) × (f.opening ≡ Int (pos 0))
-field_parts f e = let q = and_parts (same_units f.descriptor (codes "I")) (is_zero f.opening) e in (units_true f.descriptor (codes "I") q.0, zero_is f.opening q.1)
+field_parts f e = let q = and_parts (same_units f.descriptor (codes "I")) (is_zero f.opening) e in (int_alone f.descriptor q.0, zero_is f.opening q.1)
 
 given_at : (p : Program) → list_all is_first_field (given_fields p) ≡ true → (f : ℕ) → 2 ≤ f → f < length p.fields → is_first_field (field_at p f) ≡ true
 given_at p e f two below =

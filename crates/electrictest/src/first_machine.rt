@@ -1,6 +1,6 @@
 //! Which programs the first machine runs.
 
-ghost use Rattle.std.specs.Prelude.{◌≡◌, is_none, drop};
+ghost use Rattle.std.specs.Prelude.{◌≡◌, is_none};
 ghost use Rattle.std.specs.List.{list_all};
 ghost use Rattle.electrictest.specs.FirstMachine as first;
 
@@ -29,13 +29,19 @@ fn is_first_field(field: &FieldRec) -> bool
     same_units(field.descriptor.as_slice(), &INT) && is_zero(&field.opening)
 }
 
-// The fields of the given classes come after the two of the built-in ones.
 fn are_first_fields(fields: &[FieldRec]) -> bool
-    ensures { result ≡ list_all first.is_first_field (drop 2 fields.now) }
+    ensures { result ≡ list_all first.is_first_field fields.now }
 {
-    match fields {
-        [_, _, given @ ..] => given.iter().all(|field| is_first_field(field)),
-        _ => true,
+    fields.iter().all(|field| is_first_field(field))
+}
+
+// The fields of the given classes come after the two of the built-in ones.
+fn given_fields(p: &Program) -> &[FieldRec]
+    ensures { result.now ≡ first.given_fields p.now }
+{
+    match p.fields.as_slice() {
+        [_, _, given @ ..] => given,
+        _ => &[],
     }
 }
 
@@ -78,5 +84,5 @@ pub fn is_first_program(p: &Program) -> bool
     ensures { result ≡ first.is_first_program p.now }
 {
     have_no_initialiser(p.classes.as_slice())
-        && (are_first_fields(p.fields.as_slice()) && are_first_tests(p))
+        && (are_first_fields(given_fields(p)) && are_first_tests(p))
 }
