@@ -25,7 +25,7 @@ use Rattle.jvm_model.proofs.BuiltinRules.{all_at, builtin_method, enough_fields}
 use Rattle.vm_interp.specs.Served.{print_method, body_of, body_or_none, AllAbove, Ascends, is_straight, IsServed, IsServedTest}
 use Rattle.vm_interp.specs.Fitting.{ascends_from, is_served_body}
 use Rattle.vm_interp.specs.Standing.{world_of}
-use Rattle.electrictest.specs.FirstMachine.{is_zero, is_first_field, is_first_test, is_first_program, given_fields}
+use Rattle.electrictest.specs.FirstMachine.{is_zero, is_fitting_field, is_fitting_test, fits_first_machine, given_fields}
 use Rattle.electrictest.specs.Runnable.{IsRunnable}
 
 -- ---- classes
@@ -78,27 +78,27 @@ int_alone [] e = absurd (cc)
 int_alone (u ∷ []) e = ap (λ k. k ∷ []) (eqb-true u 73 (and_parts (nat_eq u 73) true e).0)
 int_alone (u ∷ v ∷ us) e = let q = (and_parts (nat_eq u 73) false e).1 in absurd (cc)
 
-field_parts : (f : FieldRec) → is_first_field f ≡ true → (f.descriptor ≡ 73 ∷ []) × (f.opening ≡ Int (pos 0))
+field_parts : (f : FieldRec) → is_fitting_field f ≡ true → (f.descriptor ≡ 73 ∷ []) × (f.opening ≡ Int (pos 0))
 field_parts f e = let q = and_parts (same_units f.descriptor (codes "I")) (is_zero f.opening) e in (int_alone f.descriptor q.0, zero_is f.opening q.1)
 
-given_at : (p : Program) → list_all is_first_field (given_fields p) ≡ true → (f : ℕ) → 2 ≤ f → f < length p.fields → is_first_field (field_at p f) ≡ true
+given_at : (p : Program) → list_all is_fitting_field (given_fields p) ≡ true → (f : ℕ) → 2 ≤ f → f < length p.fields → is_fitting_field (field_at p f) ≡ true
 given_at p e f two below =
     let n = length-drop 2 p.fields in
     let i : 2 + (f - 2) ≡ f = omega arith in
     let there : get_or (drop 2 p.fields) (f - 2) no_field ≡ field_at p f = get_or-drop 2 p.fields (f - 2) no_field ∙ ap (λ k. get_or p.fields k no_field) i in
-    ap is_first_field (sym there) ∙ all_at is_first_field (drop 2 p.fields) (f - 2) no_field e (omega arith)
+    ap is_fitting_field (sym there) ∙ all_at is_fitting_field (drop 2 p.fields) (f - 2) no_field e (omega arith)
 
-zeros_open : (fs : List FieldRec) → list_all is_first_field fs ≡ true → map (λ f. f.opening) fs ≡ map Int (replicate (length fs) (pos 0))
+zeros_open : (fs : List FieldRec) → list_all is_fitting_field fs ≡ true → map (λ f. f.opening) fs ≡ map Int (replicate (length fs) (pos 0))
 zeros_open [] e = refl
 zeros_open (f ∷ fs) e =
-    let q = and_parts (is_first_field f) (list_all is_first_field fs) e in
+    let q = and_parts (is_fitting_field f) (list_all is_fitting_field fs) e in
     ap (λ v. v ∷ map (λ (g : FieldRec). g.opening) fs) (field_parts f q.0).1 ∙ ap (λ vs. Int (pos 0) ∷ vs) (zeros_open fs q.1)
 
 builtin_open : (length builtin_fields ≡ 2) × (map (λ f. f.opening) builtin_fields ≡ Lit 0 ∷ (Null ∷ []))
 unfolding builtin_fields builtin_defs
 builtin_open = (refl, refl)
 
-opens_with : (p : Program) → take 2 p.fields ≡ builtin_fields → list_all is_first_field (given_fields p) ≡ true → world_of p (replicate (length p.fields - 2) (pos 0)) ≡ opening p
+opens_with : (p : Program) → take 2 p.fields ≡ builtin_fields → list_all is_fitting_field (given_fields p) ≡ true → world_of p (replicate (length p.fields - 2) (pos 0)) ≡ opening p
 unfolding opening
 opens_with p taken e =
     let all : map (λ (f : FieldRec). f.opening) p.fields ≡ Lit 0 ∷ (Null ∷ map Int (replicate (length p.fields - 2) (pos 0))) =
@@ -130,12 +130,12 @@ body_there : (o : Option Body) → IsSome o → o ≡ Some (body_or_none o)
 body_there None h = absurd (cc)
 body_there (Some b) h = refl
 
-test_served : (p : Program) → Linked p → ((c : ℕ) → is_trivial p c ≡ true) → list_all (λ t. is_first_test p t) p.tests ≡ true → (t : ℕ) → 1 ≤ t → t ≤ length p.tests → IsServedTest p t
+test_served : (p : Program) → Linked p → ((c : ℕ) → is_trivial p c ≡ true) → list_all (λ t. is_fitting_test p t) p.tests ≡ true → (t : ℕ) → 1 ≤ t → t ≤ length p.tests → IsServedTest p t
 test_served p linked trivial e t one most =
     let x = test_at p t in
     let m = method_at p x.method in
     let below : t - 1 < length p.tests = omega arith in
-    let q = and_parts (is_static m.flags) (is_served_body p (body_of p t)) (all_at (λ y. is_first_test p y) p.tests (t - 1) no_test e below) in
+    let q = and_parts (is_static m.flags) (is_served_body p (body_of p t)) (all_at (λ y. is_fitting_test p y) p.tests (t - 1) no_test e below) in
     let b = body_served p (body_of p t) q.1 in
     let is = linked.tests (t - 1) no_test below in
     let named = linked.numbers.tests (t - 1) no_test below in
@@ -151,7 +151,7 @@ test_served p linked trivial e t one most =
 
 -- ---- the program
 
-served_by : (p : Program) → Linked p → ((c : ℕ) → is_trivial p c ≡ true) → list_all is_first_field (given_fields p) ≡ true → list_all (λ t. is_first_test p t) p.tests ≡ true → IsServed p
+served_by : (p : Program) → Linked p → ((c : ℕ) → is_trivial p c ≡ true) → list_all is_fitting_field (given_fields p) ≡ true → list_all (λ t. is_fitting_test p t) p.tests ≡ true → IsServed p
 served_by p linked trivial fields tests =
     let print : method_at p print_method ≡ get_or builtin_methods 45 no_method = builtin_method p linked.builtins 45 (omega arith) in
     record {
@@ -163,11 +163,11 @@ served_by p linked trivial fields tests =
     }
 
 -- the first machine runs it
-pub first_runnable : (p : Program) → Linked p → is_first_program p ≡ true → IsRunnable p
-unfolding is_first_program
-first_runnable p linked e =
-    let x = and_parts (list_all (λ c. is_none c.initialiser) p.classes) (list_all is_first_field (given_fields p) && list_all (λ t. is_first_test p t) p.tests) e in
-    let y = and_parts (list_all is_first_field (given_fields p)) (list_all (λ t. is_first_test p t) p.tests) x.1 in
+pub fitting_runnable : (p : Program) → Linked p → fits_first_machine p ≡ true → IsRunnable p
+unfolding fits_first_machine
+fitting_runnable p linked e =
+    let x = and_parts (list_all (λ c. is_none c.initialiser) p.classes) (list_all is_fitting_field (given_fields p) && list_all (λ t. is_fitting_test p t) p.tests) e in
+    let y = and_parts (list_all is_fitting_field (given_fields p)) (list_all (λ t. is_fitting_test p t) p.tests) x.1 in
     let trivial = trivial_where p (λ c. not_some (class_at p c).initialiser (none_at p.classes c x.0)) in
     let few = linked.few_tests in
     record {

@@ -3,6 +3,7 @@ use Rattle.std.specs.Prelude.{◌≡◌, ◌≢◌, ◌⊎◌, ℕ, ◌+◌, ◌
 use Rattle.outside.specs.Counts.{Rose}
 use Rattle.outside.specs.Sink.{appended, HasRoom}
 use Rattle.suite_load.specs.Loading.{Files}
+use Rattle.electrictest.specs.Answers.{IsProperInput}
 use Rattle.electrictest.specs.declared.status.Status.{Status}
 use Rattle.electrictest.specs.declared.status.Status.TheVariants as ends
 use Rattle.electrictest.specs.Replies.{suite_word, fault_line, IsReadFor, IsReport, IsAnswer}
@@ -13,7 +14,7 @@ abbrev pub NamedEnds : Option Files → List (List ℕ) → Status → ℕ → �
 NamedEnds told words ends.NoMemory old new = Unit {0}
 NamedEnds told words (ends.Depot name) old new = IfSome told (λ files. IsReadFor files words name) × Rose old new
 NamedEnds told words ends.Words old new = suite_word words ≡ None
-NamedEnds told words (ends.Input f) old new = Unit {0}
+NamedEnds told words (ends.Input f) old new = IsProperInput f
 NamedEnds told words (ends.Over f) old new = ⊥
 NamedEnds told words ends.Done old new = ⊥
 NamedEnds told words ends.NotPassed old new = ⊥
@@ -24,7 +25,7 @@ abbrev pub ReportEnds : List (List ℕ) → Status → ℕ → ℕ → Type 0
 ReportEnds words ends.NoMemory old new = Unit {0}
 ReportEnds words (ends.Depot name) old new = Rose old new
 ReportEnds words ends.Words old new = suite_word words ≡ None
-ReportEnds words (ends.Input f) old new = Unit {0}
+ReportEnds words (ends.Input f) old new = IsProperInput f
 ReportEnds words (ends.Over f) old new = Unit {0}
 ReportEnds words ends.Done old new = ⊥
 ReportEnds words ends.NotPassed old new = ⊥
@@ -125,14 +126,14 @@ Served asked ends.NoMemory sink = Untouched sink
 Served asked ends.Sink sink = PartReplied asked sink
 Served asked s sink = Replied asked s sink
 
--- The depot's and the sink's failures are answered only where their counts of faults rose, the words only where they
--- have no form.
+-- Whatever the depot tells: its and the sink's failures are answered only where their counts of faults rose, the words only
+-- where they have no form, and an input by its own fault. The counts are the depot's and the sink's, before and after.
 abbrev pub Ends : List (List ℕ) → Status → ℕ → ℕ → ℕ → ℕ → Type 0
-Ends words ends.Words d d' k k' = suite_word words ≡ None
-Ends words (ends.Depot name) d d' k k' = Rose d d'
-Ends words ends.Sink d d' k k' = Rose k k'
-Ends words ends.Done d d' k k' = Unit {0}
-Ends words ends.NotPassed d d' k k' = Unit {0}
-Ends words (ends.Input f) d d' k k' = Unit {0}
-Ends words ends.NoMemory d d' k k' = Unit {0}
-Ends words (ends.Over f) d d' k k' = Unit {0}
+Ends words ends.Words depot depot_now sink sink_now = suite_word words ≡ None
+Ends words (ends.Depot name) depot depot_now sink sink_now = Rose depot depot_now
+Ends words ends.Sink depot depot_now sink sink_now = Rose sink sink_now
+Ends words ends.Done depot depot_now sink sink_now = Unit {0}
+Ends words ends.NotPassed depot depot_now sink sink_now = Unit {0}
+Ends words (ends.Input f) depot depot_now sink sink_now = IsProperInput f
+Ends words ends.NoMemory depot depot_now sink sink_now = Unit {0}
+Ends words (ends.Over f) depot depot_now sink sink_now = Unit {0}

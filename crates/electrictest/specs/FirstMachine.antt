@@ -18,20 +18,20 @@ is_zero (Int n) = int_eq n (pos 0)
 is_zero _ = false
 
 -- an int that opens with 0
-abbrev pub is_first_field : FieldRec → Bool
-is_first_field f = same_units f.descriptor (codes "I") && is_zero f.opening
+abbrev pub is_fitting_field : FieldRec → Bool
+is_fitting_field f = same_units f.descriptor (codes "I") && is_zero f.opening
 
 -- a static method whose code goes straight on over ints
-abbrev pub is_first_method : Program → MethodRec → Bool
-is_first_method p m = is_static m.flags && is_served_body p (body_or_none m.body)
+abbrev pub is_fitting_method : Program → MethodRec → Bool
+is_fitting_method p m = is_static m.flags && is_served_body p (body_or_none m.body)
 
-abbrev pub is_first_test : Program → TestEntry → Bool
-is_first_test p t = is_first_method p (method_at p t.method)
+abbrev pub is_fitting_test : Program → TestEntry → Bool
+is_fitting_test p t = is_fitting_method p (method_at p t.method)
 
 -- the fields of the given classes, which come after the two of the built-in ones
 abbrev pub given_fields : Program → List FieldRec
 given_fields p = drop 2 p.fields
 
 -- No class has an initialiser, and each given field and each test is of the first machine.
-unfoldable pub is_first_program : Program → Bool
-is_first_program p = list_all (λ c. is_none c.initialiser) p.classes && (list_all is_first_field (given_fields p) && list_all (λ t. is_first_test p t) p.tests)
+unfoldable pub fits_first_machine : Program → Bool
+fits_first_machine p = list_all (λ c. is_none c.initialiser) p.classes && (list_all is_fitting_field (given_fields p) && list_all (λ t. is_fitting_test p t) p.tests)

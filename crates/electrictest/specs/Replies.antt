@@ -18,7 +18,7 @@ use Rattle.electrictest.specs.declared.status.Status.TheVariants as ends
 use Rattle.electrictest.specs.declared.status.InputFault.TheVariants as input
 use Rattle.electrictest.specs.declared.status.OverFault.{OverFault}
 use Rattle.electrictest.specs.declared.status.OverFault.TheVariants as over
-use Rattle.electrictest.specs.FirstMachine.{is_first_program}
+use Rattle.electrictest.specs.FirstMachine.{fits_first_machine}
 use Rattle.electrictest.specs.FaultTexts.{why_text, class_text, link_text, check_text}
 
 -- `run SUITE - 1 all`: the suite's name
@@ -39,7 +39,7 @@ status_of fault.NoMemory = ends.NoMemory
 
 -- what loading the suite of this name gives; a program that isn't of the first machine isn't served yet
 abbrev pub served : List ℕ → Result Loaded LoadFault → Result Loaded Status
-served name (Ok l) = if is_first_program l.checked then Ok l else Err (ends.Input (input.NotYet name))
+served name (Ok l) = if fits_first_machine l.checked then Ok l else Err (ends.Input (input.NotYet name))
 served name (Err f) = Err (status_of f)
 
 -- loading the suite of this name answers this

@@ -23,16 +23,16 @@ fn is_zero(value: &Value) -> bool
 }
 
 // An int that opens with 0.
-fn is_first_field(field: &FieldRec) -> bool
-    ensures { result ≡ first.is_first_field field.now }
+fn is_fitting_field(field: &FieldRec) -> bool
+    ensures { result ≡ first.is_fitting_field field.now }
 {
     same_units(field.descriptor.as_slice(), &INT) && is_zero(&field.opening)
 }
 
-fn are_first_fields(fields: &[FieldRec]) -> bool
-    ensures { result ≡ list_all first.is_first_field fields.now }
+fn are_fitting_fields(fields: &[FieldRec]) -> bool
+    ensures { result ≡ list_all first.is_fitting_field fields.now }
 {
-    fields.iter().all(|field| is_first_field(field))
+    fields.iter().all(|field| is_fitting_field(field))
 }
 
 // The fields of the given classes come after the two of the built-in ones.
@@ -46,8 +46,8 @@ fn given_fields(p: &Program) -> &[FieldRec]
 }
 
 // A static method whose code goes straight on over ints.
-fn is_first_method(p: &Program, method: &MethodRec) -> bool
-    ensures { result ≡ first.is_first_method p.now method.now }
+fn is_fitting_method(p: &Program, method: &MethodRec) -> bool
+    ensures { result ≡ first.is_fitting_method p.now method.now }
 {
     let is_static = method.flags / STATIC % 2 == 1;
     match &method.body {
@@ -56,19 +56,22 @@ fn is_first_method(p: &Program, method: &MethodRec) -> bool
     }
 }
 
-fn is_first_test(p: &Program, test: &TestEntry) -> bool
-    ensures { result ≡ first.is_first_test p.now test.now }
+fn is_fitting_test(p: &Program, test: &TestEntry) -> bool
+    ensures { result ≡ first.is_fitting_test p.now test.now }
 {
     match p.methods.as_slice().get(test.method as usize) {
-        Some(method) => is_first_method(p, method),
+        Some(method) => is_fitting_method(p, method),
         None => false,
     }
 }
 
-fn are_first_tests(p: &Program) -> bool
-    ensures { result ≡ list_all (λ t. first.is_first_test p.now t) p.now.tests }
+fn are_fitting_tests(p: &Program) -> bool
+    ensures { result ≡ list_all (λ t. first.is_fitting_test p.now t) p.now.tests }
 {
-    p.tests.as_slice().iter().all(|test| is_first_test(p, test))
+    p.tests
+        .as_slice()
+        .iter()
+        .all(|test| is_fitting_test(p, test))
 }
 
 fn have_no_initialiser(classes: &[ClassRec]) -> bool
@@ -79,10 +82,10 @@ fn have_no_initialiser(classes: &[ClassRec]) -> bool
 
 /// Whether the first machine runs the program: no class has an initialiser, each given field is an int that opens with 0,
 /// and each test is a static method whose code goes straight on over ints.
-#[tactic(auto, unfolding(crate::specs::FirstMachine::is_first_program))]
-pub fn is_first_program(p: &Program) -> bool
-    ensures { result ≡ first.is_first_program p.now }
+#[tactic(auto, unfolding(crate::specs::FirstMachine::fits_first_machine))]
+pub fn fits_first_machine(p: &Program) -> bool
+    ensures { result ≡ first.fits_first_machine p.now }
 {
     have_no_initialiser(p.classes.as_slice())
-        && (are_first_fields(given_fields(p)) && are_first_tests(p))
+        && (are_fitting_fields(given_fields(p)) && are_fitting_tests(p))
 }

@@ -7,7 +7,7 @@ ghost use Rattle.electrictest.specs.Runnable.{IsRunnable};
 ghost use Rattle.electrictest.specs.Answers.{Answers, LoadEnds};
 ghost use Rattle.electrictest.specs.Replies as reply;
 
-use crate::first_machine::is_first_program;
+use crate::first_machine::fits_first_machine;
 use crate::status::{InputFault, Status};
 use et_base::{NoMemory, Text};
 use outside::Depot;
@@ -46,7 +46,7 @@ fn served(alloc: Global, loaded: Loaded, name: &Text) -> Result<Loaded, Status>
     ensures ends { IfErr result (λ e. LoadEnds (λ _. ⊥) e 0 0) }
     ensures runs { IfOk result (λ l. IsRunnable l.checked) }
 {
-    if is_first_program(loaded.checked.program()) {
+    if fits_first_machine(loaded.checked.program()) {
         Ok(loaded)
     } else {
         let name = copy_text(alloc, name)?;

@@ -13,7 +13,7 @@ use Rattle.type_checker.proofs.Typed.{fault_untyped}
 use Rattle.suite_load.specs.declared.suite_text.SuiteText.{SuiteText}
 use Rattle.suite_load.specs.declared.load_fault.LoadFault.{LoadFault}
 use Rattle.suite_load.specs.declared.load_fault.LoadFault.TheVariants as fault
-use Rattle.suite_load.specs.Loading.{◌>>=◌, lines_of, link_fault, link_said, check_said, loaded_of, checked_of, Goes}
+use Rattle.suite_load.specs.Loading.{◌>>=◌, lines_of, link_fault, link_answer, typed_answer, loaded_of, checked_of, ReadGives}
 use Rattle.suite_load.specs.LoadAnswers.{Checks, check_answer}
 
 no_fault : (p : Program) → IsTyped p → (found : Option CheckFault) → check_fault p ≡ found → found ≡ None
@@ -28,14 +28,14 @@ pub linked_goes : (suite : SuiteText) (classes : List ClassParts) (lines : TestL
 unfolding checked_of
 linked_goes suite classes lines p q e (cycle, by) s t =
     let here = subst (λ ls. LinksBy cycle classes ls (Ok p)) e by in
-    let said = ap (λ x. check_said p x >>= λ typed. Ok (loaded_of suite typed)) (typed_is_faultless p t) in
-    subst (λ z. Goes (Ok (suite, classes)) (Ok (loaded_of suite z))) (sym s) (cycle, Ok p, here, sym said)
+    let said = ap (λ x. typed_answer p x >>= λ typed. Ok (loaded_of suite typed)) (typed_is_faultless p t) in
+    subst (λ z. ReadGives (Ok (suite, classes)) (Ok (loaded_of suite z))) (sym s) (cycle, Ok p, here, sym said)
 
-untyped_goes : (suite : SuiteText) (classes : List ClassParts) (lines : TestLines) (p : Program) (e : CheckFault) → lines ≡ lines_of suite → Links classes lines (Ok p) → check_fault p ≡ Some e → Goes (Ok (suite, classes)) (Err (fault.Check e))
+untyped_goes : (suite : SuiteText) (classes : List ClassParts) (lines : TestLines) (p : Program) (e : CheckFault) → lines ≡ lines_of suite → Links classes lines (Ok p) → check_fault p ≡ Some e → ReadGives (Ok (suite, classes)) (Err (fault.Check e))
 unfolding checked_of
 untyped_goes suite classes lines p e same (cycle, by) h =
     let here = subst (λ ls. LinksBy cycle classes ls (Ok p)) same by in
-    let said = ap (λ x. check_said p x >>= λ typed. Ok (loaded_of suite typed)) h in
+    let said = ap (λ x. typed_answer p x >>= λ typed. Ok (loaded_of suite typed)) h in
     (cycle, Ok p, here, sym said)
 
 -- the class files link, and the program isn't typed
@@ -45,7 +45,7 @@ not_typed suite classes lines p (checking.Rule class method pc rule) same l h = 
 not_typed suite classes lines p (checking.NoFrame class method pc) same l h = untyped_goes suite classes lines p (checking.NoFrame class method pc) same l (h (λ q. cc))
 not_typed suite classes lines p (checking.Unsupported class member) same l h = untyped_goes suite classes lines p (checking.Unsupported class member) same l (h (λ q. cc))
 
-fault_goes : (suite : SuiteText) (classes : List ClassParts) (lines : TestLines) (f : LinkFault) → lines ≡ lines_of suite → ((cycle : Option ℕ) × LinksBy cycle classes lines (Err f)) → Goes (Ok (suite, classes)) (Err (link_fault suite f))
+fault_goes : (suite : SuiteText) (classes : List ClassParts) (lines : TestLines) (f : LinkFault) → lines ≡ lines_of suite → ((cycle : Option ℕ) × LinksBy cycle classes lines (Err f)) → ReadGives (Ok (suite, classes)) (Err (link_fault suite f))
 unfolding checked_of
 fault_goes suite classes lines f same (cycle, by) = (cycle, Err f, subst (λ ls. LinksBy cycle classes ls (Err f)) same by, refl)
 

@@ -9,8 +9,8 @@ use Rattle.suite_load.specs.declared.suite_text.SuiteText.{SuiteText}
 use Rattle.suite_load.specs.declared.load_fault.LoadFault.{LoadFault}
 use Rattle.suite_load.specs.declared.load_fault.LoadFault.TheVariants as fault
 use Rattle.suite_load.specs.declared.loaded.Loaded.{Loaded}
-use Rattle.suite_load.specs.Loading.{◌>>=◌, Files, suite_in, class_in, classes_in, read_in, Goes, Loads, IsReadAmong, names_in}
-use Rattle.suite_load.specs.LoadAnswers.{Refuses, DepotFails, LoadAnswers, Checks}
+use Rattle.suite_load.specs.Loading.{◌>>=◌, Files, suite_in, class_in, classes_in, read_in, ReadGives, Loads, IsReadAmong, names_in}
+use Rattle.suite_load.specs.LoadAnswers.{Refuses, IsProper, LoadAnswers, Checks}
 
 -- ---- refusals
 
@@ -28,16 +28,16 @@ rose_before : (first old new : ℕ) → first ≤ old → Rose old new → Rose 
 rose_before first old new le (inl lt) = inl (omega arith)
 rose_before first old new le (inr e) = inr e
 
--- a failing depot's file is read in the whole where it is in the part, which began later
-pub depot_weaker : (P Q : List ℕ → Type 0) (e : LoadFault) (first old new : ℕ) → ((read : List ℕ) → P read → Q read) → first ≤ old → DepotFails P e old new → DepotFails Q e first new
-depot_weaker P Q fault.NoMemory first old new h le r = tt
-depot_weaker P Q (fault.Depot name) first old new h le r = (h name r.0, rose_before first old new le r.1)
-depot_weaker P Q (fault.Absent name) first old new h le r = tt
-depot_weaker P Q (fault.TooLarge name) first old new h le r = tt
-depot_weaker P Q (fault.Suite line why) first old new h le r = tt
-depot_weaker P Q (fault.Class name f) first old new h le r = tt
-depot_weaker P Q (fault.Link f) first old new h le r = tt
-depot_weaker P Q (fault.Check f) first old new h le r = tt
+-- what is said of a fault of a part is said of it in the whole, which began before
+pub proper_weaker : (P Q : List ℕ → Type 0) (e : LoadFault) (first old new : ℕ) → ((read : List ℕ) → P read → Q read) → first ≤ old → IsProper P e old new → IsProper Q e first new
+proper_weaker P Q fault.NoMemory first old new h le r = tt
+proper_weaker P Q (fault.Depot name) first old new h le r = (h name r.0, rose_before first old new le r.1)
+proper_weaker P Q (fault.Absent name) first old new h le r = tt
+proper_weaker P Q (fault.TooLarge name) first old new h le r = tt
+proper_weaker P Q (fault.Suite line why) first old new h le r = tt
+proper_weaker P Q (fault.Class name f) first old new h le r = r
+proper_weaker P Q (fault.Link f) first old new h le r = r
+proper_weaker P Q (fault.Check f) first old new h le r = r
 
 -- ---- class files one after another
 
@@ -100,10 +100,10 @@ read_here : (told : Option Files) (names : List (List ℕ)) (i : ℕ) (name : Li
 read_here None names i name classes now lt e h = tt
 read_here (Some files) names i name classes now lt e h = (take i names, drop (i + 1) names, parted names i name lt e, rw (read_gives files 0 (take i names) classes now h) refl)
 
-pub so_far_depot : (told : Option Files) (names : List (List ℕ)) (i : ℕ) (name : List ℕ) (classes : List ClassParts) (now : ℕ) (e : LoadFault) (first old new : ℕ) → i < length names → name ≡ get_or names i name → SoFar told (take i names) classes now → first ≤ old →
-    DepotFails (λ read. read ≡ name) e old new → DepotFails (λ read. IfSome told (λ files. IsReadAmong files names read)) e first new
-so_far_depot told names i name classes now e first old new lt at h le d =
-    depot_weaker (λ read. read ≡ name) (λ read. IfSome told (λ files. IsReadAmong files names read)) e first old new
+pub so_far_proper : (told : Option Files) (names : List (List ℕ)) (i : ℕ) (name : List ℕ) (classes : List ClassParts) (now : ℕ) (e : LoadFault) (first old new : ℕ) → i < length names → name ≡ get_or names i name → SoFar told (take i names) classes now → first ≤ old →
+    IsProper (λ read. read ≡ name) e old new → IsProper (λ read. IfSome told (λ files. IsReadAmong files names read)) e first new
+so_far_proper told names i name classes now e first old new lt at h le d =
+    proper_weaker (λ read. read ≡ name) (λ read. IfSome told (λ files. IsReadAmong files names read)) e first old new
     (λ read same. subst (λ n. IfSome told (λ files. IsReadAmong files names n)) (sym same) (read_here told names i name classes now lt at h)) le d
 
 -- ---- loading as a whole
@@ -118,7 +118,7 @@ unfolding read_in
 unread_suite None name e h = tt
 unread_suite (Some files) name e h =
     refuses_weaker (λ f. suite_in files name ≡ Err f) (λ f. Loads files name (Err f)) e
-    (λ f k. subst (λ r. Goes r (Err f)) (sym (ap (λ r. r >>= λ s. classes_in files 0 s.classes >>= λ cs. Ok (s, cs)) k)) refl) h
+    (λ f k. subst (λ r. ReadGives r (Err f)) (sym (ap (λ r. r >>= λ s. classes_in files 0 s.classes >>= λ cs. Ok (s, cs)) k)) refl) h
 
 -- a class file isn't read
 pub unread_class : (told was : Option Files) (name : List ℕ) (suite : SuiteText) (names : List (List ℕ)) (e : LoadFault) → was ≡ told → names ≡ suite.classes → IfSome told (λ files. suite_in files name ≡ Ok suite) → IfSome was (λ files. Refuses (λ f. classes_in files 0 names ≡ Err f) e) →
@@ -130,7 +130,7 @@ unread_class (Some files) was name suite names e w n s h =
     refuses_weaker (λ f. classes_in files 0 names ≡ Err f) (λ f. Loads files name (Err f)) e
     (λ f k.
     let whole = ap (λ r. r >>= λ t. classes_in files 0 t.classes >>= λ cs. Ok (t, cs)) s ∙ ap (λ r. r >>= λ cs. Ok (suite, cs)) (ap (classes_in files 0) (sym n) ∙ k) in
-    subst (λ r. Goes r (Err f)) (sym whole) refl) there
+    subst (λ r. ReadGives r (Err f)) (sym whole) refl) there
 
 -- the files are read
 pub all_read : (told was : Option Files) (name : List ℕ) (suite : SuiteText) (names : List (List ℕ)) (classes : List ClassParts) → was ≡ told → names ≡ suite.classes → IfSome told (λ files. suite_in files name ≡ Ok suite) → IfSome was (λ files. classes_in files 0 names ≡ Ok classes) →
@@ -140,13 +140,13 @@ all_read (Some files) was name suite names classes w n s h =
     let there = subst (λ o. IfSome o (λ files. classes_in files 0 names ≡ Ok classes)) w h in
     read_done files name suite classes s (ap (classes_in files 0) (sym n) ∙ there)
 
-pub not_checked : (told : Option Files) (name : List ℕ) (suite : SuiteText) (classes : List ClassParts) (e : LoadFault) → IfSome told (λ files. read_in files name ≡ Ok (suite, classes)) → Refuses (λ f. Goes (Ok (suite, classes)) (Err f)) e → IfSome told (λ files. LoadAnswers files name (Err e))
+pub not_checked : (told : Option Files) (name : List ℕ) (suite : SuiteText) (classes : List ClassParts) (e : LoadFault) → IfSome told (λ files. read_in files name ≡ Ok (suite, classes)) → Refuses (λ f. ReadGives (Ok (suite, classes)) (Err f)) e → IfSome told (λ files. LoadAnswers files name (Err e))
 not_checked None name suite classes e r h = tt
-not_checked (Some files) name suite classes e r h = refuses_weaker (λ f. Goes (Ok (suite, classes)) (Err f)) (λ f. Loads files name (Err f)) e (λ f k. subst (λ x. Goes x (Err f)) (sym r) k) h
+not_checked (Some files) name suite classes e r h = refuses_weaker (λ f. ReadGives (Ok (suite, classes)) (Err f)) (λ f. Loads files name (Err f)) e (λ f k. subst (λ x. ReadGives x (Err f)) (sym r) k) h
 
 pub loads_all : (told : Option Files) (name : List ℕ) (suite : SuiteText) (classes : List ClassParts) (p q : Program) (names : Names) → names ≡ names_in suite q → q ≡ p → IfSome told (λ files. read_in files name ≡ Ok (suite, classes)) → Checks suite classes (Ok p) →
     IfSome told (λ files. LoadAnswers files name (Ok (record { checked = p; names = names })))
 loads_all None name suite classes p q names e s r h = tt
 loads_all (Some files) name suite classes p q names e s r h =
     let made : Names → Loaded = λ n. record { checked = p; names = n } in
-    subst (λ x. Goes x (Ok (made names))) (sym r) (subst (λ n. Goes (Ok (suite, classes)) (Ok (made n))) (sym (e ∙ ap (names_in suite) s)) h)
+    subst (λ x. ReadGives x (Ok (made names))) (sym r) (subst (λ n. ReadGives (Ok (suite, classes)) (Ok (made n))) (sym (e ∙ ap (names_in suite) s)) h)

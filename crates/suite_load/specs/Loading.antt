@@ -56,22 +56,22 @@ file_of files most name = within most name (content files name)
 -- ---- the suite text and the class files
 
 -- what a suite text says; its first faulty line is named
-abbrev pub suite_said : Result SuiteText SuiteRefusal → Result SuiteText LoadFault
-suite_said (Ok suite) = Ok suite
-suite_said (Err (refusals.Suite line why)) = Err (fault.Suite line why)
-suite_said (Err refusals.NoMemory) = Err fault.NoMemory
+abbrev pub suite_answer : Result SuiteText SuiteRefusal → Result SuiteText LoadFault
+suite_answer (Ok suite) = Ok suite
+suite_answer (Err (refusals.Suite line why)) = Err (fault.Suite line why)
+suite_answer (Err refusals.NoMemory) = Err fault.NoMemory
 
 unfoldable pub suite_in : Files → List ℕ → Result SuiteText LoadFault
-suite_in files name = file_of files file_limit name >>= λ bytes. suite_said (suite_of bytes)
+suite_in files name = file_of files file_limit name >>= λ bytes. suite_answer (suite_of bytes)
 
 -- how a fault of a class file is answered
 abbrev pub class_fault : List ℕ → ClassFault → LoadFault
 class_fault name class.NoMemory = fault.NoMemory
 class_fault name f = fault.Class name f
 
-abbrev pub class_said : List ℕ → Result ClassParts ClassFault → Result ClassParts LoadFault
-class_said name (Ok c) = Ok c
-class_said name (Err f) = Err (class_fault name f)
+abbrev pub class_answer : List ℕ → Result ClassParts ClassFault → Result ClassParts LoadFault
+class_answer name (Ok c) = Ok c
+class_answer name (Err f) = Err (class_fault name f)
 
 -- how many bytes the next class file may have, where those before it have so many
 abbrev pub room_after : ℕ → ℕ
@@ -81,7 +81,7 @@ room_after read = min file_limit (all_limit - read)
 unfoldable pub class_in : Files → ℕ → List ℕ → Result (ClassParts × ℕ) LoadFault
 class_in files read name = do
   bytes ← file_of files (room_after read) name
-  c ← class_said name (class_of bytes)
+  c ← class_answer name (class_of bytes)
   Ok (c, read + length bytes)
 
 -- the class files of these names, where so many bytes were read before them
@@ -118,14 +118,14 @@ link_fault suite (linking.NotATest t) = fault.Suite (line_number suite t) why.No
 link_fault suite linking.NoMemory = fault.NoMemory
 link_fault suite f = fault.Link f
 
-abbrev pub link_said : SuiteText → Result Program LinkFault → Result Program LoadFault
-link_said suite (Ok p) = Ok p
-link_said suite (Err f) = Err (link_fault suite f)
+abbrev pub link_answer : SuiteText → Result Program LinkFault → Result Program LoadFault
+link_answer suite (Ok p) = Ok p
+link_answer suite (Err f) = Err (link_fault suite f)
 
 -- a program that is typed, or its first fault
-abbrev pub check_said : Program → Option CheckFault → Result Program LoadFault
-check_said p None = Ok p
-check_said p (Some f) = Err (fault.Check f)
+abbrev pub typed_answer : Program → Option CheckFault → Result Program LoadFault
+typed_answer p None = Ok p
+typed_answer p (Some f) = Err (fault.Check f)
 
 -- the names that reports print: tests as the suite text has them, classes and fields with dots
 abbrev pub names_in : SuiteText → Program → Names
@@ -138,20 +138,20 @@ loaded_of suite p = record { checked = p; names = names_in suite p }
 -- the suite, where its class files and lines link to this
 unfoldable pub checked_of : SuiteText → Result Program LinkFault → Result Loaded LoadFault
 checked_of suite linked = do
-  p ← link_said suite linked
-  typed ← check_said p (check_fault p)
+  p ← link_answer suite linked
+  typed ← typed_answer p (check_fault p)
   Ok (loaded_of suite typed)
 
 -- ---- loading
 
 -- What is given once the files are read, or not: linking is a relation, as it looks for the first class that is its own ancestor.
-abbrev pub Goes : Result (SuiteText × List ClassParts) LoadFault → Result Loaded LoadFault → Type 0
-Goes (Err f) answer = answer ≡ Err f
-Goes (Ok x) answer = (cycle : Option ℕ) × (linked : Result Program LinkFault) × LinksBy cycle x.1 (lines_of x.0) linked × (answer ≡ checked_of x.0 linked)
+abbrev pub ReadGives : Result (SuiteText × List ClassParts) LoadFault → Result Loaded LoadFault → Type 0
+ReadGives (Err f) answer = answer ≡ Err f
+ReadGives (Ok x) answer = (cycle : Option ℕ) × (linked : Result Program LinkFault) × LinksBy cycle x.1 (lines_of x.0) linked × (answer ≡ checked_of x.0 linked)
 
 -- The answer of loading the suite of this name.
 abbrev pub Loads : Files → List ℕ → Result Loaded LoadFault → Type 0
-Loads files name answer = Goes (read_in files name) answer
+Loads files name answer = ReadGives (read_in files name) answer
 
 -- a class file that is read where these are asked for: those before it are read without fault
 abbrev pub IsReadAmong : Files → List (List ℕ) → List ℕ → Type 0

@@ -5,7 +5,7 @@ ghost use Rattle.class_link.specs.Link.{AreLines};
 ghost use Rattle.class_reader.specs.Faults.{class_of};
 ghost use Rattle.suite_load.specs.SuiteForm.{suite_of};
 ghost use Rattle.suite_load.specs.Loading as loading;
-ghost use Rattle.suite_load.specs.LoadAnswers.{Answers, DepotFails, refusal_of, itself};
+ghost use Rattle.suite_load.specs.LoadAnswers.{Answers, IsProper, refusal_of, itself};
 
 use crate::load_fault::LoadFault;
 use crate::suite_reading::read_suite;
@@ -52,7 +52,7 @@ fn read_file<D: Depot>(
     ensures told { D.told depot.new ≡ D.told depot.old }
     ensures faults { D.faults depot.old ≤ D.faults depot.new }
     ensures answers { IfSome (D.told depot.old) (λ files. Answers itself result (loading.file_of files most name.now)) }
-    ensures depot { IfErr result (λ e. DepotFails (λ read. read ≡ name.now) e (D.faults depot.old) (D.faults depot.new)) }
+    ensures proper { IfErr result (λ e. IsProper (λ read. read ≡ name.now) e (D.faults depot.old) (D.faults depot.new)) }
     ensures within { IfOk result (λ bytes. length bytes ≤ most) }
 {
     match depot.read(name, most) {
@@ -68,8 +68,8 @@ fn read_file<D: Depot>(
 fn suite_of_bytes(alloc: Global, bytes: &[u8]) -> Result<SuiteText, LoadFault>
     ensures lines { IfOk result (λ suite. AreLines (loading.lines_of suite)) }
     ensures few { IfOk result (λ suite. length suite.classes ≤ 1024) }
-    ensures answers { Answers itself result (loading.suite_said (suite_of bytes.now)) }
-    ensures depot { IfErr result (λ e. DepotFails (λ _. ⊥) e 0 0) }
+    ensures answers { Answers itself result (loading.suite_answer (suite_of bytes.now)) }
+    ensures proper { IfErr result (λ e. IsProper (λ _. ⊥) e 0 0) }
 {
     match read_suite(alloc, bytes) {
         Ok(suite) => Ok(suite),
@@ -86,7 +86,7 @@ pub fn suite_in<D: Depot>(alloc: Global, depot: &mut D, name: &Text) -> Result<S
     ensures lines { IfOk result (λ suite. AreLines (loading.lines_of suite)) }
     ensures few { IfOk result (λ suite. length suite.classes ≤ 1024) }
     ensures answers { IfSome (D.told depot.old) (λ files. Answers itself result (loading.suite_in files name.now)) }
-    ensures depot { IfErr result (λ e. DepotFails (λ read. read ≡ name.now) e (D.faults depot.old) (D.faults depot.new)) }
+    ensures proper { IfErr result (λ e. IsProper (λ read. read ≡ name.now) e (D.faults depot.old) (D.faults depot.new)) }
 {
     let bytes = read_file(alloc, depot, name, FILE_LIMIT)?;
     let suite = suite_of_bytes(alloc, bytes.as_slice())?;
@@ -95,7 +95,8 @@ pub fn suite_in<D: Depot>(alloc: Global, depot: &mut D, name: &Text) -> Result<S
 
 // How a fault of the class file of this name is answered.
 fn class_fault(fault: ClassFault, name: Text) -> LoadFault
-    ensures { result ≡ loading.class_fault name fault }
+    ensures named { result ≡ loading.class_fault name fault }
+    ensures proper { IsProper (λ _. ⊥) result 0 0 }
 {
     match fault {
         ClassFault::NoMemory => LoadFault::NoMemory,
@@ -106,8 +107,8 @@ fn class_fault(fault: ClassFault, name: Text) -> LoadFault
 // The class file of this name that the bytes spell.
 fn class_of_bytes(alloc: Global, bytes: &[u8], name: &Text) -> Result<ClassFile, LoadFault>
     requires { length bytes.now < 2 ^ 32 }
-    ensures answers { Answers itself result (loading.class_said name.now (class_of bytes.now)) }
-    ensures depot { IfErr result (λ e. DepotFails (λ _. ⊥) e 0 0) }
+    ensures answers { Answers itself result (loading.class_answer name.now (class_of bytes.now)) }
+    ensures proper { IfErr result (λ e. IsProper (λ _. ⊥) e 0 0) }
 {
     match read_class(alloc, bytes) {
         Ok(class) => Ok(class),
@@ -138,7 +139,7 @@ fn class_in<D: Depot>(
     ensures told { D.told depot.new ≡ D.told depot.old }
     ensures faults { D.faults depot.old ≤ D.faults depot.new }
     ensures answers { IfSome (D.told depot.old) (λ files. Answers itself result (loading.class_in files read name.now)) }
-    ensures depot { IfErr result (λ e. DepotFails (λ read. read ≡ name.now) e (D.faults depot.old) (D.faults depot.new)) }
+    ensures proper { IfErr result (λ e. IsProper (λ read. read ≡ name.now) e (D.faults depot.old) (D.faults depot.new)) }
     ensures within { IfOk result (λ x. x.1 ≤ 67108864) }
 {
     let bytes = read_file(alloc, depot, name, room_after(read))?;
@@ -156,7 +157,7 @@ pub fn classes_in<D: Depot>(
     ensures faults { D.faults depot.old ≤ D.faults depot.new }
     ensures count { IfOk result (λ cs. length cs ≡ length names.now) }
     ensures answers { IfSome (D.told depot.old) (λ files. Answers itself result (loading.classes_in files 0 names.now)) }
-    ensures depot { IfErr result (λ e. DepotFails (λ read. IfSome (D.told depot.old) (λ files. loading.IsReadAmong files names.now read)) e (D.faults depot.old) (D.faults depot.new)) }
+    ensures proper { IfErr result (λ e. IsProper (λ read. IfSome (D.told depot.old) (λ files. loading.IsReadAmong files names.now read)) e (D.faults depot.old) (D.faults depot.new)) }
 {
     let mut classes = Items::new(alloc);
     let mut read = 0;

@@ -4,7 +4,7 @@ ghost use Rattle.std.specs.Prelude.{◌≡◌, ◌≤◌, ◌<◌, IfOk, IfErr, 
 ghost use Rattle.class_link.specs.Link.{AreLines};
 ghost use Rattle.type_frames.specs.Typing.{IsTyped};
 ghost use Rattle.suite_load.specs.Loading as loading;
-ghost use Rattle.suite_load.specs.LoadAnswers.{Checks, DepotFails, check_answer};
+ghost use Rattle.suite_load.specs.LoadAnswers.{Checks, IsProper, check_answer};
 
 use crate::load_fault::LoadFault;
 use crate::suite_text::{FileLine, SuiteText, TestLine, Why};
@@ -79,7 +79,8 @@ fn line_number(suite: &SuiteText, test: u32) -> u32
 
 // How a fault of linking is answered.
 fn link_fault(suite: &SuiteText, fault: LinkFault) -> LoadFault
-    ensures { result ≡ loading.link_fault suite.now fault }
+    ensures named { result ≡ loading.link_fault suite.now fault }
+    ensures proper { IsProper (λ _. ⊥) result 0 0 }
 {
     match fault {
         LinkFault::NotATest { test } => LoadFault::Suite {
@@ -93,7 +94,8 @@ fn link_fault(suite: &SuiteText, fault: LinkFault) -> LoadFault
 
 // How a fault of the check is answered.
 fn check_fault(fault: CheckFault) -> LoadFault
-    ensures { result ≡ check_answer fault }
+    ensures named { result ≡ check_answer fault }
+    ensures proper { IsProper (λ _. ⊥) result 0 0 }
 {
     match fault {
         CheckFault::NoMemory => LoadFault::NoMemory,
@@ -109,8 +111,8 @@ pub fn program_of(
 ) -> Result<Checked, LoadFault>
     requires few { length classes.now ≤ 1024 }
     requires lines { AreLines (loading.lines_of suite.now) }
-    ensures goes { Checks suite.now classes.now result }
-    ensures depot { IfErr result (λ e. DepotFails (λ _. ⊥) e 0 0) }
+    ensures gives { Checks suite.now classes.now result }
+    ensures proper { IfErr result (λ e. IsProper (λ _. ⊥) e 0 0) }
     ensures typed { IfOk result IsTyped }
 {
     let lines = lines_of(alloc, suite)?;

@@ -3,7 +3,7 @@
 ghost use Rattle.std.specs.Prelude.{◌≡◌, ◌≤◌, IfOk, IfErr, IfSome};
 ghost use Rattle.type_frames.specs.Typing.{IsTyped};
 ghost use Rattle.suite_load.specs.Loading.{IsRead};
-ghost use Rattle.suite_load.specs.LoadAnswers.{LoadAnswers, DepotFails};
+ghost use Rattle.suite_load.specs.LoadAnswers.{LoadAnswers, IsProper};
 
 use crate::depot_files::{classes_in, suite_in};
 use crate::linking::program_of;
@@ -26,8 +26,9 @@ pub fn load<D: Depot>(alloc: Global, depot: &mut D, name: &Text) -> Result<Loade
     ensures faults { D.faults depot.old ≤ D.faults depot.new }
     // Which program or fault it is, where the depot's files are told.
     ensures loads { IfSome (D.told depot.old) (λ files. LoadAnswers files name.now result) }
-    // The depot is named only by a file that is read, where its count of faults rose.
-    ensures depot { IfErr result (λ e. DepotFails (λ read. IfSome (D.told depot.old) (λ files. IsRead files name.now read)) e (D.faults depot.old) (D.faults depot.new)) }
+    // Whatever the depot tells: a failing depot is named by a file that is read, where its count of faults rose; want of memory
+    // is answered by itself alone, and a line that names no test by its line.
+    ensures proper { IfErr result (λ e. IsProper (λ read. IfSome (D.told depot.old) (λ files. IsRead files name.now read)) e (D.faults depot.old) (D.faults depot.new)) }
     // The program is typed.
     ensures typed { IfOk result (λ l. IsTyped l.checked) }
 {

@@ -1,9 +1,9 @@
 use Rattle.std.proofs.Common.{ap, sym, ◌∙◌}
-use Rattle.electrictest.specs.FirstMachine.{is_first_program}
-use Rattle.electrictest.proofs.Serving.{first_runnable}
+use Rattle.electrictest.specs.FirstMachine.{fits_first_machine}
+use Rattle.electrictest.proofs.Serving.{fitting_runnable}
 use Rattle.electrictest.proofs.loading.served.Goals as goal
 
 -- the first machine runs it
-pub returns-then-is_first_program-clause-runs : goal.returns-then-is_first_program-clause-runs
-returns-then-is_first_program-clause-runs c =
-    first_runnable c.args.loaded.checked c.requires.typed.linked (ap is_first_program (sym c.program.ensures.same) ∙ sym c.is_first_program.ensures ∙ c.if-is_first_program.true)
+pub returns-then-fits_first_machine-clause-runs : goal.returns-then-fits_first_machine-clause-runs
+returns-then-fits_first_machine-clause-runs c =
+    fitting_runnable c.args.loaded.checked c.requires.typed.linked (ap fits_first_machine (sym c.program.ensures.same) ∙ sym c.fits_first_machine.ensures ∙ c.if-fits_first_machine.true)

@@ -16,9 +16,9 @@ pub returns-in_err-checked-clause-loads : goal.returns-in_err-checked-clause-loa
 returns-in_err-checked-clause-loads g c =
     let p = err_from_is_err_and c.from_residual-in_err-checked.result c.from_residual-in_err-checked.ensures.1 in
     let read = all_read _ _ c.args.name.now c.in_ok-suite.suite c.as_slice.result.now c.in_ok-classes.classes c.suite_in.ensures.told c.as_slice.ensures c.in_ok-suite.ensures.answers c.in_ok-classes.ensures.answers in
-    rw (p.1, p.2) (not_checked _ c.args.name.now c.in_ok-suite.suite c.in_ok-classes.classes _ read (rw c.as_slice-2.ensures at c.in_err-checked.ensures.goes))
+    rw (p.1, p.2) (not_checked _ c.args.name.now c.in_ok-suite.suite c.in_ok-classes.classes _ read (rw c.as_slice-2.ensures at c.in_err-checked.ensures.gives))
 
 pub returns-clause-loads : goal.returns-clause-loads
 returns-clause-loads g c =
     let read = all_read _ _ c.args.name.now c.in_ok-suite.suite c.as_slice.result.now c.in_ok-classes.classes c.suite_in.ensures.told c.as_slice.ensures c.in_ok-suite.ensures.answers c.in_ok-classes.ensures.answers in
-    loads_all _ c.args.name.now c.in_ok-suite.suite c.in_ok-classes.classes c.in_ok-checked.checked c.program.result.now c.in_ok-names.names c.in_ok-names.ensures c.program.ensures.same read (rw c.as_slice-2.ensures at c.in_ok-checked.ensures.goes)
+    loads_all _ c.args.name.now c.in_ok-suite.suite c.in_ok-classes.classes c.in_ok-checked.checked c.program.result.now c.in_ok-names.names c.in_ok-names.ensures c.program.ensures.same read (rw c.as_slice-2.ensures at c.in_ok-checked.ensures.gives)

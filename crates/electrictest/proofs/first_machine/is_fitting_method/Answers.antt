@@ -3,7 +3,7 @@ use Rattle.jvm_model.specs.Classes.{is_static}
 use Rattle.vm_interp.specs.Fitting.{is_served_body}
 use Rattle.vm_interp.specs.Served.{body_or_none}
 use Rattle.std.proofs.Math.Bool.{and-false}
-use Rattle.electrictest.proofs.first_machine.is_first_method.Goals as goal
+use Rattle.electrictest.proofs.first_machine.is_fitting_method.Goals as goal
 
 -- there is nothing to run
 pub returns-in-None : goal.returns-in-None
