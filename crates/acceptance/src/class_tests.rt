@@ -101,7 +101,7 @@ fn each_cut_of_a_class_file_is_named(rt: HostRuntime) -> Result<(), Fail> {
 }
 
 // A byte of the class file of `T`, another value for it, and the line that answers.
-const BROKEN: [(usize, u8, &[u8]); 8] = [
+const BROKEN: [(usize, u8, &[u8]); 12] = [
     (3, 0, b"electric: class T.class bad-magic\n"),
     (7, 53, b"electric: class T.class bad-version 53\n"),
     (10, 2, b"electric: class T.class bad-tag 10 2\n"),
@@ -110,10 +110,14 @@ const BROKEN: [(usize, u8, &[u8]); 8] = [
     (61, 9, b"electric: class T.class bad-index 60\n"),
     (89, 2, b"electric: class T.class bad-length 78\n"),
     (90, 99, b"electric: class T.class unsupported 1 0 99\n"),
+    (35, 117, b"electric: link missing T java.lang.Objecu\n"),
+    (61, 2, b"electric: link cycle T\n"),
+    (90, 87, b"electric: check T 1 0 rule 1\n"),
+    (90, 0, b"electric: check T 1 0 rule 5\n"),
 ];
 
 #[test]
-fn faults_of_a_class_file_are_named(rt: HostRuntime) -> Result<(), Fail> {
+fn faults_of_a_class_are_named(rt: HostRuntime) -> Result<(), Fail> {
     let alloc = rt.alloc();
     for (place, value, line) in BROKEN {
         let mut broken = RETURN_CLASS;

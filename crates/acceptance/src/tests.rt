@@ -1,4 +1,5 @@
 use crate::asking::{File, answer, answers, depot, sink, words};
+use crate::class_files::NAMED;
 use crate::files::{
     COUNTER_CLASS, COUNTER_REPORT, COUNTER_SUITE, EMPTY_REPORT, EMPTY_SUITE, RETURN_CLASS,
     RETURN_REPORT, RETURN_SUITE,
@@ -17,7 +18,7 @@ const RETURN_FILES: [File; 2] = [(b"s", RETURN_SUITE), (b"T.class", &RETURN_CLAS
 const COUNTER_FILES: [File; 2] = [(b"s", COUNTER_SUITE), (b"Counter.class", &COUNTER_CLASS)];
 
 // Files, and the exit status and the text that answer `run s - 1 all`.
-const RUNS: [(&[File], u8, &[u8]); 12] = [
+const RUNS: [(&[File], u8, &[u8]); 14] = [
     (&[(b"s", EMPTY_SUITE)], 0, EMPTY_REPORT),
     (&RETURN_FILES, 0, RETURN_REPORT),
     (&COUNTER_FILES, 0, COUNTER_REPORT),
@@ -31,8 +32,8 @@ const RUNS: [(&[File], u8, &[u8]); 12] = [
     ),
     (
         &[(b"s", b"electric-suite 1\nfile a b\nend\n")],
-        3,
-        b"electric: not-yet s\n",
+        0,
+        EMPTY_REPORT,
     ),
     (
         &[
@@ -40,13 +41,27 @@ const RUNS: [(&[File], u8, &[u8]); 12] = [
             (b"T", &RETURN_CLASS),
         ],
         3,
-        b"electric: not-yet s\n",
+        b"electric: suite 3 not-a-test\n",
     ),
     (
         &[
             (b"s", b"electric-suite 1\nclass T\nclass U\nend\n"),
             (b"T", &RETURN_CLASS),
         ],
+        3,
+        b"electric: absent U\n",
+    ),
+    (
+        &[
+            (b"s", b"electric-suite 1\nclass T\nclass U\nend\n"),
+            (b"T", &RETURN_CLASS),
+            (b"U", &RETURN_CLASS),
+        ],
+        3,
+        b"electric: link duplicate T\n",
+    ),
+    (
+        &[(b"s", b"electric-suite 1\nclass N\nend\n"), (b"N", &NAMED)],
         3,
         b"electric: not-yet s\n",
     ),

@@ -13,7 +13,7 @@ use Rattle.jvm_model.specs.World.{World}
 use Rattle.jvm_model.specs.Suite.{Given, SuiteFault, over_budget, over_suite, fault_of, fault_on, suite_fault, suite_limit, runs, runs_on, with_first, all_tests, one_test}
 use Rattle.jvm_model.proofs.Budgets.{one_test_within, one_test_units}
 use Rattle.vm_interp.specs.Standing.{world_of}
-use Rattle.electrictest.specs.declared.loaded.Loaded.{Loaded}
+use Rattle.suite_load.specs.declared.loaded.Loaded.{Loaded}
 use Rattle.electrictest.specs.declared.status.Status.{Status}
 use Rattle.electrictest.specs.declared.status.Status.TheVariants as ends
 use Rattle.electrictest.specs.declared.status.OverFault.TheVariants as over
@@ -62,19 +62,19 @@ abbrev pub gave : Program → Outcome → List ℤ → List Touch → Given
 gave p o fresh ts = record { outcome = o; world = world_of p fresh; touches = ts }
 
 -- its units are within the rest of the suite's
-pub units_within : (l : Loaded) (old fresh : List ℤ) (t rest : ℕ) (o : Outcome) (ts : List Touch) → one_test l.program (world_of l.program old) t (least l.program t rest) ≡ Some (gave l.program o fresh ts) → o.units ≤ rest
-units_within l old fresh t rest o ts e = let u = one_test_units l.program (world_of l.program old) t (least l.program t rest) (gave l.program o fresh ts) e in omega arith
+pub units_within : (l : Loaded) (old fresh : List ℤ) (t rest : ℕ) (o : Outcome) (ts : List Touch) → one_test l.checked (world_of l.checked old) t (least l.checked t rest) ≡ Some (gave l.checked o fresh ts) → o.units ≤ rest
+units_within l old fresh t rest o ts e = let u = one_test_units l.checked (world_of l.checked old) t (least l.checked t rest) (gave l.checked o fresh ts) e in omega arith
 
 -- a buffer written over as a whole
 pub refilled : (n : ℕ) (xs ys : List ℤ) → n ≡ length xs → take n (xs ++ ys) ≡ xs
 refilled n xs ys e = ap (λ k. take k (xs ++ ys)) e ∙ take-append_seam xs ys
 
 -- one more test
-pub along_more : (l : Loaded) (i rest begun now new : ℕ) (old fresh : List ℤ) (os : List Outcome) (o : Outcome) (ts : List Touch) → i < length l.program.tests → Along l i old rest os begun now →
-    length fresh ≡ length old → one_test l.program (world_of l.program old) (i + 1) (least l.program (i + 1) rest) ≡ Some (gave l.program o fresh ts) → o.verdict ≡ verdict.Passed → new ≡ now + o.units →
+pub along_more : (l : Loaded) (i rest begun now new : ℕ) (old fresh : List ℤ) (os : List Outcome) (o : Outcome) (ts : List Touch) → i < length l.checked.tests → Along l i old rest os begun now →
+    length fresh ≡ length old → one_test l.checked (world_of l.checked old) (i + 1) (least l.checked (i + 1) rest) ≡ Some (gave l.checked o fresh ts) → o.verdict ≡ verdict.Passed → new ≡ now + o.units →
     Along l (i + 1) fresh (rest - o.units) (os ++ (o ∷ [])) begun new
 along_more l i rest begun now new old fresh os o ts h a same e v q =
-    let p = l.program in
+    let p = l.checked in
     let w = world_of p old in
     let b = (test_at p (i + 1)).budget in
     let u = one_test_units p w (i + 1) (least p (i + 1) rest) (gave p o fresh ts) e in
@@ -93,17 +93,17 @@ along_more l i rest begun now new old fresh os o ts h a same e v q =
       counts = omega arith;
     }
 
-along_zeros : (l : Loaded) (begun : ℕ) → IsRunnable l.program → Along l 0 (replicate (length l.program.fields - 2) (pos 0)) 67108864 [] begun begun
+along_zeros : (l : Loaded) (begun : ℕ) → IsRunnable l.checked → Along l 0 (replicate (length l.checked.fields - 2) (pos 0)) 67108864 [] begun begun
 unfolding suite_fault outcomes_of runs suite_limit
 along_zeros l begun r =
-    let all : tests_after l.program 0 ≡ all_tests l.program = ap (range_with_len 1) (let z : length l.program.tests - 0 ≡ length l.program.tests = omega arith in z) in
-    let zeros = world_of l.program (replicate (length l.program.fields - 2) (pos 0)) in
-    let n = length-replicate (length l.program.fields - 2) (pos 0) in
+    let all : tests_after l.checked 0 ≡ all_tests l.checked = ap (range_with_len 1) (let z : length l.checked.tests - 0 ≡ length l.checked.tests = omega arith in z) in
+    let zeros = world_of l.checked (replicate (length l.checked.fields - 2) (pos 0)) in
+    let n = length-replicate (length l.checked.fields - 2) (pos 0) in
     let k = r.fields in
     record {
       fields = omega arith;
-      faults = ap (fault_on l.program zeros 67108864) all ∙ ap (λ w. fault_on l.program w 67108864 (all_tests l.program)) r.opens;
-      runs = ap (λ z. outcomes_behind [] (runs_on l.program zeros z)) all ∙ ap (λ w. outcomes_behind [] (runs_on l.program w (all_tests l.program))) r.opens;
+      faults = ap (fault_on l.checked zeros 67108864) all ∙ ap (λ w. fault_on l.checked w 67108864 (all_tests l.checked)) r.opens;
+      runs = ap (λ z. outcomes_behind [] (runs_on l.checked zeros z)) all ∙ ap (λ w. outcomes_behind [] (runs_on l.checked w (all_tests l.checked))) r.opens;
       passed = refl;
       each = refl;
       upto = omega arith;
@@ -111,13 +111,13 @@ along_zeros l begun r =
     }
 
 -- the first test
-pub along_first : (l : Loaded) (begun : ℕ) (statics : List ℤ) (os : List Outcome) → IsRunnable l.program → statics ≡ replicate (length l.program.fields - 2) (pos 0) → os ≡ [] → Along l 0 statics 67108864 os begun begun
-along_first l begun statics os r s e = subst (λ z. Along l 0 z 67108864 os begun begun) (sym s) (subst (λ z. Along l 0 (replicate (length l.program.fields - 2) (pos 0)) 67108864 z begun begun) (sym e) (along_zeros l begun r))
+pub along_first : (l : Loaded) (begun : ℕ) (statics : List ℤ) (os : List Outcome) → IsRunnable l.checked → statics ≡ replicate (length l.checked.fields - 2) (pos 0) → os ≡ [] → Along l 0 statics 67108864 os begun begun
+along_first l begun statics os r s e = subst (λ z. Along l 0 z 67108864 os begun begun) (sym s) (subst (λ z. Along l 0 (replicate (length l.checked.fields - 2) (pos 0)) 67108864 z begun begun) (sym e) (along_zeros l begun r))
 
 -- after the last test
-pub along_last : (l : Loaded) (i rest begun now : ℕ) (old : List ℤ) (os : List Outcome) → length l.program.tests ≤ i → Along l i old rest os begun now → Ran l os
+pub along_last : (l : Loaded) (i rest begun now : ℕ) (old : List ℤ) (os : List Outcome) → length l.checked.tests ≤ i → Along l i old rest os begun now → Ran l os
 along_last l i rest begun now old os h a =
-    let p = l.program in
+    let p = l.checked in
     let e = after_all p i h in
     record {
       within = sym a.faults ∙ ap (fault_on p (world_of p old) rest) e;
@@ -126,26 +126,26 @@ along_last l i rest begun now old os h a =
       each = (let n = a.each in let m = a.upto in omega arith);
     }
 
-over_exit : (l : Loaded) (i rest begun now : ℕ) (old : List ℤ) (os : List Outcome) → i < length l.program.tests → Along l i old rest os begun now →
-    one_test l.program (world_of l.program old) (i + 1) (least l.program (i + 1) rest) ≡ None → RunRefused l (over_status l (i + 1) (test_at l.program (i + 1)).budget rest)
+over_exit : (l : Loaded) (i rest begun now : ℕ) (old : List ℤ) (os : List Outcome) → i < length l.checked.tests → Along l i old rest os begun now →
+    one_test l.checked (world_of l.checked old) (i + 1) (least l.checked (i + 1) rest) ≡ None → RunRefused l (over_status l.names (i + 1) (test_at l.checked (i + 1)).budget rest)
 over_exit l i rest begun now old os h a e =
-    let p = l.program in
+    let p = l.checked in
     let b = (test_at p (i + 1)).budget in
     let f : fault_on p (world_of p old) rest (tests_after p i) ≡ Some (fault_of p (i + 1) rest) = ap (fault_on p (world_of p old) rest) (after_more p i h) ∙ fault_here p (world_of p old) rest (i + 1) (tests_after p (i + 1)) e in
     elim (cases_Bool (nat_le b rest)) [
       | inl k ↦
           let g : fault_of p (i + 1) rest ≡ over_budget (i + 1) b = rw k refl in
-          let s : over_status l (i + 1) b rest ≡ ends.Over (over.OverBudget (test_name l (i + 1)) b []) = rw k refl in
+          let s : over_status l.names (i + 1) b rest ≡ ends.Over (over.OverBudget (test_name l.names (i + 1)) b []) = rw k refl in
           subst (RunRefused l) (sym s) (over_budget (i + 1) b, sym a.faults ∙ f ∙ ap (λ (z : SuiteFault). Some z) g, refl)
       | inr k ↦
           let g : fault_of p (i + 1) rest ≡ over_suite (i + 1) = rw k refl in
-          let s : over_status l (i + 1) b rest ≡ ends.Over (over.OverSuite (test_name l (i + 1))) = rw k refl in
+          let s : over_status l.names (i + 1) b rest ≡ ends.Over (over.OverSuite (test_name l.names (i + 1))) = rw k refl in
           subst (RunRefused l) (sym s) (over_suite (i + 1), sym a.faults ∙ f ∙ ap (λ (z : SuiteFault). Some z) g, refl)
     ]
 
 -- a test that is refused
-pub along_refused : (l : Loaded) (i rest begun now : ℕ) (old : List ℤ) (os : List Outcome) (s : Status) → i < length l.program.tests → Along l i old rest os begun now →
-    OneRefused l (world_of l.program old) (i + 1) rest s → RunRefused l s
+pub along_refused : (l : Loaded) (i rest begun now : ℕ) (old : List ℤ) (os : List Outcome) (s : Status) → i < length l.checked.tests → Along l i old rest os begun now →
+    OneRefused l (world_of l.checked old) (i + 1) rest s → RunRefused l s
 along_refused l i rest begun now old os ends.NoMemory h a q = tt
 along_refused l i rest begun now old os ends.Done h a q = subst (RunRefused l) (sym q.1) (over_exit l i rest begun now old os h a q.0)
 along_refused l i rest begun now old os ends.NotPassed h a q = subst (RunRefused l) (sym q.1) (over_exit l i rest begun now old os h a q.0)

@@ -1,178 +1,117 @@
--- The program of a served class is one that the machine runs.
-use Rattle.std.proofs.Common.{◌≡◌, ℕ, zero, suc, ◌+◌, ◌-◌, ◌<◌, ◌≤◌, List, [], ◌∷◌, ◌++◌, length, get_or, drop, map, replicate, Bool, true, false, ◌&&◌, cond, if◌then◌else◌, nat_le, nat_eq, ◌==◌, refl, ap, sym, ◌∙◌, subst, arith, length-append, not, pos, Option, Some, None}
-use Rattle.std.specs.Prelude.{codes, is_none}
+-- A linked program of the first machine is one that it runs.
+use Rattle.std.proofs.Common.{◌≡◌, ℕ, zero, suc, ◌+◌, ◌-◌, ◌<◌, ◌≤◌, List, [], ◌∷◌, ◌++◌, length, get_or, take, drop, map, replicate, Bool, true, false, ◌&&◌, not, cond, nat_le, nat_eq, pos, is_none, is_some, refl, ap, sym, ◌∙◌, arith, codes, Option, Some, None, IsSome}
 use Rattle.std.specs.List.{list_all}
 use Rattle.std.proofs.lemmas.Bool.{and_parts, leb-true, eqb-true}
-use Rattle.std.proofs.lemmas.List.{map-append}
-use Rattle.class_pool.specs.declared.pool.Entry.{Entry}
-use Rattle.class_pool.specs.Pool.{entry_of, text_of, class_name_of}
-use Rattle.class_reader.specs.declared.parts.ClassParts.{ClassParts}
-use Rattle.class_reader.specs.declared.parts.MemberPart.{MemberPart}
-use Rattle.class_reader.specs.declared.parts.CodePart.{CodePart}
+use Rattle.std.proofs.lemmas.Bool.Decides.{Decides-int_eq}
+use Rattle.std.proofs.lemmas.List.{map-append, get_or-drop, take-append-drop, length-drop}
+use Rattle.jvm_model.specs.declared.values.Value.{Value}
+use Rattle.jvm_model.specs.declared.values.Value.TheVariants.{Int, Long, Lit, Null, Obj}
+use Rattle.jvm_model.specs.declared.library.Native.TheVariants.{EnvPrint}
 use Rattle.jvm_model.specs.declared.program.Program.{Program}
 use Rattle.jvm_model.specs.declared.program.ClassRec.{ClassRec}
 use Rattle.jvm_model.specs.declared.program.FieldRec.{FieldRec}
 use Rattle.jvm_model.specs.declared.program.MethodRec.{MethodRec}
 use Rattle.jvm_model.specs.declared.program.Body.{Body}
 use Rattle.jvm_model.specs.declared.program.Placed.{Placed}
-use Rattle.jvm_model.specs.declared.program.TestEntry.{TestEntry}
-use Rattle.jvm_model.specs.Classes.{class_bound, own_interfaces, default_interfaces, is_trivial, no_method, no_field, method_at, field_at, is_static, is_interface, is_abstract, clinit_name, place_after}
 use Rattle.jvm_model.specs.World.{same_units}
-use Rattle.jvm_model.specs.declared.values.Value.TheVariants.{Int, Lit, Null}
-use Rattle.jvm_model.specs.Suite.{opening}
-use Rattle.vm_interp.specs.Standing.{world_of}
-use Rattle.electrictest.specs.Runnable.{IsRunnable}
+use Rattle.jvm_model.specs.Classes.{no_class, no_field, no_method, class_at, field_at, method_at, is_interface, is_static, is_trivial, declares_start, default_interfaces, upwards, place_after}
 use Rattle.jvm_model.specs.Descriptors.{parameters}
-use Rattle.jvm_model.specs.Library.{builtin_defs, builtin_classes, builtin_fields, builtin_methods}
-use Rattle.jvm_model.specs.declared.library.Native.TheVariants.{EnvPrint}
+use Rattle.jvm_model.specs.Library.{builtin_defs, builtin_fields, builtin_methods}
+use Rattle.jvm_model.specs.Linked.{Linked}
 use Rattle.jvm_model.specs.RowsCalls.{argument_count}
 use Rattle.jvm_model.specs.State.{test_at, no_test}
-use Rattle.suite_load.specs.declared.suite_text.SuiteText.{SuiteText}
-use Rattle.suite_load.specs.declared.suite_text.TestLine.{TestLine}
-use Rattle.vm_interp.specs.Served.{print_method, body_of, body_or_none, AllAbove, Ascends, is_straight, IsServed, IsServedTest, IsServedField}
+use Rattle.jvm_model.specs.Suite.{opening}
+use Rattle.jvm_model.proofs.BuiltinRules.{all_at, builtin_method, enough_fields}
+use Rattle.vm_interp.specs.Served.{print_method, body_of, body_or_none, AllAbove, Ascends, is_straight, IsServed, IsServedTest}
 use Rattle.vm_interp.specs.Fitting.{ascends_from, is_served_body}
-use Rattle.electrictest.specs.First.{◌>>=◌, is_empty, is_few, is_plain_class, given_methods_of, is_text, is_served_method, method_number, given_body, where_true, each, given_field, given_method, given_test, program_with, class_rec, class_program, first_program, served_program}
-use Rattle.electrictest.proofs.Builtin.{builtin_methods_length, builtin_fields_length}
+use Rattle.vm_interp.specs.Standing.{world_of}
+use Rattle.electrictest.specs.FirstMachine.{is_zero, is_fitting_field, is_fitting_test, fits_first_machine, given_fields}
+use Rattle.electrictest.specs.Runnable.{IsRunnable}
 
--- a chain that came to something
-pub came : {A B : Type 0} (o : Option A) (f : A → Option B) (y : B) → (o >>= f) ≡ Some y → (x : A) × (o ≡ Some x) × (f x ≡ Some y)
-came None f y e = absurd (cc)
-came (Some x) f y e = (x, refl, e)
+-- ---- classes
 
-pub held : {B : Type 0} (b : Bool) (f : Unit {0} → Option B) (y : B) → (where_true b >>= f) ≡ Some y → (b ≡ true) × (f tt ≡ Some y)
-held true f y e = (refl, e)
-held false f y e = absurd (cc)
+not_some : (o : Option ℕ) → is_none o ≡ true → not (is_some o) ≡ true
+not_some None e = refl
+not_some (Some x) e = absurd (cc)
 
-trivial_unless : (b x y : Bool) → b ≡ false → y ≡ true → cond b x y ≡ true
-trivial_unless b x y h e = ap (λ z. cond z x y) h ∙ e
+none_at : (cs : List ClassRec) (c : ℕ) → list_all (λ x. is_none x.initialiser) cs ≡ true → is_none (get_or cs c no_class).initialiser ≡ true
+none_at [] c e = refl
+none_at (x ∷ xs) zero e = (and_parts (is_none x.initialiser) (list_all (λ y. is_none y.initialiser) xs) e).0
+none_at (x ∷ xs) (suc c) e = none_at xs c (and_parts (is_none x.initialiser) (list_all (λ y. is_none y.initialiser) xs) e).1
 
--- electric/Env is trivial, and so is the given class
-env_trivial : (cs : List ClassRec) (fs : List FieldRec) (ms : List MethodRec) (ts : List TestEntry) → is_trivial (program_with cs fs ms ts) 6 ≡ true
-unfolding builtin_classes builtin_defs is_trivial class_bound own_interfaces default_interfaces
-env_trivial cs fs ms ts = refl
+all_pass : {X : Type 0} (f : X → Bool) → ((x : X) → f x ≡ true) → (xs : List X) → list_all f xs ≡ true
+all_pass f h [] = refl
+all_pass f h (x ∷ xs) = ap (λ b. b && list_all f xs) (h x) ∙ all_pass f h xs
 
-given_trivial : (this : List ℕ) (c : ClassParts) (fs : List FieldRec) (ms : List MethodRec) (ts : List TestEntry) → is_interface c.flags ≡ false → is_trivial (program_with (class_rec this c fs ms ∷ []) fs ms ts) 32 ≡ true
-unfolding builtin_classes builtin_defs is_trivial class_bound own_interfaces default_interfaces
-given_trivial this c fs ms ts h = trivial_unless (is_interface c.flags) _ _ h refl
+both_true : (b x y : Bool) → x ≡ true → y ≡ true → cond b x y ≡ true
+both_true true x y e f = e
+both_true false x y e f = f
 
-print_is : (cs : List ClassRec) (fs : List FieldRec) (ms : List MethodRec) (ts : List TestEntry) → (method_at (program_with cs fs ms ts) print_method).native ≡ Some EnvPrint
-unfolding builtin_methods builtin_defs
-print_is cs fs ms ts = refl
+-- where no class has an initialiser, each is trivial
+trivial_where : (p : Program) → ((c : ℕ) → not (declares_start p c) ≡ true) → (c : ℕ) → is_trivial p c ≡ true
+unfolding is_trivial
+trivial_where p h c =
+    both_true (is_interface (class_at p c).flags) _ _ (h c)
+    (all_pass _ (λ d. ap (λ b. b && list_all (λ i. not (declares_start p i)) (default_interfaces p d)) (h d) ∙ all_pass _ h (default_interfaces p d)) (upwards p c))
 
-print_class : (cs : List ClassRec) (fs : List FieldRec) (ms : List MethodRec) (ts : List TestEntry) → (method_at (program_with cs fs ms ts) print_method).class ≡ 6
-unfolding builtin_methods builtin_defs
-print_class cs fs ms ts = refl
+-- ---- the method that prints
 
-print_takes : (cs : List ClassRec) (fs : List FieldRec) (ms : List MethodRec) (ts : List TestEntry) → argument_count (program_with cs fs ms ts) print_method ≡ 1
-unfolding builtin_methods builtin_defs parameters argument_count
-print_takes cs fs ms ts = refl
+print_entry : ((get_or builtin_methods 45 no_method).native ≡ Some EnvPrint) × (length (parameters (get_or builtin_methods 45 no_method).descriptor) ≡ 1)
+unfolding builtin_methods builtin_defs parameters
+print_entry = (refl, refl)
 
--- each item is so
-abbrev pub Every : {B : Type 0} → (B → Type 0) → List B → Type 0
-Every P [] = Unit {0}
-Every P (x ∷ xs) = P x × Every P xs
+print_takes : (p : Program) → method_at p print_method ≡ get_or builtin_methods 45 no_method → argument_count p print_method ≡ 1
+unfolding argument_count
+print_takes p e = ap (λ (m : MethodRec). length (parameters m.descriptor)) e ∙ print_entry.1
 
-every_more : {B : Type 0} (P : B → Type 0) (xs : List B) (y : B) → Every P xs → P y → Every P (xs ++ (y ∷ []))
-every_more P [] y h q = (q, tt)
-every_more P (x ∷ xs) y h q = (h.0, every_more P xs y h.1 q)
+-- ---- fields
 
-every_at : {B : Type 0} (P : B → Type 0) (xs : List B) (i : ℕ) (d : B) → Every P xs → i < length xs → P (get_or xs i d)
-every_at P [] i d h q = absurd (omega arith)
-every_at P (x ∷ xs) zero d h q = h.0
-every_at P (x ∷ xs) (suc i) d h q = every_at P xs i d h.1 (omega arith)
+zero_is : (v : Value) → is_zero v ≡ true → v ≡ Int (pos 0)
+zero_is (Int n) e = ap Int ((Decides-int_eq n (pos 0)).0 e)
+zero_is (Long n) e = absurd (cc)
+zero_is Null e = absurd (cc)
+zero_is (Lit n) e = absurd (cc)
+zero_is (Obj o) e = absurd (cc)
 
-every_each : {A B : Type 0} (f : A → Option B) (P : B → Type 0) → ((x : A) (y : B) → f x ≡ Some y → P y) → (made : List B) (xs : List A) (ys : List B) → Every P made → each f made xs ≡ Some ys → Every P ys
-unfolding each
-every_each f P k made [] ys h e = let q : made ≡ ys = cc in subst (Every P) q h
-every_each f P k made (x ∷ xs) ys h e =
-    let c = came (f x) (λ y. each f (made ++ (y ∷ [])) xs) ys e in
-    every_each f P k (made ++ (c.0 ∷ [])) xs ys (every_more P made c.0 h (k x c.0 c.1)) c.2
+int_alone : (d : List ℕ) → same_units d (73 ∷ []) ≡ true → d ≡ 73 ∷ []
+int_alone [] e = absurd (cc)
+int_alone (u ∷ []) e = ap (λ k. k ∷ []) (eqb-true u 73 (and_parts (nat_eq u 73) true e).0)
+int_alone (u ∷ v ∷ us) e = let q = (and_parts (nat_eq u 73) false e).1 in absurd (cc)
 
-all_at : {B : Type 0} (f : B → Bool) (xs : List B) (i : ℕ) (d : B) → list_all f xs ≡ true → i < length xs → f (get_or xs i d) ≡ true
-all_at f [] i d h q = absurd (omega arith)
-all_at f (x ∷ xs) zero d h q = (and_parts (f x) (list_all f xs) h).0
-all_at f (x ∷ xs) (suc i) d h q = all_at f xs i d (and_parts (f x) (list_all f xs) h).1 (omega arith)
+field_parts : (f : FieldRec) → is_fitting_field f ≡ true → (f.descriptor ≡ 73 ∷ []) × (f.opening ≡ Int (pos 0))
+field_parts f e = let q = and_parts (same_units f.descriptor (codes "I")) (is_zero f.opening) e in (int_alone f.descriptor q.0, zero_is f.opening q.1)
 
--- the second list of a joined one
-get_behind : {B : Type 0} (xs ys : List B) (n i : ℕ) (d : B) → length xs ≡ n → n ≤ i → get_or (xs ++ ys) i d ≡ get_or ys (i - n) d
-get_behind [] ys n i d e h = let q : i ≡ i - n = omega arith in ap (λ k. get_or ys k d) q
-get_behind (x ∷ xs) ys n zero d e h = absurd (omega arith)
-get_behind (x ∷ xs) ys n (suc i) d e h = let q : i - length xs ≡ suc i - n = omega arith in get_behind xs ys (length xs) i d refl (omega arith) ∙ ap (λ k. get_or ys k d) q
+given_at : (p : Program) → list_all is_fitting_field (given_fields p) ≡ true → (f : ℕ) → 2 ≤ f → f < length p.fields → is_fitting_field (field_at p f) ≡ true
+given_at p e f two below =
+    let n = length-drop 2 p.fields in
+    let i : 2 + (f - 2) ≡ f = omega arith in
+    let there : get_or (drop 2 p.fields) (f - 2) no_field ≡ field_at p f = get_or-drop 2 p.fields (f - 2) no_field ∙ ap (λ k. get_or p.fields k no_field) i in
+    ap is_fitting_field (sym there) ∙ all_at is_fitting_field (drop 2 p.fields) (f - 2) no_field e (omega arith)
 
-drop_front : {B : Type 0} (xs ys : List B) (n : ℕ) → length xs ≡ n → drop n (xs ++ ys) ≡ ys
-drop_front [] ys n e = let q : n ≡ 0 = omega arith in ap (λ k. drop k ys) q
-drop_front (x ∷ xs) ys n e = let q : n ≡ suc (length xs) = omega arith in ap (λ k. drop k (x ∷ (xs ++ ys))) q ∙ drop_front xs ys (length xs) refl
+zeros_open : (fs : List FieldRec) → list_all is_fitting_field fs ≡ true → map (λ f. f.opening) fs ≡ map Int (replicate (length fs) (pos 0))
+zeros_open [] e = refl
+zeros_open (f ∷ fs) e =
+    let q = and_parts (is_fitting_field f) (list_all is_fitting_field fs) e in
+    ap (λ v. v ∷ map (λ (g : FieldRec). g.opening) fs) (field_parts f q.0).1 ∙ ap (λ vs. Int (pos 0) ∷ vs) (zeros_open fs q.1)
 
-pub record IsGivenField (f : FieldRec) : Type 0 where
-  pub class : f.class ≡ 32
-  pub int : f.descriptor ≡ codes "I"
-  pub opening : f.opening ≡ Int (pos 0)
+builtin_open : (length builtin_fields ≡ 2) × (map (λ f. f.opening) builtin_fields ≡ Lit 0 ∷ (Null ∷ []))
+unfolding builtin_fields builtin_defs
+builtin_open = (refl, refl)
 
-some_is : {B : Type 0} {x y : B} → Some x ≡ Some y → y ≡ x
-some_is e = cc
+opens_with : (p : Program) → take 2 p.fields ≡ builtin_fields → list_all is_fitting_field (given_fields p) ≡ true → world_of p (replicate (length p.fields - 2) (pos 0)) ≡ opening p
+unfolding opening
+opens_with p taken e =
+    let all : map (λ (f : FieldRec). f.opening) p.fields ≡ Lit 0 ∷ (Null ∷ map Int (replicate (length p.fields - 2) (pos 0))) =
+    ap (map (λ (f : FieldRec). f.opening)) (sym (take-append-drop 2 p.fields))
+    ∙ map-append (λ (f : FieldRec). f.opening) (take 2 p.fields) (drop 2 p.fields)
+    ∙ ap (λ vs. vs ++ map (λ (f : FieldRec). f.opening) (drop 2 p.fields)) (ap (map (λ (f : FieldRec). f.opening)) taken ∙ builtin_open.1)
+    ∙ ap (λ vs. Lit 0 ∷ (Null ∷ vs)) (zeros_open (drop 2 p.fields) e)
+    ∙ ap (λ k. Lit 0 ∷ (Null ∷ map Int (replicate k (pos 0)))) (length-drop 2 p.fields) in
+    ap (λ vs. record (opening p) { statics = vs }) (sym all)
 
-field_facts : (slots : List (Option Entry)) (part : MemberPart) (y : FieldRec) → given_field slots part ≡ Some y → IsGivenField y
-unfolding given_field
-field_facts slots part y e =
-    let f : List ℕ → Option FieldRec = λ name. Some (record { class = 32; name = name; descriptor = codes "I"; flags = part.flags; opening = Int (pos 0) }) in
-    let test = is_text (text_of (entry_of slots part.descriptor)) (codes "I") && (is_static part.flags && is_none part.constant) in
-    let a = came (text_of (entry_of slots part.name)) (λ name. where_true test >>= λ _. f name) y e in
-    let b = held test (λ _. f a.0) y a.2 in
-    let q : y ≡ record { class = 32; name = a.0; descriptor = codes "I"; flags = part.flags; opening = Int (pos 0) } = some_is b.1 in
-    record { class = ap (λ (z : FieldRec). z.class) q; int = ap (λ (z : FieldRec). z.descriptor) q; opening = ap (λ (z : FieldRec). z.opening) q }
+-- ---- tests
 
-pub record IsGivenMethod (m : MethodRec) : Type 0 where
-  pub class : m.class ≡ 32
-  pub static : is_static m.flags ≡ true
-  pub coded : m.body ≡ Some (body_or_none m.body)
-
-body_there : (o : Option Body) (b : Body) → o ≡ Some b → o ≡ Some (body_or_none o)
-body_there None b e = absurd (cc)
-body_there (Some c) b e = refl
-
-method_facts : (slots : List (Option Entry)) (this : List ℕ) (fields : List FieldRec) (part : MemberPart) (y : MethodRec) → given_method slots this fields part ≡ Some y → IsGivenMethod y
-unfolding given_method
-method_facts slots this fields part y e =
-    let made : List ℕ → Body → MethodRec = λ name b. record { class = 32; name = name; descriptor = codes "()V"; flags = part.flags; native = None; body = Some b } in
-    let test : List ℕ → Bool = λ name. is_text (text_of (entry_of slots part.descriptor)) (codes "()V") && (is_static part.flags && not (same_units name clinit_name)) in
-    let rest : List ℕ → CodePart → Option MethodRec = λ name code. given_body slots this fields code >>= λ b. Some (made name b) in
-    let a = came (text_of (entry_of slots part.name)) (λ name. where_true (test name) >>= λ _. (part.code >>= rest name)) y e in
-    let b = held (test a.0) (λ _. part.code >>= rest a.0) y a.2 in
-    let c = came part.code (rest a.0) y b.1 in
-    let d = came (given_body slots this fields c.0) (λ z. Some (made a.0 z)) y c.2 in
-    let q : y ≡ made a.0 d.0 = some_is d.2 in
-    let t = (and_parts (is_static part.flags) (not (same_units a.0 clinit_name)) (and_parts (is_text (text_of (entry_of slots part.descriptor)) (codes "()V")) (is_static part.flags && not (same_units a.0 clinit_name)) b.0).1).0 in
-    record {
-      class = ap (λ (z : MethodRec). z.class) q;
-      static = ap (λ (z : MethodRec). is_static z.flags) q ∙ t;
-      coded = body_there y.body d.0 (ap (λ (z : MethodRec). z.body) q);
-    }
-
-number_from : (n : ℕ) (m : MethodRec) (ms : List MethodRec) (name : List ℕ) (k : ℕ) (b : Bool) → (method_number (n + 1) ms name ≡ Some k → (n + 1 ≤ k) × (k < n + 1 + length ms)) →
-    (if b then Some n else method_number (n + 1) ms name) ≡ Some k → (n ≤ k) × (k < n + length (m ∷ ms))
-number_from n m ms name k true r e = let q : n ≡ k = cc in (omega arith, omega arith)
-number_from n m ms name k false r e = let q = r e in (omega arith, omega arith)
-
-number_in : (n : ℕ) (ms : List MethodRec) (name : List ℕ) (k : ℕ) → method_number n ms name ≡ Some k → (n ≤ k) × (k < n + length ms)
-number_in n [] name k e = absurd (cc)
-number_in n (m ∷ ms) name k e = number_from n m ms name k (same_units m.name name) (number_in (n + 1) ms name k) e
-
-pub record IsGivenTest (ms : List MethodRec) (t : TestEntry) : Type 0 where
-  pub from : 102 ≤ t.method
-  pub below : t.method < 102 + length ms
-
-test_facts : (this : List ℕ) (ms : List MethodRec) (budget : ℕ) (line : TestLine) (y : TestEntry) → given_test this ms budget line ≡ Some y → IsGivenTest ms y
-unfolding given_test
-test_facts this ms budget line y e =
-    let made : ℕ → TestEntry = λ n. record { class = 32; method = n; clock = line.clock; seed = line.seed; budget = budget } in
-    let a = held (same_units line.class this) (λ _. method_number 102 ms line.method >>= λ n. Some (made n)) y e in
-    let b = came (method_number 102 ms line.method) (λ n. Some (made n)) y a.1 in
-    let q : y ≡ made b.0 = some_is b.2 in
-    let m = ap (λ (z : TestEntry). z.method) q in
-    let r = number_in 102 ms line.method b.0 b.1 in
-    record { from = rw m r.0; below = rw m r.1 }
-
-all_above : (n : ℕ) (k : ℕ) (xs : List Placed) → n < k → ascends_from k xs ≡ true → AllAbove n xs
+all_above : (n k : ℕ) (xs : List Placed) → n < k → ascends_from k xs ≡ true → AllAbove n xs
 all_above n k [] h e = tt
 all_above n k (x ∷ xs) h e = let p = and_parts (nat_le k x.pc) (ascends_from (x.pc + 1) xs) e in let q = leb-true k x.pc p.0 in (omega arith, all_above n (x.pc + 1) xs (omega arith) p.1)
 
@@ -187,135 +126,53 @@ body_served p b e =
     let y = and_parts (ascends_from 0 b.code) (is_straight p b.max_stack b.code 0) x.1 in
     (eqb-true (place_after b.code b.length) 0 x.0, ascends 0 b.code y.0, y.1)
 
-abbrev program_of : List ℕ → ClassParts → List FieldRec → List MethodRec → List TestEntry → Program
-program_of this c fs ms ts = program_with (class_rec this c fs ms ∷ []) fs ms ts
+body_there : (o : Option Body) → IsSome o → o ≡ Some (body_or_none o)
+body_there None h = absurd (cc)
+body_there (Some b) h = refl
 
-field_served : (this : List ℕ) (c : ClassParts) (fs : List FieldRec) (ms : List MethodRec) (ts : List TestEntry) → is_interface c.flags ≡ false → Every IsGivenField fs →
-    (f : ℕ) → 2 ≤ f → f < length (builtin_fields ++ fs) → IsServedField (program_of this c fs ms ts) f
-field_served this c fs ms ts plain hf f two below =
-    let p = program_of this c fs ms ts in
-    let k : f - 2 < length fs = omega (arith, length-append builtin_fields fs, builtin_fields_length) in
-    let e : field_at p f ≡ get_or fs (f - 2) no_field = get_behind builtin_fields fs 2 f no_field builtin_fields_length two in
-    let h = every_at IsGivenField fs (f - 2) no_field hf k in
+test_served : (p : Program) → Linked p → ((c : ℕ) → is_trivial p c ≡ true) → list_all (λ t. is_fitting_test p t) p.tests ≡ true → (t : ℕ) → 1 ≤ t → t ≤ length p.tests → IsServedTest p t
+test_served p linked trivial e t one most =
+    let x = test_at p t in
+    let m = method_at p x.method in
+    let below : t - 1 < length p.tests = omega arith in
+    let q = and_parts (is_static m.flags) (is_served_body p (body_of p t)) (all_at (λ y. is_fitting_test p y) p.tests (t - 1) no_test e below) in
+    let b = body_served p (body_of p t) q.1 in
+    let is = linked.tests (t - 1) no_test below in
+    let named = linked.numbers.tests (t - 1) no_test below in
     record {
-      int = ap (λ (z : FieldRec). z.descriptor) e ∙ h.int;
-      trivial = ap (λ (z : FieldRec). is_trivial p z.class) e ∙ ap (is_trivial p) h.class ∙ given_trivial this c fs ms ts plain;
-    }
-
-test_served : (this : List ℕ) (c : ClassParts) (fs : List FieldRec) (ms : List MethodRec) (ts : List TestEntry) → is_interface c.flags ≡ false → Every IsGivenMethod ms → Every (IsGivenTest ms) ts →
-    list_all (λ m. is_served_method (program_of this c fs ms ts) m) ms ≡ true → (t : ℕ) → 1 ≤ t → t ≤ length ts → IsServedTest (program_of this c fs ms ts) t
-test_served this c fs ms ts plain hm ht ok t one most =
-    let p = program_of this c fs ms ts in
-    let n = (test_at p t).method in
-    let h = every_at (IsGivenTest ms) ts (t - 1) no_test ht (omega arith) in
-    let from = h.from in
-    let below = h.below in
-    let k : n - 102 < length ms = omega arith in
-    let m = get_or ms (n - 102) no_method in
-    let e : method_at p n ≡ m = get_behind builtin_methods ms 102 n no_method builtin_methods_length h.from in
-    let f = every_at IsGivenMethod ms (n - 102) no_method hm k in
-    let s : is_served_method p m ≡ true = all_at (λ z. is_served_method p z) ms (n - 102) no_method ok k in
-    let b = body_served p (body_of p t) (ap (λ (z : MethodRec). is_served_method p z) e ∙ s) in
-    record {
-      there = omega (arith, length-append builtin_methods ms, builtin_methods_length);
-      coded = subst (λ (z : MethodRec). z.body ≡ Some (body_or_none z.body)) (sym e) f.coded;
-      static = ap (λ (z : MethodRec). is_static z.flags) e ∙ f.static;
-      trivial = ap (λ (z : MethodRec). is_trivial p z.class) e ∙ ap (is_trivial p) f.class ∙ given_trivial this c fs ms ts plain;
+      there = named.1;
+      coded = body_there m.body is.code;
+      static = q.0;
+      trivial = trivial m.class;
       start = b.0;
       ascends = b.1;
       straight = b.2;
     }
 
--- the program of these given parts is one that the machine runs
-served_by : (this : List ℕ) (c : ClassParts) (fs : List FieldRec) (ms : List MethodRec) (ts : List TestEntry) → is_interface c.flags ≡ false → Every IsGivenField fs → Every IsGivenMethod ms → Every (IsGivenTest ms) ts →
-    list_all (λ m. is_served_method (program_of this c fs ms ts) m) ms ≡ true → IsServed (program_of this c fs ms ts)
-served_by this c fs ms ts plain hf hm ht ok =
-    let p = program_of this c fs ms ts in
-    let cs = class_rec this c fs ms ∷ [] in
+-- ---- the program
+
+served_by : (p : Program) → Linked p → ((c : ℕ) → is_trivial p c ≡ true) → list_all is_fitting_field (given_fields p) ≡ true → list_all (λ t. is_fitting_test p t) p.tests ≡ true → IsServed p
+served_by p linked trivial fields tests =
+    let print : method_at p print_method ≡ get_or builtin_methods 45 no_method = builtin_method p linked.builtins 45 (omega arith) in
     record {
-      fields = field_served this c fs ms ts plain hf;
-      print_native = print_is cs fs ms ts;
-      print_trivial = ap (is_trivial p) (print_class cs fs ms ts) ∙ env_trivial cs fs ms ts;
-      print_argument = print_takes cs fs ms ts;
-      tests = test_served this c fs ms ts plain hm ht ok;
+      fields = λ f two below. record { int = (field_parts (field_at p f) (given_at p fields f two below)).0; trivial = trivial (field_at p f).class };
+      print_native = ap (λ (m : MethodRec). m.native) print ∙ print_entry.0;
+      print_trivial = trivial (method_at p print_method).class;
+      print_argument = print_takes p print;
+      tests = test_served p linked trivial tests;
     }
 
--- the program of no class
-none_served : IsServed (program_with [] [] [] [])
-none_served = record {
-  fields = λ f two below. absurd (omega (arith, length-append builtin_fields [], builtin_fields_length));
-  print_native = print_is [] [] [] [];
-  print_trivial = ap (is_trivial (program_with [] [] [] [])) (print_class [] [] [] []) ∙ env_trivial [] [] [] [];
-  print_argument = print_takes [] [] [] [];
-  tests = λ t one most. absurd (omega arith);
-}
-
-not_true : (b : Bool) → not b ≡ true → b ≡ false
-not_true true e = absurd (cc)
-not_true false e = refl
-
-plain_flags : (c : ClassParts) → is_plain_class c ≡ true → is_interface c.flags ≡ false
-plain_flags c e =
-    let x = and_parts (c.major == 52) _ e in
-    let y = and_parts (is_text (class_name_of c.pool (entry_of c.pool c.super_class)) (codes "java/lang/Object")) _ x.1 in
-    let z = and_parts (is_empty c.interfaces) (not (is_interface c.flags) && not (is_abstract c.flags)) y.1 in
-    not_true (is_interface c.flags) (and_parts (not (is_interface c.flags)) (not (is_abstract c.flags)) z.1).0
-
-ints_at_first : (fs : List FieldRec) → Every IsGivenField fs → map (λ f. f.opening) fs ≡ map Int (replicate (length fs) (pos 0))
-ints_at_first [] h = refl
-ints_at_first (f ∷ fs) h = ap (λ v. v ∷ map (λ g. g.opening) fs) (h.0).opening ∙ ap (λ vs. Int (pos 0) ∷ vs) (ints_at_first fs h.1)
-
-builtin_at_first : map (λ f. f.opening) builtin_fields ≡ Lit 0 ∷ (Null ∷ [])
-unfolding builtin_fields builtin_defs
-builtin_at_first = refl
-
-opens_at : (cs : List ClassRec) (fs : List FieldRec) (ms : List MethodRec) (ts : List TestEntry) → Every IsGivenField fs →
-    world_of (program_with cs fs ms ts) (replicate (length (builtin_fields ++ fs) - 2) (pos 0)) ≡ opening (program_with cs fs ms ts)
-unfolding opening
-opens_at cs fs ms ts h =
-    let p = program_with cs fs ms ts in
-    let n : length (builtin_fields ++ fs) - 2 ≡ length fs = omega (arith, length-append builtin_fields fs, builtin_fields_length) in
-    let e : map (λ f. f.opening) (builtin_fields ++ fs) ≡ Lit 0 ∷ (Null ∷ map Int (replicate (length fs) (pos 0))) =
-    map-append (λ f. f.opening) builtin_fields fs ∙ ap (λ vs. vs ++ map (λ f. f.opening) fs) builtin_at_first ∙ ap (λ vs. Lit 0 ∷ (Null ∷ vs)) (ints_at_first fs h) in
-    ap (λ k. record (opening p) { statics = Lit 0 ∷ (Null ∷ map Int (replicate k (pos 0))) }) n ∙ ap (λ vs. record (opening p) { statics = vs }) (sym e)
-
-runnable_with : (cs : List ClassRec) (fs : List FieldRec) (ms : List MethodRec) (ts : List TestEntry) → Every IsGivenField fs → length ts ≤ 65535 → IsServed (program_with cs fs ms ts) → IsRunnable (program_with cs fs ms ts)
-runnable_with cs fs ms ts h few served = record {
-  served = served;
-  fields = omega (arith, length-append builtin_fields fs, builtin_fields_length);
-  few = few;
-  opens = opens_at cs fs ms ts h;
-}
-
-class_served : (suite : SuiteText) (c : ClassParts) (p : Program) → class_program suite c ≡ Some p → IsRunnable p
-unfolding class_program served_program
-class_served suite c p e =
-    let slots = c.pool in
-    let last : List ℕ → List FieldRec → List MethodRec → List TestEntry → Option Program = λ this fs ms ts. where_true (is_few ts) >>= λ _. served_program (program_of this c fs ms ts) in
-    let third : List ℕ → List FieldRec → List MethodRec → Option Program = λ this fs ms. where_true (is_few ms) >>= λ _. (each (given_test this ms suite.budget) [] suite.tests >>= last this fs ms) in
-    let second : List ℕ → List FieldRec → Option Program = λ this fs. where_true (is_few fs) >>= λ _. (each (given_method slots this fs) [] c.methods >>= third this fs) in
-    let first : List ℕ → Option Program = λ this. each (given_field slots) [] c.fields >>= second this in
-    let a = held (is_plain_class c) (λ _. class_name_of slots (entry_of slots c.this_class) >>= first) p e in
-    let b = came (class_name_of slots (entry_of slots c.this_class)) first p a.1 in
-    let d = came (each (given_field slots) [] c.fields) (second b.0) p b.2 in
-    let f = held (is_few d.0) (λ _. each (given_method slots b.0 d.0) [] c.methods >>= third b.0 d.0) p d.2 in
-    let g = came (each (given_method slots b.0 d.0) [] c.methods) (third b.0 d.0) p f.1 in
-    let h = held (is_few g.0) (λ _. each (given_test b.0 g.0 suite.budget) [] suite.tests >>= last b.0 d.0 g.0) p g.2 in
-    let i = came (each (given_test b.0 g.0 suite.budget) [] suite.tests) (last b.0 d.0 g.0) p h.1 in
-    let q = program_of b.0 c d.0 g.0 i.0 in
-    let k = held (is_few i.0) (λ _. served_program q) p i.2 in
-    let j = held (list_all (λ m. is_served_method q m) (given_methods_of q)) (λ _. Some q) p k.1 in
-    let fields = every_each (given_field slots) IsGivenField (field_facts slots) [] c.fields d.0 tt d.1 in
-    let plain : is_interface c.flags ≡ false = plain_flags c a.0 in
-    let ok = ap (list_all (λ m. is_served_method q m)) (sym (drop_front builtin_methods g.0 102 builtin_methods_length)) ∙ j.0 in
-    subst IsRunnable (sym (some_is j.1)) (runnable_with (class_rec b.0 c d.0 g.0 ∷ []) d.0 g.0 i.0 fields (leb-true (length i.0) 65535 k.0) (served_by b.0 c d.0 g.0 i.0 plain
-    fields
-    (every_each (given_method slots b.0 d.0) IsGivenMethod (method_facts slots b.0 d.0) [] c.methods g.0 tt g.1)
-    (every_each (given_test b.0 g.0 suite.budget) (IsGivenTest g.0) (test_facts b.0 g.0 suite.budget) [] suite.tests i.0 tt i.1)
-    ok))
-
--- each program that is found is one that the machine runs
-pub first_served : (suite : SuiteText) (o : Option ClassParts) (p : Program) → first_program suite o ≡ Some p → IsRunnable p
-unfolding first_program
-first_served suite None p e = let a = held (is_empty suite.files && (is_empty suite.classes && is_empty suite.tests)) (λ _. Some (program_with [] [] [] [])) p e in subst IsRunnable (sym (some_is a.1)) (runnable_with [] [] [] [] tt (omega arith) none_served)
-first_served suite (Some c) p e = let a = held (is_empty suite.files && nat_le (length suite.classes) 1) (λ _. class_program suite c) p e in class_served suite c p a.1
+-- the first machine runs it
+pub fitting_runnable : (p : Program) → Linked p → fits_first_machine p ≡ true → IsRunnable p
+unfolding fits_first_machine
+fitting_runnable p linked e =
+    let x = and_parts (list_all (λ c. is_none c.initialiser) p.classes) (list_all is_fitting_field (given_fields p) && list_all (λ t. is_fitting_test p t) p.tests) e in
+    let y = and_parts (list_all is_fitting_field (given_fields p)) (list_all (λ t. is_fitting_test p t) p.tests) x.1 in
+    let trivial = trivial_where p (λ c. not_some (class_at p c).initialiser (none_at p.classes c x.0)) in
+    let few = linked.few_tests in
+    record {
+      served = served_by p linked trivial y.0 y.1;
+      fields = enough_fields p linked.builtins;
+      few = omega arith;
+      opens = opens_with p (ap (λ n. take n p.fields) (sym builtin_open.0) ∙ linked.builtins.fields) y.0;
+    }

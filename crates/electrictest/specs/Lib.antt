@@ -1,7 +1,6 @@
 pub mod Codes
-pub mod First
+pub mod FirstMachine
 pub mod FaultTexts
-pub mod Finding
 pub mod Answers
 pub mod Replies
 pub mod Runnable

@@ -8,7 +8,7 @@ use Rattle.jvm_model.specs.Suite.{Given, SuiteFault, suite_fault, fault_on, runs
 use Rattle.vm_interp.specs.Standing.{world_of}
 use Rattle.jvm_model.specs.World.{World}
 use Rattle.electrictest.specs.Tests.{over_status}
-use Rattle.electrictest.specs.declared.loaded.Loaded.{Loaded}
+use Rattle.suite_load.specs.declared.loaded.Loaded.{Loaded}
 use Rattle.electrictest.specs.declared.status.Status.{Status}
 use Rattle.electrictest.specs.declared.status.Status.TheVariants as ends
 use Rattle.electrictest.specs.Replies.{over_fault, outcomes_of, is_passed, units_in}
@@ -19,15 +19,15 @@ outcomes_behind front o = option_map (λ xs. front ++ map (λ x. x.outcome) xs) 
 
 -- the run of a whole suite that is within its limits
 pub record Ran (l : Loaded) (outcomes : List Outcome) : Type 0 where
-  pub within : suite_fault l.program ≡ None
-  pub ran : outcomes_of l.program ≡ Some outcomes
+  pub within : suite_fault l.checked ≡ None
+  pub ran : outcomes_of l.checked ≡ Some outcomes
   pub passed : list_all is_passed outcomes ≡ true
-  pub each : length outcomes ≡ length l.program.tests
+  pub each : length outcomes ≡ length l.checked.tests
 
 -- a run that is refused: want of memory, or the suite's fault
 abbrev pub RunRefused : Loaded → Status → Type 0
 RunRefused l ends.NoMemory = Unit {0}
-RunRefused l (ends.Over f) = (x : SuiteFault) × (suite_fault l.program ≡ Some x) × (f ≡ over_fault l x)
+RunRefused l (ends.Over f) = (x : SuiteFault) × (suite_fault l.checked ≡ Some x) × (f ≡ over_fault l.names x)
 RunRefused l _ = ⊥
 
 -- the budget of a test, or the rest of the suite's units where that is less
@@ -37,7 +37,7 @@ least p t r = min (test_at p t).budget r
 -- a test that is refused: want of memory, or it gives nothing under that number
 abbrev pub OneRefused : Loaded → World → ℕ → ℕ → Status → Type 0
 OneRefused l w t r ends.NoMemory = Unit {0}
-OneRefused l w t r s = (one_test l.program w t (least l.program t r) ≡ None) × (s ≡ over_status l t (test_at l.program t).budget r)
+OneRefused l w t r s = (one_test l.checked w t (least l.checked t r) ≡ None) × (s ≡ over_status l.names t (test_at l.checked t).budget r)
 
 -- the tests after the first i
 abbrev pub tests_after : Program → ℕ → List ℕ
@@ -45,10 +45,10 @@ tests_after p i = range_with_len (i + 1) (length p.tests - i)
 
 -- the run after i tests, with these statics and this rest of the suite's units
 pub record Along (l : Loaded) (i : ℕ) (statics : List ℤ) (rest : ℕ) (outcomes : List Outcome) (begun now : ℕ) : Type 0 where
-  pub fields : length statics + 2 ≡ length l.program.fields
-  pub faults : fault_on l.program (world_of l.program statics) rest (tests_after l.program i) ≡ suite_fault l.program
-  pub runs : outcomes_behind outcomes (runs_on l.program (world_of l.program statics) (tests_after l.program i)) ≡ outcomes_of l.program
+  pub fields : length statics + 2 ≡ length l.checked.fields
+  pub faults : fault_on l.checked (world_of l.checked statics) rest (tests_after l.checked i) ≡ suite_fault l.checked
+  pub runs : outcomes_behind outcomes (runs_on l.checked (world_of l.checked statics) (tests_after l.checked i)) ≡ outcomes_of l.checked
   pub passed : list_all is_passed outcomes ≡ true
   pub each : length outcomes ≡ i
-  pub upto : i ≤ length l.program.tests
+  pub upto : i ≤ length l.checked.tests
   pub counts : now ≡ begun + units_in outcomes

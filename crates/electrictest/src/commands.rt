@@ -3,12 +3,11 @@
 ghost use Rattle.std.specs.Prelude.{◌≡◌, ◌≤◌, ◌+◌, IfOk, IfErr, IfSome, option_copied, Option};
 ghost use Rattle.electrictest.specs.Runnable.{IsRunnable};
 ghost use Rattle.electrictest.specs.declared.status.Status.TheVariants as ends;
-ghost use Rattle.electrictest.specs.Answers.{Answers, itself};
-ghost use Rattle.electrictest.specs.Commands.{NamedEnds, ReportEnds, Unreported, Reported, Writes, Refused, Served, Ends};
+ghost use Rattle.electrictest.specs.Answers.{Answers};
+ghost use Rattle.electrictest.specs.Commands.{NamedEnds, ReportEnds, Reported, Writes, Refused, Taken, Served, Ends};
 ghost use Rattle.electrictest.specs.Replies as reply;
 
-use crate::loaded::Loaded;
-use crate::loading::load;
+use crate::loading::load_named;
 use crate::running::run_all;
 use crate::status::Status;
 use crate::texts::{fault_line, report};
@@ -16,7 +15,7 @@ use et_base::Text;
 use outside::{Depot, Sink, Steps, write_text};
 use std::alloc::Global;
 use std::sync::ledger::Ledger;
-use suite_load::is_depot_name;
+use suite_load::{Loaded, is_depot_name};
 
 // The suite's name in `run SUITE - 1 all`.
 #[tactic(auto, unfolding(crate::specs::Replies::suite_word))]
@@ -36,18 +35,17 @@ fn suite_word(words: &[Text]) -> Option<&Text>
     }
 }
 
-// The suite that the words name, and its program.
-#[tactic(auto, unfolding(crate::specs::Replies::loaded_for))]
-fn load_named<D: Depot>(alloc: Global, words: &[Text], depot: &mut D) -> Result<Loaded, Status>
+// The suite that the words name.
+fn load_for<D: Depot>(alloc: Global, words: &[Text], depot: &mut D) -> Result<Loaded, Status>
     ensures told { D.told depot.new ≡ D.told depot.old }
     ensures faults { D.faults depot.old ≤ D.faults depot.new }
-    ensures answers { IfSome (D.told depot.old) (λ files. Answers itself result (reply.loaded_for files words.now)) }
+    ensures answers { IfSome (D.told depot.old) (λ files. Answers (reply.LoadsFor files words.now) result) }
     ensures ends { IfErr result (λ e. NamedEnds (D.told depot.old) words.now e (D.faults depot.old) (D.faults depot.new)) }
-    ensures runs { IfOk result (λ l. IsRunnable l.program) }
+    ensures runs { IfOk result (λ l. IsRunnable l.checked) }
 {
     match suite_word(words) {
         None => Err(Status::Words),
-        Some(name) => load(alloc, depot, name),
+        Some(name) => load_named(alloc, depot, name),
     }
 }
 
@@ -61,12 +59,12 @@ fn reported<D: Depot, L: Ledger>(
     ensures told { D.told depot.new ≡ D.told depot.old }
     ensures faults { D.faults depot.old ≤ D.faults depot.new }
     ensures reports { IfOk result (λ text. IfSome (D.told depot.old) (λ files. Reported files words.now text steps.old steps.new)) }
-    ensures refused { IfErr result (λ e. IfSome (D.told depot.old) (λ files. Unreported files words.now e)) }
+    ensures refused { IfErr result (λ e. IfSome (D.told depot.old) (λ files. reply.Unreported files words.now e)) }
     ensures ends { IfErr result (λ e. ReportEnds words.now e (D.faults depot.old) (D.faults depot.new)) }
 {
-    let loaded = load_named(alloc, words, depot)?;
+    let loaded = load_for(alloc, words, depot)?;
     let outcomes = run_all(alloc, &loaded, steps)?;
-    let text = report(alloc, &loaded, outcomes.as_slice())?;
+    let text = report(alloc, &loaded.names, outcomes.as_slice())?;
     Ok(text)
 }
 
@@ -74,7 +72,7 @@ fn reported<D: Depot, L: Ledger>(
 /// count of faults rose.
 pub fn written<S: Sink>(sink: &mut S, text: &[u8], status: Status) -> Status
     ensures faults { S.faults sink.old ≤ S.faults sink.new }
-    ensures writes { Writes text.now status result (S.told sink.old) (S.told sink.new) (S.faults sink.old) (S.faults sink.new) }
+    ensures writes { Writes text.now status result (record { old = S.told sink.old; new = S.told sink.new; room = S.room sink.old; before = S.faults sink.old; after = S.faults sink.new }) }
 {
     match write_text(sink, text) {
         Ok(()) => status,
@@ -85,7 +83,7 @@ pub fn written<S: Sink>(sink: &mut S, text: &[u8], status: Status) -> Status
 // Writes the line of a refusal; want of memory has none.
 fn refused<S: Sink>(alloc: Global, sink: &mut S, status: Status) -> Status
     ensures faults { S.faults sink.old ≤ S.faults sink.new }
-    ensures writes { Refused status result (S.told sink.old) (S.told sink.new) (S.faults sink.old) (S.faults sink.new) }
+    ensures writes { Refused status result (record { old = S.told sink.old; new = S.told sink.new; room = S.room sink.old; before = S.faults sink.old; after = S.faults sink.new }) }
 {
     match status {
         Status::NoMemory => Status::NoMemory,
@@ -100,7 +98,8 @@ fn refused<S: Sink>(alloc: Global, sink: &mut S, status: Status) -> Status
 /// report, where every test passes; each other answer is a line `electric: ..` that says why.
 ///
 /// - `Words`: the words have no form that is served.
-/// - `Input`: a file is absent, or in a form that isn't served yet.
+/// - `Input`: a file is absent, too large or faulty, the class files don't link, the program isn't typed, or the first
+///   machine doesn't run it yet.
 /// - `Over`: a test passed its budget, or the suite its number of units.
 /// - `Depot`, `Sink`: the depot or the sink failed, and its count of faults rose.
 /// - `NoMemory`: memory was refused; nothing was written.
@@ -114,7 +113,11 @@ pub fn electric_plain<D: Depot, S: Sink, L: Ledger>(
     ensures told { D.told depot.new ≡ D.told depot.old }
     ensures depot_faults { D.faults depot.old ≤ D.faults depot.new }
     ensures sink_faults { S.faults sink.old ≤ S.faults sink.new }
-    ensures served { IfSome (D.told depot.old) (λ files. Served files words.now result (S.told sink.old) (S.told sink.new) steps.old steps.new) }
+    // What it answers, where the depot's files are told.
+    ensures served { IfSome (D.told depot.old) (λ files. Served (record { files = files; words = words.now; before = D.faults depot.old; after = D.faults depot.new; begun = steps.old; now = steps.new }) result (record { old = S.told sink.old; new = S.told sink.new; room = S.room sink.old; before = S.faults sink.old; after = S.faults sink.new })) }
+    // What the sink took, whatever the depot tells.
+    ensures taken { Taken result (record { old = S.told sink.old; new = S.told sink.new; room = S.room sink.old; before = S.faults sink.old; after = S.faults sink.new }) }
+    // When a depot, a sink or the words are answered.
     ensures ends { Ends words.now result (D.faults depot.old) (D.faults depot.new) (S.faults sink.old) (S.faults sink.new) }
 {
     match reported(alloc, words, depot, steps) {

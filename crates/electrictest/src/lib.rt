@@ -3,12 +3,8 @@
 
 mod commands;
 mod fault_texts;
-mod form_refusal;
-mod given;
-mod loaded;
+mod first_machine;
 mod loading;
-mod program;
-mod references;
 mod running;
 mod status;
 mod texts;

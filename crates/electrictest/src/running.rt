@@ -12,42 +12,36 @@ ghost use Rattle.jvm_model.specs.declared.outcome.Verdict.TheVariants as verdict
 ghost use Rattle.electrictest.specs.Replies as reply;
 ghost use Rattle.electrictest.specs.Tests as tests;
 
-use crate::loaded::Loaded;
 use crate::loading::copy_text;
 use crate::status::{OverFault, Status};
 use et_base::{Items, NoMemory, Text};
-use jvm_model::{Outcome, Verdict};
+use jvm_model::{Names, Outcome, Verdict};
 use outside::Steps;
 use std::alloc::Global;
 use std::sync::ledger::Ledger;
+use suite_load::Loaded;
 use vm_interp::{RunFault, run_test};
 
 /// The most units of a whole suite's run.
 const SUITE_LIMIT: u64 = 67_108_864;
 
 // The name of a test.
-fn test_name(alloc: Global, loaded: &Loaded, test: u32) -> Result<Text, NoMemory>
+fn test_name(alloc: Global, names: &Names, test: u32) -> Result<Text, NoMemory>
     requires { 1 ≤ test }
-    ensures { IfOk result (λ name. name ≡ reply.test_name loaded.now test) }
+    ensures { IfOk result (λ name. name ≡ reply.test_name names.now test) }
 {
-    match loaded.suite.tests.as_slice().get((test - 1) as usize) {
-        Some(line) => copy_text(alloc, &line.name),
+    match names.tests.as_slice().get((test - 1) as usize) {
+        Some(name) => copy_text(alloc, name),
         None => Ok(Text::new(alloc)),
     }
 }
 
 // How a test is answered that passes its budget or the rest of the suite's units.
-fn over(
-    alloc: Global,
-    loaded: &Loaded,
-    test: u32,
-    budget: u64,
-    rest: u64,
-) -> Result<Status, NoMemory>
+fn over(alloc: Global, names: &Names, test: u32, budget: u64, rest: u64) -> Result<Status, NoMemory>
     requires { 1 ≤ test }
-    ensures { IfOk result (λ s. s ≡ tests.over_status loaded.now test budget rest) }
+    ensures { IfOk result (λ s. s ≡ tests.over_status names.now test budget rest) }
 {
-    let name = test_name(alloc, loaded, test)?;
+    let name = test_name(alloc, names, test)?;
     if budget <= rest {
         Ok(Status::Over(OverFault::OverBudget {
             name,
@@ -68,29 +62,23 @@ fn run_one<L: Ledger>(
     rest: u64,
     steps: &mut Steps<L>,
 ) -> Result<Outcome, Status>
-    requires runs { IsRunnable loaded.now.program }
+    requires runs { IsRunnable loaded.now.checked }
     requires first { 1 ≤ test }
-    requires last { test ≤ length loaded.now.program.tests }
-    requires statics { length statics.old + 2 ≡ length loaded.now.program.fields }
-    ensures gives { IfOk result (λ o. (ts : List Touch) × one_test loaded.now.program (world_of loaded.now.program statics.old) test (least loaded.now.program test rest)
-        ≡ Some (record { outcome = o; world = world_of loaded.now.program statics.new; touches = ts })) }
+    requires last { test ≤ length loaded.now.checked.tests }
+    requires statics { length statics.old + 2 ≡ length loaded.now.checked.fields }
+    ensures gives { IfOk result (λ o. (ts : List Touch) × one_test loaded.now.checked (world_of loaded.now.checked statics.old) test (least loaded.now.checked test rest)
+        ≡ Some (record { outcome = o; world = world_of loaded.now.checked statics.new; touches = ts })) }
     ensures passes { IfOk result (λ o. o.verdict ≡ verdict.Passed) }
     ensures counted { IfOk result (λ o. steps.new ≡ steps.old + o.units) }
-    ensures refused { IfErr result (OneRefused loaded.now (world_of loaded.now.program statics.old) test rest) }
+    ensures refused { IfErr result (OneRefused loaded.now (world_of loaded.now.checked statics.old) test rest) }
 {
-    let budget = loaded.program.tests.as_slice()[(test - 1) as usize].budget;
-    match run_test(
-        alloc,
-        &loaded.program,
-        statics,
-        test,
-        budget.min(rest),
-        steps,
-    ) {
+    let program = loaded.checked.program();
+    let budget = program.tests.as_slice()[(test - 1) as usize].budget;
+    match run_test(alloc, program, statics, test, budget.min(rest), steps) {
         Ok(outcome) => Ok(outcome),
         Err(RunFault::NoMemory) => Err(Status::NoMemory),
         Err(RunFault::OverBudget { .. }) => {
-            let status = over(alloc, loaded, test, budget, rest)?;
+            let status = over(alloc, &loaded.names, test, budget, rest)?;
             Err(status)
         }
     }
@@ -112,15 +100,16 @@ pub fn run_all<L: Ledger>(
     loaded: &Loaded,
     steps: &mut Steps<L>,
 ) -> Result<Items<Outcome>, Status>
-    requires runs { IsRunnable loaded.now.program }
+    requires runs { IsRunnable loaded.now.checked }
     ensures ran { IfOk result (Ran loaded.now) }
     ensures counted { IfOk result (λ outcomes. steps.new ≡ steps.old + reply.units_in outcomes) }
     ensures refused { IfErr result (RunRefused loaded.now) }
 {
-    let mut statics = zeros(alloc, loaded.program.fields.len() - 2)?;
+    let program = loaded.checked.program();
+    let mut statics = zeros(alloc, program.fields.len() - 2)?;
     let mut outcomes = Items::new(alloc);
     let mut rest = SUITE_LIMIT;
-    for index in 0..loaded.program.tests.len() {
+    for index in 0..program.tests.len() {
         let test = (index + 1) as u32;
         let outcome = run_one(alloc, loaded, &mut statics, test, rest, steps)?;
         rest -= outcome.units;

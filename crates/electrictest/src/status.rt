@@ -3,9 +3,11 @@
 ghost use Rattle.std.specs.Prelude.{◌≡◌};
 ghost use Rattle.electrictest.specs.Codes.{code_of};
 
+use class_link::LinkFault;
 use class_reader::ClassFault;
 use et_base::{Items, NoMemory, Text};
 use suite_load::Why;
+use type_frames::CheckFault;
 
 /// How a command ended.
 #[derive(Debug, Drop)]
@@ -33,13 +35,17 @@ pub enum Status {
 pub enum InputFault {
     /// The depot has no file of this name.
     Absent { name: Text },
-    /// The file of this name is longer than 1 MiB.
+    /// The file of this name is longer than 1 MiB, or with it all class files so far are longer than 64 MiB.
     TooLarge { name: Text },
     /// The suite text's first faulty line, by its number from 1, and what is wrong with it.
     Suite { line: u32, why: Why },
     /// The file of this name is no class file; the fault is the first one, never `NoMemory`.
     Class { name: Text, fault: ClassFault },
-    /// The suite of this name is in good form and isn't served yet.
+    /// The class files don't link; the fault is neither `NotATest` nor `NoMemory`.
+    Link { fault: LinkFault },
+    /// The program isn't typed; the fault is never `NoMemory`.
+    Check { fault: CheckFault },
+    /// The suite of this name loads, and its program isn't one that the first machine runs.
     NotYet { name: Text },
 }
 

@@ -5,11 +5,10 @@ ghost use Rattle.std.specs.List.{list_all};
 ghost use Rattle.jvm_model.specs.Texts as line;
 ghost use Rattle.electrictest.specs.Replies as reply;
 
-use crate::fault_texts::{push_class_fault, push_suite_fault};
-use crate::loaded::Loaded;
+use crate::fault_texts::{push_check_fault, push_class_fault, push_link_fault, push_suite_fault};
 use crate::status::{InputFault, OverFault, Status};
 use et_base::{NoMemory, Text, push_decimal, push_quoted_bytes};
-use jvm_model::Outcome;
+use jvm_model::{Names, Outcome};
 use std::alloc::Global;
 
 // Appends why the input was refused.
@@ -27,6 +26,8 @@ fn push_input(out: &mut Text, fault: &InputFault) -> Result<(), NoMemory>
         }
         InputFault::Suite { line, why } => push_suite_fault(out, *line, *why),
         InputFault::Class { name, fault } => push_class_fault(out, name, *fault),
+        InputFault::Link { fault } => push_link_fault(out, fault),
+        InputFault::Check { fault } => push_check_fault(out, fault),
         InputFault::NotYet { name } => {
             out.extend_from_slice(b"not-yet ")?;
             out.extend_from_slice(name.as_slice())
@@ -82,25 +83,25 @@ pub fn fault_line(alloc: Global, status: &Status) -> Result<Text, NoMemory>
 }
 
 // Appends the name of a test.
-fn push_test_name(out: &mut Text, loaded: &Loaded, test: u32) -> Result<(), NoMemory>
+fn push_test_name(out: &mut Text, names: &Names, test: u32) -> Result<(), NoMemory>
     requires { 1 ≤ test }
-    ensures { OnOk result (out.new ≡ out.old ++ reply.test_name loaded.now test) }
+    ensures { OnOk result (out.new ≡ out.old ++ reply.test_name names.now test) }
 {
-    match loaded.suite.tests.as_slice().get((test - 1) as usize) {
-        Some(line) => out.extend_from_slice(line.name.as_slice()),
+    match names.tests.as_slice().get((test - 1) as usize) {
+        Some(name) => out.extend_from_slice(name.as_slice()),
         None => Ok(()),
     }
 }
 
 // Appends the line of a test that passed, up to its units.
-fn push_passed(out: &mut Text, loaded: &Loaded, test: u32) -> Result<(), NoMemory>
+fn push_passed(out: &mut Text, names: &Names, test: u32) -> Result<(), NoMemory>
     requires { 1 ≤ test }
-    ensures { OnOk result (out.new ≡ out.old ++ (codes "test " ++ (decimal test ++ (32 ∷ (reply.test_name loaded.now test ++ codes " passed units "))))) }
+    ensures { OnOk result (out.new ≡ out.old ++ (codes "test " ++ (decimal test ++ (32 ∷ (reply.test_name names.now test ++ codes " passed units "))))) }
 {
     out.extend_from_slice(b"test ")?;
     push_decimal(out, test as u64)?;
     out.push(b' ')?;
-    push_test_name(out, loaded, test)?;
+    push_test_name(out, names, test)?;
     out.extend_from_slice(b" passed units ")?;
     Ok(())
 }
@@ -121,17 +122,12 @@ fn push_out(out: &mut Text, printed: &Text) -> Result<(), NoMemory>
 }
 
 // Appends the lines of a test that passed.
-fn push_outcome(
-    out: &mut Text,
-    loaded: &Loaded,
-    test: u32,
-    outcome: &Outcome,
-) -> Result<(), NoMemory>
+fn push_outcome(out: &mut Text, names: &Names, test: u32, outcome: &Outcome) -> Result<(), NoMemory>
     requires first { 1 ≤ test }
     requires passed { reply.is_passed outcome.now ≡ true }
-    ensures { OnOk result (out.new ≡ out.old ++ line.outcome_lines (reply.names_of loaded.now) test outcome.now) }
+    ensures { OnOk result (out.new ≡ out.old ++ line.outcome_lines names.now test outcome.now) }
 {
-    push_passed(out, loaded, test)?;
+    push_passed(out, names, test)?;
     push_decimal(out, outcome.units)?;
     out.push(b'\n')?;
     push_out(out, &outcome.output)?;
@@ -139,14 +135,14 @@ fn push_outcome(
 }
 
 // Appends the lines of all tests.
-fn push_outcomes(out: &mut Text, loaded: &Loaded, outcomes: &[Outcome]) -> Result<(), NoMemory>
+fn push_outcomes(out: &mut Text, names: &Names, outcomes: &[Outcome]) -> Result<(), NoMemory>
     requires passed { list_all reply.is_passed outcomes.now ≡ true }
     requires few { length outcomes.now ≤ 65535 }
-    ensures { OnOk result (out.new ≡ out.old ++ reply.test_lines (reply.names_of loaded.now) 1 outcomes.now) }
+    ensures { OnOk result (out.new ≡ out.old ++ reply.test_lines names.now 1 outcomes.now) }
 {
     for index in 0..outcomes.len() {
         let test = (index + 1) as u32;
-        push_outcome(out, loaded, test, &outcomes[index])?;
+        push_outcome(out, names, test, &outcomes[index])?;
     }
     Ok(())
 }
@@ -175,15 +171,15 @@ fn push_counts(out: &mut Text, count: u64) -> Result<(), NoMemory>
 }
 
 /// The report on a whole suite whose tests all passed.
-pub fn report(alloc: Global, loaded: &Loaded, outcomes: &[Outcome]) -> Result<Text, NoMemory>
+pub fn report(alloc: Global, names: &Names, outcomes: &[Outcome]) -> Result<Text, NoMemory>
     requires passed { list_all reply.is_passed outcomes.now ≡ true }
     requires few { length outcomes.now ≤ 65535 }
-    ensures { IfOk result (λ text. text ≡ reply.report (reply.names_of loaded.now) outcomes.now) }
+    ensures { IfOk result (λ text. text ≡ reply.report names.now outcomes.now) }
 {
     let mut out = Text::new(alloc);
     let count = outcomes.len() as u64;
     push_head(&mut out, count)?;
-    push_outcomes(&mut out, loaded, outcomes)?;
+    push_outcomes(&mut out, names, outcomes)?;
     push_counts(&mut out, count)?;
     Ok(out)
 }

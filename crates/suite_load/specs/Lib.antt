@@ -1,5 +1,7 @@
 pub mod ContentForm
 pub mod LineForms
+pub mod LoadAnswers
+pub mod Loading
 pub mod NameForms
 pub mod NumberForms
 pub mod Reading

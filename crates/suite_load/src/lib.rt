@@ -3,19 +3,30 @@
 
 mod content;
 mod cut;
+mod depot_files;
 mod first_word;
 mod line_forms;
 mod lines_before;
+mod linking;
+mod load_fault;
+#[cfg(test)]
+mod load_tests;
+mod loaded;
 mod name_set;
 mod names;
 mod numbers;
+mod report_names;
 mod suite_line;
 mod suite_reading;
 mod suite_text;
 mod test_line;
 #[cfg(test)]
 mod tests;
+mod whole_suite;
 
+pub use load_fault::LoadFault;
+pub use loaded::Loaded;
 pub use names::{is_depot_name, is_test_name};
 pub use suite_reading::read_suite;
 pub use suite_text::{FileLine, SuiteRefusal, SuiteText, TestLine, Why};
+pub use whole_suite::load;

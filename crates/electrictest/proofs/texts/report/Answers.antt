@@ -6,7 +6,7 @@ use Rattle.electrictest.proofs.texts.report.Goals as goal
 
 pub returns : goal.returns
 returns c =
-    join3 [] (head_text (length c.args.outcomes.now)) (reply.test_lines (reply.names_of c.args.loaded.now) 1 c.args.outcomes.now) (count_line (length c.args.outcomes.now) 0 0)
+    join3 [] (head_text (length c.args.outcomes.now)) (reply.test_lines c.args.names.now 1 c.args.outcomes.now) (count_line (length c.args.outcomes.now) 0 0)
     (c.in_ok-push_head.ensures ∙ ap (λ z. z ++ head_text (length c.args.outcomes.now)) c.new-out.ensures)
     c.in_ok-push_outcomes.ensures c.in_ok-push_counts.ensures
-    ∙ report_is (reply.names_of c.args.loaded.now) c.args.outcomes.now c.requires.passed
+    ∙ report_is c.args.names.now c.args.outcomes.now c.requires.passed

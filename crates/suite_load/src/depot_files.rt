@@ -1,0 +1,170 @@
+//! A suite's text and its class files, read from a depot.
+
+ghost use Rattle.std.specs.Prelude.{◌≡◌, ◌≤◌, ◌<◌, ◌^◌, ◌+◌, ◌++◌, ◌∷◌, [], drop, length, IfOk, IfErr, IfSome};
+ghost use Rattle.class_link.specs.Link.{AreLines};
+ghost use Rattle.class_reader.specs.Faults.{class_of};
+ghost use Rattle.suite_load.specs.SuiteForm.{suite_of};
+ghost use Rattle.suite_load.specs.Loading as loading;
+ghost use Rattle.suite_load.specs.LoadAnswers.{Answers, IsProper, refusal_of, itself};
+
+use crate::load_fault::LoadFault;
+use crate::suite_reading::read_suite;
+use crate::suite_text::{SuiteRefusal, SuiteText};
+use class_reader::{ClassFault, ClassFile, read_class};
+use et_base::{Items, NoMemory, Text};
+use outside::{Depot, DepotRefusal};
+use std::alloc::Global;
+
+/// The most bytes of a suite text and of a class file.
+const FILE_LIMIT: u64 = 1_048_576;
+
+/// The most bytes of all class files.
+const ALL_LIMIT: u64 = 67_108_864;
+
+fn copy(alloc: Global, text: &Text) -> Result<Text, NoMemory>
+    ensures { IfOk result (λ made. made ≡ text.now) }
+{
+    let mut made = Text::new(alloc);
+    made.extend_from_slice(text.as_slice())?;
+    Ok(made)
+}
+
+// How a refusal of the depot at the file of this name is answered.
+fn named(refusal: DepotRefusal, name: Text) -> LoadFault
+    ensures { result ≡ refusal_of refusal name }
+{
+    match refusal {
+        DepotRefusal::Absent => LoadFault::Absent { name },
+        DepotRefusal::TooLong => LoadFault::TooLarge { name },
+        DepotRefusal::Failed => LoadFault::Depot { name },
+        DepotRefusal::NoMemory => LoadFault::NoMemory,
+    }
+}
+
+// The bytes of a file, of which there may be so many.
+#[tactic(auto, unfolding(crate::specs::Loading::file_of))]
+fn read_file<D: Depot>(
+    alloc: Global,
+    depot: &mut D,
+    name: &Text,
+    most: u64,
+) -> Result<Text, LoadFault>
+    ensures told { D.told depot.new ≡ D.told depot.old }
+    ensures faults { D.faults depot.old ≤ D.faults depot.new }
+    ensures answers { IfSome (D.told depot.old) (λ files. Answers itself result (loading.file_of files most name.now)) }
+    ensures proper { IfErr result (λ e. IsProper (λ read. read ≡ name.now) e (D.faults depot.old) (D.faults depot.new)) }
+    ensures within { IfOk result (λ bytes. length bytes ≤ most) }
+{
+    match depot.read(name, most) {
+        Ok(bytes) => Ok(Text::from_vec(bytes)),
+        Err(refusal) => {
+            let name = copy(alloc, name)?;
+            Err(named(refusal, name))
+        }
+    }
+}
+
+// What the bytes of a suite text say.
+fn suite_of_bytes(alloc: Global, bytes: &[u8]) -> Result<SuiteText, LoadFault>
+    ensures lines { IfOk result (λ suite. AreLines (loading.lines_of suite)) }
+    ensures few { IfOk result (λ suite. length suite.classes ≤ 1024) }
+    ensures answers { Answers itself result (loading.suite_answer (suite_of bytes.now)) }
+    ensures proper { IfErr result (λ e. IsProper (λ _. ⊥) e 0 0) }
+{
+    match read_suite(alloc, bytes) {
+        Ok(suite) => Ok(suite),
+        Err(SuiteRefusal::NoMemory) => Err(LoadFault::NoMemory),
+        Err(SuiteRefusal::Suite { line, why }) => Err(LoadFault::Suite { line, why }),
+    }
+}
+
+/// The suite text of this name.
+#[tactic(auto, unfolding(crate::specs::Loading::suite_in))]
+pub fn suite_in<D: Depot>(alloc: Global, depot: &mut D, name: &Text) -> Result<SuiteText, LoadFault>
+    ensures told { D.told depot.new ≡ D.told depot.old }
+    ensures faults { D.faults depot.old ≤ D.faults depot.new }
+    ensures lines { IfOk result (λ suite. AreLines (loading.lines_of suite)) }
+    ensures few { IfOk result (λ suite. length suite.classes ≤ 1024) }
+    ensures answers { IfSome (D.told depot.old) (λ files. Answers itself result (loading.suite_in files name.now)) }
+    ensures proper { IfErr result (λ e. IsProper (λ read. read ≡ name.now) e (D.faults depot.old) (D.faults depot.new)) }
+{
+    let bytes = read_file(alloc, depot, name, FILE_LIMIT)?;
+    let suite = suite_of_bytes(alloc, bytes.as_slice())?;
+    Ok(suite)
+}
+
+// How a fault of the class file of this name is answered.
+fn class_fault(fault: ClassFault, name: Text) -> LoadFault
+    ensures named { result ≡ loading.class_fault name fault }
+    ensures proper { IsProper (λ _. ⊥) result 0 0 }
+{
+    match fault {
+        ClassFault::NoMemory => LoadFault::NoMemory,
+        fault => LoadFault::Class { name, fault },
+    }
+}
+
+// The class file of this name that the bytes spell.
+fn class_of_bytes(alloc: Global, bytes: &[u8], name: &Text) -> Result<ClassFile, LoadFault>
+    requires { length bytes.now < 2 ^ 32 }
+    ensures answers { Answers itself result (loading.class_answer name.now (class_of bytes.now)) }
+    ensures proper { IfErr result (λ e. IsProper (λ _. ⊥) e 0 0) }
+{
+    match read_class(alloc, bytes) {
+        Ok(class) => Ok(class),
+        Err(fault) => {
+            let name = copy(alloc, name)?;
+            Err(class_fault(fault, name))
+        }
+    }
+}
+
+// How many bytes the next class file may have, where those before it have so many.
+fn room_after(read: u64) -> u64
+    ensures room { result ≡ loading.room_after read }
+    ensures within { result ≤ 1048576 }
+{
+    FILE_LIMIT.min(ALL_LIMIT.saturating_sub(read))
+}
+
+// The class file of this name, and the bytes so far with its own.
+#[tactic(auto, unfolding(crate::specs::Loading::class_in))]
+fn class_in<D: Depot>(
+    alloc: Global,
+    depot: &mut D,
+    read: u64,
+    name: &Text,
+) -> Result<(ClassFile, u64), LoadFault>
+    requires { read ≤ 67108864 }
+    ensures told { D.told depot.new ≡ D.told depot.old }
+    ensures faults { D.faults depot.old ≤ D.faults depot.new }
+    ensures answers { IfSome (D.told depot.old) (λ files. Answers itself result (loading.class_in files read name.now)) }
+    ensures proper { IfErr result (λ e. IsProper (λ read. read ≡ name.now) e (D.faults depot.old) (D.faults depot.new)) }
+    ensures within { IfOk result (λ x. x.1 ≤ 67108864) }
+{
+    let bytes = read_file(alloc, depot, name, room_after(read))?;
+    let class = class_of_bytes(alloc, bytes.as_slice(), name)?;
+    Ok((class, read + bytes.len() as u64))
+}
+
+/// The class files of these names, in order.
+pub fn classes_in<D: Depot>(
+    alloc: Global,
+    depot: &mut D,
+    names: &[Text],
+) -> Result<Items<ClassFile>, LoadFault>
+    ensures told { D.told depot.new ≡ D.told depot.old }
+    ensures faults { D.faults depot.old ≤ D.faults depot.new }
+    ensures count { IfOk result (λ cs. length cs ≡ length names.now) }
+    ensures answers { IfSome (D.told depot.old) (λ files. Answers itself result (loading.classes_in files 0 names.now)) }
+    ensures proper { IfErr result (λ e. IsProper (λ read. IfSome (D.told depot.old) (λ files. loading.IsReadAmong files names.now read)) e (D.faults depot.old) (D.faults depot.new)) }
+{
+    let mut classes = Items::new(alloc);
+    let mut read = 0;
+    for name in names {
+        let (class, now) = class_in(alloc, depot, read, name)?;
+        classes.push(class)?;
+        read = now;
+    }
+    Ok(classes)
+}

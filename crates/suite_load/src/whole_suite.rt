@@ -1,0 +1,40 @@
+//! Loading of a whole suite.
+
+ghost use Rattle.std.specs.Prelude.{◌≡◌, ◌≤◌, IfOk, IfErr, IfSome};
+ghost use Rattle.type_frames.specs.Typing.{IsTyped};
+ghost use Rattle.suite_load.specs.Loading.{IsRead};
+ghost use Rattle.suite_load.specs.LoadAnswers.{LoadAnswers, IsProper};
+
+use crate::depot_files::{classes_in, suite_in};
+use crate::linking::program_of;
+use crate::load_fault::LoadFault;
+use crate::loaded::Loaded;
+use crate::report_names::names_in;
+use et_base::Text;
+use outside::Depot;
+use std::alloc::Global;
+
+/// The checked program of the suite of this name, with the names that reports print; or the first fault.
+///
+/// Faults come in this order: the suite text isn't there (`Absent`), is longer than 1 MiB (`TooLarge`) or has a faulty line
+/// (`Suite`); a class file, in the suite's order, isn't there, is longer than 1 MiB or with those before it than 64 MiB, or
+/// isn't in its grammar (`Class`); the class files don't link (`Link`); a test line names no test (`Suite`); a class breaks a
+/// rule of the type checker (`Check`). `Depot` comes where the depot failed at a file, and `NoMemory` where an allocation was
+/// refused. The bytes of a class file are dropped before the next one is read.
+pub fn load<D: Depot>(alloc: Global, depot: &mut D, name: &Text) -> Result<Loaded, LoadFault>
+    ensures told { D.told depot.new ≡ D.told depot.old }
+    ensures faults { D.faults depot.old ≤ D.faults depot.new }
+    // Which program or fault it is, where the depot's files are told.
+    ensures loads { IfSome (D.told depot.old) (λ files. LoadAnswers files name.now result) }
+    // Whatever the depot tells: a failing depot is named by a file that is read, where its count of faults rose; want of memory
+    // is answered by itself alone, and a line that names no test by its line.
+    ensures proper { IfErr result (λ e. IsProper (λ read. IfSome (D.told depot.old) (λ files. IsRead files name.now read)) e (D.faults depot.old) (D.faults depot.new)) }
+    // The program is typed.
+    ensures typed { IfOk result (λ l. IsTyped l.checked) }
+{
+    let suite = suite_in(alloc, depot, name)?;
+    let classes = classes_in(alloc, depot, suite.classes.as_slice())?;
+    let checked = program_of(alloc, &suite, classes.as_slice())?;
+    let names = names_in(alloc, &suite, checked.program())?;
+    Ok(Loaded { checked, names })
+}
