@@ -1,5 +1,5 @@
 -- Linking and the check joined.
-use Rattle.std.proofs.Common.{◌≡◌, ℕ, List, Option, Some, None, Result, Ok, Err, refl, sym, ap, ◌∙◌, subst}
+use Rattle.std.proofs.Common.{◌≡◌, ℕ, List, Option, Some, None, Ok, Err, refl, sym, ap, subst}
 use Rattle.class_reader.specs.declared.parts.ClassParts.{ClassParts}
 use Rattle.jvm_model.specs.declared.program.Program.{Program}
 use Rattle.class_link.specs.declared.fault.LinkFault.{LinkFault}
@@ -11,9 +11,8 @@ use Rattle.type_frames.specs.declared.fault.CheckFault.TheVariants as checking
 use Rattle.type_frames.specs.Typing.{IsTyped, check_fault}
 use Rattle.type_checker.proofs.Typed.{fault_untyped}
 use Rattle.suite_load.specs.declared.suite_text.SuiteText.{SuiteText}
-use Rattle.suite_load.specs.declared.load_fault.LoadFault.{LoadFault}
 use Rattle.suite_load.specs.declared.load_fault.LoadFault.TheVariants as fault
-use Rattle.suite_load.specs.Loading.{◌>>=◌, lines_of, link_fault, link_answer, typed_answer, loaded_of, checked_of, ReadGives}
+use Rattle.suite_load.specs.Loading.{◌>>=◌, lines_of, link_fault, typed_answer, loaded_of, checked_of, ReadGives}
 use Rattle.suite_load.specs.LoadAnswers.{Checks, check_answer}
 
 no_fault : (p : Program) → IsTyped p → (found : Option CheckFault) → check_fault p ≡ found → found ≡ None
