@@ -1,11 +1,11 @@
 -- What the top call promises: its status, the bytes on the sink and the steps (this project's).
-use Rattle.std.specs.Prelude.{◌≡◌, ◌≢◌, ◌⊎◌, ℕ, ◌+◌, List, ◌++◌, true, Option, None, Err, IfSome}
+use Rattle.std.specs.Prelude.{◌≡◌, ◌≢◌, ◌⊎◌, ℕ, ◌+◌, ◌-◌, ◌^◌, ◌≤◌, List, ◌++◌, length, true, Option, None, IfSome}
 use Rattle.outside.specs.Counts.{Rose}
-use Rattle.outside.specs.Sink.{appended}
+use Rattle.outside.specs.Sink.{appended, HasRoom}
 use Rattle.suite_load.specs.Loading.{Files}
 use Rattle.electrictest.specs.declared.status.Status.{Status}
 use Rattle.electrictest.specs.declared.status.Status.TheVariants as ends
-use Rattle.electrictest.specs.Replies.{suite_word, LoadsFor, fault_line, IsReadFor, IsReport, IsOver, IsAnswer}
+use Rattle.electrictest.specs.Replies.{suite_word, fault_line, IsReadFor, IsReport, IsAnswer}
 
 -- loading is refused for the words only where they have no form, and else by input, by a depot at a file that is read, or
 -- by memory
@@ -18,17 +18,6 @@ NamedEnds told words (ends.Over f) old new = ⊥
 NamedEnds told words ends.Done old new = ⊥
 NamedEnds told words ends.NotPassed old new = ⊥
 NamedEnds told words ends.Sink old new = ⊥
-
--- why there is no report, where the files are told
-abbrev pub Unreported : Files → List (List ℕ) → Status → Type 0
-Unreported files words ends.NoMemory = Unit {0}
-Unreported files words (ends.Depot name) = IsReadFor files words name
-Unreported files words ends.Words = LoadsFor files words (Err ends.Words)
-Unreported files words (ends.Input f) = LoadsFor files words (Err (ends.Input f))
-Unreported files words (ends.Over f) = IsOver files words f
-Unreported files words ends.Done = ⊥
-Unreported files words ends.NotPassed = ⊥
-Unreported files words ends.Sink = ⊥
 
 -- a report is refused for the words only where they have no form, and for the depot only where its count of faults rose
 abbrev pub ReportEnds : List (List ℕ) → Status → ℕ → ℕ → Type 0
@@ -47,21 +36,49 @@ pub record Reported (files : Files) (words : List (List ℕ)) (text : List ℕ) 
   pub report : IsReport files words true text units
   pub steps : now ≡ begun + units
 
--- a part of the text was taken, and the sink's count of faults rose
-pub record Cut (text : List ℕ) (old new : Option (List ℕ)) (before after : ℕ) : Type 0 where
+-- a sink before and after a call: what it tells of its bytes, its room before, and its counts of faults
+pub record SinkChange : Type 0 where
+  pub old : Option (List ℕ)
+  pub new : Option (List ℕ)
+  pub room : Option ℕ
+  pub before : ℕ
+  pub after : ℕ
+
+-- nothing was written
+pub record Untouched (sink : SinkChange) : Type 0 where
+  pub bytes : sink.new ≡ sink.old
+  pub faults : sink.after ≡ sink.before
+
+-- the text was taken; where a told room holds it, the count of faults stood still
+pub record Whole (text : List ℕ) (sink : SinkChange) : Type 0 where
+  pub taken : sink.new ≡ appended sink.old text
+  pub kept : HasRoom sink.room (length text) → sink.after ≡ sink.before
+
+-- a part of the text was taken, and the count of faults rose: no told room holds the text, or the count had ended
+pub record Cut (text : List ℕ) (sink : SinkChange) : Type 0 where
   pub front : List ℕ
   pub back : List ℕ
   pub parts : text ≡ front ++ back
-  pub taken : new ≡ appended old front
-  pub rose : Rose before after
+  pub taken : sink.new ≡ appended sink.old front
+  pub rose : Rose sink.before sink.after
+  pub kept : HasRoom sink.room (length text) → (sink.after ≡ sink.before) × (2 ^ 64 - 1 ≤ sink.before)
 
 -- the text was written and the status stands, or the sink failed
-abbrev pub Writes : List ℕ → Status → Status → Option (List ℕ) → Option (List ℕ) → ℕ → ℕ → Type 0
-Writes text status result old new before after = ((result ≡ status) × (new ≡ appended old text)) ⊎ ((result ≡ ends.Sink) × Cut text old new before after)
+abbrev pub Writes : List ℕ → Status → Status → SinkChange → Type 0
+Writes text status result sink = ((result ≡ status) × Whole text sink) ⊎ ((result ≡ ends.Sink) × Cut text sink)
 
 -- the line of a refusal was written or the sink failed at it, or memory was refused and nothing was written
-abbrev pub Refused : Status → Status → Option (List ℕ) → Option (List ℕ) → ℕ → ℕ → Type 0
-Refused status result old new before after = ((status ≢ ends.NoMemory) × Writes (fault_line status) status result old new before after) ⊎ ((result ≡ ends.NoMemory) × (new ≡ old))
+abbrev pub Refused : Status → Status → SinkChange → Type 0
+Refused status result sink = ((status ≢ ends.NoMemory) × Writes (fault_line status) status result sink) ⊎ ((result ≡ ends.NoMemory) × Untouched sink)
+
+-- What the sink took by each status, whatever the depot tells: nothing where memory was refused, the fault line of a
+-- refusal, and a part of a text where the sink failed.
+abbrev pub Taken : Status → SinkChange → Type 0
+Taken ends.NoMemory sink = Untouched sink
+Taken ends.Sink sink = (text : List ℕ) × Cut text sink
+Taken ends.Done sink = (text : List ℕ) × Whole text sink
+Taken ends.NotPassed sink = (text : List ℕ) × Whole text sink
+Taken s sink = Whole (fault_line s) sink
 
 -- the steps rose by these units, where a report was written
 abbrev pub Counted : Status → ℕ → ℕ → ℕ → Type 0
@@ -69,37 +86,44 @@ Counted ends.Done units begun now = now ≡ begun + units
 Counted ends.NotPassed units begun now = now ≡ begun + units
 Counted _ units begun now = Unit {0}
 
+-- a failing depot is answered only where its count of faults rose
+abbrev pub DepotRose : Status → ℕ → ℕ → Type 0
+DepotRose (ends.Depot name) before after = Rose before after
+DepotRose _ before after = Unit {0}
+
+-- What a call was asked for and counted: the words, the depot's files, its counts of faults, and the counts of steps.
+pub record Asked : Type 0 where
+  pub files : Files
+  pub words : List (List ℕ)
+  pub before : ℕ
+  pub after : ℕ
+  pub begun : ℕ
+  pub now : ℕ
+
 -- a text that answers the words
-pub record Answering (files : Files) (words : List (List ℕ)) (s : Status) (begun now : ℕ) : Type 0 where
+pub record Answering (asked : Asked) (s : Status) : Type 0 where
   pub text : List ℕ
   pub units : ℕ
-  pub answers : IsAnswer files words s text units
-  pub counted : Counted s units begun now
+  pub answers : IsAnswer asked.files asked.words s text units
+  pub counted : Counted s units asked.begun asked.now
+  pub rose : DepotRose s asked.before asked.after
 
 -- it was written as a whole
-pub record Replied (files : Files) (words : List (List ℕ)) (s : Status) (old new : Option (List ℕ)) (begun now : ℕ) : Type 0 where
-  pub reply : Answering files words s begun now
-  pub taken : new ≡ appended old reply.text
+pub record Replied (asked : Asked) (s : Status) (sink : SinkChange) : Type 0 where
+  pub reply : Answering asked s
+  pub whole : Whole reply.text sink
 
 -- a part of it was written
-pub record PartReplied (files : Files) (words : List (List ℕ)) (old new : Option (List ℕ)) (begun now : ℕ) : Type 0 where
+pub record PartReplied (asked : Asked) (sink : SinkChange) : Type 0 where
   pub status : Status
-  pub reply : Answering files words status begun now
-  pub front : List ℕ
-  pub back : List ℕ
-  pub parts : reply.text ≡ front ++ back
-  pub taken : new ≡ appended old front
+  pub reply : Answering asked status
+  pub cut : Cut reply.text sink
 
 -- what is on the sink by each status: nothing where memory was refused, a part where the sink failed, and else the answer
-abbrev pub Served : Files → List (List ℕ) → Status → Option (List ℕ) → Option (List ℕ) → ℕ → ℕ → Type 0
-Served files words ends.NoMemory old new begun now = new ≡ old
-Served files words ends.Sink old new begun now = PartReplied files words old new begun now
-Served files words ends.Done old new begun now = Replied files words ends.Done old new begun now
-Served files words ends.NotPassed old new begun now = Replied files words ends.NotPassed old new begun now
-Served files words ends.Words old new begun now = Replied files words ends.Words old new begun now
-Served files words (ends.Input f) old new begun now = Replied files words (ends.Input f) old new begun now
-Served files words (ends.Depot name) old new begun now = Replied files words (ends.Depot name) old new begun now
-Served files words (ends.Over f) old new begun now = Replied files words (ends.Over f) old new begun now
+abbrev pub Served : Asked → Status → SinkChange → Type 0
+Served asked ends.NoMemory sink = Untouched sink
+Served asked ends.Sink sink = PartReplied asked sink
+Served asked s sink = Replied asked s sink
 
 -- The depot's and the sink's failures are answered only where their counts of faults rose, the words only where they
 -- have no form.

@@ -139,13 +139,21 @@ pub record IsOver (files : Files) (words : List (List ℕ)) (f : OverFault) : Ty
   pub passes : suite_fault loaded.checked ≡ Some found
   pub named : f ≡ over_fault loaded.names found
 
--- The words ask for this status and text, for so many units; a depot may fail at any file that is read.
+-- Why there is no report; a depot may fail at any file that is read.
+abbrev pub Unreported : Files → List (List ℕ) → Status → Type 0
+Unreported files words ends.Words = LoadsFor files words (Err ends.Words)
+Unreported files words (ends.Input f) = LoadsFor files words (Err (ends.Input f))
+Unreported files words (ends.Depot name) = IsReadFor files words name
+Unreported files words (ends.Over f) = IsOver files words f
+Unreported files words ends.NoMemory = Unit {0}
+Unreported files words ends.Done = ⊥
+Unreported files words ends.NotPassed = ⊥
+Unreported files words ends.Sink = ⊥
+
+-- the words ask for this status and text, for so many units
 abbrev pub IsAnswer : Files → List (List ℕ) → Status → List ℕ → ℕ → Type 0
 IsAnswer files words ends.Done text units = IsReport files words true text units
 IsAnswer files words ends.NotPassed text units = IsReport files words false text units
-IsAnswer files words ends.Words text units = LoadsFor files words (Err ends.Words) × (text ≡ fault_line ends.Words)
-IsAnswer files words (ends.Input f) text units = LoadsFor files words (Err (ends.Input f)) × (text ≡ fault_line (ends.Input f))
 IsAnswer files words ends.NoMemory text units = ⊥
-IsAnswer files words (ends.Depot name) text units = IsReadFor files words name × (text ≡ fault_line (ends.Depot name))
 IsAnswer files words ends.Sink text units = ⊥
-IsAnswer files words (ends.Over f) text units = IsOver files words f × (text ≡ fault_line (ends.Over f))
+IsAnswer files words s text units = Unreported files words s × (text ≡ fault_line s)

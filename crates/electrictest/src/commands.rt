@@ -4,7 +4,7 @@ ghost use Rattle.std.specs.Prelude.{◌≡◌, ◌≤◌, ◌+◌, IfOk, IfErr, 
 ghost use Rattle.electrictest.specs.Runnable.{IsRunnable};
 ghost use Rattle.electrictest.specs.declared.status.Status.TheVariants as ends;
 ghost use Rattle.electrictest.specs.Answers.{Answers};
-ghost use Rattle.electrictest.specs.Commands.{NamedEnds, ReportEnds, Unreported, Reported, Writes, Refused, Served, Ends};
+ghost use Rattle.electrictest.specs.Commands.{NamedEnds, ReportEnds, Reported, Writes, Refused, Taken, Served, Ends};
 ghost use Rattle.electrictest.specs.Replies as reply;
 
 use crate::loading::load_named;
@@ -59,7 +59,7 @@ fn reported<D: Depot, L: Ledger>(
     ensures told { D.told depot.new ≡ D.told depot.old }
     ensures faults { D.faults depot.old ≤ D.faults depot.new }
     ensures reports { IfOk result (λ text. IfSome (D.told depot.old) (λ files. Reported files words.now text steps.old steps.new)) }
-    ensures refused { IfErr result (λ e. IfSome (D.told depot.old) (λ files. Unreported files words.now e)) }
+    ensures refused { IfErr result (λ e. IfSome (D.told depot.old) (λ files. reply.Unreported files words.now e)) }
     ensures ends { IfErr result (λ e. ReportEnds words.now e (D.faults depot.old) (D.faults depot.new)) }
 {
     let loaded = load_for(alloc, words, depot)?;
@@ -72,7 +72,7 @@ fn reported<D: Depot, L: Ledger>(
 /// count of faults rose.
 pub fn written<S: Sink>(sink: &mut S, text: &[u8], status: Status) -> Status
     ensures faults { S.faults sink.old ≤ S.faults sink.new }
-    ensures writes { Writes text.now status result (S.told sink.old) (S.told sink.new) (S.faults sink.old) (S.faults sink.new) }
+    ensures writes { Writes text.now status result (record { old = S.told sink.old; new = S.told sink.new; room = S.room sink.old; before = S.faults sink.old; after = S.faults sink.new }) }
 {
     match write_text(sink, text) {
         Ok(()) => status,
@@ -83,7 +83,7 @@ pub fn written<S: Sink>(sink: &mut S, text: &[u8], status: Status) -> Status
 // Writes the line of a refusal; want of memory has none.
 fn refused<S: Sink>(alloc: Global, sink: &mut S, status: Status) -> Status
     ensures faults { S.faults sink.old ≤ S.faults sink.new }
-    ensures writes { Refused status result (S.told sink.old) (S.told sink.new) (S.faults sink.old) (S.faults sink.new) }
+    ensures writes { Refused status result (record { old = S.told sink.old; new = S.told sink.new; room = S.room sink.old; before = S.faults sink.old; after = S.faults sink.new }) }
 {
     match status {
         Status::NoMemory => Status::NoMemory,
@@ -113,7 +113,11 @@ pub fn electric_plain<D: Depot, S: Sink, L: Ledger>(
     ensures told { D.told depot.new ≡ D.told depot.old }
     ensures depot_faults { D.faults depot.old ≤ D.faults depot.new }
     ensures sink_faults { S.faults sink.old ≤ S.faults sink.new }
-    ensures served { IfSome (D.told depot.old) (λ files. Served files words.now result (S.told sink.old) (S.told sink.new) steps.old steps.new) }
+    // What it answers, where the depot's files are told.
+    ensures served { IfSome (D.told depot.old) (λ files. Served (record { files = files; words = words.now; before = D.faults depot.old; after = D.faults depot.new; begun = steps.old; now = steps.new }) result (record { old = S.told sink.old; new = S.told sink.new; room = S.room sink.old; before = S.faults sink.old; after = S.faults sink.new })) }
+    // What the sink took, whatever the depot tells.
+    ensures taken { Taken result (record { old = S.told sink.old; new = S.told sink.new; room = S.room sink.old; before = S.faults sink.old; after = S.faults sink.new }) }
+    // When a depot, a sink or the words are answered.
     ensures ends { Ends words.now result (D.faults depot.old) (D.faults depot.new) (S.faults sink.old) (S.faults sink.new) }
 {
     match reported(alloc, words, depot, steps) {

@@ -1,6 +1,10 @@
+pub mod CheckLaws
 pub mod ContentLaws
+pub mod GoodLines
 pub mod LineLaws
+pub mod LoadLaws
 pub mod NumberLaws
 pub mod ReadingLaws
 pub mod SetLaws
 pub mod SummaryLaws
+pub mod WordLaws

@@ -1,11 +1,13 @@
--- Reading digits one by one, with a limit, gives their value where it is within the limit.
-use Rattle.std.proofs.Common.{◌≡◌, ℕ, ◌+◌, ◌-◌, ◌*◌, ◌<◌, ◌≤◌, Bool, true, false, cond, ◌&&◌, nat_le, List, [], ◌∷◌, Option, Some, None, refl, arith}
+-- Reading digits one by one, with a limit, gives their value where it is within the limit; and what a budget can be.
+use Rattle.std.proofs.Common.{◌≡◌, ℕ, ◌+◌, ◌-◌, ◌*◌, ◌<◌, ◌≤◌, Bool, true, false, cond, ◌&&◌, nat_le, eqb, List, [], ◌∷◌, length, slice_index, Option, Some, None, refl, arith}
 use Rattle.std.specs.Option.{option_and_then}
 use Rattle.std.specs.Char.{is_ascii_digit, digit_value}
 use Rattle.std.specs.Str.{all_ascii_digits}
-use Rattle.std.specs.Str.Parse.{digits_value_after}
-use Rattle.std.proofs.lemmas.Bool.{le-leb, leb-true, leb-false, ltb-false}
-use Rattle.suite_load.specs.NumberForms.{with_digit, digits_up_to}
+use Rattle.std.specs.Str.Parse.{digits_value, digits_value_after}
+use Rattle.std.proofs.lemmas.Bool.{le-leb, leb-true, leb-false, ltb-false, and_parts, or_parts}
+use Rattle.std.proofs.lemmas.Bool.Decides.{nat_tests}
+use Rattle.std.proofs.lemmas.Option.{cond_some}
+use Rattle.suite_load.specs.NumberForms.{with_digit, digits_up_to, number_up_to, budget_of}
 
 -- the value after more digits, if it is never above the limit
 abbrev pub digits_after : ℕ → ℕ → List ℕ → Option ℕ
@@ -38,3 +40,29 @@ digits_after_is most (b ∷ bs) n h = step most n b bs (is_ascii_digit b) (nat_l
 pub digits_by_steps : (most : ℕ) (bs : List ℕ) → digits_after most 0 bs ≡ digits_up_to most bs
 unfolding digits_up_to
 digits_by_steps most bs = digits_after_is most bs 0 (omega arith)
+
+some_not : {A : Type 0} (b : Bool) (o : Option A) (x : A) → cond b None o ≡ Some x → (b ≡ false) × (o ≡ Some x)
+some_not true o x h = absurd cc
+some_not false o x h = (refl, h)
+
+-- digits that don't begin with a zero are more than 0
+first_counts : (bytes : List ℕ) → eqb (length bytes) 0 ≡ false → eqb (slice_index bytes 0) 48 ≡ false → all_ascii_digits bytes ≡ true → 0 < digits_value 10 bytes
+first_counts [] some first digits = absurd cc
+first_counts (b ∷ bs) some first digits =
+    let d : is_ascii_digit b ≡ true = (and_parts _ _ digits).0 in
+    let e = digit_is b d in
+    let low : 48 < b = grind (arith, nat_tests) in
+    let g = value_grows (0 * 10 + digit_value b) bs in
+    omega arith
+
+pub budget_bounds : (bytes : List ℕ) (units : ℕ) → budget_of bytes ≡ Some units → (0 < units) × (units ≤ 67108864)
+unfolding budget_of number_up_to digits_up_to
+budget_bounds bytes units h =
+    let first = some_not (eqb (slice_index bytes 0) 48) _ units h in
+    let whole = some_not _ _ units first.1 in
+    let digits = cond_some _ (digits_value 10 bytes) units whole.1 in
+    let each = and_parts _ _ digits.0 in
+    let some = or_parts _ _ whole.0 in
+    let low = first_counts bytes some.0 first.0 each.0 in
+    let high = leb-true _ _ each.1 in
+    (omega (arith, digits.1), omega (arith, digits.1))

@@ -5,6 +5,8 @@ use Rattle.outside.specs.declared.depot.DepotRefusal.{DepotRefusal}
 use Rattle.outside.specs.declared.depot.DepotRefusal.TheVariants as refused
 use Rattle.class_reader.specs.declared.parts.ClassParts.{ClassParts}
 use Rattle.jvm_model.specs.declared.program.Program.{Program}
+use Rattle.type_frames.specs.declared.fault.CheckFault.{CheckFault}
+use Rattle.type_frames.specs.declared.fault.CheckFault.TheVariants as checking
 use Rattle.suite_load.specs.declared.suite_text.SuiteText.{SuiteText}
 use Rattle.suite_load.specs.declared.load_fault.LoadFault.{LoadFault}
 use Rattle.suite_load.specs.declared.load_fault.LoadFault.TheVariants as fault
@@ -47,6 +49,11 @@ refusal_of refused.Absent name = fault.Absent name
 refusal_of refused.TooLong name = fault.TooLarge name
 refusal_of refused.Failed name = fault.Depot name
 refusal_of refused.NoMemory name = fault.NoMemory
+
+-- how a fault of the check is answered
+abbrev pub check_answer : CheckFault → LoadFault
+check_answer checking.NoMemory = fault.NoMemory
+check_answer f = fault.Check f
 
 -- loading the suite of this name answers this
 abbrev pub LoadAnswers : Files → List ℕ → Result Loaded LoadFault → Type 0

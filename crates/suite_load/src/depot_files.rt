@@ -80,11 +80,7 @@ fn suite_of_bytes(alloc: Global, bytes: &[u8]) -> Result<SuiteText, LoadFault>
 
 /// The suite text of this name.
 #[tactic(auto, unfolding(crate::specs::Loading::suite_in))]
-pub fn suite_in<D: Depot>(
-    alloc: Global,
-    depot: &mut D,
-    name: &Text,
-) -> Result<SuiteText, LoadFault>
+pub fn suite_in<D: Depot>(alloc: Global, depot: &mut D, name: &Text) -> Result<SuiteText, LoadFault>
     ensures told { D.told depot.new ≡ D.told depot.old }
     ensures faults { D.faults depot.old ≤ D.faults depot.new }
     ensures lines { IfOk result (λ suite. AreLines (loading.lines_of suite)) }

@@ -9,6 +9,8 @@ mod line_forms;
 mod lines_before;
 mod linking;
 mod load_fault;
+#[cfg(test)]
+mod load_tests;
 mod loaded;
 mod name_set;
 mod names;
@@ -18,9 +20,9 @@ mod suite_line;
 mod suite_reading;
 mod suite_text;
 mod test_line;
-mod whole_suite;
 #[cfg(test)]
 mod tests;
+mod whole_suite;
 
 pub use load_fault::LoadFault;
 pub use loaded::Loaded;

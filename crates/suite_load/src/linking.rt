@@ -4,7 +4,7 @@ ghost use Rattle.std.specs.Prelude.{◌≡◌, ◌≤◌, ◌<◌, IfOk, IfErr, 
 ghost use Rattle.class_link.specs.Link.{AreLines};
 ghost use Rattle.type_frames.specs.Typing.{IsTyped};
 ghost use Rattle.suite_load.specs.Loading as loading;
-ghost use Rattle.suite_load.specs.LoadAnswers.{Checks};
+ghost use Rattle.suite_load.specs.LoadAnswers.{Checks, DepotFails, check_answer};
 
 use crate::load_fault::LoadFault;
 use crate::suite_text::{FileLine, SuiteText, TestLine, Why};
@@ -91,6 +91,16 @@ fn link_fault(suite: &SuiteText, fault: LinkFault) -> LoadFault
     }
 }
 
+// How a fault of the check is answered.
+fn check_fault(fault: CheckFault) -> LoadFault
+    ensures { result ≡ check_answer fault }
+{
+    match fault {
+        CheckFault::NoMemory => LoadFault::NoMemory,
+        fault => LoadFault::Check { fault },
+    }
+}
+
 /// The checked program of a suite text and its class files.
 pub fn program_of(
     alloc: Global,
@@ -100,6 +110,7 @@ pub fn program_of(
     requires few { length classes.now ≤ 1024 }
     requires lines { AreLines (loading.lines_of suite.now) }
     ensures goes { Checks suite.now classes.now result }
+    ensures depot { IfErr result (λ e. DepotFails (λ _. ⊥) e 0 0) }
     ensures typed { IfOk result IsTyped }
 {
     let lines = lines_of(alloc, suite)?;
@@ -109,7 +120,6 @@ pub fn program_of(
     };
     match check(alloc, program) {
         Ok(checked) => Ok(checked),
-        Err(CheckFault::NoMemory) => Err(LoadFault::NoMemory),
-        Err(fault) => Err(LoadFault::Check { fault }),
+        Err(fault) => Err(check_fault(fault)),
     }
 }

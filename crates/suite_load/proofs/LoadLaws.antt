@@ -1,0 +1,152 @@
+-- Refusals of loading, and its parts joined.
+use Rattle.std.proofs.Common.{◌≡◌, ◌≤◌, ◌<◌, ◌⊎◌, ℕ, zero, ◌+◌, List, [], ◌∷◌, ◌++◌, length, take, drop, get_or, Option, Some, None, Result, Ok, Err, IfSome, refl, sym, ap, ◌∙◌, subst, inl, inr, arith}
+use Rattle.std.proofs.lemmas.List.{take_more, take_all, take-append-drop, drop_more, get_or_default}
+use Rattle.outside.specs.Counts.{Rose}
+use Rattle.class_reader.specs.declared.parts.ClassParts.{ClassParts}
+use Rattle.jvm_model.specs.declared.program.Names.{Names}
+use Rattle.jvm_model.specs.declared.program.Program.{Program}
+use Rattle.suite_load.specs.declared.suite_text.SuiteText.{SuiteText}
+use Rattle.suite_load.specs.declared.load_fault.LoadFault.{LoadFault}
+use Rattle.suite_load.specs.declared.load_fault.LoadFault.TheVariants as fault
+use Rattle.suite_load.specs.declared.loaded.Loaded.{Loaded}
+use Rattle.suite_load.specs.Loading.{◌>>=◌, Files, suite_in, class_in, classes_in, read_in, Goes, Loads, IsReadAmong, names_in}
+use Rattle.suite_load.specs.LoadAnswers.{Refuses, DepotFails, LoadAnswers, Checks}
+
+-- ---- refusals
+
+pub refuses_weaker : (P Q : LoadFault → Type 0) (e : LoadFault) → ((f : LoadFault) → P f → Q f) → Refuses P e → Refuses Q e
+refuses_weaker P Q fault.NoMemory h r = tt
+refuses_weaker P Q (fault.Depot name) h r = tt
+refuses_weaker P Q (fault.Absent name) h r = h (fault.Absent name) r
+refuses_weaker P Q (fault.TooLarge name) h r = h (fault.TooLarge name) r
+refuses_weaker P Q (fault.Suite line why) h r = h (fault.Suite line why) r
+refuses_weaker P Q (fault.Class name f) h r = h (fault.Class name f) r
+refuses_weaker P Q (fault.Link f) h r = h (fault.Link f) r
+refuses_weaker P Q (fault.Check f) h r = h (fault.Check f) r
+
+rose_before : (first old new : ℕ) → first ≤ old → Rose old new → Rose first new
+rose_before first old new le (inl lt) = inl (omega arith)
+rose_before first old new le (inr e) = inr e
+
+-- a failing depot's file is read in the whole where it is in the part, which began later
+pub depot_weaker : (P Q : List ℕ → Type 0) (e : LoadFault) (first old new : ℕ) → ((read : List ℕ) → P read → Q read) → first ≤ old → DepotFails P e old new → DepotFails Q e first new
+depot_weaker P Q fault.NoMemory first old new h le r = tt
+depot_weaker P Q (fault.Depot name) first old new h le r = (h name r.0, rose_before first old new le r.1)
+depot_weaker P Q (fault.Absent name) first old new h le r = tt
+depot_weaker P Q (fault.TooLarge name) first old new h le r = tt
+depot_weaker P Q (fault.Suite line why) first old new h le r = tt
+depot_weaker P Q (fault.Class name f) first old new h le r = tt
+depot_weaker P Q (fault.Link f) first old new h le r = tt
+depot_weaker P Q (fault.Check f) first old new h le r = tt
+
+-- ---- class files one after another
+
+-- the class files of these names are these, and with them so many bytes are read
+abbrev pub AreRead : Files → ℕ → List (List ℕ) → List ClassParts → ℕ → Type 0
+AreRead files read [] classes now = (classes ≡ []) × (now ≡ read)
+AreRead files read (name ∷ names) classes now =
+    (c : ClassParts) × (next : ℕ) × (rest : List ClassParts) × (class_in files read name ≡ Ok (c, next)) × AreRead files next names rest now × (classes ≡ c ∷ rest)
+
+read_more : (files : Files) (read : ℕ) (front : List (List ℕ)) (name : List ℕ) (classes : List ClassParts) (now next : ℕ) (c : ClassParts) → AreRead files read front classes now → class_in files now name ≡ Ok (c, next) → AreRead files read (front ++ name ∷ []) (classes ++ c ∷ []) next
+read_more files read [] name classes now next c h e = (c, next, [], subst (λ n. class_in files n name ≡ Ok (c, next)) h.1 e, (refl, refl), ap (λ cs. cs ++ c ∷ []) h.0)
+read_more files read (first ∷ front) name classes now next c (d, then, rest, g, more, f) e = (d, then, rest ++ c ∷ [], g, read_more files then front name rest now next c more e, ap (λ cs. cs ++ c ∷ []) f)
+
+read_gives : (files : Files) (read : ℕ) (names : List (List ℕ)) (classes : List ClassParts) (now : ℕ) → AreRead files read names classes now → classes_in files read names ≡ Ok classes
+unfolding classes_in
+read_gives files read [] classes now h = ap Ok (sym h.0)
+read_gives files read (name ∷ names) classes now (c, next, rest, g, more, f) =
+    ap (λ r. r >>= λ x. classes_in files x.1 names >>= λ cs. Ok (x.0 ∷ cs)) g ∙ ap (λ r. r >>= λ cs. Ok (c ∷ cs)) (read_gives files next names rest now more) ∙ ap Ok (sym f)
+
+read_fails : (files : Files) (read : ℕ) (front : List (List ℕ)) (name : List ℕ) (back : List (List ℕ)) (classes : List ClassParts) (now : ℕ) (e : LoadFault) → AreRead files read front classes now → class_in files now name ≡ Err e → classes_in files read (front ++ (name ∷ back)) ≡ Err e
+unfolding classes_in
+read_fails files read [] name back classes now e h g = ap (λ r. r >>= λ x. classes_in files x.1 back >>= λ cs. Ok (x.0 ∷ cs)) (subst (λ n. class_in files n name ≡ Err e) h.1 g)
+read_fails files read (first ∷ front) name back classes now e (c, next, rest, k, more, f) g =
+    ap (λ r. r >>= λ x. classes_in files x.1 (front ++ (name ∷ back)) >>= λ cs. Ok (x.0 ∷ cs)) k ∙ ap (λ r. r >>= λ cs. Ok (c ∷ cs)) (read_fails files next front name back rest now e more g)
+
+-- the names before a place, the one there, and those behind it
+parted : (names : List (List ℕ)) (i : ℕ) (name : List ℕ) → i < length names → name ≡ get_or names i name → names ≡ take i names ++ (name ∷ drop (i + 1) names)
+parted names i name lt e = sym (take-append-drop i names) ∙ ap (λ xs. take i names ++ xs) (drop_more names i name lt ∙ ap (λ n. n ∷ drop (i + 1) names) (sym e))
+
+-- ---- the same where the depot tells its files
+
+abbrev pub SoFar : Option Files → List (List ℕ) → List ClassParts → ℕ → Type 0
+SoFar told front classes now = IfSome told (λ files. AreRead files 0 front classes now)
+
+pub so_far_none : (told : Option Files) (classes : List ClassParts) → classes ≡ [] → SoFar told [] classes 0
+so_far_none None classes e = tt
+so_far_none (Some files) classes e = (e, refl)
+
+pub so_far_more : (told was : Option Files) (names : List (List ℕ)) (i : ℕ) (name : List ℕ) (classes : List ClassParts) (now next : ℕ) (c : ClassParts) → was ≡ told → i < length names → name ≡ get_or names i name →
+    SoFar told (take i names) classes now → IfSome was (λ files. class_in files now name ≡ Ok (c, next)) → SoFar told (take (i + 1) names) (classes ++ c ∷ []) next
+so_far_more None was names i name classes now next c w lt e h g = tt
+so_far_more (Some files) was names i name classes now next c w lt e h g =
+    let there = subst (λ o. IfSome o (λ files. class_in files now name ≡ Ok (c, next))) w g in
+    let longer = take_more names i name lt ∙ ap (λ n. take i names ++ n ∷ []) (sym e) in
+    subst (λ ns. AreRead files 0 ns (classes ++ c ∷ []) next) (sym longer) (read_more files 0 (take i names) name classes now next c h there)
+
+pub so_far_fails : (told was : Option Files) (names : List (List ℕ)) (i : ℕ) (name : List ℕ) (classes : List ClassParts) (now : ℕ) (e : LoadFault) → was ≡ told → i < length names → name ≡ get_or names i name →
+    SoFar told (take i names) classes now → IfSome was (λ files. Refuses (λ f. class_in files now name ≡ Err f) e) → IfSome told (λ files. Refuses (λ f. classes_in files 0 names ≡ Err f) e)
+so_far_fails None was names i name classes now e w lt at h g = tt
+so_far_fails (Some files) was names i name classes now e w lt at h g =
+    let there = subst (λ o. IfSome o (λ files. Refuses (λ f. class_in files now name ≡ Err f) e)) w g in
+    refuses_weaker (λ f. class_in files now name ≡ Err f) (λ f. classes_in files 0 names ≡ Err f) e
+    (λ f k. ap (classes_in files 0) (parted names i name lt at) ∙ read_fails files 0 (take i names) name (drop (i + 1) names) classes now f h k) there
+
+pub so_far_all : (told : Option Files) (names : List (List ℕ)) (i : ℕ) (classes : List ClassParts) (now : ℕ) → length names ≤ i → SoFar told (take i names) classes now → IfSome told (λ files. classes_in files 0 names ≡ Ok classes)
+so_far_all None names i classes now le h = tt
+so_far_all (Some files) names i classes now le h = read_gives files 0 names classes now (subst (λ ns. AreRead files 0 ns classes now) (take_all i names le) h)
+
+read_here : (told : Option Files) (names : List (List ℕ)) (i : ℕ) (name : List ℕ) (classes : List ClassParts) (now : ℕ) → i < length names → name ≡ get_or names i name → SoFar told (take i names) classes now → IfSome told (λ files. IsReadAmong files names name)
+read_here None names i name classes now lt e h = tt
+read_here (Some files) names i name classes now lt e h = (take i names, drop (i + 1) names, parted names i name lt e, rw (read_gives files 0 (take i names) classes now h) refl)
+
+pub so_far_depot : (told : Option Files) (names : List (List ℕ)) (i : ℕ) (name : List ℕ) (classes : List ClassParts) (now : ℕ) (e : LoadFault) (first old new : ℕ) → i < length names → name ≡ get_or names i name → SoFar told (take i names) classes now → first ≤ old →
+    DepotFails (λ read. read ≡ name) e old new → DepotFails (λ read. IfSome told (λ files. IsReadAmong files names read)) e first new
+so_far_depot told names i name classes now e first old new lt at h le d =
+    depot_weaker (λ read. read ≡ name) (λ read. IfSome told (λ files. IsReadAmong files names read)) e first old new
+    (λ read same. subst (λ n. IfSome told (λ files. IsReadAmong files names n)) (sym same) (read_here told names i name classes now lt at h)) le d
+
+-- ---- loading as a whole
+
+read_done : (files : Files) (name : List ℕ) (suite : SuiteText) (classes : List ClassParts) → suite_in files name ≡ Ok suite → classes_in files 0 suite.classes ≡ Ok classes → read_in files name ≡ Ok (suite, classes)
+unfolding read_in
+read_done files name suite classes e h = ap (λ r. r >>= λ s. classes_in files 0 s.classes >>= λ cs. Ok (s, cs)) e ∙ ap (λ r. r >>= λ cs. Ok (suite, cs)) h
+
+-- the suite text isn't read
+pub unread_suite : (told : Option Files) (name : List ℕ) (e : LoadFault) → IfSome told (λ files. Refuses (λ f. suite_in files name ≡ Err f) e) → IfSome told (λ files. LoadAnswers files name (Err e))
+unfolding read_in
+unread_suite None name e h = tt
+unread_suite (Some files) name e h =
+    refuses_weaker (λ f. suite_in files name ≡ Err f) (λ f. Loads files name (Err f)) e
+    (λ f k. subst (λ r. Goes r (Err f)) (sym (ap (λ r. r >>= λ s. classes_in files 0 s.classes >>= λ cs. Ok (s, cs)) k)) refl) h
+
+-- a class file isn't read
+pub unread_class : (told was : Option Files) (name : List ℕ) (suite : SuiteText) (names : List (List ℕ)) (e : LoadFault) → was ≡ told → names ≡ suite.classes → IfSome told (λ files. suite_in files name ≡ Ok suite) → IfSome was (λ files. Refuses (λ f. classes_in files 0 names ≡ Err f) e) →
+    IfSome told (λ files. LoadAnswers files name (Err e))
+unfolding read_in
+unread_class None was name suite names e w n s h = tt
+unread_class (Some files) was name suite names e w n s h =
+    let there = subst (λ o. IfSome o (λ files. Refuses (λ f. classes_in files 0 names ≡ Err f) e)) w h in
+    refuses_weaker (λ f. classes_in files 0 names ≡ Err f) (λ f. Loads files name (Err f)) e
+    (λ f k.
+    let whole = ap (λ r. r >>= λ t. classes_in files 0 t.classes >>= λ cs. Ok (t, cs)) s ∙ ap (λ r. r >>= λ cs. Ok (suite, cs)) (ap (classes_in files 0) (sym n) ∙ k) in
+    subst (λ r. Goes r (Err f)) (sym whole) refl) there
+
+-- the files are read
+pub all_read : (told was : Option Files) (name : List ℕ) (suite : SuiteText) (names : List (List ℕ)) (classes : List ClassParts) → was ≡ told → names ≡ suite.classes → IfSome told (λ files. suite_in files name ≡ Ok suite) → IfSome was (λ files. classes_in files 0 names ≡ Ok classes) →
+    IfSome told (λ files. read_in files name ≡ Ok (suite, classes))
+all_read None was name suite names classes w n s h = tt
+all_read (Some files) was name suite names classes w n s h =
+    let there = subst (λ o. IfSome o (λ files. classes_in files 0 names ≡ Ok classes)) w h in
+    read_done files name suite classes s (ap (classes_in files 0) (sym n) ∙ there)
+
+pub not_checked : (told : Option Files) (name : List ℕ) (suite : SuiteText) (classes : List ClassParts) (e : LoadFault) → IfSome told (λ files. read_in files name ≡ Ok (suite, classes)) → Refuses (λ f. Goes (Ok (suite, classes)) (Err f)) e → IfSome told (λ files. LoadAnswers files name (Err e))
+not_checked None name suite classes e r h = tt
+not_checked (Some files) name suite classes e r h = refuses_weaker (λ f. Goes (Ok (suite, classes)) (Err f)) (λ f. Loads files name (Err f)) e (λ f k. subst (λ x. Goes x (Err f)) (sym r) k) h
+
+pub loads_all : (told : Option Files) (name : List ℕ) (suite : SuiteText) (classes : List ClassParts) (p q : Program) (names : Names) → names ≡ names_in suite q → q ≡ p → IfSome told (λ files. read_in files name ≡ Ok (suite, classes)) → Checks suite classes (Ok p) →
+    IfSome told (λ files. LoadAnswers files name (Ok (record { checked = p; names = names })))
+loads_all None name suite classes p q names e s r h = tt
+loads_all (Some files) name suite classes p q names e s r h =
+    let made : Names → Loaded = λ n. record { checked = p; names = n } in
+    subst (λ x. Goes x (Ok (made names))) (sym r) (subst (λ n. Goes (Ok (suite, classes)) (Ok (made n))) (sym (e ∙ ap (names_in suite) s)) h)

@@ -1,0 +1,33 @@
+use Rattle.std.proofs.Common.{◌≡◌, ◌<◌, length, ◌∙◌, arith}
+use Rattle.std.proofs.lemmas.List.{length_push}
+use Rattle.std.proofs.lemmas.Result.{err_from_is_err_and}
+use Rattle.suite_load.proofs.LoadLaws.{so_far_more, so_far_fails, so_far_all, so_far_depot}
+use Rattle.suite_load.proofs.depot_files.classes_in.Goals as goal
+
+pub returns-in_err-class-clause-answers : goal.returns-in_err-class-clause-answers
+returns-in_err-class-clause-answers g c =
+    let at = c.loop-name in
+    let p = err_from_is_err_and c.from_residual.result c.from_residual.ensures.1 in
+    rw (p.1, p.2) (so_far_fails _ _ c.args.names.now at.name-index c.name-item.result at.classes at.read _ at.invariant.told (omega arith) c.name-item.is at.invariant.files c.in_err-class.ensures.answers)
+
+pub returns-in_err-class-clause-depot : goal.returns-in_err-class-clause-depot
+returns-in_err-class-clause-depot g c =
+    let at = c.loop-name in
+    let p = err_from_is_err_and c.from_residual.result c.from_residual.ensures.1 in
+    rw (p.1, p.2) (so_far_depot _ c.args.names.now at.name-index c.name-item.result at.classes at.read _ _ _ _ (omega arith) c.name-item.is at.invariant.files at.invariant.faults c.in_err-class.ensures.depot)
+
+pub loop-name-preserved : goal.loop-name-preserved
+loop-name-preserved g c =
+    let at = c.loop-name in
+    record {
+      told = c.class_in.ensures.told ∙ at.invariant.told;
+      faults = (let was = at.invariant.faults in let more = c.class_in.ensures.faults in omega arith);
+      within = c.in_ok-class.ensures.within;
+      count = rw c.in_ok-push.ensures.pushed (length_push at.classes c.in_ok-class.class ∙ (let was = at.invariant.count in omega arith));
+      files = rw c.in_ok-push.ensures.pushed (so_far_more _ _ c.args.names.now at.name-index c.name-item.result at.classes at.read c.in_ok-class.now c.in_ok-class.class at.invariant.told (omega arith) c.name-item.is at.invariant.files c.in_ok-class.ensures.answers);
+    }
+
+pub returns-clause-answers : goal.returns-clause-answers
+returns-clause-answers g c =
+    let at = c.loop-name in
+    so_far_all _ c.args.names.now at.name-index at.classes at.read (omega arith) at.invariant.files
