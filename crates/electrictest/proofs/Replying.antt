@@ -83,8 +83,11 @@ refused_at : (asked : Asked) (s result : Status) (sink : SinkChange) → Unrepor
 refused_at asked s result sink r e (inr h) = subst (λ z. Served asked z sink) (sym h.0) h.1
 refused_at asked s result sink r e (inl (n, w)) =
     let reply : Answering asked s = record {
-      text = fault_line s; units = 0; answers = line_answers asked.files asked.words s n r;
-      counted = line_counted asked.words s asked.before asked.after asked.begun asked.now e; rose = line_rose asked.words s asked.before asked.after e;
+      text = fault_line s;
+      units = 0;
+      answers = line_answers asked.files asked.words s n r;
+      counted = line_counted asked.words s asked.before asked.after asked.begun asked.now e;
+      rose = line_rose asked.words s asked.before asked.after e;
     } in
     elim w [
       | inl h ↦ subst (λ z. Served asked z sink) (sym h.0) (line_served asked s sink n e (record { reply = reply; whole = h.1 }))
