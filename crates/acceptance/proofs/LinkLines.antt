@@ -1,5 +1,5 @@
 -- The lines of a suite with one test at most and no files.
-use Rattle.std.proofs.Common.{◌≡◌, ℕ, ◌≤◌, ◌<◌, List, [], ◌∷◌, length, Bool, true, ◌&&◌, ◌||◌, nat_eq, refl, sym, ◌∙◌, ap, arith}
+use Rattle.std.proofs.Common.{◌≡◌, ℕ, ◌≤◌, ◌<◌, List, [], ◌∷◌, ◌++◌, length, Bool, true, ◌&&◌, ◌||◌, nat_eq, refl, sym, ◌∙◌, ap, arith}
 use Rattle.std.specs.List.{list_all}
 use Rattle.std.proofs.lemmas.Bool.{and_parts, and_from, or_left}
 use Rattle.jvm_model.specs.Linked.{is_word}
@@ -25,5 +25,12 @@ words : (us : List ℕ) → list_all is_word us ≡ true → list_all (λ u. is_
 words [] e = refl
 words (u ∷ us) e = let q = and_parts (is_word u) (list_all is_word us) e in and_from (is_word u || nat_eq u 47) (list_all (λ v. is_word v || nat_eq v 47) us) (or_left (is_word u) (nat_eq u 47) q.0) (words us q.1)
 
-pub named : (x : TestLine) → list_all is_word x.class ≡ true → list_all is_word x.method ≡ true → list_all is_test_name (x ∷ []) ≡ true
+named : (x : TestLine) → list_all is_word x.class ≡ true → list_all is_word x.method ≡ true → list_all is_test_name (x ∷ []) ≡ true
 named x c m = and_from (is_test_name x) true (and_from (list_all is_word x.method) (list_all (λ u. is_word u || nat_eq u 47) x.class) m (words x.class c)) refl
+
+-- a test that was put behind none
+pub one_test : (front tests : List TestLine) (x : TestLine) (files : List (List ℕ × List ℕ)) → front ≡ [] → tests ≡ front ++ x ∷ [] → files ≡ [] → list_all is_word x.class ≡ true → list_all is_word x.method ≡ true → AreLines (record { budget = 1; tests = tests; files = files })
+one_test front tests x files empty made none c m =
+    let one : tests ≡ x ∷ [] = made ∙ ap (λ ts. ts ++ x ∷ []) empty in
+    let few : length tests ≡ 1 = ap length one in
+    are_lines _ refl (omega arith) (ap (list_all is_test_name) one ∙ named x c m) none

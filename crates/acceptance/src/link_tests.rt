@@ -119,8 +119,8 @@ fn end_of_one(alloc: Global, bytes: &[u8]) -> Result<Text, Fail> {
     Ok(end_of(alloc, &classes, &no_lines(alloc))?)
 }
 
-// A class file for each rule, and what comes of it: class, method, place and rule.
-const RULES: [(&[u8], &[u8]); 14] = [
+// A class file for each rule, and others, and what comes of each: class, method, place and rule.
+const ENDS: [(&[u8], &[u8]); 15] = [
     (&RETURN_CLASS, b"checked"),
     (&made::POP_OF_NOTHING, b"rule T 1 0 1"),
     (&made::LENGTH_OF_AN_INT, b"rule T 1 1 2"),
@@ -135,12 +135,13 @@ const RULES: [(&[u8], &[u8]); 14] = [
     (&made::CALL_OF_CLINIT, b"rule T 1 0 11"),
     (&made::NO_FRAME_AT_A_TARGET, b"no-frame T 1 3"),
     (&made::FLOAT_FIELD, b"unsupported T f"),
+    (&INNER, b"missing Outer$In Outer"),
 ];
 
 #[test]
 fn each_rule_has_its_class_file(rt: HostRuntime) -> Result<(), Fail> {
     let alloc = rt.alloc();
-    for (bytes, end) in RULES {
+    for (bytes, end) in ENDS {
         assert!(rt; end_of_one(alloc, bytes)?.as_slice() == end, "{end:?}");
     }
     Ok(())
@@ -170,7 +171,7 @@ fn a_changed_byte_is_a_fault_of_linking_or_of_the_check(rt: HostRuntime) -> Resu
 }
 
 #[test]
-fn classes_that_do_not_belong_together_are_named(rt: HostRuntime) -> Result<(), Fail> {
+fn a_class_that_is_given_twice_is_named(rt: HostRuntime) -> Result<(), Fail> {
     let alloc = rt.alloc();
     let twice = [
         read_class(alloc, &RETURN_CLASS)?,
@@ -178,7 +179,6 @@ fn classes_that_do_not_belong_together_are_named(rt: HostRuntime) -> Result<(), 
     ];
     let end = end_of(alloc, &twice, &no_lines(alloc))?;
     assert!(rt; end.as_slice() == b"duplicate T".as_slice());
-    assert!(rt; end_of_one(alloc, &INNER)?.as_slice() == b"missing Outer$In Outer".as_slice());
     Ok(())
 }
 
@@ -204,17 +204,33 @@ fn a_line_that_is_no_test_is_named(rt: HostRuntime) -> Result<(), Fail> {
     Ok(())
 }
 
+// The class files of the usual compiler, which belong together.
+const TOGETHER: [&[u8]; 5] = [
+    &made::USES,
+    &made::USES_PART,
+    &made::SHAPE,
+    &made::SHAPE_1,
+    &made::BASE,
+];
+
+fn end_of_five(alloc: Global, files: &[&[u8]; 5], lines: &TestLines) -> Result<Text, Fail>
+    requires { AreLines lines.now }
+{
+    let classes = [
+        read_class(alloc, files[0])?,
+        read_class(alloc, files[1])?,
+        read_class(alloc, files[2])?,
+        read_class(alloc, files[3])?,
+        read_class(alloc, files[4])?,
+    ];
+    Ok(end_of(alloc, &classes, lines)?)
+}
+
 #[test]
 fn classes_of_the_usual_compiler_are_checked(rt: HostRuntime) -> Result<(), Fail> {
     let alloc = rt.alloc();
-    let classes = [
-        read_class(alloc, &made::USES)?,
-        read_class(alloc, &made::USES_PART)?,
-        read_class(alloc, &made::SHAPE)?,
-        read_class(alloc, &made::SHAPE_1)?,
-        read_class(alloc, &made::BASE)?,
-    ];
-    let end = end_of(alloc, &classes, &one_line(alloc, &USES, &TEST_ALL)?)?;
+    let lines = one_line(alloc, &USES, &TEST_ALL)?;
+    let end = end_of_five(alloc, &TOGETHER, &lines)?;
     assert!(rt; end.as_slice() == b"checked".as_slice());
     Ok(())
 }
