@@ -9,7 +9,7 @@ use crate::class_files::INNER;
 use crate::files::RETURN_CLASS;
 use crate::link_classes as made;
 use class_link::{LinkFault, TestLine, TestLines, link};
-use class_reader::{ClassFile, read_class};
+use class_reader::{ClassFault, ClassFile, read_class};
 use et_base::{Items, NoMemory, Text, Units, push_decimal, push_name};
 use std::alloc::Global;
 use std::test::Fail;
@@ -114,8 +114,17 @@ fn end_of(alloc: Global, classes: &[ClassFile], lines: &TestLines) -> Result<Tex
     }
 }
 
+// A class file of a table, none of which has 64 KiB.
+fn class_of(alloc: Global, bytes: &[u8]) -> Result<ClassFile, ClassFault> {
+    if bytes.len() < 65_536 {
+        read_class(alloc, bytes)
+    } else {
+        Err(ClassFault::Trailing { at: 65_536 })
+    }
+}
+
 fn end_of_one(alloc: Global, bytes: &[u8]) -> Result<Text, Fail> {
-    let classes = [read_class(alloc, bytes)?];
+    let classes = [class_of(alloc, bytes)?];
     Ok(end_of(alloc, &classes, &no_lines(alloc))?)
 }
 
@@ -217,11 +226,11 @@ fn end_of_five(alloc: Global, files: &[&[u8]; 5], lines: &TestLines) -> Result<T
     requires { AreLines lines.now }
 {
     let classes = [
-        read_class(alloc, files[0])?,
-        read_class(alloc, files[1])?,
-        read_class(alloc, files[2])?,
-        read_class(alloc, files[3])?,
-        read_class(alloc, files[4])?,
+        class_of(alloc, files[0])?,
+        class_of(alloc, files[1])?,
+        class_of(alloc, files[2])?,
+        class_of(alloc, files[3])?,
+        class_of(alloc, files[4])?,
     ];
     Ok(end_of(alloc, &classes, lines)?)
 }

@@ -1,6 +1,5 @@
-use Rattle.std.proofs.Common.{◌≡◌, ◌≤◌, List, [], length, true, refl, ap, subst, sym, arith}
+use Rattle.std.proofs.Common.{◌≡◌, length, true, refl, ap, arith}
 use Rattle.std.specs.List.{list_all}
-use Rattle.class_link.specs.declared.lines.TestLine.{TestLine}
 use Rattle.class_link.specs.Link.{is_test_name}
 use Rattle.acceptance.proofs.LinkLines.{are_lines}
 use Rattle.acceptance.proofs.link_tests.no_lines.Goals as goal
