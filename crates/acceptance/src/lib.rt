@@ -2,8 +2,7 @@
 //! written, linked and checked.
 #![tactic(auto)]
 
-#[cfg(test)]
-mod asking;
+pub mod asking;
 #[cfg(test)]
 mod class_files;
 #[cfg(test)]
