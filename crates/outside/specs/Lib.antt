@@ -1,5 +1,6 @@
 pub mod Counts
 pub mod Depot
+pub mod FolderDepot
 pub mod MemoryDepot
 pub mod MemorySink
 pub mod QuietSink

@@ -50,8 +50,12 @@ pub trait Depot {
     /// How often the depot failed, up to the greatest u64.
     ghost faults: { Self → ℕ };
 
+    /// The name of the last read that answered `Failed`, where one did.
+    ghost last_failed: { Self → Option (List ℕ) };
+
     /// The bytes of a file, at most `limit` of them. `Absent` comes where no file has the name, `TooLong` where the
-    /// file is longer than `limit`, and `Failed` only where the count of faults rose in this call.
+    /// file is longer than `limit`, and `Failed` only where the count of faults rose in this call. The depot
+    /// remembers the name of a read that answers `Failed`, until another does.
     fn read(&mut self, name: &Text, limit: u64) -> Result<Vec<u8>, DepotRefusal>
         ensures told { told self.new ≡ told self.old }
         ensures faults { faults self.old ≤ faults self.new }
@@ -64,5 +68,8 @@ pub trait Depot {
             IfSome (told self.old) (λ files. content files name.now ≡ None) }
         ensures too_long { IsErrOf result DepotRefusal.TooLong →
             IfSome (told self.old) (λ files. IsSomeAnd (content files name.now) (λ bytes. limit < length bytes)) }
-        ensures failed { IsErrOf result DepotRefusal.Failed → Rose (faults self.old) (faults self.new) };
+
+        ensures failed { IsErrOf result DepotRefusal.Failed → Rose (faults self.old) (faults self.new) }
+        ensures failed_name { IsErrOf result DepotRefusal.Failed → last_failed self.new ≡ Some name.now }
+        ensures other_answer { (IsErrOf result DepotRefusal.Failed → ⊥) → last_failed self.new ≡ last_failed self.old };
 }

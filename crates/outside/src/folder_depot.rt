@@ -4,6 +4,7 @@ ghost use Rattle.std.specs.Prelude.{◌≡◌, ◌<◌, ◌≤◌, ◌++◌, ◌
 ghost use Rattle.outside.specs.Counts.{Rose, raised};
 
 use crate::counts::raise;
+use crate::files::copy_of;
 use crate::{Depot, DepotRefusal};
 use et_base::Text;
 use std::alloc::{AllocError, Global};
@@ -15,36 +16,40 @@ use std::rt::Files;
 /// How many bytes one call reads.
 const CHUNK: usize = 16_384;
 
-/// A real folder. It doesn't tell what it holds. Contracts see it as its count of faults.
+/// A real folder. It doesn't tell what it holds. Contracts see it as its count of faults and the name of the last read
+/// that failed.
 ///
 /// `Absent` comes where the system says that no such file is there, `TooLong` once a byte past the limit was read, and
-/// `Failed` at every other failure of the outside; a name that is no UTF-8 is one of them.
+/// `Failed` at every other failure of the outside; a name that is no UTF-8 is one of them. Memory for
+/// the name of a failing read is taken in that read, which answers `NoMemory` where it is refused.
 #[derive(Drop)]
 pub struct FolderDepot<'a, R: Files> {
     rt: &'a R,
     alloc: Global,
     folder: String,
     faults: u64,
+    last_failed: Option<Text>,
 }
 
 impl<'a, R: Files> Model for FolderDepot<'a, R> {
-    ghost use Rattle.std.specs.Prelude.{ℕ};
+    ghost use Rattle.outside.specs.FolderDepot.{FolderDepotState};
 
-    ghost Value = { ℕ };
+    ghost Value = { FolderDepotState };
 
-    ghost view = { λ d. d.faults };
+    ghost view = { λ d. record { faults = d.faults; last_failed = d.last_failed } };
 }
 
 impl<'a, R: Files> FolderDepot<'a, R> {
     /// A folder of a runtime, with no fault so far.
     pub fn new(rt: &'a R, alloc: Global, folder: String) -> FolderDepot<'a, R>
-        ensures { result ≡ 0 }
+        ensures { result ≡ record { faults = 0; last_failed = None } }
     {
         FolderDepot {
             rt,
             alloc,
             folder,
             faults: 0,
+            last_failed: None,
         }
     }
 
@@ -105,19 +110,26 @@ impl<'a, R: Files> Depot for FolderDepot<'a, R> {
 
     ghost told = { λ _. None };
 
-    ghost faults = { λ faults. faults };
+    ghost faults = { λ d. d.faults };
+
+    ghost last_failed = { λ d. d.last_failed };
 
     fn read(&mut self, name: &Text, limit: u64) -> Result<Vec<u8>, DepotRefusal>
         ensures within { IfOk result (λ bytes. length bytes.items ≤ limit) }
 
         // It counts a fault just where it answers one.
-        ensures fault { IsErrOf result DepotRefusal.Failed → self.new ≡ raised self.old }
-        ensures no_fault { (IsErrOf result DepotRefusal.Failed → ⊥) → self.new ≡ self.old }
-        ensures rose { IsErrOf result DepotRefusal.Failed → Rose self.old self.new }
-        ensures later { self.old ≤ self.new }
+        ensures fault { IsErrOf result DepotRefusal.Failed → self.new.faults ≡ raised self.old.faults }
+        ensures no_fault { (IsErrOf result DepotRefusal.Failed → ⊥) → self.new.faults ≡ self.old.faults }
+        ensures rose { IsErrOf result DepotRefusal.Failed → Rose self.old.faults self.new.faults }
+        ensures later { self.old.faults ≤ self.new.faults }
+
+        // It remembers the name where it answers one.
+        ensures failed_name { IsErrOf result DepotRefusal.Failed → self.new.last_failed ≡ Some name.now }
+        ensures other_answer { (IsErrOf result DepotRefusal.Failed → ⊥) → self.new.last_failed ≡ self.old.last_failed }
     {
         let answer = self.read_file(name, limit);
         if let Err(DepotRefusal::Failed) = &answer {
+            self.last_failed = Some(copy_of(self.alloc, name)?);
             self.faults = raise(self.faults);
         }
         answer

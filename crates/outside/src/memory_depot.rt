@@ -1,17 +1,18 @@
 //! A depot in memory that fails at chosen calls.
 
-ghost use Rattle.std.specs.Prelude.{◌≡◌, ◌<◌, ◌≤◌, ◌↔◌, [], length, IfOk, IsOk, IsSomeAnd, IsErrOf, Contains};
+ghost use Rattle.std.specs.Prelude.{◌≡◌, ◌<◌, ◌≤◌, ◌⊎◌, [], length, IfOk, IsOk, IsSomeAnd, IsErrOf, Contains};
 ghost use Rattle.outside.specs.Counts.{Rose, raised};
 ghost use Rattle.outside.specs.Depot.{content, files_of};
 
 use crate::counts::{is_listed, raise};
-use crate::files::read_file;
+use crate::files::{copy_of, read_file};
 use crate::{Depot, DepotRefusal};
 use et_base::{NoMemory, Text};
 use std::alloc::Global;
 use std::marker::Model;
 
-/// Files in memory. The calls whose numbers, from 1, are listed fail, and no other call does.
+/// Files in memory. The calls whose numbers, from 1, are listed fail, and no other call does. Memory for the name of a
+/// failing read is taken in that read, which answers `NoMemory` where it is refused.
 #[derive(Drop)]
 pub struct MemoryDepot {
     alloc: Global,
@@ -19,6 +20,7 @@ pub struct MemoryDepot {
     fail: Vec<u64>,
     calls: u64,
     faults: u64,
+    last_failed: Option<Text>,
 }
 
 impl Model for MemoryDepot {
@@ -32,6 +34,7 @@ impl Model for MemoryDepot {
       fail = d.fail.items;
       calls = d.calls;
       faults = d.faults;
+      last_failed = d.last_failed;
     } };
 }
 
@@ -48,6 +51,7 @@ impl MemoryDepot {
           fail = fail.items;
           calls = 0;
           faults = 0;
+          last_failed = None;
         }) }
     {
         Ok(MemoryDepot {
@@ -56,6 +60,7 @@ impl MemoryDepot {
             fail,
             calls: 0,
             faults: 0,
+            last_failed: None,
         })
     }
 }
@@ -66,6 +71,8 @@ impl Depot for MemoryDepot {
     ghost told = { λ d. Some d.files };
 
     ghost faults = { λ d. d.faults };
+
+    ghost last_failed = { λ d. d.last_failed };
 
     fn read(&mut self, name: &Text, limit: u64) -> Result<Vec<u8>, DepotRefusal>
         ensures files { self.new.files ≡ self.old.files }
@@ -80,14 +87,19 @@ impl Depot for MemoryDepot {
             IsSomeAnd (content self.old.files name.now) (λ bytes. limit < length bytes) }
 
         // It fails at the listed calls and at no other, and counts just these faults.
-        ensures failed { IsErrOf result DepotRefusal.Failed ↔ Contains self.old.fail (raised self.old.calls) }
+        ensures listed { IsErrOf result DepotRefusal.Failed → Contains self.old.fail (raised self.old.calls) }
+        ensures fails { Contains self.old.fail (raised self.old.calls) →
+            IsErrOf result DepotRefusal.Failed ⊎ IsErrOf result DepotRefusal.NoMemory }
         ensures fault { IsErrOf result DepotRefusal.Failed → self.new.faults ≡ raised self.old.faults }
         ensures no_fault { (IsErrOf result DepotRefusal.Failed → ⊥) → self.new.faults ≡ self.old.faults }
         ensures rose { IsErrOf result DepotRefusal.Failed → Rose self.old.faults self.new.faults }
         ensures later { self.old.faults ≤ self.new.faults }
+        ensures failed_name { IsErrOf result DepotRefusal.Failed → self.new.last_failed ≡ Some name.now }
+        ensures other_answer { (IsErrOf result DepotRefusal.Failed → ⊥) → self.new.last_failed ≡ self.old.last_failed }
     {
         self.calls = raise(self.calls);
         if is_listed(&self.fail, self.calls) {
+            self.last_failed = Some(copy_of(self.alloc, name)?);
             self.faults = raise(self.faults);
             return Err(DepotRefusal::Failed);
         }

@@ -35,11 +35,13 @@ impl QuietDepot {
 }
 
 impl Depot for QuietDepot {
-    ghost use Rattle.std.specs.Prelude.{Some};
+    ghost use Rattle.std.specs.Prelude.{Some, None};
 
     ghost told = { λ files. Some files };
 
     ghost faults = { λ _. 0 };
+
+    ghost last_failed = { λ _. None };
 
     fn read(&mut self, name: &Text, limit: u64) -> Result<Vec<u8>, DepotRefusal> {
         read_file(self.alloc, &self.files, name, limit)

@@ -11,4 +11,6 @@ read-tells g c = record {
   absent = λ _. tt;
   too_long = λ _. tt;
   failed = c.ensures.rose;
+  failed_name = c.ensures.failed_name;
+  other_answer = c.ensures.other_answer;
 }
