@@ -124,7 +124,7 @@ module _ (p q : Program) (n : Numbers) (t u b : ℕ) (w v : World) (π : ℕ →
       (tree-paired (record { numbers = n; place = all; one = one_all; left = p; right = q; matched = mt }) t u b pt) w v ok forward_all (λ i j lo hi e. inr (lo, hi, e)) (agree_all first.touches ag)
 
   same_test : (x : Verdict) (o : List ℕ) → first.sound ≡ true → first.value ≡ finished x o → nat_le first.units b ≡ true → Agree (with_places n (Tested π)) first.touches w v →
-      SameTest n (with_places n (AlsoMade π w v (size (given_of x o (run (tree p t b) w)).world))) q v u b (given_of x o (run (tree p t b) w))
+      SameTest n (with_places n (AlsoMade π w v (size (given_of x o (run (tree p t b) w)).world))) q w v u b (given_of x o (run (tree p t b) w))
   unfolding one_test
   same_test x o ok e h ag =
       let a = alike ok ag in
@@ -134,7 +134,8 @@ module _ (p q : Program) (n : Numbers) (t u b : ℕ) (w v : World) (π : ℕ →
         is = given_then b (run (tree q u b) v) s.verdict s.output a.sound s.is (subst (λ (z : ℕ). nat_le z b ≡ true) a.units h);
         outcome = record { verdict = s.alike; output = s.same; units = a.units };
         touches = a.touches;
-        written_alike = λ L M y e. a.worlds L M y (inl e);
+        sizes = a.sizes;
+        worlds = a.worlds;
       }
 
 pub frame_law : FrameLaw
@@ -142,5 +143,5 @@ unfolding one_test
 frame_law p q n t u b w v π mt pt po x e =
     let r = run (tree p t b) w in
     let f = ran_to b r.sound r.value r.world r.touches r.units x e in
-    subst (λ (z : Given). Agree (with_places n (Tested π)) z.touches w v → SameTest n (with_places n (AlsoMade π w v (size z.world))) q v u b z) f.is
+    subst (λ (z : Given). Agree (with_places n (Tested π)) z.touches w v → SameTest n (with_places n (AlsoMade π w v (size z.world))) q w v u b z) f.is
     (same_test p q n t u b w v π mt pt po f.verdict f.output f.sound f.value f.within)

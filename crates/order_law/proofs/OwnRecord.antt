@@ -12,9 +12,9 @@ use Rattle.order_law.specs.declared.edges.Edge.{Edge}
 use Rattle.order_law.specs.declared.edges.EdgeKind.{EdgeKind}
 use Rattle.order_law.specs.declared.edges.EdgeKind.TheVariants.{Raw, Waw, War}
 use Rattle.order_law.specs.Exposed.{written, exposed}
-use Rattle.order_law.specs.Conflicts.{Tests, Member, NoneBetween, Conflict, HasEdge, down}
-use Rattle.order_law.specs.Histories.{ran_after, writes_of, exposed_of, RecordOf}
-use Rattle.order_law.specs.OwnRecord.{none_between, conflicts, first_places, places_touched, conflict_places, edge_of, edges_between, edges_of, OwnLaw}
+use Rattle.order_law.specs.Conflicts.{Tests, Member, NoneBetween, Conflict, HasEdge, IsRecord}
+use Rattle.order_law.specs.Histories.{Touches, touches_of, writes_in, exposed_in}
+use Rattle.order_law.specs.OwnRecord.{none_between, conflicts, first_places, places_in, conflict_places_in, owner, edge_of, edges_between_in, edges_of, edges_in, OwnLaw}
 use Rattle.order_law.proofs.Histories.{law_of_order}
 
 between-true : (W : Tests) (u t : ℕ) (L : Location) → none_between W u t L ≡ true → NoneBetween W u t L
@@ -114,8 +114,8 @@ range_within : (n a x : ℕ) → Member x (range_with_len a n) → (a ≤ x) × 
 range_within zero a x i = absurd i
 range_within (suc n) a x i = elim i [ inl e ↦ (omega arith, omega arith) | inr j ↦ let r = range_within n (a + 1) x j in let lo = r.0 in let hi = r.1 in (omega arith, omega arith) ]
 
-module _ (p : Program) where
-  edge_of_has : (k : EdgeKind) (u t : ℕ) (L : Location) (ls : List Location) → Member L ls → HasEdge (edge_of p k u t ls) k u t
+module _ (p : Program) (T : Touches) (by : ℕ → ℕ × ℕ) where
+  edge_of_has : (k : EdgeKind) (u t : ℕ) (L : Location) (ls : List Location) → Member L ls → HasEdge (edge_of p by k u t ls) k u t
   edge_of_has k u t L [] i = absurd i
   edge_of_has k u t L (M ∷ ls) i = inl (refl, refl, refl)
 
@@ -126,66 +126,66 @@ module _ (p : Program) where
     place : Location
     listed : Member place ls
 
-  edge_of_is : (k k' : EdgeKind) (u t u' t' : ℕ) (ls : List Location) → HasEdge (edge_of p k' u' t' ls) k u t → EdgeIs k u t k' u' t' ls
+  edge_of_is : (k k' : EdgeKind) (u t u' t' : ℕ) (ls : List Location) → HasEdge (edge_of p by k' u' t' ls) k u t → EdgeIs k u t k' u' t' ls
   edge_of_is k k' u t u' t' [] i = absurd i
   edge_of_is k k' u t u' t' (L ∷ ls) i = elim i [ inl e ↦ record { kind = e.0; earlier = e.1; later = e.2; place = L; listed = inl refl } | inr j ↦ absurd j ]
 
   -- a listed location is one of a conflict, and the other way round
-  place_true : (k : EdgeKind) (u t : ℕ) (L : Location) → u < t → Member L (conflict_places p k u t) → Conflict (writes_of p) (exposed_of p) k u t L
-  unfolding conflict_places
-  place_true k u t L h i = conflicts-true (writes_of p) (exposed_of p) k u t L h (filter_true (λ L. conflicts (writes_of p) (exposed_of p) k u t L) (places_touched p t) L i)
+  place_true : (k : EdgeKind) (u t : ℕ) (L : Location) → u < t → Member L (conflict_places_in T k u t) → Conflict (writes_in T) (exposed_in T) k u t L
+  unfolding conflict_places_in
+  place_true k u t L h i = conflicts-true (writes_in T) (exposed_in T) k u t L h (filter_true (λ L. conflicts (writes_in T) (exposed_in T) k u t L) (places_in T t) L i)
 
-  is_touched : (k : EdgeKind) (u t : ℕ) (L : Location) → Conflict (writes_of p) (exposed_of p) k u t L → Member L (places_touched p t)
-  is_touched Raw u t L c = first_in _ L (touched (ran_after p (down t) t).touches L (inr c.1))
-  is_touched Waw u t L c = first_in _ L (touched (ran_after p (down t) t).touches L (inl c.2))
-  is_touched War u t L c = first_in _ L (touched (ran_after p (down t) t).touches L (inl c.1))
+  is_touched : (k : EdgeKind) (u t : ℕ) (L : Location) → Conflict (writes_in T) (exposed_in T) k u t L → Member L (places_in T t)
+  is_touched Raw u t L c = first_in _ L (touched (T t) L (inr c.1))
+  is_touched Waw u t L c = first_in _ L (touched (T t) L (inl c.2))
+  is_touched War u t L c = first_in _ L (touched (T t) L (inl c.1))
 
-  place_in : (k : EdgeKind) (u t : ℕ) (L : Location) → Conflict (writes_of p) (exposed_of p) k u t L → Member L (conflict_places p k u t)
-  unfolding conflict_places
-  place_in k u t L c = filter_in (λ L. conflicts (writes_of p) (exposed_of p) k u t L) (places_touched p t) L (is_touched k u t L c) (conflicts-from (writes_of p) (exposed_of p) k u t L c)
+  place_in : (k : EdgeKind) (u t : ℕ) (L : Location) → Conflict (writes_in T) (exposed_in T) k u t L → Member L (conflict_places_in T k u t)
+  unfolding conflict_places_in
+  place_in k u t L c = filter_in (λ L. conflicts (writes_in T) (exposed_in T) k u t L) (places_in T t) L (is_touched k u t L c) (conflicts-from (writes_in T) (exposed_in T) k u t L c)
 
-  rises : (k : EdgeKind) (u t : ℕ) (L : Location) → Conflict (writes_of p) (exposed_of p) k u t L → u < t
+  rises : (k : EdgeKind) (u t : ℕ) (L : Location) → Conflict (writes_in T) (exposed_in T) k u t L → u < t
   rises Raw u t L c = c.0
   rises Waw u t L c = c.0
   rises War u t L c = c.0
 
   abbrev of_kind : EdgeKind → ℕ → ℕ → List Edge
-  of_kind k u t = edge_of p k u t (conflict_places p k u t)
+  of_kind k u t = edge_of p by k u t (conflict_places_in T k u t)
 
   found : (k k' : EdgeKind) (u t u' t' : ℕ) → 0 < u' → u' < t' → t' ≤ length p.tests → HasEdge (of_kind k' u' t') k u t →
-      (0 < u) × (t ≤ length p.tests) × (L : Location) × Conflict (writes_of p) (exposed_of p) k u t L
+      (0 < u) × (t ≤ length p.tests) × (L : Location) × Conflict (writes_in T) (exposed_in T) k u t L
   found k k' u t u' t' o h lt i =
-      let q = edge_of_is k k' u t u' t' (conflict_places p k' u' t') i in
+      let q = edge_of_is k k' u t u' t' (conflict_places_in T k' u' t') i in
       let c = place_true k' u' t' q.place h q.listed in
       let e = q.earlier in
       let l = q.later in (
         omega arith,
         omega arith,
         q.place,
-        subst (λ (z : EdgeKind). Conflict (writes_of p) (exposed_of p) z u t q.place) q.kind
-            (subst (λ (z : ℕ). Conflict (writes_of p) (exposed_of p) k' z t q.place) e (subst (λ (z : ℕ). Conflict (writes_of p) (exposed_of p) k' u' z q.place) l c)),
+        subst (λ (z : EdgeKind). Conflict (writes_in T) (exposed_in T) z u t q.place) q.kind
+            (subst (λ (z : ℕ). Conflict (writes_in T) (exposed_in T) k' z t q.place) e (subst (λ (z : ℕ). Conflict (writes_in T) (exposed_in T) k' u' z q.place) l c)),
       )
 
-  edge_here : (k : EdgeKind) (u t : ℕ) → HasEdge (of_kind k u t) k u t → HasEdge (edges_between p u t) k u t
-  unfolding edges_between
+  edge_here : (k : EdgeKind) (u t : ℕ) → HasEdge (of_kind k u t) k u t → HasEdge (edges_between_in p T by u t) k u t
+  unfolding edges_between_in
   edge_here Raw u t h = has_left (of_kind Raw u t) _ Raw u t h
   edge_here Waw u t h = has_right (of_kind Raw u t) _ Waw u t (has_left (of_kind Waw u t) _ Waw u t h)
   edge_here War u t h = has_right (of_kind Raw u t) _ War u t (has_right (of_kind Waw u t) _ War u t h)
 
-  found_between : (k : EdgeKind) (u t u' t' : ℕ) → 0 < u' → u' < t' → t' ≤ length p.tests → HasEdge (edges_between p u' t') k u t →
-      (0 < u) × (t ≤ length p.tests) × (L : Location) × Conflict (writes_of p) (exposed_of p) k u t L
-  unfolding edges_between
+  found_between : (k : EdgeKind) (u t u' t' : ℕ) → 0 < u' → u' < t' → t' ≤ length p.tests → HasEdge (edges_between_in p T by u' t') k u t →
+      (0 < u) × (t ≤ length p.tests) × (L : Location) × Conflict (writes_in T) (exposed_in T) k u t L
+  unfolding edges_between_in
   found_between k u t u' t' o h lt i = elim (has_either (of_kind Raw u' t') _ k u t i) [
     | inl x ↦ found k Raw u t u' t' o h lt x
     | inr y ↦ elim (has_either (of_kind Waw u' t') _ k u t y) [ inl x ↦ found k Waw u t u' t' o h lt x | inr x ↦ found k War u t u' t' o h lt x ]
   ]
 
-  pub is_record : RecordOf p (edges_of p)
-  unfolding edges_of
+  pub is_record : IsRecord (writes_in T) (exposed_in T) (length p.tests) (edges_in p T by)
+  unfolding edges_in
   is_record k u t = (
     λ i.
-        let a = gathered (λ t. flat_map (λ u. edges_between p u t) (range_with_len 1 (t - 1))) (all_tests p) k u t i in
-        let b = gathered (λ u. edges_between p u a.0) (range_with_len 1 (a.0 - 1)) k u t a.2 in
+        let a = gathered (λ t. flat_map (λ u. edges_between_in p T by u t) (range_with_len 1 (t - 1))) (all_tests p) k u t i in
+        let b = gathered (λ u. edges_between_in p T by u a.0) (range_with_len 1 (a.0 - 1)) k u t a.2 in
         let x = range_within (length p.tests) 1 a.0 a.1 in
         let y = range_within (a.0 - 1) 1 b.0 b.1 in
         let x0 = x.0 in let x1 = x.1 in let y0 = y.0 in let y1 = y.1 in
@@ -193,10 +193,10 @@ module _ (p : Program) where
     λ c.
         let h = rises k u t c.2 c.3 in
         let o = c.0 in let lt = c.1 in
-        gather_in (λ t. flat_map (λ u. edges_between p u t) (range_with_len 1 (t - 1))) (all_tests p) k u t t (in_range (length p.tests) 1 t (omega arith) (omega arith))
-        (gather_in (λ u. edges_between p u t) (range_with_len 1 (t - 1)) k u t u (in_range (t - 1) 1 u (omega arith) (omega arith))
-        (edge_here k u t (edge_of_has k u t c.2 (conflict_places p k u t) (place_in k u t c.2 c.3)))),
+        gather_in (λ t. flat_map (λ u. edges_between_in p T by u t) (range_with_len 1 (t - 1))) (all_tests p) k u t t (in_range (length p.tests) 1 t (omega arith) (omega arith))
+        (gather_in (λ u. edges_between_in p T by u t) (range_with_len 1 (t - 1)) k u t u (in_range (t - 1) 1 u (omega arith) (omega arith))
+        (edge_here k u t (edge_of_has k u t c.2 (conflict_places_in T k u t) (place_in k u t c.2 c.3)))),
   )
 
 pub own_law : OwnLaw
-own_law p l linked detected low lawful = law_of_order p (edges_of p) l linked detected (is_record p) low lawful
+own_law p l linked detected low lawful = law_of_order p (edges_of p) l linked detected (is_record p (touches_of p) (owner p)) low lawful

@@ -14,7 +14,7 @@ use Rattle.order_law.specs.declared.edges.EdgeKind.{EdgeKind}
 use Rattle.order_law.specs.declared.edges.EdgeKind.TheVariants.{Raw, Waw, War}
 use Rattle.order_law.specs.Conflicts.{Member, HasEdge, Before, edge, chain, Fits, History, ClosedUnderRaw, itself, forth, back}
 use Rattle.order_law.specs.Histories.{after_history, RecordOf, IsTestNumber}
-use Rattle.order_law.specs.Plan.{NextOf, PostsSequential, chain_at, Ascending, Chains, Event, claim, post, claims, posts, Posted, list_of, Legal, PostsOnce, LawOfInterleavings}
+use Rattle.order_law.specs.Plan.{NextOf, PostsSequential, chain_at, Ascending, AreChainsOf, Event, claim, post, claims, posts, Posted, list_of, Legal, PostsOnce, LawOfInterleavings}
 use Rattle.order_law.proofs.Histories.{Holds, holds_first, next_test}
 
 member_at : (x y : ℕ) (l : List ℕ) {b : Bool} → b ≡ true → Member x (cond b (y ∷ l) l) → (x ≡ y) ⊎ Member x l
@@ -77,7 +77,7 @@ module _ (p : Program) (R : List Edge) (is_record : RecordOf p R) where
   before_rises (chain {u} {v} {t} a b) = let x = before_rises a in let y = before_rises b in omega arith
 
 module _ (p : Program) (R : List Edge) (is_record : RecordOf p R) (S : ℕ → Type 0) (C : List (List ℕ)) (n : ℕ)
-    (raw_closed : ClosedUnderRaw R S) (cs : Chains R S C) where
+    (raw_closed : ClosedUnderRaw R S) (cs : AreChainsOf R S C) where
   posted_where : (es : List Event) (w x : ℕ) → Legal p C n es → Member x (posts es w) → (i : ℕ) × Member i (claims es w) × Member x (chain_at C i)
   posted_where [] w x l h = absurd h
   posted_where (claim v c ∷ es) w x l h = let q = posted_where es w x l.1 h in (q.0, claims_more (claim v c) es w q.0 q.1, q.2)
@@ -184,7 +184,7 @@ module _ (p : Program) (linked : Linked p) (R : List Edge) (is_record : RecordOf
         n.first.outcome,
       )
 
-  module _ (set : List ℕ) (C : List (List ℕ)) (k : ℕ) (low : (t : ℕ) → Member t set → IsTestNumber p t) (closed : ClosedUnderRaw R (λ t. Member t set)) (cs : Chains R (λ t. Member t set) C) where
+  module _ (set : List ℕ) (C : List (List ℕ)) (k : ℕ) (low : (t : ℕ) → Member t set → IsTestNumber p t) (closed : ClosedUnderRaw R (λ t. Member t set)) (cs : AreChainsOf R (λ t. Member t set) C) where
     -- what a worker runs next has the outcome of the suite's own order, so it meets no budget
     next_result : (es : List Event) (w t i : ℕ) (rest : List ℕ) → Legal p C k es → claims es w ≡ i ∷ rest → NextOf es (chain_at C i) t → (o : Outcome) × (last_outcome p (list_of es w t) ≡ Some o) × (seq p t ≡ Some o)
     next_result es w t i rest l e next =
@@ -202,8 +202,13 @@ module _ (p : Program) (linked : Linked p) (R : List Edge) (is_record : RecordOf
     all_posts (post w ls t o ∷ es) l =
         let m = l.0 in
         let listed : list_of es w t ≡ ls ++ (t ∷ []) = reversed t (posts es w) ∙ ap (λ (x : List ℕ). x ++ (t ∷ [])) (sym m.4) in
-        (same_outcome t (list_of es w t) o (ap (λ (x : List ℕ). last_outcome p x) listed ∙ m.5) (next_result es w t m.0 m.1 l.1 m.2 m.3), m.3.open_yet, all_posts es l.1)
+        (same_outcome t (list_of es w t) o (ap (λ (x : List ℕ). last_outcome p x) listed ∙ m.5) (next_result es w t m.0 m.1 l.1 m.2 m.3), all_posts es l.1)
 
 pub law_of_interleavings : LawOfInterleavings
-law_of_interleavings p R set C n es linked detected is_record low closed cs l =
-    (all_posts p linked R is_record detected set C n low closed cs es l, λ w t i rest e next. next_result p linked R is_record detected set C n low closed cs es w t i rest l e next)
+law_of_interleavings p R set C n es linked detected is_record low closed cs l = record {
+  outcomes = all_posts p linked R is_record detected set C n low closed cs es l;
+  once = legal_once p C n es l;
+  within = λ t i. let c = posted_where p R is_record (λ x. Member x set) C n closed cs es i.0 t l i.1 in cs.within c.0 t c.2;
+  whole = λ done t i. let c = cs.covered t i in done c.0 t c.1;
+  next = λ w t i rest e next. next_result p linked R is_record detected set C n low closed cs es w t i rest l e next;
+}

@@ -22,18 +22,20 @@ pub record PairsObjects (π : ℕ → ℕ → Bool) (w v : World) : Type 0 where
 abbrev pub AlsoMade : (ℕ → ℕ → Bool) → World → World → ℕ → ℕ → ℕ → Type 0
 AlsoMade π w v end a b = (π a b ≡ true) ⊎ ((size w ≤ a) × (a < end) × (a + size v ≡ b + size w))
 
--- Test u gives something in the world v too. Its outcome is the same but for the number of a throwable's class, its
--- touches are paired, and it leaves paired contents where it wrote.
-pub record SameTest (n : Numbers) (m : Matching) (q : Program) (v : World) (u b : ℕ) (x : Given) : Type 0 where
+-- Test u, which begins in the world v, gives something too. Its outcome is the same but for the number of a throwable's
+-- class, its touches are paired, it makes as many objects, and it leaves paired contents where it wrote and where they were
+-- paired before.
+pub record SameTest (n : Numbers) (m : Matching) (q : Program) (w v : World) (u b : ℕ) (x : Given) : Type 0 where
   pub given : Given
   pub is : one_test q v u b ≡ Some given
   pub outcome : PairedOutcome n x.outcome given.outcome
   pub touches : PairedList (PairedTouch m) x.touches given.touches
-  pub written_alike : (L M : Location) → PairedLocation m L M → written x.touches L ≡ true → PairedContent m L M (at x.world L) (at given.world M)
+  pub sizes : size x.world + size v ≡ size given.world + size w
+  pub worlds : (L M : Location) → PairedLocation m L M → ((written x.touches L ≡ true) ⊎ PairedContent m L M (at w L) (at v M)) → PairedContent m L M (at x.world L) (at given.world M)
 
 -- Where a test gives something in one world, and the other world holds paired contents at all that it is exposed to, the
 -- paired test does the same there, under every budget.
 abbrev pub FrameLaw : Type 0
 FrameLaw = (p q : Program) (n : Numbers) (t u b : ℕ) (w v : World) (π : ℕ → ℕ → Bool) → Matched n p q → PairedTest n (test_at p t) (test_at q u) → PairsObjects π w v →
     (x : Given) → one_test p w t b ≡ Some x → Agree (with_places n (Tested π)) x.touches w v →
-    SameTest n (with_places n (AlsoMade π w v (size x.world))) q v u b x
+    SameTest n (with_places n (AlsoMade π w v (size x.world))) q w v u b x

@@ -1,6 +1,7 @@
 -- Runs of tests after a history, and the law of order.
 use Rattle.std.specs.Prelude.{◌≡◌, ℕ, ◌<◌, ◌≤◌, List, [], ◌∷◌, length, true, Option, Some}
 use Rattle.jvm_model.specs.declared.program.Program.{Program}
+use Rattle.jvm_model.specs.declared.values.Touch.{Touch}
 use Rattle.jvm_model.specs.World.{World}
 use Rattle.jvm_model.specs.Access.{Ran, run}
 use Rattle.jvm_model.specs.State.{test_at}
@@ -26,12 +27,26 @@ ran_after p D t = ran p t (after_history p D)
 abbrev pub given_after : Program → List ℕ → ℕ → Option Given
 given_after p D t = one_test p (after_history p D) t (test_at p t).budget
 
--- what each test writes, and what it has an exposed read of, in the suite's own order
+-- the touches of each test of a run, by its number
+abbrev pub Touches : Type 0
+Touches = ℕ → List Touch
+
+-- what each test writes, and what it has an exposed read of
+abbrev pub writes_in : Touches → Tests
+writes_in T t L = written (T t) L
+
+abbrev pub exposed_in : Touches → Tests
+exposed_in T t L = exposed (T t) L
+
+-- those of the suite's own order
+abbrev pub touches_of : Program → Touches
+touches_of p t = (ran_after p (down t) t).touches
+
 abbrev pub writes_of : Program → Tests
-writes_of p t L = written (ran_after p (down t) t).touches L
+writes_of p t L = writes_in (touches_of p) t L
 
 abbrev pub exposed_of : Program → Tests
-exposed_of p t L = exposed (ran_after p (down t) t).touches L
+exposed_of p t L = exposed_in (touches_of p) t L
 
 -- these are the edges of the program's own record
 abbrev pub RecordOf : Program → List Edge → Type 0

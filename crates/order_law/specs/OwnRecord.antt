@@ -11,8 +11,8 @@ use Rattle.jvm_model.specs.Linked.{Linked}
 use Rattle.order_law.specs.declared.edges.Edge.{Edge}
 use Rattle.order_law.specs.declared.edges.EdgeKind.{EdgeKind}
 use Rattle.order_law.specs.declared.edges.EdgeKind.TheVariants.{Raw, Waw, War}
-use Rattle.order_law.specs.Conflicts.{Tests, Member, Lawful, down}
-use Rattle.order_law.specs.Histories.{after_history, ran_after, writes_of, exposed_of, IsTestNumber, AreSequential}
+use Rattle.order_law.specs.Conflicts.{Tests, Member, IsRecord, Lawful, down}
+use Rattle.order_law.specs.Histories.{after_history, ran_after, Touches, writes_in, exposed_in, touches_of, IsTestNumber, AreSequential}
 
 -- no test between u and t writes L
 abbrev pub none_between : Tests → ℕ → ℕ → Location → Bool
@@ -30,41 +30,62 @@ abbrev pub first_places : List Location → List Location
 first_places [] = []
 first_places (L ∷ ls) = L ∷ filter (λ M. not (same L M)) (first_places ls)
 
--- the locations that a test touches in the suite's own order, in the order of first touch
+-- the locations that a test touches, in the order of first touch
+abbrev pub places_in : Touches → ℕ → List Location
+places_in T t = first_places (map (λ (x : Touch). x.location) (T t))
+
 abbrev pub places_touched : Program → ℕ → List Location
-places_touched p t = first_places (map (λ (x : Touch). x.location) (ran_after p (down t) t).touches)
+places_touched p t = places_in (touches_of p) t
 
 -- those at which there is a conflict of the kind
-unfoldable pub conflict_places : Program → EdgeKind → ℕ → ℕ → List Location
-conflict_places p k u t = filter (λ L. conflicts (writes_of p) (exposed_of p) k u t L) (places_touched p t)
+unfoldable pub conflict_places_in : Touches → EdgeKind → ℕ → ℕ → List Location
+conflict_places_in T k u t = filter (λ L. conflicts (writes_in T) (exposed_in T) k u t L) (places_in T t)
+
+abbrev pub conflict_places : Program → EdgeKind → ℕ → ℕ → List Location
+conflict_places p k u t = conflict_places_in (touches_of p) k u t
 
 -- how many objects a test makes in the suite's own order
 abbrev pub made_by : Program → ℕ → ℕ
 made_by p t = size (ran_after p (down t) t).world - size (after_history p (down t))
 
--- an object of the suite's own order by its test and its number within the test
-unfoldable pub owner : Program → ℕ → ℕ × ℕ
-owner p o = maker 1 (map (λ t. made_by p t) (all_tests p)) o
+-- an object by its test and its number within the test, where the tests make so many
+unfoldable pub owner_in : List ℕ → ℕ → ℕ × ℕ
+owner_in made o = maker 1 made o
+
+-- an object of the suite's own order
+abbrev pub owner : Program → ℕ → ℕ × ℕ
+owner p o = owner_in (map (λ t. made_by p t) (all_tests p)) o
 
 -- a text of more than 200 bytes is cut
 abbrev pub cut : List ℕ → List ℕ
 cut x = cond (nat_le (length x) 200) x (take 200 x ++ codes "...")
 
 -- the edge for these locations, where there is one at least
-abbrev pub edge_of : Program → EdgeKind → ℕ → ℕ → List Location → List Edge
-edge_of p k u t [] = []
-edge_of p k u t (L ∷ ls) = record { earlier = u; later = t; kind = k; count = length (L ∷ ls); first = cut (location_text p (owner p) L) } ∷ []
+abbrev pub edge_of : Program → (ℕ → ℕ × ℕ) → EdgeKind → ℕ → ℕ → List Location → List Edge
+edge_of p by k u t [] = []
+edge_of p by k u t (L ∷ ls) = record { earlier = u; later = t; kind = k; count = length (L ∷ ls); first = cut (location_text p by L) } ∷ []
 
--- the edges from u to t
-unfoldable pub edges_between : Program → ℕ → ℕ → List Edge
-edges_between p u t = edge_of p Raw u t (conflict_places p Raw u t) ++ (edge_of p Waw u t (conflict_places p Waw u t) ++ edge_of p War u t (conflict_places p War u t))
+-- the edges from u to t in these touches
+unfoldable pub edges_between_in : Program → Touches → (ℕ → ℕ × ℕ) → ℕ → ℕ → List Edge
+edges_between_in p T by u t = edge_of p by Raw u t (conflict_places_in T Raw u t) ++ (edge_of p by Waw u t (conflict_places_in T Waw u t) ++ edge_of p by War u t (conflict_places_in T War u t))
 
 -- all edges, by the later test, then the earlier one, then the kind
-unfoldable pub edges_of : Program → List Edge
-edges_of p = flat_map (λ t. flat_map (λ u. edges_between p u t) (range_with_len 1 (t - 1))) (all_tests p)
+unfoldable pub edges_in : Program → Touches → (ℕ → ℕ × ℕ) → List Edge
+edges_in p T by = flat_map (λ t. flat_map (λ u. edges_between_in p T by u t) (range_with_len 1 (t - 1))) (all_tests p)
+
+-- those of the suite's own order
+abbrev pub edges_between : Program → ℕ → ℕ → List Edge
+edges_between p u t = edges_between_in p (touches_of p) (owner p) u t
+
+abbrev pub edges_of : Program → List Edge
+edges_of p = edges_in p (touches_of p) (owner p)
 
 -- The law of order with the program's own record: in every lawful list of a detected suite's tests each test gives the
 -- outcome that it gives in the suite's own order.
 abbrev pub OwnLaw : Type 0
 OwnLaw = (p : Program) (l : List ℕ) → Linked p → is_detected p ≡ true → ((t : ℕ) → Member t l → IsTestNumber p t) → Lawful (edges_of p) l →
     (xs : List Given) × (runs p l ≡ Some xs) × AreSequential p l xs
+
+-- The edges of any touches are there exactly where there is a conflict in these touches.
+abbrev pub EdgesLaw : Type 0
+EdgesLaw = (p : Program) (T : Touches) (by : ℕ → ℕ × ℕ) → IsRecord (writes_in T) (exposed_in T) (length p.tests) (edges_in p T by)

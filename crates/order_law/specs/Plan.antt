@@ -19,7 +19,7 @@ Ascending (t ∷ l) = ((u : ℕ) → Member u l → t < u) × Ascending l
 
 -- These are the chains of the set: the classes of the least equivalence that joins two members where one is before the
 -- other, each in suite order.
-pub record Chains (R : List Edge) (S : ℕ → Type 0) (C : List (List ℕ)) : Type 0 where
+pub record AreChainsOf (R : List Edge) (S : ℕ → Type 0) (C : List (List ℕ)) : Type 0 where
   pub within : (i t : ℕ) → Member t (chain_at C i) → S t
   pub covered : (t : ℕ) → S t → (i : ℕ) × Member t (chain_at C i)
   pub joined : (i t u : ℕ) → Member t (chain_at C i) → Joined R S t u → Member u (chain_at C i)
@@ -28,8 +28,8 @@ pub record Chains (R : List Edge) (S : ℕ → Type 0) (C : List (List ℕ)) : T
   pub ascending : (i : ℕ) → Ascending (chain_at C i)
 
 -- The chains as they are listed: none is empty, and they stand by their first tests.
-pub record ChainList (R : List Edge) (S : ℕ → Type 0) (C : List (List ℕ)) : Type 0 where
-  pub chains : Chains R S C
+pub record AreListedChainsOf (R : List Edge) (S : ℕ → Type 0) (C : List (List ℕ)) : Type 0 where
+  pub chains : AreChainsOf R S C
   pub filled : (i : ℕ) → i < length C → (t : ℕ) × Member t (chain_at C i)
   pub by_first : (i j t u : ℕ) (l m : List ℕ) → i < j → chain_at C i ≡ t ∷ l → chain_at C j ≡ u ∷ m → t < u
 
@@ -65,11 +65,12 @@ pub record NextOf (es : List Event) (chain : List ℕ) (t : ℕ) : Type 0 where
 abbrev pub list_of : List Event → ℕ → ℕ → List ℕ
 list_of es w t = reverse (t ∷ posts es w)
 
--- The event may follow the others. A claim: a chain that nobody claimed, by a worker whose earlier chains are all posted. A
--- post: the worker's earlier posts and then the next test of its last chain, with its outcome after them.
+-- The event may follow the others. A claim: a chain that nobody claimed, by a worker of whose earlier chains all tests are
+-- posted, by whomever. A post: the worker's earlier posts and then the next test of its last chain, with its outcome after
+-- them.
 abbrev pub Meets : Program → List (List ℕ) → ℕ → Event → List Event → Type 0
 Meets p C n (claim w c) es = (0 < w) × (w ≤ n) × (c < length C) × ((v : ℕ) → Member c (claims es v) → ⊥) ×
-    ((i t : ℕ) → Member i (claims es w) → Member t (chain_at C i) → Member t (posts es w))
+    ((i t : ℕ) → Member i (claims es w) → Member t (chain_at C i) → Posted es t)
 Meets p C n (post w l t o) es = (i : ℕ) × (rest : List ℕ) × (claims es w ≡ i ∷ rest) × NextOf es (chain_at C i) t × (l ≡ reverse (posts es w)) × (last_outcome p (l ++ (t ∷ [])) ≡ Some o)
 
 abbrev pub Legal : Program → List (List ℕ) → ℕ → List Event → Type 0
@@ -86,17 +87,24 @@ PostsOnce C [] = Unit {0}
 PostsOnce C (claim w c ∷ es) = PostsOnce C es
 PostsOnce C (post w l t o ∷ es) = (Posted es t → ⊥) × ((i : ℕ) × Member t (chain_at C i)) × PostsOnce C es
 
--- each post has the outcome of the suite's own order, and no test is posted twice
+-- each post has the outcome of the suite's own order
 abbrev pub PostsSequential : Program → List Event → Type 0
 PostsSequential p [] = Unit {0}
 PostsSequential p (claim w c ∷ es) = PostsSequential p es
-PostsSequential p (post w l t o ∷ es) = (seq p t ≡ Some o) × (Posted es t → ⊥) × PostsSequential p es
+PostsSequential p (post w l t o ∷ es) = (seq p t ≡ Some o) × PostsSequential p es
 
--- Every interleaving. In every legal history over the chains of a set that is closed under raw edges each post has the
--- outcome of the suite's own order, and what a worker runs next will have it too, so that it meets no budget.
+-- What a history over the chains of a set does.
+pub record IsFaithful (p : Program) (set : List ℕ) (C : List (List ℕ)) (es : List Event) : Type 0 where
+  pub outcomes : PostsSequential p es
+  pub once : PostsOnce C es
+  pub within : (t : ℕ) → Posted es t → Member t set
+  -- so a complete one posts exactly the tests of the set, each once
+  pub whole : IsComplete C es → (t : ℕ) → Member t set → Posted es t
+  -- what a worker runs next will have that outcome too, so that it meets no budget
+  pub next : (w t i : ℕ) (rest : List ℕ) → claims es w ≡ i ∷ rest → NextOf es (chain_at C i) t → (o : Outcome) × (last_outcome p (list_of es w t) ≡ Some o) × (seq p t ≡ Some o)
+
+-- Every interleaving: every legal history over the chains of a set that is closed under raw edges does that.
 abbrev pub LawOfInterleavings : Type 0
 LawOfInterleavings = (p : Program) (R : List Edge) (set : List ℕ) (C : List (List ℕ)) (n : ℕ) (es : List Event) →
     Linked p → is_detected p ≡ true → RecordOf p R → ((t : ℕ) → Member t set → IsTestNumber p t) →
-    ClosedUnderRaw R (λ t. Member t set) → Chains R (λ t. Member t set) C → Legal p C n es →
-    PostsSequential p es × ((w t i : ℕ) (rest : List ℕ) → claims es w ≡ i ∷ rest → NextOf es (chain_at C i) t →
-    (o : Outcome) × (last_outcome p (list_of es w t) ≡ Some o) × (seq p t ≡ Some o))
+    ClosedUnderRaw R (λ t. Member t set) → AreChainsOf R (λ t. Member t set) C → Legal p C n es → IsFaithful p set C es

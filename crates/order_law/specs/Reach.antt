@@ -21,8 +21,8 @@ use Rattle.order_law.specs.declared.records.More.{More}
 use Rattle.order_law.specs.declared.records.Record.{Record}
 use Rattle.order_law.specs.declared.records.Prints.{Prints}
 use Rattle.order_law.specs.Conflicts.{Member, down}
-use Rattle.order_law.specs.Histories.{ran_after, exposed_of}
-use Rattle.order_law.specs.OwnRecord.{places_touched, edges_of}
+use Rattle.order_law.specs.Histories.{ran_after, Touches, exposed_in, touches_of}
+use Rattle.order_law.specs.OwnRecord.{places_in, edges_of}
 use Rattle.order_law.specs.RecordForm.{numbers_ascend}
 
 -- the class of a kind, or the innermost element class of an array
@@ -31,12 +31,19 @@ inner_class (kind.Class c) = Some c
 inner_class (kind.Array d (base.Class c)) = Some c
 inner_class (kind.Array d _) = None
 
--- The least set of given classes that holds the class of the test, the classes of the objects whose heads it touches in the
--- suite's own order, and with each class all that it mentions.
-pub data Reaches (p : Program) (t : ℕ) : ℕ → Type 0 where
-  own : IsGiven p (test_at p t).class → Reaches p t (test_at p t).class
-  touched : (o : ℕ) {c : ℕ} → Member (place.Head o) (places_touched p t) → inner_class (at (ran_after p (down t) t).world (place.Head o)).kind ≡ Some c → IsGiven p c → Reaches p t c
-  mentioned : {c d : ℕ} → Reaches p t c → Member d (class_at p c).mentions → IsGiven p d → Reaches p t d
+-- The least set of given classes that holds the class of the test, the classes of the objects whose heads it touches, and
+-- with each class all that it mentions. `kinds` gives the kind of an object after a test.
+pub data ReachesIn (p : Program) (T : Touches) (kinds : ℕ → ℕ → Kind) (t : ℕ) : ℕ → Type 0 where
+  own : IsGiven p (test_at p t).class → ReachesIn p T kinds t (test_at p t).class
+  touched : (o : ℕ) {c : ℕ} → Member (place.Head o) (places_in T t) → inner_class (kinds t o) ≡ Some c → IsGiven p c → ReachesIn p T kinds t c
+  mentioned : {c d : ℕ} → ReachesIn p T kinds t c → Member d (class_at p c).mentions → IsGiven p d → ReachesIn p T kinds t d
+
+-- those of the suite's own order
+abbrev pub kinds_of : Program → ℕ → ℕ → Kind
+kinds_of p t o = (at (ran_after p (down t) t).world (place.Head o)).kind
+
+abbrev pub Reaches : Program → ℕ → ℕ → Type 0
+Reaches p t c = ReachesIn p (touches_of p) (kinds_of p) t c
 
 abbrev pub puts_out : Instr → Bool
 puts_out (form.PutStatic f) = nat_eq f out_field
@@ -47,14 +54,20 @@ body_puts_out None = false
 body_puts_out (Some b) = list_any (λ x. puts_out x.form) b.code
 
 -- The test is settled: each of its exposed reads is of the static `System.out`, and no code puts that.
-unfoldable pub is_settled : Program → ℕ → Bool
-is_settled p t = list_all (λ L. not (exposed_of p t L) || same L (place.Static out_field)) (places_touched p t) && not (list_any (λ m. body_puts_out m.body) p.methods)
+unfoldable pub is_settled_in : Program → Touches → ℕ → Bool
+is_settled_in p T t = list_all (λ L. not (exposed_in T t L) || same L (place.Static out_field)) (places_in T t) && not (list_any (λ m. body_puts_out m.body) p.methods)
+
+abbrev pub is_settled : Program → ℕ → Bool
+is_settled p t = is_settled_in p (touches_of p) t
 
 -- the reach of a test, its classes numbered from 1 in the suite's order
-pub record IsReachOf (p : Program) (t : ℕ) (r : Reach) : Type 0 where
-  pub settled : r.settled ≡ is_settled p t
+pub record IsReachIn (p : Program) (T : Touches) (kinds : ℕ → ℕ → Kind) (t : ℕ) (r : Reach) : Type 0 where
+  pub settled : r.settled ≡ is_settled_in p T t
   pub ascending : numbers_ascend r.classes ≡ true
-  pub classes : (j : ℕ) → Member j r.classes ↔ Reaches p t (j + (builtin_count - 1))
+  pub classes : (j : ℕ) → Member j r.classes ↔ ReachesIn p T kinds t (j + (builtin_count - 1))
+
+abbrev pub IsReachOf : Program → ℕ → Reach → Type 0
+IsReachOf p t r = IsReachIn p (touches_of p) (kinds_of p) t r
 
 abbrev pub units_in : Option Outcome → ℕ
 units_in None = 0

@@ -11,9 +11,9 @@ use Rattle.jvm_model.specs.Texts.{field_text, location_text}
 use Rattle.order_law.specs.declared.edges.Edge.{Edge}
 use Rattle.order_law.specs.declared.records.Place.{Place}
 use Rattle.order_law.specs.declared.records.Shown.{Shown}
-use Rattle.order_law.specs.Conflicts.{Member, down}
-use Rattle.order_law.specs.Histories.{ran_after}
-use Rattle.order_law.specs.OwnRecord.{conflict_places, owner}
+use Rattle.order_law.specs.Conflicts.{Member}
+use Rattle.order_law.specs.Histories.{Touches, touches_of}
+use Rattle.order_law.specs.OwnRecord.{conflict_places_in, owner}
 use Rattle.order_law.specs.Pairing.{PairedList}
 
 -- whether a touch is a read that gave the reference of the object
@@ -53,14 +53,18 @@ abbrev pub IsWalkText : Program → List Touch → Option ℕ → List (List ℕ
 IsWalkText p ts None texts = texts ≡ []
 IsWalkText p ts (Some o) texts = (xs : List Touch) × Walk ts o xs × (texts ≡ map (λ x. read_text p x.location) xs)
 
--- a location of an edge to test t as it is shown: its text, uncut, and its walk
-pub record IsPlaceOf (p : Program) (t : ℕ) (L : Location) (x : Place) : Type 0 where
-  pub at : x.at ≡ location_text p (owner p) L
-  pub walk : IsWalkText p (ran_after p (down t) t).touches (place_of L) x.walk
+-- a location of an edge as it is shown: its text, uncut, and its walk in the later test's touches
+pub record IsPlaceIn (p : Program) (by : ℕ → ℕ × ℕ) (ts : List Touch) (L : Location) (x : Place) : Type 0 where
+  pub at : x.at ≡ location_text p by L
+  pub walk : IsWalkText p ts (place_of L) x.walk
 
--- what is shown of an edge: its first 8 locations, in the order in which the later test touched them first
+-- what is shown of an edge in these touches: its first 8 locations, in the order in which the later test touched them first
+abbrev pub IsShownIn : Program → Touches → (ℕ → ℕ × ℕ) → Edge → Shown → Type 0
+IsShownIn p T by e x = PairedList (IsPlaceIn p by (T e.later)) (take 8 (conflict_places_in T e.kind e.earlier e.later)) x.places
+
+-- what is shown of an edge of the suite's own order
 abbrev pub IsShownOf : Program → Edge → Shown → Type 0
-IsShownOf p e x = PairedList (IsPlaceOf p e.later) (take 8 (conflict_places p e.kind e.earlier e.later)) x.places
+IsShownOf p e x = IsShownIn p (touches_of p) (owner p) e x
 
 -- In a linked program a test has one walk to each earlier object of which it touches something.
 abbrev pub WalkLaw : Type 0

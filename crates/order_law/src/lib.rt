@@ -4,7 +4,7 @@
 ghost use Rattle.order_law.specs.FrameLaw.{FrameLaw};
 ghost use Rattle.order_law.specs.Histories.{LawOfOrder};
 ghost use Rattle.order_law.specs.Plan.{LawOfInterleavings};
-ghost use Rattle.order_law.specs.OwnRecord.{OwnLaw};
+ghost use Rattle.order_law.specs.OwnRecord.{OwnLaw, EdgesLaw};
 ghost use Rattle.order_law.specs.Walk.{WalkLaw};
 
 mod edges;
@@ -16,21 +16,24 @@ pub use locations::same_location;
 pub use records::{Chains, More, Place, Prints, Reach, Record, Shown};
 
 /// The frame law. Where two worlds, of one program or of two that match, agree on all that a test reads before it writes
-/// it, the test does the same in both: outcome, touches and what it leaves at the locations that it writes.
+/// it, the test does the same in both: outcome, touches, the objects that it makes, and what it leaves at the locations
+/// that it writes; and what was the same in both worlds stays the same where it doesn't write.
 pub fn frame_law()
     ensures { FrameLaw }
 {}
 
 /// The law of order. In every lawful list of a detected suite's tests each test gives the outcome that it gives when the
 /// whole suite is run in order: by the edges of the suite's own record, and by any edges that are there exactly where
-/// there is a conflict.
+/// there is a conflict. The edges that the definitions give for any touches are those.
 pub fn lawful_order_law()
     ensures own { OwnLaw }
     ensures any { LawOfOrder }
+    ensures edges { EdgesLaw }
 {}
 
-/// Every interleaving. In every legal history of claims and posts each post has that outcome, no test is posted twice, and
-/// what a worker runs next will have it too, so that it meets no budget.
+/// Every interleaving. In every legal history of claims and posts over the chains of a set each post has that outcome, no
+/// test is posted twice and none outside the set, a complete history posts the whole set, and what a worker runs next will
+/// have that outcome too, so that it meets no budget.
 pub fn interleavings_law()
     ensures { LawOfInterleavings }
 {}

@@ -1,5 +1,5 @@
 use Rattle.order_law.proofs.Histories.{law_of_order}
-use Rattle.order_law.proofs.OwnRecord.{own_law}
+use Rattle.order_law.proofs.OwnRecord.{own_law, is_record}
 use Rattle.order_law.proofs.lawful_order_law.Goals as goal
 
 pub returns-clause-own : goal.returns-clause-own
@@ -7,3 +7,6 @@ returns-clause-own c = own_law
 
 pub returns-clause-any : goal.returns-clause-any
 returns-clause-any c = law_of_order
+
+pub returns-clause-edges : goal.returns-clause-edges
+returns-clause-edges c = λ p T by. is_record p T by
