@@ -1,3 +1,4 @@
+pub mod Answers
 pub mod Utf
 pub mod UtfReading
 pub mod Numbers

@@ -1,10 +1,15 @@
 //! A growable list that contracts see as the list of its items.
 
-ghost use Rattle.std.specs.Prelude.{◌≡◌, List, [], ◌∷◌, ◌++◌, length, OnOk, OnErr, IsTrue, ◌↔◌};
+ghost use Rattle.std.specs.Prelude.{◌≡◌, ◌<◌, ◌^◌, List, [], ◌∷◌, ◌++◌, length, OnOk, OnErr, IfOk, IsTrue, ◌↔◌, option_copied, slice_get};
+ghost use Rattle.std.specs.Slice.{IsItemAt};
+ghost use Rattle.std.specs.Slice.Iter.{iter_rest, iter_steps};
+ghost use Rattle.std.specs.Iterator.Runs.{EveryRun, ItemsMapTo};
+ghost use Rattle.std.specs.Iterator.Adapters.{IterYieldsInOrder};
 
 use crate::NoMemory;
 use std::alloc::Global;
 use std::marker::Model;
+use std::slice::Iter;
 
 /// A list of items in order. Contracts see it as that list.
 #[derive(Debug, Drop)]
@@ -67,6 +72,24 @@ impl<T> Items<T> {
         self.items.as_slice()
     }
 
+    /// The item at this index, from 0 on; none past the end.
+    pub fn get(&self, index: usize) -> Option<&T>
+        ensures value { option_copied result ≡ slice_get self.now index }
+        ensures item { IsItemAt self.now index result }
+    {
+        self.items.as_slice().get(index)
+    }
+
+    /// An iterator over the items in order.
+    pub fn iter(&self) -> Iter<'_, T>
+        ensures rest { iter_rest result ≡ self.now }
+        ensures len { length (iter_rest result) ≡ length self.now }
+        ensures bound { length (iter_rest result) < 2 ^ 64 }
+        ensures runs { IterYieldsInOrder T }
+    {
+        self.items.as_slice().iter()
+    }
+
     /// How many items there are.
     pub fn len(&self) -> usize
         ensures { result ≡ length self.now }
@@ -83,6 +106,15 @@ impl<T> Items<T> {
 }
 
 impl<T: Copy> Items<T> {
+    /// A copy of these items.
+    pub fn from_slice(alloc: Global, items: &[T]) -> Result<Items<T>, NoMemory>
+        ensures { IfOk result (λ copy. copy ≡ items.now) }
+    {
+        Ok(Items {
+            items: Vec::from_slice(alloc, items)?,
+        })
+    }
+
     /// Appends items. After a refusal the list is as before.
     pub fn extend_from_slice(&mut self, items: &[T]) -> Result<(), NoMemory>
         ensures pushed { OnOk result (self.new ≡ self.old ++ items.now) }
@@ -90,5 +122,17 @@ impl<T: Copy> Items<T> {
     {
         self.items.extend_from_slice(items)?;
         Ok(())
+    }
+}
+
+impl<'a, T> IntoIterator for &'a Items<T> {
+    type Item = &'a T;
+
+    type IntoIter = Iter<'a, T>;
+
+    ghost into_iter_gives = { λ items r. (iter_rest r ≡ items.now) × (length (iter_rest r) < 2 ^ 64) × EveryRun (iter_steps {A = T}) (λ p. ItemsMapTo p (λ y. y.now) (iter_rest p.from)) };
+
+    fn into_iter(self) -> Iter<'a, T> {
+        self.iter()
     }
 }
