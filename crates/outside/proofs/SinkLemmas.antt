@@ -1,16 +1,16 @@
 -- What a sink took of a text so far.
 use Rattle.std.proofs.Common.{◌≡◌, ◌≤◌, ◌<◌, ◌+◌, ◌-◌, ◌++◌, ℕ, List, [], length, Option, Some, None, refl, ap, sym, subst, ◌∙◌, arith, append_assoc, append-nil, length-append, take, Result, Ok, Err, IfOk, OnOk, OnErr, IsErr, min}
 use Rattle.std.specs.Result.{result_unwrap_or}
-use Rattle.outside.specs.Sink.{appended, lowered, HasRoom}
+use Rattle.outside.specs.Sink.{SinkView, TookPrefix, appended, lowered, HasRoom}
 
 -- From old to new the sink took a front of the text, and the rest is left.
-pub record Took {S : Type 0} (told : S → Option (List ℕ)) (room : S → Option ℕ) (faults : S → ℕ) (old new : S) (text rest : List ℕ) : Type 0 where
+pub record Took (old new : SinkView) (text rest : List ℕ) : Type 0 where
   pub front : List ℕ
   pub whole : text ≡ front ++ rest
-  pub bytes : told new ≡ appended (told old) front
-  pub left : room new ≡ lowered (room old) (length front)
-  pub later : faults old ≤ faults new
-  pub quiet : HasRoom (room old) (length text) → faults new ≡ faults old
+  pub bytes : new.told ≡ appended old.told front
+  pub left : new.room ≡ lowered old.room (length front)
+  pub later : old.faults ≤ new.faults
+  pub quiet : HasRoom old.room (length text) → new.faults ≡ old.faults
 
 pub appended-nil : (told : Option (List ℕ)) → appended told [] ≡ told
 unfolding appended
@@ -44,62 +44,57 @@ HasRoom-less None m n le h = h
 HasRoom-less (Some left) m n le h = omega arith
 
 -- nothing taken so far
-pub took_none : {S : Type 0} (told : S → Option (List ℕ)) (room : S → Option ℕ) (faults : S → ℕ) (s : S) (text : List ℕ) → Took told room faults s s text text
-took_none told room faults s text = record {
+pub took_none : (s : SinkView) (text : List ℕ) → Took s s text text
+took_none s text = record {
   front = [];
   whole = refl;
-  bytes = sym (appended-nil (told s));
-  left = sym (lowered-zero (room s));
+  bytes = sym (appended-nil s.told);
+  left = sym (lowered-zero s.room);
   later = omega arith;
   quiet = λ _. refl;
 }
 
 -- room for the whole text was room for the rest
-pub room_for_rest : {S : Type 0} (told : S → Option (List ℕ)) (room : S → Option ℕ) (faults : S → ℕ) (old mid : S) (text rest : List ℕ)
-    → Took told room faults old mid text rest → HasRoom (room old) (length text) → HasRoom (room mid) (length rest)
-room_for_rest told room faults old mid text rest so_far h =
-    let fits : HasRoom (room old) (length so_far.front + length rest) =
-    subst (λ n. HasRoom (room old) n) (ap (λ t. length t) so_far.whole ∙ length-append so_far.front rest) h in
-    subst (λ r. HasRoom r (length rest)) (sym so_far.left) (HasRoom-lowered (room old) (length so_far.front) (length rest) fits)
+pub room_for_rest : (old mid : SinkView) (text rest : List ℕ) → Took old mid text rest → HasRoom old.room (length text) → HasRoom mid.room (length rest)
+room_for_rest old mid text rest so_far h =
+    let fits : HasRoom old.room (length so_far.front + length rest) =
+    subst (λ n. HasRoom old.room n) (ap (λ t. length t) so_far.whole ∙ length-append so_far.front rest) h in
+    subst (λ r. HasRoom r (length rest)) (sym so_far.left) (HasRoom-lowered old.room (length so_far.front) (length rest) fits)
 
 -- a count that stays where the rest has room stays where the text has room
-pub quiet_after : {S : Type 0} (told : S → Option (List ℕ)) (room : S → Option ℕ) (faults : S → ℕ) (old mid new : S) (text rest : List ℕ)
-    → Took told room faults old mid text rest → (HasRoom (room mid) (length rest) → faults new ≡ faults mid)
-    → HasRoom (room old) (length text) → faults new ≡ faults old
-quiet_after told room faults old mid new text rest so_far quiet h =
-    quiet (room_for_rest told room faults old mid text rest so_far h) ∙ so_far.quiet h
+pub quiet_after : (old mid new : SinkView) (text rest : List ℕ)
+    → Took old mid text rest → (HasRoom mid.room (length rest) → new.faults ≡ mid.faults)
+    → HasRoom old.room (length text) → new.faults ≡ old.faults
+quiet_after old mid new text rest so_far quiet h =
+    quiet (room_for_rest old mid text rest so_far h) ∙ so_far.quiet h
 
 -- a further piece was taken from the rest's front
-pub took_more : {S : Type 0} (told : S → Option (List ℕ)) (room : S → Option ℕ) (faults : S → ℕ) (old mid new : S) (text rest piece after : List ℕ)
-    → Took told room faults old mid text rest
+pub took_more : (old mid new : SinkView) (text rest piece after : List ℕ)
+    → Took old mid text rest
     → rest ≡ piece ++ after
-    → told new ≡ appended (told mid) piece
-    → room new ≡ lowered (room mid) (length piece)
-    → faults mid ≤ faults new
-    → (HasRoom (room mid) (length rest) → faults new ≡ faults mid)
-    → Took told room faults old new text after
-took_more told room faults old mid new text rest piece after so_far cut bytes left later quiet = record {
+    → new.told ≡ appended mid.told piece
+    → new.room ≡ lowered mid.room (length piece)
+    → mid.faults ≤ new.faults
+    → (HasRoom mid.room (length rest) → new.faults ≡ mid.faults)
+    → Took old new text after
+took_more old mid new text rest piece after so_far cut bytes left later quiet = record {
   front = so_far.front ++ piece;
   whole = so_far.whole ∙ ap (λ r. so_far.front ++ r) cut ∙ sym (append_assoc so_far.front piece after);
-  bytes = bytes ∙ ap (λ t. appended t piece) so_far.bytes ∙ appended-appended (told old) so_far.front piece;
-  left = left ∙ ap (λ r. lowered r (length piece)) so_far.left ∙ lowered-lowered (room old) (length so_far.front) (length piece) ∙ ap (λ n. lowered (room old) n) (sym (length-append so_far.front piece));
+  bytes = bytes ∙ ap (λ t. appended t piece) so_far.bytes ∙ appended-appended old.told so_far.front piece;
+  left = left ∙ ap (λ r. lowered r (length piece)) so_far.left ∙ lowered-lowered old.room (length so_far.front) (length piece) ∙ ap (λ n. lowered old.room n) (sym (length-append so_far.front piece));
   later = omega (arith, so_far.later, later);
-  quiet = quiet_after told room faults old mid new text rest so_far quiet;
+  quiet = quiet_after old mid new text rest so_far quiet;
 }
 
 -- a last piece was taken in part
-pub took_part : {S : Type 0} (told : S → Option (List ℕ)) (room : S → Option ℕ) (faults : S → ℕ) (old mid new : S) (text rest piece after front back : List ℕ)
-    → Took told room faults old mid text rest
-    → rest ≡ piece ++ after
-    → piece ≡ front ++ back
-    → told new ≡ appended (told mid) front
-    → (all : List ℕ) × (none : List ℕ) × (text ≡ all ++ none) × (told new ≡ appended (told old) all)
-took_part told room faults old mid new text rest piece after front back so_far cut part bytes = (
-  so_far.front ++ front,
-  back ++ after,
-  so_far.whole ∙ ap (λ r. so_far.front ++ r) (cut ∙ ap (λ p. p ++ after) part ∙ append_assoc front back after) ∙ sym (append_assoc so_far.front front (back ++ after)),
-  bytes ∙ ap (λ t. appended t front) so_far.bytes ∙ appended-appended (told old) so_far.front front,
-)
+pub took_part : (old mid new : SinkView) (text rest piece after : List ℕ)
+    → Took old mid text rest → rest ≡ piece ++ after → TookPrefix mid new piece → TookPrefix old new text
+took_part old mid new text rest piece after so_far cut part = record {
+  front = so_far.front ++ part.front;
+  back = part.back ++ after;
+  parts = so_far.whole ∙ ap (λ r. so_far.front ++ r) (cut ∙ ap (λ p. p ++ after) part.parts ∙ append_assoc part.front part.back after) ∙ sym (append_assoc so_far.front part.front (part.back ++ after));
+  taken = part.taken ∙ ap (λ t. appended t part.front) so_far.bytes ∙ appended-appended old.told so_far.front part.front;
+}
 
 pub on_err : {T E P : Type 0} (r : Result T E) → P → OnErr r P
 on_err (Ok x) p = tt

@@ -81,11 +81,7 @@ impl MemorySink {
 impl Sink for MemorySink {
     ghost use Rattle.std.specs.Prelude.{Some, None};
 
-    ghost told = { λ s. Some s.held };
-
-    ghost room = { λ _. None };
-
-    ghost faults = { λ s. s.faults };
+    ghost shown = { λ s. record { told = Some s.held; room = None; faults = s.faults } };
 
     fn write(&mut self, piece: &[u8]) -> Result<usize, SinkFailed>
         requires { 0 < length piece.now }

@@ -61,11 +61,7 @@ impl QuietSink {
 impl Sink for QuietSink {
     ghost use Rattle.std.specs.Prelude.{Some};
 
-    ghost told = { λ s. Some s.held };
-
-    ghost room = { λ s. Some s.room };
-
-    ghost faults = { λ s. s.faults };
+    ghost shown = { λ s. record { told = Some s.held; room = Some s.room; faults = s.faults } };
 
     fn write(&mut self, piece: &[u8]) -> Result<usize, SinkFailed>
         requires { 0 < length piece.now }

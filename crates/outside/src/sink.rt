@@ -1,9 +1,9 @@
 //! Where texts are written to.
 
-ghost use Rattle.std.specs.Prelude.{◌≡◌, ◌≤◌, ◌<◌, List, ℕ, length, take, Option, IfOk};
+ghost use Rattle.std.specs.Prelude.{◌≡◌, ◌≤◌, ◌<◌, length, take, IfOk};
 ghost use Rattle.std.specs.Result.{result_unwrap_or};
 ghost use Rattle.outside.specs.Counts.{Rose};
-ghost use Rattle.outside.specs.Sink.{appended, lowered, HasRoom};
+ghost use Rattle.outside.specs.Sink.{SinkView, appended, lowered, HasRoom};
 
 /// The sink failed, which its count of faults shows. Nothing of the piece was taken.
 #[derive(Clone, Copy, Debug, PartialEq, Eq)]
@@ -11,14 +11,8 @@ pub struct SinkFailed {}
 
 /// What takes bytes in order, and may fail.
 pub trait Sink {
-    /// The bytes taken so far, where the sink tells them.
-    ghost told: { Self → Option (List ℕ) };
-
-    /// For how many bytes there is room, where the sink tells that.
-    ghost room: { Self → Option ℕ };
-
-    /// How often the sink failed, up to the greatest u64.
-    ghost faults: { Self → ℕ };
+    /// The bytes taken so far and for how many more there is room, where the sink tells them, and how often it failed.
+    ghost shown: { Self → SinkView };
 
     /// Takes bytes from the front of a piece, and says how many. It takes none only where the count of faults rose in
     /// this call, be the answer `SinkFailed` or 0. Where the sink tells a room that holds the piece, the count stays.
@@ -26,11 +20,14 @@ pub trait Sink {
         requires { 0 < length piece.now }
 
         ensures within { IfOk result (λ taken. taken ≤ length piece.now) }
-        ensures told { told self.new ≡ appended (told self.old) (take (result_unwrap_or result 0) piece.now) }
+        ensures told { let front = take (result_unwrap_or result 0) piece.now in
+            (shown self.new).told ≡ appended (shown self.old).told front }
 
-        ensures faults { faults self.old ≤ faults self.new }
-        ensures none_taken { result_unwrap_or result 0 ≡ 0 → Rose (faults self.old) (faults self.new) }
+        ensures faults { (shown self.old).faults ≤ (shown self.new).faults }
+        ensures none_taken { result_unwrap_or result 0 ≡ 0 →
+            Rose (shown self.old).faults (shown self.new).faults }
 
-        ensures room { room self.new ≡ lowered (room self.old) (result_unwrap_or result 0) }
-        ensures has_room { HasRoom (room self.old) (length piece.now) → faults self.new ≡ faults self.old };
+        ensures room { (shown self.new).room ≡ lowered (shown self.old).room (result_unwrap_or result 0) }
+        ensures has_room { HasRoom (shown self.old).room (length piece.now) →
+            (shown self.new).faults ≡ (shown self.old).faults };
 }

@@ -34,11 +34,7 @@ impl<'a, R: Print> StdSink<'a, R> {
 impl<'a, R: Print> Sink for StdSink<'a, R> {
     ghost use Rattle.std.specs.Prelude.{None};
 
-    ghost told = { λ _. None };
-
-    ghost room = { λ _. None };
-
-    ghost faults = { λ faults. faults };
+    ghost shown = { λ faults. record { told = None; room = None; faults = faults } };
 
     fn write(&mut self, piece: &[u8]) -> Result<usize, SinkFailed>
         requires { 0 < length piece.now }

@@ -1,8 +1,8 @@
 //! A text on a sink, line by line.
 
-ghost use Rattle.std.specs.Prelude.{◌≡◌, ◌≢◌, ◌<◌, ◌≤◌, ◌+◌, ◌-◌, ◌^◌, ◌++◌, List, ℕ, length, slice_index, IsOk, OnOk, OnErr};
+ghost use Rattle.std.specs.Prelude.{◌≡◌, ◌≢◌, ◌<◌, ◌≤◌, ◌+◌, ◌-◌, ◌^◌, ℕ, length, slice_index, IsOk, OnOk, OnErr};
 ghost use Rattle.outside.specs.Counts.{Rose};
-ghost use Rattle.outside.specs.Sink.{appended, lowered, HasRoom};
+ghost use Rattle.outside.specs.Sink.{appended, lowered, HasRoom, TookPrefix};
 
 use crate::{Sink, SinkFailed};
 
@@ -10,17 +10,19 @@ use crate::{Sink, SinkFailed};
 /// of the piece is offered again. An error comes only where the sink's count of faults rose in this call; the sink then
 /// has taken a prefix of the text.
 pub fn write_text<S: Sink>(sink: &mut S, text: &[u8]) -> Result<(), SinkFailed>
-    ensures written { OnOk result (S.told sink.new ≡ appended (S.told sink.old) text.now) }
-    ensures prefix { OnErr result ((front : List ℕ) × (back : List ℕ)
-        × (text.now ≡ front ++ back) × (S.told sink.new ≡ appended (S.told sink.old) front)) }
+    ensures written { OnOk result ((S.shown sink.new).told ≡ appended (S.shown sink.old).told text.now) }
+    ensures prefix { OnErr result (TookPrefix (S.shown sink.old) (S.shown sink.new) text.now) }
 
-    ensures faults { S.faults sink.old ≤ S.faults sink.new }
-    ensures failed { OnErr result (Rose (S.faults sink.old) (S.faults sink.new)) }
+    ensures faults { (S.shown sink.old).faults ≤ (S.shown sink.new).faults }
+    ensures failed { OnErr result (Rose (S.shown sink.old).faults (S.shown sink.new).faults) }
 
     // A told room that holds the text keeps the count, so the text is written.
-    ensures has_room { HasRoom (S.room sink.old) (length text.now) → S.faults sink.new ≡ S.faults sink.old }
-    ensures fits { HasRoom (S.room sink.old) (length text.now) → S.faults sink.old < 2 ^ 64 - 1 → IsOk result }
-    ensures room { OnOk result (S.room sink.new ≡ lowered (S.room sink.old) (length text.now)) }
+    ensures has_room { HasRoom (S.shown sink.old).room (length text.now) →
+        (S.shown sink.new).faults ≡ (S.shown sink.old).faults }
+    ensures fits { HasRoom (S.shown sink.old).room (length text.now) →
+        (S.shown sink.old).faults < 2 ^ 64 - 1 → IsOk result }
+    ensures room { OnOk result
+        ((S.shown sink.new).room ≡ lowered (S.shown sink.old).room (length text.now)) }
 {
     let mut rest = text;
     while !rest.is_empty() {
@@ -47,15 +49,16 @@ fn line_len(text: &[u8]) -> usize
 
 /// Offers a piece until the sink has taken all of it, or failed.
 fn write_piece<S: Sink>(sink: &mut S, piece: &[u8]) -> Result<(), SinkFailed>
-    ensures written { OnOk result (S.told sink.new ≡ appended (S.told sink.old) piece.now) }
-    ensures prefix { OnErr result ((front : List ℕ) × (back : List ℕ)
-        × (piece.now ≡ front ++ back) × (S.told sink.new ≡ appended (S.told sink.old) front)) }
+    ensures written { OnOk result ((S.shown sink.new).told ≡ appended (S.shown sink.old).told piece.now) }
+    ensures prefix { OnErr result (TookPrefix (S.shown sink.old) (S.shown sink.new) piece.now) }
 
-    ensures faults { S.faults sink.old ≤ S.faults sink.new }
-    ensures failed { OnErr result (Rose (S.faults sink.old) (S.faults sink.new)) }
+    ensures faults { (S.shown sink.old).faults ≤ (S.shown sink.new).faults }
+    ensures failed { OnErr result (Rose (S.shown sink.old).faults (S.shown sink.new).faults) }
 
-    ensures has_room { HasRoom (S.room sink.old) (length piece.now) → S.faults sink.new ≡ S.faults sink.old }
-    ensures room { OnOk result (S.room sink.new ≡ lowered (S.room sink.old) (length piece.now)) }
+    ensures has_room { HasRoom (S.shown sink.old).room (length piece.now) →
+        (S.shown sink.new).faults ≡ (S.shown sink.old).faults }
+    ensures room { OnOk result
+        ((S.shown sink.new).room ≡ lowered (S.shown sink.old).room (length piece.now)) }
 {
     let mut rest = piece;
     while !rest.is_empty() {

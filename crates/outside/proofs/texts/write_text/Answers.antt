@@ -4,18 +4,17 @@ use Rattle.outside.proofs.SinkLemmas.{took_none, took_more, took_part, quiet_aft
 use Rattle.outside.proofs.texts.write_text.Goals as goal
 
 pub loop-rest-init : goal.loop-rest-init
-loop-rest-init g c = took_none _ _ _ _ _
+loop-rest-init g c = took_none _ _
 
 pub returns-in_err-write_piece-clause-prefix : goal.returns-in_err-write_piece-clause-prefix
 returns-in_err-write_piece-clause-prefix g c =
-    let part = c.in_err-write_piece.ensures.prefix in
     on_err c.from_residual.result
-    (took_part g.S.Sink.told g.S.Sink.room g.S.Sink.faults _ c.loop-rest.sink c.write_piece.new.sink _ c.loop-rest.rest.now c.split_at.result.0.now c.split_at.result.1.now part.0 part.1
-    c.loop-rest.invariant c.split_at.ensures.by_index.0 part.2 part.3)
+    (took_part _ _ _ _ c.loop-rest.rest.now c.split_at.result.0.now c.split_at.result.1.now
+    c.loop-rest.invariant c.split_at.ensures.by_index.0 c.in_err-write_piece.ensures.prefix)
 
 pub returns-in_err-write_piece-clause-has_room : goal.returns-in_err-write_piece-clause-has_room
 returns-in_err-write_piece-clause-has_room g c =
-    quiet_after _ _ _ _ _ _ _ _ c.loop-rest.invariant
+    quiet_after _ _ (g.S.Sink.shown c.write_piece.new.sink) _ _ c.loop-rest.invariant
     (λ h. c.in_err-write_piece.ensures.has_room (HasRoom-less _ (length c.split_at.result.0.now) (length c.loop-rest.rest.now) (omega (arith, c.split_at.ensures.front_len, c.line_len.ensures.within)) h))
 
 pub returns-in_err-write_piece-clause-fits : goal.returns-in_err-write_piece-clause-fits
@@ -25,7 +24,7 @@ returns-in_err-write_piece-clause-fits g c h below =
 
 pub loop-rest-preserved : goal.loop-rest-preserved
 loop-rest-preserved g c =
-    took_more g.S.Sink.told g.S.Sink.room g.S.Sink.faults _ c.loop-rest.sink c.write_piece.new.sink _ c.loop-rest.rest.now c.split_at.result.0.now c.split_at.result.1.now
+    took_more _ _ _ _ c.loop-rest.rest.now c.split_at.result.0.now c.split_at.result.1.now
     c.loop-rest.invariant
     c.split_at.ensures.by_index.0
     c.in_ok-write_piece.ensures.written

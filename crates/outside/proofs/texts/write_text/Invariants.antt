@@ -3,7 +3,7 @@ use Rattle.outside.proofs.SinkLemmas.{Took}
 use Rattle.outside.proofs.texts.write_text.Given as goal
 
 abbrev pub invariant-loop-rest : goal.invariant-loop-rest
-invariant-loop-rest g l = Took g.S.Sink.told g.S.Sink.room g.S.Sink.faults l.fn.sink l.sink l.fn.text l.rest
+invariant-loop-rest g l = Took (g.S.Sink.shown l.fn.sink) (g.S.Sink.shown l.sink) l.fn.text l.rest
 
 abbrev pub decreases-loop-rest : goal.decreases-loop-rest
 decreases-loop-rest g l = length l.rest
