@@ -1,8 +1,7 @@
 //! Where suites, class files and records are read from.
 
-ghost use Rattle.std.specs.Prelude.{◌≡◌, ◌<◌, ◌≤◌, List, ℕ, length, Option, IfOk, IfSome, IsSomeAnd, IsErrOf};
-ghost use Rattle.outside.specs.Counts.{Rose};
-ghost use Rattle.outside.specs.Depot.{content};
+ghost use Rattle.std.specs.Prelude.{◌≡◌, ◌<◌, ◌≤◌, length, IfOk, IfSome, IsSomeAnd, IsErrOf};
+ghost use Rattle.outside.specs.Depot.{DepotView, FailedAt, content};
 
 use et_base::{NoMemory, Text};
 use std::alloc::AllocError;
@@ -44,32 +43,28 @@ impl From<AllocError> for DepotRefusal {
 
 /// A finite map from names to bytes, which may fail.
 pub trait Depot {
-    /// The files by name, where the depot tells them. Of two with one name the first counts.
-    ghost told: { Self → Option (List (List ℕ × List ℕ)) };
-
-    /// How often the depot failed, up to the greatest u64.
-    ghost faults: { Self → ℕ };
-
-    /// The name of the last read that answered `Failed`, where one did.
-    ghost last_failed: { Self → Option (List ℕ) };
+    /// The files by name, where the depot tells them; how often it failed; and the name of the last read that answered
+    /// `Failed`, where one did.
+    ghost shown: { Self → DepotView };
 
     /// The bytes of a file, at most `limit` of them. `Absent` comes where no file has the name, `TooLong` where the
     /// file is longer than `limit`, and `Failed` only where the count of faults rose in this call. The depot
     /// remembers the name of a read that answers `Failed`, until another does.
     fn read(&mut self, name: &Text, limit: u64) -> Result<Vec<u8>, DepotRefusal>
-        ensures told { told self.new ≡ told self.old }
-        ensures faults { faults self.old ≤ faults self.new }
+        ensures told { (shown self.new).told ≡ (shown self.old).told }
+        ensures faults { (shown self.old).faults ≤ (shown self.new).faults }
 
         ensures within { IfOk result (λ bytes. length bytes.items ≤ limit) }
         ensures bytes { IfOk result (λ bytes.
-            IfSome (told self.old) (λ files. content files name.now ≡ Some bytes.items)) }
+            IfSome (shown self.old).told (λ files. content files name.now ≡ Some bytes.items)) }
 
         ensures absent { IsErrOf result DepotRefusal.Absent →
-            IfSome (told self.old) (λ files. content files name.now ≡ None) }
+            IfSome (shown self.old).told (λ files. content files name.now ≡ None) }
         ensures too_long { IsErrOf result DepotRefusal.TooLong →
-            IfSome (told self.old) (λ files. IsSomeAnd (content files name.now) (λ bytes. limit < length bytes)) }
+            IfSome (shown self.old).told (λ files. IsSomeAnd (content files name.now) (λ bytes. limit < length bytes)) }
 
-        ensures failed { IsErrOf result DepotRefusal.Failed → Rose (faults self.old) (faults self.new) }
-        ensures failed_name { IsErrOf result DepotRefusal.Failed → last_failed self.new ≡ Some name.now }
-        ensures other_answer { (IsErrOf result DepotRefusal.Failed → ⊥) → last_failed self.new ≡ last_failed self.old };
+        ensures failed { IsErrOf result DepotRefusal.Failed →
+            FailedAt (shown self.old) (shown self.new) name.now }
+        ensures other_answer { (IsErrOf result DepotRefusal.Failed → ⊥) →
+            (shown self.new).last_failed ≡ (shown self.old).last_failed };
 }

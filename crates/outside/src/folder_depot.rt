@@ -108,11 +108,7 @@ fn read_whole<F: Read>(alloc: Global, file: &mut F, limit: u64) -> Result<Vec<u8
 impl<'a, R: Files> Depot for FolderDepot<'a, R> {
     ghost use Rattle.std.specs.Prelude.{None};
 
-    ghost told = { λ _. None };
-
-    ghost faults = { λ d. d.faults };
-
-    ghost last_failed = { λ d. d.last_failed };
+    ghost shown = { λ d. record { told = None; faults = d.faults; last_failed = d.last_failed } };
 
     fn read(&mut self, name: &Text, limit: u64) -> Result<Vec<u8>, DepotRefusal>
         ensures within { IfOk result (λ bytes. length bytes.items ≤ limit) }
@@ -125,7 +121,8 @@ impl<'a, R: Files> Depot for FolderDepot<'a, R> {
 
         // It remembers the name where it answers one.
         ensures failed_name { IsErrOf result DepotRefusal.Failed → self.new.last_failed ≡ Some name.now }
-        ensures other_answer { (IsErrOf result DepotRefusal.Failed → ⊥) → self.new.last_failed ≡ self.old.last_failed }
+        ensures other_answer { (IsErrOf result DepotRefusal.Failed → ⊥) →
+            self.new.last_failed ≡ self.old.last_failed }
     {
         let answer = self.read_file(name, limit);
         if let Err(DepotRefusal::Failed) = &answer {

@@ -68,11 +68,7 @@ impl MemoryDepot {
 impl Depot for MemoryDepot {
     ghost use Rattle.std.specs.Prelude.{Some};
 
-    ghost told = { λ d. Some d.files };
-
-    ghost faults = { λ d. d.faults };
-
-    ghost last_failed = { λ d. d.last_failed };
+    ghost shown = { λ d. record { told = Some d.files; faults = d.faults; last_failed = d.last_failed } };
 
     fn read(&mut self, name: &Text, limit: u64) -> Result<Vec<u8>, DepotRefusal>
         ensures files { self.new.files ≡ self.old.files }
@@ -95,7 +91,8 @@ impl Depot for MemoryDepot {
         ensures rose { IsErrOf result DepotRefusal.Failed → Rose self.old.faults self.new.faults }
         ensures later { self.old.faults ≤ self.new.faults }
         ensures failed_name { IsErrOf result DepotRefusal.Failed → self.new.last_failed ≡ Some name.now }
-        ensures other_answer { (IsErrOf result DepotRefusal.Failed → ⊥) → self.new.last_failed ≡ self.old.last_failed }
+        ensures other_answer { (IsErrOf result DepotRefusal.Failed → ⊥) →
+            self.new.last_failed ≡ self.old.last_failed }
     {
         self.calls = raise(self.calls);
         if is_listed(&self.fail, self.calls) {

@@ -17,10 +17,9 @@ pub struct QuietDepot {
 }
 
 impl Model for QuietDepot {
-    ghost use Rattle.std.specs.Prelude.{ℕ, List};
-    ghost use Rattle.outside.specs.Depot.{files_of};
+    ghost use Rattle.outside.specs.Depot.{Files, files_of};
 
-    ghost Value = { List (List ℕ × List ℕ) };
+    ghost Value = { Files };
 
     ghost view = { λ d. files_of d.files.items };
 }
@@ -37,11 +36,7 @@ impl QuietDepot {
 impl Depot for QuietDepot {
     ghost use Rattle.std.specs.Prelude.{Some, None};
 
-    ghost told = { λ files. Some files };
-
-    ghost faults = { λ _. 0 };
-
-    ghost last_failed = { λ _. None };
+    ghost shown = { λ files. record { told = Some files; faults = 0; last_failed = None } };
 
     fn read(&mut self, name: &Text, limit: u64) -> Result<Vec<u8>, DepotRefusal> {
         read_file(self.alloc, &self.files, name, limit)

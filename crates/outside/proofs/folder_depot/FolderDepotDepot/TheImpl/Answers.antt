@@ -10,7 +10,6 @@ read-tells g c = record {
   bytes = untold c.result;
   absent = λ _. tt;
   too_long = λ _. tt;
-  failed = c.ensures.rose;
-  failed_name = c.ensures.failed_name;
+  failed = λ failed. record { rose = c.ensures.rose failed; named = c.ensures.failed_name failed };
   other_answer = c.ensures.other_answer;
 }
