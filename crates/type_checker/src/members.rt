@@ -165,7 +165,7 @@ pub fn get_field(alloc: Global, p: &Program, named: u32, field: u32) -> Result<S
     Ok(plain(alloc, takes, text_types(alloc, field_descriptor(p, field))?))
 }
 
-// The object of a putfield.
+// The object of a putfield: also an uninitialised `this`, where the named and the declaring class are the current one.
 fn owner_need(
     alloc: Global,
     p: &Program,
@@ -176,7 +176,7 @@ fn owner_need(
 ) -> Result<Need, NoMemory>
     ensures { IfOk result (λ n. n ≡ owner_need p.now e.now named (field_at p.now field) t.now) }
 {
-    if same(t, &VType::UninitThis) && field_class(p, field) == e.class {
+    if same(t, &VType::UninitThis) && (named == e.class && field_class(p, field) == e.class) {
         return Ok(Need::Fits(VType::UninitThis));
     }
     object_need(alloc, p, named)

@@ -22,19 +22,10 @@ use Rattle.type_frames.specs.declared.vtype.VType.{VType}
 use Rattle.type_frames.specs.declared.vtype.VType.TheVariants.{Top, Int, Long, Null, Object, UninitThis, Uninit}
 use Rattle.type_frames.specs.Descriptors.{class_name, name_of}
 use Rattle.type_frames.specs.Assign.{class_named, takes_any, extends, class_fits, element_fits, is_array, object_fits, assignable}
+use Rattle.type_frames.specs.AssignLaws.{InForm, IsReference, ItselfLaw, TransitiveLaw, ReferenceLaw}
 use Rattle.type_frames.proofs.Units.{units_refl, units_true}
 
 -- ---- each type may stand for itself
-
--- an object's type is named as a Class entry names it: by a class name or an array's descriptor (JVMS 4.4.1)
-abbrev pub InForm : VType → Type 0
-InForm (Object a) = is_class_entry_name a ≡ true
-InForm t = Unit {0}
-
-abbrev pub IsReference : VType → Type 0
-IsReference Null = Unit {0}
-IsReference (Object a) = Unit {0}
-IsReference t = ⊥
 
 abbrev is_bracket : ℕ → Bool
 is_bracket u = nat_eq u 91
@@ -313,3 +304,14 @@ module _ (p : Program) (l : Linked p) where
     | inr q ↦ or_right (nat_eq c object_class) (is_interface_at p c) q
   ])
   interface_takes c h i t r = absurd r
+
+-- ---- the laws as functions state them
+
+pub itself_law : ItselfLaw
+itself_law p t h = assignable_itself p t h
+
+pub transitive_law : TransitiveLaw
+transitive_law p l a b c e f = assignable_trans p l a b c e f
+
+pub reference_law : ReferenceLaw
+reference_law p l c h i t r = interface_takes p l c h i t r

@@ -1,6 +1,7 @@
 pub mod Frames
 pub mod Descriptors
 pub mod Assign
+pub mod AssignLaws
 pub mod Given
 pub mod Places
 pub mod MapReading

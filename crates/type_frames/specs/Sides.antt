@@ -198,10 +198,10 @@ return_sides e f s = return_typed e.result (e.starts && f.flag) s
 
 -- Fields.
 
--- The object of a putfield: before its `<init>` called another one, `this` of an `<init>`, for a field that the current
--- class declares.
+-- The object of a putfield: before its `<init>` called another one, also `this` of an `<init>`, where the class that the
+-- entry names and the class that declares the field are both the current one (JVMS 4.10.1.9, putfield).
 abbrev pub owner_need : Program → Environment → ℕ → FieldRec → VType → Need
-owner_need p e named x t = cond (same t UninitThis && nat_eq x.class e.class) (Fits UninitThis) (Fits (object_of p named))
+owner_need p e named x t = cond (same t UninitThis && (nat_eq named e.class && nat_eq x.class e.class)) (Fits UninitThis) (Fits (object_of p named))
 
 abbrev pub put_field_sides : Program → Environment → Slots → ℕ → FieldRec → Sides
 put_field_sides p e f named x = plain (needs_of x.descriptor ++ owner_need p e named x (place_of f (length (needs_of x.descriptor))) ∷ []) []

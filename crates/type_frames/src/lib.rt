@@ -6,6 +6,7 @@ mod checked;
 mod descriptors;
 mod fault;
 mod given;
+mod laws;
 mod places;
 mod sides;
 mod vtype;
@@ -20,6 +21,7 @@ pub use given::{
     code_places, copy_type, entry_types, given_frames, is_constructor, object_of, padded,
     read_frames, spread,
 };
+pub use laws::{itself_law, reference_law, transitive_law};
 pub use places::Places;
 pub use sides::{Need, Reading, Setting, Sides, Turn};
 pub use vtype::{Frame, VType};
