@@ -16,6 +16,7 @@ pub mod Same
 pub mod Leaves
 pub mod Histories
 pub mod OwnRecord
+pub mod Posts
 pub mod Plans
 pub mod Walks
 pub mod WalksThere

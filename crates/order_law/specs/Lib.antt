@@ -9,8 +9,8 @@ pub mod FrameLaw
 pub mod Conflicts
 pub mod Histories
 pub mod OwnRecord
-pub mod Plan
 pub mod RecordForm
+pub mod Plan
 pub mod Reach
 pub mod OrderFault
 pub mod Walk

@@ -6,7 +6,8 @@ use Rattle.jvm_model.specs.declared.program.Program.{Program}
 use Rattle.jvm_model.specs.Suite.{last_outcome, seq, is_detected}
 use Rattle.jvm_model.specs.Linked.{Linked}
 use Rattle.order_law.specs.declared.edges.Edge.{Edge}
-use Rattle.order_law.specs.Conflicts.{Member, Joined, ClosedUnderRaw}
+use Rattle.order_law.specs.Conflicts.{Member, Distinct, Joined, ClosedUnderRaw}
+use Rattle.order_law.specs.RecordForm.{are_chains}
 use Rattle.order_law.specs.Histories.{RecordOf, IsTestNumber}
 
 abbrev pub chain_at : List (List ℕ) → ℕ → List ℕ
@@ -86,6 +87,62 @@ abbrev pub PostsOnce : List (List ℕ) → List Event → Type 0
 PostsOnce C [] = Unit {0}
 PostsOnce C (claim w c ∷ es) = PostsOnce C es
 PostsOnce C (post w l t o ∷ es) = (Posted es t → ⊥) × ((i : ℕ) × Member t (chain_at C i)) × PostsOnce C es
+
+-- no test stands in two chains, or twice in one
+pub record AreApart (C : List (List ℕ)) : Type 0 where
+  pub apart : (i j t : ℕ) → Member t (chain_at C i) → Member t (chain_at C j) → i ≡ j
+  pub once : (i : ℕ) → Distinct (chain_at C i)
+
+-- these chains, which are named the latest first, one after the other
+abbrev pub whole_chains : List (List ℕ) → List ℕ → List ℕ
+whole_chains C [] = []
+whole_chains C (c ∷ cs) = whole_chains C cs ++ chain_at C c
+
+-- the list is the chains that a worker claimed, but of the last one only its first tests
+abbrev pub IsListOf : List (List ℕ) → List ℕ → List ℕ → Type 0
+IsListOf C [] l = l ≡ []
+IsListOf C (c ∷ cs) l = (front : List ℕ) × (rest : List ℕ) × (chain_at C c ≡ front ++ rest) × (l ≡ whole_chains C cs ++ front)
+
+-- The list is whole chains, each once, and then the first tests of one more, whose next one is t.
+pub record IsWholeThenPart (C : List (List ℕ)) (l : List ℕ) (t : ℕ) : Type 0 where
+  pub whole : List ℕ
+  pub last : ℕ
+  pub front : List ℕ
+  pub rest : List ℕ
+  pub once : Distinct (last ∷ whole)
+  pub split : chain_at C last ≡ front ++ (t ∷ rest)
+  pub list : l ≡ whole_chains C whole ++ front
+
+-- each post is of such a list and its next test
+abbrev pub PostsInChains : List (List ℕ) → List Event → Type 0
+PostsInChains C [] = Unit {0}
+PostsInChains C (claim w c ∷ es) = PostsInChains C es
+PostsInChains C (post w l t o ∷ es) = IsWholeThenPart C l t × PostsInChains C es
+
+-- What a legal history does by the rules of claims and posts alone.
+pub record IsOrderly (C : List (List ℕ)) (es : List Event) : Type 0 where
+  -- a chain is claimed once at most
+  pub claimed_once : (w : ℕ) → Distinct (claims es w)
+  pub one_claimer : (w v i : ℕ) → Member i (claims es w) → Member i (claims es v) → w ≡ v
+  -- a test is posted once at most, and is of a chain
+  pub once : PostsOnce C es
+  -- a worker's list is its chains in the order of its claims
+  pub lists : (w : ℕ) → IsListOf C (claims es w) (reverse (posts es w))
+  pub posted : PostsInChains C es
+  -- and so is the list after which it runs its next test, which is the only one
+  pub next : (w t i : ℕ) (rest : List ℕ) → claims es w ≡ i ∷ rest → NextOf es (chain_at C i) t → IsWholeThenPart C (reverse (posts es w)) t
+  pub one_next : (i t u : ℕ) → NextOf es (chain_at C i) t → NextOf es (chain_at C i) u → t ≡ u
+
+-- Legal histories over chains that are apart, of whatever record and program.
+abbrev pub LawOfHistories : Type 0
+LawOfHistories = (p : Program) (C : List (List ℕ)) (n : ℕ) (es : List Event) → AreApart C → Legal p C n es → IsOrderly C es
+
+-- Chains of the form that lists of chains have are apart, and so are those of a set.
+abbrev pub FormsApart : Type 0
+FormsApart = (C : List (List ℕ)) → are_chains C ≡ true → AreApart C
+
+abbrev pub ChainsApart : Type 0
+ChainsApart = (R : List Edge) (set : List ℕ) (C : List (List ℕ)) → AreChainsOf R (λ t. Member t set) C → AreApart C
 
 -- each post has the outcome of the suite's own order
 abbrev pub PostsSequential : Program → List Event → Type 0

@@ -3,7 +3,7 @@
 
 ghost use Rattle.order_law.specs.FrameLaw.{FrameLaw};
 ghost use Rattle.order_law.specs.Histories.{LawOfOrder};
-ghost use Rattle.order_law.specs.Plan.{LawOfInterleavings};
+ghost use Rattle.order_law.specs.Plan.{LawOfInterleavings, LawOfHistories, ChainsApart, FormsApart};
 ghost use Rattle.order_law.specs.OwnRecord.{OwnLaw, EdgesLaw};
 ghost use Rattle.order_law.specs.Walk.{WalkLaw};
 
@@ -36,6 +36,15 @@ pub fn lawful_order_law()
 /// have that outcome too, so that it meets no budget.
 pub fn interleavings_law()
     ensures { LawOfInterleavings }
+{}
+
+/// Legal histories by their rules alone, of whatever record. A chain is claimed once at most, and a test posted once at most;
+/// each worker's list is whole chains in the order of its claims, each once, and then the first tests of one more. The
+/// chains of a set are apart, as this asks, and so are those of the form that lists of chains have.
+pub fn histories_law()
+    ensures orderly { LawOfHistories }
+    ensures chains { ChainsApart }
+    ensures forms { FormsApart }
 {}
 
 /// The walk to an object. To each object that an earlier test made and of which a test touches something, the test came by
