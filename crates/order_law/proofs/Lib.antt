@@ -17,6 +17,7 @@ pub mod Leaves
 pub mod Histories
 pub mod OwnRecord
 pub mod Posts
+pub mod OrderFaults
 pub mod Plans
 pub mod Walks
 pub mod WalksThere

@@ -237,7 +237,7 @@ ascending_distinct (t ∷ l) a = ((λ i. absurd (let h = a.0 t i in omega arith)
 pub chains_apart : ChainsApart
 chains_apart R S C cs = record { apart = cs.apart; once = λ i. ascending_distinct (chain_at C i) (cs.ascending i) }
 
-member_true : (x : ℕ) (l : List ℕ) → Member x l → member x l ≡ true
+pub member_true : (x : ℕ) (l : List ℕ) → Member x l → member x l ≡ true
 member_true x [] i = absurd i
 member_true x (y ∷ l) i = elim i [ inl e ↦ or_left (nat_eq x y) (member x l) (eq-eqb x y e) | inr j ↦ or_right (nat_eq x y) (member x l) (member_true x l j) ]
 

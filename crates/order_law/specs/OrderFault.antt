@@ -1,8 +1,8 @@
 -- The first reason why a list of tests isn't lawful by the edges of a record (this project's order of reasons).
-use Rattle.std.specs.Prelude.{◌≡◌, ℕ, ◌<◌, List, take, slice_get, Some}
+use Rattle.std.specs.Prelude.{◌≡◌, ◌⊎◌, ℕ, ◌<◌, List, take, slice_get, Some}
 use Rattle.order_law.specs.declared.edges.Edge.{Edge}
 use Rattle.order_law.specs.declared.edges.EdgeKind.TheVariants.{Raw}
-use Rattle.order_law.specs.Conflicts.{Member, HasEdge, Before, Distinct}
+use Rattle.order_law.specs.Conflicts.{Member, HasEdge, Before, Distinct, Lawful}
 
 pub data OrderFault : Type 0 where
   -- a test that stands there twice
@@ -52,3 +52,12 @@ pub data IsOrderFault (R : List Edge) (l : List ℕ) : OrderFault → Type 0 whe
   is_twice : {t : ℕ} → IsTwice l t → IsOrderFault R l (twice t)
   is_missing : {t u : ℕ} → Distinct l → IsMissing R l t u → IsOrderFault R l (missing_writer t u)
   is_inverted : {a b : ℕ} → Distinct l → ((t : ℕ) → Member t l → HasWriters R l t) → IsInverted R l a b → IsOrderFault R l (inverted a b)
+
+-- A list has a fault exactly where it isn't lawful, and then one.
+pub record HasOneFault (R : List Edge) (l : List ℕ) : Type 0 where
+  pub either : Lawful R l ⊎ ((x : OrderFault) × IsOrderFault R l x)
+  pub unlawful : (x : OrderFault) → IsOrderFault R l x → Lawful R l → ⊥
+  pub one : (x y : OrderFault) → IsOrderFault R l x → IsOrderFault R l y → x ≡ y
+
+abbrev pub LawOfFaults : Type 0
+LawOfFaults = (R : List Edge) (l : List ℕ) → HasOneFault R l

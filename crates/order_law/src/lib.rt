@@ -5,6 +5,7 @@ ghost use Rattle.order_law.specs.FrameLaw.{FrameLaw};
 ghost use Rattle.order_law.specs.Histories.{LawOfOrder};
 ghost use Rattle.order_law.specs.Plan.{LawOfInterleavings, LawOfHistories, ChainsApart, FormsApart};
 ghost use Rattle.order_law.specs.OwnRecord.{OwnLaw, EdgesLaw};
+ghost use Rattle.order_law.specs.OrderFault.{LawOfFaults};
 ghost use Rattle.order_law.specs.Walk.{WalkLaw};
 
 mod edges;
@@ -45,6 +46,12 @@ pub fn histories_law()
     ensures orderly { LawOfHistories }
     ensures chains { ChainsApart }
     ensures forms { FormsApart }
+{}
+
+/// The first fault of a list of tests by the edges of a record. There is one exactly where the list isn't lawful, and then
+/// one alone.
+pub fn order_fault_law()
+    ensures { LawOfFaults }
 {}
 
 /// The walk to an object. To each object that an earlier test made and of which a test touches something, the test came by
