@@ -4,7 +4,7 @@ use Rattle.std.specs.List.{list_all, list_any}
 use Rattle.jvm_model.specs.declared.program.Program.{Program}
 use Rattle.jvm_model.specs.declared.program.ClassRec.{ClassRec}
 use Rattle.jvm_model.specs.declared.program.MethodRec.{MethodRec}
-use Rattle.jvm_model.specs.World.{same_units}
+use Rattle.std.specs.Str.{bytes_eq}
 use Rattle.jvm_model.specs.Builtin.{builtin_count}
 use Rattle.jvm_model.specs.Library.{builtin_defs, builtin_classes, builtin_fields, builtin_methods}
 use Rattle.jvm_model.specs.Classes.{no_class, no_field}
@@ -60,14 +60,14 @@ methods_listed = refl
 
 abbrev names_differ : List ClassRec → Bool
 names_differ [] = true
-names_differ (c ∷ cs) = not (list_any (λ d. same_units c.name d.name) cs) && names_differ cs
+names_differ (c ∷ cs) = not (list_any (λ d. bytes_eq c.name d.name) cs) && names_differ cs
 
 pub class_names_differ : names_differ builtin_classes ≡ true
 unfolding builtin_classes builtin_defs
 class_names_differ = refl
 
 abbrev same_method : MethodRec → MethodRec → Bool
-same_method m n = nat_eq m.class n.class && (same_units m.name n.name && same_units m.descriptor n.descriptor)
+same_method m n = nat_eq m.class n.class && (bytes_eq m.name n.name && bytes_eq m.descriptor n.descriptor)
 
 abbrev methods_differ : List MethodRec → Bool
 methods_differ [] = true

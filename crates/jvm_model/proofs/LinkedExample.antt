@@ -7,7 +7,8 @@ use Rattle.jvm_model.specs.declared.program.Body.{Body}
 use Rattle.jvm_model.specs.declared.program.Program.{Program}
 use Rattle.jvm_model.specs.declared.program.Placed.{Placed}
 use Rattle.jvm_model.specs.declared.instr.Instr.TheVariants as form
-use Rattle.jvm_model.specs.World.{same_units}
+use Rattle.std.specs.Str.{bytes_eq}
+use Rattle.std.proofs.lemmas.Slice.Eq.{bytes_eq-Decides}
 use Rattle.jvm_model.specs.Builtin.{object_class}
 use Rattle.jvm_model.specs.Library.{builtin_defs, builtin_classes, builtin_fields, builtin_methods}
 use Rattle.jvm_model.specs.Classes.{no_class, class_at, field_at, method_at, class_bound, is_static, default_of, member}
@@ -15,8 +16,6 @@ use Rattle.jvm_model.specs.Suite.{suite_limit}
 use Rattle.et_base.specs.Names.{is_class_name, is_unqualified, is_method_name, is_field_descriptor, is_method_descriptor, after_class, after_element, after_type, argument, arguments, argument_units}
 use Rattle.jvm_model.specs.Linked.{IsClass, IsField, IsMethod, IsGiven, HoldsBuiltins, NamesClass, NamesForm, NamesBody, NamesEntries, IsDirect, IsAncestor, direct, further, IsClassKind, IsFormKind, IsBodyKind, HasKinds, IsDistinct, count, IsInitialiser, IsListed, IsForm, IsBody, IsFormFound, FindsMembers, opens, HasOpenings, IsTest, Linked}
 use Rattle.std.proofs.lemmas.List.{get_or_past}
-use Rattle.jvm_model.proofs.Locations.{same_refl}
-use Rattle.jvm_model.specs.declared.values.Location.TheVariants as place
 use Rattle.jvm_model.proofs.ExampleParts.{body, returns, test}
 use Rattle.jvm_model.proofs.Examples.{return_suite}
 
@@ -233,15 +232,15 @@ kinds = record {
 }
 
 -- what has to differ differs
-units_same : (x y : List ℕ) → x ≡ y → same_units x y ≡ true
-units_same x y e = subst (λ (z : List ℕ). same_units x z ≡ true) e (same_refl (place.File x))
+units_same : (x y : List ℕ) → x ≡ y → bytes_eq x y ≡ true
+units_same x y e = (bytes_eq-Decides x y).1 e
 
-class_apart : apart 33 (λ c d. same_units (class_at p c).name (class_at p d).name) ≡ true
+class_apart : apart 33 (λ c d. bytes_eq (class_at p c).name (class_at p d).name) ≡ true
 unfolding builtin_classes builtin_defs
 class_apart = refl
 
 abbrev same_member : ℕ → ℕ → List ℕ → List ℕ → List ℕ → List ℕ → Bool
-same_member c d n k a b = nat_eq c d && (same_units n k && same_units a b)
+same_member c d n k a b = nat_eq c d && (bytes_eq n k && bytes_eq a b)
 
 field_apart : apart 2 (λ f g. same_member (field_at p f).class (field_at p g).class (field_at p f).name (field_at p g).name (field_at p f).descriptor (field_at p g).descriptor) ≡ true
 unfolding builtin_fields builtin_defs
@@ -252,11 +251,11 @@ unfolding builtin_methods builtin_defs
 method_apart = refl
 
 members_same : (c d : ℕ) (n k a b : List ℕ) → c ≡ d → n ≡ k → a ≡ b → same_member c d n k a b ≡ true
-members_same c d n k a b e f g = and_from (nat_eq c d) _ (eq-eqb c d e) (and_from (same_units n k) _ (units_same n k f) (units_same a b g))
+members_same c d n k a b e f g = and_from (nat_eq c d) _ (eq-eqb c d e) (and_from (bytes_eq n k) _ (units_same n k f) (units_same a b g))
 
 distinct : IsDistinct p
 distinct = record {
-  classes = λ c d h k e. apart_at 33 (λ x y. same_units (class_at p x).name (class_at p y).name) c d class_apart (in_classes c h) (in_classes d k) (units_same _ _ e);
+  classes = λ c d h k e. apart_at 33 (λ x y. bytes_eq (class_at p x).name (class_at p y).name) c d class_apart (in_classes c h) (in_classes d k) (units_same _ _ e);
   fields = λ f g h k e i j. apart_at 2 (λ x y. same_member (field_at p x).class (field_at p y).class (field_at p x).name (field_at p y).name (field_at p x).descriptor (field_at p y).descriptor) f g field_apart (in_fields f h) (in_fields g k)
       (members_same _ _ _ _ _ _ e i j);
   methods = λ m n h k e i j. apart_at 103 (λ x y. same_member (method_at p x).class (method_at p y).class (method_at p x).name (method_at p y).name (method_at p x).descriptor (method_at p y).descriptor) m n method_apart (in_methods m h) (in_methods n k)

@@ -2,23 +2,22 @@
 use Rattle.std.proofs.Common.{◌≡◌, ◌≢◌, ◌⊎◌, ℕ, zero, suc, ◌≤◌, Bool, true, false, List, [], ◌∷◌, ◌++◌, length, get_or, set, refl, sym, ◌∙◌, ap, subst, inl, inr, arith, rules, eqb, nat_eq, Some, None, get_or-set_same}
 use Rattle.std.proofs.lemmas.Bool.{cases_eq, cases_Bool, eqb-true, eq-eqb, and_parts, and_from, ltb-true, false_from_ne_true}
 use Rattle.std.proofs.lemmas.List.{get_or_past}
+use Rattle.std.proofs.lemmas.Slice.Eq.{bytes_eq-Decides}
 use Rattle.std.proofs.Math.Seq.{get_or-append_seam}
 use Rattle.std.proofs.lemmas.Grind.{common_steps, elements}
 use Rattle.jvm_model.specs.declared.values.Value.TheVariants.{Null}
 use Rattle.jvm_model.specs.declared.values.InitState.TheVariants.{Idle}
 use Rattle.jvm_model.specs.declared.values.Location.{Location}
 use Rattle.jvm_model.specs.declared.values.Location.TheVariants as place
-use Rattle.jvm_model.specs.World.{Content, Object, World, no_object, size, object_at, put_at, look, keep, same_units, text_or_empty, at, with_object, put, make_object, place_of, has, part, same}
+use Rattle.std.specs.Str.{bytes_eq}
+use Rattle.jvm_model.specs.World.{Content, Object, World, no_object, size, object_at, put_at, look, keep, text_or_empty, at, with_object, put, make_object, place_of, has, part, same}
 
-units_true : (x y : List ℕ) → same_units x y ≡ true → x ≡ y
-units_true [] [] e = refl
-units_true (a ∷ x) (b ∷ y) e = let q = and_parts (eqb a b) (same_units x y) e in let u = eqb-true a b q.0 in let v = units_true x y q.1 in cc
-units_true [] (b ∷ y) e = absurd (cc)
-units_true (a ∷ x) [] e = absurd (cc)
+-- texts by their test
+units_true : (x y : List ℕ) → bytes_eq x y ≡ true → x ≡ y
+units_true x y e = (bytes_eq-Decides x y).0 e
 
-units_refl : (x : List ℕ) → same_units x x ≡ true
-units_refl [] = refl
-units_refl (a ∷ x) = and_from (eqb a a) (same_units x x) (eq-eqb a a refl) (units_refl x)
+units_refl : (x : List ℕ) → bytes_eq x x ≡ true
+units_refl x = (bytes_eq-Decides x x).1 refl
 
 pub same_true : (L M : Location) → same L M ≡ true → L ≡ M
 same_true (place.Static f) (place.Static g) e = ap place.Static (eqb-true f g e)
@@ -95,14 +94,14 @@ at_put_same w (place.Head o) c h = ap (λ (x : Object). x.head) (get_or-set_same
 at_put_same w (place.Field o f) c h = ap (λ (x : Object). look nat_eq Null x.fields f) (get_or-set_same w.objects o (record (object_at w o) { fields = keep nat_eq (object_at w o).fields f c }) no_object (ltb-true o (size w) h)) ∙ keep_same nat_eq eqb-true (λ x. eq-eqb x x refl) Null (object_at w o).fields f c
 at_put_same w (place.Elem o i) c h = ap (λ (x : Object). get_or x.elems i Null) (get_or-set_same w.objects o (record (object_at w o) { elems = put_at Null (object_at w o).elems i c }) no_object (ltb-true o (size w) h)) ∙ put_at_same Null (object_at w o).elems i c
 at_put_same w (place.Text o) c h = ap (λ (x : Object). text_or_empty x.text) (get_or-set_same w.objects o (record (object_at w o) { text = Some c }) no_object (ltb-true o (size w) h))
-at_put_same w (place.File n) c h = keep_same same_units units_true units_refl None w.files n c
-at_put_same w (place.Prop n) c h = keep_same same_units units_true units_refl None w.props n c
+at_put_same w (place.File n) c h = keep_same bytes_eq units_true units_refl None w.files n c
+at_put_same w (place.Prop n) c h = keep_same bytes_eq units_true units_refl None w.props n c
 
 pub at_put_other : (w : World) (L M : Location) (c : Content L) → M ≢ L → at (put w L c) M ≡ at w M
 at_put_other w (place.Static f) (place.Static g) c n = put_at_other Null w.statics f g c (λ e. n (ap place.Static e))
 at_put_other w (place.Init f) (place.Init g) c n = put_at_other Idle w.states f g c (λ e. n (ap place.Init e))
-at_put_other w (place.File f) (place.File g) c n = keep_other same_units units_true units_refl None w.files f g c (λ e. n (ap place.File e))
-at_put_other w (place.Prop f) (place.Prop g) c n = keep_other same_units units_true units_refl None w.props f g c (λ e. n (ap place.Prop e))
+at_put_other w (place.File f) (place.File g) c n = keep_other bytes_eq units_true units_refl None w.files f g c (λ e. n (ap place.File e))
+at_put_other w (place.Prop f) (place.Prop g) c n = keep_other bytes_eq units_true units_refl None w.props f g c (λ e. n (ap place.Prop e))
 at_put_other w (place.Head a) (place.Head b) c n = still (λ x. x.head) w.objects a b _ (λ e. absurd (n (ap place.Head (sym e))))
 at_put_other w (place.Text a) (place.Text b) c n = still (λ x. text_or_empty x.text) w.objects a b _ (λ e. absurd (n (ap place.Text (sym e))))
 at_put_other w (place.Field a f) (place.Field b g) c n = still (λ x. look nat_eq Null x.fields g) w.objects a b _ (λ e. rw e (keep_other nat_eq eqb-true (λ x. eq-eqb x x refl) Null (object_at w b).fields f g c (λ q. n (let k : b ≡ a = sym e in cc))))

@@ -15,7 +15,8 @@ use Rattle.jvm_model.specs.declared.program.MethodRec.{MethodRec}
 use Rattle.jvm_model.specs.declared.program.Body.{Body}
 use Rattle.jvm_model.specs.declared.program.Placed.{Placed}
 use Rattle.jvm_model.specs.declared.instr.Instr.{Instr}
-use Rattle.jvm_model.specs.World.{Object, same_units}
+use Rattle.std.specs.Str.{bytes_eq}
+use Rattle.jvm_model.specs.World.{Object}
 
 -- what stands at a number that a program lacks
 abbrev pub no_class : ClassRec
@@ -91,7 +92,8 @@ own_interfaces p c = first_mentions (flat_map (λ j. lineage_in p class_bound j)
 unfoldable pub is_below : Program → ℕ → ℕ → Bool
 is_below p c d = member d (upwards p c)
 
--- the class or one above it implements the interface (JVMS 6.5, instanceof)
+-- the class or one above it implements the interface by its own entries, or those above them: an interface doesn't
+-- implement itself (JVMS 6.5, instanceof)
 unfoldable pub implements : Program → ℕ → ℕ → Bool
 implements p c i = member i (flat_map (λ d. own_interfaces p d) (upwards p c))
 
@@ -104,7 +106,7 @@ init_name = 60 ∷ 105 ∷ 110 ∷ 105 ∷ 116 ∷ 62 ∷ []
 
 -- a method with code that isn't static and isn't named `<clinit>`
 abbrev pub is_default_method : MethodRec → Bool
-is_default_method m = is_some m.body && (not (is_static m.flags) && not (same_units m.name clinit_name))
+is_default_method m = is_some m.body && (not (is_static m.flags) && not (bytes_eq m.name clinit_name))
 
 -- the default interfaces that a class starts itself: those of its own interfaces that declare such a method (JVMS 5.5)
 unfoldable pub default_interfaces : Program → ℕ → List ℕ

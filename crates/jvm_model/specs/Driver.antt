@@ -8,7 +8,7 @@ use Rattle.jvm_model.specs.declared.program.Body.{Body}
 use Rattle.jvm_model.specs.declared.state.Stage.{Stage}
 use Rattle.jvm_model.specs.declared.state.Stage.TheVariants.{First, Made, Built, SetUp, Called, Last}
 use Rattle.jvm_model.specs.declared.program.Program.{Program}
-use Rattle.jvm_model.specs.World.{same_units}
+use Rattle.std.specs.Str.{bytes_eq}
 use Rattle.jvm_model.specs.Access.{Access, done, read, make, spend, bind}
 use Rattle.jvm_model.specs.Builtin.{abstract_method_error, assertion_error, message_field}
 use Rattle.jvm_model.specs.Classes.{class_at, method_at, literal_at, upwards, is_below, is_static, layout, blank, instance_head, init_name}
@@ -31,7 +31,7 @@ tear_down_name = 116 ∷ 101 ∷ 97 ∷ 114 ∷ 68 ∷ 111 ∷ 119 ∷ 110 ∷ [
 -- the first instance method of a name and `()V` in a list of methods, and in a list of classes
 abbrev pub plain_method_in : Program → List ℕ → List ℕ → Option ℕ
 plain_method_in p name [] = None
-plain_method_in p name (m ∷ ms) = cond (not (is_static (method_at p m).flags) && (same_units (method_at p m).name name && same_units (method_at p m).descriptor no_arguments))
+plain_method_in p name (m ∷ ms) = cond (not (is_static (method_at p m).flags) && (bytes_eq (method_at p m).name name && bytes_eq (method_at p m).descriptor no_arguments))
     (Some m) (plain_method_in p name ms)
 
 abbrev pub plain_method_of : Program → List ℕ → List ℕ → Option ℕ

@@ -1,12 +1,12 @@
 -- What objects are instances of (JVMS 6.5, instanceof and aastore). At run time an array implements no interface.
-use Rattle.std.specs.Prelude.{ℕ, ◌-◌, Bool, true, false, cond, ◌&&◌, nat_eq, nat_lt}
+use Rattle.std.specs.Prelude.{ℕ, ◌-◌, Bool, true, false, cond, ◌&&◌, ◌||◌, nat_eq, nat_lt}
 use Rattle.jvm_model.specs.declared.values.Base.{Base}
 use Rattle.jvm_model.specs.declared.values.Base.TheVariants as base
 use Rattle.jvm_model.specs.declared.values.Kind.{Kind}
 use Rattle.jvm_model.specs.declared.values.Kind.TheVariants as kind
 use Rattle.jvm_model.specs.declared.program.Program.{Program}
 use Rattle.jvm_model.specs.Builtin.{object_class}
-use Rattle.jvm_model.specs.Classes.{class_at, is_interface, is_below, implements}
+use Rattle.jvm_model.specs.Classes.{is_below, implements}
 
 -- the class of an object; an array is of class Object
 abbrev pub class_of : Kind → ℕ
@@ -24,9 +24,9 @@ element_kind (kind.Array dims base.Short) = kind.Array (dims - 1) base.Short
 element_kind (kind.Array dims base.Int) = kind.Array (dims - 1) base.Int
 element_kind (kind.Array dims base.Long) = kind.Array (dims - 1) base.Long
 
--- an instance of class c is one of class or interface d
+-- an instance of class or interface c is one of d: it is d or below it, or implements it (JVMS 6.5, checkcast)
 unfoldable pub class_fits : Program → ℕ → ℕ → Bool
-class_fits p c d = cond (is_interface (class_at p d).flags) (implements p c d) (is_below p c d)
+class_fits p c d = is_below p c d || implements p c d
 
 -- innermost element types of arrays of as many dimensions
 abbrev pub base_fits : Program → Base → Base → Bool

@@ -10,7 +10,7 @@ use Rattle.jvm_model.specs.declared.library.Native.TheVariants as native
 use Rattle.jvm_model.specs.declared.program.ClassRec.{ClassRec}
 use Rattle.jvm_model.specs.declared.program.FieldRec.{FieldRec}
 use Rattle.jvm_model.specs.declared.program.MethodRec.{MethodRec}
-use Rattle.jvm_model.specs.World.{same_units}
+use Rattle.std.specs.Str.{bytes_eq}
 
 -- a method of an instance, and a static one
 abbrev pub plain : List ℕ → List ℕ → Native → MethodDef
@@ -148,7 +148,7 @@ builtin_defs = object_def ∷ string_def ∷ builder_def ∷ system_def ∷ stre
 -- the number of a class among definitions, from the number n on
 abbrev pub number_in : ℕ → List ClassDef → List ℕ → Option ℕ
 number_in n [] name = None
-number_in n (d ∷ ds) name = elim (same_units d.name name) [ true ↦ Some n | false ↦ number_in (n + 1) ds name ]
+number_in n (d ∷ ds) name = elim (bytes_eq d.name name) [ true ↦ Some n | false ↦ number_in (n + 1) ds name ]
 
 abbrev pub superclass_in : List ClassDef → Option (List ℕ) → Option ℕ
 superclass_in ds None = None

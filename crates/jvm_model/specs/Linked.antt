@@ -15,7 +15,7 @@ use Rattle.jvm_model.specs.declared.program.Body.{Body}
 use Rattle.jvm_model.specs.declared.program.Placed.{Placed}
 use Rattle.jvm_model.specs.declared.program.Handler.{Handler}
 use Rattle.jvm_model.specs.declared.program.TestEntry.{TestEntry}
-use Rattle.jvm_model.specs.World.{same_units}
+use Rattle.std.specs.Str.{bytes_eq}
 use Rattle.jvm_model.specs.Library.{builtin_classes, builtin_fields, builtin_methods}
 use Rattle.jvm_model.specs.Builtin.{builtin_count, object_class, throwable_class}
 use Rattle.jvm_model.specs.Classes.{class_at, field_at, method_at, is_static, is_interface, is_below, upwards, member, clinit_name, init_name, default_of}
@@ -290,7 +290,7 @@ class_descriptor name = 76 ∷ (name ++ (59 ∷ []))
 -- whether a type takes an instance of the named class, which is below Object alone: its own, Object, or an interface, which
 -- takes every reference
 abbrev pub takes : Program → List ℕ → List ℕ → Bool
-takes p t name = same_units t (class_descriptor name) || (same_units t (codes "Ljava/lang/Object;") || list_any (λ c. is_interface c.flags && same_units t (class_descriptor c.name)) p.classes)
+takes p t name = bytes_eq t (class_descriptor name) || (bytes_eq t (codes "Ljava/lang/Object;") || list_any (λ c. is_interface c.flags && bytes_eq t (class_descriptor c.name)) p.classes)
 
 -- whether a value opens a field of this type: null stands for floats and doubles too, which no code reads
 abbrev pub opens : Program → List ℕ → Value → Bool

@@ -3,17 +3,17 @@ use Rattle.std.specs.Prelude.{ℕ, zero, suc, List, [], ◌∷◌, ◌++◌, Boo
 use Rattle.jvm_model.specs.declared.values.Kind.{Kind}
 use Rattle.jvm_model.specs.declared.values.Kind.TheVariants as kind
 use Rattle.jvm_model.specs.declared.program.Program.{Program}
-use Rattle.jvm_model.specs.World.{same_units}
+use Rattle.std.specs.Str.{bytes_eq}
 use Rattle.jvm_model.specs.Builtin.{object_class}
 use Rattle.jvm_model.specs.Classes.{class_at, field_at, method_at, is_private, is_static, is_interface, class_bound, upwards, first_mentions, init_name}
 use Rattle.jvm_model.specs.Selection.{kept_of, has_code}
 
 -- the field n has this name and descriptor
 abbrev pub is_field : Program → List ℕ → List ℕ → ℕ → Bool
-is_field p name descriptor n = same_units (field_at p n).name name && same_units (field_at p n).descriptor descriptor
+is_field p name descriptor n = bytes_eq (field_at p n).name name && bytes_eq (field_at p n).descriptor descriptor
 
 abbrev pub is_method : Program → List ℕ → List ℕ → ℕ → Bool
-is_method p name descriptor n = same_units (method_at p n).name name && same_units (method_at p n).descriptor descriptor
+is_method p name descriptor n = bytes_eq (method_at p n).name name && bytes_eq (method_at p n).descriptor descriptor
 
 -- the classes in which a field is looked for: a class, then its superinterfaces, each before its own, then its superclass
 -- and so on, at most k steps up
@@ -66,7 +66,7 @@ find_in_object p name descriptor = find (λ n. is_method p name descriptor n && 
 -- The method of a name and descriptor that a class or interface has: one of a class is declared by it or a superclass, one
 -- of an interface by it or Object, else either comes from a superinterface. `<init>` is declared by the class itself.
 unfoldable pub find_method : Program → ℕ → List ℕ → List ℕ → Option ℕ
-find_method p c name descriptor = cond (same_units name init_name)
+find_method p c name descriptor = cond (bytes_eq name init_name)
     (find_declared p name descriptor (c ∷ []))
     (cond (is_interface (class_at p c).flags)
     (or_else (find_declared p name descriptor (c ∷ [])) (or_else (find_in_object p name descriptor) (find_in_interfaces p c name descriptor)))
@@ -75,4 +75,4 @@ find_method p c name descriptor = cond (same_units name init_name)
 -- an array type has the methods of Object, but it declares no `<init>`
 abbrev pub lacks_method : Kind → List ℕ → Bool
 lacks_method (kind.Class c) name = false
-lacks_method (kind.Array d b) name = same_units name init_name
+lacks_method (kind.Array d b) name = bytes_eq name init_name

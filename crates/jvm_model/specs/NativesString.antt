@@ -9,7 +9,7 @@ use Rattle.jvm_model.specs.declared.values.Location.TheVariants as place
 use Rattle.jvm_model.specs.declared.library.Native.{Native}
 use Rattle.jvm_model.specs.declared.library.Native.TheVariants as native
 use Rattle.jvm_model.specs.declared.program.Program.{Program}
-use Rattle.jvm_model.specs.World.{same_units}
+use Rattle.std.specs.Str.{bytes_eq}
 use Rattle.jvm_model.specs.Access.{Access, read, write, spend}
 use Rattle.jvm_model.specs.Builtin.{string_class, string_index_exception}
 use Rattle.jvm_model.specs.Kinds.{class_of}
@@ -40,7 +40,7 @@ answers_part p s vs t _ _ = faults string_index_exception (with_operands s vs)
 
 abbrev pub compares : Program → Working → List Value → Value → Value → ℕ → Access (Answer Working)
 compares p s vs r v c = cond (nat_eq c string_class)
-    (on_text p s r (λ t. on_text p s v (λ u. spend (length t) (answers p s (truth (same_units t u) ∷ vs)))))
+    (on_text p s r (λ t. on_text p s v (λ u. spend (length t) (answers p s (truth (bytes_eq t u) ∷ vs)))))
     (answers p s (truth false ∷ vs))
 
 -- equals: the argument's head, and where it's a String both texts, the receiver's first

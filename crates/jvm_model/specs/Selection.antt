@@ -4,7 +4,7 @@ use Rattle.std.specs.List.{list_any}
 use Rattle.jvm_model.specs.declared.values.Kind.{Kind}
 use Rattle.jvm_model.specs.declared.values.Kind.TheVariants as kind
 use Rattle.jvm_model.specs.declared.program.Program.{Program}
-use Rattle.jvm_model.specs.World.{same_units}
+use Rattle.std.specs.Str.{bytes_eq}
 use Rattle.jvm_model.specs.Builtin.{abstract_method_error, class_change_error, object_class}
 use Rattle.jvm_model.specs.Classes.{class_at, method_at, is_private, is_static, is_interface, upwards, own_interfaces, first_mentions, implements, member, init_name}
 
@@ -15,7 +15,7 @@ pub data Selected : Type 0 where
 
 -- an instance method of the name and descriptor of the method m
 abbrev pub is_like : Program → ℕ → ℕ → Bool
-is_like p m n = not (is_static (method_at p n).flags) && (same_units (method_at p n).name (method_at p m).name && same_units (method_at p n).descriptor (method_at p m).descriptor)
+is_like p m n = not (is_static (method_at p n).flags) && (bytes_eq (method_at p n).name (method_at p m).name && bytes_eq (method_at p n).descriptor (method_at p m).descriptor)
 
 -- the same, private ones left aside
 abbrev pub is_open_like : Program → ℕ → ℕ → Bool
@@ -91,5 +91,5 @@ special_path p c = cond (is_interface (class_at p c).flags) (c ∷ object_class 
 -- invokespecial of m in a method of the current class: `<init>` is the one that is called, another is the first one of its
 -- name and descriptor, private ones too, that is declared at the start or upwards
 unfoldable pub select_special : Program → ℕ → ℕ → ℕ → Selected
-select_special p current named m = cond (same_units (method_at p m).name init_name) (chosen m)
+select_special p current named m = cond (bytes_eq (method_at p m).name init_name) (chosen m)
     (let c = special_start p current named in or_kept p m c (declared_in p (λ n. is_like p m n) (special_path p c)))

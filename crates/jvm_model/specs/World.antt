@@ -1,5 +1,6 @@
 -- The world: objects, statics, class states, files and properties, and what is at each location of it.
 use Rattle.std.specs.Prelude.{ℕ, zero, suc, List, [], ◌∷◌, ◌++◌, length, get_or, set, Bool, true, false, ◌&&◌, cond, nat_eq, nat_lt, Option, Some, None}
+use Rattle.std.specs.Str.{bytes_eq}
 use Rattle.jvm_model.specs.declared.values.Value.{Value}
 use Rattle.jvm_model.specs.declared.values.Value.TheVariants.{Null}
 use Rattle.jvm_model.specs.declared.values.Kind.TheVariants as kind
@@ -57,11 +58,6 @@ abbrev pub keep : {K A : Type 0} → (K → K → Bool) → List (K × A) → K 
 keep e [] k v = (k, v) ∷ []
 keep e (x ∷ xs) k v = cond (e k x.0) ((x.0, v) ∷ xs) (x ∷ keep e xs k v)
 
-abbrev pub same_units : List ℕ → List ℕ → Bool
-same_units [] [] = true
-same_units (x ∷ xs) (y ∷ ys) = nat_eq x y && same_units xs ys
-same_units _ _ = false
-
 -- the text, empty until one was written
 abbrev pub text_or_empty : Option (List ℕ) → List ℕ
 text_or_empty None = []
@@ -86,8 +82,8 @@ at w (place.Head o) = (object_at w o).head
 at w (place.Field o f) = look nat_eq Null (object_at w o).fields f
 at w (place.Elem o i) = get_or (object_at w o).elems i Null
 at w (place.Text o) = text_or_empty (object_at w o).text
-at w (place.File n) = look same_units None w.files n
-at w (place.Prop n) = look same_units None w.props n
+at w (place.File n) = look bytes_eq None w.files n
+at w (place.Prop n) = look bytes_eq None w.props n
 
 abbrev pub with_object : World → ℕ → Object → World
 with_object w o x = record w { objects = set w.objects o x }
@@ -100,8 +96,8 @@ put w (place.Head o) v = with_object w o (record (object_at w o) { head = v })
 put w (place.Field o f) v = with_object w o (record (object_at w o) { fields = keep nat_eq (object_at w o).fields f v })
 put w (place.Elem o i) v = with_object w o (record (object_at w o) { elems = put_at Null (object_at w o).elems i v })
 put w (place.Text o) v = with_object w o (record (object_at w o) { text = Some v })
-put w (place.File n) v = record w { files = keep same_units w.files n v }
-put w (place.Prop n) v = record w { props = keep same_units w.props n v }
+put w (place.File n) v = record w { files = keep bytes_eq w.files n v }
+put w (place.Prop n) v = record w { props = keep bytes_eq w.props n v }
 
 -- a new object goes last
 abbrev pub make_object : World → Object → World
@@ -138,6 +134,6 @@ same (place.Head a) (place.Head b) = nat_eq a b
 same (place.Field a f) (place.Field b g) = nat_eq a b && nat_eq f g
 same (place.Elem a i) (place.Elem b j) = nat_eq a b && nat_eq i j
 same (place.Text a) (place.Text b) = nat_eq a b
-same (place.File n) (place.File k) = same_units n k
-same (place.Prop n) (place.Prop k) = same_units n k
+same (place.File n) (place.File k) = bytes_eq n k
+same (place.Prop n) (place.Prop k) = bytes_eq n k
 same _ _ = false
