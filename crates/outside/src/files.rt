@@ -4,7 +4,7 @@ ghost use Rattle.std.specs.Prelude.{◌≡◌, ◌<◌, ◌≤◌, length, IfOk,
 ghost use Rattle.outside.specs.Depot.{content, files_of};
 
 use crate::DepotRefusal;
-use et_base::{NoMemory, Text};
+use et_base::Text;
 use std::alloc::Global;
 
 /// The bytes of the first file that has the name.
@@ -17,15 +17,6 @@ fn find<'a>(files: &'a [(Text, Vec<u8>)], name: &Text) -> Option<&'a [u8]>
         }
     }
     None
-}
-
-/// A copy of a name.
-pub(crate) fn copy_of(alloc: Global, name: &Text) -> Result<Text, NoMemory>
-    ensures { IfOk result (λ copy. copy ≡ name.now) }
-{
-    let mut copy = Text::new(alloc);
-    copy.extend_from_slice(name.as_slice())?;
-    Ok(copy)
 }
 
 /// A copy of the first file that has the name.

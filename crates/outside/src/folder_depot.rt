@@ -4,7 +4,6 @@ ghost use Rattle.std.specs.Prelude.{◌≡◌, ◌<◌, ◌≤◌, ◌++◌, ◌
 ghost use Rattle.outside.specs.Counts.{Rose, raised};
 
 use crate::counts::raise;
-use crate::files::copy_of;
 use crate::{Depot, DepotRefusal};
 use et_base::Text;
 use std::alloc::{AllocError, Global};
@@ -12,6 +11,7 @@ use std::fs;
 use std::io::{ErrorKind, Read};
 use std::marker::Model;
 use std::rt::Files;
+use std::snapshot::Snapshot;
 
 /// How many bytes one call reads.
 const CHUNK: usize = 16_384;
@@ -20,23 +20,27 @@ const CHUNK: usize = 16_384;
 /// that failed.
 ///
 /// `Absent` comes where the system says that no such file is there, `TooLong` once a byte past the limit was read, and
-/// `Failed` at every other failure of the outside; a name that is no UTF-8 is one of them. Memory for
-/// the name of a failing read is taken in that read, which answers `NoMemory` where it is refused.
+/// `Failed` at every other failure of the outside; a name that is no UTF-8 is one of them.
 #[derive(Drop)]
 pub struct FolderDepot<'a, R: Files> {
     rt: &'a R,
     alloc: Global,
     folder: String,
     faults: u64,
-    last_failed: Option<Text>,
+    // No bytes: the name is kept for contracts alone.
+    last_failed: Option<Snapshot<Text>>,
 }
 
 impl<'a, R: Files> Model for FolderDepot<'a, R> {
+    ghost use Rattle.std.specs.Option.{option_map};
     ghost use Rattle.outside.specs.FolderDepot.{FolderDepotState};
 
     ghost Value = { FolderDepotState };
 
-    ghost view = { λ d. record { faults = d.faults; last_failed = d.last_failed } };
+    ghost view = { λ d. record {
+      faults = d.faults;
+      last_failed = option_map (λ name. name.value) d.last_failed;
+    } };
 }
 
 impl<'a, R: Files> FolderDepot<'a, R> {
@@ -126,7 +130,7 @@ impl<'a, R: Files> Depot for FolderDepot<'a, R> {
     {
         let answer = self.read_file(name, limit);
         if let Err(DepotRefusal::Failed) = &answer {
-            self.last_failed = Some(copy_of(self.alloc, name)?);
+            self.last_failed = Some(Snapshot::of(name));
             self.faults = raise(self.faults);
         }
         answer

@@ -1,18 +1,18 @@
 //! A depot in memory that fails at chosen calls.
 
-ghost use Rattle.std.specs.Prelude.{◌≡◌, ◌<◌, ◌≤◌, ◌⊎◌, [], length, IfOk, IsOk, IsSomeAnd, IsErrOf, Contains};
+ghost use Rattle.std.specs.Prelude.{◌≡◌, ◌<◌, ◌≤◌, ◌↔◌, [], length, IfOk, IsOk, IsSomeAnd, IsErrOf, Contains};
 ghost use Rattle.outside.specs.Counts.{Rose, raised};
 ghost use Rattle.outside.specs.Depot.{content, files_of};
 
 use crate::counts::{is_listed, raise};
-use crate::files::{copy_of, read_file};
+use crate::files::read_file;
 use crate::{Depot, DepotRefusal};
 use et_base::{NoMemory, Text};
 use std::alloc::Global;
 use std::marker::Model;
+use std::snapshot::Snapshot;
 
-/// Files in memory. The calls whose numbers, from 1, are listed fail, and no other call does. Memory for the name of a
-/// failing read is taken in that read, which answers `NoMemory` where it is refused.
+/// Files in memory. The calls whose numbers, from 1, are listed fail, and no other call does.
 #[derive(Drop)]
 pub struct MemoryDepot {
     alloc: Global,
@@ -20,10 +20,12 @@ pub struct MemoryDepot {
     fail: Vec<u64>,
     calls: u64,
     faults: u64,
-    last_failed: Option<Text>,
+    // No bytes: the name is kept for contracts alone.
+    last_failed: Option<Snapshot<Text>>,
 }
 
 impl Model for MemoryDepot {
+    ghost use Rattle.std.specs.Option.{option_map};
     ghost use Rattle.outside.specs.Depot.{files_of};
     ghost use Rattle.outside.specs.MemoryDepot.{MemoryDepotState};
 
@@ -34,7 +36,7 @@ impl Model for MemoryDepot {
       fail = d.fail.items;
       calls = d.calls;
       faults = d.faults;
-      last_failed = d.last_failed;
+      last_failed = option_map (λ name. name.value) d.last_failed;
     } };
 }
 
@@ -83,9 +85,7 @@ impl Depot for MemoryDepot {
             IsSomeAnd (content self.old.files name.now) (λ bytes. limit < length bytes) }
 
         // It fails at the listed calls and at no other, and counts just these faults.
-        ensures listed { IsErrOf result DepotRefusal.Failed → Contains self.old.fail (raised self.old.calls) }
-        ensures fails { Contains self.old.fail (raised self.old.calls) →
-            IsErrOf result DepotRefusal.Failed ⊎ IsErrOf result DepotRefusal.NoMemory }
+        ensures failed { IsErrOf result DepotRefusal.Failed ↔ Contains self.old.fail (raised self.old.calls) }
         ensures fault { IsErrOf result DepotRefusal.Failed → self.new.faults ≡ raised self.old.faults }
         ensures no_fault { (IsErrOf result DepotRefusal.Failed → ⊥) → self.new.faults ≡ self.old.faults }
         ensures rose { IsErrOf result DepotRefusal.Failed → Rose self.old.faults self.new.faults }
@@ -96,7 +96,7 @@ impl Depot for MemoryDepot {
     {
         self.calls = raise(self.calls);
         if is_listed(&self.fail, self.calls) {
-            self.last_failed = Some(copy_of(self.alloc, name)?);
+            self.last_failed = Some(Snapshot::of(name));
             self.faults = raise(self.faults);
             return Err(DepotRefusal::Failed);
         }
