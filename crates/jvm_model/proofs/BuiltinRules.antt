@@ -10,9 +10,9 @@ use Rattle.jvm_model.specs.declared.program.MethodRec.{MethodRec}
 use Rattle.jvm_model.specs.Builtin.{builtin_count}
 use Rattle.jvm_model.specs.Library.{builtin_defs, builtin_classes, builtin_fields, builtin_methods}
 use Rattle.jvm_model.specs.Classes.{no_class, no_field, no_method, class_at, field_at, method_at}
-use Rattle.et_base.specs.Names.{is_class_name, is_unqualified, is_method_name, is_field_descriptor, is_method_descriptor}
-use Rattle.jvm_model.specs.Linked.{IsClass, IsMethod, HoldsBuiltins, NamesClass, opens}
-use Rattle.jvm_model.proofs.Builtins.{class_names, field_forms, method_forms, field_openings}
+use Rattle.et_base.specs.Names.{is_class_name, is_unqualified, is_method_name, is_field_descriptor, is_method_descriptor, argument_units}
+use Rattle.jvm_model.specs.Linked.{IsClass, IsMethod, HoldsBuiltins, NamesClass, has_room, opens}
+use Rattle.jvm_model.proofs.Builtins.{class_names, field_forms, method_forms, method_room, field_openings}
 
 -- what passes for each entry passes for one
 pub all_at : {X : Type 0} (f : X → Bool) (xs : List X) (i : ℕ) (d : X) → list_all f xs ≡ true → i < length xs → f (get_or xs i d) ≡ true
@@ -119,6 +119,9 @@ module _ (p : Program) (h : HoldsBuiltins p) where
 
   pub builtin_method_forms : (m : ℕ) → m < 102 → (is_method_name (method_at p m).name ≡ true) × (is_method_descriptor (method_at p m).descriptor ≡ true)
   builtin_method_forms m g = and_parts (is_method_name (method_at p m).name) (is_method_descriptor (method_at p m).descriptor) (method_keeps (λ x. is_method_name x.name && is_method_descriptor x.descriptor) method_forms m g)
+
+  pub builtin_method_room : (m : ℕ) → m < 102 → has_room (method_at p m).flags (argument_units (method_at p m).descriptor) ≡ true
+  builtin_method_room m g = method_keeps (λ x. has_room x.flags (argument_units x.descriptor)) method_room m g
 
   pub builtin_opens : (f : ℕ) → f < 2 → opens p (field_at p f).descriptor (field_at p f).opening ≡ true
   builtin_opens f g = field_keeps (λ x. opens p x.descriptor x.opening) (field_openings p) f g

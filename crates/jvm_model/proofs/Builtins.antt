@@ -9,7 +9,7 @@ use Rattle.jvm_model.specs.Builtin.{builtin_count}
 use Rattle.jvm_model.specs.Library.{builtin_defs, builtin_classes, builtin_fields, builtin_methods}
 use Rattle.jvm_model.specs.Classes.{no_class, no_field}
 use Rattle.et_base.specs.Names.{is_class_name, is_unqualified, is_method_name, is_field_descriptor, is_method_descriptor, after_class, after_element, after_type, argument, arguments, argument_units}
-use Rattle.jvm_model.specs.Linked.{count, opens}
+use Rattle.jvm_model.specs.Linked.{count, has_room, opens}
 
 -- the numbers of the tables' entries
 class_numbers : length builtin_classes ≡ builtin_count
@@ -40,6 +40,10 @@ field_forms = refl
 pub method_forms : list_all (λ m. is_method_name m.name && is_method_descriptor m.descriptor) builtin_methods ≡ true
 unfolding builtin_methods builtin_defs is_class_name is_field_descriptor after_class after_element after_type argument arguments argument_units
 method_forms = refl
+
+pub method_room : list_all (λ m. has_room m.flags (argument_units m.descriptor)) builtin_methods ≡ true
+unfolding builtin_methods builtin_defs is_class_name is_field_descriptor after_class after_element after_type argument arguments argument_units
+method_room = refl
 
 pub field_openings : (p : Program) → list_all (λ f. opens p f.descriptor f.opening) builtin_fields ≡ true
 unfolding builtin_fields builtin_defs

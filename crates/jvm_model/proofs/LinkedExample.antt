@@ -14,7 +14,7 @@ use Rattle.jvm_model.specs.Library.{builtin_defs, builtin_classes, builtin_field
 use Rattle.jvm_model.specs.Classes.{no_class, class_at, field_at, method_at, class_bound, is_static, default_of, member}
 use Rattle.jvm_model.specs.Suite.{suite_limit}
 use Rattle.et_base.specs.Names.{is_class_name, is_unqualified, is_method_name, is_field_descriptor, is_method_descriptor, after_class, after_element, after_type, argument, arguments, argument_units}
-use Rattle.jvm_model.specs.Linked.{IsClass, IsField, IsMethod, IsGiven, HoldsBuiltins, NamesClass, NamesForm, NamesBody, NamesEntries, IsDirect, IsAncestor, direct, further, IsClassKind, IsFormKind, IsBodyKind, HasKinds, IsDistinct, count, IsInitialiser, IsListed, IsForm, IsBody, IsFormFound, FindsMembers, opens, HasOpenings, IsTest, Linked}
+use Rattle.jvm_model.specs.Linked.{IsClass, IsField, IsMethod, IsGiven, HoldsBuiltins, NamesClass, NamesForm, NamesBody, NamesEntries, IsDirect, IsAncestor, direct, further, IsClassKind, IsFormKind, IsBodyKind, HasKinds, IsDistinct, count, has_room, IsInitialiser, IsListed, IsForm, IsBody, IsFormFound, FindsMembers, opens, HasOpenings, IsTest, Linked}
 use Rattle.std.proofs.lemmas.List.{get_or_past}
 use Rattle.jvm_model.proofs.ExampleParts.{body, returns, test}
 use Rattle.jvm_model.proofs.Examples.{return_suite}
@@ -273,6 +273,10 @@ method_listed : below 103 (λ m. nat_eq (count m (class_at p (method_at p m).cla
 unfolding builtin_classes builtin_methods builtin_defs is_class_name is_field_descriptor after_class after_element after_type argument arguments argument_units
 method_listed = refl
 
+method_room : below 103 (λ m. has_room (method_at p m).flags (argument_units (method_at p m).descriptor)) ≡ true
+unfolding builtin_classes builtin_methods builtin_defs is_class_name is_field_descriptor after_class after_element after_type argument arguments argument_units
+method_room = refl
+
 abbrev is_root : ℕ → Option ℕ → Bool
 is_root c None = nat_eq c 0
 is_root c (Some d) = true
@@ -325,6 +329,7 @@ listed = record {
   class_names = λ c h. (lists_own c h).named;
   field_names = λ f h. and_parts _ _ (field_rule f h).1;
   method_names = λ m h. and_parts _ _ (method_rule m h).1;
+  arguments = λ m h. holds_at 103 (λ x. has_room (method_at p x).flags (argument_units (method_at p x).descriptor)) m method_room (in_methods m h);
   root = λ c h e. root_is c (class_at p c).superclass (lists_own c h).root e;
   top = top_is;
   initialisers = λ c h. some_none (λ m. IsInitialiser p c m) (class_at p c).initialiser (lists_own c h).bare;

@@ -23,7 +23,7 @@ use Rattle.jvm_model.specs.Selection.{named_class}
 use Rattle.jvm_model.specs.RowsCreate.{is_bare}
 use Rattle.jvm_model.specs.Lookup.{find_field, find_method, find_declared, lacks_method}
 use Rattle.jvm_model.specs.Driver.{no_arguments, plain_method_in}
-use Rattle.et_base.specs.Names.{is_unqualified, is_class_name, is_method_name, is_field_descriptor, is_method_descriptor}
+use Rattle.et_base.specs.Names.{is_unqualified, is_class_name, is_method_name, is_field_descriptor, is_method_descriptor, argument_units}
 use Rattle.jvm_model.specs.Suite.{suite_limit}
 
 -- the first unit of a descriptor
@@ -187,6 +187,11 @@ pub record IsInitialiser (p : Program) (c m : ℕ) : Type 0 where
   pub descriptor : (method_at p m).descriptor ≡ no_arguments
   pub code : IsSome (method_at p m).body
 
+-- so many argument units are at most 255, with that of `this` of an instance method (JVMS 4.3.3)
+abbrev pub has_room : ℕ → Option ℕ → Bool
+has_room flags None = false
+has_room flags (Some n) = nat_le (cond (is_static flags) n (n + 1)) 255
+
 -- Each field and method is listed once, by its own class. Names and descriptors are in their forms, and no class has the
 -- name of an array. Object alone has no superclass. Methods of built-in classes alone are built in.
 pub record IsListed (p : Program) : Type 0 where
@@ -197,6 +202,7 @@ pub record IsListed (p : Program) : Type 0 where
   pub class_names : (c : ℕ) → IsClass p c → is_class_name (class_at p c).name ≡ true
   pub field_names : (f : ℕ) → IsField p f → (is_unqualified (field_at p f).name ≡ true) × (is_field_descriptor (field_at p f).descriptor ≡ true)
   pub method_names : (m : ℕ) → IsMethod p m → (is_method_name (method_at p m).name ≡ true) × (is_method_descriptor (method_at p m).descriptor ≡ true)
+  pub arguments : (m : ℕ) → IsMethod p m → has_room (method_at p m).flags (argument_units (method_at p m).descriptor) ≡ true
   pub root : (c : ℕ) → IsClass p c → (class_at p c).superclass ≡ None → c ≡ object_class
   pub top : (class_at p object_class).superclass ≡ None
   pub initialisers : (c : ℕ) → IsClass p c → IfSome (class_at p c).initialiser (λ m. IsInitialiser p c m)
