@@ -1,6 +1,7 @@
 //! A growable list that contracts see as the list of its items.
 
 ghost use Rattle.std.specs.Prelude.{◌≡◌, ◌<◌, ◌^◌, List, [], ◌∷◌, ◌++◌, length, OnOk, OnErr, IfOk, IsTrue, ◌↔◌, option_copied, slice_get};
+ghost use Rattle.std.specs.Str.{bytes_eq};
 ghost use Rattle.std.specs.Slice.{IsItemAt};
 ghost use Rattle.std.specs.Slice.Iter.{iter_rest, iter_steps};
 ghost use Rattle.std.specs.Iterator.Runs.{EveryRun, ItemsMapTo};
@@ -37,6 +38,15 @@ impl<T> Items<T> {
         Items {
             items: Vec::new(alloc),
         }
+    }
+
+    /// No items, with room for so many.
+    pub fn with_capacity(alloc: Global, capacity: usize) -> Result<Items<T>, NoMemory>
+        ensures { IfOk result (λ items. items ≡ []) }
+    {
+        Ok(Items {
+            items: Vec::with_capacity(alloc, capacity)?,
+        })
     }
 
     /// The items of a vector; it takes no memory.
@@ -134,5 +144,31 @@ impl<'a, T> IntoIterator for &'a Items<T> {
 
     fn into_iter(self) -> Iter<'a, T> {
         self.iter()
+    }
+}
+
+impl Items<u16> {
+    /// The code units of an ASCII text.
+    pub fn from_ascii(alloc: Global, text: &[u8]) -> Result<Units, NoMemory>
+        ensures { IfOk result (λ units. units ≡ text.now) }
+    {
+        let mut units = Vec::new(alloc);
+        for byte in text {
+            units.push(u16::from(*byte))?;
+        }
+        Ok(Items::from_vec(units))
+    }
+}
+
+/// Whether these code units are this ASCII text.
+pub fn is_ascii_text(units: &[u16], text: &[u8]) -> bool
+    ensures { result ≡ bytes_eq units.now text.now }
+{
+    match (units, text) {
+        ([], []) => true,
+        ([unit, units @ ..], [byte, text @ ..]) => {
+            *unit == u16::from(*byte) && is_ascii_text(units, text)
+        }
+        _ => false,
     }
 }

@@ -2,13 +2,14 @@
 #![tactic(auto)]
 
 mod items;
+pub mod letters;
 mod no_memory;
 mod numbers;
 mod text;
 mod utf;
 mod utf8;
 
-pub use items::{Items, Text, Units};
+pub use items::{Items, Text, Units, is_ascii_text};
 pub use no_memory::NoMemory;
 pub use numbers::{
     add32, add64, div32, div64, i2b, i2c, i2l, i2s, l2i, lcmp, mul32, mul64, neg32, neg64, rem32,
