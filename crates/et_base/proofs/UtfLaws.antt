@@ -1,6 +1,6 @@
 -- Modified UTF-8: what is read is spelled so, and what is spelled so is read.
-use Rattle.std.proofs.Common.{◌≡◌, ℕ, zero, suc, ◌+◌, ◌-◌, ◌*◌, ◌/◌, ◌%◌, ◌^◌, ◌<◌, ◌≤◌, Bool, true, false, cond, eqb, ltb, leb, ◌&&◌, ◌||◌, ◌⊎◌, List, [], ◌∷◌, ◌++◌, length, Option, Some, None, Result, Ok, Err, refl, sym, ap, subst, ◌∙◌, append_assoc, arith, inl, inr, All}
-use Rattle.std.proofs.lemmas.Bool.{eqb-true, ltb-true, lt-ltb, leb-true, le-ltb, le-leb, cases_lt}
+use Rattle.std.proofs.Common.{◌≡◌, ℕ, zero, suc, ◌+◌, ◌-◌, ◌*◌, ◌/◌, ◌%◌, ◌^◌, ◌<◌, ◌≤◌, Bool, true, false, cond, eqb, ltb, leb, ◌||◌, List, [], ◌∷◌, ◌++◌, length, Option, Some, None, Result, Ok, Err, refl, sym, ap, subst, ◌∙◌, append_assoc, arith, inl, inr, All}
+use Rattle.std.proofs.lemmas.Bool.{and_parts, and_from, or_cases, eqb-true, ltb-true, lt-ltb, leb-true, le-ltb, le-leb, cases_lt}
 use Rattle.std.proofs.lemmas.Bool.Decides.{nat_tests}
 use Rattle.std.proofs.lemmas.List.{append-nil, length-append}
 use Rattle.std.proofs.lemmas.List.Concat.{flat_map-append}
@@ -29,20 +29,8 @@ chosen : {A : Type 0} {X : Type 0} (b : Bool) (r q y : Option A) → cond b r q 
 chosen true r q y e first second = first refl e
 chosen false r q y e first second = second refl e
 
-both_true : (a b : Bool) → (a && b) ≡ true → (a ≡ true) × (b ≡ true)
-both_true true true e = (refl, refl)
-both_true true false e = absurd cc
-both_true false b e = absurd cc
-
-both : (a b : Bool) → a ≡ true → b ≡ true → (a && b) ≡ true
-both a b p q = rw (p, q) refl
-
-either_true : (a b : Bool) → (a || b) ≡ true → (a ≡ true) ⊎ (b ≡ true)
-either_true true b e = inl refl
-either_true false b e = inr e
-
 is_more_is : (b : ℕ) → is_more b ≡ true → (128 ≤ b) × (b < 192)
-is_more_is b h = let p = both_true _ _ h in (leb-true _ _ p.0, ltb-true _ _ p.1)
+is_more_is b h = let p = and_parts _ _ h in (leb-true _ _ p.0, ltb-true _ _ p.1)
 
 -- some group stands at the front of the bytes, and the rest follows
 pub record Takes (bytes : List ℕ) (x : ℕ × List ℕ) : Type 0 where
@@ -51,21 +39,21 @@ pub record Takes (bytes : List ℕ) (x : ℕ × List ℕ) : Type 0 where
 
 one_takes : (a : ℕ) (rest : List ℕ) → is_one a ≡ true → Takes (a ∷ rest) (a, rest)
 unfolding group
-one_takes a rest h = let p : (leb 1 a ≡ true) × (ltb a 128 ≡ true) = both_true _ _ h in let k : a < 128 = ltb-true _ _ p.1 in record { unit = omega arith; parts = rw h refl }
+one_takes a rest h = let p : (leb 1 a ≡ true) × (ltb a 128 ≡ true) = and_parts _ _ h in let k : a < 128 = ltb-true _ _ p.1 in record { unit = omega arith; parts = rw h refl }
 
 two_is : (a b : ℕ) → is_two a b ≡ true → group (two a b) ≡ a ∷ b ∷ []
 unfolding group
 two_is a b h =
-    let p = both_true _ _ h in
-    let q = both_true _ _ p.0 in
-    let r = both_true _ _ q.0 in
+    let p = and_parts _ _ h in
+    let q = and_parts _ _ p.0 in
+    let r = and_parts _ _ q.0 in
     let low : 192 ≤ a = leb-true _ _ r.0 in
     let high : a < 224 = ltb-true _ _ r.1 in
     let more = is_more_is b q.1 in
     let x : 192 + two a b / 64 ≡ a = omega (arith, more.0, more.1) in
     let y : 128 + two a b % 64 ≡ b = omega (arith, more.0, more.1) in
     let small : ltb (two a b) 2048 ≡ true = lt-ltb _ _ (omega (arith, more.0, more.1)) in
-    let not_one : is_one (two a b) ≡ false = elim (either_true _ _ p.1) [
+    let not_one : is_one (two a b) ≡ false = elim (or_cases _ _ p.1) [
       | inl z ↦ let e : two a b ≡ 0 = eqb-true _ _ z in ap is_one e
       | inr z ↦ let g : 128 ≤ two a b = leb-true _ _ z in grind (arith, nat_tests, g)
     ] in
@@ -73,9 +61,9 @@ two_is a b h =
 
 two_fits : (a b : ℕ) → is_two a b ≡ true → two a b < 2 ^ 16
 two_fits a b h =
-    let p = both_true _ _ h in
-    let q = both_true _ _ p.0 in
-    let r = both_true _ _ q.0 in
+    let p = and_parts _ _ h in
+    let q = and_parts _ _ p.0 in
+    let r = and_parts _ _ q.0 in
     let low : 192 ≤ a = leb-true _ _ r.0 in
     let high : a < 224 = ltb-true _ _ r.1 in
     let more = is_more_is b q.1 in
@@ -84,10 +72,10 @@ two_fits a b h =
 three_is : (a b c : ℕ) → is_three a b c ≡ true → (group (three a b c) ≡ a ∷ b ∷ c ∷ []) × (three a b c < 2 ^ 16)
 unfolding group
 three_is a b c h =
-    let p = both_true _ _ h in
-    let q = both_true _ _ p.0 in
-    let r = both_true _ _ q.0 in
-    let s = both_true _ _ r.0 in
+    let p = and_parts _ _ h in
+    let q = and_parts _ _ p.0 in
+    let r = and_parts _ _ q.0 in
+    let s = and_parts _ _ r.0 in
     let low : 224 ≤ a = leb-true _ _ s.0 in
     let high : a < 240 = ltb-true _ _ s.1 in
     let m1 = is_more_is b r.1 in
@@ -137,7 +125,7 @@ again_two rest u h lt =
     let more : is_more (128 + u % 64) ≡ true = grind (arith, nat_tests) in
     let high : ltb (192 + u / 64) 224 ≡ true = lt-ltb _ _ (omega arith) in
     let low : leb 192 (192 + u / 64) ≡ true = le-leb _ _ (omega arith) in
-    let fits : is_two (192 + u / 64) (128 + u % 64) ≡ true = both _ _ (both _ _ (both _ _ low high) more) (rw is ends) in
+    let fits : is_two (192 + u / 64) (128 + u % 64) ≡ true = and_from _ _ (and_from _ _ (and_from _ _ low high) more) (rw is ends) in
     rw (h, small, not_one, fits, is) refl
 
 again_three : (rest : List ℕ) (u : ℕ) → is_one u ≡ false → 2048 ≤ u → u < 2 ^ 16 → unit_at (group u ++ rest) ≡ Some (u, rest)
@@ -151,7 +139,7 @@ again_three rest u h le lt =
     let last : is_more (128 + u % 64) ≡ true = grind (arith, nat_tests) in
     let high : ltb (224 + u / 4096) 240 ≡ true = lt-ltb _ _ (omega arith) in
     let low : leb 224 (224 + u / 4096) ≡ true = le-leb _ _ (omega arith) in
-    let fits : is_three (224 + u / 4096) (128 + u / 64 % 64) (128 + u % 64) ≡ true = both _ _ (both _ _ (both _ _ (both _ _ low high) more) last) (rw is (le-leb _ _ le)) in
+    let fits : is_three (224 + u / 4096) (128 + u / 64 % 64) (128 + u % 64) ≡ true = and_from _ _ (and_from _ _ (and_from _ _ (and_from _ _ low high) more) last) (rw is (le-leb _ _ le)) in
     rw (h, big, not_one, not_two, fits, is) refl
 
 -- what is spelled is read, whatever follows
@@ -288,7 +276,7 @@ IsByte b = b < 256
 pub group_bytes : (u : ℕ) → IsUnit u → All IsByte (group u)
 unfolding group
 group_bytes u lt = All-from_recursion IsByte (group u) (by_test (is_one u)
-    (λ h. let p : (leb 1 u ≡ true) × (ltb u 128 ≡ true) = both_true _ _ h in let k : u < 128 = ltb-true _ _ p.1 in rw h (omega arith, tt))
+    (λ h. let p : (leb 1 u ≡ true) × (ltb u 128 ≡ true) = and_parts _ _ h in let k : u < 128 = ltb-true _ _ p.1 in rw h (omega arith, tt))
     (λ h. by_test (ltb u 2048)
     (λ k. let small : u < 2048 = ltb-true _ _ k in rw (h, k) (omega arith, (omega arith, tt)))
     (λ k. rw (h, k) (omega arith, (omega arith, (omega arith, tt))))))
