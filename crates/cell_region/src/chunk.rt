@@ -1,0 +1,44 @@
+ghost use Rattle.std.specs.Prelude.{◌≡◌, List, length, ◌<◌, replicate, slice_index_or, slice_set, IfOk};
+
+use et_base::NoMemory;
+use std::alloc::Global;
+use std::marker::Model;
+
+/// Cells beside one another. Contracts see them as their list.
+#[derive(Debug, Drop)]
+pub struct Chunk<T> {
+    cells: Vec<T>,
+}
+
+impl<T> Model for Chunk<T> {
+    ghost Value = { List T };
+
+    ghost view = { λ s. s.cells.items };
+}
+
+impl<T: Copy> Chunk<T> {
+    /// So many cells, each with the same content.
+    pub fn filled(alloc: Global, count: usize, fill: T) -> Result<Chunk<T>, NoMemory>
+        ensures { IfOk result (λ s. s ≡ replicate count fill) }
+    {
+        let mut cells = Vec::new(alloc);
+        cells.resize(count, fill)?;
+        Ok(Chunk { cells })
+    }
+
+    /// The content of a cell.
+    pub fn get(&self, i: usize) -> T
+        requires { i < length self.now }
+        ensures { result ≡ slice_index_or self.now i result }
+    {
+        self.cells[i]
+    }
+
+    /// Gives a cell another content.
+    pub fn set(&mut self, i: usize, content: T)
+        requires { i < length self.old }
+        ensures { self.new ≡ slice_set self.old i content }
+    {
+        self.cells[i] = content;
+    }
+}

@@ -1,0 +1,159 @@
+ghost use Rattle.std.specs.Prelude.{◌≡◌, ℕ, List, length, take, replicate, ◌-◌, ◌*◌, ◌<◌, ◌≤◌, ◌++◌, slice_index_or, slice_set, IfOk, OnOk, OnErr, []};
+ghost use Rattle.cell_region.specs.Chunks.{AreLong, joined, chunk_size};
+
+use crate::chunk::Chunk;
+use et_base::NoMemory;
+use std::alloc::Global;
+use std::marker::Model;
+
+/// How many cells a chunk has.
+const CHUNK: u64 = 65_536;
+
+/// A list of cells, held in chunks of 65,536 so that growing moves none. Contracts see it as that list.
+#[derive(Debug, Drop)]
+pub struct Region<T> {
+    chunks: Vec<Chunk<T>>,
+    len: u64,
+    alloc: Global,
+}
+
+impl<T> Model for Region<T> {
+    ghost use Rattle.std.specs.Prelude.{ℕ, List, length, take, ◌≤◌, ◌*◌};
+    ghost use Rattle.cell_region.specs.Chunks.{AreLong, joined, chunk_size};
+
+    ghost Value = { List T };
+
+    ghost view = { λ s. take s.len (joined s.chunks.items) };
+
+    ghost invariant = { λ s. AreLong s.chunks.items × (s.len ≤ chunk_size * length s.chunks.items) };
+}
+
+/// New cells: their first place and how many there are.
+#[derive(Clone, Copy, Debug, PartialEq, Eq)]
+pub struct Block {
+    pub start: u64,
+    pub len: u64,
+}
+
+/// A length that a region can be cut back to.
+#[derive(Clone, Copy, Debug, PartialEq, Eq)]
+pub struct Mark {
+    pub len: u64,
+}
+
+impl<T: Copy> Region<T> {
+    /// No cells. It takes no memory until it grows.
+    pub fn new(alloc: Global) -> Region<T>
+        ensures { result ≡ [] }
+    {
+        Region {
+            chunks: Vec::new(alloc),
+            len: 0,
+            alloc,
+        }
+    }
+
+    /// How many cells there are.
+    pub fn len(&self) -> u64
+        ensures { result ≡ length self.now }
+    {
+        self.len
+    }
+
+    /// Whether there are no cells.
+    pub fn is_empty(&self) -> bool {
+        self.len == 0
+    }
+
+    /// Appends n cells, each with the content `fill`. After a refusal the list is as before.
+    pub fn grow(&mut self, n: u64, fill: T) -> Result<Block, NoMemory>
+        ensures block { IfOk result (λ b. (b.start ≡ length self.old) × (b.len ≡ n)) }
+        ensures grown { OnOk result (self.new ≡ self.old ++ replicate n fill) }
+        ensures kept { OnErr result (self.new ≡ self.old) }
+    {
+        let start = self.len;
+        let Some(end) = start.checked_add(n) else {
+            return Err(NoMemory {});
+        };
+        make_room(&mut self.chunks, self.alloc, end, fill)?;
+        fill_cells(&mut self.chunks, start, end, fill);
+        self.len = end;
+        Ok(Block { start, len: n })
+    }
+
+    /// The content of a cell.
+    pub fn get(&self, i: u64) -> T
+        requires { i < length self.now }
+        ensures { result ≡ slice_index_or self.now i result }
+    {
+        self.chunks[(i / CHUNK) as usize].get((i % CHUNK) as usize)
+    }
+
+    /// Gives a cell another content.
+    pub fn set(&mut self, i: u64, content: T)
+        requires { i < length self.old }
+        ensures { self.new ≡ slice_set self.old i content }
+    {
+        set_cell(&mut self.chunks, i, content);
+    }
+
+    /// The length as it is now.
+    pub fn mark(&self) -> Mark
+        ensures { result.len ≡ length self.now }
+    {
+        Mark { len: self.len }
+    }
+
+    /// Cuts the list at a mark. The chunks are kept, so that growing again uses them.
+    pub fn release(&mut self, mark: Mark)
+        requires { mark.len ≤ length self.old }
+        ensures { self.new ≡ take mark.len self.old }
+    {
+        self.len = mark.len;
+    }
+}
+
+/// Chunks for so many cells; those that stand stay.
+fn make_room<T: Copy>(
+    chunks: &mut Vec<Chunk<T>>,
+    alloc: Global,
+    cells: u64,
+    fill: T,
+) -> Result<(), NoMemory>
+    requires { AreLong chunks.old.items }
+    ensures long { AreLong chunks.new.items }
+    ensures kept { (n : ℕ) → n ≤ chunk_size * length chunks.old.items → take n (joined chunks.new.items) ≡ take n (joined chunks.old.items) }
+    ensures more { length chunks.old.items ≤ length chunks.new.items }
+    ensures room { OnOk result (cells ≤ chunk_size * length chunks.new.items) }
+{
+    for _ in chunks.len() as u64..cells.div_ceil(CHUNK) {
+        chunks.push(Chunk::filled(alloc, CHUNK as usize, fill)?)?;
+    }
+    Ok(())
+}
+
+/// Gives a cell of the chunks another content.
+fn set_cell<T: Copy>(chunks: &mut Vec<Chunk<T>>, i: u64, content: T)
+    requires long { AreLong chunks.old.items }
+    requires within { i < chunk_size * length chunks.old.items }
+    ensures long { AreLong chunks.new.items }
+    ensures len { length chunks.new.items ≡ length chunks.old.items }
+    ensures set { joined chunks.new.items ≡ slice_set (joined chunks.old.items) i content }
+{
+    let chunk = &mut chunks[(i / CHUNK) as usize];
+    chunk.set((i % CHUNK) as usize, content);
+}
+
+/// Gives the cells from `start` up to but not `end` the content `fill`.
+fn fill_cells<T: Copy>(chunks: &mut Vec<Chunk<T>>, start: u64, end: u64, fill: T)
+    requires long { AreLong chunks.old.items }
+    requires order { start ≤ end }
+    requires within { end ≤ chunk_size * length chunks.old.items }
+    ensures long { AreLong chunks.new.items }
+    ensures len { length chunks.new.items ≡ length chunks.old.items }
+    ensures filled { take end (joined chunks.new.items) ≡ take start (joined chunks.old.items) ++ replicate (end - start) fill }
+{
+    for i in start..end {
+        set_cell(chunks, i, fill);
+    }
+}
