@@ -21,4 +21,6 @@ pub mod OrderFaults
 pub mod Plans
 pub mod Walks
 pub mod WalksThere
+pub mod OnLiterals
 mod RecordExamples
+mod ListExamples

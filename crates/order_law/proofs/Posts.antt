@@ -1,13 +1,13 @@
 -- Legal histories by the rules of claims and posts alone: each worker's list is its chains, in the order of its claims.
-use Rattle.std.proofs.Common.{◌≡◌, ◌⊎◌, ℕ, zero, suc, ◌<◌, Bool, true, false, not, cond, nat_eq, nat_le, List, [], ◌∷◌, ◌++◌, append_assoc, append-nil, length, reverse, refl, sym, ◌∙◌, ap, subst, inl, inr, arith}
+use Rattle.std.proofs.Common.{◌≡◌, ◌⊎◌, ℕ, zero, suc, ◌<◌, Bool, true, false, not, cond, nat_eq, nat_lt, nat_le, List, [], ◌∷◌, ◌++◌, append_assoc, append-nil, length, reverse, refl, sym, ◌∙◌, ap, subst, inl, inr, arith}
 use Rattle.std.specs.List.{list_all}
-use Rattle.std.proofs.lemmas.Bool.{cases_Bool, eqb-true, eq-eqb, and_parts, not-true, or_left, or_right}
+use Rattle.std.proofs.lemmas.Bool.{cases_Bool, eqb-true, eq-eqb, ltb-true, and_parts, not-true, or_left, or_right}
 use Rattle.std.proofs.lemmas.List.{reverse-append}
 use Rattle.jvm_model.specs.declared.outcome.Outcome.{Outcome}
 use Rattle.jvm_model.specs.declared.program.Program.{Program}
 use Rattle.jvm_model.specs.Classes.{member}
 use Rattle.order_law.specs.Conflicts.{Member, Distinct}
-use Rattle.order_law.specs.RecordForm.{no_repeats, joined, are_chains}
+use Rattle.order_law.specs.RecordForm.{no_repeats, joined, are_chains, numbers_ascend}
 use Rattle.order_law.specs.Plan.{NextOf, chain_at, Ascending, Event, claim, post, claims, posts, Posted, Legal, PostsOnce, AreApart, whole_chains, IsListOf, IsWholeThenPart, PostsInChains, LawOfHistories, FormsApart, ChainsApart}
 
 member_at : (x y : ℕ) (l : List ℕ) {b : Bool} → b ≡ true → Member x (cond b (y ∷ l) l) → (x ≡ y) ⊎ Member x l
@@ -233,6 +233,22 @@ law_of_histories p C n es a l = record {
 ascending_distinct : (l : List ℕ) → Ascending l → Distinct l
 ascending_distinct [] a = tt
 ascending_distinct (t ∷ l) a = ((λ i. absurd (let h = a.0 t i in omega arith)), ascending_distinct l a.1)
+
+-- neighbours that rise say it of all
+ascending_head : (t : ℕ) (l : List ℕ) → numbers_ascend (t ∷ l) ≡ true → (u : ℕ) → Member u l → t < u
+ascending_head t [] e u i = absurd i
+ascending_head t (x ∷ l) e u i =
+    let a = and_parts (nat_lt t x) (numbers_ascend (x ∷ l)) e in
+    let h = ltb-true t x a.0 in
+    elim i [ inl g ↦ omega arith | inr j ↦ let k = ascending_head x l a.1 u j in omega arith ]
+
+ascending_tail : (t : ℕ) (l : List ℕ) → numbers_ascend (t ∷ l) ≡ true → numbers_ascend l ≡ true
+ascending_tail t [] e = refl
+ascending_tail t (x ∷ l) e = (and_parts (nat_lt t x) (numbers_ascend (x ∷ l)) e).1
+
+pub ascending_from : (l : List ℕ) → numbers_ascend l ≡ true → Ascending l
+ascending_from [] e = tt
+ascending_from (t ∷ l) e = (ascending_head t l e, ascending_from l (ascending_tail t l e))
 
 pub chains_apart : ChainsApart
 chains_apart R S C cs = record { apart = cs.apart; once = λ i. ascending_distinct (chain_at C i) (cs.ascending i) }

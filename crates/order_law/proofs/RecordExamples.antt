@@ -1,69 +1,57 @@
--- Records of small suites, computed: the edges that the definitions give are those that they should.
-use Rattle.std.proofs.Common.{◌≡◌, ℕ, List, [], ◌∷◌, map, true, false, refl}
+-- Records of small suites, computed: the edges, walks and reaches that the definitions give are those that they should.
+use Rattle.std.proofs.Common.{◌≡◌, ◌↔◌, ◌⊎◌, ℕ, zero, suc, ◌+◌, ◌-◌, ◌<◌, ◌≤◌, List, [], ◌∷◌, ◌++◌, map, take, length, replicate, Bool, true, false, refl, sym, ◌∙◌, ap, subst, inl, inr, arith, Option, Some, None, pos, nat_eq}
 use Rattle.std.specs.Prelude.{codes}
-use Rattle.std.specs.Fmt.{digits}
-use Rattle.std.specs.Char.Utf16.{utf16_chars}
-use lib.Utf8.{encode}
-use Rattle.et_base.specs.Numbers.{add64}
-use Rattle.et_base.specs.Quotes.{name_unit, quoted_unit}
-use Rattle.jvm_model.specs.Library.{builtin_defs, builtin_classes, builtin_fields, builtin_methods}
-use Rattle.jvm_model.specs.Classes.{class_bound, own_interfaces, is_below, implements, default_interfaces, is_trivial, layout, blank, form_at, next_place}
-use Rattle.jvm_model.specs.Descriptors.{parameters, return_type}
-use Rattle.jvm_model.specs.Narrow.{narrow}
-use Rattle.jvm_model.specs.Suite.{opening, tree, one_test, runs}
-use Rattle.jvm_model.specs.Step.{step, row, row_here, row_throw}
-use Rattle.jvm_model.specs.Throwing.{throws}
-use Rattle.jvm_model.specs.Raising.{row_raise, handler_for}
-use Rattle.jvm_model.specs.Initialise.{row_finish, row_fail, parts_of}
-use Rattle.jvm_model.specs.Rows.{begin}
-use Rattle.jvm_model.specs.RowsMoves.{row_moves}
-use Rattle.jvm_model.specs.RowsArith.{row_arith}
-use Rattle.jvm_model.specs.RowsBranches.{row_branches}
-use Rattle.jvm_model.specs.RowsStatics.{row_statics, read_static, write_static}
-use Rattle.jvm_model.specs.RowsFields.{row_fields}
-use Rattle.jvm_model.specs.RowsCreate.{row_create, new_object}
-use Rattle.jvm_model.specs.RowsCalls.{row_calls, calls, argument_count}
-use Rattle.jvm_model.specs.RowsReturn.{row_return, hands_on}
-use Rattle.jvm_model.specs.Selection.{kept_method, select, select_virtual, select_interface, select_special}
-use Rattle.jvm_model.specs.Natives.{row_native}
-use Rattle.jvm_model.specs.NativesObject.{native_object, native_throwable}
-use Rattle.jvm_model.specs.NativesString.{native_string, native_builder}
-use Rattle.jvm_model.specs.NativesOutside.{native_system, native_print, native_files, native_env}
-use Rattle.jvm_model.specs.Driver.{drive, drives, drive_first, drive_init, drive_set_up, drive_method, drive_tear_down, judge}
-use Rattle.jvm_model.specs.Texts.{location_text}
-use Rattle.jvm_model.proofs.Examples.{counter_suite, again_suite, read_write_suite, node_suite, bad_init_suite, kept_error_suite, files_suite}
+use Rattle.std.proofs.lemmas.Bool.{cases_eq}
 use Rattle.jvm_model.specs.declared.values.Touch.{Touch}
+use Rattle.jvm_model.specs.declared.values.Value.TheVariants.{Int, Null}
+use Rattle.jvm_model.specs.declared.values.Kind.TheVariants as kind
+use Rattle.jvm_model.specs.declared.values.Location.{Location}
+use Rattle.jvm_model.specs.declared.values.Location.TheVariants as place
+use Rattle.jvm_model.specs.declared.instr.Instr.TheVariants as form
+use Rattle.jvm_model.specs.declared.program.Program.{Program}
+use Rattle.jvm_model.specs.Builtin.{builtin_count}
+use Rattle.jvm_model.specs.Classes.{class_at}
+use Rattle.jvm_model.specs.State.{test_at}
+use Rattle.jvm_model.specs.Linked.{IsGiven}
+use Rattle.jvm_model.proofs.ExampleParts.{program, class, body, fixed, plain, static, field, static_int, test, int_const, literal, get_static, put_static, print_number, returns, load_this, dup}
+use Rattle.jvm_model.proofs.Examples.{counter_suite, again_suite, read_write_suite, node_suite, bad_init_suite, kept_error_suite, files_suite}
 use Rattle.order_law.specs.declared.edges.Edge.{Edge}
 use Rattle.order_law.specs.declared.edges.EdgeKind.{EdgeKind}
 use Rattle.order_law.specs.declared.edges.EdgeKind.TheVariants.{Raw, Waw, War}
-use Rattle.order_law.specs.Conflicts.{down}
-use Rattle.order_law.specs.Histories.{ran_after}
-use Rattle.order_law.specs.Reach.{is_settled, is_settled_in}
-use Rattle.order_law.specs.Walk.{Walk, from_static, through, read_text}
-use Rattle.order_law.specs.OwnRecord.{edges_of, edges_in, edges_between_in, conflict_places_in, owner_in}
+use Rattle.order_law.specs.declared.records.Reach.{Reach}
+use Rattle.order_law.specs.declared.records.Place.{Place}
+use Rattle.order_law.specs.declared.records.Shown.{Shown}
+use Rattle.order_law.specs.Conflicts.{Member, down}
+use Rattle.order_law.specs.Histories.{Touches, ran_after, touches_of}
+use Rattle.order_law.specs.Pairing.{PairedList, no_more, one_more}
+use Rattle.order_law.specs.Reach.{inner_class, is_settled, Reaches, ReachesIn, own, touched, mentioned, IsReachOf, kinds_of}
+use Rattle.order_law.specs.Walk.{Walk, from_static, through, read_text, IsPlaceIn, IsShownIn}
+use Rattle.order_law.specs.OwnRecord.{edges_of, edges_in, places_in, owner, cut, conflict_places_in}
+use Rattle.order_law.proofs.Lists.{length-paired}
+use Rattle.order_law.proofs.OnLiterals.{records_on_literals}
 
 -- an edge from the first test to the second
-abbrev one_two : EdgeKind → ℕ → List ℕ → Edge
+abbrev pub one_two : EdgeKind → ℕ → List ℕ → Edge
 one_two k n text = record { earlier = 1; later = 2; kind = k; count = n; first = text }
 
 counter_edges : edges_of counter_suite ≡ one_two Raw 1 (codes "static Counter.n") ∷ []
-unfolding builtin_classes builtin_fields builtin_methods builtin_defs class_bound own_interfaces is_below implements default_interfaces is_trivial layout blank form_at next_place parameters return_type narrow opening tree one_test runs step row row_here row_throw throws row_raise handler_for row_finish row_fail parts_of begin row_moves row_arith row_branches row_statics read_static write_static row_fields row_create new_object row_calls calls argument_count row_return hands_on kept_method select select_virtual select_interface select_special row_native native_object native_throwable native_string native_builder native_system native_print native_files native_env drive drives drive_first drive_init drive_set_up drive_method drive_tear_down judge digits add64 utf16_chars encode edges_in edges_between_in conflict_places_in owner_in location_text name_unit
+unfolding records_on_literals
 counter_edges = refl
 
 again_edges : edges_of again_suite ≡ one_two Waw 1 (codes "static Counter.n") ∷ []
-unfolding builtin_classes builtin_fields builtin_methods builtin_defs class_bound own_interfaces is_below implements default_interfaces is_trivial layout blank form_at next_place parameters return_type narrow opening tree one_test runs step row row_here row_throw throws row_raise handler_for row_finish row_fail parts_of begin row_moves row_arith row_branches row_statics read_static write_static row_fields row_create new_object row_calls calls argument_count row_return hands_on kept_method select select_virtual select_interface select_special row_native native_object native_throwable native_string native_builder native_system native_print native_files native_env drive drives drive_first drive_init drive_set_up drive_method drive_tear_down judge digits add64 utf16_chars encode edges_in edges_between_in conflict_places_in owner_in location_text name_unit
+unfolding records_on_literals
 again_edges = refl
 
 read_write_edges : edges_of read_write_suite ≡ one_two War 1 (codes "static P.n") ∷ []
-unfolding builtin_classes builtin_fields builtin_methods builtin_defs class_bound own_interfaces is_below implements default_interfaces is_trivial layout blank form_at next_place parameters return_type narrow opening tree one_test runs step row row_here row_throw throws row_raise handler_for row_finish row_fail parts_of begin row_moves row_arith row_branches row_statics read_static write_static row_fields row_create new_object row_calls calls argument_count row_return hands_on kept_method select select_virtual select_interface select_special row_native native_object native_throwable native_string native_builder native_system native_print native_files native_env drive drives drive_first drive_init drive_set_up drive_method drive_tear_down judge digits add64 utf16_chars encode edges_in edges_between_in conflict_places_in owner_in location_text name_unit
+unfolding records_on_literals
 read_write_edges = refl
 
 bad_init_edges : edges_of bad_init_suite ≡ one_two Raw 1 (codes "init Bad") ∷ []
-unfolding builtin_classes builtin_fields builtin_methods builtin_defs class_bound own_interfaces is_below implements default_interfaces is_trivial layout blank form_at next_place parameters return_type narrow opening tree one_test runs step row row_here row_throw throws row_raise handler_for row_finish row_fail parts_of begin row_moves row_arith row_branches row_statics read_static write_static row_fields row_create new_object row_calls calls argument_count row_return hands_on kept_method select select_virtual select_interface select_special row_native native_object native_throwable native_string native_builder native_system native_print native_files native_env drive drives drive_first drive_init drive_set_up drive_method drive_tear_down judge digits add64 utf16_chars encode edges_in edges_between_in conflict_places_in owner_in location_text name_unit
+unfolding records_on_literals
 bad_init_edges = refl
 
 kept_error_edges : edges_of kept_error_suite ≡ one_two Raw 3 (codes "static X.e") ∷ []
-unfolding builtin_classes builtin_fields builtin_methods builtin_defs class_bound own_interfaces is_below implements default_interfaces is_trivial layout blank form_at next_place parameters return_type narrow opening tree one_test runs step row row_here row_throw throws row_raise handler_for row_finish row_fail parts_of begin row_moves row_arith row_branches row_statics read_static write_static row_fields row_create new_object row_calls calls argument_count row_return hands_on kept_method select select_virtual select_interface select_special row_native native_object native_throwable native_string native_builder native_system native_print native_files native_env drive drives drive_first drive_init drive_set_up drive_method drive_tear_down judge digits add64 utf16_chars encode edges_in edges_between_in conflict_places_in owner_in location_text name_unit
+unfolding records_on_literals
 kept_error_edges = refl
 
 -- a file that is asked for, made, looked at and dropped
@@ -71,20 +59,230 @@ abbrev file_edge : EdgeKind → ℕ → ℕ → Edge
 file_edge k u t = record { earlier = u; later = t; kind = k; count = 1; first = codes "file \"log\"" }
 
 files_edges : edges_of files_suite ≡ file_edge War 1 2 ∷ file_edge Raw 2 3 ∷ file_edge Raw 2 4 ∷ file_edge Waw 2 4 ∷ file_edge War 3 4 ∷ []
-unfolding builtin_classes builtin_fields builtin_methods builtin_defs class_bound own_interfaces is_below implements default_interfaces is_trivial layout blank form_at next_place parameters return_type narrow opening tree one_test runs step row row_here row_throw throws row_raise handler_for row_finish row_fail parts_of begin row_moves row_arith row_branches row_statics read_static write_static row_fields row_create new_object row_calls calls argument_count row_return hands_on kept_method select select_virtual select_interface select_special row_native native_object native_throwable native_string native_builder native_system native_print native_files native_env drive drives drive_first drive_init drive_set_up drive_method drive_tear_down judge digits add64 utf16_chars encode edges_in edges_between_in conflict_places_in owner_in location_text name_unit quoted_unit
+unfolding records_on_literals
 files_edges = refl
 
 -- three locations of two objects, the first a static
 node_edges : edges_of node_suite ≡ record { earlier = 1; later = 3; kind = Raw; count = 3; first = codes "static List.head" } ∷ []
-unfolding builtin_classes builtin_fields builtin_methods builtin_defs class_bound own_interfaces is_below implements default_interfaces is_trivial layout blank form_at next_place parameters return_type narrow opening tree one_test runs step row row_here row_throw throws row_raise handler_for row_finish row_fail parts_of begin row_moves row_arith row_branches row_statics read_static write_static row_fields row_create new_object row_calls calls argument_count row_return hands_on kept_method select select_virtual select_interface select_special row_native native_object native_throwable native_string native_builder native_system native_print native_files native_env drive drives drive_first drive_init drive_set_up drive_method drive_tear_down judge digits add64 utf16_chars encode edges_in edges_between_in conflict_places_in owner_in location_text name_unit
+unfolding records_on_literals
 node_edges = refl
 
 -- the walk to the second node: by the list's head and its next field
 node_walk : (xs : List Touch) × Walk (ran_after node_suite (down 3) 3).touches 1 xs × (map (λ x. read_text node_suite x.location) xs ≡ codes "static List.head" ∷ codes "field Node.next" ∷ [])
-unfolding builtin_classes builtin_fields builtin_methods builtin_defs class_bound own_interfaces is_below implements default_interfaces is_trivial layout blank form_at next_place parameters return_type narrow opening tree one_test runs step row row_here row_throw throws row_raise handler_for row_finish row_fail parts_of begin row_moves row_arith row_branches row_statics read_static write_static row_fields row_create new_object row_calls calls argument_count row_return hands_on kept_method select select_virtual select_interface select_special row_native native_object native_throwable native_string native_builder native_system native_print native_files native_env drive drives drive_first drive_init drive_set_up drive_method drive_tear_down judge digits add64 utf16_chars encode edges_in edges_between_in conflict_places_in owner_in location_text name_unit
+unfolding records_on_literals
 node_walk = (_, through refl refl (from_static refl refl), refl)
 
--- a test that reads a static isn't settled
+-- a test that reads a static of a class isn't settled
 settled_tests : map (λ t. is_settled counter_suite t) (1 ∷ 2 ∷ []) ≡ true ∷ false ∷ []
-unfolding builtin_classes builtin_fields builtin_methods builtin_defs class_bound own_interfaces is_below implements default_interfaces is_trivial layout blank form_at next_place parameters return_type narrow opening tree one_test runs step row row_here row_throw throws row_raise handler_for row_finish row_fail parts_of begin row_moves row_arith row_branches row_statics read_static write_static row_fields row_create new_object row_calls calls argument_count row_return hands_on kept_method select select_virtual select_interface select_special row_native native_object native_throwable native_string native_builder native_system native_print native_files native_env drive drives drive_first drive_init drive_set_up drive_method drive_tear_down judge digits add64 utf16_chars encode edges_in edges_between_in conflict_places_in owner_in location_text name_unit is_settled_in
+unfolding records_on_literals
 settled_tests = refl
+
+-- the static that the first test keeps, between the tests that keep it too and the one that prints it
+abbrev pub triple_suite : Program
+triple_suite = program (class (codes "W") (2 ∷ []) (102 ∷ 103 ∷ 104 ∷ 105 ∷ []) ∷ []) (static_int 32 (codes "n") ∷ [])
+    (fixed 32 (codes "a") (codes "()V") (body 1 0 (int_const 1 ∷ put_static 2 ∷ returns ∷ []))
+    ∷ fixed 32 (codes "b") (codes "()V") (body 1 0 (int_const 2 ∷ put_static 2 ∷ returns ∷ []))
+    ∷ fixed 32 (codes "c") (codes "()V") (body 1 0 (int_const 3 ∷ put_static 2 ∷ returns ∷ []))
+    ∷ fixed 32 (codes "d") (codes "()V") (body 1 0 (get_static 2 ∷ print_number)) ∷ [])
+    [] (test 32 102 ∷ test 32 103 ∷ test 32 104 ∷ test 32 105 ∷ [])
+
+abbrev pub edge_at : EdgeKind → ℕ → ℕ → List ℕ → Edge
+edge_at k u t text = record { earlier = u; later = t; kind = k; count = 1; first = text }
+
+abbrev pub triple : List Edge
+triple = edge_at Waw 1 2 (codes "static W.n") ∷ edge_at Waw 2 3 (codes "static W.n") ∷ edge_at Raw 3 4 (codes "static W.n") ∷ []
+
+triple_edges : edges_of triple_suite ≡ triple
+unfolding records_on_literals
+triple_edges = refl
+
+-- two statics that tie four tests together
+abbrev links_suite : Program
+links_suite = program (class (codes "V") (2 ∷ 3 ∷ []) (102 ∷ 103 ∷ 104 ∷ 105 ∷ []) ∷ []) (static_int 32 (codes "p") ∷ static_int 32 (codes "q") ∷ [])
+    (fixed 32 (codes "a") (codes "()V") (body 1 0 (int_const 1 ∷ put_static 2 ∷ returns ∷ []))
+    ∷ fixed 32 (codes "b") (codes "()V") (body 2 0 (get_static 2 ∷ get_static 3 ∷ (1, form.Pop) ∷ print_number))
+    ∷ fixed 32 (codes "c") (codes "()V") (body 1 0 (int_const 2 ∷ put_static 3 ∷ returns ∷ []))
+    ∷ fixed 32 (codes "d") (codes "()V") (body 1 0 (get_static 3 ∷ print_number)) ∷ [])
+    [] (test 32 102 ∷ test 32 103 ∷ test 32 104 ∷ test 32 105 ∷ [])
+
+abbrev pub links : List Edge
+links = edge_at Raw 1 2 (codes "static V.p") ∷ edge_at War 2 3 (codes "static V.q") ∷ edge_at Raw 3 4 (codes "static V.q") ∷ []
+
+links_edges : edges_of links_suite ≡ links
+unfolding records_on_literals
+links_edges = refl
+
+-- one pair of tests with a waw and a war edge: both write p, and the first reads q
+abbrev both_suite : Program
+both_suite = program (class (codes "V") (2 ∷ 3 ∷ []) (102 ∷ 103 ∷ []) ∷ []) (static_int 32 (codes "p") ∷ static_int 32 (codes "q") ∷ [])
+    (fixed 32 (codes "a") (codes "()V") (body 1 0 (get_static 3 ∷ put_static 2 ∷ returns ∷ []))
+    ∷ fixed 32 (codes "b") (codes "()V") (body 1 0 (int_const 1 ∷ put_static 3 ∷ int_const 2 ∷ put_static 2 ∷ returns ∷ [])) ∷ [])
+    [] (test 32 102 ∷ test 32 103 ∷ [])
+
+both_edges : edges_of both_suite ≡ one_two Waw 1 (codes "static V.p") ∷ one_two War 1 (codes "static V.q") ∷ []
+unfolding records_on_literals
+both_edges = refl
+
+-- A first location that is of an object: the second that the second test makes, after one of the first test.
+abbrev owner_suite : Program
+owner_suite = program
+    (class (codes "Node") (2 ∷ 3 ∷ []) (102 ∷ []) ∷ record (class (codes "List") (4 ∷ []) (103 ∷ 104 ∷ 105 ∷ [])) { mentions = 32 ∷ 34 ∷ 31 ∷ [] } ∷ record (class (codes "Item") [] []) { mentions = 33 ∷ [] } ∷ class (codes "Lone") [] [] ∷ [])
+    (field 32 (codes "v") (codes "I") (Int (pos 0)) ∷ field 32 (codes "next") (codes "LNode;") Null ∷ static 33 (codes "head") (codes "LNode;") Null ∷ [])
+    (plain 32 (codes "<init>") (codes "()V") (body 1 1 (load_this ∷ (3, form.InvokeSpecial (kind.Class 0) 0) ∷ returns ∷ []))
+    ∷ fixed 33 (codes "one") (codes "()V") (body 2 0 ((3, form.New 32) ∷ (1, form.Pop) ∷ returns ∷ []))
+    ∷ fixed 33 (codes "two") (codes "()V") (body 3 0 ((3, form.New 32) ∷ put_static 4 ∷ get_static 4 ∷ (3, form.New 32) ∷ (3, form.PutField 32 3) ∷ returns ∷ []))
+    ∷ fixed 33 (codes "put") (codes "()V") (body 3 0 (get_static 4 ∷ (3, form.GetField 32 3) ∷ int_const 1 ∷ (3, form.PutField 32 2) ∷ returns ∷ [])) ∷ [])
+    [] (test 33 103 ∷ test 33 104 ∷ test 33 105 ∷ [])
+
+owner_edges : edges_of owner_suite ≡ record { earlier = 2; later = 3; kind = Raw; count = 2; first = codes "static List.head" } ∷ edge_at Waw 2 3 (codes "field 2:2 Node.v") ∷ []
+unfolding records_on_literals
+owner_edges = refl
+
+-- objects by their tests and numbers within the tests
+owners : map (λ o. owner owner_suite o) (0 ∷ 1 ∷ 2 ∷ []) ≡ (1, 1) ∷ (2, 1) ∷ (2, 2) ∷ []
+unfolding records_on_literals
+owners = refl
+
+-- a text of 200 bytes stands whole, and a longer one is cut
+cut_long : cut (replicate 201 65) ≡ replicate 200 65 ++ codes "..."
+cut_long = refl
+
+cut_none : cut (replicate 200 65) ≡ replicate 200 65
+cut_none = refl
+
+-- as the first location of an edge
+abbrev long_suite : Program
+long_suite = program (class (codes "P") (2 ∷ []) (102 ∷ 103 ∷ []) ∷ []) (static_int 32 (replicate 300 110) ∷ [])
+    (fixed 32 (codes "read") (codes "()V") (body 1 0 (get_static 2 ∷ print_number))
+    ∷ fixed 32 (codes "write") (codes "()V") (body 1 0 (int_const 5 ∷ put_static 2 ∷ returns ∷ [])) ∷ [])
+    [] (test 32 102 ∷ test 32 103 ∷ [])
+
+long_edges : edges_of long_suite ≡ one_two War 1 (codes "static P." ++ (replicate 191 110 ++ codes "...")) ∷ []
+unfolding records_on_literals
+long_edges = refl
+
+-- a test that prints by the stream alone is settled, but not where some code puts the stream
+abbrev stream_suite : Program
+stream_suite = program (class (codes "S") (2 ∷ []) (102 ∷ 103 ∷ 104 ∷ []) ∷ []) (static_int 32 (codes "n") ∷ [])
+    (fixed 32 (codes "a") (codes "()V") (body 2 0 (get_static 0 ∷ literal 1 ∷ (3, form.InvokeVirtual (kind.Class 4) 34) ∷ returns ∷ []))
+    ∷ fixed 32 (codes "b") (codes "()V") (body 2 0 (get_static 0 ∷ (1, form.Pop) ∷ get_static 2 ∷ print_number))
+    ∷ fixed 32 (codes "c") (codes "()V") (body 2 0 (int_const 1 ∷ put_static 2 ∷ get_static 2 ∷ print_number)) ∷ [])
+    (codes "hi" ∷ []) (test 32 102 ∷ test 32 103 ∷ test 32 104 ∷ [])
+
+abbrev put_suite : Program
+put_suite = program (class (codes "S") [] (102 ∷ 103 ∷ []) ∷ []) []
+    (fixed 32 (codes "a") (codes "()V") (body 2 0 (get_static 0 ∷ (1, form.Pop) ∷ returns ∷ []))
+    ∷ fixed 32 (codes "never") (codes "()V") (body 2 0 (get_static 0 ∷ put_static 0 ∷ returns ∷ [])) ∷ [])
+    [] (test 32 102 ∷ [])
+
+settled_streams : map (λ t. is_settled stream_suite t) (1 ∷ 2 ∷ 3 ∷ []) ≡ true ∷ false ∷ true ∷ []
+unfolding records_on_literals
+settled_streams = refl
+
+unsettled_stream : is_settled put_suite 1 ≡ false
+unfolding records_on_literals
+unsettled_stream = refl
+
+-- The reach of the first test of the suite of three objects: its own class and what that mentions, and what these mention;
+-- of the built-in classes none, and not the class that nobody names.
+one_settled : is_settled owner_suite 1 ≡ true
+unfolding records_on_literals
+one_settled = refl
+
+one_places : places_in (touches_of owner_suite) 1 ≡ place.Head 0 ∷ place.Field 0 2 ∷ place.Field 0 3 ∷ []
+unfolding records_on_literals
+one_places = refl
+
+one_kind : kinds_of owner_suite 1 0 ≡ kind.Class 32
+unfolding records_on_literals
+one_kind = refl
+
+owner_mentions : map (λ c. (class_at owner_suite c).mentions) (32 ∷ 33 ∷ 34 ∷ []) ≡ [] ∷ (32 ∷ 34 ∷ 31 ∷ []) ∷ (33 ∷ []) ∷ []
+unfolding records_on_literals
+owner_mentions = refl
+
+owner_classes : length owner_suite.classes ≡ 36
+unfolding records_on_literals
+owner_classes = refl
+
+own_reach : IsReachOf owner_suite 1 (record { settled = true; classes = 1 ∷ 2 ∷ 3 ∷ [] })
+own_reach = record { settled = sym one_settled; ascending = refl; classes = λ j. (there j, back j) }
+  where
+    given : (c : ℕ) → 32 ≤ c → c ≤ 34 → IsGiven owner_suite c
+    given c lo hi = (lo, (let e = owner_classes in omega arith))
+
+    of_list : {x y z u v w : List ℕ} → x ∷ y ∷ z ∷ [] ≡ u ∷ v ∷ w ∷ [] → (x ≡ u) × (y ≡ v) × (z ≡ w)
+    of_list e = ((cc), (cc), (cc))
+
+    from_33 : (d : ℕ) → Member d (32 ∷ 34 ∷ 31 ∷ []) → IsGiven owner_suite d → Reaches owner_suite 1 d
+    from_33 d m g = mentioned (own (given 33 (omega arith) (omega arith))) (subst (λ (x : List ℕ). Member d x) (sym (of_list owner_mentions).1) m) g
+
+    there : (j : ℕ) → Member j (1 ∷ 2 ∷ 3 ∷ []) → Reaches owner_suite 1 (j + 31)
+    there j (inl e) = rw e (from_33 32 (inl refl) (given 32 (omega arith) (omega arith)))
+    there j (inr (inl e)) = rw e (own (given 33 (omega arith) (omega arith)))
+    there j (inr (inr (inl e))) = rw e (from_33 34 (inr (inl refl)) (given 34 (omega arith) (omega arith)))
+    there j (inr (inr (inr n))) = absurd n
+
+    head_of : (o : ℕ) → Member (place.Head o) (place.Head 0 ∷ place.Field 0 2 ∷ place.Field 0 3 ∷ []) → o ≡ 0
+    head_of o (inl e) = cc
+    head_of o (inr (inl e)) = absurd (cc)
+    head_of o (inr (inr (inl e))) = absurd (cc)
+    head_of o (inr (inr (inr n))) = absurd n
+
+    head_class : (o c : ℕ) → Member (place.Head o) (places_in (touches_of owner_suite) 1) → inner_class (kinds_of owner_suite 1 o) ≡ Some c → c ≤ 34
+    head_class o c m i =
+        let z = head_of o (subst (λ (x : List Location). Member (place.Head o) x) one_places m) in
+        let k : inner_class (kind.Class 32) ≡ Some c = ap inner_class (sym one_kind) ∙ subst (λ (x : ℕ). inner_class (kinds_of owner_suite 1 x) ≡ Some c) z i in
+        let n : 32 ≡ c = cc in
+        omega arith
+
+    few : (d : ℕ) → Member d (32 ∷ 34 ∷ 31 ∷ []) → d ≤ 34
+    few d (inl e) = omega arith
+    few d (inr (inl e)) = omega arith
+    few d (inr (inr (inl e))) = omega arith
+    few d (inr (inr (inr n))) = absurd n
+
+    mentions_of : (c d : ℕ) → 32 ≤ c → c ≤ 34 → Member d (class_at owner_suite c).mentions → d ≤ 34
+    mentions_of c d lo hi m = elim (cases_eq c 33) [
+      | inl e ↦ few d (subst (λ (x : List ℕ). Member d x) (ap (λ (x : ℕ). (class_at owner_suite x).mentions) e ∙ (of_list owner_mentions).1) m)
+      | inr a ↦ elim (cases_eq c 32) [
+        | inl e ↦ absurd (subst (λ (x : List ℕ). Member d x) (ap (λ (x : ℕ). (class_at owner_suite x).mentions) e ∙ (of_list owner_mentions).0) m)
+        | inr b ↦
+            let f : c ≡ 34 = omega arith in
+            let k : Member d (33 ∷ []) = subst (λ (x : List ℕ). Member d x) (ap (λ (x : ℕ). (class_at owner_suite x).mentions) f ∙ (of_list owner_mentions).2) m in
+            elim k [ inl e ↦ omega arith | inr n ↦ absurd n ]
+      ]
+    ]
+
+    within : {c : ℕ} → Reaches owner_suite 1 c → (32 ≤ c) × (c ≤ 34)
+    within (own g) = (omega arith, omega arith)
+    within (touched o m i g) = (g.0, head_class o _ m i)
+    within (mentioned r m g) = let w = within r in (g.0, mentions_of _ _ w.0 w.1 m)
+
+    back : (j : ℕ) → Reaches owner_suite 1 (j + 31) → Member j (1 ∷ 2 ∷ 3 ∷ [])
+    back j r = let w = within r in let lo = w.0 in let hi = w.1 in elim (cases_eq j 1) [
+      | inl e ↦ inl e
+      | inr a ↦ elim (cases_eq j 2) [ inl e ↦ inr (inl e) | inr b ↦ inr (inr (inl (omega arith))) ]
+    ]
+
+-- ten statics that one test writes and the next one reads: eight are shown of the edge, and the edge counts all
+abbrev ten_touches : Touches
+ten_touches t = map (λ f. record { write = nat_eq t 1; location = place.Static (2 + f); gave = None }) (0 ∷ 1 ∷ 2 ∷ 3 ∷ 4 ∷ 5 ∷ 6 ∷ 7 ∷ 8 ∷ 9 ∷ [])
+
+abbrev ten_suite : Program
+ten_suite = program (class (codes "T") [] [] ∷ []) (map (λ f. static_int 32 ((97 + f) ∷ [])) (0 ∷ 1 ∷ 2 ∷ 3 ∷ 4 ∷ 5 ∷ 6 ∷ 7 ∷ 8 ∷ 9 ∷ [])) [] [] (test 32 102 ∷ test 32 103 ∷ [])
+
+abbrev nobody : ℕ → ℕ × ℕ
+nobody o = (0, 0)
+
+ten_edges : edges_in ten_suite ten_touches nobody ≡ one_two Raw 10 (codes "static T.a") ∷ []
+unfolding records_on_literals
+ten_edges = refl
+
+ten_places : (x : Shown) → IsShownIn ten_suite ten_touches nobody (one_two Raw 10 (codes "static T.a")) x → length x.places ≡ 8
+unfolding records_on_literals
+ten_places x s = sym (length-paired (IsPlaceIn ten_suite nobody (ten_touches 2)) s)
+
+first_place : (x : Place) (xs : List Place) → PairedList (IsPlaceIn ten_suite nobody (ten_touches 2)) (take 8 (conflict_places_in ten_touches Raw 1 2)) (x ∷ xs) → (x.at ≡ codes "static T.a") × (x.walk ≡ [])
+unfolding records_on_literals
+first_place x xs (one_more r rs) = (r.at, r.walk)
