@@ -1,4 +1,5 @@
 -- Every built-in method over operands of its types is typed, and answers what its types say.
+use Rattle.std.specs.Str.{bytes_eq}
 use Rattle.std.proofs.Common.{◌≡◌, ℕ, ℤ, ◌-◌, List, [], ◌∷◌, ◌++◌, length, take, drop, true, false, ◌&&◌, nat_eq, nat_lt, nat_le, pos, negsuc, refl, sym, ap, subst, Option, Some, None}
 use Rattle.std.specs.Prelude.{codes}
 use Rattle.std.specs.Fmt.{signed_decimal}
@@ -154,7 +155,7 @@ module _ (p : Program) (ty : Types) (sound : AreSound p ty) (lib : HasLibrary p 
 
   compare : (c : ℕ) (r v : Value) (vs : List Value) → HasType ty hs string_type r → HasType ty hs object_type v → HasTypes ty hs ts vs → Gives (int_type ∷ []) → G hs (Fault null_pointer_exception) s → R (compares p s vs r v c)
   compare c r v vs e g h go null = choose-typed p ty G hs (nat_eq c string_class)
-      (λ q. plain_text r (kind.Class string_class) e null (λ t. plain_text v (kind.Class Rattle.jvm_model.specs.Builtin.object_class) g null (λ u. typed_spend (typed_done (go hs here s.own (truth (Rattle.jvm_model.specs.World.same_units t u) ∷ vs) (tt, h))))))
+      (λ q. plain_text r (kind.Class string_class) e null (λ t. plain_text v (kind.Class Rattle.jvm_model.specs.Builtin.object_class) g null (λ u. typed_spend (typed_done (go hs here s.own (truth (bytes_eq t u) ∷ vs) (tt, h))))))
       (λ q. typed_done (go hs here s.own (truth false ∷ vs) (tt, h)))
 
   equals : (r v : Value) (vs : List Value) → HasType ty hs string_type r → HasType ty hs object_type v → HasTypes ty hs ts vs → Gives (int_type ∷ []) → G hs (Fault null_pointer_exception) s → R (string_equals p s vs r v)

@@ -1,24 +1,19 @@
 -- Lists, chains and histories by the edges of small records: each definition gives what it should, and refuses what it should.
-use Rattle.std.proofs.Common.{◌≡◌, ◌↔◌, ◌⊎◌, ℕ, zero, suc, ◌+◌, ◌<◌, ◌≤◌, List, [], ◌∷◌, ◌++◌, map, length, replicate, reverse, Bool, true, false, refl, sym, ◌∙◌, ap, subst, inl, inr, arith, Option, Some, None, nat_eq, cond}
+use Rattle.std.proofs.Common.{◌≡◌, ◌↔◌, ℕ, zero, suc, ◌<◌, List, [], ◌∷◌, ◌++◌, map, replicate, Bool, true, false, refl, sym, subst, inl, inr, arith, Some, None, nat_eq, cond}
 use Rattle.std.specs.Prelude.{codes}
-use Rattle.std.proofs.lemmas.Bool.{and_parts, ltb-true, true≢false}
+use Rattle.std.proofs.lemmas.Bool.{true≢false}
 use Rattle.jvm_model.specs.declared.outcome.Outcome.{Outcome}
-use Rattle.jvm_model.specs.declared.program.Program.{Program}
-use Rattle.jvm_model.specs.Suite.{is_detected, last_outcome, all_tests}
-use Rattle.jvm_model.specs.Linked.{Linked}
+use Rattle.jvm_model.specs.Suite.{is_detected, all_tests}
 use Rattle.jvm_model.proofs.ExampleParts.{passed, line}
 use Rattle.jvm_model.proofs.Examples.{counter_suite, return_suite}
 use Rattle.order_law.specs.declared.edges.Edge.{Edge}
 use Rattle.order_law.specs.declared.edges.EdgeKind.{EdgeKind}
 use Rattle.order_law.specs.declared.edges.EdgeKind.TheVariants.{Raw, Waw, War}
-use Rattle.order_law.specs.declared.records.Reach.{Reach}
-use Rattle.order_law.specs.declared.records.More.{More}
-use Rattle.order_law.specs.Conflicts.{Member, HasEdge, Before, edge, chain, Lawful, Closure, selected, source, Joined, itself, forth, back}
-use Rattle.order_law.specs.Histories.{IsTestNumber}
-use Rattle.order_law.specs.OrderFault.{OrderFault, twice, missing_writer, inverted}
+use Rattle.order_law.specs.Conflicts.{Member, HasEdge, Before, Lawful, Closure, selected, source, Joined, itself, forth, back}
+use Rattle.order_law.specs.OrderFault.{twice, missing_writer, inverted}
 use Rattle.order_law.specs.OwnRecord.{edges_of}
-use Rattle.order_law.specs.RecordForm.{is_record_form, is_reach, are_chains, numbers_ascend}
-use Rattle.order_law.specs.Plan.{chain_at, Ascending, AreChainsOf, AreListedChainsOf, Event, claim, post, claims, posts, Posted, NextOf, Meets, Legal, IsComplete}
+use Rattle.order_law.specs.RecordForm.{is_record_form, is_reach, are_chains}
+use Rattle.order_law.specs.Plan.{chain_at, Ascending, AreChainsOf, AreListedChainsOf, Event, claim, post, claims, Posted, NextOf, Legal, IsComplete}
 use Rattle.order_law.proofs.OnLiterals.{records_on_literals}
 use Rattle.order_law.proofs.OrderFaults.{order_fault, lawful_list, before-true, before-from}
 use Rattle.order_law.proofs.Posts.{ascending_from}

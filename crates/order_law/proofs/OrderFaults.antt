@@ -1,13 +1,13 @@
 -- The first fault of a list, computed: there is one exactly where the list isn't lawful, and no other.
-use Rattle.std.proofs.Common.{◌≡◌, ◌⊎◌, ℕ, zero, suc, ◌+◌, ◌<◌, ◌≤◌, Bool, true, false, not, ◌&&◌, ◌||◌, cond, nat_eq, List, [], ◌∷◌, ◌++◌, length, get_or, slice_get, take, refl, sym, ◌∙◌, ap, subst, inl, inr, arith, Option, Some, None, is_some}
-use Rattle.std.proofs.lemmas.Bool.{cases_Bool, cases_eq, cases_lt, cases_order, eq-eqb, eqb-true, and_parts, and_from, or_cases, or_left, or_right, or_parts, not-true, not_from_false, true≢false}
+use Rattle.std.proofs.Common.{◌≡◌, ◌⊎◌, ℕ, zero, suc, ◌+◌, ◌<◌, Bool, true, false, not, ◌&&◌, ◌||◌, cond, nat_eq, List, [], ◌∷◌, length, get_or, slice_get, take, refl, sym, ◌∙◌, ap, subst, inl, inr, arith, Option, Some, None, is_some}
+use Rattle.std.proofs.lemmas.Bool.{cases_Bool, cases_eq, cases_order, eq-eqb, eqb-true, and_parts, and_from, or_cases, or_left, or_right, not-true, not_from_false, true≢false}
 use Rattle.std.proofs.lemmas.Option.{slice_get-get_or, slice_get_within, get_or_from_slice_get}
 use Rattle.jvm_model.specs.Classes.{member}
 use Rattle.order_law.specs.declared.edges.Edge.{Edge}
 use Rattle.order_law.specs.declared.edges.EdgeKind.{EdgeKind}
 use Rattle.order_law.specs.declared.edges.EdgeKind.TheVariants.{Raw, Waw, War}
 use Rattle.order_law.specs.Conflicts.{Member, HasEdge, Before, edge, chain, Distinct, InOrder, Lawful}
-use Rattle.order_law.specs.OrderFault.{OrderFault, twice, missing_writer, inverted, IsTwice, HasWriters, IsMissing, IsInPlace, IsInverted, IsOrderFault, is_twice, is_missing, is_inverted, HasOneFault, LawOfFaults}
+use Rattle.order_law.specs.OrderFault.{OrderFault, twice, missing_writer, inverted, IsTwice, HasWriters, IsMissing, IsInPlace, IsInverted, IsOrderFault, is_twice, is_missing, is_inverted, LawOfFaults}
 use Rattle.order_law.proofs.Posts.{member_true}
 
 -- `Before`, computed edge by edge: a path takes the first edge, or it doesn't
@@ -26,7 +26,7 @@ before-true (x ∷ R) u t e = elim (or_cases (is_before R u t) _ e) [
   | inr h ↦
       let q = and_parts (nat_eq u x.earlier || is_before R u x.earlier) (nat_eq x.later t || is_before R x.later t) h in
       let last : (v : ℕ) → Before (x ∷ R) v x.later → Before (x ∷ R) v t =
-          (λ v b. elim (or_cases (nat_eq x.later t) (is_before R x.later t) q.1) [ inl e ↦ subst (λ (z : ℕ). Before (x ∷ R) v z) (eqb-true x.later t e) b | inr e ↦ chain b (more_edges x R (before-true R x.later t e)) ]) in
+      (λ v b. elim (or_cases (nat_eq x.later t) (is_before R x.later t) q.1) [ inl e ↦ subst (λ (z : ℕ). Before (x ∷ R) v z) (eqb-true x.later t e) b | inr e ↦ chain b (more_edges x R (before-true R x.later t e)) ]) in
       let here : Before (x ∷ R) x.earlier x.later = edge x.kind (inl (refl, refl, refl)) in
       last u (elim (or_cases (nat_eq u x.earlier) (is_before R u x.earlier) q.0) [ inl e ↦ subst (λ (z : ℕ). Before (x ∷ R) z x.later) (sym (eqb-true u x.earlier e)) here | inr e ↦ chain (more_edges x R (before-true R u x.earlier e)) here ])
 ]

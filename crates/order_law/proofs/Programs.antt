@@ -10,7 +10,7 @@ use Rattle.jvm_model.specs.declared.program.Program.{Program}
 use Rattle.jvm_model.specs.declared.program.Body.{Body}
 use Rattle.jvm_model.specs.declared.program.Placed.{Placed}
 use Rattle.jvm_model.specs.declared.program.Handler.{Handler}
-use Rattle.jvm_model.specs.World.{same_units}
+use Rattle.std.specs.Str.{bytes_eq}
 use Rattle.jvm_model.specs.Builtin.{object_class, abstract_method_error, class_change_error}
 use Rattle.jvm_model.specs.Classes.{class_at, field_at, method_at, is_private, is_static, is_interface, class_bound, upwards_in, upwards, member, lineage_in, own_interfaces, is_below, implements, clinit_name, init_name, is_default_method, default_interfaces, declares_start, is_trivial, default_of, layout_in, layout, element_default, fields_of, elems_of, blank, instance_head, Found, place_after, found_in, found_of, form_at, next_place}
 use Rattle.jvm_model.specs.Kinds.{class_of, element_kind, class_fits, base_fits, is_object, kind_fits}
@@ -21,9 +21,9 @@ use Rattle.order_law.specs.Numbers.{Numbers, Tested, with_places}
 use Rattle.order_law.specs.Forms.{PairedInstr}
 use Rattle.order_law.specs.Matched.{PairedPlaced, PairedHandler, PairedBody, Matched}
 use Rattle.order_law.proofs.Pairs.{list-append, same_cond}
-use Rattle.order_law.proofs.Lists.{test-paired, both, cond-list, filter-paired, any-paired, all-paired, replicate-list, is_some-paired, map-paired, flat_map-paired, member-paired, mentions-paired}
+use Rattle.order_law.proofs.Lists.{test-paired, both, either, cond-list, filter-paired, any-paired, all-paired, replicate-list, is_some-paired, map-paired, flat_map-paired, member-paired, mentions-paired}
 
-pub units-paired : {a b c d : List ℕ} → a ≡ b → c ≡ d → same_units a c ≡ same_units b d
+pub units-paired : {a b c d : List ℕ} → a ≡ b → c ≡ d → bytes_eq a c ≡ bytes_eq b d
 units-paired e g = rw (e, g)
 
 pub pick-option : {A B : Type 0} {R : A → B → Type 0} (b c : Bool) {x u : Option A} {y v : Option B} → b ≡ c → PairedOption R x y → PairedOption R u v →
@@ -73,7 +73,7 @@ module _ (n : Numbers) (p q : Program) (mt : Matched n p q) where
 
   default_method-paired : (a b : ℕ) → M a b → is_default_method (method_at p a) ≡ is_default_method (method_at q b)
   default_method-paired a b e = let r = mt.methods a b e in
-      both _ _ _ _ (is_some-paired (PairedBody n) r.body) (both _ _ _ _ (ap (λ (f : ℕ). not (is_static f)) r.flags) (ap (λ (x : List ℕ). not (same_units x clinit_name)) r.name))
+      both _ _ _ _ (is_some-paired (PairedBody n) r.body) (both _ _ _ _ (ap (λ (f : ℕ). not (is_static f)) r.flags) (ap (λ (x : List ℕ). not (bytes_eq x clinit_name)) r.name))
 
   pub defaults-paired : (c d : ℕ) → C c d → PairedList C (default_interfaces p c) (default_interfaces q d)
   unfolding default_interfaces
@@ -126,7 +126,7 @@ module _ (n : Numbers) (p q : Program) (mt : Matched n p q) where
 
   class_fits-paired : (c d x y : ℕ) → C c d → C x y → class_fits p c x ≡ class_fits q d y
   unfolding class_fits
-  class_fits-paired c d x y e g = same_cond _ _ (interface-paired x y g) (implements-paired c d x y e g) (below-paired c d x y e g)
+  class_fits-paired c d x y e g = either _ _ _ _ (below-paired c d x y e g) (implements-paired c d x y e g)
 
   base_fits-paired : {a b x y : Base} → PairedBase C a b → PairedBase C x y → base_fits p a x ≡ base_fits q b y
   base_fits-paired (class_bases {c} {d} e) (class_bases {c = x} {d = y} g) = class_fits-paired c d x y e g
@@ -343,5 +343,5 @@ module _ (n : Numbers) (p q : Program) (mt : Matched n p q) where
   pub special-paired : (c d x y a b : ℕ) → C c d → C x y → M a b → PairedSelected (select_special p c x a) (select_special q d y b)
   unfolding select_special
   special-paired c d x y a b e g r = let s = start-paired c d x y e g in
-      pick-selected _ _ (ap (λ (z : List ℕ). same_units z init_name) (mt.methods a b r).name) (both_chosen r)
+      pick-selected _ _ (ap (λ (z : List ℕ). bytes_eq z init_name) (mt.methods a b r).name) (both_chosen r)
       (or_kept-paired a b _ _ r s (declared-paired (λ z. is_like p a z) (λ z. is_like q b z) (λ z w h. like-paired a b z w r h) (path-paired _ _ s)))

@@ -1,5 +1,5 @@
 -- Records of small suites, computed: the edges, walks and reaches that the definitions give are those that they should.
-use Rattle.std.proofs.Common.{◌≡◌, ◌↔◌, ◌⊎◌, ℕ, zero, suc, ◌+◌, ◌-◌, ◌<◌, ◌≤◌, List, [], ◌∷◌, ◌++◌, map, take, length, replicate, Bool, true, false, refl, sym, ◌∙◌, ap, subst, inl, inr, arith, Option, Some, None, pos, nat_eq}
+use Rattle.std.proofs.Common.{◌≡◌, ℕ, ◌+◌, ◌≤◌, List, [], ◌∷◌, ◌++◌, map, take, length, replicate, true, false, refl, sym, ◌∙◌, ap, subst, inl, inr, arith, Some, None, pos, nat_eq}
 use Rattle.std.specs.Prelude.{codes}
 use Rattle.std.proofs.lemmas.Bool.{cases_eq}
 use Rattle.jvm_model.specs.declared.values.Touch.{Touch}
@@ -9,22 +9,19 @@ use Rattle.jvm_model.specs.declared.values.Location.{Location}
 use Rattle.jvm_model.specs.declared.values.Location.TheVariants as place
 use Rattle.jvm_model.specs.declared.instr.Instr.TheVariants as form
 use Rattle.jvm_model.specs.declared.program.Program.{Program}
-use Rattle.jvm_model.specs.Builtin.{builtin_count}
 use Rattle.jvm_model.specs.Classes.{class_at}
-use Rattle.jvm_model.specs.State.{test_at}
 use Rattle.jvm_model.specs.Linked.{IsGiven}
-use Rattle.jvm_model.proofs.ExampleParts.{program, class, body, fixed, plain, static, field, static_int, test, int_const, literal, get_static, put_static, print_number, returns, load_this, dup}
+use Rattle.jvm_model.proofs.ExampleParts.{program, class, body, fixed, plain, static, field, static_int, test, int_const, literal, get_static, put_static, print_number, returns, load_this}
 use Rattle.jvm_model.proofs.Examples.{counter_suite, again_suite, read_write_suite, node_suite, bad_init_suite, kept_error_suite, files_suite}
 use Rattle.order_law.specs.declared.edges.Edge.{Edge}
 use Rattle.order_law.specs.declared.edges.EdgeKind.{EdgeKind}
 use Rattle.order_law.specs.declared.edges.EdgeKind.TheVariants.{Raw, Waw, War}
-use Rattle.order_law.specs.declared.records.Reach.{Reach}
 use Rattle.order_law.specs.declared.records.Place.{Place}
 use Rattle.order_law.specs.declared.records.Shown.{Shown}
 use Rattle.order_law.specs.Conflicts.{Member, down}
 use Rattle.order_law.specs.Histories.{Touches, ran_after, touches_of}
-use Rattle.order_law.specs.Pairing.{PairedList, no_more, one_more}
-use Rattle.order_law.specs.Reach.{inner_class, is_settled, Reaches, ReachesIn, own, touched, mentioned, IsReachOf, kinds_of}
+use Rattle.order_law.specs.Pairing.{PairedList, one_more}
+use Rattle.order_law.specs.Reach.{inner_class, is_settled, Reaches, own, touched, mentioned, IsReachOf, kinds_of}
 use Rattle.order_law.specs.Walk.{Walk, from_static, through, read_text, IsPlaceIn, IsShownIn}
 use Rattle.order_law.specs.OwnRecord.{edges_of, edges_in, places_in, owner, cut, conflict_places_in}
 use Rattle.order_law.proofs.Lists.{length-paired}

@@ -10,7 +10,7 @@ use Rattle.jvm_model.specs.declared.state.EntryKind.{EntryKind}
 use Rattle.jvm_model.specs.declared.state.EntryKind.TheVariants.{Absent, InMethod, InClass}
 use Rattle.jvm_model.specs.declared.state.Stage.{Stage}
 use Rattle.jvm_model.specs.declared.program.Body.{Body}
-use Rattle.jvm_model.specs.World.{same_units}
+use Rattle.std.specs.Str.{bytes_eq}
 use Rattle.jvm_model.specs.Access.{Access, bind}
 use Rattle.jvm_model.specs.Builtin.{error_class, initializer_error, no_class_error, stack_overflow_error, abstract_method_error, assertion_error}
 use Rattle.jvm_model.specs.Classes.{literal_at, is_static, is_trivial, init_name}
@@ -180,7 +180,7 @@ module _ (tw : Twins) where
   plain_in-paired : (name : List ℕ) {xs ys : List ℕ} → PairedList M xs ys → PairedOption M (plain_method_in tw.left name xs) (plain_method_in tw.right name ys)
   plain_in-paired name no_more = both_none
   plain_in-paired name (one_more {x} {y} e r) = let m = tw.matched.methods x y e in
-      pick-option _ _ (both _ _ _ _ (ap (λ (z : ℕ). not (is_static z)) m.flags) (both _ _ _ _ (ap (λ (z : List ℕ). same_units z name) m.name) (ap (λ (z : List ℕ). same_units z no_arguments) m.descriptor)))
+      pick-option _ _ (both _ _ _ _ (ap (λ (z : ℕ). not (is_static z)) m.flags) (both _ _ _ _ (ap (λ (z : List ℕ). bytes_eq z name) m.name) (ap (λ (z : List ℕ). bytes_eq z no_arguments) m.descriptor)))
       (both_some e) (plain_in-paired name r)
 
   or_plain : {x y u v : Option ℕ} → PairedOption M x y → PairedOption M u v → PairedOption M (elim x [ Some m ↦ Some m | None ↦ u ]) (elim y [ Some m ↦ Some m | None ↦ v ])
