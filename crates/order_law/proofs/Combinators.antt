@@ -12,7 +12,7 @@ use Rattle.jvm_model.specs.Entries.{Entries}
 use Rattle.jvm_model.specs.Rows.{Answer, none_here, faults, goes_on, goes_to, popping, on_int, on_long, on_object, on_reference, constant_kind, with_kind, on_text, Used, begun_at, begin, once, using}
 use Rattle.order_law.specs.Pairing.{PairedList, no_more, one_more, PairedValue, ints, longs, nulls, literals, objects, inits, heads, texts, PairedKind, class_kinds, Paired, both_done, both_read, both_write, both_make, both_spend}
 use Rattle.order_law.specs.Numbers.{Numbers, Tested, with_places}
-use Rattle.order_law.specs.Matched.{Matched}
+use Rattle.order_law.specs.Matched.{MatchedCode, MatchedStarts}
 use Rattle.order_law.proofs.Lists.{test-paired}
 use Rattle.order_law.proofs.Programs.{next_place-paired, trivial-paired, pick-class}
 use Rattle.order_law.proofs.Twins.{Twins}
@@ -31,7 +31,7 @@ module _ (tw : Twins) where
   abbrev q : Program
   q = tw.right
 
-  abbrev mt : Matched tw.numbers tw.left tw.right
+  abbrev mt : MatchedCode tw.numbers tw.left tw.right
   mt = tw.matched
 
   -- values in pairs
@@ -148,15 +148,17 @@ module _ (tw : Twins) where
   begun_at-paired c d Done e r = both_done both_ready
   begun_at-paired c d Erroneous e r = both_done (both_refused (mt.builtin no_class_error (omega arith)))
 
-  pub begin-paired : (c d : ℕ) {s t : Entries} → n.class c d ≡ true → PairedEntries n P s t → Paired (with_places n P) (PairedUsed n P) (begin p c s) (begin q d t)
-  unfolding begin
-  begin-paired c d {s} {t} e r = choose-paired _ _ (trivial-paired n p q mt c d e) (both_done both_ready)
-      (both_read (inits e) (λ x y g. subst (λ (z : InitState). Paired (with_places n P) (PairedUsed n P) (begun_at c s x) (begun_at d t z)) g (begun_at-paired c d x e r)))
-
   once-paired : {s t : Entries} {k l : Access (Answer Entries)} → PairedEntries n P s t → Rows k l → {x y : Used} → PairedUsed n P x y → Rows (once s k x) (once t l y)
   once-paired r f both_ready = f
   once-paired r f (both_begun e) = both_done (answered go e)
   once-paired r f (both_refused e) = both_done (answered (fault e) r)
 
-  pub using-paired : (c d : ℕ) {s t : Entries} {k l : Access (Answer Entries)} → n.class c d ≡ true → PairedEntries n P s t → Rows k l → Rows (using p c s k) (using q d t l)
-  using-paired c d e r f = bind-paired (begin-paired c d e r) (λ x y u. once-paired r f u)
+  -- use of a class, where classes start alike
+  module _ (st : MatchedStarts tw.numbers tw.left tw.right) where
+    pub begin-paired : (c d : ℕ) {s t : Entries} → n.class c d ≡ true → PairedEntries n P s t → Paired (with_places n P) (PairedUsed n P) (begin p c s) (begin q d t)
+    unfolding begin
+    begin-paired c d {s} {t} e r = choose-paired _ _ (trivial-paired n p q mt st c d e) (both_done both_ready)
+        (both_read (inits e) (λ x y g. subst (λ (z : InitState). Paired (with_places n P) (PairedUsed n P) (begun_at c s x) (begun_at d t z)) g (begun_at-paired c d x e r)))
+
+    pub using-paired : (c d : ℕ) {s t : Entries} {k l : Access (Answer Entries)} → n.class c d ≡ true → PairedEntries n P s t → Rows k l → Rows (using p c s k) (using q d t l)
+    using-paired c d e r f = bind-paired (begin-paired c d e r) (λ x y u. once-paired r f u)

@@ -94,7 +94,7 @@ module _ (p q : Program) (n : Numbers) (t u b : ℕ) (w v : World) (π : ℕ →
   forward_all a b x lt = elim x [ inl u ↦ po.right a b u | inr u ↦ absurd (omega arith) ]
 
   root : n.class 0 0 ≡ true
-  root = mt.builtin 0 (omega arith)
+  root = mt.code.builtin 0 (omega arith)
 
   -- at an old location the given pairing says it; at a new one nothing stands on either side
   agree_all : (ts : List Touch) → Agree (with_places n (Tested π)) ts w v → Agree (with_places n all) ts w v
@@ -120,8 +120,8 @@ module _ (p q : Program) (n : Numbers) (t u b : ℕ) (w v : World) (π : ℕ →
   ]
 
   alike : first.sound ≡ true → Agree (with_places n (Tested π)) first.touches w v → Alike (with_places n all) (PairedEnd n) w v (run (tree p t b) w) (run (tree q u b) v)
-  alike ok ag = frame (with_places n all) one_all mt.one_field mt.one_class
-      (tree-paired (record { numbers = n; place = all; one = one_all; left = p; right = q; matched = mt }) t u b pt) w v ok forward_all (λ i j lo hi e. inr (lo, hi, e)) (agree_all first.touches ag)
+  alike ok ag = frame (with_places n all) one_all mt.code.one_field mt.code.one_class
+      (tree-paired (record { numbers = n; place = all; one = one_all; left = p; right = q; matched = mt.code }) mt.starts t u b pt) w v ok forward_all (λ i j lo hi e. inr (lo, hi, e)) (agree_all first.touches ag)
 
   same_test : (x : Verdict) (o : List ℕ) → first.sound ≡ true → first.value ≡ finished x o → nat_le first.units b ≡ true → Agree (with_places n (Tested π)) first.touches w v →
       SameTest n (with_places n (AlsoMade π w v (size (given_of x o (run (tree p t b) w)).world))) q w v u b (given_of x o (run (tree p t b) w))

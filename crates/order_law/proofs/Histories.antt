@@ -207,7 +207,7 @@ module _ (p : Program) (linked : Linked p) where
 
       pub alike : Alike (alone_with (Pairs (suc k ∷ D))) (PairedEnd same_numbers) (before_test (suc k)) (after_history p D) (ran_after p (down (suc k)) (suc k)) (ran_after p D (suc k))
       alike = frame (alone_with (Pairs (suc k ∷ D))) one_more_test equal_one equal_one
-          (tree-paired (record { numbers = same_numbers; place = Pairs (suc k ∷ D); one = one_more_test; left = p; right = p; matched = self_matched p linked }) (suc k) (suc k) (test_at p (suc k)).budget (same_test (test_at p (suc k))))
+          (tree-paired (record { numbers = same_numbers; place = Pairs (suc k ∷ D); one = one_more_test; left = p; right = p; matched = (self_matched p linked).code }) (self_matched p linked).starts (suc k) (suc k) (test_at p (suc k)).budget (same_test (test_at p (suc k))))
           (before_test (suc k)) (after_history p D) ok forward (λ i j lo hi e. inl ((lo, hi), e)) agree
 
       held_more : (L M : Location) → PairedLocation (alone_with (Pairs (suc k ∷ D))) L M →

@@ -27,7 +27,7 @@ use Rattle.order_law.specs.Pairing.{PairedList, one_more, PairedOption, both_non
 use Rattle.order_law.specs.Numbers.{Tested, with_places}
 use Rattle.order_law.specs.Forms.{PairedInstr}
 use Rattle.order_law.specs.Forms as same
-use Rattle.order_law.specs.Matched.{PairedBody}
+use Rattle.order_law.specs.Matched.{PairedBody, MatchedStarts}
 use Rattle.order_law.proofs.Twins.{Twins}
 use Rattle.order_law.proofs.Lists.{either, length-paired, get-list}
 use Rattle.order_law.proofs.Programs.{interface-paired, layout-paired, blank-paired, instance-paired, element-paired, fits-paired, class_of-paired, named-paired, PairedSelected, both_chosen, both_failing, virtual-paired, interface_call-paired, special-paired}
@@ -55,11 +55,11 @@ module _ (tw : Twins) where
   unfolding write_static
   write_static-paired a b e f = popping-paired tw f.entries.top.stack (λ v w vs ws r rs. both_write (statics e) (narrowed-paired tw (tw.matched.fields a b e).descriptor r) (goes_on-paired tw f rs))
 
-  pub statics-paired : {i j : Instr} {s t : Entries} → PairedInstr tw.numbers i j → Frames tw s t → Rows tw (row_statics tw.left i s) (row_statics tw.right j t)
+  pub statics-paired : MatchedStarts tw.numbers tw.left tw.right → {i j : Instr} {s t : Entries} → PairedInstr tw.numbers i j → Frames tw s t → Rows tw (row_statics tw.left i s) (row_statics tw.right j t)
   unfolding row_statics
-  statics-paired (same.get_static {f = a} {g = b} e) f = using-paired tw _ _ (tw.matched.fields a b e).class f.entries (read_static-paired a b e f)
-  statics-paired (same.put_static {f = a} {g = b} e) f = using-paired tw _ _ (tw.matched.fields a b e).class f.entries (write_static-paired a b e f)
-  statics-paired _ f = no_row-paired tw
+  statics-paired st (same.get_static {f = a} {g = b} e) f = using-paired tw st _ _ (tw.matched.fields a b e).class f.entries (read_static-paired a b e f)
+  statics-paired st (same.put_static {f = a} {g = b} e) f = using-paired tw st _ _ (tw.matched.fields a b e).class f.entries (write_static-paired a b e f)
+  statics-paired st _ f = no_row-paired tw
 
   -- fields
   pub fields-paired : {i j : Instr} {s t : Entries} → PairedInstr tw.numbers i j → Frames tw s t → Rows tw (row_fields tw.left i s) (row_fields tw.right j t)
@@ -115,12 +115,12 @@ module _ (tw : Twins) where
   sized-paired zero bad ms r f rs = choose-paired tw bad bad refl (faults-paired tw (tw.matched.builtin negative_size_exception (omega arith)) (left_with f rs)) (nested-paired ms r f rs)
   sized-paired (suc d) bad ms {k} {l} {s} {t} r f rs = popping-paired tw rs (λ v w us xs u rest. on_int-paired tw u (λ i. at_size k l s t us xs d bad ms i (λ b ns. sized-paired d b ns r f rest)))
 
-  pub create-paired : {i j : Instr} {s t : Entries} → PairedInstr tw.numbers i j → Frames tw s t → Rows tw (row_create tw.left i s) (row_create tw.right j t)
+  pub create-paired : MatchedStarts tw.numbers tw.left tw.right → {i j : Instr} {s t : Entries} → PairedInstr tw.numbers i j → Frames tw s t → Rows tw (row_create tw.left i s) (row_create tw.right j t)
   unfolding row_create
-  create-paired (same.new {c} {d} e) f = choose-paired tw _ _ (bare-paired c d e) (faults-paired tw (tw.matched.builtin instantiation_error (omega arith)) f.entries) (using-paired tw c d e f.entries (new_object-paired c d e f))
-  create-paired (same.new_array r) f = popping-paired tw f.entries.top.stack (λ v w vs ws u us. on_int-paired tw u (λ i. new_array-paired i r f us))
-  create-paired (same.multi_new_array d r) f = sized-paired d false [] r f f.entries.top.stack
-  create-paired _ f = no_row-paired tw
+  create-paired st (same.new {c} {d} e) f = choose-paired tw _ _ (bare-paired c d e) (faults-paired tw (tw.matched.builtin instantiation_error (omega arith)) f.entries) (using-paired tw st c d e f.entries (new_object-paired c d e f))
+  create-paired st (same.new_array r) f = popping-paired tw f.entries.top.stack (λ v w vs ws u us. on_int-paired tw u (λ i. new_array-paired i r f us))
+  create-paired st (same.multi_new_array d r) f = sized-paired d false [] r f f.entries.top.stack
+  create-paired st _ f = no_row-paired tw
 
   -- arrays
   on_array-paired : {k l : Kind} {a b : Access (Answer Entries)} → KindsOf k l → Rows tw a b → Rows tw (on_array k a) (on_array l b)
@@ -243,13 +243,13 @@ module _ (tw : Twins) where
   on_receiver-paired f both_none g = no_row-paired tw
   on_receiver-paired f (both_some r) g = on_reference-paired tw _ _ f.entries r (g _ _ r)
 
-  pub calls_rows-paired : {i j : Instr} {s t : Entries} → PairedInstr tw.numbers i j → Frames tw s t → Rows tw (row_calls tw.left i s) (row_calls tw.right j t)
+  pub calls_rows-paired : MatchedStarts tw.numbers tw.left tw.right → {i j : Instr} {s t : Entries} → PairedInstr tw.numbers i j → Frames tw s t → Rows tw (row_calls tw.left i s) (row_calls tw.right j t)
   unfolding row_calls
-  calls_rows-paired (same.invoke_static {a} {b} e) f = using-paired tw _ _ (tw.matched.methods a b e).class f.entries (called-with a b _ _ (count-paired a b e) e f)
-  calls_rows-paired (same.invoke_virtual {a = a} {b = b} k e) f = on_receiver-paired f (receiver-paired a b e f) (λ v w r. with_kind-paired tw r (λ x y h.
+  calls_rows-paired st (same.invoke_static {a} {b} e) f = using-paired tw st _ _ (tw.matched.methods a b e).class f.entries (called-with a b _ _ (count-paired a b e) e f)
+  calls_rows-paired st (same.invoke_virtual {a = a} {b = b} k e) f = on_receiver-paired f (receiver-paired a b e f) (λ v w r. with_kind-paired tw r (λ x y h.
       selected-paired _ _ (virtual-paired tw.numbers tw.left tw.right tw.matched a b _ _ e (class_of-paired tw.numbers tw.left tw.right tw.matched h)) (and_receiver a b e) f))
-  calls_rows-paired (same.invoke_interface {c = c} {d = d} {a = a} {b = b} k e) f = on_receiver-paired f (receiver-paired a b e f) (λ v w r. with_kind-paired tw r (λ x y h.
+  calls_rows-paired st (same.invoke_interface {c = c} {d = d} {a = a} {b = b} k e) f = on_receiver-paired f (receiver-paired a b e f) (λ v w r. with_kind-paired tw r (λ x y h.
       selected-paired _ _ (interface_call-paired tw.numbers tw.left tw.right tw.matched c d a b _ _ k e (class_of-paired tw.numbers tw.left tw.right tw.matched h)) (and_receiver a b e) f))
-  calls_rows-paired (same.invoke_special {a = a} {b = b} k e) f = on_receiver-paired f (receiver-paired a b e f) (λ v w r.
+  calls_rows-paired st (same.invoke_special {a = a} {b = b} k e) f = on_receiver-paired f (receiver-paired a b e f) (λ v w r.
       selected-paired _ _ (special-paired tw.numbers tw.left tw.right tw.matched _ _ _ _ a b (tw.matched.methods _ _ f.method).class (named-paired tw.numbers tw.left tw.right tw.matched k) e) (and_receiver a b e) f)
-  calls_rows-paired _ f = no_row-paired tw
+  calls_rows-paired st _ f = no_row-paired tw

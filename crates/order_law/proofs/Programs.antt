@@ -19,7 +19,7 @@ use Rattle.jvm_model.specs.Raising.{catches, handler_in, handlers_of, handler_fo
 use Rattle.order_law.specs.Pairing.{PairedList, no_more, one_more, PairedOption, both_none, both_some, PairedValue, ints, longs, nulls, PairedBase, booleans, bytes, chars, shorts, int_bases, long_bases, class_bases, PairedKind, class_kinds, array_kinds, PairedHead, PairedCell, PairedObject}
 use Rattle.order_law.specs.Numbers.{Numbers, Tested, with_places}
 use Rattle.order_law.specs.Forms.{PairedInstr}
-use Rattle.order_law.specs.Matched.{PairedPlaced, PairedHandler, PairedBody, Matched}
+use Rattle.order_law.specs.Matched.{PairedPlaced, PairedHandler, PairedBody, MatchedCode, MatchedStarts}
 use Rattle.order_law.proofs.Pairs.{list-append, same_cond}
 use Rattle.order_law.proofs.Lists.{test-paired, both, either, cond-list, filter-paired, any-paired, all-paired, replicate-list, is_some-paired, map-paired, flat_map-paired, member-paired, mentions-paired}
 
@@ -33,7 +33,7 @@ pick-option false false e p q = q
 pick-option true false e p q = absurd (cc)
 pick-option false true e p q = absurd (cc)
 
-module _ (n : Numbers) (p q : Program) (mt : Matched n p q) where
+module _ (n : Numbers) (p q : Program) (mt : MatchedCode n p q) where
   abbrev C : ℕ → ℕ → Type 0
   C = Tested n.class
 
@@ -80,17 +80,19 @@ module _ (n : Numbers) (p q : Program) (mt : Matched n p q) where
   defaults-paired c d e = filter-paired C (λ i. list_any (λ m. is_default_method (method_at p m)) (class_at p i).methods) (λ i. list_any (λ m. is_default_method (method_at q m)) (class_at q i).methods)
       (λ i j g. any-paired M (λ m. is_default_method (method_at p m)) (λ m. is_default_method (method_at q m)) default_method-paired (mt.classes i j g).methods) (interfaces-paired c d e)
 
-  starts-paired : (c d : ℕ) → C c d → not (declares_start p c) ≡ not (declares_start q d)
-  starts-paired c d e = ap not (is_some-paired M (mt.classes c d e).initialiser)
-
   pub interface-paired : (c d : ℕ) → C c d → is_interface (class_at p c).flags ≡ is_interface (class_at q d).flags
   interface-paired c d e = ap is_interface (mt.classes c d e).flags
 
-  pub trivial-paired : (c d : ℕ) → C c d → is_trivial p c ≡ is_trivial q d
-  unfolding is_trivial
-  trivial-paired c d e = same_cond _ _ (interface-paired c d e) (starts-paired c d e)
-      (all-paired C (λ i. not (declares_start p i) && list_all (λ j. not (declares_start p j)) (default_interfaces p i)) (λ i. not (declares_start q i) && list_all (λ j. not (declares_start q j)) (default_interfaces q i))
-      (λ x y g. both _ _ _ _ (starts-paired x y g) (all-paired C (λ j. not (declares_start p j)) (λ j. not (declares_start q j)) starts-paired (defaults-paired x y g))) (upwards-paired c d e))
+  -- classes that start alike are trivial alike
+  module _ (st : MatchedStarts n p q) where
+    starts-paired : (c d : ℕ) → C c d → not (declares_start p c) ≡ not (declares_start q d)
+    starts-paired c d e = ap not (is_some-paired M (st.initialisers c d e))
+
+    pub trivial-paired : (c d : ℕ) → C c d → is_trivial p c ≡ is_trivial q d
+    unfolding is_trivial
+    trivial-paired c d e = same_cond _ _ (interface-paired c d e) (starts-paired c d e)
+        (all-paired C (λ i. not (declares_start p i) && list_all (λ j. not (declares_start p j)) (default_interfaces p i)) (λ i. not (declares_start q i) && list_all (λ j. not (declares_start q j)) (default_interfaces q i))
+        (λ x y g. both _ _ _ _ (starts-paired x y g) (all-paired C (λ j. not (declares_start p j)) (λ j. not (declares_start q j)) starts-paired (defaults-paired x y g))) (upwards-paired c d e))
 
   layout_in-paired : {xs ys : List ℕ} → PairedList C xs ys → PairedList F (layout_in p xs) (layout_in q ys)
   layout_in-paired no_more = no_more

@@ -145,11 +145,10 @@ self_class x = record {
   interfaces = self_list self x.interfaces;
   fields = self_list self x.fields;
   methods = self_list self x.methods;
-  initialiser = self_option self x.initialiser;
 }
 
-self_field : (x : FieldRec) → NoObject x.opening → PairedField same_numbers x x
-self_field x h = record { class = self x.class; name = refl; descriptor = refl; flags = refl; opening = self_constant x.opening h }
+self_field : (x : FieldRec) → PairedField same_numbers x x
+self_field x = record { class = self x.class; name = refl; descriptor = refl; flags = refl }
 
 self_method : (x : MethodRec) → PairedOption (PairedBody same_numbers) x.body x.body → PairedMethod same_numbers x x
 self_method x h = record { class = self x.class; name = refl; descriptor = refl; flags = refl; native = refl; body = h }
@@ -184,16 +183,22 @@ module _ (p : Program) (linked : Linked p) where
 
   pub self_matched : Matched same_numbers p p
   self_matched = record {
-    one_field = equal_one;
-    one_class = equal_one;
-    one_literal = equal_one;
-    classes = λ c d e. subst (λ (z : ℕ). PairedClass same_numbers (class_at p c) (class_at p z)) (eqb-true c d e) (self_class (class_at p c));
-    fields = λ f g e. subst (λ (z : ℕ). PairedField same_numbers (field_at p f) (field_at p z)) (eqb-true f g e) (self_field (field_at p f) (opens_no_object f));
-    methods = λ a b e. subst (λ (z : ℕ). PairedMethod same_numbers (method_at p a) (method_at p z)) (eqb-true a b e) (self_method (method_at p a) (body_of a));
-    texts = λ a b e. ap (λ (z : ℕ). literal_at p z) (eqb-true a b e);
-    builtin = λ c h. self c;
-    stream = refl;
-    message = refl;
+    code = record {
+      one_field = equal_one;
+      one_class = equal_one;
+      one_literal = equal_one;
+      classes = λ c d e. subst (λ (z : ℕ). PairedClass same_numbers (class_at p c) (class_at p z)) (eqb-true c d e) (self_class (class_at p c));
+      fields = λ f g e. subst (λ (z : ℕ). PairedField same_numbers (field_at p f) (field_at p z)) (eqb-true f g e) (self_field (field_at p f));
+      methods = λ a b e. subst (λ (z : ℕ). PairedMethod same_numbers (method_at p a) (method_at p z)) (eqb-true a b e) (self_method (method_at p a) (body_of a));
+      texts = λ a b e. ap (λ (z : ℕ). literal_at p z) (eqb-true a b e);
+      builtin = λ c h. self c;
+      stream = refl;
+      message = refl;
+    };
+    starts = record {
+      initialisers = λ c d e. subst (λ (z : ℕ). PairedOption (Tested same_numbers.method) (class_at p c).initialiser (class_at p z).initialiser) (eqb-true c d e) (self_option self (class_at p c).initialiser);
+      openings = λ f g e. subst (λ (z : ℕ). PairedConstant same_numbers (field_at p f).opening (field_at p z).opening) (eqb-true f g e) (self_constant (field_at p f).opening (opens_no_object f));
+    };
   }
 
 pub verdict_is : {v w : Verdict} → PairedVerdict same_numbers v w → v ≡ w

@@ -28,7 +28,7 @@ use Rattle.order_law.specs.Pairing.{PairedList, no_more, one_more, PairedOption,
 use Rattle.order_law.specs.Numbers.{Tested, with_places}
 use Rattle.order_law.specs.Forms.{PairedInstr}
 use Rattle.order_law.specs.Forms as same
-use Rattle.order_law.specs.Matched.{PairedBody, PairedTest}
+use Rattle.order_law.specs.Matched.{PairedBody, PairedTest, MatchedStarts}
 use Rattle.order_law.specs.Outcomes.{both_passed, both_failed, both_error, PairedEnd, both_stuck, both_out, both_finished}
 use Rattle.order_law.proofs.Pairs.{list-append}
 use Rattle.order_law.proofs.Twins.{Twins}
@@ -75,13 +75,6 @@ module _ (tw : Twins) where
   superclass-parts both_none = no_more
   superclass-parts (both_some e) = one_more (record { class = e; price = refl }) no_more
 
-  parts-paired : (c d : ℕ) → C c d → PairedList PairedPart (parts_of tw.left c) (parts_of tw.right d)
-  unfolding parts_of
-  parts-paired c d e = cond-list PairedPart _ _ (interface-paired tw.numbers tw.left tw.right tw.matched c d e) no_more
-      (filter-paired PairedPart (λ x. not (is_trivial tw.left x.class)) (λ x. not (is_trivial tw.right x.class)) (λ x y r. ap not (trivial-paired tw.numbers tw.left tw.right tw.matched x.class y.class r.class))
-      (list-append (superclass-parts (tw.matched.classes c d e).superclass)
-      (map-paired C PairedPart (λ i. record { class = i; price = 1 }) (λ i. record { class = i; price = 1 }) (λ x y r. record { class = r; price = refl }) (defaults-paired tw.numbers tw.left tw.right tw.matched c d e))))
-
   entered_class-paired : {s t : Entries} {b : Bool} → E tw s t → s.top.kind ≡ InClass b → E tw (with_entered s) (with_entered t)
   entered_class-paired r e = record { top = record { kind = refl; number = class_top tw.numbers tw.place r e; pc = r.top.pc; stack = r.top.stack; locals = r.top.locals }; below = r.below }
 
@@ -104,12 +97,6 @@ module _ (tw : Twins) where
   looked-paired c d i j Done e g r f = f
   looked-paired c d i j Erroneous e g r f = spend-paired tw g (faults-paired tw (tw.matched.builtin no_class_error (omega arith)) r)
 
-  looks-paired : {xs ys : List Part} (i j : ℕ) {s t : Entries} {k : Bool} → PairedList PairedPart xs ys → i ≡ j → E tw s t → s.top.kind ≡ InClass k → Rows tw (looks tw.left xs i s) (looks tw.right ys j t)
-  looks-paired i j no_more g r h = starts-paired i j (tw.matched.classes _ _ (class_top tw.numbers tw.place r h)).initialiser g r h
-  looks-paired i j {s} {t} (one_more {x} {y} {xs} {ys} o os) g r h = let price : i + x.price ≡ j + y.price = rw (g, o.price) refl in
-      both_read (inits o.class) (λ c d e. subst (λ (z : InitState). Rows tw (looked_at x.class (i + x.price) s (looks tw.left xs (i + x.price) s) c) (looked_at y.class (j + y.price) t (looks tw.right ys (j + y.price) t) z)) e
-      (looked-paired x.class y.class (i + x.price) (j + y.price) c o.class price r (looks-paired (i + x.price) (j + y.price) os price r h)))
-
   left-paired : (k : EntryKind) → PairedNext tw.numbers tw.place (left_at k) (left_at k)
   left-paired Absent = leave
   left-paired InMethod = go
@@ -120,16 +107,6 @@ module _ (tw : Twins) where
 
   finished-paired : {s t : Entries} {b : Bool} → E tw s t → s.top.kind ≡ InClass b → Rows tw (finished s) (finished t)
   finished-paired r h = let o = popped-paired tw.numbers tw.place r in both_write (inits (class_top tw.numbers tw.place r h)) refl (both_done (answered (left_alike o.top.kind) o))
-
-  finishing-paired : (k : EntryKind) {s t : Entries} → s.top.kind ≡ k → E tw s t → Rows tw (finishing k tw.left s) (finishing k tw.right t)
-  finishing-paired Absent h r = no_row-paired tw
-  finishing-paired InMethod h r = no_row-paired tw
-  finishing-paired (InClass false) h r = looks-paired 0 0 (parts-paired _ _ (class_top tw.numbers tw.place r h)) refl r h
-  finishing-paired (InClass true) h r = finished-paired r h
-
-  finish-paired : {s t : Entries} → E tw s t → Rows tw (row_finish tw.left s) (row_finish tw.right t)
-  unfolding row_finish
-  finish-paired {s} {t} r = subst (λ (z : EntryKind). Rows tw (finishing s.top.kind tw.left s) (finishing z tw.right t)) r.top.kind (finishing-paired s.top.kind refl r)
 
   fails-paired : {v w : Value} {s t : Entries} {b : Bool} → V tw v w → E tw s t → s.top.kind ≡ InClass b → Rows tw (fails v s) (fails w t)
   fails-paired u r h = both_write (inits (class_top tw.numbers tw.place r h)) refl (both_done (answered (raised u) (popped-paired tw.numbers tw.place r)))
@@ -215,12 +192,6 @@ module _ (tw : Twins) where
   makes-paired c d e o = spend-paired tw (ap (λ (k : ℕ). 1 + k) (length-paired (Tested tw.numbers.fields) (layout-paired tw.numbers tw.left tw.right tw.matched c d e)))
       (both_make (blank-paired tw.numbers tw.left tw.right tw.matched tw.place (instance-paired tw.numbers tw.left tw.right tw.matched c d e)) (λ a b x. both_done (both_next (stage-paired o (both_made x)))))
 
-  first-paired : {s t : State} → States s t → Turns (drive_first tw.left s) (drive_first tw.right t)
-  unfolding drive_first
-  first-paired o = let m = tw.matched.methods _ _ o.test.method in choose-paired tw _ _ (ap is_static m.flags)
-      (bind-paired tw (begin-paired tw _ _ m.class o.entries) (λ x y u. once_driven-paired o (drives-paired _ _ o.test.method no_more (both_last both_none) o) u))
-      (bind-paired tw (begin-paired tw _ _ o.test.class o.entries) (λ x y u. once_driven-paired o (makes-paired _ _ o.test.class o) u))
-
   or_turn : {x y : Option ℕ} {a b : Access Turn} {k l : ℕ → Access Turn} → PairedOption M x y → Turns a b → ((m m' : ℕ) → M m m' → Turns (k m) (l m')) →
       Turns (elim x [ None ↦ a | Some m ↦ k m ]) (elim y [ None ↦ b | Some m ↦ l m ])
   or_turn both_none f g = f
@@ -275,111 +246,142 @@ module _ (tw : Twins) where
   unfolding drive_tear_down
   tear_down-paired x r o = or_turn (plain_of-paired tear_down_name (upwards-paired tw.numbers tw.left tw.right tw.matched _ _ o.test.class)) (judge-paired r o) (λ m m' e. drives-paired m m' e (one_more (objects x) no_more) (both_last r) o)
 
-  drive_at-paired : {u v : Stage} {s t : State} → PairedStage tw.numbers tw.place u v → States s t → Turns (drive_at tw.left u s) (drive_at tw.right v t)
-  drive_at-paired both_first o = first-paired o
-  drive_at-paired (both_made x) o = init-paired x o
-  drive_at-paired (both_built x) o = set_up-paired x o
-  drive_at-paired (both_set_up x) o = method-paired x o
-  drive_at-paired (both_called x r) o = tear_down-paired x r o
-  drive_at-paired (both_last r) o = judge-paired r o
-
-  drive-paired : {s t : State} → States s t → Turns (drive tw.left s) (drive tw.right t)
-  unfolding drive
-  drive-paired o = drive_at-paired o.stage o
-
   -- the row of an instruction
   same_group : {i j : Instr} → PairedInstr tw.numbers i j → group_of i ≡ group_of j
   same_group same.nop = refl
   same_group _ = refl
 
-  row_of-paired : (g : Group) {i j : Instr} {s t : Entries} → PairedInstr tw.numbers i j → Frames tw s t → Rows tw (row_of g tw.left i s) (row_of g tw.right j t)
-  row_of-paired moves e f = moves-paired tw e f
-  row_of-paired arith_group e f = arith-paired tw e f
-  row_of-paired branches e f = branches-paired tw e f
-  row_of-paired statics_group e f = statics-paired tw e f
-  row_of-paired fields e f = fields-paired tw e f
-  row_of-paired create e f = create-paired tw e f
-  row_of-paired arrays e f = arrays-paired tw e f
-  row_of-paired casts e f = casts-paired tw e f
-  row_of-paired calls e f = calls_rows-paired tw e f
-  row_of-paired returns e f = return-paired tw e f
-  row_of-paired throw e f = throw-paired tw f
+  -- the steps of programs whose classes start alike
+  module _ (st : MatchedStarts tw.numbers tw.left tw.right) where
+    parts-paired : (c d : ℕ) → C c d → PairedList PairedPart (parts_of tw.left c) (parts_of tw.right d)
+    unfolding parts_of
+    parts-paired c d e = cond-list PairedPart _ _ (interface-paired tw.numbers tw.left tw.right tw.matched c d e) no_more
+        (filter-paired PairedPart (λ x. not (is_trivial tw.left x.class)) (λ x. not (is_trivial tw.right x.class)) (λ x y r. ap not (trivial-paired tw.numbers tw.left tw.right tw.matched st x.class y.class r.class))
+        (list-append (superclass-parts (tw.matched.classes c d e).superclass)
+        (map-paired C PairedPart (λ i. record { class = i; price = 1 }) (λ i. record { class = i; price = 1 }) (λ x y r. record { class = r; price = refl }) (defaults-paired tw.numbers tw.left tw.right tw.matched c d e))))
 
-  pub row-paired : {i j : Instr} {s t : Entries} → PairedInstr tw.numbers i j → Frames tw s t → Rows tw (row tw.left i s) (row tw.right j t)
-  unfolding row
-  row-paired {i} {j} {s} {t} e f = subst (λ (g : Group). Rows tw (row_of (group_of i) tw.left i s) (row_of g tw.right j t)) (same_group e) (row_of-paired (group_of i) e f)
+    looks-paired : {xs ys : List Part} (i j : ℕ) {s t : Entries} {k : Bool} → PairedList PairedPart xs ys → i ≡ j → E tw s t → s.top.kind ≡ InClass k → Rows tw (looks tw.left xs i s) (looks tw.right ys j t)
+    looks-paired i j no_more g r h = starts-paired i j (st.initialisers _ _ (class_top tw.numbers tw.place r h)) g r h
+    looks-paired i j {s} {t} (one_more {x} {y} {xs} {ys} o os) g r h = let price : i + x.price ≡ j + y.price = rw (g, o.price) refl in
+        both_read (inits o.class) (λ c d e. subst (λ (z : InitState). Rows tw (looked_at x.class (i + x.price) s (looks tw.left xs (i + x.price) s) c) (looked_at y.class (j + y.price) t (looks tw.right ys (j + y.price) t) z)) e
+        (looked-paired x.class y.class (i + x.price) (j + y.price) c o.class price r (looks-paired (i + x.price) (j + y.price) os price r h)))
 
-  or_none : {x y : Option Instr} {s t : Entries} → PairedOption (PairedInstr tw.numbers) x y → Frames tw s t → Rows tw (row_or_none tw.left x s) (row_or_none tw.right y t)
-  or_none both_none f = no_row-paired tw
-  or_none (both_some e) f = row-paired e f
+    finishing-paired : (k : EntryKind) {s t : Entries} → s.top.kind ≡ k → E tw s t → Rows tw (finishing k tw.left s) (finishing k tw.right t)
+    finishing-paired Absent h r = no_row-paired tw
+    finishing-paired InMethod h r = no_row-paired tw
+    finishing-paired (InClass false) h r = looks-paired 0 0 (parts-paired _ _ (class_top tw.numbers tw.place r h)) refl r h
+    finishing-paired (InClass true) h r = finished-paired r h
 
-  here-paired : {s t : Entries} → Frames tw s t → Rows tw (row_here tw.left s) (row_here tw.right t)
-  unfolding row_here
-  here-paired f = or_none (form_at-paired tw.numbers tw.left tw.right tw.matched _ _ _ _ f.method f.entries.top.pc) f
+    finish-paired : {s t : Entries} → E tw s t → Rows tw (row_finish tw.left s) (row_finish tw.right t)
+    unfolding row_finish
+    finish-paired {s} {t} r = subst (λ (z : EntryKind). Rows tw (finishing s.top.kind tw.left s) (finishing z tw.right t)) r.top.kind (finishing-paired s.top.kind refl r)
 
-  -- the step
-  after_native-paired : {s t : State} {x y : Answer Working} → States s t → PairedAnswer tw.numbers tw.place (W tw) (W tw) x y → Turns (after_native tw.left s x) (after_native tw.right t y)
-  after_native-paired o no_rows = both_done no_turns
-  after_native-paired o (answered go w) = both_done (both_next (record { test = o.test; entries = w.entries.entries; stage = o.stage; raised = o.raised; own = w.own }))
-  after_native-paired o (answered (fault e) w) = throws-paired e (record { test = o.test; entries = w.entries.entries; stage = o.stage; raised = o.raised; own = w.own })
-  after_native-paired o (answered (raised r) w) = both_done no_turns
-  after_native-paired o (entering e w) = both_done no_turns
-  after_native-paired o (answered leave w) = both_done no_turns
-  after_native-paired o (answered over w) = both_done no_turns
+    first-paired : {s t : State} → States s t → Turns (drive_first tw.left s) (drive_first tw.right t)
+    unfolding drive_first
+    first-paired o = let m = tw.matched.methods _ _ o.test.method in choose-paired tw _ _ (ap is_static m.flags)
+        (bind-paired tw (begin-paired tw st _ _ m.class o.entries) (λ x y u. once_driven-paired o (drives-paired _ _ o.test.method no_more (both_last both_none) o) u))
+        (bind-paired tw (begin-paired tw st _ _ o.test.class o.entries) (λ x y u. once_driven-paired o (makes-paired _ _ o.test.class o) u))
 
-  native_or_frame : (x : Option Native) {s t : State} {u v : Entries} → States s t → Frames tw u v → Turns (entered tw.left s x u) (entered tw.right t x v)
-  native_or_frame None o f = both_done (both_next (entries-paired o f.entries))
-  native_or_frame (Some x) o f = bind-paired tw (native-paired tw x (record { entries = f; own = o.own })) (λ y z r. after_native-paired o r)
+    drive_at-paired : {u v : Stage} {s t : State} → PairedStage tw.numbers tw.place u v → States s t → Turns (drive_at tw.left u s) (drive_at tw.right v t)
+    drive_at-paired both_first o = first-paired o
+    drive_at-paired (both_made x) o = init-paired x o
+    drive_at-paired (both_built x) o = set_up-paired x o
+    drive_at-paired (both_set_up x) o = method-paired x o
+    drive_at-paired (both_called x r) o = tear_down-paired x r o
+    drive_at-paired (both_last r) o = judge-paired r o
 
-  entered-paired : {x y : Option Native} {s t : State} {u v : Entries} → x ≡ y → States s t → Frames tw u v → Turns (entered tw.left s x u) (entered tw.right t y v)
-  entered-paired {x} {y} {s} {t} {u} {v} e o f = subst (λ (z : Option Native). Turns (entered tw.left s x u) (entered tw.right t z v)) e (native_or_frame x o f)
+    drive-paired : {s t : State} → States s t → Turns (drive tw.left s) (drive tw.right t)
+    unfolding drive
+    drive-paired o = drive_at-paired o.stage o
 
-  after_row-paired : {s t : State} {x y : Answer Entries} → States s t → PairedAnswer tw.numbers tw.place (E tw) (Frames tw) x y → Turns (after_row tw.left s x) (after_row tw.right t y)
-  after_row-paired o no_rows = both_done no_turns
-  after_row-paired o (answered go r) = both_done (both_next (entries-paired o r))
-  after_row-paired o (answered (fault e) r) = throws-paired e (entries-paired o r)
-  after_row-paired o (answered (raised v) r) = both_done (both_next (raise-paired v (entries-paired o r)))
-  after_row-paired o (entering {a} {b} e f) = entered-paired (tw.matched.methods a b e).native o f
-  after_row-paired o (answered leave r) = both_done (both_next (entries-paired o r))
-  after_row-paired o (answered over r) = both_done no_turns
+    row_of-paired : (g : Group) {i j : Instr} {s t : Entries} → PairedInstr tw.numbers i j → Frames tw s t → Rows tw (row_of g tw.left i s) (row_of g tw.right j t)
+    row_of-paired moves e f = moves-paired tw e f
+    row_of-paired arith_group e f = arith-paired tw e f
+    row_of-paired branches e f = branches-paired tw e f
+    row_of-paired statics_group e f = statics-paired tw st e f
+    row_of-paired fields e f = fields-paired tw e f
+    row_of-paired create e f = create-paired tw st e f
+    row_of-paired arrays e f = arrays-paired tw e f
+    row_of-paired casts e f = casts-paired tw e f
+    row_of-paired calls e f = calls_rows-paired tw st e f
+    row_of-paired returns e f = return-paired tw e f
+    row_of-paired throw e f = throw-paired tw f
 
-  then_after : {s t : State} {a b : Access (Answer Entries)} → States s t → Rows tw a b → Turns (bind a (after_row tw.left s)) (bind b (after_row tw.right t))
-  then_after o f = bind-paired tw f (λ x y r. after_row-paired o r)
+    pub row-paired : {i j : Instr} {s t : Entries} → PairedInstr tw.numbers i j → Frames tw s t → Rows tw (row tw.left i s) (row tw.right j t)
+    unfolding row
+    row-paired {i} {j} {s} {t} e f = subst (λ (g : Group). Rows tw (row_of (group_of i) tw.left i s) (row_of g tw.right j t)) (same_group e) (row_of-paired (group_of i) e f)
 
-  acts-paired : (k : EntryKind) {x y : Option Value} {s t : State} → s.entries.top.kind ≡ k → Values x y → States s t → Turns (acts tw.left k x s) (acts tw.right k y t)
-  acts-paired Absent h r o = drive-paired o
-  acts-paired InMethod h both_none o = then_after o (here-paired (frame_top tw.numbers tw.place o.entries h))
-  acts-paired InMethod h (both_some v) o = then_after o (raise_row-paired v (frame_top tw.numbers tw.place o.entries h))
-  acts-paired (InClass b) h both_none o = then_after o (finish-paired o.entries)
-  acts-paired (InClass b) h (both_some v) o = then_after o (fail-paired v o.entries h)
+    or_none : {x y : Option Instr} {s t : Entries} → PairedOption (PairedInstr tw.numbers) x y → Frames tw s t → Rows tw (row_or_none tw.left x s) (row_or_none tw.right y t)
+    or_none both_none f = no_row-paired tw
+    or_none (both_some e) f = row-paired e f
 
-  pub step-paired : {s t : State} → States s t → Turns (step tw.left s) (step tw.right t)
-  unfolding step
-  step-paired {s} {t} o = both_spend 1 (subst (λ (k : EntryKind). Turns (acts tw.left s.entries.top.kind s.raised s) (acts tw.right k t.raised t)) o.entries.top.kind (acts-paired s.entries.top.kind refl o.raised o))
+    here-paired : {s t : Entries} → Frames tw s t → Rows tw (row_here tw.left s) (row_here tw.right t)
+    unfolding row_here
+    here-paired f = or_none (form_at-paired tw.numbers tw.left tw.right tw.matched _ _ _ _ f.method f.entries.top.pc) f
 
-  -- whole tests
-  abbrev pub Ends : Access End → Access End → Type 0
-  Ends a b = Paired (with_places tw.numbers tw.place) (PairedEnd tw.numbers) a b
+    -- the step
+    after_native-paired : {s t : State} {x y : Answer Working} → States s t → PairedAnswer tw.numbers tw.place (W tw) (W tw) x y → Turns (after_native tw.left s x) (after_native tw.right t y)
+    after_native-paired o no_rows = both_done no_turns
+    after_native-paired o (answered go w) = both_done (both_next (record { test = o.test; entries = w.entries.entries; stage = o.stage; raised = o.raised; own = w.own }))
+    after_native-paired o (answered (fault e) w) = throws-paired e (record { test = o.test; entries = w.entries.entries; stage = o.stage; raised = o.raised; own = w.own })
+    after_native-paired o (answered (raised r) w) = both_done no_turns
+    after_native-paired o (entering e w) = both_done no_turns
+    after_native-paired o (answered leave w) = both_done no_turns
+    after_native-paired o (answered over w) = both_done no_turns
 
-  after_step-paired : (k : ℕ) {x y : Turn} → PairedTurn tw.numbers tw.place tw.left tw.right x y → ((s t : State) → States s t → Ends (whole tw.left k s) (whole tw.right k t)) →
-      Ends (after_step (λ s. whole tw.left k s) x) (after_step (λ s. whole tw.right k s) y)
-  after_step-paired k (both_next o) f = f _ _ o
-  after_step-paired k (both_ended v e) f = both_done (both_finished v e)
-  after_step-paired k no_turns f = both_done both_stuck
+    native_or_frame : (x : Option Native) {s t : State} {u v : Entries} → States s t → Frames tw u v → Turns (entered tw.left s x u) (entered tw.right t x v)
+    native_or_frame None o f = both_done (both_next (entries-paired o f.entries))
+    native_or_frame (Some x) o f = bind-paired tw (native-paired tw x (record { entries = f; own = o.own })) (λ y z r. after_native-paired o r)
 
-  whole-paired : (k : ℕ) (s t : State) → States s t → Ends (whole tw.left k s) (whole tw.right k t)
-  whole-paired zero s t o = both_done both_out
-  whole-paired (suc k) s t o = bind-paired tw (step-paired o) (λ x y r. after_step-paired k r (whole-paired k))
+    entered-paired : {x y : Option Native} {s t : State} {u v : Entries} → x ≡ y → States s t → Frames tw u v → Turns (entered tw.left s x u) (entered tw.right t y v)
+    entered-paired {x} {y} {s} {t} {u} {v} e o f = subst (λ (z : Option Native). Turns (entered tw.left s x u) (entered tw.right t z v)) e (native_or_frame x o f)
 
-  started-paired : (t u : ℕ) → PairedTest tw.numbers (test_at tw.left t) (test_at tw.right u) → States (started tw.left t) (started tw.right u)
-  started-paired t u r = record {
-    test = r;
-    entries = nothing-paired tw.numbers tw.place;
-    stage = both_first;
-    raised = both_none;
-    own = λ i. record { output = []; clock = r.clock i; random = r.seed i };
-  }
+    after_row-paired : {s t : State} {x y : Answer Entries} → States s t → PairedAnswer tw.numbers tw.place (E tw) (Frames tw) x y → Turns (after_row tw.left s x) (after_row tw.right t y)
+    after_row-paired o no_rows = both_done no_turns
+    after_row-paired o (answered go r) = both_done (both_next (entries-paired o r))
+    after_row-paired o (answered (fault e) r) = throws-paired e (entries-paired o r)
+    after_row-paired o (answered (raised v) r) = both_done (both_next (raise-paired v (entries-paired o r)))
+    after_row-paired o (entering {a} {b} e f) = entered-paired (tw.matched.methods a b e).native o f
+    after_row-paired o (answered leave r) = both_done (both_next (entries-paired o r))
+    after_row-paired o (answered over r) = both_done no_turns
 
-  pub tree-paired : (t u b : ℕ) → PairedTest tw.numbers (test_at tw.left t) (test_at tw.right u) → Ends (tree tw.left t b) (tree tw.right u b)
-  unfolding tree
-  tree-paired t u b r = whole-paired (suc b) (started tw.left t) (started tw.right u) (started-paired t u r)
+    then_after : {s t : State} {a b : Access (Answer Entries)} → States s t → Rows tw a b → Turns (bind a (after_row tw.left s)) (bind b (after_row tw.right t))
+    then_after o f = bind-paired tw f (λ x y r. after_row-paired o r)
+
+    acts-paired : (k : EntryKind) {x y : Option Value} {s t : State} → s.entries.top.kind ≡ k → Values x y → States s t → Turns (acts tw.left k x s) (acts tw.right k y t)
+    acts-paired Absent h r o = drive-paired o
+    acts-paired InMethod h both_none o = then_after o (here-paired (frame_top tw.numbers tw.place o.entries h))
+    acts-paired InMethod h (both_some v) o = then_after o (raise_row-paired v (frame_top tw.numbers tw.place o.entries h))
+    acts-paired (InClass b) h both_none o = then_after o (finish-paired o.entries)
+    acts-paired (InClass b) h (both_some v) o = then_after o (fail-paired v o.entries h)
+
+    pub step-paired : {s t : State} → States s t → Turns (step tw.left s) (step tw.right t)
+    unfolding step
+    step-paired {s} {t} o = both_spend 1 (subst (λ (k : EntryKind). Turns (acts tw.left s.entries.top.kind s.raised s) (acts tw.right k t.raised t)) o.entries.top.kind (acts-paired s.entries.top.kind refl o.raised o))
+
+    -- whole tests
+    abbrev pub Ends : Access End → Access End → Type 0
+    Ends a b = Paired (with_places tw.numbers tw.place) (PairedEnd tw.numbers) a b
+
+    after_step-paired : (k : ℕ) {x y : Turn} → PairedTurn tw.numbers tw.place tw.left tw.right x y → ((s t : State) → States s t → Ends (whole tw.left k s) (whole tw.right k t)) →
+        Ends (after_step (λ s. whole tw.left k s) x) (after_step (λ s. whole tw.right k s) y)
+    after_step-paired k (both_next o) f = f _ _ o
+    after_step-paired k (both_ended v e) f = both_done (both_finished v e)
+    after_step-paired k no_turns f = both_done both_stuck
+
+    whole-paired : (k : ℕ) (s t : State) → States s t → Ends (whole tw.left k s) (whole tw.right k t)
+    whole-paired zero s t o = both_done both_out
+    whole-paired (suc k) s t o = bind-paired tw (step-paired o) (λ x y r. after_step-paired k r (whole-paired k))
+
+    started-paired : (t u : ℕ) → PairedTest tw.numbers (test_at tw.left t) (test_at tw.right u) → States (started tw.left t) (started tw.right u)
+    started-paired t u r = record {
+      test = r;
+      entries = nothing-paired tw.numbers tw.place;
+      stage = both_first;
+      raised = both_none;
+      own = λ i. record { output = []; clock = r.clock i; random = r.seed i };
+    }
+
+    pub tree-paired : (t u b : ℕ) → PairedTest tw.numbers (test_at tw.left t) (test_at tw.right u) → Ends (tree tw.left t b) (tree tw.right u b)
+    unfolding tree
+    tree-paired t u b r = whole-paired (suc b) (started tw.left t) (started tw.right u) (started-paired t u r)

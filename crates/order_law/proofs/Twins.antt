@@ -1,9 +1,9 @@
--- Two matched programs and a one-to-one relation of places, as the lemmas of the rows take them.
+-- Two programs whose names and code match and a one-to-one relation of places, as the lemmas of the rows take them.
 use Rattle.std.proofs.Common.{ℕ}
 use Rattle.jvm_model.specs.declared.program.Program.{Program}
 use Rattle.order_law.specs.Pairing.{OneToOne}
 use Rattle.order_law.specs.Numbers.{Numbers}
-use Rattle.order_law.specs.Matched.{Matched}
+use Rattle.order_law.specs.Matched.{MatchedCode}
 
 pub record Twins : Type 1 where
   pub numbers : Numbers
@@ -11,4 +11,4 @@ pub record Twins : Type 1 where
   pub one : OneToOne place
   pub left : Program
   pub right : Program
-  pub matched : Matched numbers left right
+  pub matched : MatchedCode numbers left right

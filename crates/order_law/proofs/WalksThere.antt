@@ -315,7 +315,7 @@ test_met p w t b linked ok =
     let T = (run (tree p t b) w).touches in
     let itself : PairedTest same_numbers (test_at p t) (test_at p t) = record { class = eq-eqb _ _ refl; method = eq-eqb _ _ refl; clock = refl; seed = refl } in
     all_met (size w) T
-    (tree-paired (record { numbers = same_numbers; place = Itself (size w) T; one = one_itself (size w) T; left = p; right = p; matched = self_matched p linked }) t t b itself) w [] refl ok (omega arith)
+    (tree-paired (record { numbers = same_numbers; place = Itself (size w) T; one = one_itself (size w) T; left = p; right = p; matched = (self_matched p linked).code }) (self_matched p linked).starts t t b itself) w [] refl ok (omega arith)
     (nothing_held (size w) T w refl) (λ o x e. absurd (cc))
 
 pub walk_law : WalkLaw

@@ -44,7 +44,6 @@ pub record PairedField (n : Numbers) (x y : FieldRec) : Type 0 where
   pub name : x.name ≡ y.name
   pub descriptor : x.descriptor ≡ y.descriptor
   pub flags : x.flags ≡ y.flags
-  pub opening : PairedConstant n x.opening y.opening
 
 pub record PairedClass (n : Numbers) (x y : ClassRec) : Type 0 where
   pub name : x.name ≡ y.name
@@ -53,11 +52,10 @@ pub record PairedClass (n : Numbers) (x y : ClassRec) : Type 0 where
   pub interfaces : PairedList (Tested n.class) x.interfaces y.interfaces
   pub fields : PairedList (Tested n.fields) x.fields y.fields
   pub methods : PairedList (Tested n.method) x.methods y.methods
-  pub initialiser : PairedOption (Tested n.method) x.initialiser y.initialiser
 
--- The programs match by these numbers. The built-in classes, the stream and the field that holds a throwable's message
--- are paired with themselves.
-pub record Matched (n : Numbers) (p q : Program) : Type 0 where
+-- The names and the code of two programs match by these numbers. The built-in classes, the stream and the field that holds
+-- a throwable's message are paired with themselves.
+pub record MatchedCode (n : Numbers) (p q : Program) : Type 0 where
   pub one_field : OneToOne (Tested n.fields)
   pub one_class : OneToOne (Tested n.class)
   pub one_literal : OneToOne (Tested n.literal)
@@ -68,6 +66,16 @@ pub record Matched (n : Numbers) (p q : Program) : Type 0 where
   pub builtin : (c : ℕ) → c < builtin_count → n.class c c ≡ true
   pub stream : n.literal 0 0 ≡ true
   pub message : n.fields message_field message_field ≡ true
+
+-- Their classes start alike: initialisers are paired, or both are none, and so are the opening values of fields.
+pub record MatchedStarts (n : Numbers) (p q : Program) : Type 0 where
+  pub initialisers : (c d : ℕ) → n.class c d ≡ true → PairedOption (Tested n.method) (class_at p c).initialiser (class_at q d).initialiser
+  pub openings : (f g : ℕ) → n.fields f g ≡ true → PairedConstant n (field_at p f).opening (field_at q g).opening
+
+-- The programs match.
+pub record Matched (n : Numbers) (p q : Program) : Type 0 where
+  pub code : MatchedCode n p q
+  pub starts : MatchedStarts n p q
 
 -- the same test: its class and method are paired, and its clock and seed are equal
 pub record PairedTest (n : Numbers) (t u : TestEntry) : Type 0 where
