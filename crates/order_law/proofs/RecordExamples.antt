@@ -123,7 +123,7 @@ both_edges = refl
 -- A first location that is of an object: the second that the second test makes, after one of the first test.
 abbrev owner_suite : Program
 owner_suite = program
-    (class (codes "Node") (2 ∷ 3 ∷ []) (102 ∷ []) ∷ record (class (codes "List") (4 ∷ []) (103 ∷ 104 ∷ 105 ∷ [])) { mentions = 32 ∷ 34 ∷ 31 ∷ [] } ∷ record (class (codes "Item") [] []) { mentions = 33 ∷ [] } ∷ class (codes "Lone") [] [] ∷ [])
+    (class (codes "Node") (2 ∷ 3 ∷ []) (102 ∷ []) ∷ record (class (codes "List") (4 ∷ []) (103 ∷ 104 ∷ 105 ∷ [])) { mentions = 34 ∷ 31 ∷ [] } ∷ record (class (codes "Item") [] []) { mentions = 33 ∷ 35 ∷ [] } ∷ class (codes "Far") [] [] ∷ class (codes "Lone") [] [] ∷ [])
     (field 32 (codes "v") (codes "I") (Int (pos 0)) ∷ field 32 (codes "next") (codes "LNode;") Null ∷ static 33 (codes "head") (codes "LNode;") Null ∷ [])
     (plain 32 (codes "<init>") (codes "()V") (body 1 1 (load_this ∷ (3, form.InvokeSpecial (kind.Class 0) 0) ∷ returns ∷ []))
     ∷ fixed 33 (codes "one") (codes "()V") (body 2 0 ((3, form.New 32) ∷ (1, form.Pop) ∷ returns ∷ []))
@@ -180,8 +180,8 @@ unsettled_stream : is_settled put_suite 1 ≡ false
 unfolding records_on_literals
 unsettled_stream = refl
 
--- The reach of the first test of the suite of three objects: its own class and what that mentions, and what these mention;
--- of the built-in classes none, and not the class that nobody names.
+-- The reach of the first test of that suite: its own class, the class of the object that it makes, what its class mentions,
+-- and what that mentions; of the built-in classes none, and not the class that nobody names.
 one_settled : is_settled owner_suite 1 ≡ true
 unfolding records_on_literals
 one_settled = refl
@@ -194,31 +194,38 @@ one_kind : kinds_of owner_suite 1 0 ≡ kind.Class 32
 unfolding records_on_literals
 one_kind = refl
 
-owner_mentions : map (λ c. (class_at owner_suite c).mentions) (32 ∷ 33 ∷ 34 ∷ []) ≡ [] ∷ (32 ∷ 34 ∷ 31 ∷ []) ∷ (33 ∷ []) ∷ []
+owner_mentions : map (λ c. (class_at owner_suite c).mentions) (32 ∷ 33 ∷ 34 ∷ 35 ∷ []) ≡ [] ∷ (34 ∷ 31 ∷ []) ∷ (33 ∷ 35 ∷ []) ∷ [] ∷ []
 unfolding records_on_literals
 owner_mentions = refl
 
-owner_classes : length owner_suite.classes ≡ 36
+owner_classes : length owner_suite.classes ≡ 37
 unfolding records_on_literals
 owner_classes = refl
 
-own_reach : IsReachOf owner_suite 1 (record { settled = true; classes = 1 ∷ 2 ∷ 3 ∷ [] })
+own_reach : IsReachOf owner_suite 1 (record { settled = true; classes = 1 ∷ 2 ∷ 3 ∷ 4 ∷ [] })
 own_reach = record { settled = sym one_settled; ascending = refl; classes = λ j. (there j, back j) }
   where
-    given : (c : ℕ) → 32 ≤ c → c ≤ 34 → IsGiven owner_suite c
+    given : (c : ℕ) → 32 ≤ c → c ≤ 35 → IsGiven owner_suite c
     given c lo hi = (lo, (let e = owner_classes in omega arith))
 
-    of_list : {x y z u v w : List ℕ} → x ∷ y ∷ z ∷ [] ≡ u ∷ v ∷ w ∷ [] → (x ≡ u) × (y ≡ v) × (z ≡ w)
-    of_list e = ((cc), (cc), (cc))
+    of_list : {x y z w a b c d : List ℕ} → x ∷ y ∷ z ∷ w ∷ [] ≡ a ∷ b ∷ c ∷ d ∷ [] → (x ≡ a) × (y ≡ b) × (z ≡ c) × (w ≡ d)
+    of_list e = ((cc), (cc), (cc), (cc))
 
-    from_33 : (d : ℕ) → Member d (32 ∷ 34 ∷ 31 ∷ []) → IsGiven owner_suite d → Reaches owner_suite 1 d
-    from_33 d m g = mentioned (own (given 33 (omega arith) (omega arith))) (subst (λ (x : List ℕ). Member d x) (sym (of_list owner_mentions).1) m) g
+    listed : (c d : ℕ) {x : List ℕ} → (class_at owner_suite c).mentions ≡ x → Member d x → Member d (class_at owner_suite c).mentions
+    listed c d e m = subst (λ (z : List ℕ). Member d z) (sym e) m
 
-    there : (j : ℕ) → Member j (1 ∷ 2 ∷ 3 ∷ []) → Reaches owner_suite 1 (j + 31)
-    there j (inl e) = rw e (from_33 32 (inl refl) (given 32 (omega arith) (omega arith)))
-    there j (inr (inl e)) = rw e (own (given 33 (omega arith) (omega arith)))
-    there j (inr (inr (inl e))) = rw e (from_33 34 (inr (inl refl)) (given 34 (omega arith) (omega arith)))
-    there j (inr (inr (inr n))) = absurd n
+    at_33 : Reaches owner_suite 1 33
+    at_33 = own (given 33 (omega arith) (omega arith))
+
+    at_34 : Reaches owner_suite 1 34
+    at_34 = mentioned at_33 (listed 33 34 (of_list owner_mentions).1 (inl refl)) (given 34 (omega arith) (omega arith))
+
+    there : (j : ℕ) → Member j (1 ∷ 2 ∷ 3 ∷ 4 ∷ []) → Reaches owner_suite 1 (j + 31)
+    there j (inl e) = rw e (touched 0 (subst (λ (z : List Location). Member (place.Head 0) z) (sym one_places) (inl refl)) (ap inner_class one_kind) (given 32 (omega arith) (omega arith)))
+    there j (inr (inl e)) = rw e at_33
+    there j (inr (inr (inl e))) = rw e at_34
+    there j (inr (inr (inr (inl e)))) = rw e (mentioned at_34 (listed 34 35 (of_list owner_mentions).2 (inr (inl refl))) (given 35 (omega arith) (omega arith)))
+    there j (inr (inr (inr (inr n)))) = absurd n
 
     head_of : (o : ℕ) → Member (place.Head o) (place.Head 0 ∷ place.Field 0 2 ∷ place.Field 0 3 ∷ []) → o ≡ 0
     head_of o (inl e) = cc
@@ -226,40 +233,45 @@ own_reach = record { settled = sym one_settled; ascending = refl; classes = λ j
     head_of o (inr (inr (inl e))) = absurd (cc)
     head_of o (inr (inr (inr n))) = absurd n
 
-    head_class : (o c : ℕ) → Member (place.Head o) (places_in (touches_of owner_suite) 1) → inner_class (kinds_of owner_suite 1 o) ≡ Some c → c ≤ 34
+    head_class : (o c : ℕ) → Member (place.Head o) (places_in (touches_of owner_suite) 1) → inner_class (kinds_of owner_suite 1 o) ≡ Some c → c ≤ 35
     head_class o c m i =
         let z = head_of o (subst (λ (x : List Location). Member (place.Head o) x) one_places m) in
         let k : inner_class (kind.Class 32) ≡ Some c = ap inner_class (sym one_kind) ∙ subst (λ (x : ℕ). inner_class (kinds_of owner_suite 1 x) ≡ Some c) z i in
         let n : 32 ≡ c = cc in
         omega arith
 
-    few : (d : ℕ) → Member d (32 ∷ 34 ∷ 31 ∷ []) → d ≤ 34
-    few d (inl e) = omega arith
-    few d (inr (inl e)) = omega arith
-    few d (inr (inr (inl e))) = omega arith
-    few d (inr (inr (inr n))) = absurd n
+    two : (d a b : ℕ) → a ≤ 35 → b ≤ 35 → Member d (a ∷ b ∷ []) → d ≤ 35
+    two d a b x y (inl e) = omega arith
+    two d a b x y (inr (inl e)) = omega arith
+    two d a b x y (inr (inr n)) = absurd n
 
-    mentions_of : (c d : ℕ) → 32 ≤ c → c ≤ 34 → Member d (class_at owner_suite c).mentions → d ≤ 34
+    of_class : (c k d : ℕ) {x : List ℕ} → c ≡ k → (class_at owner_suite k).mentions ≡ x → Member d (class_at owner_suite c).mentions → Member d x
+    of_class c k d e f m = subst (λ (z : List ℕ). Member d z) (ap (λ (z : ℕ). (class_at owner_suite z).mentions) e ∙ f) m
+
+    mentions_of : (c d : ℕ) → 32 ≤ c → c ≤ 35 → Member d (class_at owner_suite c).mentions → d ≤ 35
     mentions_of c d lo hi m = elim (cases_eq c 33) [
-      | inl e ↦ few d (subst (λ (x : List ℕ). Member d x) (ap (λ (x : ℕ). (class_at owner_suite x).mentions) e ∙ (of_list owner_mentions).1) m)
-      | inr a ↦ elim (cases_eq c 32) [
-        | inl e ↦ absurd (subst (λ (x : List ℕ). Member d x) (ap (λ (x : ℕ). (class_at owner_suite x).mentions) e ∙ (of_list owner_mentions).0) m)
-        | inr b ↦
-            let f : c ≡ 34 = omega arith in
-            let k : Member d (33 ∷ []) = subst (λ (x : List ℕ). Member d x) (ap (λ (x : ℕ). (class_at owner_suite x).mentions) f ∙ (of_list owner_mentions).2) m in
-            elim k [ inl e ↦ omega arith | inr n ↦ absurd n ]
+      | inl e ↦ two d 34 31 (omega arith) (omega arith) (of_class c 33 d e (of_list owner_mentions).1 m)
+      | inr a ↦ elim (cases_eq c 34) [
+        | inl e ↦ two d 33 35 (omega arith) (omega arith) (of_class c 34 d e (of_list owner_mentions).2 m)
+        | inr b ↦ elim (cases_eq c 32) [
+          | inl e ↦ absurd (of_class c 32 d e (of_list owner_mentions).0 m)
+          | inr f ↦ absurd (of_class c 35 d (omega arith) (of_list owner_mentions).3 m)
+        ]
       ]
     ]
 
-    within : {c : ℕ} → Reaches owner_suite 1 c → (32 ≤ c) × (c ≤ 34)
+    within : {c : ℕ} → Reaches owner_suite 1 c → (32 ≤ c) × (c ≤ 35)
     within (own g) = (omega arith, omega arith)
     within (touched o m i g) = (g.0, head_class o _ m i)
     within (mentioned r m g) = let w = within r in (g.0, mentions_of _ _ w.0 w.1 m)
 
-    back : (j : ℕ) → Reaches owner_suite 1 (j + 31) → Member j (1 ∷ 2 ∷ 3 ∷ [])
+    back : (j : ℕ) → Reaches owner_suite 1 (j + 31) → Member j (1 ∷ 2 ∷ 3 ∷ 4 ∷ [])
     back j r = let w = within r in let lo = w.0 in let hi = w.1 in elim (cases_eq j 1) [
       | inl e ↦ inl e
-      | inr a ↦ elim (cases_eq j 2) [ inl e ↦ inr (inl e) | inr b ↦ inr (inr (inl (omega arith))) ]
+      | inr a ↦ elim (cases_eq j 2) [
+        | inl e ↦ inr (inl e)
+        | inr b ↦ elim (cases_eq j 3) [ inl e ↦ inr (inr (inl e)) | inr d ↦ inr (inr (inr (inl (omega arith)))) ]
+      ]
     ]
 
 -- ten statics that one test writes and the next one reads: eight are shown of the edge, and the edge counts all
