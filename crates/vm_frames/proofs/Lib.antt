@@ -1,0 +1,5 @@
+pub mod Lower
+pub mod Tops
+pub mod Frames
+pub mod Entering
+pub mod Typed

@@ -1,0 +1,73 @@
+//! Where an entry stands in the slots.
+
+ghost use Rattle.std.specs.Prelude.{◌≡◌, ◌++◌, OnOk, OnErr, false};
+ghost use Rattle.vm_frames.specs.Extents.{saved_by};
+
+use et_base::NoMemory;
+use jvm_model::EntryKind;
+
+/// An entry's kind, number and place in the code, and its extent in the slots: its locals stand from `base` up to
+/// `first`, its operands from there up to `top`.
+#[derive(Clone, Copy, Debug, PartialEq, Eq)]
+pub struct Extent {
+    pub kind: EntryKind,
+    pub number: u32,
+    pub pc: u32,
+    pub base: usize,
+    pub first: usize,
+    pub top: usize,
+}
+
+impl Extent {
+    /// No entry.
+    pub const NONE: Extent = Extent {
+        kind: EntryKind::Absent,
+        number: 0,
+        pc: 0,
+        base: 0,
+        first: 0,
+        top: 0,
+    };
+
+    /// The frame of a method with its locals from `base` up to `first`, at the start of its code and without operands.
+    pub fn frame(method: u32, base: usize, first: usize) -> Extent
+        ensures { result ≡ record { kind = EntryKind.InMethod; number = method; pc = 0; base = base;
+            first = first; top = first } }
+    {
+        Extent {
+            kind: EntryKind::InMethod,
+            number: method,
+            pc: 0,
+            base,
+            first,
+            top: first,
+        }
+    }
+
+    /// The initialisation entry of a class.
+    pub fn init(class: u32, base: usize) -> Extent
+        ensures { result ≡ record { kind = EntryKind.InClass false; number = class; pc = 0; base = base;
+            first = base; top = base } }
+    {
+        Extent {
+            kind: EntryKind::InClass { entered: false },
+            number: class,
+            pc: 0,
+            base,
+            first: base,
+            top: base,
+        }
+    }
+}
+
+/// Puts an extent on those that are saved, unless it is no entry. After a refusal they are as before.
+pub fn save(saved: &mut Vec<Extent>, below: Extent) -> Result<(), NoMemory>
+    ensures saved { OnOk result (saved.new.items ≡ saved.old.items ++ saved_by below.kind below) }
+    ensures kept { OnErr result (saved.new.items ≡ saved.old.items) }
+{
+    match below.kind {
+        EntryKind::Absent => {}
+        EntryKind::InMethod | EntryKind::InClass { .. } => saved.push(below)?,
+    }
+    Ok(())
+}
