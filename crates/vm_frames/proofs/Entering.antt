@@ -37,19 +37,21 @@ entries-emptied xs c saved rest h k = rw (nil_from_length saved h, nil_from_leng
 
 pub standing-popped : (n : ℕ) (e c : Extent) (saved rest : List Extent) → saved ≡ rest ++ e ∷ [] → IsStanding n c saved → IsStanding n e rest
 standing-popped n e c saved rest q w =
-  let turned : reverse saved ≡ e ∷ reverse rest = rw (q, reverse-append rest (e ∷ [])) refl in
-  let below : AreStacked n c.base (e ∷ reverse rest) = rw turned at w.below in
-  record {
-    here = record { locals = below.0.locals; operands = below.0.operands; limited = below.0.limited; room = below.0.room; under = omega (arith, below.0, w.here) };
-    below = below.1;
-    depth = omega (arith, w.depth, ap length q, length-append rest (e ∷ [])) }
+    let turned : reverse saved ≡ e ∷ reverse rest = rw (q, reverse-append rest (e ∷ [])) refl in
+    let below : AreStacked n c.base (e ∷ reverse rest) = rw turned at w.below in
+    record {
+      here = record { locals = below.0.locals; operands = below.0.operands; limited = below.0.limited; room = below.0.room; under = omega (arith, below.0, w.here) };
+      below = below.1;
+      depth = omega (arith, w.depth, ap length q, length-append rest (e ∷ []));
+    }
 
 pub standing-emptied : (n : ℕ) (rest : List Extent) → length rest ≡ 0 → IsStanding n no_extent rest
 standing-emptied n rest h =
-  rw (nil_from_length rest h) (record {
-    here = record { locals = omega arith; operands = omega arith; limited = omega arith; room = omega arith; under = omega arith };
-    below = tt;
-    depth = omega arith })
+    rw (nil_from_length rest h) (record {
+      here = record { locals = omega arith; operands = omega arith; limited = omega arith; room = omega arith; under = omega arith };
+      below = tt;
+      depth = omega arith;
+    })
 
 pub ruleset popping = (entries-popped, entries-emptied, standing-popped, standing-emptied)
 
@@ -65,19 +67,20 @@ saved_all xs e saved = saved_all_by xs e.kind e saved
 -- entries whose slots below the top are the same
 pub entries-same : (xs ys : List Value) (n b : ℕ) (e : Extent) (saved : List Extent) → take b xs ≡ take b ys → IsStanding n e saved → e.top ≤ b → entries_at xs e saved ≡ entries_at ys e saved
 entries-same xs ys n b e saved q w h =
-  let here : IsWithin n b e = record { locals = w.here.locals; operands = w.here.operands; limited = w.here.limited; room = w.here.room; under = h } in
-  rw (entry_same xs ys n b e q here, below_same xs ys n e.base (reverse saved) (take_lower xs ys b e.base q (omega (arith, w.here))) w.below) refl
+    let here : IsWithin n b e = record { locals = w.here.locals; operands = w.here.operands; limited = w.here.limited; room = w.here.room; under = h } in
+    rw (entry_same xs ys n b e q here, below_same xs ys n e.base (reverse saved) (take_lower xs ys b e.base q (omega (arith, w.here))) w.below) refl
 
 -- what a frame's writes leave below it
 pub frame_below : (xs ys : List Value) (base max_locals : ℕ) (args : List Value) (first : ℕ) → base ≤ length xs → HasFrame xs ys base max_locals args first → take base xs ≡ take base ys
 frame_below xs ys base max_locals args first within h =
-  sym (take_at (take base xs) (filled max_locals (slots_of args)) base (length-take-le base xs within)) ∙ (ap (λ (zs : List Value). take base zs) (sym h.locals) ∙ take-take base first ys h.start)
+    sym (take_at (take base xs) (filled max_locals (slots_of args)) base (length-take-le base xs within)) ∙ (ap (λ (zs : List Value). take base zs) (sym h.locals) ∙ take-take base first ys h.start)
 
 pub standing-grown : (n n' : ℕ) (e : Extent) (saved : List Extent) → n ≤ n' → IsStanding n e saved → IsStanding n' e saved
 standing-grown n n' e saved h w = record {
   here = record { locals = w.here.locals; operands = w.here.operands; limited = w.here.limited; room = omega (arith, w.here); under = omega (arith, w.here) };
   below = stacked-grow n n' e.base e.base (reverse saved) h (omega arith) w.below;
-  depth = w.depth }
+  depth = w.depth;
+}
 
 stacked-saved : (n b : ℕ) (k : EntryKind) (e : Extent) (saved : List Extent) → IsWithin n b e → AreStacked n e.base (reverse saved) → AreStacked n b (reverse (saved ++ saved_by k e))
 stacked-saved n b Absent e saved w a = rw (append-nil saved) (stacked-grow n n e.base b (reverse saved) (omega arith) (omega (arith, w)) a)
@@ -92,50 +95,51 @@ length-saved_by (InClass b) e f = refl
 -- fewer extents are saved than may stand, unless as many stand
 room_to_save : (xs : List Value) (e f : Extent) (saved : List Extent) → is_full (entries_at xs e saved) ≡ false → length (saved ++ saved_by e.kind f) < 1024
 room_to_save xs e f saved h =
-  let stand : length (all_entries (entries_at xs e saved)) ≡ length (saved ++ saved_by e.kind e) = ap length (sym (saved_all xs e saved)) ∙ (length-map (reverse (saved ++ saved_by e.kind e)) (entry_of xs) ∙ length-reverse (saved ++ saved_by e.kind e)) in
-  let few : length (all_entries (entries_at xs e saved)) < 1024 = grind (arith, nat_tests) in
-  omega (arith, few, stand, length-append saved (saved_by e.kind e), length-append saved (saved_by e.kind f), length-saved_by e.kind e f)
+    let stand : length (all_entries (entries_at xs e saved)) ≡ length (saved ++ saved_by e.kind e) = ap length (sym (saved_all xs e saved)) ∙ (length-map (reverse (saved ++ saved_by e.kind e)) (entry_of xs) ∙ length-reverse (saved ++ saved_by e.kind e)) in
+    let few : length (all_entries (entries_at xs e saved)) < 1024 = grind (arith, nat_tests) in
+    omega (arith, few, stand, length-append saved (saved_by e.kind e), length-append saved (saved_by e.kind f), length-saved_by e.kind e f)
 
 -- an extent stands above one whose operands were cut to t
 pub standing-opened : (xs : List Value) (n t : ℕ) (e f : Extent) (saved : List Extent) → IsStanding (length xs) e saved → is_full (entries_at xs e saved) ≡ false → length xs ≤ n → e.first ≤ t → t ≤ e.top → t ≤ f.base → IsWithin n n f
-  → IsStanding n f (saved ++ saved_by e.kind (record e { top = t }))
+    → IsStanding n f (saved ++ saved_by e.kind (record e { top = t }))
 standing-opened xs n t e f saved w full grown low high over there =
-  let here : IsWithin n f.base (record e { top = t }) = record { locals = w.here.locals; operands = low; limited = omega (arith, w.here); room = omega (arith, w.here); under = over } in
-  record {
-    here = there;
-    below = stacked-saved n f.base e.kind (record e { top = t }) saved here (stacked-grow (length xs) n e.base e.base (reverse saved) grown (omega arith) w.below);
-    depth = room_to_save xs e (record e { top = t }) saved full }
+    let here : IsWithin n f.base (record e { top = t }) = record { locals = w.here.locals; operands = low; limited = omega (arith, w.here); room = omega (arith, w.here); under = over } in
+    record {
+      here = there;
+      below = stacked-saved n f.base e.kind (record e { top = t }) saved here (stacked-grow (length xs) n e.base e.base (reverse saved) grown (omega arith) w.below);
+      depth = room_to_save xs e (record e { top = t }) saved full;
+    }
 
 pub entries-opened : (xs ys : List Value) (t : ℕ) (e f : Extent) (saved : List Extent) → IsStanding (length xs) e saved → e.first ≤ t → t ≤ e.top → take e.top xs ≡ take e.top ys
-  → entries_at ys f (saved ++ saved_by e.kind (record e { top = t })) ≡ with_entry (entry_of ys f) (entries_at xs (record e { top = t }) saved)
+    → entries_at ys f (saved ++ saved_by e.kind (record e { top = t })) ≡ with_entry (entry_of ys f) (entries_at xs (record e { top = t }) saved)
 entries-opened xs ys t e f saved w low high same =
-  let cut : IsStanding (length xs) (record e { top = t }) saved = standing-move (length xs) t e saved w low (omega (arith, w.here)) in
-  let all : map (entry_of ys) (reverse (saved ++ saved_by e.kind (record e { top = t }))) ≡ all_entries (entries_at xs (record e { top = t }) saved) =
+    let cut : IsStanding (length xs) (record e { top = t }) saved = standing-move (length xs) t e saved w low (omega (arith, w.here)) in
+    let all : map (entry_of ys) (reverse (saved ++ saved_by e.kind (record e { top = t }))) ≡ all_entries (entries_at xs (record e { top = t }) saved) =
     saved_all ys (record e { top = t }) saved ∙ ap all_entries (sym (entries-same xs ys (length xs) e.top (record e { top = t }) saved same cut high)) in
-  rw all refl
+    rw all refl
 
 upwards_taken : (xs : List Value) (b n : ℕ) → b + n ≤ length xs → upwards xs b n ≡ take n (drop b xs)
 upwards_taken xs b zero h = refl
 upwards_taken xs b (suc n) h =
-  let next : b + 1 ≡ suc b = omega arith in
-  rw (drop_more xs b Null (omega arith), next, upwards_taken xs (suc b) n (omega arith)) refl
+    let next : b + 1 ≡ suc b = omega arith in
+    rw (drop_more xs b Null (omega arith), next, upwards_taken xs (suc b) n (omega arith)) refl
 
 -- the entry of a frame whose locals are written
 pub entry_of-frame : (xs ys : List Value) (m base max_locals : ℕ) (args : List Value) (first : ℕ) → base ≤ length xs → HasFrame xs ys base max_locals args first → entry_of ys (frame_at m base first) ≡ frame_with max_locals m args
 entry_of-frame xs ys m base max_locals args first within h =
-  let whole : base + (first - base) ≡ first = omega (arith, h.start) in
-  let cut : upwards ys base (first - base) ≡ drop base (take (base + (first - base)) ys) = upwards_taken ys base (first - base) (omega (arith, h.start, h.room)) ∙ sym (drop-take base (first - base) ys) in
-  let locals : upwards ys base (first - base) ≡ filled max_locals (slots_of args) =
+    let whole : base + (first - base) ≡ first = omega (arith, h.start) in
+    let cut : upwards ys base (first - base) ≡ drop base (take (base + (first - base)) ys) = upwards_taken ys base (first - base) (omega (arith, h.start, h.room)) ∙ sym (drop-take base (first - base) ys) in
+    let locals : upwards ys base (first - base) ≡ filled max_locals (slots_of args) =
     cut ∙ (rw (whole, h.locals) (drop_at (take base xs) (filled max_locals (slots_of args)) base (length-take-le base xs within))) in
-  rw (downwards_none ys first, locals) refl
+    rw (downwards_none ys first, locals) refl
 
 downwards_drop : (xs : List Value) (t m n : ℕ) → n ≤ m → m ≤ t → drop n (downwards xs t m) ≡ downwards xs (t - n) (m - n)
 downwards_drop xs t m zero h k = let whole : t - 0 ≡ t = omega arith in let all : m - 0 ≡ m = omega arith in rw (whole, all) refl
 downwards_drop xs t zero (suc n) h k = let none : ⊥ = omega arith in absurd none
 downwards_drop xs zero (suc m) (suc n) h k = let none : ⊥ = omega arith in absurd none
 downwards_drop xs (suc t) (suc m) (suc n) h k =
-  let less : suc t - suc n ≡ t - n = omega arith in let fewer : suc m - suc n ≡ m - n = omega arith in
-  rw (less, fewer) (downwards_drop xs t m n (omega arith) (omega arith))
+    let less : suc t - suc n ≡ t - n = omega arith in let fewer : suc m - suc n ≡ m - n = omega arith in
+    rw (less, fewer) (downwards_drop xs t m n (omega arith) (omega arith))
 
 -- the n values below the place t, the lowest first
 downwards_take : (xs : List Value) (t m n : ℕ) → n ≤ m → m ≤ t → t ≤ length xs → reverse (take n (downwards xs t m)) ≡ drop (t - n) (take t xs)
@@ -143,57 +147,57 @@ downwards_take xs t m zero h k l = let whole : t - 0 ≡ t = omega arith in sym 
 downwards_take xs t zero (suc n) h k l = let none : ⊥ = omega arith in absurd none
 downwards_take xs zero (suc m) (suc n) h k l = let none : ⊥ = omega arith in absurd none
 downwards_take xs (suc t) (suc m) (suc n) h k l =
-  let less : suc t - suc n ≡ t - n = omega arith in
-  let next : t + 1 ≡ suc t = omega arith in
-  let more : take (suc t) xs ≡ take t xs ++ get_or xs t Null ∷ [] = rw next at (take_more xs t Null (omega arith)) in
-  let cut : t - n ≤ length (take t xs) = rw (length-take-le t xs (omega arith)) (omega arith) in
-  let turned : reverse (get_or xs t Null ∷ take n (downwards xs t m)) ≡ reverse (take n (downwards xs t m)) ++ get_or xs t Null ∷ [] = reverse-append (get_or xs t Null ∷ []) (take n (downwards xs t m)) in
-  turned ∙ (rw (downwards_take xs t m n (omega arith) (omega arith) (omega arith), less, more, drop-append-le (t - n) (take t xs) (get_or xs t Null ∷ []) cut) refl)
+    let less : suc t - suc n ≡ t - n = omega arith in
+    let next : t + 1 ≡ suc t = omega arith in
+    let more : take (suc t) xs ≡ take t xs ++ get_or xs t Null ∷ [] = rw next at (take_more xs t Null (omega arith)) in
+    let cut : t - n ≤ length (take t xs) = rw (length-take-le t xs (omega arith)) (omega arith) in
+    let turned : reverse (get_or xs t Null ∷ take n (downwards xs t m)) ≡ reverse (take n (downwards xs t m)) ++ get_or xs t Null ∷ [] = reverse-append (get_or xs t Null ∷ []) (take n (downwards xs t m)) in
+    turned ∙ (rw (downwards_take xs t m n (omega arith) (omega arith) (omega arith), less, more, drop-append-le (t - n) (take t xs) (get_or xs t Null ∷ []) cut) refl)
 
 -- n operands are taken
 pub entries-lowered : (xs : List Value) (n : ℕ) (e : Extent) (saved : List Extent) → IsStanding (length xs) e saved → n ≤ e.top - e.first → entries_at xs (record e { top = e.top - n }) saved ≡ with_stack (entries_at xs e saved) (drop n (downwards xs e.top (e.top - e.first)))
 entries-lowered xs n e saved w h =
-  let left : e.top - n - e.first ≡ e.top - e.first - n = omega arith in
-  rw (downwards_drop xs e.top (e.top - e.first) n h (omega arith), left) refl
+    let left : e.top - n - e.first ≡ e.top - e.first - n = omega arith in
+    rw (downwards_drop xs e.top (e.top - e.first) n h (omega arith), left) refl
 
 pub entries-entered : (xs ys : List Value) (e f : Extent) (saved saved' : List Extent) (n m max_locals first : ℕ) → IsStanding (length xs) e saved → n ≤ length (downwards xs e.top (e.top - e.first)) → HasFrame xs ys e.top max_locals (drop (e.top - n) (take e.top xs)) first
-  → f ≡ frame_at m e.top first → saved' ≡ saved ++ saved_by e.kind (record e { top = e.top - n }) → entries_at ys f saved' ≡ called_with max_locals m n (entries_at xs e saved)
+    → f ≡ frame_at m e.top first → saved' ≡ saved ++ saved_by e.kind (record e { top = e.top - n }) → entries_at ys f saved' ≡ called_with max_locals m n (entries_at xs e saved)
 entries-entered xs ys e f saved saved' n m max_locals first w few h q r =
-  let there : n ≤ e.top - e.first = omega (arith, length_downwards xs e.top (e.top - e.first) (omega arith)) in
-  let within : e.top ≤ length xs = omega (arith, w.here) in
-  let low : e.first ≤ e.top - n = omega (arith, w.here) in
-  let args : reverse (take n (downwards xs e.top (e.top - e.first))) ≡ drop (e.top - n) (take e.top xs) = downwards_take xs e.top (e.top - e.first) n there (omega arith) within in
-  let opened : entries_at ys (frame_at m e.top first) (saved ++ saved_by e.kind (record e { top = e.top - n })) ≡ with_entry (entry_of ys (frame_at m e.top first)) (entries_at xs (record e { top = e.top - n }) saved) =
+    let there : n ≤ e.top - e.first = omega (arith, length_downwards xs e.top (e.top - e.first) (omega arith)) in
+    let within : e.top ≤ length xs = omega (arith, w.here) in
+    let low : e.first ≤ e.top - n = omega (arith, w.here) in
+    let args : reverse (take n (downwards xs e.top (e.top - e.first))) ≡ drop (e.top - n) (take e.top xs) = downwards_take xs e.top (e.top - e.first) n there (omega arith) within in
+    let opened : entries_at ys (frame_at m e.top first) (saved ++ saved_by e.kind (record e { top = e.top - n })) ≡ with_entry (entry_of ys (frame_at m e.top first)) (entries_at xs (record e { top = e.top - n }) saved) =
     entries-opened xs ys (e.top - n) e (frame_at m e.top first) saved w low (omega arith) (frame_below xs ys e.top max_locals (drop (e.top - n) (take e.top xs)) first within h) in
-  let frame : entry_of ys (frame_at m e.top first) ≡ frame_with max_locals m (reverse (take n (downwards xs e.top (e.top - e.first)))) = entry_of-frame xs ys m e.top max_locals (drop (e.top - n) (take e.top xs)) first within h ∙ ap (frame_with max_locals m) (sym args) in
-  rw (q, r) (opened ∙ (ap (λ (x : Entry). with_entry x (entries_at xs (record e { top = e.top - n }) saved)) frame ∙ ap (with_entry (frame_with max_locals m (reverse (take n (downwards xs e.top (e.top - e.first)))))) (entries-lowered xs n e saved w there)))
+    let frame : entry_of ys (frame_at m e.top first) ≡ frame_with max_locals m (reverse (take n (downwards xs e.top (e.top - e.first)))) = entry_of-frame xs ys m e.top max_locals (drop (e.top - n) (take e.top xs)) first within h ∙ ap (frame_with max_locals m) (sym args) in
+    rw (q, r) (opened ∙ (ap (λ (x : Entry). with_entry x (entries_at xs (record e { top = e.top - n }) saved)) frame ∙ ap (with_entry (frame_with max_locals m (reverse (take n (downwards xs e.top (e.top - e.first)))))) (entries-lowered xs n e saved w there)))
 
 pub entries-pushed : (xs ys : List Value) (e f : Extent) (saved saved' : List Extent) (m max_locals : ℕ) (args : List Value) (first : ℕ) → IsStanding (length xs) e saved → HasFrame xs ys e.top max_locals args first
-  → f ≡ frame_at m e.top first → saved' ≡ saved ++ saved_by e.kind e → entries_at ys f saved' ≡ with_entry (frame_with max_locals m args) (entries_at xs e saved)
+    → f ≡ frame_at m e.top first → saved' ≡ saved ++ saved_by e.kind e → entries_at ys f saved' ≡ with_entry (frame_with max_locals m args) (entries_at xs e saved)
 entries-pushed xs ys e f saved saved' m max_locals args first w h q r =
-  let within : e.top ≤ length xs = omega (arith, w.here) in
-  let opened : entries_at ys (frame_at m e.top first) (saved ++ saved_by e.kind e) ≡ with_entry (entry_of ys (frame_at m e.top first)) (entries_at xs e saved) =
+    let within : e.top ≤ length xs = omega (arith, w.here) in
+    let opened : entries_at ys (frame_at m e.top first) (saved ++ saved_by e.kind e) ≡ with_entry (entry_of ys (frame_at m e.top first)) (entries_at xs e saved) =
     entries-opened xs ys e.top e (frame_at m e.top first) saved w w.here.operands (omega arith) (frame_below xs ys e.top max_locals args first within h) in
-  rw (q, r) (opened ∙ ap (λ (x : Entry). with_entry x (entries_at xs e saved)) (entry_of-frame xs ys m e.top max_locals args first within h))
+    rw (q, r) (opened ∙ ap (λ (x : Entry). with_entry x (entries_at xs e saved)) (entry_of-frame xs ys m e.top max_locals args first within h))
 
 pub within-frame : (xs ys : List Value) (m base max_locals : ℕ) (args : List Value) (first : ℕ) → HasFrame xs ys base max_locals args first → IsWithin (length ys) (length ys) (frame_at m base first)
 within-frame xs ys m base max_locals args first h = record { locals = h.start; operands = omega arith; limited = omega arith; room = h.room; under = omega (arith, h.room) }
 
 pub standing-entered : (xs ys : List Value) (e f : Extent) (saved saved' : List Extent) (n m max_locals : ℕ) (args : List Value) (first : ℕ) → IsStanding (length xs) e saved → is_full (entries_at xs e saved) ≡ false → n ≤ length (downwards xs e.top (e.top - e.first)) → HasFrame xs ys e.top max_locals args first
-  → f ≡ frame_at m e.top first → saved' ≡ saved ++ saved_by e.kind (record e { top = e.top - n }) → IsStanding (length ys) f saved'
+    → f ≡ frame_at m e.top first → saved' ≡ saved ++ saved_by e.kind (record e { top = e.top - n }) → IsStanding (length ys) f saved'
 standing-entered xs ys e f saved saved' n m max_locals args first w full few h q r =
-  let there : n ≤ e.top - e.first = omega (arith, length_downwards xs e.top (e.top - e.first) (omega arith)) in
-  rw (q, r) (standing-opened xs (length ys) (e.top - n) e (frame_at m e.top first) saved w full h.slots (omega (arith, w.here)) (omega arith) (omega arith) (within-frame xs ys m e.top max_locals args first h))
+    let there : n ≤ e.top - e.first = omega (arith, length_downwards xs e.top (e.top - e.first) (omega arith)) in
+    rw (q, r) (standing-opened xs (length ys) (e.top - n) e (frame_at m e.top first) saved w full h.slots (omega (arith, w.here)) (omega arith) (omega arith) (within-frame xs ys m e.top max_locals args first h))
 
 pub standing-pushed : (xs ys : List Value) (e f : Extent) (saved saved' : List Extent) (m max_locals : ℕ) (args : List Value) (first : ℕ) → IsStanding (length xs) e saved → is_full (entries_at xs e saved) ≡ false → HasFrame xs ys e.top max_locals args first
-  → f ≡ frame_at m e.top first → saved' ≡ saved ++ saved_by e.kind e → IsStanding (length ys) f saved'
+    → f ≡ frame_at m e.top first → saved' ≡ saved ++ saved_by e.kind e → IsStanding (length ys) f saved'
 standing-pushed xs ys e f saved saved' m max_locals args first w full h q r =
-  rw (q, r) (standing-opened xs (length ys) e.top e (frame_at m e.top first) saved w full h.slots w.here.operands (omega arith) (omega arith) (within-frame xs ys m e.top max_locals args first h))
+    rw (q, r) (standing-opened xs (length ys) e.top e (frame_at m e.top first) saved w full h.slots w.here.operands (omega arith) (omega arith) (within-frame xs ys m e.top max_locals args first h))
 
 pub standing-init : (xs : List Value) (e f : Extent) (saved saved' : List Extent) (c : ℕ) → IsStanding (length xs) e saved → is_full (entries_at xs e saved) ≡ false
-  → f ≡ init_at c e.top → saved' ≡ saved ++ saved_by e.kind e → IsStanding (length xs) f saved'
+    → f ≡ init_at c e.top → saved' ≡ saved ++ saved_by e.kind e → IsStanding (length xs) f saved'
 standing-init xs e f saved saved' c w full q r =
-  rw (q, r) (standing-opened xs (length xs) e.top e (init_at c e.top) saved w full (omega arith) w.here.operands (omega arith) (omega arith)
+    rw (q, r) (standing-opened xs (length xs) e.top e (init_at c e.top) saved w full (omega arith) w.here.operands (omega arith) (omega arith)
     (record { locals = omega arith; operands = omega arith; limited = omega arith; room = omega (arith, w.here); under = omega (arith, w.here) }))
 
 -- operands that the entries have, in the slots
@@ -203,4 +207,4 @@ few_operands xs e saved s n q h = subst (λ (t : Entries). n ≤ length t.top.st
 -- a refusal after the slots grew
 pub entries-kept : (xs ys : List Value) (e : Extent) (saved saved' : List Extent) (max_locals : ℕ) (args : List Value) (first : ℕ) (s : Entries) → IsStanding (length xs) e saved → HasFrame xs ys e.top max_locals args first → saved' ≡ saved → entries_at xs e saved ≡ s → entries_at ys e saved' ≡ s
 entries-kept xs ys e saved saved' max_locals args first s w h q r =
-  rw q (sym (entries-same xs ys (length xs) e.top e saved (frame_below xs ys e.top max_locals args first (omega (arith, w.here)) h) w (omega arith)) ∙ r)
+    rw q (sym (entries-same xs ys (length xs) e.top e saved (frame_below xs ys e.top max_locals args first (omega (arith, w.here)) h) w (omega arith)) ∙ r)

@@ -21,54 +21,56 @@ put_one xs to v h = take_more_set xs to v h
 -- two are written
 pub put_two_slots : (xs : List Value) (to : ℕ) (v w : Value) → to + 1 < length xs → take (to + 2) (set (set xs to v) (to + 1) w) ≡ take to xs ++ v ∷ w ∷ []
 put_two_slots xs to v w h =
-  let there : to + 2 ≡ to + 1 + 1 = omega arith in
-  let long : to + 1 < length (set xs to v) = rw (Rattle.std.proofs.Common.length-set xs to v) h in
-  rw (there, take_more_set (set xs to v) (to + 1) w long, take_more_set xs to v (omega arith), append_assoc) refl
+    let there : to + 2 ≡ to + 1 + 1 = omega arith in
+    let long : to + 1 < length (set xs to v) = rw (Rattle.std.proofs.Common.length-set xs to v) h in
+    rw (there, take_more_set (set xs to v) (to + 1) w long, take_more_set xs to v (omega arith), append_assoc) refl
 
 -- the arguments up to a place, and the next one
 pub argument_more : (xs ys : List Value) (from base place : ℕ) (v : Value) → from ≤ place → place < base → base ≤ length xs → take base ys ≡ take base xs → v ≡ get_or ys place v
-  → drop from (take (place + 1) xs) ≡ drop from (take place xs) ++ v ∷ []
+    → drop from (take (place + 1) xs) ≡ drop from (take place xs) ++ v ∷ []
 argument_more xs ys from base place v low high within same read =
-  let here : get_or ys place v ≡ get_or xs place v = sym (get_or-take base ys place v high) ∙ (ap (λ (zs : List Value). get_or zs place v) same ∙ get_or-take base xs place v high) in
-  let cut : from ≤ length (take place xs) = rw (length-take-le place xs (omega arith)) low in
-  rw (take_more xs place v (omega arith), drop-append-le from (take place xs) (get_or xs place v ∷ []) cut) (ap (λ (x : Value). drop from (take place xs) ++ x ∷ []) (sym (read ∙ here)))
+    let here : get_or ys place v ≡ get_or xs place v = sym (get_or-take base ys place v high) ∙ (ap (λ (zs : List Value). get_or zs place v) same ∙ get_or-take base xs place v high) in
+    let cut : from ≤ length (take place xs) = rw (length-take-le place xs (omega arith)) low in
+    rw (take_more xs place v (omega arith), drop-append-le from (take place xs) (get_or xs place v ∷ []) cut) (ap (λ (x : Value). drop from (take place xs) ++ x ∷ []) (sym (read ∙ here)))
 
 -- what a loop over the arguments keeps
 pub copy_more : (old xs ys : List Value) (from base place to end : ℕ) (v : Value) → from ≤ place → place < base → base ≤ length old → base ≤ to → to ≤ length xs
-  → take to xs ≡ take base old ++ slots_of (drop from (take place old)) → v ≡ get_or xs place v → take end ys ≡ take to xs ++ slots_of (v ∷ [])
-  → take end ys ≡ take base old ++ slots_of (drop from (take (place + 1) old))
+    → take to xs ≡ take base old ++ slots_of (drop from (take place old)) → v ≡ get_or xs place v → take end ys ≡ take to xs ++ slots_of (v ∷ [])
+    → take end ys ≡ take base old ++ slots_of (drop from (take (place + 1) old))
 copy_more old xs ys from base place to end v low high within start room written read put =
-  let same : take base xs ≡ take base old = sym (take-take base to xs start) ∙ (ap (λ (zs : List Value). take base zs) written ∙ take_at (take base old) (slots_of (drop from (take place old))) base (length-take-le base old within)) in
-  put ∙ (rw (written, argument_more old xs from base place v low high within same read, slots_of-append, append_assoc) refl)
+    let same : take base xs ≡ take base old = sym (take-take base to xs start) ∙ (ap (λ (zs : List Value). take base zs) written ∙ take_at (take base old) (slots_of (drop from (take place old))) base (length-take-le base old within)) in
+    put ∙ (rw (written, argument_more old xs from base place v low high within same read, slots_of-append, append_assoc) refl)
 
 -- one more slot is filled
 pub clear_more : (old xs : List Value) (from place : ℕ) → from ≤ place → place < length xs → take place xs ≡ take from old ++ replicate (place - from) Null
-  → take (place + 1) (set xs place Null) ≡ take from old ++ replicate (place + 1 - from) Null
+    → take (place + 1) (set xs place Null) ≡ take from old ++ replicate (place + 1 - from) Null
 clear_more old xs from place low high e =
-  let count : place + 1 - from ≡ place - from + 1 = omega arith in
-  rw (take_more_set xs place Null high, e, append_assoc, count, replicate_more) refl
+    let count : place + 1 - from ≡ place - from + 1 = omega arith in
+    rw (take_more_set xs place Null high, e, append_assoc, count, replicate_more) refl
 
 -- the arguments, and null up to the number of locals
 pub frame_made : (old mid new : List Value) (base max_locals : ℕ) (args : List Value) (to first : ℕ) → base ≤ length old → to ≤ length mid → take to mid ≡ take base old ++ slots_of args
-  → first ≡ max to (base + max_locals) → take first new ≡ take to mid ++ replicate (first - to) Null → first + 65535 ≤ length new → length old ≤ length new
-  → HasFrame old new base max_locals args first
+    → first ≡ max to (base + max_locals) → take first new ≡ take to mid ++ replicate (first - to) Null → first + 65535 ≤ length new → length old ≤ length new
+    → HasFrame old new base max_locals args first
 frame_made old mid new base max_locals args to first within there written e filled room long =
-  let count : to ≡ base + length (slots_of args) = sym (length-take-le to mid there) ∙ (ap length written ∙ (length-append (take base old) (slots_of args) ∙ ap (λ (n : ℕ). n + length (slots_of args)) (length-take-le base old within))) in
-  let rest : first - to ≡ max_locals - length (slots_of args) = omega arith in
-  record {
-    locals = filled ∙ rw (written, rest, append_assoc) refl;
-    start = omega arith;
-    room = room;
-    slots = long }
+    let count : to ≡ base + length (slots_of args) = sym (length-take-le to mid there) ∙ (ap length written ∙ (length-append (take base old) (slots_of args) ∙ ap (λ (n : ℕ). n + length (slots_of args)) (length-take-le base old within))) in
+    let rest : first - to ≡ max_locals - length (slots_of args) = omega arith in
+    record {
+      locals = filled ∙ rw (written, rest, append_assoc) refl;
+      start = omega arith;
+      room = room;
+      slots = long;
+    }
 
 -- the same of the slots before they grew
 pub frame_grown : (old more new : List Value) (base max_locals : ℕ) (args : List Value) (first : ℕ) → base ≤ length old → HasFrame (old ++ more) new base max_locals args first → HasFrame old new base max_locals args first
 frame_grown old more new base max_locals args first within h =
-  record {
-    locals = h.locals ∙ rw (take-append-le base old more within) refl;
-    start = h.start;
-    room = h.room;
-    slots = omega (arith, h.slots, length-append old more) }
+    record {
+      locals = h.locals ∙ rw (take-append-le base old more within) refl;
+      start = h.start;
+      room = h.room;
+      slots = omega (arith, h.slots, length-append old more);
+    }
 
 -- a slice of a vector that was written is the vector's items
 pub written_back : (n : ℕ) (xs ys : List Value) → length xs ≡ n → length ys ≡ n → take n (xs ++ drop (length xs) ys) ≡ xs

@@ -29,36 +29,36 @@ downwards_get xs t zero k g h = let none : ⊥ = omega arith in absurd none
 downwards_get xs zero (suc n) k g h = let none : ⊥ = omega arith in absurd none
 downwards_get xs (suc t) (suc n) zero g h = let here : suc t - 1 - 0 ≡ t = omega arith in rw here refl
 downwards_get xs (suc t) (suc n) (suc k) g h =
-  let there : suc t - 1 - suc k ≡ t - 1 - k = omega arith in
-  rw (there, downwards_get xs t n k (omega arith) (omega arith)) refl
+    let there : suc t - 1 - suc k ≡ t - 1 - k = omega arith in
+    rw (there, downwards_get xs t n k (omega arith) (omega arith)) refl
 
 pub upwards_set_before : (xs : List Value) (i : ℕ) (v : Value) (b n : ℕ) → i < b → upwards (set xs i v) b n ≡ upwards xs b n
 upwards_set_before xs i v b zero h = refl
 upwards_set_before xs i v b (suc n) h =
-  let apart : b ≢ i = omega arith in
-  rw (get_or-set_other xs i b v Null apart, upwards_set_before xs i v (suc b) n (omega arith)) refl
+    let apart : b ≢ i = omega arith in
+    rw (get_or-set_other xs i b v Null apart, upwards_set_before xs i v (suc b) n (omega arith)) refl
 
 pub upwards_set_at : (xs : List Value) (b n i j : ℕ) (v : Value) → j ≡ b + i → i < n → b + n ≤ length xs → upwards (set xs j v) b n ≡ set (upwards xs b n) i v
 upwards_set_at xs b zero i j v e h k = let none : ⊥ = omega arith in absurd none
 upwards_set_at xs b (suc n) zero j v e h k =
-  let here : j ≡ b = omega arith in
-  let first : get_or (set xs b v) b Null ≡ v = get_or-set_same xs b v Null (omega arith) in
-  let rest : upwards (set xs b v) (suc b) n ≡ upwards xs (suc b) n = upwards_set_before xs b v (suc b) n (omega arith) in
-  let both : get_or (set xs b v) b Null ∷ upwards (set xs b v) (suc b) n ≡ v ∷ upwards xs (suc b) n = rw (first, rest) refl in
-  subst (λ (q : ℕ). upwards (set xs q v) b (suc n) ≡ set (upwards xs b (suc n)) 0 v) (sym here) both
+    let here : j ≡ b = omega arith in
+    let first : get_or (set xs b v) b Null ≡ v = get_or-set_same xs b v Null (omega arith) in
+    let rest : upwards (set xs b v) (suc b) n ≡ upwards xs (suc b) n = upwards_set_before xs b v (suc b) n (omega arith) in
+    let both : get_or (set xs b v) b Null ∷ upwards (set xs b v) (suc b) n ≡ v ∷ upwards xs (suc b) n = rw (first, rest) refl in
+    subst (λ (q : ℕ). upwards (set xs q v) b (suc n) ≡ set (upwards xs b (suc n)) 0 v) (sym here) both
 upwards_set_at xs b (suc n) (suc i) j v e h k =
-  let apart : b ≢ j = omega arith in
-  let first : get_or (set xs j v) b Null ≡ get_or xs b Null = get_or-set_other xs j b v Null apart in
-  let rest : upwards (set xs j v) (suc b) n ≡ set (upwards xs (suc b) n) i v = upwards_set_at xs (suc b) n i j v (omega arith) (omega arith) (omega arith) in
-  let both : get_or (set xs j v) b Null ∷ upwards (set xs j v) (suc b) n ≡ get_or xs b Null ∷ set (upwards xs (suc b) n) i v = rw (first, rest) refl in
-  both
+    let apart : b ≢ j = omega arith in
+    let first : get_or (set xs j v) b Null ≡ get_or xs b Null = get_or-set_other xs j b v Null apart in
+    let rest : upwards (set xs j v) (suc b) n ≡ set (upwards xs (suc b) n) i v = upwards_set_at xs (suc b) n i j v (omega arith) (omega arith) (omega arith) in
+    let both : get_or (set xs j v) b Null ∷ upwards (set xs j v) (suc b) n ≡ get_or xs b Null ∷ set (upwards xs (suc b) n) i v = rw (first, rest) refl in
+    both
 
 pub downwards_set_below : (xs : List Value) (i : ℕ) (v : Value) (t n : ℕ) → i + n < t → downwards (set xs i v) t n ≡ downwards xs t n
 downwards_set_below xs i v t zero h = refl
 downwards_set_below xs i v zero (suc n) h = refl
 downwards_set_below xs i v (suc t) (suc n) h =
-  let apart : t ≢ i = omega arith in
-  rw (get_or-set_other xs i t v Null apart, downwards_set_below xs i v t n (omega arith)) refl
+    let apart : t ≢ i = omega arith in
+    rw (get_or-set_other xs i t v Null apart, downwards_set_below xs i v t n (omega arith)) refl
 
 pub downwards_none : (xs : List Value) (t : ℕ) → downwards xs t (t - t) ≡ []
 downwards_none xs t = let none : t - t ≡ 0 = omega arith in rw none refl
@@ -71,41 +71,42 @@ take_set xs b i v h = sym (take-set-le b xs i v h)
 
 -- a push
 pub entries-push : (xs : List Value) (e : Extent) (saved : List Extent) (n : ℕ) (v : Value) → IsStanding n e saved → e.top < length xs
-  → entries_at (set xs e.top v) (record e { top = e.top + 1 }) saved ≡ with_stack (entries_at xs e saved) (v ∷ downwards xs e.top (e.top - e.first))
+    → entries_at (set xs e.top v) (record e { top = e.top + 1 }) saved ≡ with_stack (entries_at xs e saved) (v ∷ downwards xs e.top (e.top - e.first))
 entries-push xs e saved n v w h =
-  let next : e.top + 1 ≡ suc e.top = omega arith in
-  let same : downwards (set xs e.top v) e.top (e.top - e.first) ≡ downwards xs e.top (e.top - e.first) = sym (downwards_same xs (set xs e.top v) e.top e.top (e.top - e.first) (take_set xs e.top e.top v (omega arith)) (omega arith)) in
-  let more : downwards (set xs e.top v) (e.top + 1) (e.top + 1 - e.first) ≡ v ∷ downwards xs e.top (e.top - e.first) = rw (next, downwards_more (set xs e.top v) e.first e.top (omega (arith, w.here)), get_or-set_same xs e.top v Null h, same) refl in
-  let locals : upwards (set xs e.top v) e.base (e.first - e.base) ≡ upwards xs e.base (e.first - e.base) = sym (upwards_same xs (set xs e.top v) e.first e.base (e.first - e.base) (take_set xs e.first e.top v (omega (arith, w.here))) (omega (arith, w.here))) in
-  let below : map (entry_of (set xs e.top v)) (reverse saved) ≡ map (entry_of xs) (reverse saved) = sym (below_same xs (set xs e.top v) n e.base (reverse saved) (take_set xs e.base e.top v (omega (arith, w.here))) w.below) in
-  rw (more, locals, below) refl
+    let next : e.top + 1 ≡ suc e.top = omega arith in
+    let same : downwards (set xs e.top v) e.top (e.top - e.first) ≡ downwards xs e.top (e.top - e.first) = sym (downwards_same xs (set xs e.top v) e.top e.top (e.top - e.first) (take_set xs e.top e.top v (omega arith)) (omega arith)) in
+    let more : downwards (set xs e.top v) (e.top + 1) (e.top + 1 - e.first) ≡ v ∷ downwards xs e.top (e.top - e.first) = rw (next, downwards_more (set xs e.top v) e.first e.top (omega (arith, w.here)), get_or-set_same xs e.top v Null h, same) refl in
+    let locals : upwards (set xs e.top v) e.base (e.first - e.base) ≡ upwards xs e.base (e.first - e.base) = sym (upwards_same xs (set xs e.top v) e.first e.base (e.first - e.base) (take_set xs e.first e.top v (omega (arith, w.here))) (omega (arith, w.here))) in
+    let below : map (entry_of (set xs e.top v)) (reverse saved) ≡ map (entry_of xs) (reverse saved) = sym (below_same xs (set xs e.top v) n e.base (reverse saved) (take_set xs e.base e.top v (omega (arith, w.here))) w.below) in
+    rw (more, locals, below) refl
 
 -- a pop
 pub entries-pop : (xs : List Value) (e : Extent) (saved : List Extent) (n : ℕ) (v : Value) → IsStanding n e saved → n ≡ length xs → 0 < length (downwards xs e.top (e.top - e.first)) → v ≡ get_or xs (e.top - 1) v
-  → entries_at xs e saved ≡ with_stack (entries_at xs (record e { top = e.top - 1 }) saved) (v ∷ downwards xs (e.top - 1) (e.top - 1 - e.first))
+    → entries_at xs e saved ≡ with_stack (entries_at xs (record e { top = e.top - 1 }) saved) (v ∷ downwards xs (e.top - 1) (e.top - 1 - e.first))
 entries-pop xs e saved n v w q h r =
-  let some : e.first < e.top = omega (arith, length_downwards xs e.top (e.top - e.first) (omega arith)) in
-  let next : suc (e.top - 1) ≡ e.top = omega arith in
-  let read : v ≡ get_or xs (e.top - 1) Null = get_or_read xs (e.top - 1) v (omega (arith, w.here)) r Null in
-  let step : downwards xs (suc (e.top - 1)) (suc (e.top - 1) - e.first) ≡ get_or xs (e.top - 1) Null ∷ downwards xs (e.top - 1) (e.top - 1 - e.first) = downwards_more xs e.first (e.top - 1) (omega arith) in
-  let more : downwards xs e.top (e.top - e.first) ≡ v ∷ downwards xs (e.top - 1) (e.top - 1 - e.first) = (rw next at step) ∙ ap (λ (x : Value). x ∷ downwards xs (e.top - 1) (e.top - 1 - e.first)) (sym read) in
-  rw more refl
+    let some : e.first < e.top = omega (arith, length_downwards xs e.top (e.top - e.first) (omega arith)) in
+    let next : suc (e.top - 1) ≡ e.top = omega arith in
+    let read : v ≡ get_or xs (e.top - 1) Null = get_or_read xs (e.top - 1) v (omega (arith, w.here)) r Null in
+    let step : downwards xs (suc (e.top - 1)) (suc (e.top - 1) - e.first) ≡ get_or xs (e.top - 1) Null ∷ downwards xs (e.top - 1) (e.top - 1 - e.first) = downwards_more xs e.first (e.top - 1) (omega arith) in
+    let more : downwards xs e.top (e.top - e.first) ≡ v ∷ downwards xs (e.top - 1) (e.top - 1 - e.first) = (rw next at step) ∙ ap (λ (x : Value). x ∷ downwards xs (e.top - 1) (e.top - 1 - e.first)) (sym read) in
+    rw more refl
 
 -- a write of a local
 pub entries-set : (xs : List Value) (e : Extent) (saved : List Extent) (n i : ℕ) (v : Value) → IsStanding n e saved → e.base + i < e.first → n ≡ length xs
-  → entries_at (set xs (e.base + i) v) e saved ≡ with_local (entries_at xs e saved) i v
+    → entries_at (set xs (e.base + i) v) e saved ≡ with_local (entries_at xs e saved) i v
 entries-set xs e saved n i v w h q =
-  let stack : downwards (set xs (e.base + i) v) e.top (e.top - e.first) ≡ downwards xs e.top (e.top - e.first) = downwards_set_below xs (e.base + i) v e.top (e.top - e.first) (omega (arith, w.here)) in
-  let locals : upwards (set xs (e.base + i) v) e.base (e.first - e.base) ≡ set (upwards xs e.base (e.first - e.base)) i v = upwards_set_at xs e.base (e.first - e.base) i (e.base + i) v refl (omega arith) (omega (arith, w.here)) in
-  let below : map (entry_of (set xs (e.base + i) v)) (reverse saved) ≡ map (entry_of xs) (reverse saved) = sym (below_same xs (set xs (e.base + i) v) n e.base (reverse saved) (take_set xs e.base (e.base + i) v (omega arith)) w.below) in
-  rw (stack, locals, below) refl
+    let stack : downwards (set xs (e.base + i) v) e.top (e.top - e.first) ≡ downwards xs e.top (e.top - e.first) = downwards_set_below xs (e.base + i) v e.top (e.top - e.first) (omega (arith, w.here)) in
+    let locals : upwards (set xs (e.base + i) v) e.base (e.first - e.base) ≡ set (upwards xs e.base (e.first - e.base)) i v = upwards_set_at xs e.base (e.first - e.base) i (e.base + i) v refl (omega arith) (omega (arith, w.here)) in
+    let below : map (entry_of (set xs (e.base + i) v)) (reverse saved) ≡ map (entry_of xs) (reverse saved) = sym (below_same xs (set xs (e.base + i) v) n e.base (reverse saved) (take_set xs e.base (e.base + i) v (omega arith)) w.below) in
+    rw (stack, locals, below) refl
 
 -- the top of the operands moves within its limit
 pub standing-move : (n t : ℕ) (e : Extent) (saved : List Extent) → IsStanding n e saved → e.first ≤ t → t ≤ e.first + operand_limit e.kind → IsStanding n (record e { top = t }) saved
 standing-move n t e saved w low high = record {
   here = record { locals = w.here.locals; operands = low; limited = high; room = w.here.room; under = omega (arith, w.here) };
   below = w.below;
-  depth = w.depth }
+  depth = w.depth;
+}
 
 -- a write keeps how many slots there are
 pub standing-set : (xs : List Value) (i : ℕ) (v : Value) (e : Extent) (saved : List Extent) → IsStanding (length xs) e saved → IsStanding (length (set xs i v)) e saved
@@ -118,7 +119,7 @@ standing-push xs i t v e saved w low high = standing-set xs i v (record e { top 
 -- what room for one more operand means in the slots
 pub room_above : (xs : List Value) (e : Extent) (saved : List Extent) (s : Entries) → IsStanding (length xs) e saved → entries_at xs e saved ≡ s → HasRoom 1 s → e.top + 1 ≤ e.first + operand_limit e.kind
 room_above xs e saved s w q h =
-  let room : HasRoom 1 (entries_at xs e saved) = subst (λ (t : Entries). HasRoom 1 t) (sym q) h in
-  omega (arith, room, length_downwards xs e.top (e.top - e.first) (omega arith), w.here)
+    let room : HasRoom 1 (entries_at xs e saved) = subst (λ (t : Entries). HasRoom 1 t) (sym q) h in
+    omega (arith, room, length_downwards xs e.top (e.top - e.first) (omega arith), w.here)
 
 pub ruleset tops = (length_upwards, upwards_get, length_downwards, downwards_get, downwards_none, entries-push, entries-pop, entries-set, standing-move, standing-set, standing-push)

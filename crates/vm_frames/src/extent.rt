@@ -31,8 +31,14 @@ impl Extent {
 
     /// The frame of a method with its locals from `base` up to `first`, at the start of its code and without operands.
     pub fn frame(method: u32, base: usize, first: usize) -> Extent
-        ensures { result ≡ record { kind = EntryKind.InMethod; number = method; pc = 0; base = base;
-            first = first; top = first } }
+        ensures { result ≡ record {
+          kind = EntryKind.InMethod;
+          number = method;
+          pc = 0;
+          base = base;
+          first = first;
+          top = first;
+        } }
     {
         Extent {
             kind: EntryKind::InMethod,
@@ -46,8 +52,14 @@ impl Extent {
 
     /// The initialisation entry of a class.
     pub fn init(class: u32, base: usize) -> Extent
-        ensures { result ≡ record { kind = EntryKind.InClass false; number = class; pc = 0; base = base;
-            first = base; top = base } }
+        ensures { result ≡ record {
+          kind = EntryKind.InClass false;
+          number = class;
+          pc = 0;
+          base = base;
+          first = base;
+          top = base;
+        } }
     {
         Extent {
             kind: EntryKind::InClass { entered: false },

@@ -118,7 +118,7 @@ pub fn frame_of_operands(
     requires within { base ≤ vec_len slots.old }
     ensures made { IfOk result (λ first.
         HasFrame slots.old.items slots.new.items base max_locals
-            (drop from (take base slots.old.items)) first) }
+        (drop from (take base slots.old.items)) first) }
     ensures kept { OnErr result (slots.new.items ≡ slots.old.items) }
 {
     let wanted = base + max_locals as usize + 2 * (base - from) + OPERAND_LIMIT;

@@ -88,7 +88,10 @@ impl FrameStack {
         ensures { result ≡ top_of self.now.top }
     {
         let Extent {
-            kind, number, pc, ..
+            kind,
+            number,
+            pc,
+            ..
         } = self.current;
         match kind {
             EntryKind::Absent => None,
@@ -211,12 +214,7 @@ impl FrameStack {
 
     /// Enters a method with so many of the topmost operands as its arguments, which leave the caller's operands (JVMS
     /// 2.6.1 and 6.5). After a refusal the entries are as before.
-    pub fn enter(
-        &mut self,
-        method: u32,
-        max_locals: u16,
-        arguments: u16,
-    ) -> Result<(), PushFault>
+    pub fn enter(&mut self, method: u32, max_locals: u16, arguments: u16) -> Result<(), PushFault>
         requires { arguments ≤ length self.old.top.stack }
         ensures entered { OnOk result (self.new ≡ called_with max_locals method arguments self.old) }
         ensures deep { (result ≡ Err PushFault.Deep) ↔ (is_full self.old ≡ true) }

@@ -6,4 +6,5 @@ abbrev pub invariant-loop-place : goal.invariant-loop-place
 invariant-loop-place l = record {
   written : take l.to l.slots ≡ take l.base l.initial.slots ++ slots_of (drop l.from (take l.place l.initial.slots));
   start : l.base ≤ l.to;
-  most : l.to ≤ l.base + 2 * (l.place - l.from) }
+  most : l.to ≤ l.base + 2 * (l.place - l.from);
+}
