@@ -1,6 +1,6 @@
 -- One lemma for each combinator of the rows: what it asks, and what comes after it.
 use Rattle.std.proofs.Common.{◌≡◌, ℕ, ℤ, ◌<◌, ◌-◌, List, [], ◌∷◌, length, map, get_or, slice_get, Bool, true, false, ◌||◌, cond, nat_eq, pos, refl, sym, ◌∙◌, ap, subst, inl, inr, arith, Some}
-use Rattle.std.proofs.lemmas.Bool.{cases_Bool, eqb-true}
+use Rattle.std.proofs.lemmas.Bool.{cases_Bool, eqb-true, eqb-false}
 use Rattle.std.proofs.lemmas.List.{length-replicate, get_or-replicate}
 use Rattle.jvm_model.specs.declared.values.Value.{Value}
 use Rattle.jvm_model.specs.declared.values.Value.TheVariants.{Int, Long, Null, Lit, Obj}
@@ -17,10 +17,12 @@ use Rattle.jvm_model.specs.declared.outcome.Next.TheVariants.{Go, Fault}
 use Rattle.jvm_model.specs.declared.program.Program.{Program}
 use Rattle.jvm_model.specs.World.{look}
 use Rattle.jvm_model.specs.Access.{Access, done, read, write, bind}
-use Rattle.jvm_model.specs.Builtin.{null_pointer_exception, no_class_error, stack_overflow_error}
+use Rattle.jvm_model.specs.Builtin.{builtin_count, null_pointer_exception, no_class_error, stack_overflow_error, stream_class, string_class}
 use Rattle.jvm_model.specs.Classes.{field_at, member, is_trivial, layout, default_of, literal_at, next_place, element_default, fields_of, elems_of, blank}
 use Rattle.jvm_model.specs.Entries.{Entries, with_stack, with_place, with_entry, class_entry, is_full}
 use Rattle.jvm_model.specs.Rows.{Answer, popping, on_int, on_long, on_object, on_reference, constant_kind, with_kind, on_text, ready, begun, refused, begun_at, begin, once, using}
+use Rattle.jvm_model.specs.Kinds.{element_kind}
+use Rattle.jvm_model.specs.Linked.{IsKind}
 use Rattle.jvm_model.specs.View.{keys}
 use Rattle.check_sound.specs.Types.{Types, ValueType, int_type, long_type, reference, HasKind, HasType, HasTypes, element_type}
 use Rattle.check_sound.specs.Typed.{IsNew, TypedAccess, typed_done, typed_read, typed_write, Grows, Leaves, AreSound, NoConstant}
@@ -71,8 +73,11 @@ module _ (p : Program) (ty : Types) {S : Type 0} (G : List Head → Next → S �
   on_reference-typed s (Obj o) x h g f = f tt
 
   -- the head of an object that is there
+  pub head_kind-typed : (o : ℕ) (x : Kind) {k : Head → Access (Answer S)} → HasKind ty hs o x → ((h : Head) → slice_get hs o ≡ Some h → ty.fits h.kind x ≡ true → IsKind p h.kind → Row (k h)) → Row (read (place.Head o) k)
+  head_kind-typed o x r f = typed_read (r.0, r.1) (λ h e. let g : r.0 ≡ h = (let y = r.1 in let z = e.0 in cc) in f h e.0 (subst (λ (z : Head). ty.fits z.kind x ≡ true) g r.2) e.1)
+
   pub head-typed : (o : ℕ) (x : Kind) {k : Head → Access (Answer S)} → HasKind ty hs o x → ((h : Head) → slice_get hs o ≡ Some h → ty.fits h.kind x ≡ true → Row (k h)) → Row (read (place.Head o) k)
-  head-typed o x r f = typed_read (r.0, r.1) (λ h e. let g : r.0 ≡ h = (let y = r.1 in cc) in f h e (subst (λ (z : Head). ty.fits z.kind x ≡ true) g r.2))
+  head-typed o x r f = head_kind-typed o x r (λ h e g i. f h e g)
 
   pub with_kind-typed : (v : Value) (x : Kind) {k : Kind → Access (Answer S)} → NonNull v → HasType ty hs (reference x) v → ((y : Kind) → ty.fits y x ≡ true → Row (k y)) → Row (with_kind v k)
   with_kind-typed (Int n) x i h f = absurd i
@@ -116,6 +121,38 @@ module _ (p : Program) (ty : Types) (G : List Head → Next → Entries → Type
 
 -- new objects with default cells
 module _ (p : Program) (ty : Types) (sound : AreSound p ty) where
+  -- a built-in class is one of the program, and so is the kind of each constant
+  pub builtin_kind : (c : ℕ) → c < builtin_count → c < length p.classes
+  builtin_kind c h = let b = sound.builtins in omega arith
+
+  pub constant_is_kind : (n : ℕ) → IsKind p (constant_kind n)
+  constant_is_kind n = either (nat_eq n 0)
+    where
+      either : (b : Bool) → cond b stream_class string_class < length p.classes
+      either true = builtin_kind stream_class (omega arith)
+      either false = builtin_kind string_class (omega arith)
+
+  nested_twice : (d : ℕ) (t : ValueType) (k l : Kind) → (t ≡ reference l → ⊥) → cond (nat_eq d 1) t (reference k) ≡ reference l → 0 < d → 1 < d
+  nested_twice d t k l n e h = elim (cases_Bool (nat_eq d 1)) [
+    | inl b ↦ absurd (n (subst (λ (c : Bool). cond c t (reference k) ≡ reference l) b e))
+    | inr b ↦ let g = eqb-false d 1 b in omega arith
+  ]
+
+  -- what an array of references holds is of a kind of the program
+  pub element_is_kind : (k : Kind) → IsKind p k → element_type k ≡ reference (element_kind k) → IsKind p (element_kind k)
+  element_is_kind (kind.Class c) i e = i
+  element_is_kind (kind.Array d (base.Class c)) i e = of_class (nat_eq d 1) refl
+    where
+      of_class : (b : Bool) → nat_eq d 1 ≡ b → IsKind p (cond b (kind.Class c) (kind.Array (d - 1) (base.Class c)))
+      of_class true g = i.2
+      of_class false g = let n = eqb-false d 1 g in let lo = i.0 in let hi = i.1 in (omega arith, omega arith, i.2)
+  element_is_kind (kind.Array d base.Boolean) i e = let h = nested_twice d int_type _ _ (λ q. absurd (cc)) e i.0 in let hi = i.1 in (omega arith, omega arith, tt)
+  element_is_kind (kind.Array d base.Byte) i e = let h = nested_twice d int_type _ _ (λ q. absurd (cc)) e i.0 in let hi = i.1 in (omega arith, omega arith, tt)
+  element_is_kind (kind.Array d base.Char) i e = let h = nested_twice d int_type _ _ (λ q. absurd (cc)) e i.0 in let hi = i.1 in (omega arith, omega arith, tt)
+  element_is_kind (kind.Array d base.Short) i e = let h = nested_twice d int_type _ _ (λ q. absurd (cc)) e i.0 in let hi = i.1 in (omega arith, omega arith, tt)
+  element_is_kind (kind.Array d base.Int) i e = let h = nested_twice d int_type _ _ (λ q. absurd (cc)) e i.0 in let hi = i.1 in (omega arith, omega arith, tt)
+  element_is_kind (kind.Array d base.Long) i e = let h = nested_twice d long_type _ _ (λ q. absurd (cc)) e i.0 in let hi = i.1 in (omega arith, omega arith, tt)
+
   from_none : (hs : List Head) → Grows [] hs
   from_none hs o h e = absurd (cc)
 
@@ -147,9 +184,10 @@ module _ (p : Program) (ty : Types) (sound : AreSound p ty) where
   element-default hs d base.Long = type_cond hs (nat_eq d 1) long_type (reference (kind.Array (d - 1) base.Long)) (Long (pos 0)) Null tt tt
   element-default hs d (base.Class c) = type_cond hs (nat_eq d 1) (reference (kind.Class c)) (reference (kind.Array (d - 1) (base.Class c))) Null Null tt tt
 
-  pub blank-new : (hs : List Head) (h : Head) → IsNew p ty hs (blank p h)
+  pub blank-new : (hs : List Head) (h : Head) → IsKind p h.kind → IsNew p ty hs (blank p h)
   unfolding blank
-  blank-new hs h = record {
+  blank-new hs h i = record {
+    is_kind = i;
     fields = λ c f e i. let r = celled (layout p c) f i in (
       subst (λ (k : Kind). member f (keys (fields_of p k)) ≡ true) (sym e) r.there,
       subst (λ (k : Kind). HasType ty hs (ty.declared (field_at p f).descriptor) (look nat_eq Null (fields_of p k) f)) (sym e)

@@ -1,5 +1,5 @@
 -- Typing lemmas for a step that throws by itself, and for the driver.
-use Rattle.std.proofs.Common.{◌≡◌, ℕ, ◌<◌, List, [], ◌∷◌, ◌++◌, length, Bool, true, false, cond, refl, sym, subst, Option, Some, None}
+use Rattle.std.proofs.Common.{◌≡◌, ℕ, ◌<◌, List, [], ◌∷◌, ◌++◌, length, Bool, true, false, cond, refl, sym, subst, Option, Some, None, arith}
 use Rattle.jvm_model.specs.declared.values.Value.{Value}
 use Rattle.jvm_model.specs.declared.values.Value.TheVariants.{Int, Long, Null, Lit, Obj}
 use Rattle.jvm_model.specs.declared.values.Kind.{Kind}
@@ -25,16 +25,16 @@ use Rattle.jvm_model.specs.Driver.{set_up_name, tear_down_name, plain_method_in,
 use Rattle.check_sound.specs.Types.{Types, ValueType, reference, HasKind, HasType}
 use Rattle.check_sound.specs.Typed.{IsPlace, TypedAccess, typed_done, typed_read, typed_write, typed_make, typed_spend, Turns, AreSound}
 use Rattle.check_sound.proofs.Worlds.{newest_head}
-use Rattle.check_sound.proofs.Combinators.{blank-new}
+use Rattle.check_sound.proofs.Combinators.{builtin_kind, blank-new}
 
 module _ (p : Program) (ty : Types) (sound : AreSound p ty) (G : List Head → State → Type 0) (hs : List Head) where
   abbrev pub Step : Access Turn → Type 0
   Step t = TypedAccess p ty (Turns G) hs t
 
   -- a step that throws by itself
-  pub throws-typed : (c : ℕ) (s : State) → (HasKind ty (hs ++ (instance_head c ∷ [])) (length hs) (kind.Class c) → G (hs ++ (instance_head c ∷ [])) (raise (Obj (length hs)) s)) → Step (throws p c s)
+  pub throws-typed : (c : ℕ) (s : State) → c < length p.classes → (HasKind ty (hs ++ (instance_head c ∷ [])) (length hs) (kind.Class c) → G (hs ++ (instance_head c ∷ [])) (raise (Obj (length hs)) s)) → Step (throws p c s)
   unfolding throws blank
-  throws-typed c s f = typed_spend (typed_make (blank-new p ty sound hs (instance_head c)) (typed_done (f (instance_head c, newest_head hs (instance_head c), sound.itself (kind.Class c)))))
+  throws-typed c s i f = typed_spend (typed_make (blank-new p ty sound hs (instance_head c) i) (typed_done (f (instance_head c, newest_head hs (instance_head c), sound.itself (kind.Class c) i))))
 
   either_ended : (b : Bool) (v w : Verdict) (out : List ℕ) → Turns G hs (cond b (ended v out) (ended w out))
   either_ended true v w out = tt
@@ -62,7 +62,7 @@ module _ (p : Program) (ty : Types) (sound : AreSound p ty) (G : List Head → S
   -- a method is called by the driver: one with code is entered, one without throws
   driven-typed : (b : Option Body) (m : ℕ) (args : List Value) (after : Stage) (s : State) → ((x : Body) → b ≡ Some x → G hs (record s { stage = after; entries = with_entry (frame_of x m args) s.entries })) →
       Thrown abstract_method_error (record s { stage = after }) → Step (driven p b m args after s)
-  driven-typed None m args after s enter out = throws-typed abstract_method_error _ out
+  driven-typed None m args after s enter out = throws-typed abstract_method_error _ (builtin_kind p ty sound abstract_method_error (omega arith)) out
   driven-typed (Some x) m args after s enter out = typed_spend (typed_done (enter x refl))
 
   pub drives-typed : (m : ℕ) (args : List Value) (after : Stage) (s : State) → ((x : Body) → (method_at p m).body ≡ Some x → G hs (record s { stage = after; entries = with_entry (frame_of x m args) s.entries })) →
@@ -73,14 +73,14 @@ module _ (p : Program) (ty : Types) (sound : AreSound p ty) (G : List Head → S
   -- the driver's use of a class
   module _ (c : ℕ) (s : State) (h : c < length p.classes) (begin_it : G hs (with_entries s (with_entry (class_entry c) s.entries))) (out : (d : ℕ) → Thrown d s) where
     full_use : (b : Bool) (k : Access Turn) → Step (bind (cond b (done (refused stack_overflow_error)) (write (place.Init c) Running (done (begun (with_entry (class_entry c) s.entries))))) (once_driven p s k))
-    full_use true k = throws-typed stack_overflow_error s (out stack_overflow_error)
+    full_use true k = throws-typed stack_overflow_error s (builtin_kind p ty sound stack_overflow_error (omega arith)) (out stack_overflow_error)
     full_use false k = typed_write h tt (typed_done begin_it)
 
     use_at : (x : InitState) {k : Access Turn} → Step k → Step (bind (begun_at c s.entries x) (once_driven p s k))
     use_at Idle {k} f = full_use (is_full s.entries) k
     use_at Running f = f
     use_at Done f = f
-    use_at Erroneous f = throws-typed no_class_error s (out no_class_error)
+    use_at Erroneous f = throws-typed no_class_error s (builtin_kind p ty sound no_class_error (omega arith)) (out no_class_error)
 
     use_or : (b : Bool) {k : Access Turn} → Step k → Step (bind (cond b (done ready) (read (place.Init c) (begun_at c s.entries))) (once_driven p s k))
     use_or true f = f
@@ -91,9 +91,9 @@ module _ (p : Program) (ty : Types) (sound : AreSound p ty) (G : List Head → S
     use-typed f = use_or (is_trivial p c) f
 
   -- the object is made
-  pub makes-typed : (c : ℕ) (s : State) → (HasKind ty (hs ++ (instance_head c ∷ [])) (length hs) (kind.Class c) → G (hs ++ (instance_head c ∷ [])) (record s { stage = Made (length hs) })) → Step (makes p c s)
+  pub makes-typed : (c : ℕ) (s : State) → c < length p.classes → (HasKind ty (hs ++ (instance_head c ∷ [])) (length hs) (kind.Class c) → G (hs ++ (instance_head c ∷ [])) (record s { stage = Made (length hs) })) → Step (makes p c s)
   unfolding blank
-  makes-typed c s f = typed_spend (typed_make (blank-new p ty sound hs (instance_head c)) (typed_done (f (instance_head c, newest_head hs (instance_head c), sound.itself (kind.Class c)))))
+  makes-typed c s i f = typed_spend (typed_make (blank-new p ty sound hs (instance_head c) i) (typed_done (f (instance_head c, newest_head hs (instance_head c), sound.itself (kind.Class c) i))))
 
   -- `<init>`, which there is
   pub init-typed : (o m : ℕ) (s : State) → plain_method_in p init_name (class_at p (test_at p s.test).class).methods ≡ Some m → Step (drives p m (Obj o ∷ []) (Built o) s) → Step (drive_init p o s)

@@ -1,6 +1,6 @@
 -- Every built-in method over operands of its types is typed, and answers what its types say.
 use Rattle.std.specs.Str.{bytes_eq}
-use Rattle.std.proofs.Common.{◌≡◌, ℕ, ℤ, ◌-◌, List, [], ◌∷◌, ◌++◌, length, take, drop, true, false, ◌&&◌, nat_eq, nat_lt, nat_le, pos, negsuc, refl, sym, ap, subst, Option, Some, None}
+use Rattle.std.proofs.Common.{◌≡◌, ℕ, ℤ, ◌-◌, List, [], ◌∷◌, ◌++◌, length, take, drop, true, false, ◌&&◌, nat_eq, nat_lt, nat_le, pos, negsuc, refl, sym, ap, subst, Option, Some, None, arith, ◌<◌}
 use Rattle.std.specs.Prelude.{codes}
 use Rattle.std.specs.Fmt.{signed_decimal}
 use Rattle.std.proofs.lemmas.Bool.{eqb-true}
@@ -34,7 +34,7 @@ use Rattle.check_sound.specs.Types.{Types, ValueType, int_type, long_type, refer
 use Rattle.check_sound.specs.Typed.{IsPlace, typed_done, typed_read, typed_write, typed_make, typed_spend, Grows, AreSound}
 use Rattle.check_sound.specs.NativeTypes.{object_type, string_type, builder_type, stream_type, throwable_type, HasLibrary, takes, gives}
 use Rattle.check_sound.proofs.Worlds.{grows_one, newest_head}
-use Rattle.check_sound.proofs.Combinators.{gone_on, Row, popping-typed, on_int-typed, on_long-typed, on_object-typed, on_reference-typed, head-typed, on_text-typed, choose-typed, blank-new}
+use Rattle.check_sound.proofs.Combinators.{gone_on, Row, popping-typed, on_int-typed, on_long-typed, on_object-typed, on_reference-typed, head-typed, on_text-typed, choose-typed, builtin_kind, blank-new}
 use Rattle.check_sound.proofs.Rows.{types_grow}
 
 string_kind : (k : Kind) → nat_eq (class_of k) string_class ≡ true → k ≡ kind.Class string_class
@@ -58,13 +58,16 @@ module _ (p : Program) (ty : Types) (sound : AreSound p ty) (lib : HasLibrary p 
   string_head : Head
   string_head = instance_head string_class
 
+  string_is : string_class < length p.classes
+  string_is = builtin_kind p ty sound string_class (omega arith)
+
   new_string : HasType ty (hs ++ (instance_head string_class ∷ [])) string_type (Obj (length hs))
-  new_string = (instance_head string_class, newest_head hs (instance_head string_class), sound.itself (kind.Class string_class))
+  new_string = (instance_head string_class, newest_head hs (instance_head string_class), sound.itself (kind.Class string_class) string_is)
 
   -- a new String is answered
   text : (n : ℕ) (t : List ℕ) (vs : List Value) → HasTypes ty hs ts vs → Gives (string_type ∷ []) → R (answers_text p s vs n t)
   unfolding blank
-  text n t vs h go = typed_spend (typed_make (blank-new p ty sound hs (instance_head string_class)) (typed_write (instance_head string_class, newest_head hs (instance_head string_class)) tt
+  text n t vs h go = typed_spend (typed_make (blank-new p ty sound hs (instance_head string_class) string_is) (typed_write (instance_head string_class, newest_head hs (instance_head string_class)) tt
       (typed_done (go (hs ++ (instance_head string_class ∷ [])) (grows_one hs (instance_head string_class)) s.own (Obj (length hs) ∷ vs) (new_string, types_grow ty hs (hs ++ (instance_head string_class ∷ [])) (grows_one hs (instance_head string_class)) ts vs h)))))
 
   found : (n : ℕ) (o : Option (List ℕ)) (vs : List Value) → HasTypes ty hs ts vs → Gives (string_type ∷ []) → R (answers_found p s vs n o)
@@ -87,7 +90,7 @@ module _ (p : Program) (ty : Types) (sound : AreSound p ty) (lib : HasLibrary p 
   makes : (t : List ℕ) (r : Value) (vs : List Value) → HasType ty hs throwable_type r → HasTypes ty hs ts vs → Gives [] → Faults → R (makes_message p s vs r t)
   unfolding blank
   makes t r vs e h go fault = on_object-typed p ty G hs (with_operands s vs) r (kind.Class throwable_class) e lib.no_throwable (fault null_pointer_exception vs) (λ o x.
-      typed_spend (typed_make (blank-new p ty sound hs (instance_head string_class)) (typed_write (instance_head string_class, newest_head hs (instance_head string_class)) tt
+      typed_spend (typed_make (blank-new p ty sound hs (instance_head string_class) string_is) (typed_write (instance_head string_class, newest_head hs (instance_head string_class)) tt
       (let g = grows_one hs (instance_head string_class) in let m = message_at o x in
       typed_write (m.0, m.1, g o m.0 m.2, m.3, m.4) (subst (λ (t : ValueType). HasType ty (hs ++ (instance_head string_class ∷ [])) t (Obj (length hs))) (sym lib.message_type) new_string)
       (typed_done (go (hs ++ (instance_head string_class ∷ [])) g s.own vs (types_grow ty hs (hs ++ (instance_head string_class ∷ [])) g ts vs h)))))))
@@ -101,8 +104,8 @@ module _ (p : Program) (ty : Types) (sound : AreSound p ty) (lib : HasLibrary p 
   keeps_any r (Int n) vs e g h go fault = absurd g
   keeps_any r (Long n) vs e g h go fault = absurd g
   keeps_any r Null vs e g h go fault = makes (codes "null") r vs e h go fault
-  keeps_any r (Lit n) vs e g h go fault = keeps (constant_kind n) r (Lit n) vs e (λ q. subst (λ (k : Kind). ty.fits k (kind.Class string_class) ≡ true) (sym q) (sound.itself (kind.Class string_class))) h go fault
-  keeps_any r (Obj o) vs e g h go fault = head-typed p ty G hs o _ g (λ z w f. keeps z.kind r (Obj o) vs e (λ q. (z, w, subst (λ (k : Kind). ty.fits k (kind.Class string_class) ≡ true) (sym q) (sound.itself (kind.Class string_class)))) h go fault)
+  keeps_any r (Lit n) vs e g h go fault = keeps (constant_kind n) r (Lit n) vs e (λ q. subst (λ (k : Kind). ty.fits k (kind.Class string_class) ≡ true) (sym q) (sound.itself (kind.Class string_class) string_is)) h go fault
+  keeps_any r (Obj o) vs e g h go fault = head-typed p ty G hs o _ g (λ z w f. keeps z.kind r (Obj o) vs e (λ q. (z, w, subst (λ (k : Kind). ty.fits k (kind.Class string_class) ≡ true) (sym q) (sound.itself (kind.Class string_class) string_is))) h go fault)
 
   -- String
   index : (i : ℤ) (n : ℕ) (vs : List Value) {f : ℕ → Access (Answer Working)} → Faults → ((k : ℕ) → R (f k)) → R (text_index (with_operands s vs) i n f)
@@ -132,7 +135,7 @@ module _ (p : Program) (ty : Types) (sound : AreSound p ty) (lib : HasLibrary p 
   changes : (name : List ℕ) (n : ℕ) (x y : Option (List ℕ)) (vs : List Value) → HasTypes ty hs ts vs → Gives (string_type ∷ []) → R (changes_property p s vs name n x y)
   unfolding blank
   changes name n x None vs h go = typed_spend (typed_write tt tt (typed_done (go hs here s.own (Null ∷ vs) (tt, h))))
-  changes name n x (Some t) vs h go = typed_spend (typed_write tt tt (typed_make (blank-new p ty sound hs (instance_head string_class)) (typed_write (instance_head string_class, newest_head hs (instance_head string_class)) tt
+  changes name n x (Some t) vs h go = typed_spend (typed_write tt tt (typed_make (blank-new p ty sound hs (instance_head string_class) string_is) (typed_write (instance_head string_class, newest_head hs (instance_head string_class)) tt
       (typed_done (go (hs ++ (instance_head string_class ∷ [])) (grows_one hs (instance_head string_class)) s.own (Obj (length hs) ∷ vs) (new_string, types_grow ty hs (hs ++ (instance_head string_class ∷ [])) (grows_one hs (instance_head string_class)) ts vs h))))))
 
   prints_text : (end : List ℕ) (v : Value) (vs : List Value) → HasType ty hs string_type v → HasTypes ty hs ts vs → Gives [] → R (prints_string p s vs end v)

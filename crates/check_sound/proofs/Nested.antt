@@ -16,11 +16,12 @@ use Rattle.jvm_model.specs.Classes.{blank}
 use Rattle.jvm_model.specs.Entries.{Entries, with_stack}
 use Rattle.jvm_model.specs.Kinds.{element_kind}
 use Rattle.jvm_model.specs.RowsCreate.{array_head, children, nest, nested, sized, row_create}
+use Rattle.jvm_model.specs.Linked.{IsKind}
 use Rattle.check_sound.specs.Types.{Types, ValueType, int_type, reference, HasKind, HasType, HasTypes, element_type}
 use Rattle.check_sound.specs.Typed.{TypedAccess, typed_done, typed_write, typed_make, typed_spend, Grows, Leaves, AreSound}
 use Rattle.check_sound.proofs.Worlds.{newest_head}
 use Rattle.check_sound.proofs.Runs.{typed_bind}
-use Rattle.check_sound.proofs.Combinators.{gone_on, Row, popping-typed, on_int-typed, choose-typed, blank-new}
+use Rattle.check_sound.proofs.Combinators.{gone_on, Row, popping-typed, on_int-typed, choose-typed, element_is_kind, blank-new}
 use Rattle.check_sound.proofs.Rows.{types_grow}
 
 -- the kind has arrays of references down to these sizes
@@ -33,32 +34,32 @@ module _ (p : Program) (ty : Types) (sound : AreSound p ty) where
   abbrev pub Makes : List Head → Kind → Access ℕ → Type 0
   Makes hs k t = TypedAccess p ty (λ is o. HasKind ty is o k) hs t
 
-  children-typed : (n i o : ℕ) (h : Head) (d : ℕ) (b : Base) (one : Access ℕ) → h.kind ≡ kind.Array d b → element_type h.kind ≡ reference (element_kind h.kind) → ((is : List Head) → Makes is (element_kind h.kind) one) → i + n ≤ h.length →
+  children-typed : (n i o : ℕ) (h : Head) (d : ℕ) (b : Base) (one : Access ℕ) → h.kind ≡ kind.Array d b → element_type h.kind ≡ reference (element_kind h.kind) → ((is : List Head) → Makes is (element_kind h.kind) one) → i + n ≤ h.length → IsKind p h.kind →
       (hs : List Head) → slice_get hs o ≡ Some h → Makes hs h.kind (children n i o one)
   unfolding children
-  children-typed zero i o h d b one e t f lt hs there = typed_done (h, there, sound.itself h.kind)
-  children-typed (suc n) i o h d b one e t f lt hs there = typed_bind p ty _ _ one _ hs (f hs) (λ is q g x.
+  children-typed zero i o h d b one e t f lt j hs there = typed_done (h, there, sound.itself h.kind j)
+  children-typed (suc n) i o h d b one e t f lt j hs there = typed_bind p ty _ _ one _ hs (f hs) (λ is q g x.
       typed_write (h, d, b, g o h there, e, omega arith) (h, g o h there, subst (λ (y : ValueType). HasType ty is y (Obj q)) (sym t) x)
-      (children-typed n (i + 1) o h d b one e t f (omega arith) is (g o h there)))
+      (children-typed n (i + 1) o h d b one e t f (omega arith) j is (g o h there)))
 
-  pub nest-typed : (ms : List ℕ) (n : ℕ) (k : Kind) → IsNested k ms → (hs : List Head) → Makes hs k (nest p k n ms)
+  pub nest-typed : (ms : List ℕ) (n : ℕ) (k : Kind) → IsKind p k → IsNested k ms → (hs : List Head) → Makes hs k (nest p k n ms)
   unfolding nest blank
-  nest-typed [] n k i hs = typed_make (blank-new p ty sound hs (array_head k n)) (typed_done (array_head k n, newest_head hs (array_head k n), sound.itself k))
-  nest-typed (m ∷ ms) n k (inner_size d b m' e t i) hs = typed_make (blank-new p ty sound hs (array_head k n))
-      (children-typed n 0 (length hs) (array_head k n) d b (nest p (element_kind k) m ms) e t (λ is. nest-typed ms m (element_kind k) i is) (omega arith) (hs ++ (array_head k n ∷ [])) (newest_head hs (array_head k n)))
+  nest-typed [] n k j i hs = typed_make (blank-new p ty sound hs (array_head k n) j) (typed_done (array_head k n, newest_head hs (array_head k n), sound.itself k j))
+  nest-typed (m ∷ ms) n k j (inner_size d b m' e t i) hs = typed_make (blank-new p ty sound hs (array_head k n) j)
+      (children-typed n 0 (length hs) (array_head k n) d b (nest p (element_kind k) m ms) e t (λ is. nest-typed ms m (element_kind k) (element_is_kind p ty sound k j t) i is) (omega arith) j (hs ++ (array_head k n ∷ [])) (newest_head hs (array_head k n)))
 
 -- so many ints above the other operands
 abbrev pub sizes : ℕ → List ValueType → List ValueType
 sizes zero ts = ts
 sizes (suc d) ts = int_type ∷ sizes d ts
 
-module _ (p : Program) (ty : Types) (sound : AreSound p ty) (G : List Head → Next → Entries → Type 0) (hs : List Head) (s : Entries) (k : Kind) (ts : List ValueType) (dims : ℕ) (some : 0 < dims)
+module _ (p : Program) (ty : Types) (sound : AreSound p ty) (G : List Head → Next → Entries → Type 0) (hs : List Head) (s : Entries) (k : Kind) (ts : List ValueType) (dims : ℕ) (some : 0 < dims) (is_kind : IsKind p k)
     (shape : (ms : List ℕ) → suc (length ms) ≡ dims → IsNested k ms)
     (go : (is : List Head) → Grows hs is → (vs : List Value) → HasTypes ty is (reference k ∷ ts) vs → G is Go (gone_on p s vs))
     (throw : (vs : List Value) → HasTypes ty hs ts vs → G hs (Fault negative_size_exception) (with_stack s vs)) where
   nested-typed : (ns : List ℕ) (vs : List Value) → length ns ≡ dims → HasTypes ty hs ts vs → Row p ty G hs (nested p k s vs ns)
   nested-typed [] vs e h = absurd (omega arith)
-  nested-typed (n ∷ ms) vs e h = typed_spend (typed_bind p ty (λ is o. HasKind ty is o k) (Leaves G) (nest p k n ms) _ hs (nest-typed p ty sound ms n k (shape ms e) hs)
+  nested-typed (n ∷ ms) vs e h = typed_spend (typed_bind p ty (λ is o. HasKind ty is o k) (Leaves G) (nest p k n ms) _ hs (nest-typed p ty sound ms n k is_kind (shape ms e) hs)
       (λ is o g x. typed_done (go is g (Obj o ∷ vs) (x, types_grow ty hs is g ts vs h))))
 
   at_size : (d : ℕ) (vs : List Value) (bad : Bool) (ns : List ℕ) (i : ℤ) → ((b : Bool) (ms : List ℕ) → (b ≡ false → (bad ≡ false) × (length ms ≡ suc (length ns))) → Row p ty G hs (sized p k s d vs b ms)) →

@@ -1,5 +1,5 @@
 -- Typing lemmas for the other rows with touches: array stores and lengths, instanceof, and calls on a receiver.
-use Rattle.std.proofs.Common.{◌≡◌, ℕ, ℤ, ◌<◌, List, [], ◌∷◌, slice_get, true, false, cond, nat_lt, pos, negsuc, refl, sym, subst, Option, Some, None}
+use Rattle.std.proofs.Common.{◌≡◌, ℕ, ℤ, ◌<◌, List, [], ◌∷◌, slice_get, true, false, cond, nat_lt, pos, negsuc, refl, sym, subst, Option, Some, None, arith, length}
 use Rattle.std.proofs.lemmas.Bool.{ltb-true}
 use Rattle.jvm_model.specs.declared.values.Value.{Value}
 use Rattle.jvm_model.specs.declared.values.Value.TheVariants.{Int, Long, Null, Lit, Obj}
@@ -23,9 +23,10 @@ use Rattle.jvm_model.specs.RowsArrays.{on_array, in_range, element_letter, holds
 use Rattle.jvm_model.specs.RowsCasts.{tested, row_casts}
 use Rattle.jvm_model.specs.Selection.{Selected, chosen, failing}
 use Rattle.jvm_model.specs.RowsCalls.{calls, calls_selected, on_receiver, receiver, call_virtual, call_interface, call_special, row_calls}
+use Rattle.jvm_model.specs.Linked.{IsKind}
 use Rattle.check_sound.specs.Types.{Types, ValueType, int_type, reference, HasType, HasTypes, element_type}
 use Rattle.check_sound.specs.Typed.{typed_done, typed_write, AreSound, NoConstant}
-use Rattle.check_sound.proofs.Combinators.{NonNull, gone_on, Row, popping-typed, on_int-typed, on_object-typed, on_reference-typed, head-typed, with_kind-typed, choose-typed}
+use Rattle.check_sound.proofs.Combinators.{NonNull, gone_on, Row, popping-typed, on_int-typed, on_object-typed, on_reference-typed, head_kind-typed, head-typed, with_kind-typed, choose-typed, constant_is_kind, element_is_kind}
 use Rattle.check_sound.proofs.Rows.{narrowed_keeps}
 
 module _ (p : Program) (ty : Types) (sound : AreSound p ty) (G : List Head → Next → Entries → Type 0) (hs : List Head) (s : Entries) where
@@ -63,23 +64,23 @@ module _ (p : Program) (ty : Types) (sound : AreSound p ty) (G : List Head → N
       (λ d. put_at o b z (narrow (element_letter z.kind) v) ts xs w a.0 lt (narrowed_keeps ty hs (element_type z.kind) (element_letter z.kind ∷ []) v (a.1 v e)) x go)))))))))
 
   -- references: null is stored, and what passes the test of its kind
-  passes : (x k : Kind) (v : Value) (ts : List ValueType) (vs : List Value) {t : Access (Answer Entries)} → (ty.fits x (element_kind k) ≡ true → R t) → HasTypes ty hs ts vs → Throws array_store_exception ts →
+  passes : (x k : Kind) (v : Value) (ts : List ValueType) (vs : List Value) {t : Access (Answer Entries)} → IsKind p x → IsKind p (element_kind k) → (ty.fits x (element_kind k) ≡ true → R t) → HasTypes ty hs ts vs → Throws array_store_exception ts →
       R (cond (kind_fits p x (element_kind k)) t (done (answer (Fault array_store_exception) (with_stack s vs))))
-  passes x k v ts vs f q bad = choose-typed p ty G hs (kind_fits p x (element_kind k)) (λ e. f (sound.tested x (element_kind k) e)) (λ e. typed_done (bad vs q))
+  passes x k v ts vs i j f q bad = choose-typed p ty G hs (kind_fits p x (element_kind k)) (λ e. f (sound.tested x (element_kind k) i j e)) (λ e. typed_done (bad vs q))
 
-  checked-typed : (k l : Kind) (v : Value) (ts : List ValueType) (vs : List Value) {t : Access (Answer Entries)} → HasType ty hs (reference l) v → (HasType ty hs (reference (element_kind k)) v → R t) → HasTypes ty hs ts vs → Throws array_store_exception ts → R (checked p k (with_stack s vs) v t)
-  checked-typed k l (Int n) ts vs e f q bad = absurd e
-  checked-typed k l (Long n) ts vs e f q bad = absurd e
-  checked-typed k l Null ts vs e f q bad = f tt
-  checked-typed k l (Lit n) ts vs e f q bad = passes (constant_kind n) k (Lit n) ts vs f q bad
-  checked-typed k l (Obj o) ts vs e f q bad = head-typed p ty G hs o l e (λ z w g. passes z.kind k (Obj o) ts vs (λ y. f (z, w, y)) q bad)
+  checked-typed : (k l : Kind) (v : Value) (ts : List ValueType) (vs : List Value) {t : Access (Answer Entries)} → IsKind p (element_kind k) → HasType ty hs (reference l) v → (HasType ty hs (reference (element_kind k)) v → R t) → HasTypes ty hs ts vs → Throws array_store_exception ts → R (checked p k (with_stack s vs) v t)
+  checked-typed k l (Int n) ts vs j e f q bad = absurd e
+  checked-typed k l (Long n) ts vs j e f q bad = absurd e
+  checked-typed k l Null ts vs j e f q bad = f tt
+  checked-typed k l (Lit n) ts vs j e f q bad = passes (constant_kind n) k (Lit n) ts vs (constant_is_kind p ty sound n) j f q bad
+  checked-typed k l (Obj o) ts vs j e f q bad = head_kind-typed p ty G hs o l e (λ z w g i. passes z.kind k (Obj o) ts vs i j (λ y. f (z, w, y)) q bad)
 
   pub store_reference-typed : (c : Cell) (k l : Kind) (ts : List ValueType) → holds_references c ≡ true → NoConstant ty k → ((h : Head) → ty.fits h.kind k ≡ true → IsArrayHead h × (element_type h.kind ≡ reference (element_kind h.kind))) →
       HasTypes ty hs (reference l ∷ int_type ∷ reference k ∷ ts) s.top.stack → Goes ts → Throws null_pointer_exception ts → Throws array_index_exception ts → Throws array_store_exception ts → R (row_arrays p (form.ArrayStore c) s)
   unfolding row_arrays
   store_reference-typed c k l ts n nc m h go null out bad = popping-typed p ty G hs (reference l) (int_type ∷ reference k ∷ ts) s.top.stack h (λ v vs e q. popping-typed p ty G hs int_type (reference k ∷ ts) vs q (λ j ws f u. popping-typed p ty G hs (reference k) ts ws u (λ r xs g x. on_int-typed p ty G hs j f (λ i.
-      on_object-typed p ty G hs (with_stack s xs) r k g nc (null xs x) (λ o y. head-typed p ty G hs o k y (λ z w d. let a = m z d in on_array-typed z a.0 (at_index z ts xs i x out (λ b lt. choose-typed p ty G hs (holds_references c)
-      (λ _. checked-typed z.kind l v ts xs e (λ t. put_at o b z v ts xs w a.0 lt (subst (λ (y : ValueType). HasType ty hs y v) (sym a.1) t) x go) x bad) (λ d. absurd (cc))))))))))
+      on_object-typed p ty G hs (with_stack s xs) r k g nc (null xs x) (λ o y. head_kind-typed p ty G hs o k y (λ z w d is_kind. let a = m z d in on_array-typed z a.0 (at_index z ts xs i x out (λ b lt. choose-typed p ty G hs (holds_references c)
+      (λ _. checked-typed z.kind l v ts xs (element_is_kind p ty sound z.kind is_kind a.1) e (λ t. put_at o b z v ts xs w a.0 lt (subst (λ (y : ValueType). HasType ty hs y v) (sym a.1) t) x go) x bad) (λ d. absurd (cc))))))))))
 
   pub array_length-typed : (k : Kind) (ts : List ValueType) → NoConstant ty k → ((h : Head) → ty.fits h.kind k ≡ true → IsArrayHead h) → HasTypes ty hs (reference k ∷ ts) s.top.stack → Goes (int_type ∷ ts) → Throws null_pointer_exception ts → R (row_arrays p form.ArrayLength s)
   unfolding row_arrays

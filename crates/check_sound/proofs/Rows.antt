@@ -1,6 +1,6 @@
 -- A typing lemma for one row of each group: what it asks of the operands, and what comes after it. Which states are good is
 -- the user's to say (G).
-use Rattle.std.proofs.Common.{◌≡◌, ℕ, ℤ, ◌<◌, ◌+◌, List, [], ◌∷◌, ◌++◌, length, slice_get, Bool, true, false, ◌&&◌, not, cond, nat_lt, nat_le, pos, negsuc, refl, sym, subst, Option, Some, None}
+use Rattle.std.proofs.Common.{◌≡◌, ℕ, ℤ, ◌<◌, ◌+◌, List, [], ◌∷◌, ◌++◌, length, slice_get, Bool, true, false, ◌&&◌, not, cond, nat_lt, nat_le, pos, negsuc, refl, sym, subst, Option, Some, None, arith}
 use Rattle.std.specs.Ordering.{int_eq}
 use Rattle.std.proofs.lemmas.Bool.{ltb-true}
 use Rattle.jvm_model.specs.declared.values.Value.{Value}
@@ -43,10 +43,11 @@ use Rattle.jvm_model.specs.RowsReturn.{hands_on, row_return}
 use Rattle.jvm_model.specs.Step.{row_throw}
 use Rattle.jvm_model.specs.Raising.{handler_for, handled, row_raise}
 use Rattle.jvm_model.specs.Initialise.{Part, starts, looked_at, looks, was_entered, row_fail}
+use Rattle.jvm_model.specs.Linked.{IsKind}
 use Rattle.check_sound.specs.Types.{Types, ValueType, int_type, long_type, reference, HasKind, HasType, HasTypes, element_type}
 use Rattle.check_sound.specs.Typed.{IsPlace, typed_done, typed_read, typed_write, typed_make, typed_spend, Grows, AreSound, NoConstant}
 use Rattle.check_sound.proofs.Worlds.{type_grows, grows_one, newest_head}
-use Rattle.check_sound.proofs.Combinators.{gone_on, Row, popping-typed, on_int-typed, on_object-typed, head-typed, with_kind-typed, choose-typed, using-typed, blank-new}
+use Rattle.check_sound.proofs.Combinators.{gone_on, Row, popping-typed, on_int-typed, on_object-typed, head_kind-typed, head-typed, with_kind-typed, choose-typed, using-typed, builtin_kind, constant_is_kind, blank-new}
 
 pub types_grow : (ty : Types) (hs is : List Head) → Grows hs is → (ts : List ValueType) (vs : List Value) → HasTypes ty hs ts vs → HasTypes ty is ts vs
 types_grow ty hs is g [] [] h = tt
@@ -127,22 +128,22 @@ module _ (p : Program) (ty : Types) (sound : AreSound p ty) (G : List Head → N
       typed_write (field_place k f o m x) (narrowed_keeps ty hs _ (field_at p f).descriptor v e) (typed_done (go ws u)))))
 
   -- new objects
-  made-typed : (h : Head) (ts : List ValueType) (vs : List Value) → HasTypes ty hs ts vs → GoesOn (hs ++ (h ∷ [])) (reference h.kind ∷ ts) → Row p ty G hs (make (blank p h) (λ o. goes_on p s (Obj o ∷ vs)))
+  made-typed : (h : Head) (ts : List ValueType) (vs : List Value) → IsKind p h.kind → HasTypes ty hs ts vs → GoesOn (hs ++ (h ∷ [])) (reference h.kind ∷ ts) → Row p ty G hs (make (blank p h) (λ o. goes_on p s (Obj o ∷ vs)))
   unfolding blank
-  made-typed h ts vs r go = typed_make (blank-new p ty sound hs h) (typed_done (go (Obj (length hs) ∷ vs) ((h, newest_head hs h, sound.itself h.kind), types_grow ty hs (hs ++ (h ∷ [])) (grows_one hs h) ts vs r)))
+  made-typed h ts vs i r go = typed_make (blank-new p ty sound hs h i) (typed_done (go (Obj (length hs) ∷ vs) ((h, newest_head hs h, sound.itself h.kind i), types_grow ty hs (hs ++ (h ∷ [])) (grows_one hs h) ts vs r)))
 
   pub new-typed : (c : ℕ) (ts : List ValueType) → is_bare p c ≡ false → c < length p.classes → HasTypes ty hs ts s.top.stack → GoesOn (hs ++ (instance_head c ∷ [])) (reference (kind.Class c) ∷ ts) →
       G hs Go (with_entry (class_entry c) s) → ((d : ℕ) → G hs (Fault d) s) → Row p ty G hs (row_create p (form.New c) s)
   unfolding row_create new_object
-  new-typed c ts b h r go begin fault = choose-typed p ty G hs (is_bare p c) (λ e. typed_done (fault instantiation_error)) (λ e. using-typed p ty G hs c s h begin fault (typed_spend (made-typed (instance_head c) ts s.top.stack r go)))
+  new-typed c ts b h r go begin fault = choose-typed p ty G hs (is_bare p c) (λ e. typed_done (fault instantiation_error)) (λ e. using-typed p ty G hs c s h begin fault (typed_spend (made-typed (instance_head c) ts s.top.stack h r go)))
 
-  new_array_at : (k : Kind) (i : ℤ) (ts : List ValueType) (vs : List Value) → HasTypes ty hs ts vs → ((n : ℕ) → GoesOn (hs ++ (array_head k n ∷ [])) (reference k ∷ ts)) → Throws negative_size_exception ts → Row p ty G hs (new_array p k s vs i)
-  new_array_at k (pos n) ts vs r go throw = typed_spend (made-typed (array_head k n) ts vs r (go n))
-  new_array_at k (negsuc n) ts vs r go throw = typed_done (throw vs r)
+  new_array_at : (k : Kind) (i : ℤ) (ts : List ValueType) (vs : List Value) → IsKind p k → HasTypes ty hs ts vs → ((n : ℕ) → GoesOn (hs ++ (array_head k n ∷ [])) (reference k ∷ ts)) → Throws negative_size_exception ts → Row p ty G hs (new_array p k s vs i)
+  new_array_at k (pos n) ts vs i r go throw = typed_spend (made-typed (array_head k n) ts vs i r (go n))
+  new_array_at k (negsuc n) ts vs i r go throw = typed_done (throw vs r)
 
-  pub new_array-typed : (k : Kind) (ts : List ValueType) → HasTypes ty hs (int_type ∷ ts) s.top.stack → ((n : ℕ) → GoesOn (hs ++ (array_head k n ∷ [])) (reference k ∷ ts)) → Throws negative_size_exception ts → Row p ty G hs (row_create p (form.NewArray k) s)
+  pub new_array-typed : (k : Kind) (ts : List ValueType) → IsKind p k → HasTypes ty hs (int_type ∷ ts) s.top.stack → ((n : ℕ) → GoesOn (hs ++ (array_head k n ∷ [])) (reference k ∷ ts)) → Throws negative_size_exception ts → Row p ty G hs (row_create p (form.NewArray k) s)
   unfolding row_create
-  new_array-typed k ts r go throw = popping-typed p ty G hs int_type ts s.top.stack r (λ v vs e q. on_int-typed p ty G hs v e (λ i. new_array_at k i ts vs q go throw))
+  new_array-typed k ts is_kind r go throw = popping-typed p ty G hs int_type ts s.top.stack r (λ v vs e q. on_int-typed p ty G hs v e (λ i. new_array_at k i ts vs is_kind q go throw))
 
   -- arrays: what fits the type of the reference is an array, with elements of a type
   abbrev pub Holds_elements : Kind → ValueType → Type 0
@@ -167,20 +168,20 @@ module _ (p : Program) (ty : Types) (sound : AreSound p ty) (G : List Head → N
       head-typed p ty G hs o k y (λ z w f. let n = m z f in loaded-typed o z i t ts ws n.0 n.1 w n.2 n.3 u go out)))))
 
   -- casts: what passes the test fits
-  pub check_cast-typed : (k l : Kind) (ts : List ValueType) → HasTypes ty hs (reference l ∷ ts) s.top.stack → GoesOn hs (reference k ∷ ts) → Throws class_cast_exception ts → Row p ty G hs (row_casts p (form.CheckCast k) s)
+  pub check_cast-typed : (k l : Kind) (ts : List ValueType) → IsKind p k → HasTypes ty hs (reference l ∷ ts) s.top.stack → GoesOn hs (reference k ∷ ts) → Throws class_cast_exception ts → Row p ty G hs (row_casts p (form.CheckCast k) s)
   unfolding row_casts
-  check_cast-typed k l ts h go throw = popping-typed p ty G hs (reference l) ts s.top.stack h (λ v vs e q. cast_at v vs e q)
+  check_cast-typed k l ts is_kind h go throw = popping-typed p ty G hs (reference l) ts s.top.stack h (λ v vs e q. cast_at v vs e q)
     where
-      passes : (v : Value) (vs : List Value) (x : Kind) (b : Bool) → kind_fits p x k ≡ b → (ty.fits x k ≡ true → HasType ty hs (reference k) v) → HasTypes ty hs ts vs → Row p ty G hs (cond b (goes_on p s (v ∷ vs)) (done (answer (Fault class_cast_exception) (with_stack s vs))))
-      passes v vs x true e f q = typed_done (go (v ∷ vs) (f (sound.tested x k e), q))
-      passes v vs x false e f q = typed_done (throw vs q)
+      passes : (v : Value) (vs : List Value) (x : Kind) (b : Bool) → IsKind p x → kind_fits p x k ≡ b → (ty.fits x k ≡ true → HasType ty hs (reference k) v) → HasTypes ty hs ts vs → Row p ty G hs (cond b (goes_on p s (v ∷ vs)) (done (answer (Fault class_cast_exception) (with_stack s vs))))
+      passes v vs x true i e f q = typed_done (go (v ∷ vs) (f (sound.tested x k i is_kind e), q))
+      passes v vs x false i e f q = typed_done (throw vs q)
 
       cast_at : (v : Value) (vs : List Value) → HasType ty hs (reference l) v → HasTypes ty hs ts vs → Row p ty G hs (Rattle.jvm_model.specs.RowsCasts.cast p k s v vs)
       cast_at (Int n) vs e q = absurd e
       cast_at (Long n) vs e q = absurd e
       cast_at Null vs e q = typed_done (go (Null ∷ vs) (tt, q))
-      cast_at (Lit n) vs e q = with_kind-typed p ty G hs (Lit n) l tt e (λ x g. passes (Lit n) vs (Rattle.jvm_model.specs.Rows.constant_kind n) _ refl (λ f. f) q)
-      cast_at (Obj o) vs e q = head-typed p ty G hs o l e (λ z w g. passes (Obj o) vs z.kind _ refl (λ f. (z, w, f)) q)
+      cast_at (Lit n) vs e q = with_kind-typed p ty G hs (Lit n) l tt e (λ x g. passes (Lit n) vs (Rattle.jvm_model.specs.Rows.constant_kind n) _ (constant_is_kind p ty sound n) refl (λ f. f) q)
+      cast_at (Obj o) vs e q = head_kind-typed p ty G hs o l e (λ z w g i. passes (Obj o) vs z.kind _ i refl (λ f. (z, w, f)) q)
 
   -- athrow, and raising into the frame at the top
   pub throw-typed : (k : Kind) (ts : List ValueType) → NoConstant ty k → HasTypes ty hs (reference k ∷ ts) s.top.stack → G hs (Fault null_pointer_exception) s → ((o : ℕ) → HasKind ty hs o k → G hs (Raise (Obj o)) s) → Row p ty G hs (row_throw s)
@@ -252,5 +253,5 @@ module _ (p : Program) (ty : Types) (sound : AreSound p ty) (G : List Head → N
       (HasKind ty (hs ++ (instance_head initializer_error ∷ [])) (length hs) (kind.Class initializer_error) → G (hs ++ (instance_head initializer_error ∷ [])) (Raise (Obj (length hs))) (popped_entry s)) → Row p ty G hs (row_fail p (Obj o) s)
   unfolding row_fail blank
   fail-typed o k x c out anew = head-typed p ty G hs o k x (λ z w f. choose-typed p ty G hs (was_entered s.top.kind && not (is_below p (class_of z.kind) error_class))
-      (λ e. typed_spend (typed_write c tt (typed_make (blank-new p ty sound hs (instance_head initializer_error)) (typed_done (anew (instance_head initializer_error, newest_head hs (instance_head initializer_error), sound.itself (kind.Class initializer_error)))))))
+      (λ e. typed_spend (typed_write c tt (typed_make (blank-new p ty sound hs (instance_head initializer_error) (builtin_kind p ty sound initializer_error (omega arith))) (typed_done (anew (instance_head initializer_error, newest_head hs (instance_head initializer_error), sound.itself (kind.Class initializer_error) (builtin_kind p ty sound initializer_error (omega arith))))))))
       (λ e. typed_write c tt (typed_done out)))

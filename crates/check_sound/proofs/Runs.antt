@@ -9,7 +9,6 @@ use Rattle.jvm_model.specs.View.{IsSafe}
 use Rattle.jvm_model.proofs.Bridges.{exists_has}
 use Rattle.check_sound.specs.Types.{Types}
 use Rattle.check_sound.specs.Typed.{IsTypedWorld, TypedAccess, typed_done, typed_read, typed_write, typed_make, typed_spend, Grows, Kept}
-use Rattle.check_sound.specs.RunLaw.{RunLaw}
 use Rattle.check_sound.proofs.Worlds.{world_put, world_make, grows_one}
 
 module _ (p : Program) (ty : Types) where
@@ -42,6 +41,3 @@ module _ (p : Program) (ty : Types) where
   typed_bind Q P (write l c t) k hs (typed_write q g f) r = typed_write q g (typed_bind Q P t k hs f r)
   typed_bind Q P (make x n) k hs (typed_make d f) r = typed_make d (typed_bind Q P (n (length hs)) k (hs ++ (x.head ∷ [])) f (λ is a g s. r is a (λ o h e. g o h (grows_one hs x.head o h e)) s))
   typed_bind Q P (spend n t) k hs (typed_spend f) r = typed_spend (typed_bind Q P t k hs f r)
-
-pub run_law : RunLaw
-run_law p ty result hs w t i h = (typed_safe p ty _ _ (λ is a q. tt) t hs w i h, typed_kept p ty _ t hs w i h)

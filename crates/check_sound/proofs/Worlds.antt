@@ -71,7 +71,7 @@ module _ (p : Program) (ty : Types) where
   typed_grows hs is g (place.Static f) v r = type_grows ty hs is g _ v r
   typed_grows hs is g (place.Field o f) v r = type_grows ty hs is g _ v r
   typed_grows hs is g (place.Elem o i) v r = (r.0, g o r.0 r.1, type_grows ty hs is g _ v r.2)
-  typed_grows hs is g (place.Head o) h r = g o h r
+  typed_grows hs is g (place.Head o) h r = (g o h r.0, r.1)
   typed_grows hs is g (place.Init c) s r = tt
   typed_grows hs is g (place.Text o) t r = tt
   typed_grows hs is g (place.File n) t r = tt
@@ -112,7 +112,7 @@ module _ (p : Program) (ty : Types) where
     new_typed (place.File n) o i = tt
     new_typed (place.Prop n) o i = tt
     new_typed (place.Text a) o i = tt
-    new_typed (place.Head a) o i = let e : a ≡ length hs = some_is o ∙ t.objects in rw e (newest_head hs x.head)
+    new_typed (place.Head a) o i = let e : a ≡ length hs = some_is o ∙ t.objects in (rw e (newest_head hs x.head), d.is_kind)
     new_typed (place.Field a f) o i =
         let e = some_is o in
         let h : x.head ≡ i.0 = newest_is hs x.head a i.0 (e ∙ t.objects) i.2 in

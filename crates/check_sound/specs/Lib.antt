@@ -1,5 +1,5 @@
 pub mod Types
 pub mod Typed
-pub mod RunLaw
+pub mod WorldLaw
 pub mod Slots
 pub mod NativeTypes

@@ -1,8 +1,7 @@
 -- Typed worlds, said location by location over the list of heads, and typed programs of accesses.
-use Rattle.std.specs.Prelude.{◌≡◌, ℕ, ◌<◌, List, [], ◌∷◌, ◌++◌, length, get_or, slice_get, true, false, nat_eq, Some}
+use Rattle.std.specs.Prelude.{◌≡◌, ℕ, ◌<◌, ◌≤◌, List, [], ◌∷◌, ◌++◌, length, get_or, slice_get, true, false, nat_eq, Some}
 use Rattle.jvm_model.specs.declared.values.Value.TheVariants.{Null}
 use Rattle.jvm_model.specs.declared.values.Base.{Base}
-use Rattle.jvm_model.specs.declared.values.Kind.{Kind}
 use Rattle.jvm_model.specs.declared.values.Kind.{Kind}
 use Rattle.jvm_model.specs.declared.values.Kind.TheVariants as kind
 use Rattle.jvm_model.specs.declared.values.Head.{Head}
@@ -13,7 +12,9 @@ use Rattle.jvm_model.specs.World.{Object, World, Content, size, at, look}
 use Rattle.jvm_model.specs.Access.{Access, done, read, write, make, spend, Ran}
 use Rattle.jvm_model.specs.declared.outcome.Next.{Next}
 use Rattle.jvm_model.specs.Classes.{field_at, member, layout, default_of}
+use Rattle.jvm_model.specs.Builtin.{builtin_count}
 use Rattle.jvm_model.specs.Kinds.{kind_fits}
+use Rattle.jvm_model.specs.Linked.{IsKind}
 use Rattle.jvm_model.specs.Rows.{Answer, answer, no_row, constant_kind}
 use Rattle.jvm_model.specs.State.{State, Turn, next, ended, no_turn}
 use Rattle.jvm_model.specs.View.{Exists, keys}
@@ -30,11 +31,11 @@ IsPlace p hs (place.Text o) = (h : Head) × (slice_get hs o ≡ Some h)
 IsPlace p hs (place.File n) = Unit {0}
 IsPlace p hs (place.Prop n) = Unit {0}
 
--- the content has the type of its location
+-- the content has the type of its location; a head is of a kind of the program
 abbrev pub IsTyped : Program → Types → List Head → (l : Location) → Content l → Type 0
 IsTyped p ty hs (place.Static f) v = HasType ty hs (ty.declared (field_at p f).descriptor) v
 IsTyped p ty hs (place.Init c) s = Unit {0}
-IsTyped p ty hs (place.Head o) h = slice_get hs o ≡ Some h
+IsTyped p ty hs (place.Head o) h = (slice_get hs o ≡ Some h) × IsKind p h.kind
 IsTyped p ty hs (place.Field o f) v = HasType ty hs (ty.declared (field_at p f).descriptor) v
 IsTyped p ty hs (place.Elem o i) v = (h : Head) × (slice_get hs o ≡ Some h) × HasType ty hs (element_type h.kind) v
 IsTyped p ty hs (place.Text o) t = Unit {0}
@@ -46,8 +47,9 @@ pub record IsTypedWorld (p : Program) (ty : Types) (hs : List Head) (w : World) 
   pub there : (l : Location) → IsPlace p hs l → Exists w l
   pub typed : (l : Location) → IsPlace p hs l → IsTyped p ty hs l (at w l)
 
--- a new object with its cells: those of its class's layout, or as many elements as its head says
+-- a new object of a kind of the program with its cells: those of its class's layout, or as many elements as its head says
 pub record IsNew (p : Program) (ty : Types) (hs : List Head) (x : Object) : Type 0 where
+  pub is_kind : IsKind p x.head.kind
   pub fields : (c f : ℕ) → x.head.kind ≡ kind.Class c → member f (layout p c) ≡ true → (member f (keys x.fields) ≡ true) × HasType ty hs (ty.declared (field_at p f).descriptor) (look nat_eq Null x.fields f)
   pub elems : (d i : ℕ) (b : Base) → x.head.kind ≡ kind.Array d b → i < x.head.length → (i < length x.elems) × HasType ty hs (element_type x.head.kind) (get_or x.elems i Null)
 
@@ -82,11 +84,11 @@ Turns G hs (next s) = G hs s
 Turns G hs (ended v o) = Unit {0}
 Turns G hs no_turn = ⊥
 
--- What the rows ask of the types of a program.
+-- What the rows ask of the types of a program that holds the built-in classes: of its own kinds alone.
 pub record AreSound (p : Program) (ty : Types) : Type 0 where
-  pub itself : (k : Kind) → ty.fits k k ≡ true
-  pub upwards : (a b c : Kind) → ty.fits a b ≡ true → ty.fits b c ≡ true → ty.fits a c ≡ true
-  pub tested : (a b : Kind) → kind_fits p a b ≡ true → ty.fits a b ≡ true
+  pub builtins : builtin_count ≤ length p.classes
+  pub itself : (k : Kind) → IsKind p k → ty.fits k k ≡ true
+  pub tested : (a b : Kind) → IsKind p a → IsKind p b → kind_fits p a b ≡ true → ty.fits a b ≡ true
   pub default : (f : ℕ) → HasType ty [] (ty.declared (field_at p f).descriptor) (default_of (field_at p f).descriptor)
 
 -- no constant object is of the kind

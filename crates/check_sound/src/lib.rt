@@ -2,14 +2,17 @@
 #![tactic(auto)]
 
 ghost use Rattle.std.specs.Prelude.{◌≡◌};
-ghost use Rattle.check_sound.specs.RunLaw.{RunLaw};
+ghost use Rattle.check_sound.specs.WorldLaw.{PutLaw, MakeLaw, BlankLaw};
 ghost use Rattle.check_sound.specs.Slots as slots;
 
 use jvm_model::Value;
 
-/// A typed program of accesses over a typed world meets only locations that are there, and leaves a typed world.
-pub fn run_law()
-    ensures { RunLaw }
+/// What keeps a world typed: a content of its location's type that is put at a place of the program, and a new object with
+/// its cells; an object with default values is such a one, where the types are sound for the program's own kinds.
+pub fn world_law()
+    ensures written { PutLaw }
+    ensures made { MakeLaw }
+    ensures blank { BlankLaw }
 {}
 
 /// How many slots a value takes in a frame (JVMS 2.6.1): a long takes two.
