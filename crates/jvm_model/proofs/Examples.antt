@@ -2,10 +2,6 @@
 -- should.
 use Rattle.std.proofs.Common.{◌≡◌, ℕ, List, [], ◌∷◌, ◌++◌, Some, None, refl, map, pos, false}
 use Rattle.std.specs.Prelude.{codes}
-use Rattle.std.specs.Fmt.{digits}
-use Rattle.std.specs.Char.Utf16.{utf16_chars}
-use lib.Utf8.{encode}
-use Rattle.et_base.specs.Numbers.{add64}
 use Rattle.jvm_model.specs.declared.values.Value.TheVariants.{Int, Null}
 use Rattle.jvm_model.specs.declared.values.Kind.TheVariants as kind
 use Rattle.jvm_model.specs.declared.values.InitState.{InitState}
@@ -18,30 +14,13 @@ use Rattle.jvm_model.specs.declared.program.Program.{Program}
 use Rattle.jvm_model.specs.World.{at}
 use Rattle.jvm_model.specs.Access.{run}
 use Rattle.jvm_model.specs.State.{started}
-use Rattle.jvm_model.specs.Library.{builtin_defs, builtin_classes, builtin_fields, builtin_methods}
-use Rattle.jvm_model.specs.Classes.{literal_at, class_bound, own_interfaces, is_below, implements, default_interfaces, is_trivial, layout, blank, form_at, next_place}
+use Rattle.jvm_model.specs.Classes.{literal_at}
 use Rattle.jvm_model.specs.Descriptors.{parameters, return_type}
-use Rattle.jvm_model.specs.Narrow.{narrow}
-use Rattle.jvm_model.specs.Suite.{opening, whole, tree, one_test, runs, all_tests}
-use Rattle.jvm_model.specs.Step.{step, row, row_here, row_throw}
+use Rattle.jvm_model.specs.Suite.{opening, whole, runs, all_tests}
+use Rattle.jvm_model.specs.Step.{step}
 use Rattle.jvm_model.specs.Throwing.{throws}
-use Rattle.jvm_model.specs.Raising.{row_raise, handler_for}
-use Rattle.jvm_model.specs.Initialise.{row_finish, row_fail, parts_of}
-use Rattle.jvm_model.specs.Rows.{begin}
-use Rattle.jvm_model.specs.RowsMoves.{row_moves}
-use Rattle.jvm_model.specs.RowsArith.{row_arith}
-use Rattle.jvm_model.specs.RowsBranches.{row_branches}
-use Rattle.jvm_model.specs.RowsStatics.{row_statics, read_static, write_static}
-use Rattle.jvm_model.specs.RowsFields.{row_fields}
-use Rattle.jvm_model.specs.RowsCreate.{row_create, new_object}
-use Rattle.jvm_model.specs.RowsCalls.{row_calls, calls, argument_count}
-use Rattle.jvm_model.specs.RowsReturn.{row_return, hands_on}
-use Rattle.jvm_model.specs.Selection.{kept_method, select, select_virtual, select_interface, select_special}
-use Rattle.jvm_model.specs.Natives.{row_native}
-use Rattle.jvm_model.specs.NativesObject.{native_object, native_throwable}
-use Rattle.jvm_model.specs.NativesString.{native_string, native_builder}
-use Rattle.jvm_model.specs.NativesOutside.{native_system, native_print, native_files, native_env}
-use Rattle.jvm_model.specs.Driver.{drive, drives, drive_first, drive_init, drive_set_up, drive_method, drive_tear_down, judge}
+use Rattle.jvm_model.specs.RowsCalls.{calls}
+use Rattle.jvm_model.proofs.OnLiterals.{machine_on_literals}
 use Rattle.jvm_model.proofs.ExampleParts.{program, class, body, fixed, plain, static, field, static_int, test, int_const, literal, get_static, put_static, call_static, returns, load_this, dup, print_number, gets, sets, shown, passed, failed, error, line}
 
 -- a test that only returns
@@ -169,25 +148,25 @@ conflict_suite = program
 
 return_runs : shown (runs return_suite (all_tests return_suite)) ≡ Some (
     (passed [] 3, []) ∷ [])
-unfolding builtin_classes builtin_fields builtin_methods builtin_defs class_bound own_interfaces is_below implements default_interfaces is_trivial layout blank form_at next_place parameters return_type narrow opening tree one_test runs step row row_here row_throw throws row_raise handler_for row_finish row_fail parts_of begin row_moves row_arith row_branches row_statics read_static write_static row_fields row_create new_object row_calls calls argument_count row_return hands_on kept_method select select_virtual select_interface select_special row_native native_object native_throwable native_string native_builder native_system native_print native_files native_env drive drives drive_first drive_init drive_set_up drive_method drive_tear_down judge digits add64 utf16_chars encode
+unfolding machine_on_literals
 return_runs = refl
 
 counter_runs : shown (runs counter_suite (all_tests counter_suite)) ≡ Some (
     (passed [] 6, sets (place.Static 2) ∷ []) ∷
     (passed (line (codes "5")) 8, gets (place.Static 2) ∷ []) ∷ [])
-unfolding builtin_classes builtin_fields builtin_methods builtin_defs class_bound own_interfaces is_below implements default_interfaces is_trivial layout blank form_at next_place parameters return_type narrow opening tree one_test runs step row row_here row_throw throws row_raise handler_for row_finish row_fail parts_of begin row_moves row_arith row_branches row_statics read_static write_static row_fields row_create new_object row_calls calls argument_count row_return hands_on kept_method select select_virtual select_interface select_special row_native native_object native_throwable native_string native_builder native_system native_print native_files native_env drive drives drive_first drive_init drive_set_up drive_method drive_tear_down judge digits add64 utf16_chars encode
+unfolding machine_on_literals
 counter_runs = refl
 
 again_runs : shown (runs again_suite (all_tests again_suite)) ≡ Some (
     (passed [] 6, sets (place.Static 2) ∷ []) ∷
     (passed (line (codes "1")) 10, sets (place.Static 2) ∷ gets (place.Static 2) ∷ []) ∷ [])
-unfolding builtin_classes builtin_fields builtin_methods builtin_defs class_bound own_interfaces is_below implements default_interfaces is_trivial layout blank form_at next_place parameters return_type narrow opening tree one_test runs step row row_here row_throw throws row_raise handler_for row_finish row_fail parts_of begin row_moves row_arith row_branches row_statics read_static write_static row_fields row_create new_object row_calls calls argument_count row_return hands_on kept_method select select_virtual select_interface select_special row_native native_object native_throwable native_string native_builder native_system native_print native_files native_env drive drives drive_first drive_init drive_set_up drive_method drive_tear_down judge digits add64 utf16_chars encode
+unfolding machine_on_literals
 again_runs = refl
 
 read_write_runs : shown (runs read_write_suite (all_tests read_write_suite)) ≡ Some (
     (passed (line (codes "0")) 8, gets (place.Static 2) ∷ []) ∷
     (passed [] 6, sets (place.Static 2) ∷ []) ∷ [])
-unfolding builtin_classes builtin_fields builtin_methods builtin_defs class_bound own_interfaces is_below implements default_interfaces is_trivial layout blank form_at next_place parameters return_type narrow opening tree one_test runs step row row_here row_throw throws row_raise handler_for row_finish row_fail parts_of begin row_moves row_arith row_branches row_statics read_static write_static row_fields row_create new_object row_calls calls argument_count row_return hands_on kept_method select select_virtual select_interface select_special row_native native_object native_throwable native_string native_builder native_system native_print native_files native_env drive drives drive_first drive_init drive_set_up drive_method drive_tear_down judge digits add64 utf16_chars encode
+unfolding machine_on_literals
 read_write_runs = refl
 
 -- a new object: its head and each field are written
@@ -195,31 +174,31 @@ node_runs : shown (runs node_suite (all_tests node_suite)) ≡ Some (
     (passed [] 35, sets (place.Head 0) ∷ sets (place.Field 0 2) ∷ sets (place.Field 0 3) ∷ sets (place.Static 4) ∷ gets (place.Static 4) ∷ sets (place.Head 1) ∷ sets (place.Field 1 2) ∷ sets (place.Field 1 3) ∷ sets (place.Field 0 3) ∷ gets (place.Static 4) ∷ gets (place.Field 0 3) ∷ sets (place.Field 1 2) ∷ []) ∷
     (passed [] 3, []) ∷
     (passed (line (codes "9")) 10, gets (place.Static 4) ∷ gets (place.Field 0 3) ∷ gets (place.Field 1 2) ∷ []) ∷ [])
-unfolding builtin_classes builtin_fields builtin_methods builtin_defs class_bound own_interfaces is_below implements default_interfaces is_trivial layout blank form_at next_place parameters return_type narrow opening tree one_test runs step row row_here row_throw throws row_raise handler_for row_finish row_fail parts_of begin row_moves row_arith row_branches row_statics read_static write_static row_fields row_create new_object row_calls calls argument_count row_return hands_on kept_method select select_virtual select_interface select_special row_native native_object native_throwable native_string native_builder native_system native_print native_files native_env drive drives drive_first drive_init drive_set_up drive_method drive_tear_down judge digits add64 utf16_chars encode
+unfolding machine_on_literals
 node_runs = refl
 
 -- the class is begun, then its superclass, whose `<clinit>` reads the class's static and ends; then its own runs and ends
 init_order_runs : shown (runs init_order_suite (all_tests init_order_suite)) ≡ Some (
     (passed (line (codes "0") ++ line (codes "1")) 24, gets (place.Init 32) ∷ sets (place.Init 32) ∷ gets (place.Init 33) ∷ sets (place.Init 33) ∷ gets (place.Init 32) ∷ gets (place.Static 2) ∷ sets (place.Init 33) ∷ gets (place.Init 33) ∷ gets (place.Init 32) ∷ sets (place.Static 2) ∷ sets (place.Init 32) ∷ gets (place.Init 32) ∷ gets (place.Static 2) ∷ []) ∷ [])
-unfolding builtin_classes builtin_fields builtin_methods builtin_defs class_bound own_interfaces is_below implements default_interfaces is_trivial layout blank form_at next_place parameters return_type narrow opening tree one_test runs step row row_here row_throw throws row_raise handler_for row_finish row_fail parts_of begin row_moves row_arith row_branches row_statics read_static write_static row_fields row_create new_object row_calls calls argument_count row_return hands_on kept_method select select_virtual select_interface select_special row_native native_object native_throwable native_string native_builder native_system native_print native_files native_env drive drives drive_first drive_init drive_set_up drive_method drive_tear_down judge digits add64 utf16_chars encode
+unfolding machine_on_literals
 init_order_runs = refl
 
 -- what `<clinit>` threw is looked at by its frame and by the entry, which becomes erroneous and makes another throwable
 bad_init_runs : shown (runs bad_init_suite (all_tests bad_init_suite)) ≡ Some (
     (error 13 None [] 17, gets (place.Init 32) ∷ sets (place.Init 32) ∷ sets (place.Head 0) ∷ sets (place.Field 0 1) ∷ gets (place.Head 0) ∷ gets (place.Head 0) ∷ sets (place.Init 32) ∷ sets (place.Head 1) ∷ sets (place.Field 1 1) ∷ gets (place.Head 1) ∷ gets (place.Head 1) ∷ gets (place.Field 1 1) ∷ []) ∷
     (error 14 None [] 7, gets (place.Init 32) ∷ sets (place.Head 2) ∷ sets (place.Field 2 1) ∷ gets (place.Head 2) ∷ gets (place.Head 2) ∷ gets (place.Field 2 1) ∷ []) ∷ [])
-unfolding builtin_classes builtin_fields builtin_methods builtin_defs class_bound own_interfaces is_below implements default_interfaces is_trivial layout blank form_at next_place parameters return_type narrow opening tree one_test runs step row row_here row_throw throws row_raise handler_for row_finish row_fail parts_of begin row_moves row_arith row_branches row_statics read_static write_static row_fields row_create new_object row_calls calls argument_count row_return hands_on kept_method select select_virtual select_interface select_special row_native native_object native_throwable native_string native_builder native_system native_print native_files native_env drive drives drive_first drive_init drive_set_up drive_method drive_tear_down judge digits add64 utf16_chars encode
+unfolding machine_on_literals
 bad_init_runs = refl
 
 driver_runs : shown (runs driver_suite (all_tests driver_suite)) ≡ Some (
     (failed 10 None (line (codes "1") ++ line (codes "2")) 36, sets (place.Head 0) ∷ sets (place.Head 1) ∷ sets (place.Field 1 1) ∷ gets (place.Head 1) ∷ gets (place.Head 1) ∷ gets (place.Field 1 1) ∷ []) ∷ [])
-unfolding builtin_classes builtin_fields builtin_methods builtin_defs class_bound own_interfaces is_below implements default_interfaces is_trivial layout blank form_at next_place parameters return_type narrow opening tree one_test runs step row row_here row_throw throws row_raise handler_for row_finish row_fail parts_of begin row_moves row_arith row_branches row_statics read_static write_static row_fields row_create new_object row_calls calls argument_count row_return hands_on kept_method select select_virtual select_interface select_special row_native native_object native_throwable native_string native_builder native_system native_print native_files native_env drive drives drive_first drive_init drive_set_up drive_method drive_tear_down judge digits add64 utf16_chars encode
+unfolding machine_on_literals
 driver_runs = refl
 
 kept_error_runs : shown (runs kept_error_suite (all_tests kept_error_suite)) ≡ Some (
     (passed [] 13, sets (place.Head 0) ∷ sets (place.Field 0 1) ∷ sets (place.Field 0 1) ∷ sets (place.Static 2) ∷ []) ∷
     (error 19 (Some (codes "boom")) [] 10, gets (place.Static 2) ∷ gets (place.Head 0) ∷ gets (place.Head 0) ∷ gets (place.Field 0 1) ∷ []) ∷ [])
-unfolding builtin_classes builtin_fields builtin_methods builtin_defs class_bound own_interfaces is_below implements default_interfaces is_trivial layout blank form_at next_place parameters return_type narrow opening tree one_test runs step row row_here row_throw throws row_raise handler_for row_finish row_fail parts_of begin row_moves row_arith row_branches row_statics read_static write_static row_fields row_create new_object row_calls calls argument_count row_return hands_on kept_method select select_virtual select_interface select_special row_native native_object native_throwable native_string native_builder native_system native_print native_files native_env drive drives drive_first drive_init drive_set_up drive_method drive_tear_down judge digits add64 utf16_chars encode
+unfolding machine_on_literals
 kept_error_runs = refl
 
 files_runs : shown (runs files_suite (all_tests files_suite)) ≡ Some (
@@ -227,23 +206,23 @@ files_runs : shown (runs files_suite (all_tests files_suite)) ≡ Some (
     (passed [] 13, sets (place.File (codes "log")) ∷ []) ∷
     (passed (line (codes "hi")) 18, gets (place.Static 0) ∷ gets (place.File (codes "log")) ∷ sets (place.Head 0) ∷ sets (place.Text 0) ∷ gets (place.Text 0) ∷ []) ∷
     (passed [] 10, gets (place.File (codes "log")) ∷ sets (place.File (codes "log")) ∷ []) ∷ [])
-unfolding builtin_classes builtin_fields builtin_methods builtin_defs class_bound own_interfaces is_below implements default_interfaces is_trivial layout blank form_at next_place parameters return_type narrow opening tree one_test runs step row row_here row_throw throws row_raise handler_for row_finish row_fail parts_of begin row_moves row_arith row_branches row_statics read_static write_static row_fields row_create new_object row_calls calls argument_count row_return hands_on kept_method select select_virtual select_interface select_special row_native native_object native_throwable native_string native_builder native_system native_print native_files native_env drive drives drive_first drive_init drive_set_up drive_method drive_tear_down judge digits add64 utf16_chars encode
+unfolding machine_on_literals
 files_runs = refl
 
 clock_runs : shown (runs clock_suite (all_tests clock_suite)) ≡ Some (
     (passed (line (codes "100") ++ line (codes "335903614")) 25, gets (place.Static 0) ∷ []) ∷ [])
-unfolding builtin_classes builtin_fields builtin_methods builtin_defs class_bound own_interfaces is_below implements default_interfaces is_trivial layout blank form_at next_place parameters return_type narrow opening tree one_test runs step row row_here row_throw throws row_raise handler_for row_finish row_fail parts_of begin row_moves row_arith row_branches row_statics read_static write_static row_fields row_create new_object row_calls calls argument_count row_return hands_on kept_method select select_virtual select_interface select_special row_native native_object native_throwable native_string native_builder native_system native_print native_files native_env drive drives drive_first drive_init drive_set_up drive_method drive_tear_down judge digits add64 utf16_chars encode
+unfolding machine_on_literals
 clock_runs = refl
 
 -- the default interface is begun and ended before the class's own `<clinit>`
 default_runs : shown (runs default_suite (all_tests default_suite)) ≡ Some (
     (passed (line (codes "4") ++ (line (codes "5") ++ line (codes "1"))) 42, gets (place.Init 33) ∷ sets (place.Init 33) ∷ gets (place.Init 32) ∷ sets (place.Init 32) ∷ sets (place.Init 32) ∷ gets (place.Init 32) ∷ sets (place.Init 33) ∷ gets (place.Init 33) ∷ sets (place.Head 0) ∷ gets (place.Head 0) ∷ []) ∷ [])
-unfolding builtin_classes builtin_fields builtin_methods builtin_defs class_bound own_interfaces is_below implements default_interfaces is_trivial layout blank form_at next_place parameters return_type narrow opening tree one_test runs step row row_here row_throw throws row_raise handler_for row_finish row_fail parts_of begin row_moves row_arith row_branches row_statics read_static write_static row_fields row_create new_object row_calls calls argument_count row_return hands_on kept_method select select_virtual select_interface select_special row_native native_object native_throwable native_string native_builder native_system native_print native_files native_env drive drives drive_first drive_init drive_set_up drive_method drive_tear_down judge digits add64 utf16_chars encode
+unfolding machine_on_literals
 default_runs = refl
 
 conflict_runs : shown (runs conflict_suite (all_tests conflict_suite)) ≡ Some (
     (error 15 None [] 17, sets (place.Head 0) ∷ gets (place.Head 0) ∷ sets (place.Head 1) ∷ sets (place.Field 1 1) ∷ gets (place.Head 1) ∷ gets (place.Head 1) ∷ gets (place.Field 1 1) ∷ []) ∷ [])
-unfolding builtin_classes builtin_fields builtin_methods builtin_defs class_bound own_interfaces is_below implements default_interfaces is_trivial layout blank form_at next_place parameters return_type narrow opening tree one_test runs step row row_here row_throw throws row_raise handler_for row_finish row_fail parts_of begin row_moves row_arith row_branches row_statics read_static write_static row_fields row_create new_object row_calls calls argument_count row_return hands_on kept_method select select_virtual select_interface select_special row_native native_object native_throwable native_string native_builder native_system native_print native_files native_env drive drives drive_first drive_init drive_set_up drive_method drive_tear_down judge digits add64 utf16_chars encode
+unfolding machine_on_literals
 conflict_runs = refl
 
 -- a class that is used once
@@ -262,7 +241,7 @@ state_after n = at (run (whole state_suite n (started state_suite 1)) (opening s
 -- The first step calls the test's method, the second begins the class, the third enters `<clinit>`, the fourth returns from
 -- it, and the fifth ends the initialisation.
 class_states : map state_after (1 ∷ 2 ∷ 3 ∷ 4 ∷ 5 ∷ []) ≡ Idle ∷ Running ∷ Running ∷ Running ∷ Done ∷ []
-unfolding builtin_classes builtin_fields builtin_methods builtin_defs class_bound own_interfaces is_below implements default_interfaces is_trivial layout blank form_at next_place parameters return_type narrow opening tree one_test runs step row row_here row_throw throws row_raise handler_for row_finish row_fail parts_of begin row_moves row_arith row_branches row_statics read_static write_static row_fields row_create new_object row_calls calls argument_count row_return hands_on kept_method select select_virtual select_interface select_special row_native native_object native_throwable native_string native_builder native_system native_print native_files native_env drive drives drive_first drive_init drive_set_up drive_method drive_tear_down judge digits add64 utf16_chars encode
+unfolding machine_on_literals
 class_states = refl
 
 -- the stream is no string constant, and those are numbered from 1

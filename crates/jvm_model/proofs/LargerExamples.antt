@@ -1,11 +1,6 @@
 -- Larger suites that are run by computation.
 use Rattle.std.proofs.Common.{◌≡◌, [], ◌∷◌, ◌++◌, replicate, Some, refl, pos, negsuc, false}
 use Rattle.std.specs.Prelude.{codes, flat_map}
-use Rattle.std.specs.Fmt.{digits}
-use Rattle.std.specs.Char.Utf16.{utf16_chars}
-use lib.Utf8.{encode}
-use Rattle.std.specs.Int.{int_wrap}
-use Rattle.et_base.specs.Numbers.{add32, add64}
 use Rattle.jvm_model.specs.declared.values.Value.TheVariants.{Int, Null, Lit}
 use Rattle.jvm_model.specs.declared.values.Kind.TheVariants as kind
 use Rattle.jvm_model.specs.declared.values.Location.TheVariants as place
@@ -14,30 +9,9 @@ use Rattle.jvm_model.specs.declared.instr.Op.TheVariants.{Add}
 use Rattle.jvm_model.specs.declared.instr.Sort.TheVariants as sort
 use Rattle.jvm_model.specs.declared.instr.IfTest.TheVariants as if_test
 use Rattle.jvm_model.specs.declared.program.Program.{Program}
-use Rattle.jvm_model.specs.Library.{builtin_defs, builtin_classes, builtin_fields, builtin_methods}
-use Rattle.jvm_model.specs.Classes.{class_bound, own_interfaces, is_below, implements, default_interfaces, is_trivial, layout, blank, form_at, next_place}
-use Rattle.jvm_model.specs.Descriptors.{parameters, return_type}
-use Rattle.jvm_model.specs.Narrow.{narrow}
-use Rattle.jvm_model.specs.Suite.{opening, tree, one_test, runs, all_tests}
-use Rattle.jvm_model.specs.Step.{step, row, row_here, row_throw}
-use Rattle.jvm_model.specs.Throwing.{throws}
-use Rattle.jvm_model.specs.Raising.{row_raise, handler_for}
-use Rattle.jvm_model.specs.Initialise.{row_finish, row_fail, parts_of}
-use Rattle.jvm_model.specs.Rows.{begin}
-use Rattle.jvm_model.specs.RowsMoves.{row_moves}
-use Rattle.jvm_model.specs.RowsArith.{row_arith}
-use Rattle.jvm_model.specs.RowsBranches.{row_branches, lookup_target}
-use Rattle.jvm_model.specs.RowsStatics.{row_statics, read_static, write_static}
-use Rattle.jvm_model.specs.RowsFields.{row_fields}
-use Rattle.jvm_model.specs.RowsCreate.{row_create, new_object}
-use Rattle.jvm_model.specs.RowsCalls.{row_calls, calls, argument_count}
-use Rattle.jvm_model.specs.RowsReturn.{row_return, hands_on}
-use Rattle.jvm_model.specs.Selection.{kept_method, select, select_virtual, select_interface, select_special}
-use Rattle.jvm_model.specs.Natives.{row_native}
-use Rattle.jvm_model.specs.NativesObject.{native_object, native_throwable}
-use Rattle.jvm_model.specs.NativesString.{native_string, native_builder, hash_of}
-use Rattle.jvm_model.specs.NativesOutside.{native_system, native_print, native_files, native_env}
-use Rattle.jvm_model.specs.Driver.{drive, drives, drive_first, drive_init, drive_set_up, drive_method, drive_tear_down, judge}
+use Rattle.jvm_model.specs.Suite.{runs, all_tests}
+use Rattle.jvm_model.specs.RowsCalls.{calls}
+use Rattle.jvm_model.proofs.OnLiterals.{machine_on_literals}
 use Rattle.jvm_model.proofs.ExampleParts.{program, class, body, fixed, plain, field, static_int, test, int_const, get_static, put_static, call_static, returns, load_this, dup, print_number, gets, sets, shown, passed, line}
 
 -- a method that calls itself until no entry may be pushed
@@ -53,7 +27,7 @@ recursion_runs : shown (runs recursion_suite (all_tests recursion_suite)) ≡ So
   passed (line (codes "1023")) 8200,
   flat_map (λ x. x) (replicate 1023 (gets (place.Static 2) ∷ sets (place.Static 2) ∷ [])) ++ (sets (place.Head 0) ∷ sets (place.Field 0 1) ∷ (replicate 1024 (gets (place.Head 0)) ++ (gets (place.Static 2) ∷ []))),
 ) ∷ [])
-unfolding builtin_classes builtin_fields builtin_methods builtin_defs class_bound own_interfaces is_below implements default_interfaces is_trivial layout blank form_at next_place parameters return_type narrow opening tree one_test runs step row row_here row_throw throws row_raise handler_for row_finish row_fail parts_of begin row_moves row_arith row_branches row_statics read_static write_static row_fields row_create new_object row_calls calls argument_count row_return hands_on kept_method select select_virtual select_interface select_special row_native native_object native_throwable native_string native_builder native_system native_print native_files native_env drive drives drive_first drive_init drive_set_up drive_method drive_tear_down judge digits add64 utf16_chars encode add32 int_wrap lookup_target hash_of
+unfolding machine_on_literals
 recursion_runs = refl
 
 -- an inner class, a string switch, concatenation and a loop, as the usual compiler lays them out
@@ -95,5 +69,5 @@ outer_runs : shown (runs outer_suite (all_tests outer_suite)) ≡ Some ((
       gets (place.Head 7) ∷ gets (place.Text 7) ∷ sets (place.Text 7) ∷ gets (place.Head 7) ∷ gets (place.Text 7) ∷ sets (place.Head 9) ∷
       sets (place.Text 9) ∷ gets (place.Text 9) ∷ [],
 ) ∷ [])
-unfolding builtin_classes builtin_fields builtin_methods builtin_defs class_bound own_interfaces is_below implements default_interfaces is_trivial layout blank form_at next_place parameters return_type narrow opening tree one_test runs step row row_here row_throw throws row_raise handler_for row_finish row_fail parts_of begin row_moves row_arith row_branches row_statics read_static write_static row_fields row_create new_object row_calls calls argument_count row_return hands_on kept_method select select_virtual select_interface select_special row_native native_object native_throwable native_string native_builder native_system native_print native_files native_env drive drives drive_first drive_init drive_set_up drive_method drive_tear_down judge digits add64 utf16_chars encode add32 int_wrap lookup_target hash_of
+unfolding machine_on_literals
 outer_runs = refl

@@ -17,6 +17,7 @@ pub mod Tests
 pub mod Interfaces
 pub mod Pointwise
 pub mod Standing
+pub mod OnLiterals
 pub mod ExampleParts
 pub mod Examples
 mod LargerExamples

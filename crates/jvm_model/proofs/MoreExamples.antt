@@ -1,13 +1,6 @@
 -- Branches, arrays, strings, calls and budgets by computation.
 use Rattle.std.proofs.Common.{◌≡◌, ℕ, ◌+◌, ◌-◌, ◌^◌, List, [], ◌∷◌, ◌++◌, Option, Some, None, refl, pos, false}
 use Rattle.std.specs.Prelude.{codes}
-use Rattle.std.specs.Fmt.{digits}
-use Rattle.std.specs.Char.Utf16.{utf16_chars}
-use lib.Utf8.{encode}
-use Rattle.std.specs.Int.{int_wrap}
-use Rattle.et_base.specs.Numbers.{add32, add64, l2i}
-use Rattle.jvm_model.specs.Kinds.{class_fits, kind_fits}
-use Rattle.jvm_model.specs.RowsArrays.{row_arrays}
 use Rattle.jvm_model.specs.declared.values.Value.TheVariants.{Int, Long, Null}
 use Rattle.jvm_model.specs.declared.values.Base.TheVariants as base
 use Rattle.jvm_model.specs.declared.values.Location.TheVariants as place
@@ -21,30 +14,12 @@ use Rattle.jvm_model.specs.declared.instr.Op.TheVariants.{Add}
 use Rattle.jvm_model.specs.declared.instr.Sort.TheVariants as sort
 use Rattle.jvm_model.specs.declared.instr.IfTest.TheVariants as if_test
 use Rattle.jvm_model.specs.declared.program.Program.{Program}
-use Rattle.jvm_model.specs.Library.{builtin_defs, builtin_classes, builtin_fields, builtin_methods}
-use Rattle.jvm_model.specs.Classes.{class_bound, own_interfaces, is_below, implements, default_interfaces, is_trivial, layout, blank, form_at, next_place}
-use Rattle.jvm_model.specs.Descriptors.{parameters, return_type}
-use Rattle.jvm_model.specs.Narrow.{narrow}
-use Rattle.jvm_model.specs.Suite.{Given, opening, tree, one_test, runs, all_tests, suite_limit, over_budget, suite_fault}
-use Rattle.jvm_model.specs.Step.{step, row, row_here, row_throw}
+use Rattle.jvm_model.specs.Suite.{Given, opening, one_test, runs, all_tests, over_budget, suite_fault}
+use Rattle.jvm_model.specs.Step.{step}
 use Rattle.jvm_model.specs.Throwing.{throws}
-use Rattle.jvm_model.specs.Raising.{row_raise, handler_for}
-use Rattle.jvm_model.specs.Initialise.{row_finish, row_fail, parts_of}
-use Rattle.jvm_model.specs.Rows.{begin}
-use Rattle.jvm_model.specs.RowsMoves.{row_moves}
-use Rattle.jvm_model.specs.RowsArith.{row_arith}
-use Rattle.jvm_model.specs.RowsBranches.{row_branches, lookup_target}
-use Rattle.jvm_model.specs.RowsStatics.{row_statics, read_static, write_static}
-use Rattle.jvm_model.specs.RowsFields.{row_fields}
-use Rattle.jvm_model.specs.RowsCreate.{nest, children, nest_cost, row_create, new_object}
-use Rattle.jvm_model.specs.RowsCalls.{row_calls, calls, argument_count}
-use Rattle.jvm_model.specs.RowsReturn.{row_return, hands_on}
-use Rattle.jvm_model.specs.Selection.{kept_method, select, select_virtual, select_interface, select_special}
-use Rattle.jvm_model.specs.Natives.{row_native}
-use Rattle.jvm_model.specs.NativesObject.{native_object, native_throwable}
-use Rattle.jvm_model.specs.NativesString.{native_string, native_builder, hash_of}
-use Rattle.jvm_model.specs.NativesOutside.{native_system, native_print, native_files, native_env}
-use Rattle.jvm_model.specs.Driver.{drive, drives, drive_first, drive_init, drive_set_up, drive_method, drive_tear_down, judge}
+use Rattle.jvm_model.specs.RowsCreate.{nest_cost}
+use Rattle.jvm_model.specs.RowsCalls.{calls}
+use Rattle.jvm_model.proofs.OnLiterals.{machine_on_literals}
 use Rattle.jvm_model.proofs.ExampleParts.{program, class, body, fixed, plain, test, int_const, literal, static_int, get_static, put_static, returns, load_this, print, print_number, gets, sets, shown, passed, error, line}
 
 -- `<init>` that calls that of Object
@@ -64,12 +39,12 @@ sum_suite = program (class (codes "Q") [] (102 ∷ []) ∷ []) []
     [] (test 32 102 ∷ [])
 
 sum_runs : shown (runs sum_suite (all_tests sum_suite)) ≡ Some ((passed (line (codes "45")) 109, []) ∷ [])
-unfolding builtin_classes builtin_fields builtin_methods builtin_defs class_bound own_interfaces is_below implements default_interfaces is_trivial layout blank form_at next_place parameters return_type narrow opening tree one_test runs step row row_here row_throw throws row_raise handler_for row_finish row_fail parts_of begin row_moves row_arith row_branches row_statics read_static write_static row_fields row_create new_object row_calls calls argument_count row_return hands_on kept_method select select_virtual select_interface select_special row_native native_object native_throwable native_string native_builder native_system native_print native_files native_env drive drives drive_first drive_init drive_set_up drive_method drive_tear_down judge digits add64 utf16_chars encode add32 int_wrap lookup_target hash_of nest children nest_cost row_arrays kind_fits class_fits l2i
+unfolding machine_on_literals
 sum_runs = refl
 
 -- one unit less is too few
 sum_under : outcome_of (one_test sum_suite (opening sum_suite) 1 108) ≡ None
-unfolding builtin_classes builtin_fields builtin_methods builtin_defs class_bound own_interfaces is_below implements default_interfaces is_trivial layout blank form_at next_place parameters return_type narrow opening tree one_test runs step row row_here row_throw throws row_raise handler_for row_finish row_fail parts_of begin row_moves row_arith row_branches row_statics read_static write_static row_fields row_create new_object row_calls calls argument_count row_return hands_on kept_method select select_virtual select_interface select_special row_native native_object native_throwable native_string native_builder native_system native_print native_files native_env drive drives drive_first drive_init drive_set_up drive_method drive_tear_down judge digits add64 utf16_chars encode add32 int_wrap lookup_target hash_of nest children nest_cost row_arrays kind_fits class_fits l2i
+unfolding machine_on_literals
 sum_under = refl
 
 -- an array of two arrays of three ints: 12 units for it, and its touches
@@ -84,7 +59,7 @@ grid_runs : shown (runs grid_suite (all_tests grid_suite)) ≡ Some ((
       sets (place.Elem 1 2) ∷ sets (place.Elem 0 0) ∷ sets (place.Head 2) ∷ sets (place.Elem 2 0) ∷ sets (place.Elem 2 1) ∷ sets (place.Elem 2 2) ∷
       sets (place.Elem 0 1) ∷ gets (place.Head 0) ∷ gets (place.Elem 0 1) ∷ gets (place.Head 2) ∷ [],
 ) ∷ [])
-unfolding builtin_classes builtin_fields builtin_methods builtin_defs class_bound own_interfaces is_below implements default_interfaces is_trivial layout blank form_at next_place parameters return_type narrow opening tree one_test runs step row row_here row_throw throws row_raise handler_for row_finish row_fail parts_of begin row_moves row_arith row_branches row_statics read_static write_static row_fields row_create new_object row_calls calls argument_count row_return hands_on kept_method select select_virtual select_interface select_special row_native native_object native_throwable native_string native_builder native_system native_print native_files native_env drive drives drive_first drive_init drive_set_up drive_method drive_tear_down judge digits add64 utf16_chars encode add32 int_wrap lookup_target hash_of nest children nest_cost row_arrays kind_fits class_fits l2i
+unfolding machine_on_literals
 grid_runs = refl
 
 -- sizes whose sum of costs passes 64 bits: the step costs the greatest 64-bit number
@@ -108,7 +83,7 @@ store_runs : shown (runs store_suite (all_tests store_suite)) ≡ Some ((
   sets (place.Head 2) ∷ sets (place.Elem 2 0) ∷ gets (place.Head 2) ∷ sets (place.Head 3) ∷ sets (place.Field 3 1) ∷ gets (place.Head 3) ∷
       gets (place.Head 3) ∷ gets (place.Field 3 1) ∷ [],
 ) ∷ [])
-unfolding builtin_classes builtin_fields builtin_methods builtin_defs class_bound own_interfaces is_below implements default_interfaces is_trivial layout blank form_at next_place parameters return_type narrow opening tree one_test runs step row row_here row_throw throws row_raise handler_for row_finish row_fail parts_of begin row_moves row_arith row_branches row_statics read_static write_static row_fields row_create new_object row_calls calls argument_count row_return hands_on kept_method select select_virtual select_interface select_special row_native native_object native_throwable native_string native_builder native_system native_print native_files native_env drive drives drive_first drive_init drive_set_up drive_method drive_tear_down judge digits add64 utf16_chars encode add32 int_wrap lookup_target hash_of nest children nest_cost row_arrays kind_fits class_fits l2i
+unfolding machine_on_literals
 store_runs = refl
 
 -- substring, concat and charAt; the last is out of range
@@ -125,7 +100,7 @@ text_runs : shown (runs text_suite (all_tests text_suite)) ≡ Some ((
       sets (place.Text 1) ∷ gets (place.Text 1) ∷ [],
 ) ∷
     (error 30 None [] 10, sets (place.Head 2) ∷ sets (place.Field 2 1) ∷ gets (place.Head 2) ∷ gets (place.Head 2) ∷ gets (place.Field 2 1) ∷ []) ∷ [])
-unfolding builtin_classes builtin_fields builtin_methods builtin_defs class_bound own_interfaces is_below implements default_interfaces is_trivial layout blank form_at next_place parameters return_type narrow opening tree one_test runs step row row_here row_throw throws row_raise handler_for row_finish row_fail parts_of begin row_moves row_arith row_branches row_statics read_static write_static row_fields row_create new_object row_calls calls argument_count row_return hands_on kept_method select select_virtual select_interface select_special row_native native_object native_throwable native_string native_builder native_system native_print native_files native_env drive drives drive_first drive_init drive_set_up drive_method drive_tear_down judge digits add64 utf16_chars encode add32 int_wrap lookup_target hash_of nest children nest_cost row_arrays kind_fits class_fits l2i
+unfolding machine_on_literals
 text_runs = refl
 
 -- a long is copied below an int: dup2_x1
@@ -135,7 +110,7 @@ moves_suite = program (class (codes "M") [] (102 ∷ []) ∷ []) []
     [] (test 32 102 ∷ [])
 
 moves_runs : shown (runs moves_suite (all_tests moves_suite)) ≡ Some ((passed (line (codes "7") ++ line (codes "1")) 20, []) ∷ [])
-unfolding builtin_classes builtin_fields builtin_methods builtin_defs class_bound own_interfaces is_below implements default_interfaces is_trivial layout blank form_at next_place parameters return_type narrow opening tree one_test runs step row row_here row_throw throws row_raise handler_for row_finish row_fail parts_of begin row_moves row_arith row_branches row_statics read_static write_static row_fields row_create new_object row_calls calls argument_count row_return hands_on kept_method select select_virtual select_interface select_special row_native native_object native_throwable native_string native_builder native_system native_print native_files native_env drive drives drive_first drive_init drive_set_up drive_method drive_tear_down judge digits add64 utf16_chars encode add32 int_wrap lookup_target hash_of nest children nest_cost row_arrays kind_fits class_fits l2i
+unfolding machine_on_literals
 moves_runs = refl
 
 -- a method that a superclass has is called past the one that overrides it, and an abstract one throws
@@ -159,7 +134,7 @@ super_runs : shown (runs super_suite (all_tests super_suite)) ≡ Some (
       sets (place.Head 1) ∷ gets (place.Head 1) ∷ sets (place.Head 2) ∷ sets (place.Field 2 1) ∷ gets (place.Head 2) ∷ gets (place.Head 2) ∷
           gets (place.Field 2 1) ∷ [],
     ) ∷ [])
-unfolding builtin_classes builtin_fields builtin_methods builtin_defs class_bound own_interfaces is_below implements default_interfaces is_trivial layout blank form_at next_place parameters return_type narrow opening tree one_test runs step row row_here row_throw throws row_raise handler_for row_finish row_fail parts_of begin row_moves row_arith row_branches row_statics read_static write_static row_fields row_create new_object row_calls calls argument_count row_return hands_on kept_method select select_virtual select_interface select_special row_native native_object native_throwable native_string native_builder native_system native_print native_files native_env drive drives drive_first drive_init drive_set_up drive_method drive_tear_down judge digits add64 utf16_chars encode add32 int_wrap lookup_target hash_of nest children nest_cost row_arrays kind_fits class_fits l2i
+unfolding machine_on_literals
 super_runs = refl
 
 -- a static that is set and printed, under a budget of each test
@@ -170,9 +145,9 @@ counter_suite b = program (class (codes "Counter") (2 ∷ []) (102 ∷ 103 ∷ [
     [] (record (test 32 102) { budget = b } ∷ record (test 32 103) { budget = b } ∷ [])
 
 budget_kept : suite_fault (counter_suite 8) ≡ None
-unfolding builtin_classes builtin_fields builtin_methods builtin_defs class_bound own_interfaces is_below implements default_interfaces is_trivial layout blank form_at next_place parameters return_type narrow opening tree one_test runs step row row_here row_throw throws row_raise handler_for row_finish row_fail parts_of begin row_moves row_arith row_branches row_statics read_static write_static row_fields row_create new_object row_calls calls argument_count row_return hands_on kept_method select select_virtual select_interface select_special row_native native_object native_throwable native_string native_builder native_system native_print native_files native_env drive drives drive_first drive_init drive_set_up drive_method drive_tear_down judge digits add64 utf16_chars encode add32 int_wrap lookup_target hash_of nest children nest_cost row_arrays kind_fits class_fits l2i suite_fault suite_limit
+unfolding machine_on_literals
 budget_kept = refl
 
 budget_passed : suite_fault (counter_suite 7) ≡ Some (over_budget 2 7)
-unfolding builtin_classes builtin_fields builtin_methods builtin_defs class_bound own_interfaces is_below implements default_interfaces is_trivial layout blank form_at next_place parameters return_type narrow opening tree one_test runs step row row_here row_throw throws row_raise handler_for row_finish row_fail parts_of begin row_moves row_arith row_branches row_statics read_static write_static row_fields row_create new_object row_calls calls argument_count row_return hands_on kept_method select select_virtual select_interface select_special row_native native_object native_throwable native_string native_builder native_system native_print native_files native_env drive drives drive_first drive_init drive_set_up drive_method drive_tear_down judge digits add64 utf16_chars encode add32 int_wrap lookup_target hash_of nest children nest_cost row_arrays kind_fits class_fits l2i suite_fault suite_limit
+unfolding machine_on_literals
 budget_passed = refl
