@@ -14,6 +14,7 @@ pub mod BuiltinRules
 pub mod Walks
 pub mod Places
 pub mod Tests
+pub mod FirstOver
 pub mod Interfaces
 pub mod Pointwise
 pub mod Standing

@@ -73,6 +73,15 @@ runs_on p w (t ∷ l) = elim (one_test p w t (test_at p t).budget) [ None ↦ No
 unfoldable pub runs : Program → List ℕ → Option (List Given)
 runs p l = runs_on p (opening p) l
 
+-- the first test of a list, begun in w, that gives nothing after those before it
+abbrev pub first_over_on : Program → World → List ℕ → Option ℕ
+first_over_on p w [] = None
+first_over_on p w (t ∷ l) = elim (one_test p w t (test_at p t).budget) [ None ↦ Some t | Some x ↦ first_over_on p x.world l ]
+
+-- the same of a list on one heap, from the opening world
+unfoldable pub first_over : Program → List ℕ → Option ℕ
+first_over p l = first_over_on p (opening p) l
+
 -- the whole suite in order
 abbrev pub all_tests : Program → List ℕ
 all_tests p = range_with_len 1 (length p.tests)

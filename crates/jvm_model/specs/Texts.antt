@@ -1,5 +1,5 @@
 -- The lines of a report on one test, and the texts of locations (this project's).
-use Rattle.std.specs.Prelude.{ℕ, List, [], ◌∷◌, ◌++◌, ◌+◌, ◌-◌, get_or, codes, decimal, cond, nat_lt, Option, Some, None}
+use Rattle.std.specs.Prelude.{ℕ, List, [], ◌∷◌, ◌++◌, ◌+◌, ◌-◌, get_or, map, length, count_by, codes, decimal, Bool, true, false, cond, nat_lt, Option, Some, None}
 use Rattle.et_base.specs.Quotes.{quoted_units, quoted_bytes, name_of}
 use Rattle.jvm_model.specs.declared.values.Location.{Location}
 use Rattle.jvm_model.specs.declared.values.Location.TheVariants as place
@@ -40,6 +40,36 @@ outcome_lines names t o = test_line names t o ++ out_line o.output
 -- `passed P failed F error E`
 unfoldable pub count_line : ℕ → ℕ → ℕ → List ℕ
 count_line p f e = codes "passed " ++ (decimal p ++ (codes " failed " ++ (decimal f ++ (codes " error " ++ (decimal e ++ (10 ∷ []))))))
+
+abbrev pub is_passed : Outcome → Bool
+is_passed o = elim o.verdict [ Passed ↦ true | Failed c ↦ false | Error c ↦ false ]
+
+abbrev pub is_failed : Outcome → Bool
+is_failed o = elim o.verdict [ Passed ↦ false | Failed c ↦ true | Error c ↦ false ]
+
+abbrev pub is_error : Outcome → Bool
+is_error o = elim o.verdict [ Passed ↦ false | Failed c ↦ false | Error c ↦ true ]
+
+-- the lines of tests by their numbers
+abbrev pub test_lines : Names → List (ℕ × Outcome) → List ℕ
+test_lines names [] = []
+test_lines names (x ∷ xs) = outcome_lines names x.0 x.1 ++ test_lines names xs
+
+-- the number of chains, or `-`
+abbrev pub chains_text : Option ℕ → List ℕ
+chains_text None = codes "-"
+chains_text (Some k) = decimal k
+
+-- `selected S executed C chains K`
+abbrev pub head_line : ℕ → ℕ → Option ℕ → List ℕ
+head_line s c k = codes "selected " ++ (decimal s ++ (codes " executed " ++ (decimal c ++ (codes " chains " ++ (chains_text k ++ (10 ∷ []))))))
+
+abbrev pub verdict_line : List Outcome → List ℕ
+verdict_line os = count_line (count_by is_passed os) (count_by is_failed os) (count_by is_error os)
+
+-- the report on tests by their numbers, of which so many were selected, in so many chains
+unfoldable pub report_on : Names → ℕ → Option ℕ → List (ℕ × Outcome) → List ℕ
+report_on names selected chains xs = codes "electric-run 1" ++ (10 ∷ (head_line selected (length xs) chains ++ (test_lines names xs ++ verdict_line (map (λ x. x.1) xs))))
 
 -- An object by its test and its number within the test, both from 1: the numbers of objects that each test made, in
 -- order, beginning with test t.
