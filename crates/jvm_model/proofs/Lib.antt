@@ -23,4 +23,4 @@ pub mod ExampleParts
 pub mod Examples
 mod LargerExamples
 mod MoreExamples
-mod LinkedExample
+pub mod LinkedExample

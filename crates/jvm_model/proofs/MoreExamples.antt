@@ -1,5 +1,5 @@
 -- Branches, arrays, strings, calls and budgets by computation.
-use Rattle.std.proofs.Common.{◌≡◌, ℕ, ◌+◌, ◌-◌, ◌^◌, List, [], ◌∷◌, ◌++◌, Option, Some, None, refl, pos, false}
+use Rattle.std.proofs.Common.{zero, suc, map, ◌≡◌, ℕ, ◌+◌, ◌-◌, ◌^◌, List, [], ◌∷◌, ◌++◌, Option, Some, None, refl, pos, false}
 use Rattle.std.specs.Prelude.{codes}
 use Rattle.jvm_model.specs.declared.values.Value.TheVariants.{Int, Long, Null}
 use Rattle.jvm_model.specs.declared.values.Base.TheVariants as base
@@ -10,7 +10,7 @@ use Rattle.jvm_model.specs.declared.instr.Conv.TheVariants as conv
 use Rattle.jvm_model.specs.declared.instr.Instr.{Instr}
 use Rattle.jvm_model.specs.declared.values.Kind.TheVariants as kind
 use Rattle.jvm_model.specs.declared.instr.Instr.TheVariants as form
-use Rattle.jvm_model.specs.declared.instr.Op.TheVariants.{Add}
+use Rattle.jvm_model.specs.declared.instr.Op.TheVariants.{Add, Div}
 use Rattle.jvm_model.specs.declared.instr.Sort.TheVariants as sort
 use Rattle.jvm_model.specs.declared.instr.IfTest.TheVariants as if_test
 use Rattle.jvm_model.specs.declared.program.Program.{Program}
@@ -19,6 +19,11 @@ use Rattle.jvm_model.specs.Step.{step}
 use Rattle.jvm_model.specs.Throwing.{throws}
 use Rattle.jvm_model.specs.RowsCreate.{nest_cost}
 use Rattle.jvm_model.specs.RowsCalls.{calls}
+use Rattle.jvm_model.specs.World.{World}
+use Rattle.jvm_model.specs.Access.{run}
+use Rattle.jvm_model.specs.State.{State, started, next, ended, no_turn}
+use Rattle.jvm_model.specs.Step.{step, turn}
+use Rattle.jvm_model.specs.Reached.{thrown_itself}
 use Rattle.jvm_model.proofs.OnLiterals.{machine_on_literals}
 use Rattle.jvm_model.proofs.ExampleParts.{program, class, body, fixed, plain, test, int_const, literal, static_int, get_static, put_static, returns, load_this, print, print_number, gets, sets, shown, passed, error, line}
 
@@ -151,3 +156,37 @@ budget_kept = refl
 budget_passed : suite_fault (counter_suite 7) ≡ Some (over_budget 2 7)
 unfolding machine_on_literals
 budget_passed = refl
+
+-- an interface, arrays of it and of arrays of it
+abbrev interface_suite : Program
+interface_suite = program
+    (record (class (codes "I") [] []) { flags = 0x0600 } ∷ class (codes "J") [] (102 ∷ 103 ∷ 104 ∷ []) ∷ [])
+    []
+    (fixed 33 (codes "asked") (codes "()V") (body 1 0 (int_const 2 ∷ (3, form.NewArray (kind.Array 1 (base.Class 32))) ∷ (3, form.InstanceOf (kind.Array 1 (base.Class 32))) ∷ print_number))
+    ∷ fixed 33 (codes "cast") (codes "()V") (body 1 0 (int_const 2 ∷ (3, form.NewArray (kind.Array 1 (base.Class 32))) ∷ (3, form.CheckCast (kind.Array 1 (base.Class 32))) ∷ (1, form.ArrayLength) ∷ print_number))
+    ∷ fixed 33 (codes "stored") (codes "()V") (body 3 0 (int_const 1 ∷ (3, form.NewArray (kind.Array 2 (base.Class 32))) ∷ int_const 0 ∷ int_const 0 ∷ (3, form.NewArray (kind.Array 1 (base.Class 32))) ∷ (1, form.ArrayStore cell.Ref) ∷ returns ∷ [])) ∷ [])
+    [] (test 33 102 ∷ test 33 103 ∷ test 33 104 ∷ [])
+
+-- an array of an interface is one of that interface's arrays, and an element of an array of such arrays (JVMS 6.5)
+interface_runs : shown (runs interface_suite (all_tests interface_suite)) ≡ Some (
+    (passed (line (codes "1")) 13, sets (place.Head 0) ∷ sets (place.Elem 0 0) ∷ sets (place.Elem 0 1) ∷ gets (place.Head 0) ∷ []) ∷
+    (passed (line (codes "2")) 14, sets (place.Head 1) ∷ sets (place.Elem 1 0) ∷ sets (place.Elem 1 1) ∷ gets (place.Head 1) ∷ gets (place.Head 1) ∷ []) ∷
+    (passed [] 15, sets (place.Head 2) ∷ sets (place.Elem 2 0) ∷ sets (place.Head 3) ∷ gets (place.Head 2) ∷ gets (place.Head 3) ∷ sets (place.Elem 2 0) ∷ []) ∷ [])
+unfolding machine_on_literals
+interface_runs = refl
+
+-- what the step after so many steps throws by itself
+abbrev thrown_at_step : Program → ℕ → State → World → Option ℕ
+thrown_at_step p zero s w = thrown_itself p s w
+thrown_at_step p (suc n) s w = elim (turn p s w) [ next t ↦ thrown_at_step p n t (run (step p s) w).world | ended v output ↦ None | no_turn ↦ None ]
+
+-- a division by zero
+abbrev divide_suite : Program
+divide_suite = program (class (codes "D") [] (102 ∷ []) ∷ []) []
+    (fixed 32 (codes "t") (codes "()V") (body 2 0 (int_const 1 ∷ int_const 0 ∷ (1, form.Binary Div false) ∷ returns ∷ [])) ∷ [])
+    [] (test 32 102 ∷ [])
+
+-- the fourth step divides, and the fifth raises what was thrown before
+divide_thrown : map (λ n. thrown_at_step divide_suite n (started divide_suite 1) (opening divide_suite)) (0 ∷ 1 ∷ 2 ∷ 3 ∷ 4 ∷ []) ≡ None ∷ None ∷ None ∷ Some 20 ∷ None ∷ []
+unfolding machine_on_literals thrown_itself
+divide_thrown = refl

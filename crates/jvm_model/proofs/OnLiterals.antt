@@ -30,6 +30,7 @@ use Rattle.std.specs.Char.Utf16.{utf16_chars}
 use lib.Utf8.{encode}
 use Rattle.std.specs.Int.{int_wrap}
 use Rattle.jvm_model.specs.RowsArrays.{row_arrays}
+use Rattle.jvm_model.specs.RowsCasts.{row_casts}
 use Rattle.jvm_model.specs.Kinds.{kind_fits, class_fits}
 
 -- what a proof unfolds to compute the runs of a suite that is written out
@@ -43,5 +44,5 @@ unfolding builtin_classes builtin_fields builtin_methods builtin_defs class_boun
     native_object native_throwable native_string native_builder native_system native_print
     native_files native_env drive drives drive_first drive_init drive_set_up drive_method
     drive_tear_down judge digits add64 utf16_chars encode add32 int_wrap lookup_target hash_of nest
-    children nest_cost row_arrays kind_fits class_fits l2i suite_fault suite_limit
+    children nest_cost row_arrays row_casts kind_fits class_fits l2i suite_fault suite_limit
 machine_on_literals = tt
