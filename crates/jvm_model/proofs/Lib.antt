@@ -15,6 +15,7 @@ pub mod Walks
 pub mod Places
 pub mod Tests
 pub mod FirstOver
+pub mod DescriptorLemmas
 pub mod Interfaces
 pub mod Pointwise
 pub mod Standing

@@ -2,6 +2,7 @@
 #![tactic(auto)]
 
 mod builtin;
+mod descriptors;
 mod instr;
 mod library;
 mod outcome;
@@ -14,6 +15,7 @@ pub use builtin::{
     ASSERTION_ERROR, BUILTIN_COUNT, CLINIT, INIT, NO_ARGUMENTS, OBJECT, PRINT_STREAM, STRING,
     STRING_BUILDER, THROWABLE,
 };
+pub use descriptors::{parameter_count, parameters, return_type};
 pub use instr::{Cell, Conv, IfTest, Instr, Op, Sort};
 pub use library::{ClassDef, FieldDef, MethodDef, Native};
 pub use outcome::{Cause, Next, Outcome, Own, Verdict};
