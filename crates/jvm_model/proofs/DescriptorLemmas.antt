@@ -1,5 +1,5 @@
 -- A descriptor's first type, and what comes after it.
-use Rattle.std.proofs.Common.{◌≡◌, ◌≢◌, ℕ, zero, suc, ◌<◌, ◌≤◌, List, [], ◌∷◌, length, take, drop, Bool, true, false, nat_eq, refl, ap, sym, ◌∙◌, arith, length-drop}
+use Rattle.std.proofs.Common.{◌≡◌, ◌≢◌, ℕ, zero, suc, ◌<◌, ◌≤◌, List, [], ◌∷◌, length, take, drop, Bool, true, false, nat_eq, refl, ap, ◌∙◌, arith, length-drop}
 use Rattle.std.proofs.lemmas.Bool.{false_from_ne_true, eqb-true}
 use Rattle.jvm_model.specs.Descriptors.{Scan, at_type, in_array, in_name, onto_first, types_in, past_types}
 use Rattle.jvm_model.specs.Scanning.{type_length, SplitsType, EndsTypes}

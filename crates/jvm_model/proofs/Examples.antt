@@ -17,9 +17,6 @@ use Rattle.jvm_model.specs.State.{started}
 use Rattle.jvm_model.specs.Classes.{literal_at}
 use Rattle.jvm_model.specs.Descriptors.{parameters, return_type}
 use Rattle.jvm_model.specs.Suite.{opening, whole, runs, all_tests}
-use Rattle.jvm_model.specs.Step.{step}
-use Rattle.jvm_model.specs.Throwing.{throws}
-use Rattle.jvm_model.specs.RowsCalls.{calls}
 use Rattle.jvm_model.proofs.OnLiterals.{machine_on_literals}
 use Rattle.jvm_model.proofs.ExampleParts.{program, class, body, fixed, plain, static, field, static_int, test, int_const, literal, get_static, put_static, call_static, returns, load_this, dup, print_number, gets, sets, shown, passed, failed, error, line}
 

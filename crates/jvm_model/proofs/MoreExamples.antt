@@ -16,9 +16,7 @@ use Rattle.jvm_model.specs.declared.instr.IfTest.TheVariants as if_test
 use Rattle.jvm_model.specs.declared.program.Program.{Program}
 use Rattle.jvm_model.specs.Suite.{Given, opening, one_test, runs, all_tests, over_budget, suite_fault}
 use Rattle.jvm_model.specs.Step.{step}
-use Rattle.jvm_model.specs.Throwing.{throws}
 use Rattle.jvm_model.specs.RowsCreate.{nest_cost}
-use Rattle.jvm_model.specs.RowsCalls.{calls}
 use Rattle.jvm_model.specs.World.{World}
 use Rattle.jvm_model.specs.Access.{run}
 use Rattle.jvm_model.specs.State.{State, started, next, ended, no_turn}

@@ -128,10 +128,14 @@ abbrev pub default_of : List ℕ → Value
 default_of [] = Null
 default_of (u ∷ us) = cond (member u (66 ∷ 67 ∷ 73 ∷ 83 ∷ 90 ∷ [])) (Int (pos 0)) (cond (nat_eq u 74) (Long (pos 0)) Null)
 
+-- the instance fields that a class declares
+abbrev pub plain_fields : Program → ℕ → List ℕ
+plain_fields p c = filter (λ f. not (is_static (field_at p f).flags)) (class_at p c).fields
+
 -- the instance fields of a class, superclass fields first
 abbrev pub layout_in : Program → List ℕ → List ℕ
 layout_in p [] = []
-layout_in p (c ∷ cs) = layout_in p cs ++ filter (λ f. not (is_static (field_at p f).flags)) (class_at p c).fields
+layout_in p (c ∷ cs) = layout_in p cs ++ plain_fields p c
 
 unfoldable pub layout : Program → ℕ → List ℕ
 layout p c = layout_in p (upwards p c)

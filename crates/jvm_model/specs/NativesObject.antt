@@ -29,7 +29,7 @@ sets_message p s vs o v = write (place.Field o message_field) v (answers p s vs)
 abbrev pub makes_message : Program → Working → List Value → Value → List ℕ → Access (Answer Working)
 makes_message p s vs r t = on_object (with_operands s vs) r (λ o. spend (1 + length t) (makes_text p t (λ m. sets_message p s vs o (Obj m))))
 
--- a String argument is the message, and another object none
+-- a String argument is the message; where the argument is another object, no message is written (this project's)
 abbrev pub keeps_string : Program → Working → List Value → Value → Value → ℕ → Access (Answer Working)
 keeps_string p s vs r v c = cond (nat_eq c string_class) (on_object (with_operands s vs) r (λ o. sets_message p s vs o v)) (answers p s vs)
 

@@ -28,7 +28,7 @@ fn type_length(units: &[u16]) -> usize
 }
 
 // The first type of a text whose parameters haven't ended, and what comes after it.
-#[tactic(auto, using(crate::proofs::DescriptorLemmas::splits, crate::proofs::DescriptorLemmas::type_within))]
+#[tactic(auto, using(crate::proofs::DescriptorLemmas::type_within))]
 fn split_type(units: &[u16]) -> Option<(&[u16], &[u16])>
     ensures found { IfSome result (λ x. SplitsType units.now x.0.now x.1.now) }
     ensures ended { IfNone result (EndsTypes units.now) }

@@ -1,15 +1,19 @@
-//! What can be asked of a program, of its classes, fields and methods, and of kinds of objects. Nothing here takes memory.
+//! What can be asked of a program, of its classes, fields and methods, and of kinds of objects. Only `layout` takes memory.
 
-ghost use Rattle.std.specs.Prelude.{◌≡◌, ◌<◌, ◌∷◌, [], flat_map, get_or, is_some, slice_get, option_copied, unwrap_or};
+ghost use Rattle.std.specs.Prelude.{◌≡◌, ◌++◌, IfOk, OnOk, ◌<◌, ◌∷◌, [], flat_map, get_or, is_some, slice_get, option_copied, unwrap_or};
 ghost use Rattle.std.specs.List.{list_any};
 ghost use Rattle.jvm_model.specs.Classes as classes;
-ghost use Rattle.jvm_model.specs.Classes.{class_at, field_at, method_at, no_class, no_field, no_method, literal_at, member, upwards_in, lineage_in};
+ghost use Rattle.jvm_model.specs.Classes.{layout_in, plain_fields, class_at, field_at, method_at, no_class, no_field, no_method, literal_at, member, upwards_in, lineage_in};
 ghost use Rattle.jvm_model.specs.Kinds as kinds;
 ghost use Rattle.jvm_model.specs.Selection.{has_code};
+ghost use Rattle.jvm_model.specs.RowsCalls.{argument_count};
 
 use crate::builtin::OBJECT;
+use crate::descriptors::parameter_count;
 use crate::program::{ClassRec, FieldRec, MethodRec, Program};
 use crate::values::{Base, Kind};
+use et_base::{Items, NoMemory};
+use std::alloc::Global;
 
 // Whether an access flag, a power of two, is set.
 fn has_flag(flag: u16, flags: u16) -> bool
@@ -315,6 +319,52 @@ impl Program {
         ensures { result ≡ classes.is_below self.now class above }
     {
         self.is_below_in(class_bound(), class, above)
+    }
+
+    // Appends the instance fields that a class declares.
+    fn push_plain_fields(&self, class: u32, fields: &mut Items<u32>) -> Result<(), NoMemory>
+        ensures { OnOk result (fields.new ≡ fields.old ++ plain_fields self.now class) }
+    {
+        for field in self.class_fields(class) {
+            if !self.is_static_field(*field) {
+                fields.push(*field)?;
+            }
+        }
+        Ok(())
+    }
+
+    // Appends the instance fields of a class and of those above it, at most so many steps up.
+    fn push_layout(&self, steps: u32, class: u32, fields: &mut Items<u32>) -> Result<(), NoMemory>
+        ensures { OnOk result (fields.new ≡ fields.old ++ layout_in self.now (upwards_in self.now steps class)) }
+    {
+        if steps == 0 {
+            return Ok(());
+        }
+        match self.superclass(class) {
+            None => self.push_plain_fields(class, fields),
+            Some(above) => {
+                self.push_layout(steps - 1, above, fields)?;
+                self.push_plain_fields(class, fields)
+            }
+        }
+    }
+
+    /// The instance fields of a class's objects, those of superclasses first (this project's order).
+    #[tactic(auto, unfolding(crate::specs::Classes::layout))]
+    pub fn layout(&self, alloc: Global, class: u32) -> Result<Items<u32>, NoMemory>
+        ensures { IfOk result (λ fields. fields ≡ classes.layout self.now class) }
+    {
+        let mut fields = Items::new(alloc);
+        self.push_layout(class_bound(), class, &mut fields)?;
+        Ok(fields)
+    }
+
+    /// How many arguments a method's descriptor asks for, the receiver left aside: a long is one.
+    #[tactic(auto, unfolding(crate::specs::RowsCalls::argument_count))]
+    pub fn argument_count(&self, method: u32) -> usize
+        ensures { result ≡ argument_count self.now method }
+    {
+        parameter_count(self.method_descriptor(method))
     }
 
     // An interface is among these and those above them, at most so many steps up.
