@@ -4,8 +4,7 @@ use Rattle.std.proofs.lemmas.List.{length-map}
 use Rattle.std.specs.List.{range_with_len}
 use Rattle.jvm_model.specs.Library.{builtin_defs}
 use Rattle.builtin_lib.specs.declared.rows.ClassRow.{ClassRow}
-use Rattle.builtin_lib.specs.Rows.{class_of}
-use Rattle.builtin_lib.specs.Counts.{field_count, method_count}
+use Rattle.builtin_lib.specs.Rows.{class_of, field_count, method_count}
 
 range_suc : (a n j : ℕ) → a + n ≡ j → range_with_len a (suc n) ≡ range_with_len a n ++ (j ∷ [])
 range_suc a zero j e = ap (λ (x : ℕ). x ∷ []) (omega arith)

@@ -1,5 +1,5 @@
 -- What rows of the tables stand for.
-use Rattle.std.specs.Prelude.{ℕ, List, [], ◌∷◌, map, Option, Some, None, option_map, ◌&&◌, if◌then◌else◌}
+use Rattle.std.specs.Prelude.{ℕ, ◌+◌, List, [], ◌∷◌, length, map, Option, Some, None, option_map, ◌&&◌, if◌then◌else◌}
 use Rattle.jvm_model.specs.declared.library.ClassDef.{ClassDef}
 use Rattle.jvm_model.specs.declared.library.FieldDef.{FieldDef}
 use Rattle.jvm_model.specs.declared.library.MethodDef.{MethodDef}
@@ -34,3 +34,12 @@ native_row rows name descriptor = native_in (map method_of rows) name descriptor
 
 abbrev pub class_row : List ClassRow → List ℕ → List ℕ → List ℕ → Option Native
 class_row rows class name descriptor = native_among (map class_of rows) class name descriptor
+
+-- how many fields and methods classes have together
+abbrev pub field_count : List ClassDef → ℕ
+field_count [] = 0
+field_count (d ∷ ds) = length d.fields + field_count ds
+
+abbrev pub method_count : List ClassDef → ℕ
+method_count [] = 0
+method_count (d ∷ ds) = length d.methods + method_count ds

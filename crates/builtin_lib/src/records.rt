@@ -15,8 +15,7 @@ ghost use Rattle.jvm_model.specs.Library.{
   number_in,
   superclass_in,
 };
-ghost use Rattle.builtin_lib.specs.Rows.{class_of, field_of, method_of};
-ghost use Rattle.builtin_lib.specs.Counts.{field_count, method_count};
+ghost use Rattle.builtin_lib.specs.Rows.{class_of, field_of, method_of, field_count, method_count};
 
 use crate::rows::{ClassRow, FieldRow, MethodRow, units_of};
 use crate::tables::class_rows;

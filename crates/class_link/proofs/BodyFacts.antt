@@ -30,16 +30,17 @@ use Rattle.jvm_model.specs.declared.program.Placed.{Placed}
 use Rattle.jvm_model.specs.Lookup.{find_field, find_method, lacks_method}
 use Rattle.jvm_model.specs.Selection.{named_class}
 use Rattle.jvm_model.specs.Linked.{IsForm, IsPlace, IsHandler, IsBody, KeysAscend, Ascends, place_listed, dims_of}
-use Rattle.class_link.specs.declared.references.Target.{Target}
-use Rattle.class_link.specs.declared.references.Target.TheVariants as target
+use Rattle.code_forms.specs.declared.references.Target.{Target}
+use Rattle.code_forms.specs.declared.references.Target.TheVariants as target
 use Rattle.class_link.specs.ClassNames.{text_at, name_at, class_number, base_of, array_kind, kind_of}
-use Rattle.class_link.specs.References.{Setting, field_target, method_target, target_of, number_in, index_in}
-use Rattle.class_link.specs.Forms as forms
-use Rattle.class_link.specs.Forms.{form_of}
+use Rattle.class_link.specs.References.{Setting, field_target, method_target, target_of}
+use Rattle.code_forms.specs.Operands.{number_in, index_in}
+use Rattle.code_forms.specs.Forms as forms
+use Rattle.code_forms.specs.Forms.{form_of}
 use Rattle.class_link.specs.Bodies.{placed, handler_rec, linked_body}
-use Rattle.class_link.proofs.FormCases.{form_case, field_case, method_case, type_case}
-use Rattle.class_link.proofs.FormFacts.{MakesNested, plain_form}
-use Rattle.class_link.proofs.ShapeFacts.{branch_args, null_args, far_args, table_args, look_up_args, nested_args, first_index}
+use Rattle.code_forms.proofs.FormCases.{form_case, field_case, method_case, type_case}
+use Rattle.code_forms.proofs.FormFacts.{MakesNested, plain_form}
+use Rattle.code_forms.proofs.ShapeFacts.{branch_args, null_args, far_args, table_args, look_up_args, nested_args, first_index}
 
 -- ---- what entries stand for
 

@@ -8,8 +8,9 @@ use Rattle.class_reader.specs.declared.parts.RawHandler.{RawHandler}
 use Rattle.jvm_model.specs.declared.program.Placed.{Placed}
 use Rattle.jvm_model.specs.declared.program.Handler.{Handler}
 use Rattle.jvm_model.specs.declared.program.FrameRec.{FrameRec}
-use Rattle.class_link.specs.declared.references.Target.{Target}
-use Rattle.class_link.specs.References.{Setting, target_of, index_in}
+use Rattle.code_forms.specs.declared.references.Target.{Target}
+use Rattle.class_link.specs.References.{Setting, target_of}
+use Rattle.code_forms.specs.Operands.{index_in}
 use Rattle.class_link.specs.Bodies.{targets, target_in, placed, placed_by, handler_rec, frame_recs, is_cut, linked_body}
 
 mapped_at : {A B : Type 0} (f : A → B) (xs : List A) (i : ℕ) (d : A) → slice_index_or (map f xs) i (f d) ≡ f (slice_index_or xs i d)

@@ -11,13 +11,13 @@ use Rattle.jvm_model.specs.declared.program.Body.{Body}
 use Rattle.jvm_model.specs.declared.program.TestEntry.{TestEntry}
 use Rattle.jvm_model.specs.Builtin.{throwable_class}
 use Rattle.jvm_model.specs.Classes.{method_at, is_static}
-use Rattle.class_link.specs.declared.references.Use.{Use}
-use Rattle.class_link.specs.declared.references.Use.TheVariants as used
-use Rattle.class_link.specs.declared.references.Target.{Target}
-use Rattle.class_link.specs.declared.references.Target.TheVariants as target
+use Rattle.code_forms.specs.declared.references.Use.{Use}
+use Rattle.code_forms.specs.declared.references.Use.TheVariants as used
+use Rattle.code_forms.specs.declared.references.Target.{Target}
+use Rattle.code_forms.specs.declared.references.Target.TheVariants as target
 use Rattle.class_link.specs.Assembly.{assembled, skeleton}
-use Rattle.class_link.specs.References.{fits_sort, method_fits, field_fits, type_fits, fits}
-use Rattle.class_link.proofs.Alike.{Outline}
+use Rattle.code_forms.specs.Uses.{fits_sort, method_fits, field_fits, type_fits, fits}
+use Rattle.member_lookup.proofs.Alike.{Outline}
 use Rattle.class_link.proofs.SkeletonFacts.{outline_same, below_same}
 
 module _ (body : ClassParts → CodePart → Body) (cs : List ClassParts) (tests : List TestEntry) (files : List (List ℕ × List ℕ)) where

@@ -1,4 +1,3 @@
-pub mod Alike
 pub mod Blocks
 pub mod Assembled
 pub mod Numbered
@@ -6,10 +5,6 @@ pub mod Records
 pub mod Tables
 pub mod Listed
 pub mod Distinct
-pub mod Ancestry
-pub mod Walking
-pub mod MentionFacts
-pub mod Lookups
 pub mod FaultLaws
 pub mod MarkLaws
 pub mod TextLaws
@@ -20,21 +15,17 @@ pub mod MentionLaws
 pub mod ClassSizes
 pub mod AssemblyLaws
 pub mod BodyLaws
-pub mod TestLaws
 pub mod Pools
 pub mod Openings
 pub mod SkeletonFacts
 pub mod ClassKinds
 pub mod Found
 pub mod SuiteTests
-pub mod FormCases
 pub mod TargetFacts
 pub mod Referenced
 pub mod Owners
-pub mod FormFacts
 pub mod FitsAlike
 pub mod LinkedCode
 pub mod LinkLaw
-pub mod ShapeFacts
 pub mod BodyFacts
 pub mod LinkSteps

@@ -26,7 +26,8 @@ use Rattle.class_link.specs.declared.fault.LinkFault.{LinkFault}
 use Rattle.class_link.specs.declared.lines.TestLines.{TestLines}
 use Rattle.class_link.specs.Assembly.{assembled, skeleton}
 use Rattle.class_link.specs.Bodies.{linked_body}
-use Rattle.class_link.specs.Faults.{first_some, duplicate_fault, headings_fault, all_references_fault, IsFirstCycle}
+use Rattle.class_link.specs.Faults.{first_some, duplicate_fault, headings_fault, all_references_fault}
+use Rattle.member_lookup.specs.Ancestors.{IsFirstCycle}
 use Rattle.class_link.specs.Link.{◌>>=◌, setting, unless, cycle_fault, tests_of, program_of, link_by, AreLines, AreDifferent}
 use Rattle.class_link.proofs.Assembled.{holds_builtins, class_count, method_cases}
 use Rattle.class_link.proofs.Records.{class_numbers, field_class, method_class, method_record}
@@ -38,7 +39,7 @@ use Rattle.class_link.proofs.ClassKinds.{class_kinds}
 use Rattle.class_link.proofs.SuiteTests.{IsGood, all_good}
 use Rattle.class_link.proofs.Owners.{static_owner}
 use Rattle.class_link.proofs.LinkedCode.{CodeRules, names_body, body_kind, body_found}
-use Rattle.class_link.proofs.ShapeFacts.{calls_by_sort}
+use Rattle.code_forms.proofs.ShapeFacts.{calls_by_sort}
 use Rattle.class_link.proofs.BodyFacts.{makes_nested, is_body}
 
 -- the code of each class file is as its rules say

@@ -29,13 +29,15 @@ use Rattle.jvm_model.specs.Classes.{method_at, is_static, is_below}
 use Rattle.jvm_model.specs.Selection.{named_class}
 use Rattle.jvm_model.specs.Lookup.{find_method}
 use Rattle.jvm_model.specs.Linked.{IsClass, NamesForm, NamesBody, IsFormKind, IsBodyKind, IsFormFound, IsBody, is_interface_at}
-use Rattle.class_link.specs.declared.references.Use.TheVariants as used
-use Rattle.class_link.specs.declared.references.Target.{Target}
-use Rattle.class_link.specs.declared.references.Target.TheVariants as target
+use Rattle.code_forms.specs.declared.references.Use.TheVariants as used
+use Rattle.code_forms.specs.declared.references.Target.{Target}
+use Rattle.code_forms.specs.declared.references.Target.TheVariants as target
 use Rattle.class_link.specs.ClassNames.{text_at, name_at, all_names, class_number, number_or_first, base_of, array_kind, kind_of}
 use Rattle.class_link.specs.Assembly.{skeleton}
-use Rattle.class_link.specs.References.{Setting, target_of, index_in, fits}
-use Rattle.class_link.specs.Forms.{form_of}
+use Rattle.class_link.specs.References.{Setting, target_of}
+use Rattle.code_forms.specs.Operands.{index_in}
+use Rattle.code_forms.specs.Uses.{fits}
+use Rattle.code_forms.specs.Forms.{form_of}
 use Rattle.class_link.specs.Bodies.{placed, caught, handler_rec, linked_body}
 use Rattle.class_link.specs.Faults.{all_references_fault, references_fault}
 use Rattle.class_link.specs.Link.{setting, program_of}
@@ -45,7 +47,7 @@ use Rattle.class_link.proofs.SkeletonFacts.{below_same}
 use Rattle.class_link.proofs.TargetFacts.{IsTarget, target_is}
 use Rattle.class_link.proofs.Referenced.{use_fits, op_used, handler_used, no_fault}
 use Rattle.class_link.proofs.FitsAlike.{fits_same}
-use Rattle.class_link.proofs.FormFacts.{NamesTarget, FindsTarget, MakesNested, FitsUse, CallsBySort, OwnsStatics, names_form, found_form, kind_form}
+use Rattle.code_forms.proofs.FormFacts.{NamesTarget, FindsTarget, MakesNested, FitsUse, CallsBySort, OwnsStatics, names_form, found_form, kind_form}
 
 -- what is known of the code of a class file, beside its references
 pub record CodeRules (s : Setting) (slots : List (Option Entry)) (code : CodePart) : Type 0 where

@@ -8,8 +8,8 @@ use Rattle.class_pool.specs.Pool.{entry_of}
 use Rattle.class_reader.specs.declared.parts.ClassParts.{ClassParts}
 use Rattle.jvm_model.specs.declared.program.Program.{Program}
 use Rattle.class_link.specs.declared.fault.LinkFault.{LinkFault}
-use Rattle.class_link.specs.declared.references.Use.{Use}
-use Rattle.class_link.specs.declared.references.Target.{Target}
+use Rattle.code_forms.specs.declared.references.Use.{Use}
+use Rattle.code_forms.specs.declared.references.Target.{Target}
 use Rattle.class_link.specs.References.{Setting, target_of, missing_for, uses}
 use Rattle.class_link.specs.Bodies.{targets, target_in}
 use Rattle.class_link.specs.Faults.{entry_fault, first_some, indices, missing_or, references_fault, target_fault, uses_at}

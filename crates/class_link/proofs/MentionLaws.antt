@@ -8,7 +8,7 @@ use Rattle.std.proofs.lemmas.Map.Views.{any-filter_same}
 use Rattle.std.proofs.lemmas.Bool.Decides.{nat_tests}
 use Rattle.indexmap.specs.IndexSet.{insert_key}
 use Rattle.jvm_model.specs.Classes.{first_mentions}
-use Rattle.class_link.specs.Assembly.{to_list}
+use Rattle.member_lookup.specs.Ancestors.{to_list}
 
 -- the numbers that aren't a
 abbrev others : ℕ → List ℕ → List ℕ

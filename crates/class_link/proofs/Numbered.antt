@@ -18,7 +18,8 @@ use Rattle.jvm_model.specs.Library.{builtin_classes, builtin_fields, builtin_met
 use Rattle.jvm_model.specs.Classes.{class_at, no_class, first_mentions}
 use Rattle.jvm_model.specs.Linked.{IsClass}
 use Rattle.class_link.specs.ClassNames.{own_name, all_names, class_number, number_or_first}
-use Rattle.class_link.specs.Assembly.{class_recs, to_list, assembled}
+use Rattle.class_link.specs.Assembly.{class_recs, assembled}
+use Rattle.member_lookup.specs.Ancestors.{to_list}
 use Rattle.class_link.proofs.Assembled.{class_count}
 
 -- ---- units

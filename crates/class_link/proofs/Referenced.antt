@@ -10,10 +10,12 @@ use Rattle.class_reader.specs.declared.parts.ClassParts.{ClassParts}
 use Rattle.class_reader.specs.declared.parts.MemberPart.{MemberPart}
 use Rattle.class_reader.specs.declared.parts.CodePart.{CodePart}
 use Rattle.class_reader.specs.declared.parts.RawHandler.{RawHandler}
-use Rattle.class_link.specs.declared.references.Use.{Use}
-use Rattle.class_link.specs.declared.references.Use.TheVariants as used
-use Rattle.class_link.specs.declared.references.Target.{Target}
-use Rattle.class_link.specs.References.{Setting, target_of, missing_for, use_of, index_in, op_use, handler_use, code_uses, uses, fits}
+use Rattle.code_forms.specs.declared.references.Use.{Use}
+use Rattle.code_forms.specs.declared.references.Use.TheVariants as used
+use Rattle.code_forms.specs.declared.references.Target.{Target}
+use Rattle.class_link.specs.References.{Setting, target_of, missing_for, op_use, handler_use, code_uses, uses}
+use Rattle.code_forms.specs.Uses.{use_of, fits}
+use Rattle.code_forms.specs.Operands.{index_in}
 use Rattle.class_link.specs.Faults.{indices, uses_at, all_fit, target_fault, entry_fault, references_fault, all_references_fault}
 use Rattle.class_link.proofs.Blocks.{left_place, right_place}
 use Rattle.class_link.proofs.Pools.{none_both, first_none}

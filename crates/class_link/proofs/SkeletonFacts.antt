@@ -18,8 +18,8 @@ use Rattle.jvm_model.specs.Driver.{plain_method_in}
 use Rattle.jvm_model.specs.Linked.{IsAncestor, direct, further, test_method}
 use Rattle.class_link.specs.ClassNames.{text_at}
 use Rattle.class_link.specs.Assembly.{bare_body, method_rec, method_recs, assembled, skeleton}
-use Rattle.class_link.proofs.Alike as alike
-use Rattle.class_link.proofs.Alike.{Outline, outline}
+use Rattle.member_lookup.proofs.Alike as alike
+use Rattle.member_lookup.proofs.Alike.{Outline, outline}
 
 mapped_some : {A B : Type 0} (f g : A → B) (o : Option A) → is_some (option_map f o) ≡ is_some (option_map g o)
 mapped_some f g None = refl

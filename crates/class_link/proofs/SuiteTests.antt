@@ -24,7 +24,7 @@ use Rattle.class_link.specs.ClassNames.{all_names, class_number}
 use Rattle.class_link.specs.Assembly.{assembled, skeleton}
 use Rattle.class_link.specs.Faults.{holds_tests, is_test_method, entry_with, test_in, test_entry}
 use Rattle.class_link.specs.Link.{setting, tests_of, is_test_name}
-use Rattle.class_link.proofs.Alike.{Outline, outline}
+use Rattle.member_lookup.proofs.Alike.{Outline, outline}
 use Rattle.class_link.proofs.Numbered.{number_is}
 use Rattle.class_link.proofs.Records.{class_numbers}
 use Rattle.class_link.proofs.SkeletonFacts.{class_same, outline_same, test_method_same, plain_method_same}

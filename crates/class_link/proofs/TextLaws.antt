@@ -4,12 +4,7 @@ use Rattle.std.specs.List.{list_any, prefix_len}
 use Rattle.std.specs.Cmp.Lexicographic.{pointwise}
 use Rattle.std.proofs.lemmas.List.{map-append, length-map}
 use Rattle.jvm_model.specs.World.{same_units}
-
-pub as_units : (x y : List ℕ) → pointwise nat_eq x y ≡ same_units x y
-as_units [] [] = refl
-as_units [] (b ∷ y) = refl
-as_units (a ∷ x) [] = refl
-as_units (a ∷ x) (b ∷ y) = ap (λ (t : Bool). nat_eq a b && t) (as_units x y)
+use Rattle.member_lookup.proofs.TextLaws.{as_units}
 
 -- a test of items, and one of what they are mapped to, which agree
 any_mapped : {A B : Type 0} (f : A → B) (p : A → Bool) (q : B → Bool) → ((x : A) → p x ≡ q (f x)) → (xs : List A) → list_any p xs ≡ list_any q (map f xs)

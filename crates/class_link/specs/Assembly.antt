@@ -22,14 +22,11 @@ use Rattle.jvm_model.specs.Library.{builtin_classes, builtin_fields, builtin_met
 use Rattle.jvm_model.specs.Classes.{is_static, clinit_name, default_of, first_mentions}
 use Rattle.jvm_model.specs.Driver.{no_arguments}
 use Rattle.jvm_model.specs.Narrow.{narrowed}
+use Rattle.member_lookup.specs.Ancestors.{to_list}
 use Rattle.class_link.specs.ClassNames.{text_at, name_at, own_name, all_names, class_number, number_or_first, needed_class}
 use Rattle.class_link.specs.Literals.{literals, literal_number}
 
 -- ---- classes
-
-abbrev pub to_list : Option ℕ → List ℕ
-to_list None = []
-to_list (Some n) = n ∷ []
 
 -- the class that an entry names, an array's innermost element class, where it is there
 abbrev pub mentioned_by : List (List ℕ) → List (Option Entry) → Option Entry → List ℕ

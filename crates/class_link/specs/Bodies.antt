@@ -14,10 +14,11 @@ use Rattle.jvm_model.specs.declared.program.Handler.{Handler}
 use Rattle.jvm_model.specs.declared.program.FrameRec.{FrameRec}
 use Rattle.jvm_model.specs.declared.program.TypeRec.{TypeRec}
 use Rattle.jvm_model.specs.declared.program.TypeRec.TheVariants.{Plain, Object, Uninit}
-use Rattle.class_link.specs.declared.references.Target.{Target}
+use Rattle.code_forms.specs.declared.references.Target.{Target}
 use Rattle.class_link.specs.ClassNames.{name_at, number_or_first}
-use Rattle.class_link.specs.References.{Setting, target_of, index_in}
-use Rattle.class_link.specs.Forms.{form_of}
+use Rattle.class_link.specs.References.{Setting, target_of}
+use Rattle.code_forms.specs.Operands.{index_in}
+use Rattle.code_forms.specs.Forms.{form_of}
 
 -- what the entries of a pool stand for, from index 1 on, and the one of an index
 abbrev pub targets : Setting → List (Option Entry) → List (Option Target)

@@ -1,5 +1,5 @@
 -- The faults of linking, each by itself.
-use Rattle.std.specs.Prelude.{ℕ, ◌+◌, ◌<◌, List, [], ◌∷◌, ◌++◌, length, map, option_and_then, is_some, Option, Some, None, Bool, true, false, not, ◌&&◌, ◌||◌, cond, nat_eq, nat_le}
+use Rattle.std.specs.Prelude.{ℕ, ◌+◌, List, [], ◌∷◌, ◌++◌, length, map, option_and_then, is_some, Option, Some, None, Bool, true, false, not, ◌&&◌, ◌||◌, cond, nat_eq, nat_le}
 use Rattle.std.specs.List.{list_any, list_all, range_with_len}
 use Rattle.class_pool.specs.declared.pool.Entry.{Entry}
 use Rattle.class_pool.specs.Pool.{entry_of, is_class}
@@ -13,14 +13,15 @@ use Rattle.jvm_model.specs.Library.{builtin_classes}
 use Rattle.jvm_model.specs.Classes.{class_at, method_at, is_static, is_interface, is_below, member, init_name}
 use Rattle.jvm_model.specs.RowsCreate.{is_bare}
 use Rattle.jvm_model.specs.Driver.{plain_method_in}
-use Rattle.jvm_model.specs.Linked.{is_interface_at, IsAncestor, test_method}
+use Rattle.jvm_model.specs.Linked.{is_interface_at, test_method}
 use Rattle.class_link.specs.declared.fault.LinkFault.{LinkFault}
 use Rattle.class_link.specs.declared.fault.LinkFault.TheVariants as fault
 use Rattle.class_link.specs.declared.lines.TestLine.{TestLine}
-use Rattle.class_link.specs.declared.references.Use.{Use}
-use Rattle.class_link.specs.declared.references.Target.{Target}
+use Rattle.code_forms.specs.declared.references.Use.{Use}
+use Rattle.code_forms.specs.declared.references.Target.{Target}
 use Rattle.class_link.specs.ClassNames.{name_at, own_name, class_number, number_or_first, missing}
-use Rattle.class_link.specs.References.{Setting, target_of, missing_for, uses, fits}
+use Rattle.class_link.specs.References.{Setting, target_of, missing_for, uses}
+use Rattle.code_forms.specs.Uses.{fits}
 
 -- the first of what f gives for the items
 abbrev pub first_some : {A B : Type 0} → (A → Option B) → List A → Option B
@@ -67,13 +68,6 @@ heading_fault s c i = cond (nat_eq i c.super_class || member i c.interfaces) (mi
 -- the first fault of a class's superclass and superinterfaces, by pool index
 unfoldable pub headings_fault : Setting → ClassParts → Option LinkFault
 headings_fault s c = first_some (heading_fault s c) (indices c)
-
--- ---- cycles
-
--- the first given class that is its own ancestor, by its place among the class files
-abbrev pub IsFirstCycle : Program → Option ℕ → Type 0
-IsFirstCycle p None = (c : ℕ) → IsAncestor p c c → ⊥
-IsFirstCycle p (Some i) = IsAncestor p (builtin_count + i) (builtin_count + i) × ((c : ℕ) → c < builtin_count + i → IsAncestor p c c → ⊥)
 
 -- ---- references
 

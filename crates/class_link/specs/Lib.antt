@@ -2,12 +2,9 @@ pub mod ClassNames
 pub mod Literals
 pub mod Assembly
 pub mod References
-pub mod Forms
 pub mod Bodies
 pub mod Faults
 pub mod Link
-pub mod Ancestors
-pub mod Walks
 pub mod Answers
 pub mod Filling
 pub mod Marks

@@ -16,7 +16,8 @@ use Rattle.class_link.specs.Literals.{literals}
 use Rattle.class_link.specs.Assembly.{assembled, skeleton}
 use Rattle.class_link.specs.References.{Setting}
 use Rattle.class_link.specs.Bodies.{linked_body}
-use Rattle.class_link.specs.Faults.{first_some, duplicate_fault, headings_fault, all_references_fault, test_entry, IsFirstCycle}
+use Rattle.class_link.specs.Faults.{first_some, duplicate_fault, headings_fault, all_references_fault, test_entry}
+use Rattle.member_lookup.specs.Ancestors.{IsFirstCycle}
 
 infixl 10 ◌>>=◌
 abbrev pub ◌>>=◌ : {A B : Type 0} → Result A LinkFault → (A → Result B LinkFault) → Result B LinkFault

@@ -8,10 +8,11 @@ use Rattle.jvm_model.specs.declared.program.Program.{Program}
 use Rattle.jvm_model.specs.Classes.{member}
 use Rattle.class_link.specs.declared.fault.LinkFault.{LinkFault}
 use Rattle.class_link.specs.declared.fault.LinkFault.TheVariants as fault
-use Rattle.class_link.specs.declared.references.Use.{Use}
-use Rattle.class_link.specs.declared.references.Target.{Target}
+use Rattle.code_forms.specs.declared.references.Use.{Use}
+use Rattle.code_forms.specs.declared.references.Target.{Target}
 use Rattle.class_link.specs.ClassNames.{own_name}
-use Rattle.class_link.specs.References.{Setting, missing_for, fits}
+use Rattle.class_link.specs.References.{Setting, missing_for}
+use Rattle.code_forms.specs.Uses.{fits}
 use Rattle.class_link.specs.Bodies.{target_in}
 use Rattle.class_link.specs.Faults.{missing_or, wrong_unless}
 

@@ -1,20 +1,18 @@
 //! The code of a method, its references resolved (JVMS 4.7.3 and 4.7.4).
 
 ghost use Rattle.std.specs.Prelude.{◌≡◌, ◌++◌, [], get_or, map, option_map, IfOk, OnOk};
-ghost use Rattle.class_link.specs.References as references;
+ghost use Rattle.code_forms.specs.Operands as operands;
 ghost use Rattle.class_link.specs.Bodies as bodies;
 ghost use Rattle.class_link.specs.Assembly.{bodies_of};
 
 use crate::entries::{copy, name_at};
-use crate::forms::form_of;
 use crate::names::ClassNames;
-use crate::operands::index_in;
-use crate::references::Target;
 use crate::setting::Setting;
 use crate::targets::Targets;
 use class_pool::Entry;
 use class_reader::{ClassFile, CodePart, MapFrame, MapPart, MapType, MemberPart, RawHandler};
 use code_decode::RawOp;
+use code_forms::{Target, form_of, index_in};
 use et_base::{Items, NoMemory};
 use jvm_model::{Body, FrameRec, Handler, Placed, TypeRec};
 use std::alloc::Global;
@@ -33,7 +31,7 @@ fn target_in(targets: &[Option<Target>], index: u16) -> Option<Target>
 }
 
 fn placed(alloc: Global, targets: &[Option<Target>], op: &RawOp) -> Result<Placed, NoMemory>
-    ensures { IfOk result (λ x. x ≡ bodies.placed_by (bodies.target_in targets.now (references.index_in op.now)) op.now) }
+    ensures { IfOk result (λ x. x ≡ bodies.placed_by (bodies.target_in targets.now (operands.index_in op.now)) op.now) }
 {
     let form = form_of(alloc, target_in(targets, index_in(op)), op)?;
     Ok(Placed { pc: op.pc, form })
@@ -44,7 +42,7 @@ fn code_of(
     targets: &[Option<Target>],
     ops: &[RawOp],
 ) -> Result<Items<Placed>, NoMemory>
-    ensures { IfOk result (λ xs. xs ≡ map (λ o. bodies.placed_by (bodies.target_in targets.now (references.index_in o)) o) ops.now) }
+    ensures { IfOk result (λ xs. xs ≡ map (λ o. bodies.placed_by (bodies.target_in targets.now (operands.index_in o)) o) ops.now) }
 {
     let mut code = Items::new(alloc);
     for op in ops {

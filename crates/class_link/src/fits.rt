@@ -5,14 +5,13 @@ ghost use Rattle.std.specs.List.{list_any};
 ghost use Rattle.jvm_model.specs.Classes as classes;
 ghost use Rattle.jvm_model.specs.Classes.{class_at, field_at, member, method_at, upwards};
 ghost use Rattle.jvm_model.specs.Linked as linked;
-ghost use Rattle.class_link.specs.References as references;
+ghost use Rattle.code_forms.specs.Uses as uses;
 
-use crate::lookup::{class_bound, is_interface, is_static};
-use crate::references::{Target, Use};
 use crate::targets::named_class;
-use crate::walk::{interfaces, superclass};
 use class_pool::Entry;
+use code_forms::{Target, Use};
 use jvm_model::{Kind, Program};
+use member_lookup::{class_bound, interfaces, is_interface, is_static, superclass};
 
 // The class `java.lang.Throwable`.
 const THROWABLE: u32 = 7;
@@ -86,7 +85,7 @@ fn is_static_field(p: &Program, field: u32) -> bool
 
 // The entry is an InterfaceMethodref exactly where the class is an interface.
 fn fits_sort(p: &Program, entry: Option<&Entry>, kind: Kind) -> bool
-    ensures { result ≡ references.fits_sort p.now (option_copied entry.entry) kind }
+    ensures { result ≡ uses.fits_sort p.now (option_copied entry.entry) kind }
 {
     match entry {
         Some(Entry::InterfaceMethod { .. }) => is_interface(p, named_class(kind)),
@@ -96,21 +95,21 @@ fn fits_sort(p: &Program, entry: Option<&Entry>, kind: Kind) -> bool
 
 // An interface that a class of this version may name in invokespecial: the current one or a direct superinterface.
 fn is_near(p: &Program, class: u32, named: u32) -> bool
-    ensures { result ≡ references.is_near p.now class named }
+    ensures { result ≡ uses.is_near p.now class named }
 {
     52 <= version(p, class) && (named == class || member(named, interfaces(p, class)))
 }
 
 // What invokespecial names is a class, or an interface that is near.
 fn special_fits(p: &Program, class: u32, named: u32) -> bool
-    ensures { result ≡ references.special_fits p.now class named }
+    ensures { result ≡ uses.special_fits p.now class named }
 {
     !is_interface(p, named) || is_near(p, class, named)
 }
 
 // What invokestatic names is a class or, from version 52 on, an interface.
 fn static_fits(p: &Program, class: u32, named: u32) -> bool
-    ensures { result ≡ references.static_fits p.now class named }
+    ensures { result ≡ uses.static_fits p.now class named }
 {
     !is_interface(p, named) || 52 <= version(p, class)
 }
@@ -123,7 +122,7 @@ fn method_fits(
     kind: Kind,
     method: u32,
 ) -> bool
-    ensures { result ≡ references.method_fits p.now class (option_copied entry.entry) used kind method }
+    ensures { result ≡ uses.method_fits p.now class (option_copied entry.entry) used kind method }
 {
     let sort = fits_sort(p, entry, kind);
     let fixed = is_static(p, method);
@@ -137,7 +136,7 @@ fn method_fits(
 }
 
 fn field_fits(p: &Program, used: Use, field: u32) -> bool
-    ensures { result ≡ references.field_fits p.now used field }
+    ensures { result ≡ uses.field_fits p.now used field }
 {
     match used {
         Use::StaticField => is_static_field(p, field),
@@ -147,7 +146,7 @@ fn field_fits(p: &Program, used: Use, field: u32) -> bool
 }
 
 fn type_fits(p: &Program, used: Use, kind: Kind) -> bool
-    ensures { result ≡ references.type_fits p.now used kind }
+    ensures { result ≡ uses.type_fits p.now used kind }
 {
     match (used, kind) {
         (Use::Type, _) => true,
@@ -157,9 +156,9 @@ fn type_fits(p: &Program, used: Use, kind: Kind) -> bool
 }
 
 /// The class may use the entry, which stands for the target, in this way.
-#[tactic(auto, unfolding(crate::specs::References::fits))]
+#[tactic(auto, unfolding(code_forms::specs::Uses::fits))]
 pub fn fits(p: &Program, class: u32, entry: Option<&Entry>, target: Target, used: Use) -> bool
-    ensures { result ≡ references.fits p.now class (option_copied entry.entry) target used }
+    ensures { result ≡ uses.fits p.now class (option_copied entry.entry) target used }
 {
     match target {
         Target::Constant(_) => false,

@@ -13,12 +13,12 @@ ghost use Rattle.class_link.specs.Marks.{Lists};
 use crate::entries::{copy, name_at};
 use crate::fault::LinkFault;
 use crate::fits::is_below;
-use crate::lookup::is_interface;
 use crate::names::missing;
 use crate::setting::Setting;
 use class_reader::{ClassFile, ClassParts};
 use et_base::{NoMemory, Units};
 use jvm_model::Program;
+use member_lookup::is_interface;
 use std::alloc::Global;
 
 // The number of the built-in classes, which stand first.

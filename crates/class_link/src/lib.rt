@@ -4,30 +4,22 @@
 mod assembly;
 mod bodies;
 mod class_records;
-mod cycles;
 mod entries;
 mod fault;
 mod fits;
-mod forms;
 mod headings;
 mod lines;
 mod linking;
 mod literals;
-mod lookup;
-#[cfg(test)]
-mod lookup_tests;
 mod members;
 mod mentions;
 mod names;
-mod operands;
 mod reference_faults;
-mod references;
 mod setting;
 mod targets;
 mod tests_of;
 mod text_set;
 mod uses;
-mod walk;
 
 pub use assembly::{setting_of, skeleton, with_bodies};
 pub use fault::LinkFault;
@@ -35,4 +27,3 @@ pub use lines::{TestLine, TestLines};
 pub use linking::link;
 pub use literals::{Literals, literals_of};
 pub use names::{ClassNames, kind_of, missing, names_of, needed_class};
-pub use references::{Target, Use};

@@ -4,14 +4,13 @@ ghost use Rattle.std.specs.Prelude.{◌≡◌, ◌≤◌, ◌⊎◌, Option, Som
 ghost use Rattle.std.specs.List.{AllByRecursion};
 ghost use Rattle.class_reader.specs.ClassGrammar as grammar;
 ghost use Rattle.class_link.specs.Assembly as assembly;
-ghost use Rattle.class_link.specs.Faults.{IsFirstCycle};
+ghost use Rattle.member_lookup.specs.Ancestors.{IsFirstCycle};
 ghost use Rattle.class_link.specs.Link as links;
 ghost use Rattle.jvm_model.specs.Linked.{Linked};
 ghost use Rattle.class_link.specs.declared.fault.LinkFault.TheVariants as faults;
 
 use crate::assembly::{setting_of, with_bodies};
 use crate::bodies::bodies_of;
-use crate::cycles::first_cycle;
 use crate::entries::{copy, name_at};
 use crate::fault::LinkFault;
 use crate::headings::check_all_headings;
@@ -22,6 +21,7 @@ use crate::tests_of::tests_of;
 use class_reader::ClassFile;
 use et_base::{Items, NoMemory, Units};
 use jvm_model::Program;
+use member_lookup::first_cycle;
 use std::alloc::Global;
 
 // Copies of files: their names and contents.

@@ -2,7 +2,8 @@
 
 ghost use Rattle.std.specs.Prelude.{◌≡◌, fold, nat_eq, IfOk, OnOk};
 ghost use Rattle.indexmap.specs.IndexSet.{insert_key};
-ghost use Rattle.class_link.specs.Assembly.{to_list, mentioned_by, mentions};
+ghost use Rattle.member_lookup.specs.Ancestors.{to_list};
+ghost use Rattle.class_link.specs.Assembly.{mentioned_by, mentions};
 
 use crate::entries::text_at;
 use crate::names::{ClassNames, needed_class};

@@ -11,12 +11,12 @@ ghost use Rattle.class_link.specs.Marks.{mark_fault};
 
 use crate::fault::LinkFault;
 use crate::headings::{judged, own_name};
-use crate::references::Target;
 use crate::setting::Setting;
 use crate::targets::{Targets, missing_for, target_in, targets_of};
 use crate::uses::{User, marks_of};
 use class_pool::lookup;
 use class_reader::{ClassFile, ClassParts};
+use code_forms::Target;
 use et_base::Items;
 use std::alloc::Global;
 

@@ -9,13 +9,13 @@ ghost use Rattle.class_link.specs.ClassNames.{kind_of, name_at};
 ghost use Rattle.class_link.specs.References as references;
 
 use crate::entries::{name_at, text_at};
-use crate::lookup::{INIT, find_field, find_method, same_units};
 use crate::names::{ClassNames, kind_of, missing};
-use crate::references::Target;
 use crate::setting::Setting;
 use class_pool::{Entry, lookup};
+use code_forms::Target;
 use et_base::{Items, NoMemory, Units};
 use jvm_model::{Kind, Value};
+use member_lookup::{INIT, find_field, find_method, same_units};
 use std::alloc::Global;
 
 /// What the entries of a pool stand for, from index 1 on.

@@ -15,10 +15,10 @@ ghost use Rattle.class_link.specs.Link as links;
 
 use crate::fault::LinkFault;
 use crate::lines::TestLine;
-use crate::lookup::{INIT, same_units};
 use crate::setting::Setting;
 use et_base::Items;
 use jvm_model::{ClassRec, MethodRec, Program, TestEntry};
+use member_lookup::{INIT, declared_upwards, same_units};
 use std::alloc::Global;
 
 /// The number of built-in classes, which stand first.
@@ -63,15 +63,6 @@ fn class_methods(p: &Program, class: u32) -> &[u32]
     }
 }
 
-fn superclass(p: &Program, class: u32) -> Option<u32>
-    ensures { result ≡ (class_at p.now class).superclass }
-{
-    match p.classes.as_slice().get(class as usize) {
-        None => None,
-        Some(record) => record.superclass,
-    }
-}
-
 fn method_flags(p: &Program, method: u32) -> u16
     ensures { result ≡ (method_at p.now method).flags }
 {
@@ -101,47 +92,10 @@ fn is_method(p: &Program, name: &[u16], method: u32) -> bool
     }
 }
 
-// The first of these methods with this name and `()V`.
-fn declared_in(p: &Program, name: &[u16], methods: &[u32]) -> Option<u32>
-    ensures { result ≡ find (λ n. lookup.is_method p.now name.now no_arguments n) methods.now }
-{
-    for method in methods {
-        if is_method(p, name, *method) {
-            return Some(*method);
-        }
-    }
-    None
-}
-
-// The first method of this name and `()V` from a class upwards, at most so many steps up.
-#[tactic(auto, using(crate::proofs::TestLaws::declared_above))]
-fn test_method_in(p: &Program, name: &[u16], steps: u32, class: u32) -> Option<u32>
-    ensures { result ≡ find_declared p.now name.now no_arguments (upwards_in p.now steps class) }
-{
-    if steps == 0 {
-        return None;
-    }
-    match declared_in(p, name, class_methods(p, class)) {
-        Some(method) => Some(method),
-        None => match superclass(p, class) {
-            None => None,
-            Some(above) => test_method_in(p, name, steps - 1, above),
-        },
-    }
-}
-
-// The length that no chain of superclasses passes.
-#[tactic(auto, unfolding(jvm_model::specs::Classes::class_bound))]
-fn class_bound() -> u32
-    ensures { result ≡ class_bound }
-{
-    1200
-}
-
 fn test_method(p: &Program, class: u32, name: &[u16]) -> Option<u32>
     ensures { result ≡ linked.test_method p.now class name.now }
 {
-    test_method_in(p, name, class_bound(), class)
+    declared_upwards(p, class, name, &NO_ARGUMENTS)
 }
 
 // One of these methods is an instance method of this name and `()V`.

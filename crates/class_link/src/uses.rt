@@ -5,16 +5,14 @@ ghost use Rattle.class_pool.specs.Pool.{entry_of};
 ghost use Rattle.class_link.specs.Bodies as bodies;
 ghost use Rattle.class_link.specs.Marks as marking;
 ghost use Rattle.class_link.specs.Marks.{all_noted, noted};
-ghost use Rattle.class_link.specs.References as references;
 ghost use Rattle.class_link.specs.References.{code_uses, handler_use, op_use, uses};
 
 use crate::fits::fits;
-use crate::operands::index_in;
-use crate::references::{Target, Use};
 use crate::targets::target_in;
 use class_pool::{Entry, lookup};
 use class_reader::{ClassParts, CodePart, MemberPart, RawHandler};
 use code_decode::RawOp;
+use code_forms::{Target, Use, index_in, use_of};
 use et_base::NoMemory;
 use jvm_model::Program;
 use std::alloc::Global;
@@ -26,23 +24,6 @@ pub struct User<'a> {
     pub class: u32,
     pub slots: &'a [Option<Entry>],
     pub targets: &'a [Option<Target>],
-}
-
-/// How an instruction uses the entry that it names.
-#[tactic(auto, unfolding(crate::specs::References::use_of))]
-fn use_of(opcode: u8) -> Option<Use>
-    ensures { result ≡ references.use_of opcode }
-{
-    match opcode {
-        178 | 179 => Some(Use::StaticField),
-        180 | 181 => Some(Use::InstanceField),
-        182 => Some(Use::Virtual),
-        183 => Some(Use::Special),
-        184 => Some(Use::StaticCall),
-        185 => Some(Use::Interface),
-        187 | 189 | 192 | 193 | 197 => Some(Use::Type),
-        _ => None,
-    }
 }
 
 // The use fits what the entry stands for; what stands for nothing is faulty by itself.

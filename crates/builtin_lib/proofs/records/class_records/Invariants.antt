@@ -1,7 +1,6 @@
 use Rattle.std.proofs.Common.{◌≡◌, ◌++◌, ◌+◌, drop, map}
 use Rattle.jvm_model.specs.Library.{class_recs}
-use Rattle.builtin_lib.specs.Rows.{class_of}
-use Rattle.builtin_lib.specs.Counts.{field_count, method_count}
+use Rattle.builtin_lib.specs.Rows.{class_of, field_count, method_count}
 use Rattle.builtin_lib.proofs.records.class_records.Given as goal
 
 abbrev pub invariant-loop-row : goal.invariant-loop-row

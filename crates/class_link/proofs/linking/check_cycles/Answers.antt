@@ -1,7 +1,7 @@
 use Rattle.std.proofs.Common.{ap, subst}
 use Rattle.class_link.specs.declared.setting.Setting.{Setting}
 use Rattle.jvm_model.specs.declared.program.Program.{Program}
-use Rattle.class_link.specs.Faults.{IsFirstCycle}
+use Rattle.member_lookup.specs.Ancestors.{IsFirstCycle}
 use Rattle.std.proofs.Common.{ℕ, Option, None}
 use Rattle.class_link.proofs.LinkSteps.{skeleton_builtins, skeleton_few}
 use Rattle.class_link.proofs.linking.check_cycles.Goals as goal

@@ -3,7 +3,8 @@ use Rattle.std.specs.List.{flat_map}
 use Rattle.std.proofs.lemmas.List.{flat_map_more, take_more}
 use Rattle.indexmap.specs.IndexSet.{insert_key}
 use Rattle.jvm_model.specs.Classes.{first_mentions}
-use Rattle.class_link.specs.Assembly.{mentioned_by, to_list}
+use Rattle.class_link.specs.Assembly.{mentioned_by}
+use Rattle.member_lookup.specs.Ancestors.{to_list}
 use Rattle.class_link.proofs.MentionLaws.{first_more_of}
 use Rattle.class_link.proofs.mentions.mentions.Goals as goal
 

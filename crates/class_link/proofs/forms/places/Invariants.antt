@@ -1,7 +1,0 @@
-use Rattle.std.proofs.Common.{◌≡◌, ◌++◌, drop}
-use Rattle.class_link.specs.Forms as forms
-use Rattle.class_link.proofs.forms.places.Given as goal
-
--- the places so far and those of what is left
-abbrev pub invariant-loop-arg : goal.invariant-loop-arg
-invariant-loop-arg l = l.places ++ forms.places (drop l.arg-index l.args) ≡ forms.places l.args

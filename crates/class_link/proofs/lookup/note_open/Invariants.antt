@@ -1,7 +1,0 @@
-use Rattle.std.proofs.Common.{◌≡◌, filter, take, nat_eq}
-use Rattle.indexmap.specs.IndexSet.{insert_all}
-use Rattle.class_link.specs.Walks.{is_open}
-use Rattle.class_link.proofs.lookup.note_open.Given as goal
-
-abbrev pub invariant-loop-method : goal.invariant-loop-method
-invariant-loop-method l = l.found.keys ≡ insert_all nat_eq l.fn.found.keys (filter (λ n. is_open l.p l.name l.descriptor n) (take l.method-index l.method-items))

@@ -1,6 +1,0 @@
-use Rattle.std.proofs.Common.{◌≡◌, ◌++◌}
-use Rattle.indexmap.specs.IndexMap.{keys}
-use Rattle.class_link.proofs.lookup.visited.Given as goal
-
-abbrev pub invariant-loop-class : goal.invariant-loop-class
-invariant-loop-class l = l.classes.items ++ l.class-iterator ≡ keys l.seen

@@ -1,0 +1,23 @@
+-- Superclasses and superinterfaces of a class, as lists, and the first class that is its own ancestor.
+use Rattle.std.specs.Prelude.{ℕ, ◌+◌, ◌<◌, List, [], ◌∷◌, ◌++◌, ◌≡◌, ◌↔◌, true, Option, Some, None}
+use Rattle.jvm_model.specs.declared.program.Program.{Program}
+use Rattle.jvm_model.specs.Builtin.{builtin_count}
+use Rattle.jvm_model.specs.Classes.{class_at, member}
+use Rattle.jvm_model.specs.Linked.{IsAncestor}
+
+abbrev pub to_list : Option ℕ → List ℕ
+to_list None = []
+to_list (Some n) = n ∷ []
+
+-- the superclass and the direct superinterfaces of a class
+abbrev pub directs : Program → ℕ → List ℕ
+directs p c = to_list (class_at p c).superclass ++ (class_at p c).interfaces
+
+-- these are the ancestors of a class
+abbrev pub AreAncestors : Program → ℕ → List ℕ → Type 0
+AreAncestors p c ds = (d : ℕ) → (member d ds ≡ true) ↔ IsAncestor p c d
+
+-- the first class behind the built-in ones that is its own ancestor, by its place behind them; no class before it is
+abbrev pub IsFirstCycle : Program → Option ℕ → Type 0
+IsFirstCycle p None = (c : ℕ) → IsAncestor p c c → ⊥
+IsFirstCycle p (Some i) = IsAncestor p (builtin_count + i) (builtin_count + i) × ((c : ℕ) → c < builtin_count + i → IsAncestor p c c → ⊥)
