@@ -72,6 +72,11 @@ abbrev pub Links : List ClassParts → TestLines → Result Program LinkFault �
 Links cs lines (Err fault.NoMemory) = Unit {0}
 Links cs lines answer = (cycle : Option ℕ) × LinksBy cycle cs lines answer
 
+-- Linking has exactly one answer: there is one, and what linking says of an answer that isn't want of memory, it says of this one.
+abbrev pub LinksOnce : Type 0
+LinksOnce = (cs : List ClassParts) (lines : TestLines) → (answer : Result Program LinkFault) × (cycle : Option ℕ) × LinksBy cycle cs lines answer
+    × ((other : Result Program LinkFault) → (other ≡ Err fault.NoMemory → ⊥) → Links cs lines other → other ≡ answer)
+
 -- the fault names the first class file that is its own ancestor
 abbrev pub IsCycleFault : List ClassParts → LinkFault → Type 0
 IsCycleFault cs f = (i : ℕ) × IsFirstCycle (skeleton cs) (Some i) × (f ≡ fault.Cycle (name_of cs i))

@@ -8,6 +8,7 @@ mod entries;
 mod fault;
 mod fits;
 mod headings;
+mod laws;
 mod lines;
 mod linking;
 mod literals;
@@ -23,6 +24,7 @@ mod uses;
 
 pub use assembly::{setting_of, skeleton, with_bodies};
 pub use fault::LinkFault;
+pub use laws::links_once;
 pub use lines::{TestLine, TestLines};
 pub use linking::link;
 pub use literals::{Literals, literals_of};

@@ -170,7 +170,7 @@ searches_all p c place keys s h d = (λ m. s.sound d m, λ a. above_noted p keys
 
 -- ---- classes that aren't there, and built-in ones
 
-nothing_above : (p : Program) (c d : ℕ) → length p.classes ≤ c → member d (directs p c) ≡ true → ⊥
+pub nothing_above : (p : Program) (c d : ℕ) → length p.classes ≤ c → member d (directs p c) ≡ true → ⊥
 nothing_above p c d h m =
     let e : class_at p c ≡ no_class = get_or_past p.classes c no_class h in
     let q : member d [] ≡ true = subst (λ (r : ClassRec). member d (to_list r.superclass ++ r.interfaces) ≡ true) e m in

@@ -1,9 +1,11 @@
--- walks above a class
+-- ancestors and cycles
 pub mod Ancestry
+pub mod Cycles
+-- walks above a class
 pub mod Walking
 pub mod MentionFacts
-pub mod TextLaws
 -- look-up
+pub mod TextLaws
 pub mod Lookups
 -- what look-up sees of a program
 pub mod Alike
