@@ -4,7 +4,7 @@ use Rattle.jvm_model.specs.declared.library.ClassDef.{ClassDef}
 use Rattle.jvm_model.specs.declared.library.FieldDef.{FieldDef}
 use Rattle.jvm_model.specs.declared.library.MethodDef.{MethodDef}
 use Rattle.jvm_model.specs.declared.library.Native.{Native}
-use Rattle.jvm_model.specs.World.{same_units}
+use Rattle.std.specs.Str.{bytes_eq}
 use Rattle.builtin_lib.specs.declared.rows.FieldRow.{FieldRow}
 use Rattle.builtin_lib.specs.declared.rows.MethodRow.{MethodRow}
 use Rattle.builtin_lib.specs.declared.rows.ClassRow.{ClassRow}
@@ -21,12 +21,12 @@ class_of r = record { name = r.name.now; flags = r.flags; superclass = option_ma
 -- the native of the first method with this name and descriptor
 abbrev pub native_in : List MethodDef → List ℕ → List ℕ → Option Native
 native_in [] name descriptor = None
-native_in (m ∷ ms) name descriptor = if same_units name m.name && same_units descriptor m.descriptor then Some m.native else native_in ms name descriptor
+native_in (m ∷ ms) name descriptor = if bytes_eq name m.name && bytes_eq descriptor m.descriptor then Some m.native else native_in ms name descriptor
 
 -- the native of a method of the first class with this name
 abbrev pub native_among : List ClassDef → List ℕ → List ℕ → List ℕ → Option Native
 native_among [] class name descriptor = None
-native_among (c ∷ cs) class name descriptor = if same_units class c.name then native_in c.methods name descriptor else native_among cs class name descriptor
+native_among (c ∷ cs) class name descriptor = if bytes_eq class c.name then native_in c.methods name descriptor else native_among cs class name descriptor
 
 -- the same of rows
 abbrev pub native_row : List MethodRow → List ℕ → List ℕ → Option Native

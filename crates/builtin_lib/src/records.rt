@@ -2,7 +2,7 @@
 
 ghost use Rattle.std.specs.Prelude.{◌≡◌, ◌∷◌, [], ◌++◌, ◌+◌, ◌<◌, IfOk, OnOk, length, map};
 ghost use Rattle.std.specs.List.{range_with_len};
-ghost use Rattle.jvm_model.specs.World.{same_units};
+ghost use Rattle.std.specs.Str.{bytes_eq};
 ghost use Rattle.jvm_model.specs.Library.{
   builtin_classes,
   builtin_fields,
@@ -45,7 +45,7 @@ fn numbers(alloc: Global, from: u32, count: u32) -> Result<Items<u32>, NoMemory>
 
 // Whether two texts are the same.
 fn is_same(text: &[u8], other: &[u8]) -> bool
-    ensures { result ≡ same_units text.now other.now }
+    ensures { result ≡ bytes_eq text.now other.now }
 {
     match text {
         [] => other.is_empty(),

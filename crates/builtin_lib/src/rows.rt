@@ -1,7 +1,7 @@
 //! Rows of the tables of built-in classes, and what they stand for.
 
 ghost use Rattle.std.specs.Prelude.{◌≡◌, IfOk, map};
-ghost use Rattle.jvm_model.specs.World.{same_units};
+ghost use Rattle.std.specs.Str.{bytes_eq};
 ghost use Rattle.builtin_lib.specs.Rows.{class_of, field_of, method_of, class_row, native_row};
 
 use et_base::{Items, NoMemory, Units};
@@ -124,7 +124,7 @@ pub fn classes(alloc: Global, rows: &[ClassRow]) -> Result<Items<ClassDef>, NoMe
 
 // Whether code units are those of an ASCII text.
 fn is(units: &[u16], text: &[u8]) -> bool
-    ensures { result ≡ same_units units.now text.now }
+    ensures { result ≡ bytes_eq units.now text.now }
 {
     match units {
         [] => text.is_empty(),

@@ -20,7 +20,7 @@ use Rattle.jvm_model.specs.declared.program.MethodRec.{MethodRec}
 use Rattle.jvm_model.specs.declared.program.Body.{Body}
 use Rattle.jvm_model.specs.declared.program.TestEntry.{TestEntry}
 use Rattle.jvm_model.specs.Builtin.{builtin_count}
-use Rattle.jvm_model.specs.World.{same_units}
+use Rattle.std.specs.Str.{bytes_eq}
 use Rattle.jvm_model.specs.Library.{builtin_classes, builtin_fields, builtin_methods}
 use Rattle.jvm_model.specs.Classes.{class_at, field_at, method_at, no_class, no_field, no_method}
 use Rattle.jvm_model.specs.Linked.{IsClass, IsField, IsMethod, count, IsDistinct}
@@ -52,7 +52,7 @@ apart_same xs a i j h g e = elim (cases_order i j) [
   ]
 ]
 
-apart_push : (xs : List (List ℕ)) (x : List ℕ) → AreApart xs → list_any (same_units x) xs ≡ false → AreApart (xs ++ x ∷ [])
+apart_push : (xs : List (List ℕ)) (x : List ℕ) → AreApart xs → list_any (bytes_eq x) xs ≡ false → AreApart (xs ++ x ∷ [])
 unfolding AreApart
 apart_push xs x a n i j h g e = elim (cases_lt j (length xs)) [
   | inl l ↦ a i j h l (sym (get_or_append_left xs (x ∷ []) [] i (omega arith)) ∙ (e ∙ get_or_append_left xs (x ∷ []) [] j l))
@@ -60,16 +60,16 @@ apart_push xs x a n i j h g e = elim (cases_lt j (length xs)) [
       let p = length_push xs x in
       let k : length xs ≡ j = omega arith in
       let q : get_or xs i [] ≡ x = sym (get_or_append_left xs (x ∷ []) [] i (omega arith)) ∙ (e ∙ get_or_push xs x [] j k) in
-      let f : same_units x (get_or xs i []) ≡ false = none_at (same_units x) xs i [] n (omega arith) in
-      let t : same_units x (get_or xs i []) ≡ true = units_same x (get_or xs i []) (sym q) in
+      let f : bytes_eq x (get_or xs i []) ≡ false = none_at (bytes_eq x) xs i [] n (omega arith) in
+      let t : bytes_eq x (get_or xs i []) ≡ true = units_same x (get_or xs i []) (sym q) in
       cc
 ]
 
 noted_apart : (seen xs : List (List ℕ)) → AreApart seen → AreApart (noted seen xs)
 noted_apart seen [] a = a
-noted_apart seen (x ∷ xs) a = noted_apart (cond (list_any (same_units x) seen) seen (seen ++ x ∷ [])) xs (elim (cases_Bool (list_any (same_units x) seen)) [
-  | inl t ↦ subst AreApart (sym (cond-true (list_any (same_units x) seen) seen (seen ++ x ∷ []) t)) a
-  | inr f ↦ subst AreApart (sym (cond-false (list_any (same_units x) seen) seen (seen ++ x ∷ []) f)) (apart_push seen x a f)
+noted_apart seen (x ∷ xs) a = noted_apart (cond (list_any (bytes_eq x) seen) seen (seen ++ x ∷ [])) xs (elim (cases_Bool (list_any (bytes_eq x) seen)) [
+  | inl t ↦ subst AreApart (sym (cond-true (list_any (bytes_eq x) seen) seen (seen ++ x ∷ []) t)) a
+  | inr f ↦ subst AreApart (sym (cond-false (list_any (bytes_eq x) seen) seen (seen ++ x ∷ []) f)) (apart_push seen x a f)
 ])
 
 none_apart : AreApart []
@@ -86,14 +86,14 @@ names_of front cs = front ++ map own_name cs
 Fresh : List (List ℕ) → List ClassParts → Type 0
 Fresh front cs = (c i : ℕ) → c < length front + i → i < length cs → get_or (names_of front cs) c [] ≡ get_or (names_of front cs) (length front + i) [] → ⊥
 
-fresh_more : (front : List (List ℕ)) (x : ClassParts) (cs : List ClassParts) → list_any (same_units (own_name x)) front ≡ false → Fresh (front ++ own_name x ∷ []) cs → Fresh front (x ∷ cs)
+fresh_more : (front : List (List ℕ)) (x : ClassParts) (cs : List ClassParts) → list_any (bytes_eq (own_name x)) front ≡ false → Fresh (front ++ own_name x ∷ []) cs → Fresh front (x ∷ cs)
 unfolding Fresh
 fresh_more front x cs f again c zero h g q =
     let z : length front + 0 ≡ length front = omega arith in
     let there : get_or (names_of front (x ∷ cs)) (length front + 0) [] ≡ own_name x = rw z (get_or_at front (own_name x) (map own_name cs) [] (length front) refl) in
     let here : get_or (names_of front (x ∷ cs)) c [] ≡ get_or front c [] = get_or_append_left front (own_name x ∷ map own_name cs) [] c (omega arith) in
-    let n : same_units (own_name x) (get_or front c []) ≡ false = none_at (same_units (own_name x)) front c [] f (omega arith) in
-    let t : same_units (own_name x) (get_or front c []) ≡ true = units_same (own_name x) (get_or front c []) (sym there ∙ (sym q ∙ here)) in
+    let n : bytes_eq (own_name x) (get_or front c []) ≡ false = none_at (bytes_eq (own_name x)) front c [] f (omega arith) in
+    let t : bytes_eq (own_name x) (get_or front c []) ≡ true = units_same (own_name x) (get_or front c []) (sym there ∙ (sym q ∙ here)) in
     cc
 fresh_more front x cs f again c (suc i) h g q =
     let l = length_push front (own_name x) in
@@ -105,9 +105,9 @@ fresh_more front x cs f again c (suc i) h g q =
 fresh_names : (front : List (List ℕ)) (cs : List ClassParts) → duplicate front cs ≡ None → Fresh front cs
 unfolding Fresh
 fresh_names front [] e = λ c i h g q. omega arith
-fresh_names front (x ∷ cs) e = elim (cases_Bool (list_any (same_units (own_name x)) front)) [
-  | inl t ↦ let z = sym (cond-true (list_any (same_units (own_name x)) front) _ (duplicate (front ++ own_name x ∷ []) cs) t) ∙ e in absurd (cc)
-  | inr f ↦ fresh_more front x cs f (fresh_names (front ++ own_name x ∷ []) cs (sym (cond-false (list_any (same_units (own_name x)) front) _ (duplicate (front ++ own_name x ∷ []) cs) f) ∙ e))
+fresh_names front (x ∷ cs) e = elim (cases_Bool (list_any (bytes_eq (own_name x)) front)) [
+  | inl t ↦ let z = sym (cond-true (list_any (bytes_eq (own_name x)) front) _ (duplicate (front ++ own_name x ∷ []) cs) t) ∙ e in absurd (cc)
+  | inr f ↦ fresh_more front x cs f (fresh_names (front ++ own_name x ∷ []) cs (sym (cond-false (list_any (bytes_eq (own_name x)) front) _ (duplicate (front ++ own_name x ∷ []) cs) f) ∙ e))
 ]
 
 -- ---- members
@@ -165,7 +165,7 @@ module _ (body : ClassParts → CodePart → Body) (cs : List ClassParts) (tests
         let k = holds_builtins body cs tests files in
         let x : (class_at p c).name ≡ (get_or builtin_classes c no_class).name = ap (λ (y : ClassRec). y.name) (builtin_class p k c (omega arith)) in
         let z : (class_at p d).name ≡ (get_or builtin_classes d no_class).name = ap (λ (y : ClassRec). y.name) (builtin_class p k d b) in
-        let f : same_units (get_or builtin_classes c no_class).name (get_or builtin_classes d no_class).name ≡ false = all_differ_at same_name builtin_classes c d no_class names_differ l (omega arith) in
+        let f : bytes_eq (get_or builtin_classes c no_class).name (get_or builtin_classes d no_class).name ≡ false = all_differ_at same_name builtin_classes c d no_class names_differ l (omega arith) in
         let t = units_same _ _ (sym x ∙ (q ∙ z)) in
         cc
     | inr b ↦

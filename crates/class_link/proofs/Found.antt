@@ -6,7 +6,7 @@ use Rattle.std.proofs.lemmas.List.{get_or_past}
 use Rattle.std.proofs.lemmas.List.Elements.{All-nil, All-head, All-tail, All-filter, filter_passes}
 use Rattle.jvm_model.specs.declared.program.Program.{Program}
 use Rattle.jvm_model.specs.declared.program.ClassRec.{ClassRec}
-use Rattle.jvm_model.specs.World.{same_units}
+use Rattle.std.specs.Str.{bytes_eq}
 use Rattle.jvm_model.specs.Builtin.{object_class}
 use Rattle.jvm_model.specs.Classes.{class_at, field_at, method_at, no_class, is_private, is_static, is_interface, upwards, first_mentions, init_name}
 use Rattle.jvm_model.specs.Selection.{kept_of, has_code}
@@ -59,7 +59,7 @@ module _ (p : Program) (numbered : (c : ℕ) → IsClass p c → NamesClass p (c
   pub field_again : (c : ℕ) (name descriptor : List ℕ) (f : ℕ) → find_field p c name descriptor ≡ Some f → IsField p f × IsFoundField p c f
   field_again c name descriptor f e =
       let q = field_found c name descriptor f e in
-      let b = and_parts (same_units (field_at p f).name name) (same_units (field_at p f).descriptor descriptor) q.1 in
+      let b = and_parts (bytes_eq (field_at p f).name name) (bytes_eq (field_at p f).descriptor descriptor) q.1 in
       let x = units_true (field_at p f).name name b.0 in
       let y = units_true (field_at p f).descriptor descriptor b.1 in
       (q.0, rw (x, y) e)
@@ -103,7 +103,7 @@ module _ (p : Program) (numbered : (c : ℕ) → IsClass p c → NamesClass p (c
 
   method_found : (c : ℕ) (name descriptor : List ℕ) (m : ℕ) → find_method p c name descriptor ≡ Some m → Named name descriptor m
   unfolding find_method
-  method_found c name descriptor m e = elim (cases_Bool (same_units name init_name)) [
+  method_found c name descriptor m e = elim (cases_Bool (bytes_eq name init_name)) [
     | inl t ↦ declared_found name descriptor (c ∷ []) m (rw t at e)
     | inr t ↦ elim (cases_Bool (is_interface (class_at p c).flags)) [
       | inl i ↦ elim (or_else_cases _ _ m (rw (t, i) at e)) [
@@ -121,7 +121,7 @@ module _ (p : Program) (numbered : (c : ℕ) → IsClass p c → NamesClass p (c
   pub method_again : (c : ℕ) (name descriptor : List ℕ) (m : ℕ) → find_method p c name descriptor ≡ Some m → IsMethod p m × IsFound p c m × ((method_at p m).name ≡ name)
   method_again c name descriptor m e =
       let q = method_found c name descriptor m e in
-      let b = and_parts (same_units (method_at p m).name name) (same_units (method_at p m).descriptor descriptor) q.1 in
+      let b = and_parts (bytes_eq (method_at p m).name name) (bytes_eq (method_at p m).descriptor descriptor) q.1 in
       let x = units_true (method_at p m).name name b.0 in
       let y = units_true (method_at p m).descriptor descriptor b.1 in
       (q.0, rw (x, y) e, x)
@@ -130,5 +130,5 @@ module _ (p : Program) (numbered : (c : ℕ) → IsClass p c → NamesClass p (c
   pub declared_named : (name descriptor : List ℕ) (cs : List ℕ) (m : ℕ) → find_declared p name descriptor cs ≡ Some m → IsMethod p m × ((method_at p m).name ≡ name) × ((method_at p m).descriptor ≡ descriptor)
   declared_named name descriptor cs m e =
       let q = declared_found name descriptor cs m e in
-      let b = and_parts (same_units (method_at p m).name name) _ q.1 in
+      let b = and_parts (bytes_eq (method_at p m).name name) _ q.1 in
       (q.0, units_true _ _ b.0, units_true _ _ b.1)

@@ -8,7 +8,7 @@ use Rattle.jvm_model.specs.Classes.{class_at, member}
 use Rattle.jvm_model.specs.Linked.{IsClass}
 use Rattle.member_lookup.specs.Ancestors.{directs, IsFirstCycle}
 use Rattle.member_lookup.proofs.Ancestry.{is_direct, nothing_above, place_of}
-use Rattle.member_lookup.proofs.Cycles.{AreThere, cycle_found, cycle_once}
+use Rattle.member_lookup.proofs.FirstCycle.{AreThere, cycle_found, cycle_once}
 use Rattle.class_link.specs.declared.fault.LinkFault.{LinkFault}
 use Rattle.class_link.specs.declared.fault.LinkFault.TheVariants as fault
 use Rattle.class_link.specs.declared.lines.TestLines.{TestLines}

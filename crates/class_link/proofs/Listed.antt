@@ -18,7 +18,7 @@ use Rattle.jvm_model.specs.declared.program.MethodRec.{MethodRec}
 use Rattle.jvm_model.specs.declared.program.Body.{Body}
 use Rattle.jvm_model.specs.declared.program.TestEntry.{TestEntry}
 use Rattle.jvm_model.specs.Builtin.{builtin_count, object_class}
-use Rattle.jvm_model.specs.World.{same_units}
+use Rattle.std.specs.Str.{bytes_eq}
 use Rattle.jvm_model.specs.Library.{builtin_classes, builtin_fields, builtin_methods}
 use Rattle.jvm_model.specs.Classes.{class_at, field_at, method_at, no_class, no_field, no_method, is_static, clinit_name}
 use Rattle.jvm_model.specs.Driver.{no_arguments}
@@ -214,8 +214,8 @@ module _ (body : ClassParts → CodePart → Body) (cs : List ClassParts) (tests
       let z : m ≡ length builtin_methods + (before own_methods cs i + r.index) = (let k = r.number in omega arith) in
       let y : method_at p m ≡ method_rec (body c) c.pool (builtin_count + i) x = ap (λ (n : ℕ). method_at p n) z ∙ method_given body cs tests files i r.index c x h r.there in
       let a = and_parts (is_static x.flags) _ r.is in
-      let b = and_parts (same_units (text_at c.pool x.name) clinit_name) _ a.1 in
-      let d = and_parts (same_units (text_at c.pool x.descriptor) no_arguments) (is_some x.code) b.1 in
+      let b = and_parts (bytes_eq (text_at c.pool x.name) clinit_name) _ a.1 in
+      let d = and_parts (bytes_eq (text_at c.pool x.descriptor) no_arguments) (is_some x.code) b.1 in
       record {
         own = ap (λ (y : MethodRec). y.class) y;
         static = ap (λ (y : MethodRec). is_static y.flags) y ∙ a.0;

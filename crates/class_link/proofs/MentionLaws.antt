@@ -8,7 +8,7 @@ use Rattle.std.proofs.lemmas.Map.Views.{any-filter_same}
 use Rattle.std.proofs.lemmas.Bool.Decides.{nat_tests}
 use Rattle.indexmap.specs.IndexSet.{insert_key}
 use Rattle.jvm_model.specs.Classes.{first_mentions}
-use Rattle.member_lookup.specs.Ancestors.{to_list}
+use Rattle.std.specs.Option.{option_to_list}
 
 -- the numbers that aren't a
 abbrev others : ℕ → List ℕ → List ℕ
@@ -61,6 +61,6 @@ first_more (a ∷ xs) x =
     ∙ behind a x (others a (first_mentions xs)) (nat_eq x a) (list_any (nat_eq x) (others a (first_mentions xs)))
 
 -- one more that may be none
-pub first_more_of : (xs : List ℕ) (x : Option ℕ) → first_mentions (xs ++ to_list x) ≡ fold (insert_key nat_eq) (first_mentions xs) (to_list x)
+pub first_more_of : (xs : List ℕ) (x : Option ℕ) → first_mentions (xs ++ option_to_list x) ≡ fold (insert_key nat_eq) (first_mentions xs) (option_to_list x)
 first_more_of xs None = ap first_mentions (append-nil xs)
 first_more_of xs (Some x) = first_more xs x

@@ -13,33 +13,33 @@ use Rattle.jvm_model.specs.declared.program.Program.{Program}
 use Rattle.jvm_model.specs.declared.program.Body.{Body}
 use Rattle.jvm_model.specs.declared.program.ClassRec.{ClassRec}
 use Rattle.jvm_model.specs.declared.program.TestEntry.{TestEntry}
-use Rattle.jvm_model.specs.World.{same_units}
+use Rattle.std.specs.Str.{bytes_eq}
 use Rattle.jvm_model.specs.Library.{builtin_classes, builtin_fields, builtin_methods}
 use Rattle.jvm_model.specs.Classes.{class_at, no_class, first_mentions}
 use Rattle.jvm_model.specs.Linked.{IsClass}
 use Rattle.class_link.specs.ClassNames.{own_name, all_names, class_number, number_or_first}
 use Rattle.class_link.specs.Assembly.{class_recs, assembled}
-use Rattle.member_lookup.specs.Ancestors.{to_list}
+use Rattle.std.specs.Option.{option_to_list}
 use Rattle.class_link.proofs.Assembled.{class_count}
 
 -- ---- units
 
-pub units_true : (x y : List ℕ) → same_units x y ≡ true → x ≡ y
+pub units_true : (x y : List ℕ) → bytes_eq x y ≡ true → x ≡ y
 units_true [] [] e = refl
 units_true [] (y ∷ ys) e = absurd (cc)
 units_true (x ∷ xs) [] e = absurd (cc)
 units_true (x ∷ xs) (y ∷ ys) e =
-    let q = and_parts (nat_eq x y) (same_units xs ys) e in
+    let q = and_parts (nat_eq x y) (bytes_eq xs ys) e in
     let a : x ≡ y = eqb-true x y q.0 in
     let b = units_true xs ys q.1 in
     rw (a, b) refl
 
-pub units_refl : (x : List ℕ) → same_units x x ≡ true
+pub units_refl : (x : List ℕ) → bytes_eq x x ≡ true
 units_refl [] = refl
 units_refl (x ∷ xs) = let a = eq-eqb x x refl in let b = units_refl xs in rw (a, b) refl
 
-pub units_same : (x y : List ℕ) → x ≡ y → same_units x y ≡ true
-units_same x y e = subst (λ z. same_units x z ≡ true) e (units_refl x)
+pub units_same : (x y : List ℕ) → x ≡ y → bytes_eq x y ≡ true
+units_same x y e = subst (λ z. bytes_eq x z ≡ true) e (units_refl x)
 
 -- ---- lists
 
@@ -63,7 +63,7 @@ pub all_mentions : (P : ℕ → Type 0) (xs : List ℕ) → All P xs → All P (
 all_mentions P [] h = All-nil P
 all_mentions P (x ∷ xs) h = All-cons P x _ (All-head P x xs h) (All-filter _ P (first_mentions xs) (all_mentions P xs (All-tail P x xs h)))
 
-pub all_to_list : (P : ℕ → Type 0) (o : Option ℕ) → IfSome o P → All P (to_list o)
+pub all_to_list : (P : ℕ → Type 0) (o : Option ℕ) → IfSome o P → All P (option_to_list o)
 all_to_list P None h = All-nil P
 all_to_list P (Some x) h = All-cons P x [] h (All-nil P)
 
@@ -75,7 +75,7 @@ and_then_some P f (Some x) h = h x
 
 -- a class's number is within the names, and the name stands there
 pub number_found : (names : List (List ℕ)) (name : List ℕ) (n : ℕ) → class_number names name ≡ Some n → (n < length names) × (get_or names n [] ≡ name)
-number_found names name n e = let q = position-Some (same_units name) names n [] e in (q.0, sym (units_true name (get_or names n []) q.1))
+number_found names name n e = let q = position-Some (bytes_eq name) names n [] e in (q.0, sym (units_true name (get_or names n []) q.1))
 
 pub number_within : (names : List (List ℕ)) (name : List ℕ) → 0 < length names → number_or_first names name < length names
 number_within names name h = some_within (class_number names name) (if_some (λ n. n < length names) (class_number names name) (λ n e. (number_found names name n e).0))

@@ -7,7 +7,7 @@ use Rattle.std.proofs.lemmas.List.{get_or_past}
 use Rattle.std.proofs.lemmas.List.Elements.{All-nil, All-cons, All-head, All-tail, All-append, All-filter, All-weaker, filter_passes}
 use Rattle.jvm_model.specs.declared.program.Program.{Program}
 use Rattle.jvm_model.specs.declared.program.ClassRec.{ClassRec}
-use Rattle.jvm_model.specs.World.{same_units}
+use Rattle.std.specs.Str.{bytes_eq}
 use Rattle.jvm_model.specs.Builtin.{builtin_count, object_class}
 use Rattle.jvm_model.specs.Library.{builtin_defs, builtin_classes}
 use Rattle.jvm_model.specs.Classes.{class_at, method_at, no_class, is_private, is_static, is_interface, class_bound, upwards_in, upwards, first_mentions, init_name}
@@ -107,7 +107,7 @@ module _ (p : Program) (holds : HoldsBuiltins p) (kinds : (c : ℕ) → IsGiven 
 
   pub static_owner : (c : ℕ) (name descriptor : List ℕ) (m : ℕ) → find_method p c name descriptor ≡ Some m → is_static (method_at p m).flags ≡ true → is_interface_at p (method_at p m).class ≡ true → is_interface_at p c ≡ true
   unfolding find_method
-  static_owner c name descriptor m e s i = elim (cases_Bool (same_units name init_name)) [
+  static_owner c name descriptor m e s i = elim (cases_Bool (bytes_eq name init_name)) [
     | inl t ↦ subst (λ n. is_interface_at p n ≡ true) (own_declared name descriptor c m (rw t at e)) i
     | inr t ↦ elim (cases_Bool (is_interface (class_at p c).flags)) [
       | inl l ↦ l

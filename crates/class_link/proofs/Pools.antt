@@ -8,7 +8,7 @@ use Rattle.class_pool.specs.declared.pool.Entry.{Entry}
 use Rattle.class_pool.specs.declared.pool.Entry.TheVariants.{Str}
 use Rattle.class_pool.specs.Pool.{entry_of}
 use Rattle.class_reader.specs.declared.parts.ClassParts.{ClassParts}
-use Rattle.jvm_model.specs.World.{same_units}
+use Rattle.std.specs.Str.{bytes_eq}
 use Rattle.class_link.specs.Literals.{string_in, strings_of, noted, literals, literal_number}
 use Rattle.class_link.specs.Faults.{first_some}
 use Rattle.class_link.proofs.Numbered.{if_some}
@@ -57,7 +57,7 @@ longer seen x false = let l = length_push seen x in omega arith
 
 noted_grows : (seen xs : List (List ℕ)) → length seen ≤ length (noted seen xs)
 noted_grows seen [] = omega arith
-noted_grows seen (x ∷ xs) = let a = longer seen x (list_any (same_units x) seen) in let b = noted_grows (cond (list_any (same_units x) seen) seen (seen ++ x ∷ [])) xs in omega arith
+noted_grows seen (x ∷ xs) = let a = longer seen x (list_any (bytes_eq x) seen) in let b = noted_grows (cond (list_any (bytes_eq x) seen) seen (seen ++ x ∷ [])) xs in omega arith
 
 noted_some : (xs : List (List ℕ)) → 0 < length xs → 0 < length (noted [] xs)
 noted_some [] h = h
@@ -70,7 +70,7 @@ literal_within cs i c k text h e us =
     let s = standing c.pool k (Str text) e in
     let one : 0 < length (strings_of c.pool) = flat_some (string_in c.pool) c.pool s.place (Some (Str text)) s.there (omega arith) in
     let some : 0 < length (literals cs) = noted_some _ (flat_some (λ (c : ClassParts). strings_of c.pool) cs i c h one) in
-    by_place (position (same_units us) (literals cs)) some (if_some (λ n. n < length (literals cs)) (position (same_units us) (literals cs)) (λ n q. (position-Some (same_units us) (literals cs) n [] q).0))
+    by_place (position (bytes_eq us) (literals cs)) some (if_some (λ n. n < length (literals cs)) (position (bytes_eq us) (literals cs)) (λ n q. (position-Some (bytes_eq us) (literals cs) n [] q).0))
   where
     by_place : (o : Option ℕ) → 0 < length (literals cs) → IfSome o (λ n. n < length (literals cs)) → suc (unwrap_or o 0) ≤ length (literals cs)
     by_place None g q = omega arith

@@ -6,7 +6,7 @@ use Rattle.std.proofs.lemmas.Bool.{and_parts, not-true, or_parts}
 use Rattle.jvm_model.specs.declared.program.ClassRec.{ClassRec}
 use Rattle.jvm_model.specs.declared.program.FieldRec.{FieldRec}
 use Rattle.jvm_model.specs.declared.program.MethodRec.{MethodRec}
-use Rattle.jvm_model.specs.World.{same_units}
+use Rattle.std.specs.Str.{bytes_eq}
 use Rattle.jvm_model.specs.Builtin.{builtin_count}
 use Rattle.jvm_model.specs.Library.{builtin_defs, builtin_classes, builtin_fields, builtin_methods}
 use Rattle.jvm_model.specs.Classes.{no_class, no_field, no_method, is_static, default_of}
@@ -73,13 +73,13 @@ unfolding builtin_classes builtin_fields builtin_defs
 fields_listed = refl
 
 abbrev pub same_name : ClassRec → ClassRec → Bool
-same_name c d = same_units c.name d.name
+same_name c d = bytes_eq c.name d.name
 
 pub names_differ : all_differ same_name builtin_classes ≡ true
 names_differ = class_names_differ
 
 abbrev pub same_method : MethodRec → MethodRec → Bool
-same_method m n = nat_eq m.class n.class && (same_units m.name n.name && same_units m.descriptor n.descriptor)
+same_method m n = nat_eq m.class n.class && (bytes_eq m.name n.name && bytes_eq m.descriptor n.descriptor)
 
 pub methods_differ : all_differ same_method builtin_methods ≡ true
 methods_differ = builtin_methods_differ

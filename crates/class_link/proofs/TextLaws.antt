@@ -3,7 +3,7 @@ use Rattle.std.proofs.Common.{◌≡◌, ◌+◌, ℕ, Bool, false, not, ◌||�
 use Rattle.std.specs.List.{list_any, prefix_len}
 use Rattle.std.specs.Cmp.Lexicographic.{pointwise}
 use Rattle.std.proofs.lemmas.List.{map-append, length-map}
-use Rattle.jvm_model.specs.World.{same_units}
+use Rattle.std.specs.Str.{bytes_eq}
 use Rattle.member_lookup.proofs.TextLaws.{as_units}
 
 -- a test of items, and one of what they are mapped to, which agree
@@ -23,8 +23,8 @@ pub goes_last : {A B : Type 0} (f : A → B) (p : A → Bool) (k : A) (n : B) (x
 goes_last f p k n xs new is = rw new (map-append f xs (k ∷ []) ∙ ap (λ y. map f xs ++ y ∷ []) is)
 
 -- the keys of a set of texts, seen as the texts f k
-pub text_among : {A : Type 0} (f : A → List ℕ) (text : List ℕ) (ks : List A) → list_any (λ k. pointwise nat_eq text (f k)) ks ≡ list_any (same_units text) (map f ks)
-text_among f text ks = any_mapped f (λ k. pointwise nat_eq text (f k)) (same_units text) (λ k. as_units text (f k)) ks
+pub text_among : {A : Type 0} (f : A → List ℕ) (text : List ℕ) (ks : List A) → list_any (λ k. pointwise nat_eq text (f k)) ks ≡ list_any (bytes_eq text) (map f ks)
+text_among f text ks = any_mapped f (λ k. pointwise nat_eq text (f k)) (bytes_eq text) (λ k. as_units text (f k)) ks
 
-pub text_place : {A : Type 0} (f : A → List ℕ) (text : List ℕ) (ks : List A) → position (λ k. pointwise nat_eq text (f k)) ks ≡ position (same_units text) (map f ks)
-text_place f text ks = position_mapped f (λ k. pointwise nat_eq text (f k)) (same_units text) (λ k. as_units text (f k)) ks
+pub text_place : {A : Type 0} (f : A → List ℕ) (text : List ℕ) (ks : List A) → position (λ k. pointwise nat_eq text (f k)) ks ≡ position (bytes_eq text) (map f ks)
+text_place f text ks = position_mapped f (λ k. pointwise nat_eq text (f k)) (bytes_eq text) (λ k. as_units text (f k)) ks

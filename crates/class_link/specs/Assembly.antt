@@ -16,13 +16,13 @@ use Rattle.jvm_model.specs.declared.program.FieldRec.{FieldRec}
 use Rattle.jvm_model.specs.declared.program.MethodRec.{MethodRec}
 use Rattle.jvm_model.specs.declared.program.Body.{Body}
 use Rattle.jvm_model.specs.declared.program.TestEntry.{TestEntry}
-use Rattle.jvm_model.specs.World.{same_units}
+use Rattle.std.specs.Str.{bytes_eq}
 use Rattle.jvm_model.specs.Builtin.{builtin_count}
 use Rattle.jvm_model.specs.Library.{builtin_classes, builtin_fields, builtin_methods}
 use Rattle.jvm_model.specs.Classes.{is_static, clinit_name, default_of, first_mentions}
 use Rattle.jvm_model.specs.Driver.{no_arguments}
 use Rattle.jvm_model.specs.Narrow.{narrowed}
-use Rattle.member_lookup.specs.Ancestors.{to_list}
+use Rattle.std.specs.Option.{option_to_list}
 use Rattle.class_link.specs.ClassNames.{text_at, name_at, own_name, all_names, class_number, number_or_first, needed_class}
 use Rattle.class_link.specs.Literals.{literals, literal_number}
 
@@ -30,7 +30,7 @@ use Rattle.class_link.specs.Literals.{literals, literal_number}
 
 -- the class that an entry names, an array's innermost element class, where it is there
 abbrev pub mentioned_by : List (List ℕ) → List (Option Entry) → Option Entry → List ℕ
-mentioned_by names slots (Some (entry.Class name)) = to_list (option_and_then (class_number names) (needed_class (text_at slots name)))
+mentioned_by names slots (Some (entry.Class name)) = option_to_list (option_and_then (class_number names) (needed_class (text_at slots name)))
 mentioned_by names slots _ = []
 
 -- the classes that the Class entries of a pool name
@@ -39,7 +39,7 @@ mentions names slots = first_mentions (flat_map (mentioned_by names slots) slots
 
 -- the class's own static `<clinit>` with `()V` and code (JVMS 2.9)
 abbrev pub is_initialiser : List (Option Entry) → MemberPart → Bool
-is_initialiser slots x = is_static x.flags && (same_units (text_at slots x.name) clinit_name && (same_units (text_at slots x.descriptor) no_arguments && is_some x.code))
+is_initialiser slots x = is_static x.flags && (bytes_eq (text_at slots x.name) clinit_name && (bytes_eq (text_at slots x.descriptor) no_arguments && is_some x.code))
 
 -- its number, where the first of these methods has the number m
 abbrev pub initialiser_from : ℕ → List (Option Entry) → List MemberPart → Option ℕ

@@ -9,7 +9,7 @@ use Rattle.jvm_model.specs.declared.values.Base.{Base}
 use Rattle.jvm_model.specs.declared.values.Base.TheVariants as base
 use Rattle.jvm_model.specs.declared.values.Kind.{Kind}
 use Rattle.jvm_model.specs.declared.values.Kind.TheVariants as kind
-use Rattle.jvm_model.specs.World.{same_units}
+use Rattle.std.specs.Str.{bytes_eq}
 use Rattle.jvm_model.specs.Library.{builtin_classes}
 
 -- the text that an index names
@@ -28,7 +28,7 @@ unfoldable pub all_names : List ClassParts → List (List ℕ)
 all_names cs = map (λ c. c.name) builtin_classes ++ map own_name cs
 
 abbrev pub class_number : List (List ℕ) → List ℕ → Option ℕ
-class_number names name = position (same_units name) names
+class_number names name = position (bytes_eq name) names
 
 -- the same, 0 where there is none
 abbrev pub number_or_first : List (List ℕ) → List ℕ → ℕ

@@ -7,7 +7,7 @@ use Rattle.class_reader.specs.declared.parts.ClassParts.{ClassParts}
 use Rattle.et_base.specs.Names.{starts_array}
 use Rattle.jvm_model.specs.declared.program.Program.{Program}
 use Rattle.jvm_model.specs.declared.program.TestEntry.{TestEntry}
-use Rattle.jvm_model.specs.World.{same_units}
+use Rattle.std.specs.Str.{bytes_eq}
 use Rattle.jvm_model.specs.Builtin.{builtin_count, object_class, throwable_class}
 use Rattle.jvm_model.specs.Library.{builtin_classes}
 use Rattle.jvm_model.specs.Classes.{class_at, method_at, is_static, is_interface, is_below, member, init_name}
@@ -37,7 +37,7 @@ indices c = range_with_len 1 (length c.pool)
 -- the first class whose name stands among those before it
 abbrev pub duplicate : List (List ℕ) → List ClassParts → Option LinkFault
 duplicate before [] = None
-duplicate before (c ∷ cs) = cond (list_any (same_units (own_name c)) before) (Some (fault.Duplicate (own_name c))) (duplicate (before ++ own_name c ∷ []) cs)
+duplicate before (c ∷ cs) = cond (list_any (bytes_eq (own_name c)) before) (Some (fault.Duplicate (own_name c))) (duplicate (before ++ own_name c ∷ []) cs)
 
 abbrev pub duplicate_fault : List ClassParts → Option LinkFault
 duplicate_fault cs = duplicate (map (λ c. c.name) builtin_classes) cs

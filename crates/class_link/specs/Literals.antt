@@ -5,7 +5,7 @@ use Rattle.std.specs.List.{list_any}
 use Rattle.class_pool.specs.declared.pool.Entry.{Entry}
 use Rattle.class_pool.specs.declared.pool.Entry.TheVariants.{Str}
 use Rattle.class_reader.specs.declared.parts.ClassParts.{ClassParts}
-use Rattle.jvm_model.specs.World.{same_units}
+use Rattle.std.specs.Str.{bytes_eq}
 use Rattle.class_link.specs.ClassNames.{text_at}
 
 abbrev pub string_in : List (Option Entry) → Option Entry → List (List ℕ)
@@ -19,11 +19,11 @@ strings_of slots = flat_map (string_in slots) slots
 -- these texts, and behind them those of a list that aren't there yet
 abbrev pub noted : List (List ℕ) → List (List ℕ) → List (List ℕ)
 noted seen [] = seen
-noted seen (x ∷ xs) = noted (cond (list_any (same_units x) seen) seen (seen ++ x ∷ [])) xs
+noted seen (x ∷ xs) = noted (cond (list_any (bytes_eq x) seen) seen (seen ++ x ∷ [])) xs
 
 unfoldable pub literals : List ClassParts → List (List ℕ)
 literals cs = noted [] (flat_map (λ c. strings_of c.pool) cs)
 
 -- the number of a text
 abbrev pub literal_number : List (List ℕ) → List ℕ → ℕ
-literal_number texts text = suc (unwrap_or (position (same_units text) texts) 0)
+literal_number texts text = suc (unwrap_or (position (bytes_eq text) texts) 0)

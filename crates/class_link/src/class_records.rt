@@ -2,7 +2,7 @@
 
 ghost use Rattle.std.specs.Prelude.{◌≡◌, ◌<◌, ◌+◌, ◌*◌, ◌≤◌, ◌++◌, length, map, IfOk, OnOk};
 ghost use Rattle.std.specs.List.{range_with_len};
-ghost use Rattle.jvm_model.specs.World.{same_units};
+ghost use Rattle.std.specs.Str.{bytes_eq};
 ghost use Rattle.class_link.specs.ClassNames.{name_at, number_or_first};
 ghost use Rattle.class_link.specs.Assembly.{is_initialiser, initialiser_from, class_rec, class_recs};
 
@@ -46,7 +46,7 @@ fn numbers_at(
 
 // Whether code units are those of an ASCII text.
 fn is(units: &[u16], text: &[u8]) -> bool
-    ensures { result ≡ same_units units.now text.now }
+    ensures { result ≡ bytes_eq units.now text.now }
 {
     match units {
         [] => text.is_empty(),

@@ -2,7 +2,7 @@
 
 ghost use Rattle.std.specs.Prelude.{◌≡◌, fold, nat_eq, IfOk, OnOk};
 ghost use Rattle.indexmap.specs.IndexSet.{insert_key};
-ghost use Rattle.member_lookup.specs.Ancestors.{to_list};
+ghost use Rattle.std.specs.Option.{option_to_list};
 ghost use Rattle.class_link.specs.Assembly.{mentioned_by, mentions};
 
 use crate::entries::text_at;
@@ -14,7 +14,7 @@ use std::alloc::Global;
 
 // The class that an entry names, where it is there.
 fn mentioned_by(names: &ClassNames, slots: &[Option<Entry>], slot: &Option<Entry>) -> Option<u32>
-    ensures { to_list result ≡ mentioned_by names.now slots.now slot.now }
+    ensures { option_to_list result ≡ mentioned_by names.now slots.now slot.now }
 {
     match slot {
         Some(Entry::Class { name }) => names.number(needed_class(text_at(slots, *name))?),
@@ -24,7 +24,7 @@ fn mentioned_by(names: &ClassNames, slots: &[Option<Entry>], slot: &Option<Entry
 
 // Puts a number last, unless it is there.
 fn note(seen: &mut IndexSet<u32>, mention: Option<u32>) -> Result<(), NoMemory>
-    ensures { OnOk result (seen.new.keys ≡ fold (insert_key nat_eq) seen.old.keys (to_list mention)) }
+    ensures { OnOk result (seen.new.keys ≡ fold (insert_key nat_eq) seen.old.keys (option_to_list mention)) }
 {
     if let Some(class) = mention {
         seen.insert(class)?;

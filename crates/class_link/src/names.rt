@@ -4,7 +4,7 @@ ghost use Rattle.std.specs.Prelude.{◌≡◌, ◌≤◌, ◌<◌, ◌+◌, [], 
 ghost use Rattle.std.specs.List.{list_any};
 ghost use Rattle.code_decode.specs.Judging.{dimensions};
 ghost use Rattle.et_base.specs.Names.{starts_array};
-ghost use Rattle.jvm_model.specs.World.{same_units};
+ghost use Rattle.std.specs.Str.{bytes_eq};
 ghost use Rattle.jvm_model.specs.Library.{builtin_classes};
 ghost use Rattle.class_link.specs.declared.fault.LinkFault.TheVariants.{Duplicate};
 ghost use Rattle.class_link.specs.Answers.{Gives, nothing};
@@ -171,7 +171,7 @@ fn note_records(alloc: Global, names: &mut TextSet, classes: &[ClassRec]) -> Res
 // Notes the name of a class file; where it is there already, that is a fault.
 fn note_class(alloc: Global, names: &mut TextSet, class: &ClassFile) -> Result<(), LinkFault>
     requires { length names.old + 1 < 4294967295 }
-    ensures fault { Gives nothing result (unless (cond (list_any (same_units (own_name class.now)) names.old) (Some (Duplicate (own_name class.now))) None)) }
+    ensures fault { Gives nothing result (unless (cond (list_any (bytes_eq (own_name class.now)) names.old) (Some (Duplicate (own_name class.now))) None)) }
     ensures names { OnOk result (names.new ≡ names.old ++ own_name class.now ∷ []) }
 {
     let parts = class.parts();

@@ -1,7 +1,7 @@
 //! The tests of a suite's lines.
 
 ghost use Rattle.std.specs.Prelude.{◌≡◌, ◌≤◌, [], find, is_some, length};
-ghost use Rattle.jvm_model.specs.World.{same_units};
+ghost use Rattle.std.specs.Str.{bytes_eq};
 ghost use Rattle.jvm_model.specs.Classes as classes;
 ghost use Rattle.jvm_model.specs.Classes.{class_at, class_bound, init_name, is_abstract, is_interface, is_static, method_at, upwards_in};
 ghost use Rattle.jvm_model.specs.RowsCreate.{is_bare};

@@ -2,7 +2,7 @@
 
 ghost use Rattle.std.specs.Prelude.{◌≡◌, ◌<◌, ◌+◌, ℕ, List, [], ◌∷◌, ◌++◌, length, position, not, cond, IfSome, IfOk, OnOk};
 ghost use Rattle.std.specs.List.{list_any};
-ghost use Rattle.jvm_model.specs.World.{same_units};
+ghost use Rattle.std.specs.Str.{bytes_eq};
 
 use crate::entries::copy;
 use et_base::{Items, NoMemory, Units};
@@ -38,7 +38,7 @@ impl TextSet {
 
     /// The place of a text, from 0.
     pub(crate) fn place(&self, text: &[u16]) -> Option<u32>
-        ensures place { result ≡ position (same_units text.now) self.now }
+        ensures place { result ≡ position (bytes_eq text.now) self.now }
         ensures within { IfSome result (λ place. place + 1 < 4294967296) }
     {
         match self.texts.get_index_of(text) {
@@ -50,8 +50,8 @@ impl TextSet {
     /// Puts a text last, unless it is there. Answers whether it is new.
     pub(crate) fn note(&mut self, alloc: Global, text: &[u16]) -> Result<bool, NoMemory>
         requires { length self.old + 1 < 4294967295 }
-        ensures is_new { IfOk result (λ is_new. is_new ≡ not (list_any (same_units text.now) self.old)) }
-        ensures texts { OnOk result (self.new ≡ cond (list_any (same_units text.now) self.old) self.old (self.old ++ text.now ∷ [])) }
+        ensures is_new { IfOk result (λ is_new. is_new ≡ not (list_any (bytes_eq text.now) self.old)) }
+        ensures texts { OnOk result (self.new ≡ cond (list_any (bytes_eq text.now) self.old) self.old (self.old ++ text.now ∷ [])) }
     {
         if self.texts.contains(text) {
             return Ok(false);

@@ -7,7 +7,7 @@ use Rattle.jvm_model.specs.declared.program.Program.{Program}
 use Rattle.jvm_model.specs.declared.program.MethodRec.{MethodRec}
 use Rattle.jvm_model.specs.declared.program.TestEntry.{TestEntry}
 use Rattle.jvm_model.specs.declared.library.Native.{Native}
-use Rattle.jvm_model.specs.World.{same_units}
+use Rattle.std.specs.Str.{bytes_eq}
 use Rattle.jvm_model.specs.Builtin.{object_class}
 use Rattle.jvm_model.specs.Classes.{class_at, method_at, is_private, is_static, member, class_bound, upwards_in, upwards, is_below, lineage_in, own_interfaces, first_mentions}
 use Rattle.jvm_model.specs.Lookup.{is_field, field_path_in, field_path, find_field, pedigree_in, superinterfaces, interface_methods, find_in_interfaces, one_or_first, find_declared, find_in_object, find_method}
@@ -87,7 +87,7 @@ module _ (q : Program) (ms : List MethodRec) (tests : List TestEntry) (files : L
     outlines_same = fun_ext same
 
     abbrev named : List ℕ → List ℕ → Outline → Bool
-    named name descriptor x = same_units x.name name && same_units x.descriptor descriptor
+    named name descriptor x = bytes_eq x.name name && bytes_eq x.descriptor descriptor
 
     pub find_declared_same : (name descriptor : List ℕ) (cs : List ℕ) → find_declared p name descriptor cs ≡ find_declared q name descriptor cs
     unfolding outlines

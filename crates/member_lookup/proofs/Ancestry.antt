@@ -11,7 +11,7 @@ use Rattle.jvm_model.specs.Builtin.{builtin_count}
 use Rattle.jvm_model.specs.Library.{builtin_defs, builtin_classes}
 use Rattle.jvm_model.specs.Classes.{class_at, no_class, member}
 use Rattle.jvm_model.specs.Linked.{IsDirect, IsAncestor, direct, further}
-use Rattle.member_lookup.specs.Ancestors.{to_list}
+use Rattle.std.specs.Option.{option_to_list}
 use Rattle.member_lookup.specs.Ancestors.{directs, AreAncestors}
 
 -- ---- numbers that are noted
@@ -93,19 +93,19 @@ place_of (k ∷ ks) d m = elim (or_cases (nat_eq d k) (member d ks) m) [
 
 -- ---- direct superclasses and superinterfaces
 
-from_option : (o : Option ℕ) (d : ℕ) → member d (to_list o) ≡ true → o ≡ Some d
+from_option : (o : Option ℕ) (d : ℕ) → member d (option_to_list o) ≡ true → o ≡ Some d
 from_option None d m = absurd (cc)
 from_option (Some x) d m = elim (or_cases (nat_eq d x) false m) [ inl q ↦ ap (λ n. Some n) (sym (eqb-true d x q)) | inr q ↦ absurd (cc) ]
 
 pub is_direct : (p : Program) (c d : ℕ) → member d (directs p c) ≡ true → IsDirect p c d
-is_direct p c d m = elim (or_cases (member d (to_list (class_at p c).superclass)) (member d (class_at p c).interfaces) (sym (any_append d (to_list (class_at p c).superclass) (class_at p c).interfaces) ∙ m)) [
+is_direct p c d m = elim (or_cases (member d (option_to_list (class_at p c).superclass)) (member d (class_at p c).interfaces) (sym (any_append d (option_to_list (class_at p c).superclass) (class_at p c).interfaces) ∙ m)) [
   | inl q ↦ inl (from_option (class_at p c).superclass d q)
   | inr q ↦ inr q
 ]
 
 pub in_directs : (p : Program) (c d : ℕ) → IsDirect p c d → member d (directs p c) ≡ true
-in_directs p c d (inl e) = any_append d (to_list (class_at p c).superclass) (class_at p c).interfaces ∙ or_left (member d (to_list (class_at p c).superclass)) (member d (class_at p c).interfaces) (ap (λ o. member d (to_list o)) e ∙ member_self d)
-in_directs p c d (inr m) = any_append d (to_list (class_at p c).superclass) (class_at p c).interfaces ∙ or_right (member d (to_list (class_at p c).superclass)) (member d (class_at p c).interfaces) m
+in_directs p c d (inl e) = any_append d (option_to_list (class_at p c).superclass) (class_at p c).interfaces ∙ or_left (member d (option_to_list (class_at p c).superclass)) (member d (class_at p c).interfaces) (ap (λ o. member d (option_to_list o)) e ∙ member_self d)
+in_directs p c d (inr m) = any_append d (option_to_list (class_at p c).superclass) (class_at p c).interfaces ∙ or_right (member d (option_to_list (class_at p c).superclass)) (member d (class_at p c).interfaces) m
 
 trans : (p : Program) (c d e : ℕ) → IsAncestor p c d → IsAncestor p d e → IsAncestor p c e
 trans p c d e (direct h) b = further h b
@@ -173,7 +173,7 @@ searches_all p c place keys s h d = (λ m. s.sound d m, λ a. above_noted p keys
 pub nothing_above : (p : Program) (c d : ℕ) → length p.classes ≤ c → member d (directs p c) ≡ true → ⊥
 nothing_above p c d h m =
     let e : class_at p c ≡ no_class = get_or_past p.classes c no_class h in
-    let q : member d [] ≡ true = subst (λ (r : ClassRec). member d (to_list r.superclass ++ r.interfaces) ≡ true) e m in
+    let q : member d [] ≡ true = subst (λ (r : ClassRec). member d (option_to_list r.superclass ++ r.interfaces) ≡ true) e m in
     cc
 
 no_ancestor : (p : Program) (c d : ℕ) → length p.classes ≤ c → IsAncestor p c d → ⊥
@@ -183,7 +183,7 @@ no_ancestor p c d h (further {d = e} g a) = nothing_above p c e h (in_directs p 
 -- each class stands behind its superclass and superinterfaces
 abbrev in_order : ℕ → List ClassRec → Bool
 in_order n [] = true
-in_order n (c ∷ cs) = list_all (λ d. nat_lt d n) (to_list c.superclass ++ c.interfaces) && in_order (n + 1) cs
+in_order n (c ∷ cs) = list_all (λ d. nat_lt d n) (option_to_list c.superclass ++ c.interfaces) && in_order (n + 1) cs
 
 builtins_in_order : in_order 0 builtin_classes ≡ true
 unfolding builtin_classes builtin_defs
@@ -196,15 +196,15 @@ all_below n d (x ∷ xs) a m = let q = and_parts (nat_lt x n) (list_all (λ y. n
   | inr r ↦ all_below n d xs q.1 r
 ]
 
-order_at : (n i d : ℕ) (cs : List ClassRec) → in_order n cs ≡ true → member d (to_list (get_or cs i no_class).superclass ++ (get_or cs i no_class).interfaces) ≡ true → d < n + i
+order_at : (n i d : ℕ) (cs : List ClassRec) → in_order n cs ≡ true → member d (option_to_list (get_or cs i no_class).superclass ++ (get_or cs i no_class).interfaces) ≡ true → d < n + i
 order_at n i d [] o m = absurd (cc)
-order_at n zero d (c ∷ cs) o m = let q = all_below n d (to_list c.superclass ++ c.interfaces) (and_parts (list_all (λ x. nat_lt x n) (to_list c.superclass ++ c.interfaces)) (in_order (n + 1) cs) o).0 m in omega arith
-order_at n (suc i) d (c ∷ cs) o m = let q = order_at (n + 1) i d cs (and_parts (list_all (λ x. nat_lt x n) (to_list c.superclass ++ c.interfaces)) (in_order (n + 1) cs) o).1 m in omega arith
+order_at n zero d (c ∷ cs) o m = let q = all_below n d (option_to_list c.superclass ++ c.interfaces) (and_parts (list_all (λ x. nat_lt x n) (option_to_list c.superclass ++ c.interfaces)) (in_order (n + 1) cs) o).0 m in omega arith
+order_at n (suc i) d (c ∷ cs) o m = let q = order_at (n + 1) i d cs (and_parts (list_all (λ x. nat_lt x n) (option_to_list c.superclass ++ c.interfaces)) (in_order (n + 1) cs) o).1 m in omega arith
 
 builtin_above : (p : Program) → take builtin_count p.classes ≡ builtin_classes → (c d : ℕ) → c < builtin_count → member d (directs p c) ≡ true → d < c
 builtin_above p b c d h m =
     let e : class_at p c ≡ get_or builtin_classes c no_class = sym (get_or-take builtin_count p.classes c no_class h) ∙ ap (λ (cs : List ClassRec). get_or cs c no_class) b in
-    let q = order_at 0 c d builtin_classes builtins_in_order (subst (λ (r : ClassRec). member d (to_list r.superclass ++ r.interfaces) ≡ true) e m) in
+    let q = order_at 0 c d builtin_classes builtins_in_order (subst (λ (r : ClassRec). member d (option_to_list r.superclass ++ r.interfaces) ≡ true) e m) in
     omega arith
 
 below_builtin : (p : Program) → take builtin_count p.classes ≡ builtin_classes → (c d : ℕ) → c < builtin_count → IsAncestor p c d → d < c

@@ -1,11 +1,10 @@
 -- ancestors and cycles
 pub mod Ancestry
-pub mod Cycles
+pub mod FirstCycle
 -- walks above a class
 pub mod Walking
 pub mod MentionFacts
 -- look-up
-pub mod TextLaws
 pub mod Lookups
 -- what look-up sees of a program
 pub mod Alike

@@ -13,7 +13,7 @@ use Rattle.jvm_model.specs.declared.program.Program.{Program}
 use Rattle.jvm_model.specs.Classes.{class_at, method_at, class_bound, member, first_mentions, lineage_in, own_interfaces, upwards_in, upwards}
 use Rattle.jvm_model.specs.Selection.{kept_of, has_code, redeclares}
 use Rattle.jvm_model.specs.Lookup.{is_field, is_method, field_path_in, field_path, find_field, pedigree_in, superinterfaces, interface_methods, one_or_first, find_in_interfaces, find_declared}
-use Rattle.member_lookup.specs.Ancestors.{to_list}
+use Rattle.std.specs.Option.{option_to_list}
 use Rattle.member_lookup.specs.Walks.{IsWalked, Visits, above_class, is_kept, is_open, nexts, walk}
 use Rattle.member_lookup.proofs.Ancestry.{any_append}
 use Rattle.member_lookup.proofs.Walking.{insert_append, visits_all}
@@ -25,7 +25,7 @@ flat_same : (f g : ℕ → List ℕ) (xs : List ℕ) → ((x : ℕ) → f x ≡ 
 flat_same f g [] e = refl
 flat_same f g (x ∷ xs) e = ap (λ l. l ++ flat_map f xs) (e x) ∙ ap (λ l. g x ++ l) (flat_same f g xs e)
 
-above_same : (p : Program) (k : ℕ) (o : Option ℕ) → ((c : ℕ) → field_path_in p k c ≡ walk p true k c) → elim o as (λ _. List ℕ) [ None ↦ [] | Some d ↦ field_path_in p k d ] ≡ flat_map (λ d. walk p true k d) (to_list o)
+above_same : (p : Program) (k : ℕ) (o : Option ℕ) → ((c : ℕ) → field_path_in p k c ≡ walk p true k c) → elim o as (λ _. List ℕ) [ None ↦ [] | Some d ↦ field_path_in p k d ] ≡ flat_map (λ d. walk p true k d) (option_to_list o)
 above_same p k None e = refl
 above_same p k (Some d) e = e d ∙ sym (append-nil (walk p true k d))
 
@@ -34,8 +34,8 @@ field_walk p zero c = refl
 field_walk p (suc k) c =
     let up = class_at p c in
     ap (λ l. c ∷ l) (ap (λ l. flat_map (λ i. field_path_in p k i) up.interfaces ++ l) (above_same p k up.superclass (λ d. field_walk p k d))
-    ∙ ap (λ l. l ++ flat_map (λ d. walk p true k d) (to_list up.superclass)) (flat_same (λ i. field_path_in p k i) (λ i. walk p true k i) up.interfaces (λ i. field_walk p k i))
-    ∙ sym (flat_map-append (λ d. walk p true k d) up.interfaces (to_list up.superclass)))
+    ∙ ap (λ l. l ++ flat_map (λ d. walk p true k d) (option_to_list up.superclass)) (flat_same (λ i. field_path_in p k i) (λ i. walk p true k i) up.interfaces (λ i. field_walk p k i))
+    ∙ sym (flat_map-append (λ d. walk p true k d) up.interfaces (option_to_list up.superclass)))
 
 pub path_walk : (p : Program) (c : ℕ) → field_path p c ≡ walk p true class_bound c
 unfolding field_path
@@ -237,11 +237,11 @@ pub first_get : (ms : List ℕ) → slice_get ms 0 ≡ one_or_first [] ms
 first_get [] = refl
 first_get (m ∷ ms) = refl
 
-pub listed_one : (o : Option ℕ) → true ≡ is_some o → (a : ℕ) × (to_list o ≡ a ∷ [])
+pub listed_one : (o : Option ℕ) → true ≡ is_some o → (a : ℕ) × (option_to_list o ≡ a ∷ [])
 listed_one None e = absurd (cc)
 listed_one (Some a) e = (a, refl)
 
-pub second_kept : (q : ℕ → Bool) (ms : List ℕ) (i : ℕ) (o : Option ℕ) → i < length ms → filter q (take i ms) ≡ to_list o → true ≡ is_some o → q (get_or ms i 0) ≡ true → slice_get ms 0 ≡ one_or_first (filter q ms) ms
+pub second_kept : (q : ℕ → Bool) (ms : List ℕ) (i : ℕ) (o : Option ℕ) → i < length ms → filter q (take i ms) ≡ option_to_list o → true ≡ is_some o → q (get_or ms i 0) ≡ true → slice_get ms 0 ≡ one_or_first (filter q ms) ms
 second_kept q ms i o h e s t = let a = listed_one o s in first_get ms ∙ sym (two_kept q ms i a.0 h (e ∙ a.1) t)
 
 -- what the walks note

@@ -1,6 +1,7 @@
 -- Lists without later mentions, and what looks the same in them.
 use Rattle.std.proofs.Common.{◌≡◌, ℕ, List, [], ◌∷◌, ◌++◌, append-nil, append_assoc, filter, find, flat_map, Bool, true, false, not, ◌||◌, ◌&&◌, cond, if◌then◌else◌, nat_eq, refl, sym, ◌∙◌, ap, subst, inl, inr, Option, Some, None}
 use Rattle.std.specs.List.{list_any}
+use Rattle.std.proofs.Math.Bool.{and_comm}
 use Rattle.std.specs.Option.{option_or}
 use Rattle.std.proofs.lemmas.Bool.{eqb-true, eq-eqb}
 use Rattle.std.proofs.lemmas.List.Elements.{filter-append, filter_agree}
@@ -21,21 +22,11 @@ same_test false false f g = refl
 eq_turned : (x y : ℕ) → nat_eq x y ≡ nat_eq y x
 eq_turned x y = same_test (nat_eq x y) (nat_eq y x) (λ e. eq-eqb y x (sym (eqb-true x y e))) (λ e. eq-eqb x y (sym (eqb-true y x e)))
 
-or_false : (a : Bool) → (a || false) ≡ a
-or_false true = refl
-or_false false = refl
-
 neither : (a b : Bool) → not (a || (b || false)) ≡ (not b && not a)
 neither true true = refl
 neither true false = refl
 neither false true = refl
 neither false false = refl
-
-and_turned : (a b : Bool) → (a && b) ≡ (b && a)
-and_turned true true = refl
-and_turned true false = refl
-and_turned false true = refl
-and_turned false false = refl
 
 -- ---- filters
 
@@ -64,7 +55,7 @@ filter_but : (h : ℕ → Bool) (x : ℕ) (ys : List ℕ) → h x ≡ false → 
 filter_but h x ys f = filter_both h (λ y. not (nat_eq x y)) ys ∙ filter_agree (λ y. not (nat_eq x y) && h y) h (λ y. skipped h x y (nat_eq x y) refl f) ys
 
 filter_turned : (f g : ℕ → Bool) (xs : List ℕ) → filter f (filter g xs) ≡ filter g (filter f xs)
-filter_turned f g xs = filter_both f g xs ∙ filter_agree (λ x. g x && f x) (λ x. f x && g x) (λ x. and_turned (g x) (f x)) xs ∙ sym (filter_both g f xs)
+filter_turned f g xs = filter_both f g xs ∙ filter_agree (λ x. g x && f x) (λ x. f x && g x) (λ x. and_comm (g x) (f x)) xs ∙ sym (filter_both g f xs)
 
 mentions_cond : (h : ℕ → Bool) (b : Bool) (x : ℕ) (xs : List ℕ) → h x ≡ b → filter h (first_mentions xs) ≡ first_mentions (filter h xs)
     → cond b (x ∷ filter h (but x (first_mentions xs))) (filter h (but x (first_mentions xs))) ≡ first_mentions (cond b (x ∷ filter h xs) (filter h xs))

@@ -8,7 +8,7 @@ use Rattle.indexmap.specs.IndexMap.{IndexMap, get, keys}
 use Rattle.indexmap.specs.IndexSet.{insert_key, insert_all}
 use Rattle.jvm_model.specs.declared.program.Program.{Program}
 use Rattle.jvm_model.specs.Classes.{class_at, member}
-use Rattle.member_lookup.specs.Ancestors.{to_list}
+use Rattle.std.specs.Option.{option_to_list}
 use Rattle.member_lookup.specs.Walks.{nexts, walk, IsWalked, Visits, is_walked}
 use Rattle.member_lookup.proofs.Ancestry.{any_append, member_kept, member_there}
 
@@ -117,9 +117,9 @@ module _ (p : Program) (supers : Bool) where
 
     -- the superinterfaces and then the superclass
     pub visits_nexts : (k c : ℕ) (xs : List ℕ) (old mid new : IndexMap ℕ ℕ S) → xs ≡ (class_at p c).interfaces → Visits p supers (flat_map (λ d. walk p supers k d) xs) old mid
-        → Visits p supers (flat_map (λ d. walk p supers k d) (cond supers (to_list (class_at p c).superclass) [])) mid new → Visits p supers (flat_map (λ d. walk p supers k d) (nexts p supers c)) old new
+        → Visits p supers (flat_map (λ d. walk p supers k d) (cond supers (option_to_list (class_at p c).superclass) [])) mid new → Visits p supers (flat_map (λ d. walk p supers k d) (nexts p supers c)) old new
     visits_nexts k c xs old mid new e v w =
-        let above = cond supers (to_list (class_at p c).superclass) [] in
+        let above = cond supers (option_to_list (class_at p c).superclass) [] in
         let joined : flat_map (λ d. walk p supers k d) (nexts p supers c) ≡ flat_map (λ d. walk p supers k d) xs ++ flat_map (λ d. walk p supers k d) above =
         flat_map-append (λ d. walk p supers k d) (class_at p c).interfaces above ∙ ap (λ (ys : List ℕ). flat_map (λ d. walk p supers k d) ys ++ flat_map (λ d. walk p supers k d) above) (sym e) in
         subst (λ ys. Visits p supers ys old new) (sym joined) (visits_append (flat_map (λ d. walk p supers k d) xs) (flat_map (λ d. walk p supers k d) above) old mid new v w)

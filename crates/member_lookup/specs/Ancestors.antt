@@ -1,17 +1,14 @@
 -- Superclasses and superinterfaces of a class, as lists, and the first class that is its own ancestor.
-use Rattle.std.specs.Prelude.{ℕ, ◌+◌, ◌<◌, List, [], ◌∷◌, ◌++◌, ◌≡◌, ◌↔◌, true, Option, Some, None}
+use Rattle.std.specs.Prelude.{ℕ, ◌+◌, ◌<◌, List, ◌++◌, ◌≡◌, ◌↔◌, true, Option, Some, None}
+use Rattle.std.specs.Option.{option_to_list}
 use Rattle.jvm_model.specs.declared.program.Program.{Program}
 use Rattle.jvm_model.specs.Builtin.{builtin_count}
 use Rattle.jvm_model.specs.Classes.{class_at, member}
 use Rattle.jvm_model.specs.Linked.{IsAncestor}
 
-abbrev pub to_list : Option ℕ → List ℕ
-to_list None = []
-to_list (Some n) = n ∷ []
-
 -- the superclass and the direct superinterfaces of a class
 abbrev pub directs : Program → ℕ → List ℕ
-directs p c = to_list (class_at p c).superclass ++ (class_at p c).interfaces
+directs p c = option_to_list (class_at p c).superclass ++ (class_at p c).interfaces
 
 -- these are the ancestors of a class
 abbrev pub AreAncestors : Program → ℕ → List ℕ → Type 0

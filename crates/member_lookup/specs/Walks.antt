@@ -6,11 +6,11 @@ use Rattle.jvm_model.specs.declared.program.Program.{Program}
 use Rattle.jvm_model.specs.Classes.{class_at, method_at, class_bound, is_private, is_static, member}
 use Rattle.jvm_model.specs.Lookup.{is_method}
 use Rattle.jvm_model.specs.Selection.{has_code}
-use Rattle.member_lookup.specs.Ancestors.{to_list}
+use Rattle.std.specs.Option.{option_to_list}
 
 -- the classes just above one: its direct superinterfaces and, where asked, its superclass behind them
 abbrev pub nexts : Program → Bool → ℕ → List ℕ
-nexts p supers c = (class_at p c).interfaces ++ cond supers (to_list (class_at p c).superclass) []
+nexts p supers c = (class_at p c).interfaces ++ cond supers (option_to_list (class_at p c).superclass) []
 
 -- a class and those above it, each before those above itself, at most k steps up
 abbrev pub walk : Program → Bool → ℕ → ℕ → List ℕ

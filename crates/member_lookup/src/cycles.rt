@@ -10,11 +10,8 @@ ghost use Rattle.member_lookup.specs.Ancestors.{IsFirstCycle};
 
 use et_base::NoMemory;
 use indexmap::IndexSet;
-use jvm_model::Program;
+use jvm_model::{BUILTIN_COUNT, Program};
 use std::alloc::Global;
-
-// The number of the built-in classes.
-const BUILTIN: usize = 32;
 
 // Notes numbers that aren't noted yet.
 fn note_all(seen: &mut IndexSet<u32>, classes: &[u32]) -> Result<(), NoMemory>
@@ -30,7 +27,7 @@ fn note_all(seen: &mut IndexSet<u32>, classes: &[u32]) -> Result<(), NoMemory>
 fn note_direct(p: &Program, class: u32, seen: &mut IndexSet<u32>) -> Result<(), NoMemory>
     ensures { OnOk result (seen.new.keys ≡ insert_all nat_eq seen.old.keys (directs p.now class)) }
 {
-    let Some(record) = p.classes.as_slice().get(class as usize) else {
+    let Some(record) = p.class(class) else {
         return Ok(());
     };
     if let Some(superclass) = record.superclass {
@@ -67,9 +64,9 @@ pub fn first_cycle(alloc: Global, p: &Program) -> Result<Option<usize>, NoMemory
     requires few { length p.now.classes < 2 ^ 32 }
     ensures { IfOk result (λ cycle. IsFirstCycle p.now cycle) }
 {
-    for class in BUILTIN..p.classes.len() {
+    for class in BUILTIN_COUNT as usize..p.classes.len() {
         if is_own_ancestor(alloc, p, class as u32)? {
-            return Ok(Some(class - BUILTIN));
+            return Ok(Some(class - BUILTIN_COUNT as usize));
         }
     }
     Ok(None)

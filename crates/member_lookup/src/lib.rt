@@ -8,7 +8,4 @@ mod lookup_tests;
 mod walk;
 
 pub use cycles::first_cycle;
-pub use lookup::{
-    INIT, class_bound, declared_upwards, find_field, find_method, is_interface, is_static, same_units,
-};
-pub use walk::{interfaces, superclass};
+pub use lookup::{declared_upwards, find_field, find_method};

@@ -4,42 +4,20 @@
 ghost use Rattle.std.specs.Prelude.{◌≡◌, ◌∷◌, ◌&&◌, [], IfOk, OnOk, cond, false, filter, find, flat_map, nat_eq, not};
 ghost use Rattle.indexmap.specs.IndexSet.{insert_all};
 ghost use Rattle.indexmap.specs.IndexMap.{keys};
-ghost use Rattle.jvm_model.specs.World.{same_units};
+ghost use Rattle.std.specs.Str.{bytes_eq};
 ghost use Rattle.jvm_model.specs.Builtin.{object_class};
 ghost use Rattle.jvm_model.specs.Classes as classes;
-ghost use Rattle.jvm_model.specs.Classes.{class_at, class_bound, field_at, first_mentions, init_name, is_private, member, method_at, upwards};
+ghost use Rattle.jvm_model.specs.Classes.{class_at, first_mentions, member, method_at, upwards};
 ghost use Rattle.jvm_model.specs.Lookup.{field_path, find_declared, find_field, find_in_interfaces, find_in_object, find_method, is_field, is_method, superinterfaces};
 ghost use Rattle.jvm_model.specs.Selection.{has_code};
 ghost use Rattle.jvm_model.specs.Lookup.{one_or_first};
 ghost use Rattle.member_lookup.specs.Walks.{IsWalked, Visits, above_class, is_kept, is_open, walk};
 
-use crate::walk::{Visited, interfaces, superclass, visit, visit_all};
+use crate::walk::{Visited, visit, visit_all};
 use et_base::NoMemory;
 use indexmap::{IndexMap, IndexSet};
-use jvm_model::Program;
+use jvm_model::{CLASS_BOUND, INIT, OBJECT, Program};
 use std::alloc::Global;
-
-// The class `java.lang.Object`.
-const OBJECT: u32 = 0;
-
-// The units of `<init>`.
-pub const INIT: [u16; 6] = [60, 105, 110, 105, 116, 62];
-
-// Whether two names are one.
-#[tactic(auto, using(crate::proofs::TextLaws::as_units))]
-pub fn same_units(a: &[u16], b: &[u16]) -> bool
-    ensures { result ≡ same_units a.now b.now }
-{
-    a == b
-}
-
-// The length that no chain of superclasses and superinterfaces passes.
-#[tactic(auto, unfolding(jvm_model::specs::Classes::class_bound))]
-pub fn class_bound() -> u32
-    ensures { result ≡ class_bound }
-{
-    1200
-}
 
 // The classes that were visited, in order.
 fn visited(alloc: Global, seen: &Visited) -> Result<Vec<u32>, NoMemory>
@@ -57,11 +35,10 @@ fn visited(alloc: Global, seen: &Visited) -> Result<Vec<u32>, NoMemory>
 fn is_field(p: &Program, field: u32, name: &[u16], descriptor: &[u16]) -> bool
     ensures { result ≡ is_field p.now name.now descriptor.now field }
 {
-    match p.fields.as_slice().get(field as usize) {
+    match p.field(field) {
         None => name.is_empty() && descriptor.is_empty(),
         Some(record) => {
-            same_units(record.name.as_slice(), name)
-                && same_units(record.descriptor.as_slice(), descriptor)
+            record.name.as_slice() == name && record.descriptor.as_slice() == descriptor
         }
     }
 }
@@ -70,7 +47,7 @@ fn is_field(p: &Program, field: u32, name: &[u16], descriptor: &[u16]) -> bool
 fn fields(p: &Program, class: u32) -> &[u32]
     ensures { result.now ≡ (class_at p.now class).fields }
 {
-    match p.classes.as_slice().get(class as usize) {
+    match p.class(class) {
         None => &[],
         Some(record) => record.fields.as_slice(),
     }
@@ -103,7 +80,7 @@ fn field_path(alloc: Global, p: &Program, class: u32) -> Result<Vec<u32>, NoMemo
     ensures { IfOk result (λ path. path.items ≡ first_mentions (field_path p.now class)) }
 {
     let mut seen = IndexMap::new(alloc);
-    visit(p, true, class_bound(), class, &mut seen)?;
+    visit(p, true, CLASS_BOUND, class, &mut seen)?;
     visited(alloc, &seen)
 }
 
@@ -129,43 +106,38 @@ pub fn find_field(
 fn is_method(p: &Program, method: u32, name: &[u16], descriptor: &[u16]) -> bool
     ensures { result ≡ is_method p.now name.now descriptor.now method }
 {
-    match p.methods.as_slice().get(method as usize) {
+    match p.method(method) {
         None => name.is_empty() && descriptor.is_empty(),
         Some(record) => {
-            same_units(record.name.as_slice(), name)
-                && same_units(record.descriptor.as_slice(), descriptor)
+            record.name.as_slice() == name && record.descriptor.as_slice() == descriptor
         }
-    }
-}
-
-// The access flags of a method.
-fn method_flags(p: &Program, method: u32) -> u16
-    ensures { result ≡ (method_at p.now method).flags }
-{
-    match p.methods.as_slice().get(method as usize) {
-        None => 0,
-        Some(record) => record.flags,
     }
 }
 
 fn is_private(p: &Program, method: u32) -> bool
     ensures { result ≡ classes.is_private (method_at p.now method).flags }
 {
-    method_flags(p, method) / 0x0002 % 2 == 1
+    match p.method(method) {
+        None => false,
+        Some(record) => record.is_private(),
+    }
 }
 
-pub fn is_static(p: &Program, method: u32) -> bool
+fn is_static(p: &Program, method: u32) -> bool
     ensures { result ≡ classes.is_static (method_at p.now method).flags }
 {
-    method_flags(p, method) / 0x0008 % 2 == 1
+    match p.method(method) {
+        None => false,
+        Some(record) => record.is_static(),
+    }
 }
 
 fn has_code(p: &Program, method: u32) -> bool
     ensures { result ≡ has_code p.now method }
 {
-    match p.methods.as_slice().get(method as usize) {
+    match p.method(method) {
         None => false,
-        Some(record) => record.body.is_some(),
+        Some(record) => record.has_code(),
     }
 }
 
@@ -173,7 +145,7 @@ fn has_code(p: &Program, method: u32) -> bool
 fn class_of(p: &Program, method: u32) -> u32
     ensures { result ≡ (method_at p.now method).class }
 {
-    match p.methods.as_slice().get(method as usize) {
+    match p.method(method) {
         None => 0,
         Some(record) => record.class,
     }
@@ -183,18 +155,9 @@ fn class_of(p: &Program, method: u32) -> u32
 fn methods(p: &Program, class: u32) -> &[u32]
     ensures { result.now ≡ (class_at p.now class).methods }
 {
-    match p.classes.as_slice().get(class as usize) {
+    match p.class(class) {
         None => &[],
         Some(record) => record.methods.as_slice(),
-    }
-}
-
-pub fn is_interface(p: &Program, class: u32) -> bool
-    ensures { result ≡ classes.is_interface (class_at p.now class).flags }
-{
-    match p.classes.as_slice().get(class as usize) {
-        None => false,
-        Some(record) => record.flags / 0x0200 % 2 == 1,
     }
 }
 
@@ -213,7 +176,7 @@ pub fn declared_upwards(p: &Program, class: u32, name: &[u16], descriptor: &[u16
     ensures { result ≡ find_declared p.now name.now descriptor.now (upwards p.now class) }
 {
     let mut next = Some(class);
-    let mut steps = class_bound();
+    let mut steps = CLASS_BOUND;
     while let Some(above) = next {
         if steps == 0 {
             return None;
@@ -221,7 +184,7 @@ pub fn declared_upwards(p: &Program, class: u32, name: &[u16], descriptor: &[u16
         if let Some(method) = own_method(p, above, name, descriptor) {
             return Some(method);
         }
-        next = superclass(p, above);
+        next = p.superclass(above);
         steps -= 1;
     }
     None
@@ -242,13 +205,13 @@ fn visit_upwards(p: &Program, class: u32, seen: &mut Visited) -> Result<(), NoMe
     ensures { OnOk result (Visits p.now false (flat_map (λ d. above_class p.now d) (upwards p.now class)) seen.old seen.new) }
 {
     let mut next = Some(class);
-    let mut steps = class_bound();
+    let mut steps = CLASS_BOUND;
     while let Some(above) = next {
         if steps == 0 {
             return Ok(());
         }
-        visit_all(p, false, class_bound(), interfaces(p, above), seen)?;
-        next = superclass(p, above);
+        visit_all(p, false, CLASS_BOUND, p.interfaces(above), seen)?;
+        next = p.superclass(above);
         steps -= 1;
     }
     Ok(())
@@ -313,8 +276,8 @@ fn above_methods(alloc: Global, p: &Program, methods: &[u32]) -> Result<Visited,
         visit_all(
             p,
             false,
-            class_bound(),
-            interfaces(p, class_of(p, *method)),
+            CLASS_BOUND,
+            p.interfaces(class_of(p, *method)),
             &mut seen,
         )?;
     }
@@ -383,10 +346,10 @@ pub fn find_method(
 ) -> Result<Option<u32>, NoMemory>
     ensures { IfOk result (λ found. found ≡ find_method p.now class name.now descriptor.now) }
 {
-    if same_units(name, &INIT) {
+    if name == &INIT[..] {
         return Ok(own_method(p, class, name, descriptor));
     }
-    let declared = if is_interface(p, class) {
+    let declared = if p.is_interface(class) {
         own_method(p, class, name, descriptor).or(find_in_object(p, name, descriptor))
     } else {
         declared_upwards(p, class, name, descriptor)

@@ -3,7 +3,7 @@
 ghost use Rattle.std.specs.Prelude.{◌≡◌, ◌-◌, OnOk, IfOk, [], cond, flat_map, nat_eq};
 ghost use Rattle.indexmap.specs.IndexMap.{get};
 ghost use Rattle.jvm_model.specs.Classes.{class_at, class_bound};
-ghost use Rattle.member_lookup.specs.Ancestors.{to_list};
+ghost use Rattle.std.specs.Option.{option_to_list};
 ghost use Rattle.member_lookup.specs.Walks.{IsWalked, Visits, is_walked, nexts, walk};
 
 use et_base::NoMemory;
@@ -13,26 +13,6 @@ use jvm_model::Program;
 /// Classes in the order in which they were visited, each with the number of steps up to which those above it are among
 /// them.
 pub type Visited = IndexMap<u32, u32>;
-
-// The superclass of a class.
-pub fn superclass(p: &Program, class: u32) -> Option<u32>
-    ensures { result ≡ (class_at p.now class).superclass }
-{
-    match p.classes.as_slice().get(class as usize) {
-        None => None,
-        Some(record) => record.superclass,
-    }
-}
-
-// The direct superinterfaces of a class.
-pub fn interfaces(p: &Program, class: u32) -> &[u32]
-    ensures { result.now ≡ (class_at p.now class).interfaces }
-{
-    match p.classes.as_slice().get(class as usize) {
-        None => &[],
-        Some(record) => record.interfaces.as_slice(),
-    }
-}
 
 // The classes so many steps above this one were visited.
 fn is_walked(seen: &Visited, class: u32, steps: u32) -> bool
@@ -72,12 +52,12 @@ fn visit_superclass(
     seen: &mut Visited,
 ) -> Result<(), NoMemory>
     requires { IsWalked p.now supers seen.old }
-    ensures { OnOk result (Visits p.now supers (flat_map (λ c. walk p.now supers steps c) (cond supers (to_list (class_at p.now class).superclass) [])) seen.old seen.new) }
+    ensures { OnOk result (Visits p.now supers (flat_map (λ c. walk p.now supers steps c) (cond supers (option_to_list (class_at p.now class).superclass) [])) seen.old seen.new) }
 {
     if !supers {
         return Ok(());
     }
-    match superclass(p, class) {
+    match p.superclass(class) {
         None => Ok(()),
         Some(above) => visit(p, supers, steps, above, seen),
     }
@@ -95,7 +75,7 @@ fn visit_nexts(
     requires { IsWalked p.now supers seen.old }
     ensures { OnOk result (Visits p.now supers (flat_map (λ c. walk p.now supers steps c) (nexts p.now supers class)) seen.old seen.new) }
 {
-    visit_all(p, supers, steps, interfaces(p, class), seen)?;
+    visit_all(p, supers, steps, p.interfaces(class), seen)?;
     visit_superclass(p, supers, steps, class, seen)?;
     Ok(())
 }

@@ -4,7 +4,7 @@ use Rattle.std.proofs.lemmas.List.{flat_map_more, take_more}
 use Rattle.indexmap.specs.IndexSet.{insert_key}
 use Rattle.jvm_model.specs.Classes.{first_mentions}
 use Rattle.class_link.specs.Assembly.{mentioned_by}
-use Rattle.member_lookup.specs.Ancestors.{to_list}
+use Rattle.std.specs.Option.{option_to_list}
 use Rattle.class_link.proofs.MentionLaws.{first_more_of}
 use Rattle.class_link.proofs.mentions.mentions.Goals as goal
 
@@ -15,7 +15,7 @@ loop-slot-preserved c =
     let slots = c.args.slots.now in
     let slot = c.slot-item.result in
     c.in_ok-note.ensures
-    ∙ ap (λ (ks : List ℕ). fold (insert_key nat_eq) ks (to_list c.mentioned_by.result)) c.loop-slot.invariant
+    ∙ ap (λ (ks : List ℕ). fold (insert_key nat_eq) ks (option_to_list c.mentioned_by.result)) c.loop-slot.invariant
     ∙ sym (first_more_of (flat_map f (take i slots)) c.mentioned_by.result)
     ∙ ap (λ (ks : List ℕ). first_mentions (flat_map f (take i slots) ++ ks)) c.mentioned_by.ensures
     ∙ ap first_mentions (flat_map_more f [] (take i slots) slot ∙ ap (λ x. flat_map f (take i slots ++ x ∷ [])) c.slot-item.is ∙ ap (flat_map f) (sym (take_more slots i slot c.loop-slot-test.true)))
