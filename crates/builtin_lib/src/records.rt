@@ -2,7 +2,6 @@
 
 ghost use Rattle.std.specs.Prelude.{◌≡◌, ◌∷◌, [], ◌++◌, ◌+◌, ◌<◌, IfOk, OnOk, length, map};
 ghost use Rattle.std.specs.List.{range_with_len};
-ghost use Rattle.std.specs.Str.{bytes_eq};
 ghost use Rattle.jvm_model.specs.Library.{
   builtin_classes,
   builtin_fields,
@@ -43,19 +42,6 @@ fn numbers(alloc: Global, from: u32, count: u32) -> Result<Items<u32>, NoMemory>
     Ok(Items::from_vec(made))
 }
 
-// Whether two texts are the same.
-fn is_same(text: &[u8], other: &[u8]) -> bool
-    ensures { result ≡ bytes_eq text.now other.now }
-{
-    match text {
-        [] => other.is_empty(),
-        [byte, text @ ..] => match other {
-            [] => false,
-            [first, other @ ..] => *byte == *first && is_same(text, other),
-        },
-    }
-}
-
 // The number of the first class with this name, where the first row has the number `first`.
 fn number_of(first: u32, rows: &[ClassRow], name: &[u8]) -> Option<u32>
     requires in_range { first + length rows.now < 4294967296 }
@@ -64,7 +50,7 @@ fn number_of(first: u32, rows: &[ClassRow], name: &[u8]) -> Option<u32>
     match rows {
         [] => None,
         [row, rows @ ..] => {
-            if is_same(row.name, name) {
+            if row.name == name {
                 Some(first)
             } else {
                 number_of(first + 1, rows, name)

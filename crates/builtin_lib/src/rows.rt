@@ -123,14 +123,14 @@ pub fn classes(alloc: Global, rows: &[ClassRow]) -> Result<Items<ClassDef>, NoMe
 }
 
 // Whether code units are those of an ASCII text.
-fn is(units: &[u16], text: &[u8]) -> bool
+fn is_ascii_text(units: &[u16], text: &[u8]) -> bool
     ensures { result ≡ bytes_eq units.now text.now }
 {
     match units {
         [] => text.is_empty(),
         [unit, units @ ..] => match text {
             [] => false,
-            [byte, text @ ..] => *unit == *byte as u16 && is(units, text),
+            [byte, text @ ..] => *unit == *byte as u16 && is_ascii_text(units, text),
         },
     }
 }
@@ -142,7 +142,7 @@ pub fn native(rows: &[MethodRow], name: &[u16], descriptor: &[u16]) -> Option<Na
     match rows {
         [] => None,
         [row, rows @ ..] => {
-            if is(name, row.name) && is(descriptor, row.descriptor) {
+            if is_ascii_text(name, row.name) && is_ascii_text(descriptor, row.descriptor) {
                 Some(row.native)
             } else {
                 native(rows, name, descriptor)
@@ -163,7 +163,7 @@ pub fn class_native(
     match rows {
         [] => None,
         [row, rows @ ..] => {
-            if is(class, row.name) {
+            if is_ascii_text(class, row.name) {
                 native(row.methods, name, descriptor)
             } else {
                 class_native(rows, class, name, descriptor)

@@ -28,7 +28,8 @@ use Rattle.class_link.specs.Assembly.{assembled, skeleton}
 use Rattle.class_link.specs.Bodies.{linked_body}
 use Rattle.class_link.specs.Faults.{first_some, duplicate_fault, headings_fault, all_references_fault}
 use Rattle.member_lookup.specs.Ancestors.{IsFirstCycle}
-use Rattle.class_link.specs.Link.{◌>>=◌, setting, unless, cycle_fault, tests_of, program_of, link_by, AreLines, AreDifferent}
+use Rattle.et_base.specs.Answers.{◌>>=◌}
+use Rattle.class_link.specs.Link.{setting, unless, cycle_fault, tests_of, program_of, link_by, AreLines, AreDifferent}
 use Rattle.class_link.proofs.Assembled.{holds_builtins, class_count, method_cases}
 use Rattle.class_link.proofs.Records.{class_numbers, field_class, method_class, method_record}
 use Rattle.class_link.proofs.Listed.{AllKnown, all_there, is_listed}

@@ -14,7 +14,8 @@ use Rattle.class_link.specs.declared.fault.LinkFault.TheVariants as fault
 use Rattle.class_link.specs.declared.lines.TestLines.{TestLines}
 use Rattle.class_link.specs.Assembly.{skeleton, bare_body}
 use Rattle.class_link.specs.Faults.{first_some, duplicate_fault, headings_fault, all_references_fault}
-use Rattle.class_link.specs.Link.{◌>>=◌, setting, unless, cycle_fault, tests_of, program_of, link_by, LinksBy, Links, LinksOnce}
+use Rattle.et_base.specs.Answers.{◌>>=◌}
+use Rattle.class_link.specs.Link.{setting, unless, cycle_fault, tests_of, program_of, link_by, LinksBy, Links, LinksOnce}
 use Rattle.class_link.proofs.Assembled.{holds_builtins}
 use Rattle.class_link.proofs.Records.{class_numbers}
 

@@ -13,7 +13,8 @@ use Rattle.class_link.specs.Answers.{Fails}
 use Rattle.class_link.specs.Assembly.{skeleton, bare_body}
 use Rattle.class_link.specs.Faults.{first_some, duplicate_fault, headings_fault, all_references_fault}
 use Rattle.member_lookup.specs.Ancestors.{IsFirstCycle}
-use Rattle.class_link.specs.Link.{◌>>=◌, setting, unless, cycle_fault, tests_of, program_of, link_by, LinksBy, Links, IsCycleFault}
+use Rattle.et_base.specs.Answers.{◌>>=◌}
+use Rattle.class_link.specs.Link.{setting, unless, cycle_fault, tests_of, program_of, link_by, LinksBy, Links, IsCycleFault}
 use Rattle.class_link.proofs.Assembled.{holds_builtins, class_count}
 
 -- ---- the skeleton

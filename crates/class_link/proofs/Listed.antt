@@ -1,16 +1,18 @@
 -- Members are listed once, by their own classes, and names are in their forms.
-use Rattle.std.proofs.Common.{◌≡◌, ℕ, zero, suc, ◌+◌, ◌<◌, ◌≤◌, List, [], length, get_or, slice_get, Bool, true, false, nat_eq, nat_lt, refl, sym, ◌∙◌, ap, subst, inl, inr, arith, Option, Some, None, IfSome, All}
-use Rattle.std.specs.Prelude.{is_some, is_none, option_map, unwrap_or}
+use Rattle.std.proofs.Common.{◌≡◌, ℕ, zero, suc, ◌+◌, ◌*◌, ◌/◌, ◌%◌, ◌<◌, ◌≤◌, List, [], length, get_or, slice_get, Bool, true, false, cond, nat_eq, nat_lt, nat_le, refl, sym, ◌∙◌, ap, subst, inl, inr, arith, Option, Some, None, IfSome, All}
+use Rattle.std.specs.Prelude.{is_some, is_none, option_map, unwrap_or, bit_and, ◌==◌, if◌then◌else◌}
 use Rattle.std.specs.List.{list_all, range_with_len}
-use Rattle.std.proofs.lemmas.Bool.{and_parts, cases_order, or_cases, ltb-true, eqb-true, ne_eqb, eq-eqb}
+use Rattle.std.proofs.lemmas.Bool.{and_parts, cases_order, or_cases, ltb-true, le-leb, eqb-true, eqb-false, ne_eqb, eq-eqb}
+use Rattle.std.proofs.lemmas.Nat.Bits.{and_pow}
 use Rattle.std.proofs.lemmas.Option.{slice_get_within, get_or_from_slice_get}
 use Rattle.class_pool.specs.declared.pool.Entry.{Entry}
 use Rattle.class_pool.proofs.EntryFacts.{NamesText, units_are}
 use Rattle.class_reader.specs.declared.parts.ClassParts.{ClassParts}
 use Rattle.class_reader.specs.declared.parts.CodePart.{CodePart}
 use Rattle.class_reader.proofs.ClassFacts.{ClassFacts, own_name_is}
-use Rattle.class_reader.proofs.MemberFacts.{FieldFacts, MethodFacts}
-use Rattle.et_base.specs.Names.{is_class_name, is_unqualified, is_method_name, is_field_descriptor, is_method_descriptor}
+use Rattle.class_reader.specs.Names.{own_units}
+use Rattle.class_reader.proofs.MemberFacts.{FieldFacts, MethodFacts, HasRoom}
+use Rattle.et_base.specs.Names.{is_class_name, is_unqualified, is_method_name, is_field_descriptor, is_method_descriptor, argument_units}
 use Rattle.jvm_model.specs.declared.program.Program.{Program}
 use Rattle.jvm_model.specs.declared.program.ClassRec.{ClassRec}
 use Rattle.jvm_model.specs.declared.program.FieldRec.{FieldRec}
@@ -22,8 +24,8 @@ use Rattle.std.specs.Str.{bytes_eq}
 use Rattle.jvm_model.specs.Library.{builtin_classes, builtin_fields, builtin_methods}
 use Rattle.jvm_model.specs.Classes.{class_at, field_at, method_at, no_class, no_field, no_method, is_static, clinit_name}
 use Rattle.jvm_model.specs.Driver.{no_arguments}
-use Rattle.jvm_model.specs.Linked.{IsClass, IsField, IsMethod, count, IsInitialiser, IsListed}
-use Rattle.jvm_model.proofs.BuiltinRules.{all_at, builtin_class, builtin_field, builtin_method, builtin_class_name, builtin_field_forms, builtin_method_forms}
+use Rattle.jvm_model.specs.Linked.{IsClass, IsField, IsMethod, count, has_room, IsInitialiser, IsListed}
+use Rattle.jvm_model.proofs.BuiltinRules.{all_at, builtin_class, builtin_field, builtin_method, builtin_class_name, builtin_field_forms, builtin_method_forms, builtin_method_room}
 use Rattle.class_link.specs.ClassNames.{text_at, own_name}
 use Rattle.class_link.specs.Assembly.{initialiser_from, method_rec, assembled}
 use Rattle.class_link.proofs.Blocks.{at_place, before}
@@ -59,6 +61,21 @@ text_is test slots i t = ap (λ (o : Option (List ℕ)). unwrap_or o []) (units_
 
 pub text_fits : (test : List ℕ → Bool) (slots : List (Option Entry)) (i : ℕ) → NamesText test slots i → test (text_at slots i) ≡ true
 text_fits test slots i t = ap test (text_is test slots i t) ∙ t.fits
+
+-- the argument units, with that of this, are at most 255
+room_by : (flags n : ℕ) (static : Bool) → is_static flags ≡ static → own_units flags + n ≤ 255 → nat_le (cond static n (n + 1)) 255 ≡ true
+room_by flags n true e h = le-leb n 255 (omega arith)
+room_by flags n false e h =
+    let unset : flags / 8 % 2 ≡ 0 = omega (arith, eqb-false (flags / 8 % 2) 1 e) in
+    let bit : bit_and flags 8 ≡ flags / 8 % 2 * 8 = and_pow flags 3 in
+    let own : own_units flags ≡ 1 = ap (λ x. if x == 0 then 1 else 0) (bit ∙ ap (λ x. x * 8) unset) in
+    le-leb (n + 1) 255 (omega arith)
+
+room_of : (flags : ℕ) (slots : List (Option Entry)) (i : ℕ) (t : NamesText is_method_descriptor slots i) → HasRoom flags t.units → has_room flags (argument_units (text_at slots i)) ≡ true
+room_of flags slots i t r =
+    ap (λ us. has_room flags (argument_units us)) (text_is is_method_descriptor slots i t)
+    ∙ ap (has_room flags) r.counted
+    ∙ room_by flags r.units (is_static flags) refl r.few
 
 -- the facts of each class file
 abbrev pub AllKnown : List ClassParts → Type 0
@@ -191,6 +208,16 @@ module _ (body : ClassParts → CodePart → Body) (cs : List ClassParts) (tests
         (text_fits is_method_name o.parts.pool o.member.name x.name, text_fits is_method_descriptor o.parts.pool o.member.descriptor x.descriptor)
   ]
 
+  roomy_method : (m : ℕ) → IsMethod p m → has_room (method_at p m).flags (argument_units (method_at p m).descriptor) ≡ true
+  roomy_method m h = elim (method_cases body cs tests files m h) [
+    | inl g ↦ builtin_method_room p (holds_builtins body cs tests files) m g
+    | inr g ↦
+        let o = g.of in
+        let x : MethodFacts o.parts.pool o.member = all_there (MethodFacts o.parts.pool) o.parts.methods o.index o.member (known o.class o.parts o.has_class).methods.each o.has_member in
+        subst (λ (y : MethodRec). has_room y.flags (argument_units y.descriptor) ≡ true) (sym (method_record body cs tests files m g))
+        (room_of o.member.flags o.parts.pool o.member.descriptor x.descriptor x.room)
+  ]
+
   -- ---- superclasses, initialisers and built-in methods
 
   root_is : (c : ℕ) → IsClass p c → (class_at p c).superclass ≡ None → c ≡ object_class
@@ -264,6 +291,7 @@ module _ (body : ClassParts → CodePart → Body) (cs : List ClassParts) (tests
     class_names = named_class;
     field_names = named_field;
     method_names = named_method;
+    arguments = roomy_method;
     root = root_is;
     top = top_is;
     initialisers = initialisers_are;

@@ -3,8 +3,9 @@ use Rattle.std.proofs.Common.{◌≡◌, ℕ, zero, suc, ◌+◌, ◌<◌, List,
 use Rattle.std.specs.Prelude.{flat_map, option_and_then, unwrap_or}
 use Rattle.std.specs.List.{range_with_len}
 use Rattle.std.proofs.lemmas.Bool.{and_parts, eqb-true, eq-eqb}
-use Rattle.std.proofs.lemmas.List.{length-map, map-append}
+use Rattle.std.proofs.lemmas.List.{length-map, map-append, get_or-map}
 use Rattle.std.proofs.lemmas.List.Elements.{All-nil, All-cons, All-head, All-tail, All-append, All-filter, All-from_get_or}
+use Rattle.std.proofs.lemmas.Slice.Eq.{bytes_eq-Decides}
 use Rattle.std.proofs.lemmas.List.FromFn.{length-range_with_len, get_or-range_with_len}
 use Rattle.std.proofs.lemmas.List.Quantifiers.{position-Some}
 use Rattle.class_reader.specs.declared.parts.ClassParts.{ClassParts}
@@ -25,32 +26,16 @@ use Rattle.class_link.proofs.Assembled.{class_count}
 -- ---- units
 
 pub units_true : (x y : List ℕ) → bytes_eq x y ≡ true → x ≡ y
-units_true [] [] e = refl
-units_true [] (y ∷ ys) e = absurd (cc)
-units_true (x ∷ xs) [] e = absurd (cc)
-units_true (x ∷ xs) (y ∷ ys) e =
-    let q = and_parts (nat_eq x y) (bytes_eq xs ys) e in
-    let a : x ≡ y = eqb-true x y q.0 in
-    let b = units_true xs ys q.1 in
-    rw (a, b) refl
-
-pub units_refl : (x : List ℕ) → bytes_eq x x ≡ true
-units_refl [] = refl
-units_refl (x ∷ xs) = let a = eq-eqb x x refl in let b = units_refl xs in rw (a, b) refl
+units_true x y e = (bytes_eq-Decides x y).0 e
 
 pub units_same : (x y : List ℕ) → x ≡ y → bytes_eq x y ≡ true
-units_same x y e = subst (λ z. bytes_eq x z ≡ true) e (units_refl x)
+units_same x y e = (bytes_eq-Decides x y).1 e
 
 -- ---- lists
 
 pub if_some : {A : Type 0} (P : A → Type 0) (o : Option A) → ((x : A) → o ≡ Some x → P x) → IfSome o P
 if_some P None f = tt
 if_some P (Some x) f = f x refl
-
-pub get_or_map : {A B : Type 0} (f : A → B) (xs : List A) (i : ℕ) (d : A) (e : B) → i < length xs → get_or (map f xs) i e ≡ f (get_or xs i d)
-get_or_map f [] i d e h = absurd (omega arith)
-get_or_map f (x ∷ xs) zero d e h = refl
-get_or_map f (x ∷ xs) (suc i) d e h = get_or_map f xs i d e (omega arith)
 
 pub all_range : (P : ℕ → Type 0) (a n : ℕ) → ((k : ℕ) → k < n → P (a + k)) → All P (range_with_len a n)
 all_range P a n f = All-from_get_or P (range_with_len a n) 0 (λ i h. let l = length-range_with_len a n in let g : i < n = omega arith in subst P (sym (get_or-range_with_len a n i 0 g)) (f i g))
@@ -104,7 +89,7 @@ module _ (body : ClassParts → CodePart → Body) (cs : List ClassParts) (tests
   names_length = ap length names_are ∙ length-map p.classes (λ (c : ClassRec). c.name)
 
   pub name_of_class : (c : ℕ) → IsClass p c → get_or (all_names cs) c [] ≡ (class_at p c).name
-  name_of_class c h = ap (λ (xs : List (List ℕ)). get_or xs c []) names_are ∙ get_or_map (λ (x : ClassRec). x.name) p.classes c no_class [] h
+  name_of_class c h = ap (λ (xs : List (List ℕ)). get_or xs c []) names_are ∙ get_or-map (λ (x : ClassRec). x.name) p.classes c no_class [] h
 
   -- the number of a name is that of a class of this name
   pub number_is : (name : List ℕ) (n : ℕ) → class_number (all_names cs) name ≡ Some n → IsClass p n × ((class_at p n).name ≡ name)

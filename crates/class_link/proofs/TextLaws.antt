@@ -4,7 +4,6 @@ use Rattle.std.specs.List.{list_any, prefix_len}
 use Rattle.std.specs.Cmp.Lexicographic.{pointwise}
 use Rattle.std.proofs.lemmas.List.{map-append, length-map}
 use Rattle.std.specs.Str.{bytes_eq}
-use Rattle.member_lookup.proofs.TextLaws.{as_units}
 
 -- a test of items, and one of what they are mapped to, which agree
 any_mapped : {A B : Type 0} (f : A → B) (p : A → Bool) (q : B → Bool) → ((x : A) → p x ≡ q (f x)) → (xs : List A) → list_any p xs ≡ list_any q (map f xs)
@@ -24,7 +23,7 @@ goes_last f p k n xs new is = rw new (map-append f xs (k ∷ []) ∙ ap (λ y. m
 
 -- the keys of a set of texts, seen as the texts f k
 pub text_among : {A : Type 0} (f : A → List ℕ) (text : List ℕ) (ks : List A) → list_any (λ k. pointwise nat_eq text (f k)) ks ≡ list_any (bytes_eq text) (map f ks)
-text_among f text ks = any_mapped f (λ k. pointwise nat_eq text (f k)) (bytes_eq text) (λ k. as_units text (f k)) ks
+text_among f text ks = any_mapped f (λ k. pointwise nat_eq text (f k)) (bytes_eq text) (λ k. refl) ks
 
 pub text_place : {A : Type 0} (f : A → List ℕ) (text : List ℕ) (ks : List A) → position (λ k. pointwise nat_eq text (f k)) ks ≡ position (bytes_eq text) (map f ks)
-text_place f text ks = position_mapped f (λ k. pointwise nat_eq text (f k)) (bytes_eq text) (λ k. as_units text (f k)) ks
+text_place f text ks = position_mapped f (λ k. pointwise nat_eq text (f k)) (bytes_eq text) (λ k. refl) ks

@@ -1,18 +1,17 @@
--- What a function answers, and what linking gives.
-use Rattle.std.specs.Prelude.{◌≡◌, Result, Ok, Err}
+-- What a function of linking answers: what a definition gives, or its fault, unless memory ran out.
+use Rattle.std.specs.Prelude.{Option, Some, None, Result}
+use Rattle.et_base.specs.Answers as answers
+pub use Rattle.et_base.specs.Answers.{nothing}
 use Rattle.class_link.specs.declared.fault.LinkFault.{LinkFault}
 use Rattle.class_link.specs.declared.fault.LinkFault.TheVariants as fault
 
--- the fault is the one that is given; want of memory says nothing
+-- the fault that an answer names; want of memory names none
+abbrev pub says : LinkFault → Option LinkFault
+says fault.NoMemory = None
+says f = Some f
+
 abbrev pub Fails : {Y : Type 0} → LinkFault → Result Y LinkFault → Type 0
-Fails fault.NoMemory given = Unit {0}
-Fails f given = given ≡ Err f
+Fails f given = answers.Fails (says f) given
 
--- What a function answered, seen by view, is what is given, unless memory ran out.
 abbrev pub Gives : {X Y : Type 0} → (X → Y) → Result X LinkFault → Result Y LinkFault → Type 0
-Gives view (Ok x) given = given ≡ Ok (view x)
-Gives view (Err f) given = Fails f given
-
--- what a function that answers nothing but a fault gives
-abbrev pub nothing : {X : Type 0} → X → Unit {0}
-nothing x = tt
+Gives = answers.Gives says

@@ -1,6 +1,7 @@
 -- Linking: the program of class files and tests, or the first fault (JVMS 5.3 and 5.4.3; the order of faults is this project's).
 use Rattle.std.specs.Prelude.{◌≡◌, ℕ, zero, suc, pos, ◌+◌, ◌<◌, ◌≤◌, List, [], ◌∷◌, ◌++◌, length, get_or, Option, Some, None, Result, Ok, Err, Bool, true, ◌&&◌, ◌||◌, nat_eq}
 use Rattle.std.specs.List.{list_all}
+use Rattle.et_base.specs.Answers.{◌>>=◌}
 use Rattle.class_reader.specs.declared.parts.ClassParts.{ClassParts}
 use Rattle.jvm_model.specs.declared.program.Program.{Program}
 use Rattle.jvm_model.specs.declared.program.TestEntry.{TestEntry}
@@ -18,11 +19,6 @@ use Rattle.class_link.specs.References.{Setting}
 use Rattle.class_link.specs.Bodies.{linked_body}
 use Rattle.class_link.specs.Faults.{first_some, duplicate_fault, headings_fault, all_references_fault, test_entry}
 use Rattle.member_lookup.specs.Ancestors.{IsFirstCycle}
-
-infixl 10 ◌>>=◌
-abbrev pub ◌>>=◌ : {A B : Type 0} → Result A LinkFault → (A → Result B LinkFault) → Result B LinkFault
-(Ok x) >>= f = f x
-(Err e) >>= f = Err e
 
 -- what references are resolved with
 abbrev pub setting : List ClassParts → Setting

@@ -22,12 +22,10 @@ use crate::setting::Setting;
 use builtin_lib::{BuiltinRecords, builtin_records};
 use class_reader::ClassFile;
 use et_base::{Items, NoMemory, Units};
-use jvm_model::{Body, MethodRec, Program, TestEntry};
+use jvm_model::{BUILTIN_COUNT, Body, MethodRec, Program, TestEntry};
 use std::alloc::Global;
 
-// The numbers of the first class file and of the first field and method of class files: those of the built-in ones.
-const FIRST_CLASS: u32 = 32;
-
+// The numbers of the first field and method of class files, behind the built-in ones.
 const FIRST_FIELD: u32 = 2;
 
 const FIRST_METHOD: u32 = 102;
@@ -105,8 +103,8 @@ pub fn skeleton(
         mut methods,
     } = builtin;
     push_classes(alloc, &mut classes, names, FIRST_FIELD, FIRST_METHOD, files)?;
-    push_all_fields(alloc, &mut fields, texts, FIRST_CLASS, files)?;
-    push_all_methods(alloc, &mut methods, FIRST_CLASS, files)?;
+    push_all_fields(alloc, &mut fields, texts, BUILTIN_COUNT, files)?;
+    push_all_methods(alloc, &mut methods, BUILTIN_COUNT, files)?;
     Ok(Program {
         classes,
         fields,

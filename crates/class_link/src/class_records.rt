@@ -2,7 +2,6 @@
 
 ghost use Rattle.std.specs.Prelude.{◌≡◌, ◌<◌, ◌+◌, ◌*◌, ◌≤◌, ◌++◌, length, map, IfOk, OnOk};
 ghost use Rattle.std.specs.List.{range_with_len};
-ghost use Rattle.std.specs.Str.{bytes_eq};
 ghost use Rattle.class_link.specs.ClassNames.{name_at, number_or_first};
 ghost use Rattle.class_link.specs.Assembly.{is_initialiser, initialiser_from, class_rec, class_recs};
 
@@ -13,7 +12,7 @@ use crate::names::ClassNames;
 use class_pool::Entry;
 use class_reader::{ClassFile, ClassParts, MemberPart};
 use et_base::{Items, NoMemory};
-use jvm_model::ClassRec;
+use jvm_model::{CLINIT, ClassRec, NO_ARGUMENTS};
 use std::alloc::Global;
 
 // So many numbers from the first on.
@@ -44,26 +43,13 @@ fn numbers_at(
     Ok(made)
 }
 
-// Whether code units are those of an ASCII text.
-fn is(units: &[u16], text: &[u8]) -> bool
-    ensures { result ≡ bytes_eq units.now text.now }
-{
-    match units {
-        [] => text.is_empty(),
-        [unit, units @ ..] => match text {
-            [] => false,
-            [byte, text @ ..] => *unit == *byte as u16 && is(units, text),
-        },
-    }
-}
-
 // Whether a method is the class's own static `<clinit>` with `()V` and code (JVMS 2.9).
 fn is_initialiser(slots: &[Option<Entry>], part: &MemberPart) -> bool
     ensures { result ≡ is_initialiser slots.now part.now }
 {
     is_static(part.flags)
-        && (is(text_at(slots, part.name), b"<clinit>")
-            && (is(text_at(slots, part.descriptor), b"()V") && part.code.is_some()))
+        && (text_at(slots, part.name) == &CLINIT[..]
+            && (text_at(slots, part.descriptor) == &NO_ARGUMENTS[..] && part.code.is_some()))
 }
 
 // The number of that method, where the first of these has the number `first`.

@@ -12,22 +12,12 @@ ghost use Rattle.class_link.specs.Marks.{Lists};
 
 use crate::entries::{copy, name_at};
 use crate::fault::LinkFault;
-use crate::fits::is_below;
 use crate::names::missing;
 use crate::setting::Setting;
 use class_reader::{ClassFile, ClassParts};
 use et_base::{NoMemory, Units};
-use jvm_model::Program;
-use member_lookup::is_interface;
+use jvm_model::{BUILTIN_COUNT, OBJECT, Program, THROWABLE};
 use std::alloc::Global;
-
-// The number of the built-in classes, which stand first.
-const BUILTIN: u32 = 32;
-
-// The classes `java.lang.Object` and `java.lang.Throwable`.
-const OBJECT: u32 = 0;
-
-const THROWABLE: u32 = 7;
 
 /// A class's own name.
 pub fn own_name(alloc: Global, class: &ClassParts) -> Result<Units, NoMemory>
@@ -72,9 +62,9 @@ fn starts_array(name: &[u16]) -> bool
 fn superclass_fits(p: &Program, class: &ClassParts, above: u32) -> bool
     ensures { result ≡ faults.superclass_fits p.now class.now above }
 {
-    let is_open = BUILTIN <= above || (above == OBJECT || is_below(p, above, THROWABLE));
+    let is_open = BUILTIN_COUNT <= above || (above == OBJECT || p.is_below(above, THROWABLE));
     let suits = class.flags / 0x0200 % 2 == 0 || above == OBJECT;
-    !is_interface(p, above) && (is_open && suits)
+    !p.is_interface(above) && (is_open && suits)
 }
 
 // The entry serves where the class names it; `named` says that this is among its superinterfaces.
@@ -86,7 +76,7 @@ fn heading_fits(setting: &Setting, class: &ClassParts, index: u16, named: bool) 
     let above = setting.names.number_or_first(name);
     let as_superclass = index != class.super_class
         || superclass_fits(&setting.program, class, above);
-    let as_interface = !named || is_interface(&setting.program, above);
+    let as_interface = !named || setting.program.is_interface(above);
     !starts_array(name) && (as_superclass && as_interface)
 }
 

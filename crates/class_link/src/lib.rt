@@ -6,7 +6,6 @@ mod bodies;
 mod class_records;
 mod entries;
 mod fault;
-mod fits;
 mod headings;
 mod laws;
 mod lines;

@@ -18,10 +18,8 @@ use class_pool::lookup;
 use class_reader::{ClassFile, ClassParts};
 use code_forms::Target;
 use et_base::Items;
+use jvm_model::BUILTIN_COUNT;
 use std::alloc::Global;
-
-// The number of the first class file, behind the built-in classes.
-const FIRST: u32 = 32;
 
 // The mark of the entry of an index.
 fn mark_at(marks: &[Option<bool>], index: usize) -> Option<bool>
@@ -119,7 +117,7 @@ pub fn check_all_references(
 {
     let mut all = Items::new(alloc);
     for (place, class) in classes.iter().enumerate() {
-        all.push(check_references(alloc, setting, FIRST + place as u32, class.parts())?)?;
+        all.push(check_references(alloc, setting, BUILTIN_COUNT + place as u32, class.parts())?)?;
     }
     Ok(all)
 }

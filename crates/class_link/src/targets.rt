@@ -3,7 +3,6 @@
 ghost use Rattle.std.specs.Prelude.{◌≡◌, IfOk, option_copied};
 ghost use Rattle.class_pool.specs.Pool.{entry_of};
 ghost use Rattle.jvm_model.specs.Lookup as members;
-ghost use Rattle.jvm_model.specs.Selection as selection;
 ghost use Rattle.class_link.specs.Bodies as bodies;
 ghost use Rattle.class_link.specs.ClassNames.{kind_of, name_at};
 ghost use Rattle.class_link.specs.References as references;
@@ -12,24 +11,14 @@ use crate::entries::{name_at, text_at};
 use crate::names::{ClassNames, kind_of, missing};
 use crate::setting::Setting;
 use class_pool::{Entry, lookup};
-use code_forms::Target;
+use code_forms::{Target, named_class};
 use et_base::{Items, NoMemory, Units};
-use jvm_model::{Kind, Value};
-use member_lookup::{INIT, find_field, find_method, same_units};
+use jvm_model::{INIT, Kind, Value};
+use member_lookup::{find_field, find_method};
 use std::alloc::Global;
 
 /// What the entries of a pool stand for, from index 1 on.
 pub type Targets = Items<Option<Target>>;
-
-/// The class in which the members of a class or array are looked up; for an array that is Object.
-pub fn named_class(kind: Kind) -> u32
-    ensures { result ≡ selection.named_class kind }
-{
-    match kind {
-        Kind::Class(class) => class,
-        Kind::Array { .. } => 0,
-    }
-}
 
 // The name of a NameAndType entry, empty where the index names none.
 fn pair_name(slots: &[Option<Entry>], pair: u16) -> &[u16]
@@ -79,7 +68,7 @@ fn lacks_method(named: Kind, name: &[u16]) -> bool
 {
     match named {
         Kind::Class(_) => false,
-        Kind::Array { .. } => same_units(name, &INIT),
+        Kind::Array { .. } => name == &INIT[..],
     }
 }
 

@@ -1,13 +1,10 @@
 //! The tests of a suite's lines.
 
-ghost use Rattle.std.specs.Prelude.{◌≡◌, ◌≤◌, [], find, is_some, length};
-ghost use Rattle.std.specs.Str.{bytes_eq};
-ghost use Rattle.jvm_model.specs.Classes as classes;
-ghost use Rattle.jvm_model.specs.Classes.{class_at, class_bound, init_name, is_abstract, is_interface, is_static, method_at, upwards_in};
+ghost use Rattle.std.specs.Prelude.{◌≡◌, ◌≤◌, [], is_some, length};
+ghost use Rattle.jvm_model.specs.Classes.{class_at, is_static, method_at};
 ghost use Rattle.jvm_model.specs.RowsCreate.{is_bare};
 ghost use Rattle.jvm_model.specs.Driver.{no_arguments, plain_method_in};
 ghost use Rattle.jvm_model.specs.Lookup as lookup;
-ghost use Rattle.jvm_model.specs.Lookup.{find_declared};
 ghost use Rattle.jvm_model.specs.Linked as linked;
 ghost use Rattle.class_link.specs.Answers.{Gives};
 ghost use Rattle.class_link.specs.Faults as faults;
@@ -17,67 +14,35 @@ use crate::fault::LinkFault;
 use crate::lines::TestLine;
 use crate::setting::Setting;
 use et_base::Items;
-use jvm_model::{ClassRec, MethodRec, Program, TestEntry};
-use member_lookup::{INIT, declared_upwards, same_units};
+use jvm_model::{BUILTIN_COUNT, INIT, NO_ARGUMENTS, Program, TestEntry};
+use member_lookup::declared_upwards;
 use std::alloc::Global;
 
-/// The number of built-in classes, which stand first.
-const BUILTIN_COUNT: u32 = 32;
-
-/// The units of `()V`.
-const NO_ARGUMENTS: [u16; 3] = [40, 41, 86];
-
-fn is_static(flags: u16) -> bool
-    ensures { result ≡ is_static flags }
-{
-    flags / 0x0008 % 2 == 1
-}
-
-fn is_interface(flags: u16) -> bool
-    ensures { result ≡ is_interface flags }
-{
-    flags / 0x0200 % 2 == 1
-}
-
-fn is_abstract(flags: u16) -> bool
-    ensures { result ≡ is_abstract flags }
-{
-    flags / 0x0400 % 2 == 1
-}
-
-fn class_flags(p: &Program, class: u32) -> u16
-    ensures { result ≡ (class_at p.now class).flags }
-{
-    match p.classes.as_slice().get(class as usize) {
-        None => 0,
-        Some(record) => record.flags,
-    }
-}
-
-fn class_methods(p: &Program, class: u32) -> &[u32]
+// The numbers of the methods that a class declares.
+fn methods(p: &Program, class: u32) -> &[u32]
     ensures { result.now ≡ (class_at p.now class).methods }
 {
-    match p.classes.as_slice().get(class as usize) {
+    match p.class(class) {
         None => &[],
         Some(record) => record.methods.as_slice(),
     }
 }
 
-fn method_flags(p: &Program, method: u32) -> u16
-    ensures { result ≡ (method_at p.now method).flags }
+fn is_static(p: &Program, method: u32) -> bool
+    ensures { result ≡ is_static (method_at p.now method).flags }
 {
-    match p.methods.as_slice().get(method as usize) {
-        None => 0,
-        Some(record) => record.flags,
+    match p.method(method) {
+        None => false,
+        Some(record) => record.is_static(),
     }
 }
 
 fn has_code(p: &Program, method: u32) -> bool
     ensures { result ≡ is_some (method_at p.now method).body }
 {
-    match p.methods.as_slice().get(method as usize) {
+    match p.method(method) {
         None => false,
-        Some(record) => record.body.is_some(),
+        Some(record) => record.has_code(),
     }
 }
 
@@ -85,10 +50,11 @@ fn has_code(p: &Program, method: u32) -> bool
 fn is_method(p: &Program, name: &[u16], method: u32) -> bool
     ensures { result ≡ lookup.is_method p.now name.now no_arguments method }
 {
-    match p.methods.as_slice().get(method as usize) {
+    match p.method(method) {
         None => false,
-        Some(record) => same_units(record.name.as_slice(), name)
-            && same_units(record.descriptor.as_slice(), &NO_ARGUMENTS),
+        Some(record) => {
+            record.name.as_slice() == name && record.descriptor.as_slice() == &NO_ARGUMENTS[..]
+        }
     }
 }
 
@@ -103,7 +69,7 @@ fn has_plain_method(p: &Program, name: &[u16], methods: &[u32]) -> bool
     ensures { result ≡ is_some (plain_method_in p.now name.now methods.now) }
 {
     for method in methods {
-        if !is_static(method_flags(p, *method)) && is_method(p, name, *method) {
+        if !is_static(p, *method) && is_method(p, name, *method) {
             return true;
         }
     }
@@ -114,7 +80,10 @@ fn has_plain_method(p: &Program, name: &[u16], methods: &[u32]) -> bool
 fn is_bare(p: &Program, class: u32) -> bool
     ensures { result ≡ is_bare p.now class }
 {
-    is_abstract(class_flags(p, class)) || is_interface(class_flags(p, class))
+    match p.class(class) {
+        None => false,
+        Some(record) => record.is_abstract() || record.is_interface(),
+    }
 }
 
 fn holds_tests(p: &Program, class: u32) -> bool
@@ -127,8 +96,8 @@ fn is_test_method(p: &Program, class: u32, method: u32) -> bool
     ensures { result ≡ faults.is_test_method p.now class method }
 {
     has_code(p, method)
-        && (is_static(method_flags(p, method))
-            || has_plain_method(p, &INIT, class_methods(p, class)))
+        && (is_static(p, method)
+            || has_plain_method(p, &INIT, methods(p, class)))
 }
 
 fn entry_with(budget: u64, line: &TestLine, class: u32, method: u32) -> TestEntry

@@ -7,12 +7,11 @@ ghost use Rattle.class_link.specs.Marks as marking;
 ghost use Rattle.class_link.specs.Marks.{all_noted, noted};
 ghost use Rattle.class_link.specs.References.{code_uses, handler_use, op_use, uses};
 
-use crate::fits::fits;
 use crate::targets::target_in;
 use class_pool::{Entry, lookup};
 use class_reader::{ClassParts, CodePart, MemberPart, RawHandler};
 use code_decode::RawOp;
-use code_forms::{Target, Use, index_in, use_of};
+use code_forms::{Target, Use, fits, index_in, use_of};
 use et_base::NoMemory;
 use jvm_model::Program;
 use std::alloc::Global;

@@ -1,8 +1,7 @@
 -- The form of an instruction, case by case.
 use Rattle.std.proofs.Common.{◌≡◌, ◌≢◌, ◌⊎◌, ℕ, suc, ◌+◌, ◌-◌, ◌%◌, ◌≤◌, Bool, true, false, eqb, leb, ◌&&◌, ◌||◌, Option, Some, None, refl, sym, subst, arith, inl, inr}
-use Rattle.std.proofs.lemmas.Bool.{eq-eqb, eqb-true, leb-true, leb-false}
+use Rattle.std.proofs.lemmas.Bool.{eq-eqb, eqb-true, leb-true, leb-false, and_parts, or_cases, eqb-false}
 use Rattle.std.proofs.lemmas.Bool.Decides.{nat_tests}
-use Rattle.class_pool.proofs.Laws.{both_true, either_true}
 use Rattle.code_decode.specs.declared.instructions.RawOp.{RawOp}
 use Rattle.jvm_model.specs.declared.values.Value.TheVariants.{Int, Long, Null}
 use Rattle.jvm_model.specs.declared.instr.Instr.{Instr}
@@ -163,10 +162,10 @@ by_test true f g = f refl
 by_test false f g = g refl
 
 within : (a b n : ℕ) → (leb a n && leb n b) ≡ true → (a ≤ n) × (n ≤ b)
-within a b n h = let c = both_true _ _ h in (leb-true _ _ c.0, leb-true _ _ c.1)
+within a b n h = let c = and_parts _ _ h in (leb-true _ _ c.0, leb-true _ _ c.1)
 
 one_of : (a b n : ℕ) → b ≡ a + 1 → (eqb n a || eqb n b) ≡ true → (a ≤ n) × (n ≤ b)
-one_of a b n next h = elim (either_true (eqb n a) (eqb n b) h) [
+one_of a b n next h = elim (or_cases (eqb n a) (eqb n b) h) [
   | inl e ↦ (omega (arith, next, eqb-true n a e), omega (arith, next, eqb-true n a e))
   | inr e ↦ (omega (arith, next, eqb-true n b e), omega (arith, next, eqb-true n b e))
 ]
@@ -274,9 +273,6 @@ form_case P t o c = let n = o.opcode in
 
 -- ---- forms of a field, a method and a type
 
-pub differs : (a b : ℕ) → eqb a b ≡ false → a ≢ b
-differs a b h e = let same : eqb a b ≡ true = eq-eqb a b e in absurd cc
-
 got_static : (n c f : ℕ) → n ≡ 178 → field_form n c f ≡ form.GetStatic f
 got_static n c f h = grind (arith, nat_tests)
 
@@ -321,14 +317,14 @@ field_case P n c f a b d e =
     by_test (eqb n 178) (λ h. let is = eqb-true n 178 h in subst P (sym (got_static n c f is)) (a is)) (λ h1.
     by_test (eqb n 179) (λ h. let is = eqb-true n 179 h in subst P (sym (put_static n c f is)) (b is)) (λ h2.
     by_test (eqb n 180) (λ h. let is = eqb-true n 180 h in subst P (sym (got_field n c f is)) (d is)) (λ h3.
-    subst P (sym (put_field n c f h1 h2 h3)) (e (differs n 178 h1) (differs n 179 h2) (differs n 180 h3)))))
+    subst P (sym (put_field n c f h1 h2 h3)) (e (eqb-false n 178 h1) (eqb-false n 179 h2) (eqb-false n 180 h3)))))
 
 pub method_case : (P : Instr → Type 0) (n : ℕ) (k : Kind) (m : ℕ) → (n ≡ 182 → P (form.InvokeVirtual k m)) → (n ≡ 183 → P (form.InvokeSpecial k m)) → (n ≡ 184 → P (form.InvokeStatic m)) → (n ≢ 182 → n ≢ 183 → n ≢ 184 → P (form.InvokeInterface (named_class k) m)) → P (method_form n k m)
 method_case P n k m a b d e =
     by_test (eqb n 182) (λ h. let is = eqb-true n 182 h in subst P (sym (calls_virtual n k m is)) (a is)) (λ h1.
     by_test (eqb n 183) (λ h. let is = eqb-true n 183 h in subst P (sym (calls_special n k m is)) (b is)) (λ h2.
     by_test (eqb n 184) (λ h. let is = eqb-true n 184 h in subst P (sym (calls_static n k m is)) (d is)) (λ h3.
-    subst P (sym (calls_interface n k m h1 h2 h3)) (e (differs n 182 h1) (differs n 183 h2) (differs n 184 h3)))))
+    subst P (sym (calls_interface n k m h1 h2 h3)) (e (eqb-false n 182 h1) (eqb-false n 183 h2) (eqb-false n 184 h3)))))
 
 pub type_case : (P : Instr → Type 0) (o : RawOp) (k : Kind) → (o.opcode ≡ 187 → P (form.New (named_class k))) → (o.opcode ≡ 189 → P (form.NewArray (array_of k))) → (o.opcode ≡ 192 → P (form.CheckCast k)) → (o.opcode ≡ 193 → P (form.InstanceOf k))
     → (o.opcode ≢ 187 → o.opcode ≢ 189 → o.opcode ≢ 192 → o.opcode ≢ 193 → P (form.MultiNewArray k (number_in o 1 % 256))) → P (type_form o k)
@@ -337,4 +333,4 @@ type_case P o k a b d e f = let n = o.opcode in
     by_test (eqb n 189) (λ h. let is = eqb-true n 189 h in subst P (sym (makes_array o k is)) (b is)) (λ h2.
     by_test (eqb n 192) (λ h. let is = eqb-true n 192 h in subst P (sym (casts o k is)) (d is)) (λ h3.
     by_test (eqb n 193) (λ h. let is = eqb-true n 193 h in subst P (sym (asks o k is)) (e is)) (λ h4.
-    subst P (sym (makes_nested o k h1 h2 h3 h4)) (f (differs n 187 h1) (differs n 189 h2) (differs n 192 h3) (differs n 193 h4))))))
+    subst P (sym (makes_nested o k h1 h2 h3 h4)) (f (eqb-false n 187 h1) (eqb-false n 189 h2) (eqb-false n 192 h3) (eqb-false n 193 h4))))))

@@ -3,8 +3,7 @@ use Rattle.std.proofs.Common.{◌≡◌, ◌≢◌, ℕ, ◌+◌, ◌%◌, ◌<�
 use Rattle.std.specs.Prelude.{IfSome}
 use Rattle.class_pool.specs.declared.pool.Entry.{Entry}
 use Rattle.class_pool.specs.declared.pool.Entry.TheVariants as entry
-use Rattle.class_pool.proofs.Laws.{both_true, either_true}
-use Rattle.std.proofs.lemmas.Bool.{eqb-true, leb-true, not-true}
+use Rattle.std.proofs.lemmas.Bool.{eqb-true, leb-true, not-true, and_parts, or_cases, eqb-false}
 use Rattle.std.proofs.lemmas.Bool.Decides.{nat_tests}
 use Rattle.code_decode.specs.declared.instructions.RawOp.{RawOp}
 use Rattle.jvm_model.specs.declared.values.Value.TheVariants.{Int, Long, Null, Lit, Obj}
@@ -26,7 +25,7 @@ use Rattle.code_forms.specs.declared.references.Target.TheVariants as target
 use Rattle.code_forms.specs.Operands.{number_in}
 use Rattle.code_forms.specs.Uses.{use_of, fits_sort, method_fits, field_fits, fits}
 use Rattle.code_forms.specs.Forms.{field_form, method_form, array_of, number_array, form_of}
-use Rattle.code_forms.proofs.FormCases.{is_plain, IsTyped, form_case, field_case, method_case, type_case, by_test, differs}
+use Rattle.code_forms.proofs.FormCases.{is_plain, IsTyped, form_case, field_case, method_case, type_case, by_test}
 
 -- ---- plain forms
 
@@ -248,7 +247,7 @@ unfolding fits
 method_use p c e o t h u is k m at = some_is (λ x. fits p c e x u ≡ true) t (target.Method k m) (h u is) at
 
 plain_field : (p : Program) (f : ℕ) → field_fits p used.InstanceField f ≡ true → IsPlainField p f
-plain_field p f h = let b = both_true _ _ h in (not-true _ b.0, not-true _ b.1)
+plain_field p f h = let b = and_parts _ _ h in (not-true _ b.0, not-true _ b.1)
 
 -- the opcodes that name members
 which_member : {X : Type 0} (n : ℕ) → 178 ≤ n → n ≤ 185 → n ≢ 178 → n ≢ 179 → n ≢ 180 → (n ≡ 181 → X) → (n ≡ 182 → X) → (n ≡ 183 → X) → (n ≡ 184 → X) → (n ≡ 185 → X) → X
@@ -257,7 +256,7 @@ which_member n low high a b d f1 f2 f3 f4 f5 =
     by_test (eqb n 182) (λ h. f2 (eqb-true n 182 h)) (λ h2.
     by_test (eqb n 183) (λ h. f3 (eqb-true n 183 h)) (λ h3.
     by_test (eqb n 184) (λ h. f4 (eqb-true n 184 h)) (λ h4.
-    f5 (let g1 = differs n 181 h1 in let g2 = differs n 182 h2 in let g3 = differs n 183 h3 in let g4 = differs n 184 h4 in omega (arith, low, high, a, b, d, g1, g2, g3, g4))))))
+    f5 (let g1 = eqb-false n 181 h1 in let g2 = eqb-false n 182 h2 in let g3 = eqb-false n 183 h3 in let g4 = eqb-false n 184 h4 in omega (arith, low, high, a, b, d, g1, g2, g3, g4))))))
 
 no_use : {X : Type 0} → false ≡ true → X
 no_use h = absurd cc
@@ -280,26 +279,26 @@ unlike false h e = cc
 
 virtual_kind : (p : Program) (c : ℕ) (e : Option Entry) (k : Kind) (m class pair : ℕ) → e ≡ Some (entry.Method class pair) → method_fits p c e used.Virtual k m ≡ true → IsPlainMethod p m × (is_interface_at p (named_class k) ≡ false)
 virtual_kind p c e k m class pair is h =
-    let b = both_true _ _ h in (not-true _ b.0, not-true _ (sym (ap (λ x. fits_sort p x k) is) ∙ b.1))
+    let b = and_parts _ _ h in (not-true _ b.0, not-true _ (sym (ap (λ x. fits_sort p x k) is) ∙ b.1))
 
 interface_kind : (p : Program) (c : ℕ) (e : Option Entry) (k : Kind) (m class pair : ℕ) → e ≡ Some (entry.InterfaceMethod class pair) → method_fits p c e used.Interface k m ≡ true → IsPlainMethod p m × (is_interface_at p (named_class k) ≡ true)
 interface_kind p c e k m class pair is h =
-    let b = both_true _ _ h in (not-true _ b.0, sym (ap (λ x. fits_sort p x k) is) ∙ b.1)
+    let b = and_parts _ _ h in (not-true _ b.0, sym (ap (λ x. fits_sort p x k) is) ∙ b.1)
 
 special_kind : (p : Program) (c : ℕ) (e : Option Entry) (k : Kind) (m : ℕ) → method_fits p c e used.Special k m ≡ true → IsPlainMethod p m × IsSpecialCall p c (named_class k)
 special_kind p c e k m h =
-    let b = both_true _ _ h in let d = both_true _ _ b.1 in (
+    let b = and_parts _ _ h in let d = and_parts _ _ b.1 in (
       not-true _ b.0,
-      λ interface. elim (either_true _ _ d.1) [
+      λ interface. elim (or_cases _ _ d.1) [
         | inl none ↦ absurd (unlike _ none interface)
-        | inr near ↦ let g = both_true _ _ near in (leb-true _ _ g.0, elim (either_true _ _ g.1) [ inl same ↦ inl (eqb-true _ _ same) | inr direct ↦ inr direct ])
+        | inr near ↦ let g = and_parts _ _ near in (leb-true _ _ g.0, elim (or_cases _ _ g.1) [ inl same ↦ inl (eqb-true _ _ same) | inr direct ↦ inr direct ])
       ],
     )
 
 static_kind : (p : Program) (c : ℕ) (e : Option Entry) (k : Kind) (m : ℕ) → (is_static (method_at p m).flags ≡ true → is_interface_at p (method_at p m).class ≡ true → is_interface_at p (named_class k) ≡ true) → method_fits p c e used.StaticCall k m ≡ true → IsStaticMethod p m × IsStaticCall p c m
 static_kind p c e k m owns h =
-    let b = both_true _ _ h in let d = both_true _ _ b.1 in
-    (b.0, λ interface. elim (either_true _ _ d.1) [ inl none ↦ absurd (unlike _ none (owns b.0 interface)) | inr late ↦ leb-true _ _ late ])
+    let b = and_parts _ _ h in let d = and_parts _ _ b.1 in
+    (b.0, λ interface. elim (or_cases _ _ d.1) [ inl none ↦ absurd (unlike _ none (owns b.0 interface)) | inr late ↦ leb-true _ _ late ])
 
 method_kind : (p : Program) (c : ℕ) (e : Option Entry) (o : RawOp) (t : Option Target) → FitsUse p c e o t → CallsBySort o e → OwnsStatics p t → 178 ≤ o.opcode → o.opcode ≤ 185 → (k : Kind) (m : ℕ) → t ≡ Some (target.Method k m) → IsFormKind p c (method_form o.opcode k m)
 method_kind p c e o t h sorts owns low high k m at = let n = o.opcode in method_case (IsFormKind p c) n k m
@@ -310,7 +309,7 @@ method_kind p c e o t h sorts owns low high k m at = let n = o.opcode in method_
     by_test (eqb n 178) (λ z. no_use (method_use p c e o t h used.StaticField (ap use_of (eqb-true n 178 z) ∙ use_178) k m at)) (λ h1.
     by_test (eqb n 179) (λ z. no_use (method_use p c e o t h used.StaticField (ap use_of (eqb-true n 179 z) ∙ use_179) k m at)) (λ h2.
     by_test (eqb n 180) (λ z. no_use (method_use p c e o t h used.InstanceField (ap use_of (eqb-true n 180 z) ∙ use_180) k m at)) (λ h3.
-    which_member n low high (differs n 178 h1) (differs n 179 h2) (differs n 180 h3)
+    which_member n low high (eqb-false n 178 h1) (eqb-false n 179 h2) (eqb-false n 180 h3)
     (λ is. no_use (method_use p c e o t h used.InstanceField (ap use_of is ∙ use_181) k m at))
     (λ is. absurd (a is))
     (λ is. absurd (b is))

@@ -1,7 +1,7 @@
 -- What is known of the operands of an instruction by its opcode.
 use Rattle.std.proofs.Common.{◌≡◌, ◌≢◌, ℕ, ◌+◌, ◌%◌, ◌^◌, ◌<◌, ◌≤◌, ℤ, pos, Bool, true, false, eqb, leb, ◌||◌, List, [], ◌∷◌, get_or, Option, Some, None, refl, sym, ap, subst, ◌∙◌, arith, inl, inr}
 use Rattle.std.specs.Int.{w32, cast_unsigned}
-use Rattle.std.proofs.lemmas.Bool.{eqb-true}
+use Rattle.std.proofs.lemmas.Bool.{eqb-true, eqb-false}
 use Rattle.std.proofs.lemmas.Bool.Decides.{nat_tests}
 use Rattle.class_pool.specs.declared.pool.Entry.{Entry}
 use Rattle.class_pool.specs.declared.pool.Entry.TheVariants as entry
@@ -16,7 +16,7 @@ use Rattle.code_decode.specs.Opcodes.{shape_of, takes_local}
 use Rattle.code_decode.proofs.ArgFacts.{OneNumber, IndexCount, CallsInterface, ArgFacts}
 use Rattle.code_decode.proofs.CodeFacts.{PlainFacts, OpFacts}
 use Rattle.code_forms.specs.Operands.{number_in, index_in}
-use Rattle.code_forms.proofs.FormCases.{IsTyped, by_test, differs}
+use Rattle.code_forms.proofs.FormCases.{IsTyped, by_test}
 use Rattle.code_forms.proofs.FormFacts.{CallsBySort}
 
 -- ---- the shape of an opcode
@@ -160,7 +160,7 @@ no_shape n t a b c d e =
     let third = neither (eqb n 194) (eqb n 195) second.1 in
     by_test (eqb n 186) (λ h. ap shape_of (eqb-true n 186 h) ∙ shape_186) (λ h186.
     by_test (eqb n 196) (λ h. ap shape_of (eqb-true n 196 h) ∙ shape_196) (λ h196.
-    shape_past n (past 200 n (past 199 n (past 198 n (past 197 n (past 196 n (past 195 n (past 194 n (past 193 n (past 192 n (past 191 n (past 190 n (past 189 n (past 188 n (past 187 n (past 186 n t.high (differs n 186 h186)) a) (differs n 188 t.no_numbers)) b) (differs n 190 first.0)) (differs n 191 second.0)) c) d) (differs n 194 third.0)) (differs n 195 third.1)) (differs n 196 h196)) e) (differs n 198 test.0)) (differs n 199 test.1)) (differs n 200 t.no_goto))))
+    shape_past n (past 200 n (past 199 n (past 198 n (past 197 n (past 196 n (past 195 n (past 194 n (past 193 n (past 192 n (past 191 n (past 190 n (past 189 n (past 188 n (past 187 n (past 186 n t.high (eqb-false n 186 h186)) a) (eqb-false n 188 t.no_numbers)) b) (eqb-false n 190 first.0)) (eqb-false n 191 second.0)) c) d) (eqb-false n 194 third.0)) (eqb-false n 195 third.1)) (eqb-false n 196 h196)) e) (eqb-false n 198 test.0)) (eqb-false n 199 test.1)) (eqb-false n 200 t.no_goto))))
 
 -- ---- the operands
 
@@ -206,7 +206,7 @@ nested_args slots ops total o facts t a b c d =
     let plain : PlainFacts slots ops total o.opcode o.args = facts.plain (not_wide slots ops total o facts low) in
     by_test (eqb o.opcode 197)
     (λ h. args_of slots ops total o facts low shape.Dimensions (ap shape_of (eqb-true o.opcode 197 h) ∙ shape_197))
-    (λ h. absurd (let none = no_shape o.opcode t a b c d (differs o.opcode 197 h) in let some = plain.shaped in cc))
+    (λ h. absurd (let none = no_shape o.opcode t a b c d (eqb-false o.opcode 197 h) in let some = plain.shaped in cc))
 
 -- ---- the entry that a call names
 

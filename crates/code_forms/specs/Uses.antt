@@ -32,9 +32,13 @@ abbrev pub fits_sort : Program → Option Entry → Kind → Bool
 fits_sort p (Some (entry.InterfaceMethod class pair)) k = is_interface_at p (named_class k)
 fits_sort p _ k = not (is_interface_at p (named_class k))
 
--- an interface that a class of this version may name in invokespecial: the current one or a direct superinterface, from version 52 on
+-- from version 52 on a class file's invokespecial and invokestatic may name interfaces (JVMS 4.9.1)
+abbrev pub names_interfaces : Program → ℕ → Bool
+names_interfaces p c = nat_le 52 (class_at p c).version
+
+-- an interface that a class may name in invokespecial: the current one or a direct superinterface
 abbrev pub is_near : Program → ℕ → ℕ → Bool
-is_near p c d = nat_le 52 (class_at p c).version && (nat_eq d c || member d (class_at p c).interfaces)
+is_near p c d = names_interfaces p c && (nat_eq d c || member d (class_at p c).interfaces)
 
 -- what invokespecial names is a class, or an interface that is near
 abbrev pub special_fits : Program → ℕ → ℕ → Bool
@@ -42,7 +46,7 @@ special_fits p c d = not (is_interface_at p d) || is_near p c d
 
 -- what invokestatic names is a class or, from version 52 on, an interface
 abbrev pub static_fits : Program → ℕ → ℕ → Bool
-static_fits p c d = not (is_interface_at p d) || nat_le 52 (class_at p c).version
+static_fits p c d = not (is_interface_at p d) || names_interfaces p c
 
 abbrev pub method_fits : Program → ℕ → Option Entry → Use → Kind → ℕ → Bool
 method_fits p c e used.Virtual k m = not (is_static (method_at p m).flags) && fits_sort p e k

@@ -1,18 +1,14 @@
 //! The form of each instruction, its references resolved (JVMS 6.5).
 
 ghost use Rattle.std.specs.Prelude.{◌≡◌, ◌++◌, drop, IfOk, OnOk};
-ghost use Rattle.jvm_model.specs.Selection as selection;
 ghost use Rattle.code_forms.specs.Forms as forms;
 
 use crate::operands::{number_in, operand};
-use crate::references::Target;
+use crate::references::{Target, named_class};
 use code_decode::RawOp;
 use et_base::{Items, NoMemory};
 use jvm_model::{Base, Cell, Conv, IfTest, Instr, Kind, Op, Sort, Value};
 use std::alloc::Global;
-
-/// The class of Object, which declares the methods of arrays.
-const OBJECT: u32 = 0;
 
 fn local_in(op: &RawOp) -> u16
     ensures { result ≡ forms.local_in op.now }
@@ -292,15 +288,6 @@ fn field_form(opcode: u8, named: u32, field: u32) -> Instr
         179 => Instr::PutStatic { field },
         180 => Instr::GetField { named, field },
         _ => Instr::PutField { named, field },
-    }
-}
-
-fn named_class(named: Kind) -> u32
-    ensures { result ≡ selection.named_class named }
-{
-    match named {
-        Kind::Class(class) => class,
-        Kind::Array { .. } => OBJECT,
     }
 }
 

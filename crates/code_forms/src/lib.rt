@@ -1,12 +1,14 @@
 //! The form of an instruction, its reference resolved, and how it uses the entry that it names (JVMS 6.5).
 #![tactic(auto)]
 
+mod fits;
 mod forms;
 mod operands;
 mod references;
 mod uses;
 
+pub use fits::fits;
 pub use forms::form_of;
 pub use operands::{index_in, number_in, operand};
-pub use references::{Target, Use};
+pub use references::{Target, Use, named_class};
 pub use uses::use_of;

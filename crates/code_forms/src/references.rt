@@ -1,6 +1,9 @@
 //! How code uses entries of the pool, and what they stand for.
 
-use jvm_model::{Kind, Value};
+ghost use Rattle.std.specs.Prelude.{◌≡◌};
+ghost use Rattle.jvm_model.specs.Selection as selection;
+
+use jvm_model::{Kind, OBJECT, Value};
 
 /// How an instruction or a handler uses an entry of the pool (JVMS 6.5 and 4.7.3).
 #[derive(Clone, Copy, Debug, PartialEq, Eq)]
@@ -26,4 +29,14 @@ pub enum Target {
     Type(Kind),
     Field { named: u32, field: u32 },
     Method { named: Kind, method: u32 },
+}
+
+/// The class in which the members of a class or array are looked up; for an array that is Object (JVMS 10.7).
+pub fn named_class(kind: Kind) -> u32
+    ensures { result ≡ selection.named_class kind }
+{
+    match kind {
+        Kind::Class(class) => class,
+        Kind::Array { .. } => OBJECT,
+    }
 }

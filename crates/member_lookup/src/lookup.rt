@@ -7,7 +7,7 @@ ghost use Rattle.indexmap.specs.IndexMap.{keys};
 ghost use Rattle.std.specs.Str.{bytes_eq};
 ghost use Rattle.jvm_model.specs.Builtin.{object_class};
 ghost use Rattle.jvm_model.specs.Classes as classes;
-ghost use Rattle.jvm_model.specs.Classes.{class_at, first_mentions, member, method_at, upwards};
+ghost use Rattle.jvm_model.specs.Classes.{class_at, class_bound, first_mentions, member, method_at, upwards};
 ghost use Rattle.jvm_model.specs.Lookup.{field_path, find_declared, find_field, find_in_interfaces, find_in_object, find_method, is_field, is_method, superinterfaces};
 ghost use Rattle.jvm_model.specs.Selection.{has_code};
 ghost use Rattle.jvm_model.specs.Lookup.{one_or_first};
@@ -18,6 +18,14 @@ use et_base::NoMemory;
 use indexmap::{IndexMap, IndexSet};
 use jvm_model::{CLASS_BOUND, INIT, OBJECT, Program};
 use std::alloc::Global;
+
+// The length that no chain of superclasses and superinterfaces passes.
+#[tactic(auto, unfolding(jvm_model::specs::Classes::class_bound))]
+fn class_bound() -> u32
+    ensures { result ≡ class_bound }
+{
+    CLASS_BOUND
+}
 
 // The classes that were visited, in order.
 fn visited(alloc: Global, seen: &Visited) -> Result<Vec<u32>, NoMemory>
@@ -80,7 +88,7 @@ fn field_path(alloc: Global, p: &Program, class: u32) -> Result<Vec<u32>, NoMemo
     ensures { IfOk result (λ path. path.items ≡ first_mentions (field_path p.now class)) }
 {
     let mut seen = IndexMap::new(alloc);
-    visit(p, true, CLASS_BOUND, class, &mut seen)?;
+    visit(p, true, class_bound(), class, &mut seen)?;
     visited(alloc, &seen)
 }
 
@@ -176,7 +184,7 @@ pub fn declared_upwards(p: &Program, class: u32, name: &[u16], descriptor: &[u16
     ensures { result ≡ find_declared p.now name.now descriptor.now (upwards p.now class) }
 {
     let mut next = Some(class);
-    let mut steps = CLASS_BOUND;
+    let mut steps = class_bound();
     while let Some(above) = next {
         if steps == 0 {
             return None;
@@ -205,12 +213,12 @@ fn visit_upwards(p: &Program, class: u32, seen: &mut Visited) -> Result<(), NoMe
     ensures { OnOk result (Visits p.now false (flat_map (λ d. above_class p.now d) (upwards p.now class)) seen.old seen.new) }
 {
     let mut next = Some(class);
-    let mut steps = CLASS_BOUND;
+    let mut steps = class_bound();
     while let Some(above) = next {
         if steps == 0 {
             return Ok(());
         }
-        visit_all(p, false, CLASS_BOUND, p.interfaces(above), seen)?;
+        visit_all(p, false, class_bound(), p.interfaces(above), seen)?;
         next = p.superclass(above);
         steps -= 1;
     }
@@ -276,7 +284,7 @@ fn above_methods(alloc: Global, p: &Program, methods: &[u32]) -> Result<Visited,
         visit_all(
             p,
             false,
-            CLASS_BOUND,
+            class_bound(),
             p.interfaces(class_of(p, *method)),
             &mut seen,
         )?;

@@ -2,7 +2,7 @@
 
 ghost use Rattle.std.specs.Prelude.{◌≡◌, ◌-◌, OnOk, IfOk, [], cond, flat_map, nat_eq};
 ghost use Rattle.indexmap.specs.IndexMap.{get};
-ghost use Rattle.jvm_model.specs.Classes.{class_at, class_bound};
+ghost use Rattle.jvm_model.specs.Classes.{class_at};
 ghost use Rattle.std.specs.Option.{option_to_list};
 ghost use Rattle.member_lookup.specs.Walks.{IsWalked, Visits, is_walked, nexts, walk};
 
