@@ -52,7 +52,7 @@ fn fill(methods: &mut Vec<MethodRec>, bodies: Vec<Option<Body>>)
 }
 
 /// A program with these bodies in place of the bare ones of its given methods, and with these tests and files.
-pub fn with_bodies(
+pub(crate) fn with_bodies(
     program: Program,
     bodies: Items<Option<Body>>,
     tests: Items<TestEntry>,
@@ -82,7 +82,7 @@ pub fn with_bodies(
 /// The program before its references are resolved: the built-in classes with their fields and methods, and those of the class
 /// files behind them in the suite's order. No body has an instruction yet, and there are no tests and no files.
 #[tactic(auto, unfolding(crate::specs::Assembly::assembled))]
-pub fn skeleton(
+pub(crate) fn skeleton(
     alloc: Global,
     builtin: BuiltinRecords,
     files: &[ClassFile],
@@ -117,7 +117,7 @@ pub fn skeleton(
 
 /// What the references of class files are resolved with, or the first class file whose name is that of a built-in class or
 /// of an earlier one.
-pub fn setting_of(alloc: Global, files: &[ClassFile]) -> Result<Setting, LinkFault>
+pub(crate) fn setting_of(alloc: Global, files: &[ClassFile]) -> Result<Setting, LinkFault>
     requires few { length files.now ≤ 1024 }
     ensures fault { Gives nothing result (unless (duplicate_fault files.now)) }
     ensures setting { IfOk result (λ s. s ≡ setting files.now) }

@@ -5,10 +5,10 @@ ghost use Rattle.code_forms.specs.Operands as operands;
 ghost use Rattle.class_link.specs.Bodies as bodies;
 ghost use Rattle.class_link.specs.Assembly.{bodies_of};
 
-use crate::entries::{copy, name_at};
+use crate::entries::name_at;
 use crate::names::ClassNames;
 use crate::setting::Setting;
-use crate::targets::Targets;
+use crate::targets::{Targets, target_in};
 use class_pool::Entry;
 use class_reader::{ClassFile, CodePart, MapFrame, MapPart, MapType, MemberPart, RawHandler};
 use code_decode::RawOp;
@@ -16,19 +16,6 @@ use code_forms::{Target, form_of, index_in};
 use et_base::{Items, NoMemory};
 use jvm_model::{Body, FrameRec, Handler, Placed, TypeRec};
 use std::alloc::Global;
-
-// What the entry of an index stands for.
-fn target_in(targets: &[Option<Target>], index: u16) -> Option<Target>
-    ensures { result ≡ bodies.target_in targets.now index }
-{
-    if index == 0 {
-        return None;
-    }
-    match targets.get(index as usize - 1) {
-        None => None,
-        Some(target) => *target,
-    }
-}
 
 fn placed(alloc: Global, targets: &[Option<Target>], op: &RawOp) -> Result<Placed, NoMemory>
     ensures { IfOk result (λ x. x ≡ bodies.placed_by (bodies.target_in targets.now (operands.index_in op.now)) op.now) }
@@ -92,7 +79,7 @@ fn type_rec(alloc: Global, slots: &[Option<Entry>], kind: &MapType) -> Result<Ty
 {
     Ok(match kind.tag {
         7 => TypeRec::Object {
-            name: copy(alloc, name_at(slots, kind.arg))?,
+            name: Items::from_slice(alloc, name_at(slots, kind.arg))?,
         },
         8 => TypeRec::Uninit { pc: kind.arg },
         tag => TypeRec::Plain { tag },
@@ -164,7 +151,7 @@ fn is_cut(map: &Option<MapPart>) -> bool
 }
 
 /// The body of a method of a class with these pool entries, which stand for these targets.
-pub fn linked_body(
+pub(crate) fn linked_body(
     alloc: Global,
     setting: &Setting,
     slots: &[Option<Entry>],
@@ -255,7 +242,7 @@ fn targets_at(targets: &[Targets], place: usize) -> &[Option<Target>]
 }
 
 /// The bodies of the methods of class files whose pool entries stand for these targets, in the methods' order.
-pub fn bodies_of(
+pub(crate) fn bodies_of(
     alloc: Global,
     setting: &Setting,
     targets: &[Targets],

@@ -5,7 +5,7 @@ ghost use Rattle.std.specs.List.{range_with_len};
 ghost use Rattle.class_link.specs.ClassNames.{name_at, number_or_first};
 ghost use Rattle.class_link.specs.Assembly.{is_initialiser, initialiser_from, class_rec, class_recs};
 
-use crate::entries::{copy, name_at, text_at};
+use crate::entries::{name_at, text_at};
 use crate::members::is_static;
 use crate::mentions::mentions;
 use crate::names::ClassNames;
@@ -81,7 +81,7 @@ fn class_record(
 {
     let slots = class.pool.slots();
     Ok(ClassRec {
-        name: copy(alloc, name_at(slots, class.this_class))?,
+        name: Items::from_slice(alloc, name_at(slots, class.this_class))?,
         version: class.major,
         flags: class.flags,
         superclass: Some(names.number_or_first(name_at(slots, class.super_class))),

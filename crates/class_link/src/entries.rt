@@ -1,11 +1,9 @@
 //! The texts that the indices of a pool name.
 
-ghost use Rattle.std.specs.Prelude.{◌≡◌, IfOk};
+ghost use Rattle.std.specs.Prelude.{◌≡◌};
 ghost use Rattle.class_link.specs.ClassNames.{text_at, name_at};
 
 use class_pool::{Entry, lookup};
-use et_base::{NoMemory, Units};
-use std::alloc::Global;
 
 /// The text that an index names, empty where it names none.
 pub(crate) fn text_at(slots: &[Option<Entry>], index: u16) -> &[u16]
@@ -25,13 +23,4 @@ pub(crate) fn name_at(slots: &[Option<Entry>], index: u16) -> &[u16]
         Some(units) => units.as_slice(),
         None => &[],
     }
-}
-
-/// A copy of code units.
-pub(crate) fn copy(alloc: Global, units: &[u16]) -> Result<Units, NoMemory>
-    ensures { IfOk result (λ made. made ≡ units.now) }
-{
-    let mut made = Units::new(alloc);
-    made.extend_from_slice(units)?;
-    Ok(made)
 }

@@ -1,7 +1,6 @@
 //! Superclasses and superinterfaces that can't stand where a class names them.
 
 ghost use Rattle.std.specs.Prelude.{◌≡◌, ◌+◌, ◌<◌, ◌^◌, IfOk, []};
-ghost use Rattle.et_base.specs.Names.{starts_array};
 ghost use Rattle.jvm_model.specs.Classes.{member};
 ghost use Rattle.class_link.specs.Answers.{Gives, nothing};
 ghost use Rattle.class_link.specs.ClassNames as names;
@@ -10,24 +9,24 @@ ghost use Rattle.class_link.specs.Faults.{first_some, missing_or, wrong_unless};
 ghost use Rattle.class_link.specs.Link.{unless};
 ghost use Rattle.class_link.specs.Marks.{Lists};
 
-use crate::entries::{copy, name_at};
+use crate::entries::name_at;
 use crate::fault::LinkFault;
-use crate::names::missing;
+use crate::names::{missing, starts_array};
 use crate::setting::Setting;
 use class_reader::{ClassFile, ClassParts};
-use et_base::{NoMemory, Units};
+use et_base::{Items, NoMemory, Units};
 use jvm_model::{BUILTIN_COUNT, OBJECT, Program, THROWABLE};
 use std::alloc::Global;
 
 /// A class's own name.
-pub fn own_name(alloc: Global, class: &ClassParts) -> Result<Units, NoMemory>
+pub(crate) fn own_name(alloc: Global, class: &ClassParts) -> Result<Units, NoMemory>
     ensures { IfOk result (λ name. name ≡ names.own_name class.now) }
 {
-    copy(alloc, name_at(class.pool.slots(), class.this_class))
+    Items::from_slice(alloc, name_at(class.pool.slots(), class.this_class))
 }
 
 /// The fault of an entry: the class that isn't there, or else that it is of the wrong kind unless it fits.
-pub fn judged(
+pub(crate) fn judged(
     alloc: Global,
     class: &ClassParts,
     missing: Option<Units>,
@@ -46,15 +45,6 @@ pub fn judged(
             class: own_name(alloc, class)?,
             index: u32::from(index),
         }),
-    }
-}
-
-fn starts_array(name: &[u16]) -> bool
-    ensures { result ≡ starts_array name.now }
-{
-    match name {
-        [] => false,
-        [unit, ..] => *unit == 91,
     }
 }
 
@@ -143,7 +133,7 @@ fn check_headings(alloc: Global, setting: &Setting, class: &ClassParts) -> Resul
 }
 
 /// The first fault of the superclasses and superinterfaces of class files: each is there and may stand where it is named.
-pub fn check_all_headings(
+pub(crate) fn check_all_headings(
     alloc: Global,
     setting: &Setting,
     classes: &[ClassFile],

@@ -21,10 +21,7 @@ mod tests_of;
 mod text_set;
 mod uses;
 
-pub use assembly::{setting_of, skeleton, with_bodies};
 pub use fault::LinkFault;
 pub use laws::links_once;
 pub use lines::{TestLine, TestLines};
 pub use linking::link;
-pub use literals::{Literals, literals_of};
-pub use names::{ClassNames, kind_of, missing, names_of, needed_class};

@@ -11,7 +11,7 @@ ghost use Rattle.class_link.specs.declared.fault.LinkFault.TheVariants as faults
 
 use crate::assembly::{setting_of, with_bodies};
 use crate::bodies::bodies_of;
-use crate::entries::{copy, name_at};
+use crate::entries::name_at;
 use crate::fault::LinkFault;
 use crate::headings::check_all_headings;
 use crate::lines::TestLines;
@@ -30,8 +30,8 @@ fn copies(alloc: Global, files: &[(Units, Units)]) -> Result<Items<(Units, Units
 {
     let mut made = Items::new(alloc);
     for file in files {
-        let name = copy(alloc, file.0.as_slice())?;
-        let content = copy(alloc, file.1.as_slice())?;
+        let name = Items::from_slice(alloc, file.0.as_slice())?;
+        let content = Items::from_slice(alloc, file.1.as_slice())?;
         made.push((name, content))?;
     }
     Ok(made)
@@ -61,7 +61,7 @@ fn check_cycles(alloc: Global, setting: &Setting, classes: &[ClassFile]) -> Resu
     match first_cycle(alloc, &setting.program)? {
         None => Ok(()),
         Some(place) => Err(LinkFault::Cycle {
-            class: copy(alloc, name_of(classes, place))?,
+            class: Items::from_slice(alloc, name_of(classes, place))?,
         }),
     }
 }

@@ -27,7 +27,7 @@ impl Model for Literals {
 
 impl Literals {
     /// The number of the constant with this content, from 1; it takes constant time.
-    pub fn number(&self, text: &[u16]) -> u32
+    pub(crate) fn number(&self, text: &[u16]) -> u32
         ensures { result ≡ literal_number self.now text.now }
     {
         match self.texts.place(text) {
@@ -37,7 +37,7 @@ impl Literals {
     }
 
     /// The contents, in the order of their numbers.
-    pub fn contents(&self, alloc: Global) -> Result<Items<Units>, NoMemory>
+    pub(crate) fn contents(&self, alloc: Global) -> Result<Items<Units>, NoMemory>
         ensures { IfOk result (λ made. made ≡ self.now) }
     {
         self.texts.contents(alloc)
@@ -79,7 +79,7 @@ fn note_strings(alloc: Global, texts: &mut TextSet, slots: &[Option<Entry>]) -> 
 
 /// The string constants of class files, each content once.
 #[tactic(auto, using(crate::proofs::LiteralLaws::noted_append), unfolding(crate::specs::Literals::literals))]
-pub fn literals_of(alloc: Global, classes: &[ClassFile]) -> Result<Literals, NoMemory>
+pub(crate) fn literals_of(alloc: Global, classes: &[ClassFile]) -> Result<Literals, NoMemory>
     requires { length classes.now ≤ 1024 }
     ensures { IfOk result (λ texts. texts ≡ literals classes.now) }
 {

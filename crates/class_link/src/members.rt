@@ -7,7 +7,7 @@ ghost use Rattle.jvm_model.specs.Classes.{is_static, default_of};
 ghost use Rattle.jvm_model.specs.Narrow.{narrow_int, narrowed};
 ghost use Rattle.class_link.specs.Assembly.{constant_opening, opening, field_rec, field_recs, method_rec, method_recs, bare_body};
 
-use crate::entries::{copy, text_at};
+use crate::entries::text_at;
 use crate::literals::Literals;
 use class_pool::Entry;
 use class_pool::lookup::entry_at;
@@ -100,8 +100,8 @@ fn field_record(
 {
     Ok(FieldRec {
         class,
-        name: copy(alloc, text_at(slots, part.name))?,
-        descriptor: copy(alloc, text_at(slots, part.descriptor))?,
+        name: Items::from_slice(alloc, text_at(slots, part.name))?,
+        descriptor: Items::from_slice(alloc, text_at(slots, part.descriptor))?,
         flags: part.flags,
         opening: opening(texts, slots, part),
     })
@@ -185,8 +185,8 @@ fn method_record(
 {
     Ok(MethodRec {
         class,
-        name: copy(alloc, text_at(slots, part.name))?,
-        descriptor: copy(alloc, text_at(slots, part.descriptor))?,
+        name: Items::from_slice(alloc, text_at(slots, part.name))?,
+        descriptor: Items::from_slice(alloc, text_at(slots, part.descriptor))?,
         flags: part.flags,
         native: None,
         body: bare(alloc, &part.code),

@@ -44,7 +44,5 @@ pub(crate) fn mentions(
     for slot in slots {
         note(&mut seen, mentioned_by(names, slots, slot))?;
     }
-    let mut made = Items::new(alloc);
-    made.extend_from_slice(seen.as_slice())?;
-    Ok(made)
+    Items::from_slice(alloc, seen.as_slice())
 }

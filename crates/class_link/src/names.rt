@@ -13,11 +13,11 @@ ghost use Rattle.class_link.specs.Faults.{duplicate, duplicate_fault};
 ghost use Rattle.class_link.specs.Link.{unless};
 ghost use Rattle.class_link.specs.Literals.{noted};
 
-use crate::LinkFault;
-use crate::entries::{copy, name_at};
+use crate::entries::name_at;
+use crate::fault::LinkFault;
 use crate::text_set::TextSet;
 use class_reader::ClassFile;
-use et_base::{NoMemory, Units};
+use et_base::{Items, NoMemory, Units};
 use jvm_model::{Base, ClassRec, Kind};
 use std::alloc::Global;
 use std::marker::Model;
@@ -38,21 +38,22 @@ impl Model for ClassNames {
 
 impl ClassNames {
     /// The number of the class of this name; it takes constant time.
-    pub fn number(&self, name: &[u16]) -> Option<u32>
+    pub(crate) fn number(&self, name: &[u16]) -> Option<u32>
         ensures { result ≡ class_number self.now name.now }
     {
         self.names.place(name)
     }
 
     /// The same, 0 where there is none.
-    pub fn number_or_first(&self, name: &[u16]) -> u32
+    pub(crate) fn number_or_first(&self, name: &[u16]) -> u32
         ensures { result ≡ number_or_first self.now name.now }
     {
         self.number(name).unwrap_or(0)
     }
 }
 
-fn starts_array(name: &[u16]) -> bool
+/// Whether a name is that of an array type.
+pub(crate) fn starts_array(name: &[u16]) -> bool
     ensures { result ≡ starts_array name.now }
 {
     match name {
@@ -87,7 +88,7 @@ fn element_class(element: &[u16]) -> Option<&[u16]>
 /// The class that the name of a Class entry needs: the class itself, or the innermost element class of an array; none for
 /// an array of numbers (JVMS 4.4.1).
 #[tactic(auto, unfolding(crate::specs::ClassNames::needed_class))]
-pub fn needed_class(name: &[u16]) -> Option<&[u16]>
+pub(crate) fn needed_class(name: &[u16]) -> Option<&[u16]>
     ensures { option_copied result ≡ needed_class name.now }
 {
     if starts_array(name) {
@@ -99,11 +100,11 @@ pub fn needed_class(name: &[u16]) -> Option<&[u16]>
 
 /// The class that such a name needs, where it isn't there.
 #[tactic(auto, unfolding(crate::specs::ClassNames::missing))]
-pub fn missing(alloc: Global, names: &ClassNames, name: &[u16]) -> Result<Option<Units>, NoMemory>
+pub(crate) fn missing(alloc: Global, names: &ClassNames, name: &[u16]) -> Result<Option<Units>, NoMemory>
     ensures { IfOk result (λ x. x ≡ missing names.now name.now) }
 {
     match needed_class(name) {
-        Some(needed) if names.number(needed).is_none() => Ok(Some(copy(alloc, needed)?)),
+        Some(needed) if names.number(needed).is_none() => Ok(Some(Items::from_slice(alloc, needed)?)),
         _ => Ok(None),
     }
 }
@@ -145,7 +146,7 @@ fn array_kind(names: &ClassNames, name: &[u16]) -> Option<Kind>
 /// The class or array type that a Class entry's name stands for; none where the class isn't there, and for arrays of floats
 /// and doubles (JVMS 4.4.1).
 #[tactic(auto, unfolding(crate::specs::ClassNames::kind_of))]
-pub fn kind_of(names: &ClassNames, name: &[u16]) -> Option<Kind>
+pub(crate) fn kind_of(names: &ClassNames, name: &[u16]) -> Option<Kind>
     ensures { result ≡ kind_of names.now name.now }
 {
     if starts_array(name) {
@@ -180,7 +181,7 @@ fn note_class(alloc: Global, names: &mut TextSet, class: &ClassFile) -> Result<(
         Ok(())
     } else {
         Err(LinkFault::Duplicate {
-            class: copy(alloc, name)?,
+            class: Items::from_slice(alloc, name)?,
         })
     }
 }
@@ -200,7 +201,7 @@ fn note_classes(alloc: Global, names: &mut TextSet, classes: &[ClassFile]) -> Re
 /// The names of the built-in classes, whose records these are, and of the class files behind them; or the first class file
 /// whose name is that of a built-in class or of an earlier one.
 #[tactic(auto, using(crate::proofs::NameLaws::builtins_differ), unfolding(crate::specs::ClassNames::all_names))]
-pub fn names_of(
+pub(crate) fn names_of(
     alloc: Global,
     builtin: &[ClassRec],
     classes: &[ClassFile],

@@ -106,7 +106,7 @@ fn check_references(
 
 /// What the pool entries of class files stand for, class by class; or the first fault of an entry that code uses: its class
 /// isn't there, or its member, or it is of the wrong kind. Each entry is resolved once.
-pub fn check_all_references(
+pub(crate) fn check_all_references(
     alloc: Global,
     setting: &Setting,
     classes: &[ClassFile],

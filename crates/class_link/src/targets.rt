@@ -114,7 +114,7 @@ fn type_target(names: &ClassNames, name: &[u16]) -> Option<Target>
 
 /// What an entry stands for; none where its class or member isn't there, and for entries that code can't use.
 #[tactic(auto, unfolding(crate::specs::References::target_of))]
-pub fn target_of(
+pub(crate) fn target_of(
     alloc: Global,
     setting: &Setting,
     slots: &[Option<Entry>],
@@ -139,7 +139,7 @@ pub fn target_of(
 }
 
 /// What all entries of a pool stand for, each resolved once.
-pub fn targets_of(
+pub(crate) fn targets_of(
     alloc: Global,
     setting: &Setting,
     slots: &[Option<Entry>],
@@ -155,7 +155,7 @@ pub fn targets_of(
 
 /// The class that an entry needs and that isn't there.
 #[tactic(auto, unfolding(crate::specs::References::missing_for))]
-pub fn missing_for(
+pub(crate) fn missing_for(
     alloc: Global,
     names: &ClassNames,
     slots: &[Option<Entry>],
@@ -173,7 +173,7 @@ pub fn missing_for(
 }
 
 /// What the entry of an index stands for.
-pub fn target_in(targets: &[Option<Target>], index: u16) -> Option<Target>
+pub(crate) fn target_in(targets: &[Option<Target>], index: u16) -> Option<Target>
     ensures { result ≡ bodies.target_in targets.now index }
 {
     if index == 0 {

@@ -128,7 +128,7 @@ fn test_in(p: &Program, budget: u64, line: &TestLine, class: u32) -> Option<Test
 
 /// The test of a line, if it is one: the first method of the name with `()V` from the class upwards (this project's).
 #[tactic(auto, unfolding(crate::specs::Faults::test_entry))]
-pub fn test_entry(setting: &Setting, budget: u64, line: &TestLine) -> Option<TestEntry>
+pub(crate) fn test_entry(setting: &Setting, budget: u64, line: &TestLine) -> Option<TestEntry>
     ensures { result ≡ faults.test_entry setting.now budget line.now }
 {
     match setting.names.number(line.class.as_slice()) {
@@ -138,7 +138,7 @@ pub fn test_entry(setting: &Setting, budget: u64, line: &TestLine) -> Option<Tes
 }
 
 /// The tests of a suite's lines, or the first line that names none, by its number from 1.
-pub fn tests_of(
+pub(crate) fn tests_of(
     alloc: Global,
     setting: &Setting,
     budget: u64,

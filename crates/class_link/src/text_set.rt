@@ -4,7 +4,6 @@ ghost use Rattle.std.specs.Prelude.{◌≡◌, ◌<◌, ◌+◌, ℕ, List, [], 
 ghost use Rattle.std.specs.List.{list_any};
 ghost use Rattle.std.specs.Str.{bytes_eq};
 
-use crate::entries::copy;
 use et_base::{Items, NoMemory, Units};
 use indexmap::IndexSet;
 use std::alloc::Global;
@@ -67,7 +66,7 @@ impl TextSet {
         let texts = self.texts.as_slice();
         let mut made = Items::new(alloc);
         for text in texts {
-            made.push(copy(alloc, text.as_slice())?)?;
+            made.push(Items::from_slice(alloc, text.as_slice())?)?;
         }
         Ok(made)
     }

@@ -137,7 +137,7 @@ fn unused(alloc: Global, count: usize) -> Result<Vec<Option<bool>>, NoMemory>
 /// The marks of the entries of a class, from index 1 on: none where its code doesn't use the entry, else whether all its
 /// uses fit. It takes one pass over the code.
 #[tactic(auto, unfolding(crate::specs::References::uses))]
-pub fn marks_of(
+pub(crate) fn marks_of(
     alloc: Global,
     user: &User,
     class: &ClassParts,

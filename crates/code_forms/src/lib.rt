@@ -9,6 +9,6 @@ mod uses;
 
 pub use fits::fits;
 pub use forms::form_of;
-pub use operands::{index_in, number_in, operand};
+pub use operands::index_in;
 pub use references::{Target, Use, named_class};
 pub use uses::use_of;

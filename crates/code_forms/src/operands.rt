@@ -6,7 +6,7 @@ ghost use Rattle.code_forms.specs.Operands as operands;
 use code_decode::RawOp;
 
 /// The operand at a place; 0 where there is none.
-pub fn operand(op: &RawOp, at: usize) -> i32
+pub(crate) fn operand(op: &RawOp, at: usize) -> i32
     ensures { result ≡ operands.operand op.now at }
 {
     match op.args.as_slice().get(at) {
@@ -16,7 +16,7 @@ pub fn operand(op: &RawOp, at: usize) -> i32
 }
 
 /// The same without sign.
-pub fn number_in(op: &RawOp, at: usize) -> u32
+pub(crate) fn number_in(op: &RawOp, at: usize) -> u32
     ensures { result ≡ operands.number_in op.now at }
 {
     operand(op, at).cast_unsigned()

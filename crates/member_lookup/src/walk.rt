@@ -12,7 +12,7 @@ use jvm_model::Program;
 
 /// Classes in the order in which they were visited, each with the number of steps up to which those above it are among
 /// them.
-pub type Visited = IndexMap<u32, u32>;
+pub(crate) type Visited = IndexMap<u32, u32>;
 
 // The classes so many steps above this one were visited.
 fn is_walked(seen: &Visited, class: u32, steps: u32) -> bool
@@ -26,7 +26,7 @@ fn is_walked(seen: &Visited, class: u32, steps: u32) -> bool
 
 /// Visits classes and those above them, each before those above itself, at most so many steps up.
 #[cycle(walking)]
-pub fn visit_all(
+pub(crate) fn visit_all(
     p: &Program,
     supers: bool,
     steps: u32,
@@ -82,7 +82,7 @@ fn visit_nexts(
 
 /// Visits a class and those above it.
 #[cycle(walking)]
-pub fn visit(
+pub(crate) fn visit(
     p: &Program,
     supers: bool,
     steps: u32,

@@ -4,7 +4,7 @@ use Rattle.class_link.proofs.class_records.class_record.Goals as goal
 pub returns : goal.returns
 returns c =
     rw (
-      c.in_ok-copy.ensures,
+      c.in_ok-from_slice.ensures,
       c.name_at.ensures,
       c.number_or_first.ensures,
       c.name_at-2.ensures,
