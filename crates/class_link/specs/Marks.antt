@@ -10,6 +10,7 @@ use Rattle.class_link.specs.declared.fault.LinkFault.{LinkFault}
 use Rattle.class_link.specs.declared.fault.LinkFault.TheVariants as fault
 use Rattle.code_forms.specs.declared.references.Use.{Use}
 use Rattle.code_forms.specs.declared.references.Target.{Target}
+use Rattle.class_link.specs.declared.uses.User.{User}
 use Rattle.class_link.specs.ClassNames.{own_name}
 use Rattle.class_link.specs.References.{Setting, missing_for}
 use Rattle.code_forms.specs.Uses.{fits}
@@ -45,6 +46,10 @@ noted ms i b = cond (nat_eq i 0) ms (slice_set ms (i - 1) (marked_with (slice_in
 -- and after several uses by the class n
 abbrev pub all_noted : Program → ℕ → List (Option Entry) → List (Option Target) → List (Option Bool) → List (ℕ × Use) → List (Option Bool)
 all_noted p n slots ts ms us = fold (λ done x. noted done x.0 (fits_target p n (entry_of slots x.0) (target_in ts x.0) x.1)) ms us
+
+-- the same of a class as its code's user
+abbrev pub noted_by : User → List (Option Bool) → List (ℕ × Use) → List (Option Bool)
+noted_by user ms us = all_noted user.program.now user.class user.slots.now user.targets.now ms us
 
 -- the mark of the entry i
 abbrev pub mark_at : List (Option Bool) → ℕ → Option Bool

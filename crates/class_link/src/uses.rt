@@ -4,7 +4,7 @@ ghost use Rattle.std.specs.Prelude.{◌≡◌, IfOk, None, flat_map, length, opt
 ghost use Rattle.class_pool.specs.Pool.{entry_of};
 ghost use Rattle.class_link.specs.Bodies as bodies;
 ghost use Rattle.class_link.specs.Marks as marking;
-ghost use Rattle.class_link.specs.Marks.{all_noted, noted};
+ghost use Rattle.class_link.specs.Marks.{noted, noted_by};
 ghost use Rattle.class_link.specs.References.{code_uses, handler_use, op_use, uses};
 
 use crate::targets::target_in;
@@ -74,7 +74,7 @@ fn note(user: &User, marks: &mut Vec<Option<bool>>, index: u16, used: Use)
 }
 
 fn note_op(user: &User, marks: &mut Vec<Option<bool>>, op: &RawOp)
-    ensures { marks.new.items ≡ all_noted user.now.program.now user.now.class user.now.slots.now user.now.targets.now marks.old.items (op_use op.now) }
+    ensures { marks.new.items ≡ noted_by user.now marks.old.items (op_use op.now) }
 {
     match use_of(op.opcode) {
         None => {}
@@ -83,7 +83,7 @@ fn note_op(user: &User, marks: &mut Vec<Option<bool>>, op: &RawOp)
 }
 
 fn note_handler(user: &User, marks: &mut Vec<Option<bool>>, handler: &RawHandler)
-    ensures { marks.new.items ≡ all_noted user.now.program.now user.now.class user.now.slots.now user.now.targets.now marks.old.items (handler_use handler.now) }
+    ensures { marks.new.items ≡ noted_by user.now marks.old.items (handler_use handler.now) }
 {
     if handler.catch_class != 0 {
         note(user, marks, handler.catch_class, Use::Caught);
@@ -91,7 +91,7 @@ fn note_handler(user: &User, marks: &mut Vec<Option<bool>>, handler: &RawHandler
 }
 
 fn note_ops(user: &User, marks: &mut Vec<Option<bool>>, ops: &[RawOp])
-    ensures { marks.new.items ≡ all_noted user.now.program.now user.now.class user.now.slots.now user.now.targets.now marks.old.items (flat_map op_use ops.now) }
+    ensures { marks.new.items ≡ noted_by user.now marks.old.items (flat_map op_use ops.now) }
 {
     for op in ops {
         note_op(user, marks, op);
@@ -99,7 +99,7 @@ fn note_ops(user: &User, marks: &mut Vec<Option<bool>>, ops: &[RawOp])
 }
 
 fn note_handlers(user: &User, marks: &mut Vec<Option<bool>>, handlers: &[RawHandler])
-    ensures { marks.new.items ≡ all_noted user.now.program.now user.now.class user.now.slots.now user.now.targets.now marks.old.items (flat_map handler_use handlers.now) }
+    ensures { marks.new.items ≡ noted_by user.now marks.old.items (flat_map handler_use handlers.now) }
 {
     for handler in handlers {
         note_handler(user, marks, handler);
@@ -107,7 +107,7 @@ fn note_handlers(user: &User, marks: &mut Vec<Option<bool>>, handlers: &[RawHand
 }
 
 fn note_code(user: &User, marks: &mut Vec<Option<bool>>, code: &Option<CodePart>)
-    ensures { marks.new.items ≡ all_noted user.now.program.now user.now.class user.now.slots.now user.now.targets.now marks.old.items (code_uses code.now) }
+    ensures { marks.new.items ≡ noted_by user.now marks.old.items (code_uses code.now) }
 {
     if let Some(part) = code {
         note_ops(user, marks, part.code.ops.as_slice());
@@ -116,7 +116,7 @@ fn note_code(user: &User, marks: &mut Vec<Option<bool>>, code: &Option<CodePart>
 }
 
 fn note_methods(user: &User, marks: &mut Vec<Option<bool>>, methods: &[MemberPart])
-    ensures { marks.new.items ≡ all_noted user.now.program.now user.now.class user.now.slots.now user.now.targets.now marks.old.items (flat_map (λ m. code_uses m.code) methods.now) }
+    ensures { marks.new.items ≡ noted_by user.now marks.old.items (flat_map (λ m. code_uses m.code) methods.now) }
 {
     for method in methods {
         note_code(user, marks, &method.code);
@@ -142,7 +142,7 @@ pub(crate) fn marks_of(
     user: &User,
     class: &ClassParts,
 ) -> Result<Vec<Option<bool>>, NoMemory>
-    ensures { IfOk result (λ marks. marks.items ≡ all_noted user.now.program.now user.now.class user.now.slots.now user.now.targets.now (replicate (length user.now.slots.now) None) (uses class.now)) }
+    ensures { IfOk result (λ marks. marks.items ≡ noted_by user.now (replicate (length user.now.slots.now) None) (uses class.now)) }
 {
     let mut marks = unused(alloc, user.slots.len())?;
     note_methods(user, &mut marks, class.methods.as_slice());
