@@ -1,7 +1,6 @@
 //! The tests of a suite's lines.
 
 ghost use Rattle.std.specs.Prelude.{◌≡◌, ◌≤◌, [], is_some, length};
-ghost use Rattle.jvm_model.specs.Classes.{class_at, is_static, method_at};
 ghost use Rattle.jvm_model.specs.RowsCreate.{is_bare};
 ghost use Rattle.jvm_model.specs.Driver.{no_arguments, plain_method_in};
 ghost use Rattle.jvm_model.specs.Lookup as lookup;
@@ -18,44 +17,11 @@ use jvm_model::{BUILTIN_COUNT, INIT, NO_ARGUMENTS, Program, TestEntry};
 use member_lookup::declared_upwards;
 use std::alloc::Global;
 
-// The numbers of the methods that a class declares.
-fn methods(p: &Program, class: u32) -> &[u32]
-    ensures { result.now ≡ (class_at p.now class).methods }
-{
-    match p.class(class) {
-        None => &[],
-        Some(record) => record.methods.as_slice(),
-    }
-}
-
-fn is_static(p: &Program, method: u32) -> bool
-    ensures { result ≡ is_static (method_at p.now method).flags }
-{
-    match p.method(method) {
-        None => false,
-        Some(record) => record.is_static(),
-    }
-}
-
-fn has_code(p: &Program, method: u32) -> bool
-    ensures { result ≡ is_some (method_at p.now method).body }
-{
-    match p.method(method) {
-        None => false,
-        Some(record) => record.has_code(),
-    }
-}
-
 // The method has this name and `()V`.
 fn is_method(p: &Program, name: &[u16], method: u32) -> bool
     ensures { result ≡ lookup.is_method p.now name.now no_arguments method }
 {
-    match p.method(method) {
-        None => false,
-        Some(record) => {
-            record.name.as_slice() == name && record.descriptor.as_slice() == &NO_ARGUMENTS[..]
-        }
-    }
+    p.method_name(method) == name && p.method_descriptor(method) == &NO_ARGUMENTS[..]
 }
 
 fn test_method(p: &Program, class: u32, name: &[u16]) -> Option<u32>
@@ -69,7 +35,7 @@ fn has_plain_method(p: &Program, name: &[u16], methods: &[u32]) -> bool
     ensures { result ≡ is_some (plain_method_in p.now name.now methods.now) }
 {
     for method in methods {
-        if !is_static(p, *method) && is_method(p, name, *method) {
+        if !p.is_static_method(*method) && is_method(p, name, *method) {
             return true;
         }
     }
@@ -80,10 +46,7 @@ fn has_plain_method(p: &Program, name: &[u16], methods: &[u32]) -> bool
 fn is_bare(p: &Program, class: u32) -> bool
     ensures { result ≡ is_bare p.now class }
 {
-    match p.class(class) {
-        None => false,
-        Some(record) => record.is_abstract() || record.is_interface(),
-    }
+    p.is_abstract(class) || p.is_interface(class)
 }
 
 fn holds_tests(p: &Program, class: u32) -> bool
@@ -95,9 +58,9 @@ fn holds_tests(p: &Program, class: u32) -> bool
 fn is_test_method(p: &Program, class: u32, method: u32) -> bool
     ensures { result ≡ faults.is_test_method p.now class method }
 {
-    has_code(p, method)
-        && (is_static(p, method)
-            || has_plain_method(p, &INIT, methods(p, class)))
+    p.has_code(method)
+        && (p.is_static_method(method)
+            || has_plain_method(p, &INIT, p.class_methods(class)))
 }
 
 fn entry_with(budget: u64, line: &TestLine, class: u32, method: u32) -> TestEntry

@@ -1,8 +1,7 @@
 //! Whether code may use an entry as it does (JVMS 6.5 and 5.4.3).
 
 ghost use Rattle.std.specs.Prelude.{◌≡◌, option_copied};
-ghost use Rattle.jvm_model.specs.Classes as classes;
-ghost use Rattle.jvm_model.specs.Classes.{class_at, field_at, member, method_at};
+ghost use Rattle.jvm_model.specs.Classes.{member};
 ghost use Rattle.code_forms.specs.Uses as uses;
 
 use crate::references::{Target, Use, named_class};
@@ -23,38 +22,7 @@ fn member(number: u32, numbers: &[u32]) -> bool
 fn names_interfaces(p: &Program, class: u32) -> bool
     ensures { result ≡ uses.names_interfaces p.now class }
 {
-    match p.class(class) {
-        None => false,
-        Some(record) => WITH_INTERFACES <= record.version,
-    }
-}
-
-fn is_static_field(p: &Program, field: u32) -> bool
-    ensures { result ≡ classes.is_static (field_at p.now field).flags }
-{
-    match p.field(field) {
-        None => false,
-        Some(record) => record.is_static(),
-    }
-}
-
-// The class that declares a field.
-fn field_class(p: &Program, field: u32) -> u32
-    ensures { result ≡ (field_at p.now field).class }
-{
-    match p.field(field) {
-        None => 0,
-        Some(record) => record.class,
-    }
-}
-
-fn is_static_method(p: &Program, method: u32) -> bool
-    ensures { result ≡ classes.is_static (method_at p.now method).flags }
-{
-    match p.method(method) {
-        None => false,
-        Some(record) => record.is_static(),
-    }
+    WITH_INTERFACES <= p.version(class)
 }
 
 // The entry is an InterfaceMethodref exactly where the class is an interface.
@@ -99,7 +67,7 @@ fn method_fits(
     ensures { result ≡ uses.method_fits p.now class (option_copied entry.entry) used kind method }
 {
     let sort = fits_sort(p, entry, kind);
-    let fixed = is_static_method(p, method);
+    let fixed = p.is_static_method(method);
     match used {
         Use::Virtual => !fixed && sort,
         Use::Interface => !fixed && sort,
@@ -113,9 +81,9 @@ fn field_fits(p: &Program, used: Use, field: u32) -> bool
     ensures { result ≡ uses.field_fits p.now used field }
 {
     match used {
-        Use::StaticField => is_static_field(p, field),
+        Use::StaticField => p.is_static_field(field),
         Use::InstanceField => {
-            !is_static_field(p, field) && !p.is_interface(field_class(p, field))
+            !p.is_static_field(field) && !p.is_interface(p.field_class(field))
         }
         _ => false,
     }

@@ -16,16 +16,8 @@ ghost use Rattle.member_lookup.specs.Walks.{IsWalked, Visits, above_class, is_ke
 use crate::walk::{Visited, visit, visit_all};
 use et_base::NoMemory;
 use indexmap::{IndexMap, IndexSet};
-use jvm_model::{CLASS_BOUND, INIT, OBJECT, Program};
+use jvm_model::{INIT, OBJECT, Program, class_bound};
 use std::alloc::Global;
-
-// The length that no chain of superclasses and superinterfaces passes.
-#[tactic(auto, unfolding(jvm_model::specs::Classes::class_bound))]
-fn class_bound() -> u32
-    ensures { result ≡ class_bound }
-{
-    CLASS_BOUND
-}
 
 // The classes that were visited, in order.
 fn visited(alloc: Global, seen: &Visited) -> Result<Vec<u32>, NoMemory>
@@ -51,21 +43,11 @@ fn is_field(p: &Program, field: u32, name: &[u16], descriptor: &[u16]) -> bool
     }
 }
 
-// The numbers of the fields that a class declares.
-fn fields(p: &Program, class: u32) -> &[u32]
-    ensures { result.now ≡ (class_at p.now class).fields }
-{
-    match p.class(class) {
-        None => &[],
-        Some(record) => record.fields.as_slice(),
-    }
-}
-
 // The field of a name and descriptor that a class declares.
 fn own_field(p: &Program, class: u32, name: &[u16], descriptor: &[u16]) -> Option<u32>
     ensures { result ≡ find (λ n. is_field p.now name.now descriptor.now n) (class_at p.now class).fields }
 {
-    fields(p, class)
+    p.class_fields(class)
         .iter()
         .copied()
         .find(|field| is_field(p, *field, name, descriptor))
@@ -114,66 +96,14 @@ pub fn find_field(
 fn is_method(p: &Program, method: u32, name: &[u16], descriptor: &[u16]) -> bool
     ensures { result ≡ is_method p.now name.now descriptor.now method }
 {
-    match p.method(method) {
-        None => name.is_empty() && descriptor.is_empty(),
-        Some(record) => {
-            record.name.as_slice() == name && record.descriptor.as_slice() == descriptor
-        }
-    }
-}
-
-fn is_private(p: &Program, method: u32) -> bool
-    ensures { result ≡ classes.is_private (method_at p.now method).flags }
-{
-    match p.method(method) {
-        None => false,
-        Some(record) => record.is_private(),
-    }
-}
-
-fn is_static(p: &Program, method: u32) -> bool
-    ensures { result ≡ classes.is_static (method_at p.now method).flags }
-{
-    match p.method(method) {
-        None => false,
-        Some(record) => record.is_static(),
-    }
-}
-
-fn has_code(p: &Program, method: u32) -> bool
-    ensures { result ≡ has_code p.now method }
-{
-    match p.method(method) {
-        None => false,
-        Some(record) => record.has_code(),
-    }
-}
-
-// The class that declares a method.
-fn class_of(p: &Program, method: u32) -> u32
-    ensures { result ≡ (method_at p.now method).class }
-{
-    match p.method(method) {
-        None => 0,
-        Some(record) => record.class,
-    }
-}
-
-// The numbers of the methods that a class declares.
-fn methods(p: &Program, class: u32) -> &[u32]
-    ensures { result.now ≡ (class_at p.now class).methods }
-{
-    match p.class(class) {
-        None => &[],
-        Some(record) => record.methods.as_slice(),
-    }
+    p.method_name(method) == name && p.method_descriptor(method) == descriptor
 }
 
 // The method of a name and descriptor that a class declares.
 fn own_method(p: &Program, class: u32, name: &[u16], descriptor: &[u16]) -> Option<u32>
     ensures { result ≡ find (λ n. is_method p.now name.now descriptor.now n) (class_at p.now class).methods }
 {
-    methods(p, class)
+    p.class_methods(class)
         .iter()
         .copied()
         .find(|method| is_method(p, *method, name, descriptor))
@@ -201,8 +131,8 @@ pub fn declared_upwards(p: &Program, class: u32, name: &[u16], descriptor: &[u16
 fn find_in_object(p: &Program, name: &[u16], descriptor: &[u16]) -> Option<u32>
     ensures { result ≡ find_in_object p.now name.now descriptor.now }
 {
-    methods(p, OBJECT).iter().copied().find(|method| is_method(p, *method, name, descriptor)
-        && !is_static(p, *method))
+    p.class_methods(OBJECT).iter().copied().find(|method| is_method(p, *method, name, descriptor)
+        && !p.is_static_method(*method))
 }
 
 // ---- methods of superinterfaces
@@ -237,7 +167,7 @@ fn superinterfaces(alloc: Global, p: &Program, class: u32) -> Result<Vec<u32>, N
 fn is_open(p: &Program, method: u32, name: &[u16], descriptor: &[u16]) -> bool
     ensures { result ≡ is_open p.now name.now descriptor.now method }
 {
-    is_method(p, method, name, descriptor) && (!is_private(p, method) && !is_static(p, method))
+    is_method(p, method, name, descriptor) && (!p.is_private_method(method) && !p.is_static_method(method))
 }
 
 // Notes the methods of a name and descriptor that a class declares, neither static nor private.
@@ -250,7 +180,7 @@ fn note_open(
 ) -> Result<(), NoMemory>
     ensures { OnOk result (found.new.keys ≡ insert_all nat_eq found.old.keys (filter (λ n. is_open p.now name.now descriptor.now n) (class_at p.now class).methods)) }
 {
-    for method in methods(p, class) {
+    for method in p.class_methods(class) {
         if is_open(p, *method, name, descriptor) {
             found.insert(*method)?;
         }
@@ -285,7 +215,7 @@ fn above_methods(alloc: Global, p: &Program, methods: &[u32]) -> Result<Visited,
             p,
             false,
             class_bound(),
-            p.interfaces(class_of(p, *method)),
+            p.interfaces(p.method_class(*method)),
             &mut seen,
         )?;
     }
@@ -302,7 +232,7 @@ fn contains(classes: &Visited, class: u32) -> bool
 fn is_kept(p: &Program, method: u32, above: &Visited) -> bool
     ensures { result ≡ is_kept p.now (keys above.now) method }
 {
-    !contains(above, class_of(p, method)) && has_code(p, method)
+    !contains(above, p.method_class(method)) && p.has_code(method)
 }
 
 // The one of the methods that is kept, else the first of all.
