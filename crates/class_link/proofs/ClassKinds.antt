@@ -1,4 +1,4 @@
--- Where headings have no fault, superclasses and superinterfaces are of their kinds.
+-- Where supertypes have no fault, superclasses and superinterfaces are of their kinds.
 use Rattle.std.proofs.Common.{◌≡◌, ◌⊎◌, ℕ, ◌+◌, ◌-◌, ◌<◌, ◌≤◌, List, length, map, get_or, slice_get, Bool, true, false, not, ◌||◌, nat_eq, nat_le, refl, sym, ◌∙◌, ap, subst, inl, inr, arith, Option, Some, None, IfSome, All}
 use Rattle.std.proofs.lemmas.Bool.{and_parts, or_cases, or_left, or_right, not-true, eqb-true, eq-eqb, leb-true, cond-true}
 use Rattle.std.proofs.lemmas.List.Elements.{All-map}
@@ -22,7 +22,7 @@ use Rattle.class_link.specs.declared.fault.LinkFault.{LinkFault}
 use Rattle.class_link.specs.ClassNames.{name_at, number_or_first, missing}
 use Rattle.class_link.specs.Assembly.{assembled, skeleton}
 use Rattle.class_link.specs.References.{Setting}
-use Rattle.class_link.specs.Faults.{first_some, indices, superclass_fits, heading_fits, missing_or, wrong_unless, heading_fault, headings_fault}
+use Rattle.class_link.specs.Faults.{first_some, indices, superclass_fits, supertype_fits, missing_or, wrong_unless, supertype_fault, supertypes_fault}
 use Rattle.class_link.specs.Link.{setting}
 use Rattle.class_link.proofs.Assembled.{class_given, class_cases}
 use Rattle.class_link.proofs.Pools.{standing, first_none}
@@ -50,12 +50,12 @@ not_wrong true c i h = refl
 not_wrong false c i h = absurd (cc)
 
 -- an entry that heads a class without fault fits
-heading_right : (s : Setting) (c : ClassParts) (i : ℕ) (e : Entry) → headings_fault s c ≡ None → entry_of c.pool i ≡ Some e → (nat_eq i c.super_class || member i c.interfaces) ≡ true → heading_fits s c i ≡ true
-unfolding headings_fault heading_fault
-heading_right s c i e h g t =
-    let a : heading_fault s c i ≡ None = first_none (heading_fault s c) (indices c) (i - 1) i h (index_listed c i e g) in
-    let b = sym (cond-true (nat_eq i c.super_class || member i c.interfaces) (missing_or c (missing s.names (name_at c.pool i)) (wrong_unless (heading_fits s c i) c i)) None t) ∙ a in
-    not_wrong (heading_fits s c i) c i (not_missing c (missing s.names (name_at c.pool i)) (wrong_unless (heading_fits s c i) c i) b).1
+supertype_right : (s : Setting) (c : ClassParts) (i : ℕ) (e : Entry) → supertypes_fault s c ≡ None → entry_of c.pool i ≡ Some e → (nat_eq i c.super_class || member i c.interfaces) ≡ true → supertype_fits s c i ≡ true
+unfolding supertypes_fault supertype_fault
+supertype_right s c i e h g t =
+    let a : supertype_fault s c i ≡ None = first_none (supertype_fault s c) (indices c) (i - 1) i h (index_listed c i e g) in
+    let b = sym (cond-true (nat_eq i c.super_class || member i c.interfaces) (missing_or c (missing s.names (name_at c.pool i)) (wrong_unless (supertype_fits s c i) c i)) None t) ∙ a in
+    not_wrong (supertype_fits s c i) c i (not_missing c (missing s.names (name_at c.pool i)) (wrong_unless (supertype_fits s c i) c i) b).1
 
 -- the number of the class that an entry names
 abbrev number : Setting → ClassParts → ℕ → ℕ
@@ -65,22 +65,22 @@ either : (a b : Bool) → (not a || b) ≡ true → a ≡ true → b ≡ true
 either true b h e = h
 either false b h e = absurd (cc)
 
-super_fits : (s : Setting) (c : ClassParts) → ClassFacts c → headings_fault s c ≡ None → superclass_fits s.program c (number s c c.super_class) ≡ true
+super_fits : (s : Setting) (c : ClassParts) → ClassFacts c → supertypes_fault s c ≡ None → superclass_fits s.program c (number s c c.super_class) ≡ true
 super_fits s c f h =
     let k = f.super_class.class in
-    let t = heading_right s c c.super_class (Class k.name) h k.entry (or_left (nat_eq c.super_class c.super_class) (member c.super_class c.interfaces) (eq-eqb c.super_class c.super_class refl)) in
+    let t = supertype_right s c c.super_class (Class k.name) h k.entry (or_left (nat_eq c.super_class c.super_class) (member c.super_class c.interfaces) (eq-eqb c.super_class c.super_class refl)) in
     either (nat_eq c.super_class c.super_class) (superclass_fits s.program c (number s c c.super_class)) (and_parts _ _ (and_parts _ _ t).1).0 (eq-eqb c.super_class c.super_class refl)
 
-interface_fits : (s : Setting) (c : ClassParts) → ClassFacts c → headings_fault s c ≡ None → (k d : ℕ) → k < length c.interfaces → is_interface_at s.program (number s c (get_or c.interfaces k d)) ≡ true
+interface_fits : (s : Setting) (c : ClassParts) → ClassFacts c → supertypes_fault s c ≡ None → (k d : ℕ) → k < length c.interfaces → is_interface_at s.program (number s c (get_or c.interfaces k d)) ≡ true
 interface_fits s c f h k d w =
     let i = get_or c.interfaces k d in
     let n = (f.interfaces k d w).class in
     let m : member i c.interfaces ≡ true = list_any_at (nat_eq i) c.interfaces k d w (eq-eqb i i refl) in
-    let t = heading_right s c i (Class n.name) h n.entry (or_right (nat_eq i c.super_class) (member i c.interfaces) m) in
+    let t = supertype_right s c i (Class n.name) h n.entry (or_right (nat_eq i c.super_class) (member i c.interfaces) m) in
     either (member i c.interfaces) (is_interface_at s.program (number s c i)) (and_parts _ _ (and_parts _ _ t).1).1 m
 
 module _ (body : ClassParts → CodePart → Body) (cs : List ClassParts) (tests : List TestEntry) (files : List (List ℕ × List ℕ)) (known : AllKnown cs)
-    (headed : first_some (headings_fault (setting cs)) cs ≡ None) where
+    (headed : first_some (supertypes_fault (setting cs)) cs ≡ None) where
   abbrev p : Program
   p = assembled body cs tests files
 
@@ -101,7 +101,7 @@ module _ (body : ClassParts → CodePart → Body) (cs : List ClassParts) (tests
   kind_given i c h =
       let s = setting cs in
       let r = class_given body cs tests files i c h in
-      let none : headings_fault s c ≡ None = first_none (headings_fault s) cs i c headed h in
+      let none : supertypes_fault s c ≡ None = first_none (supertypes_fault s) cs i c headed h in
       let d = number s c c.super_class in
       let t : superclass_fits s.program c d ≡ true = super_fits s c (known i c h) none in
       let a = and_parts (not (is_interface_at s.program d)) _ t in

@@ -26,7 +26,7 @@ use Rattle.class_link.specs.declared.fault.LinkFault.{LinkFault}
 use Rattle.class_link.specs.declared.lines.TestLines.{TestLines}
 use Rattle.class_link.specs.Assembly.{assembled, skeleton}
 use Rattle.class_link.specs.Bodies.{linked_body}
-use Rattle.class_link.specs.Faults.{first_some, duplicate_fault, headings_fault, all_references_fault}
+use Rattle.class_link.specs.Faults.{first_some, duplicate_fault, supertypes_fault, all_references_fault}
 use Rattle.member_lookup.specs.Ancestors.{IsFirstCycle}
 use Rattle.et_base.specs.Answers.{◌>>=◌}
 use Rattle.class_link.specs.Link.{setting, unless, cycle_fault, tests_of, program_of, link_by, AreLines, AreDifferent}
@@ -82,7 +82,7 @@ module _ (cs : List ClassParts) (ts : List TestEntry) (files : List (List ℕ ×
         (mapped_holds (λ y. Q (builtin_count + b.class) y) (body b.parts) b.member.code (λ code e. f b.class b.index b.parts b.member code b.has_class b.has_member e))
   ]
 
-  module _ (known : AllKnown cs) (coded : AllCoded cs) (different : duplicate_fault cs ≡ None) (headed : first_some (headings_fault (setting cs)) cs ≡ None) (acyclic : IsFirstCycle (skeleton cs) None)
+  module _ (known : AllKnown cs) (coded : AllCoded cs) (different : duplicate_fault cs ≡ None) (headed : first_some (supertypes_fault (setting cs)) cs ≡ None) (acyclic : IsFirstCycle (skeleton cs) None)
       (resolved : all_references_fault (setting cs) builtin_count cs ≡ None) (lines : TestLines) (are : AreLines lines) (few : length cs ≤ 1024) (answer : tests_of (setting cs) lines.budget [] lines.tests ≡ Ok ts) (same_files : files ≡ lines.files) where
     owners : (c : ℕ) (name descriptor : List ℕ) (m : ℕ) → find_method p c name descriptor ≡ Some m → is_static (method_at p m).flags ≡ true → is_interface_at p (method_at p m).class ≡ true → is_interface_at p c ≡ true
     owners = static_owner p (holds_builtins body cs ts files) (class_kinds body cs ts files known headed) (is_listed body cs ts files known).own_methods
@@ -149,21 +149,21 @@ coded_from cs known i k c x code h g e =
       body = is_body (setting cs) c.pool code f;
     }
 
--- What linking answers is a linked program, where the first cycle is known at least if names differ and headings have no fault.
+-- What linking answers is a linked program, where the first cycle is known at least if names differ and supertypes have no fault.
 pub linked_by : (cs : List ClassParts) (lines : TestLines) (cycle : Option ℕ) (p : Program) → length cs ≤ 1024 → All (λ c. grammar.IsClass c) cs → AreLines lines
-    → (duplicate_fault cs ≡ None → first_some (headings_fault (setting cs)) cs ≡ None → IsFirstCycle (skeleton cs) cycle) → link_by cycle cs lines ≡ Ok p → Linked p
+    → (duplicate_fault cs ≡ None → first_some (supertypes_fault (setting cs)) cs ≡ None → IsFirstCycle (skeleton cs) cycle) → link_by cycle cs lines ≡ Ok p → Linked p
 unfolding link_by
 linked_by cs lines cycle p few classes are first e =
     let s = setting cs in
     let known = known_from cs classes in
     let a = bound (unless (duplicate_fault cs)) _ p e in
-    let b = bound (unless (first_some (headings_fault s) cs)) _ p a.2 in
+    let b = bound (unless (first_some (supertypes_fault s) cs)) _ p a.2 in
     let c = bound (unless (cycle_fault cs cycle)) _ p b.2 in
     let d = bound (unless (all_references_fault s builtin_count cs)) _ p c.2 in
     let t = bound (tests_of s lines.budget [] lines.tests) (λ ts. Ok (program_of cs ts lines.files)) p d.2 in
     let q : program_of cs t.0 lines.files ≡ p = (let z : ◌≡◌ {A = Result Program LinkFault} (Ok (program_of cs t.0 lines.files)) (Ok p) = t.2 in cc) in
     let different = unless_none (duplicate_fault cs) a.0 a.1 in
-    let headed = unless_none (first_some (headings_fault s) cs) b.0 b.1 in
+    let headed = unless_none (first_some (supertypes_fault s) cs) b.0 b.1 in
     let acyclic = no_cycle cs cycle (first different headed) (unless_none (cycle_fault cs cycle) c.0 c.1) in
     let resolved = unless_none (all_references_fault s builtin_count cs) d.0 d.1 in
     subst Linked q (program_linked cs t.0 lines.files known (coded_from cs known) different headed acyclic resolved lines are few t.1 refl)

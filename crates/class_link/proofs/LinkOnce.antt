@@ -13,7 +13,7 @@ use Rattle.class_link.specs.declared.fault.LinkFault.{LinkFault}
 use Rattle.class_link.specs.declared.fault.LinkFault.TheVariants as fault
 use Rattle.class_link.specs.declared.lines.TestLines.{TestLines}
 use Rattle.class_link.specs.Assembly.{skeleton, bare_body}
-use Rattle.class_link.specs.Faults.{first_some, duplicate_fault, headings_fault, all_references_fault}
+use Rattle.class_link.specs.Faults.{first_some, duplicate_fault, supertypes_fault, all_references_fault}
 use Rattle.et_base.specs.Answers.{◌>>=◌}
 use Rattle.class_link.specs.Link.{setting, unless, cycle_fault, tests_of, program_of, link_by, LinksBy, Links, LinksOnce}
 use Rattle.class_link.proofs.Assembled.{holds_builtins}
@@ -38,7 +38,7 @@ same_after : {B : Type 0} (o : Option LinkFault) (f g : Unit {0} → Result B Li
 same_after None f g h = h refl
 same_after (Some x) f g h = refl
 
--- what follows where names differ and headings have no fault
+-- what follows where names differ and supertypes have no fault
 abbrev after : List ClassParts → TestLines → Option ℕ → Result Program LinkFault
 after cs lines cycle = do
   acyclic ← unless (cycle_fault cs cycle)
@@ -46,9 +46,9 @@ after cs lines cycle = do
   tests ← tests_of (setting cs) lines.budget [] lines.tests
   Ok (program_of cs tests lines.files)
 
-link_same : (cs : List ClassParts) (lines : TestLines) (a b : Option ℕ) → (duplicate_fault cs ≡ None → first_some (headings_fault (setting cs)) cs ≡ None → a ≡ b) → link_by a cs lines ≡ link_by b cs lines
+link_same : (cs : List ClassParts) (lines : TestLines) (a b : Option ℕ) → (duplicate_fault cs ≡ None → first_some (supertypes_fault (setting cs)) cs ≡ None → a ≡ b) → link_by a cs lines ≡ link_by b cs lines
 unfolding link_by
-link_same cs lines a b h = same_after (duplicate_fault cs) _ _ (λ d. same_after (first_some (headings_fault (setting cs)) cs) _ _ (λ e. ap (after cs lines) (h d e)))
+link_same cs lines a b h = same_after (duplicate_fault cs) _ _ (λ d. same_after (first_some (supertypes_fault (setting cs)) cs) _ _ (λ e. ap (after cs lines) (h d e)))
 
 said : (cs : List ClassParts) (lines : TestLines) (answer : Result Program LinkFault) → (answer ≡ Err fault.NoMemory → ⊥) → Links cs lines answer → (cycle : Option ℕ) × LinksBy cycle cs lines answer
 said cs lines (Ok p) m l = l

@@ -11,7 +11,7 @@ use Rattle.class_link.specs.declared.fault.LinkFault.TheVariants as fault
 use Rattle.class_link.specs.declared.lines.TestLines.{TestLines}
 use Rattle.class_link.specs.Answers.{Fails}
 use Rattle.class_link.specs.Assembly.{skeleton, bare_body}
-use Rattle.class_link.specs.Faults.{first_some, duplicate_fault, headings_fault, all_references_fault}
+use Rattle.class_link.specs.Faults.{first_some, duplicate_fault, supertypes_fault, all_references_fault}
 use Rattle.member_lookup.specs.Ancestors.{IsFirstCycle}
 use Rattle.et_base.specs.Answers.{◌>>=◌}
 use Rattle.class_link.specs.Link.{setting, unless, cycle_fault, tests_of, program_of, link_by, LinksBy, Links, IsCycleFault}
@@ -68,8 +68,8 @@ module _ (cs : List ClassParts) (lines : TestLines) where
   abbrev names : Result (Unit {0}) LinkFault
   names = unless (duplicate_fault cs)
 
-  abbrev headings : Result (Unit {0}) LinkFault
-  headings = unless (first_some (headings_fault (setting cs)) cs)
+  abbrev supertypes : Result (Unit {0}) LinkFault
+  supertypes = unless (first_some (supertypes_fault (setting cs)) cs)
 
   abbrev references : Result (Unit {0}) LinkFault
   references = unless (all_references_fault (setting cs) builtin_count cs)
@@ -83,7 +83,7 @@ module _ (cs : List ClassParts) (lines : TestLines) where
   abbrev after_all : Result (Unit {0}) LinkFault → Result (Unit {0}) LinkFault → Result (Unit {0}) LinkFault → Result (Unit {0}) LinkFault → Result (List TestEntry) LinkFault → Result Program LinkFault
   after_all a b c d t = a >>= (λ _. b >>= (λ _. c >>= (λ _. d >>= (λ _. after_tests t))))
 
-  linked_is : (cycle : Option ℕ) → link_by cycle cs lines ≡ after_all names headings (unless (cycle_fault cs cycle)) references tests
+  linked_is : (cycle : Option ℕ) → link_by cycle cs lines ≡ after_all names supertypes (unless (cycle_fault cs cycle)) references tests
   unfolding link_by
   linked_is cycle = refl
 
@@ -92,15 +92,15 @@ module _ (cs : List ClassParts) (lines : TestLines) where
     None,
     (
       (λ none _. absurd (unless_some (duplicate_fault cs) f e none)),
-      sym (linked_is None ∙ ap (λ a. after_all a headings (unless (cycle_fault cs None)) references tests) e),
+      sym (linked_is None ∙ ap (λ a. after_all a supertypes (unless (cycle_fault cs None)) references tests) e),
     ),
   ))
 
-  pub headings_said : (f : LinkFault) → names ≡ Ok tt → Fails f headings → Links cs lines (Err f)
-  headings_said f n h = said cs lines f headings h (λ e. (
+  pub supertypes_said : (f : LinkFault) → names ≡ Ok tt → Fails f supertypes → Links cs lines (Err f)
+  supertypes_said f n h = said cs lines f supertypes h (λ e. (
     None,
     (
-      (λ _ none. absurd (unless_some (first_some (headings_fault (setting cs)) cs) f e none)),
+      (λ _ none. absurd (unless_some (first_some (supertypes_fault (setting cs)) cs) f e none)),
       sym (linked_is None ∙ (λ i. after_all (n i) (e i) (unless (cycle_fault cs None)) references tests)),
     ),
   ))
@@ -108,14 +108,14 @@ module _ (cs : List ClassParts) (lines : TestLines) where
   abbrev erred : LinkFault → Result Program LinkFault
   erred f = Err f
 
-  cycle_known : (f : LinkFault) → names ≡ Ok tt → headings ≡ Ok tt → IsCycleFault cs f → (cycle : Option ℕ) × LinksBy cycle cs lines (Err f)
+  cycle_known : (f : LinkFault) → names ≡ Ok tt → supertypes ≡ Ok tt → IsCycleFault cs f → (cycle : Option ℕ) × LinksBy cycle cs lines (Err f)
   cycle_known f n h (i, first, is) = (Some i, ((λ _ _. first), sym (linked_is (Some i) ∙ (λ j. after_all (n j) (h j) (unless (cycle_fault cs (Some i))) references tests) ∙ ap erred (sym is))))
 
-  pub cycles_said : (f : LinkFault) → names ≡ Ok tt → headings ≡ Ok tt → (f ≡ fault.NoMemory) ⊎ IsCycleFault cs f → Links cs lines (Err f)
+  pub cycles_said : (f : LinkFault) → names ≡ Ok tt → supertypes ≡ Ok tt → (f ≡ fault.NoMemory) ⊎ IsCycleFault cs f → Links cs lines (Err f)
   cycles_said f n h (inl none) = subst (λ g. Links cs lines (Err g)) (sym none) tt
   cycles_said f n h (inr at) = let k = cycle_known f n h at in said cs lines f (failed f) (itself f) (λ _. k)
 
-  pub references_said : (f : LinkFault) → names ≡ Ok tt → headings ≡ Ok tt → IsFirstCycle (skeleton cs) None → Fails f references → Links cs lines (Err f)
+  pub references_said : (f : LinkFault) → names ≡ Ok tt → supertypes ≡ Ok tt → IsFirstCycle (skeleton cs) None → Fails f references → Links cs lines (Err f)
   references_said f n h first r = said cs lines f references r (λ e. (
     None,
     (
@@ -124,7 +124,7 @@ module _ (cs : List ClassParts) (lines : TestLines) where
     ),
   ))
 
-  pub tests_said : (f : LinkFault) → names ≡ Ok tt → headings ≡ Ok tt → IsFirstCycle (skeleton cs) None → references ≡ Ok tt → Fails f tests → Links cs lines (Err f)
+  pub tests_said : (f : LinkFault) → names ≡ Ok tt → supertypes ≡ Ok tt → IsFirstCycle (skeleton cs) None → references ≡ Ok tt → Fails f tests → Links cs lines (Err f)
   tests_said f n h first r t = said cs lines f tests t (λ e. (
     None,
     (
@@ -133,8 +133,8 @@ module _ (cs : List ClassParts) (lines : TestLines) where
     ),
   ))
 
-  pub linked_so : (ts : List TestEntry) → names ≡ Ok tt → headings ≡ Ok tt → references ≡ Ok tt → tests ≡ Ok ts → link_by None cs lines ≡ Ok (program_of cs ts lines.files)
+  pub linked_so : (ts : List TestEntry) → names ≡ Ok tt → supertypes ≡ Ok tt → references ≡ Ok tt → tests ≡ Ok ts → link_by None cs lines ≡ Ok (program_of cs ts lines.files)
   linked_so ts n h r t = linked_is None ∙ (λ i. after_all (n i) (h i) (Ok tt) (r i) (t i))
 
-  pub program_said : (p : Program) (ts : List TestEntry) → p ≡ program_of cs ts lines.files → names ≡ Ok tt → headings ≡ Ok tt → IsFirstCycle (skeleton cs) None → references ≡ Ok tt → tests ≡ Ok ts → Links cs lines (Ok p)
+  pub program_said : (p : Program) (ts : List TestEntry) → p ≡ program_of cs ts lines.files → names ≡ Ok tt → supertypes ≡ Ok tt → IsFirstCycle (skeleton cs) None → references ≡ Ok tt → tests ≡ Ok ts → Links cs lines (Ok p)
   program_said p ts is n h first r t = (None, ((λ _ _. first), (λ i. Ok (is i)) ∙ sym (linked_so ts n h r t)))

@@ -50,8 +50,8 @@ abbrev pub superclass_fits : Program → ClassParts → ℕ → Bool
 superclass_fits p c d = not (is_interface_at p d) && ((nat_le builtin_count d || (nat_eq d object_class || is_below p d throwable_class)) && (not (is_interface c.flags) || nat_eq d object_class))
 
 -- the entry i serves where the class names it: as its superclass, as a superinterface
-abbrev pub heading_fits : Setting → ClassParts → ℕ → Bool
-heading_fits s c i = let name = name_at c.pool i in let d = number_or_first s.names name in
+abbrev pub supertype_fits : Setting → ClassParts → ℕ → Bool
+supertype_fits s c i = let name = name_at c.pool i in let d = number_or_first s.names name in
     not (starts_array name) && ((not (nat_eq i c.super_class) || superclass_fits s.program c d) && (not (member i c.interfaces) || is_interface_at s.program d))
 
 abbrev pub missing_or : ClassParts → Option (List ℕ) → Option LinkFault → Option LinkFault
@@ -62,12 +62,12 @@ abbrev pub wrong_unless : Bool → ClassParts → ℕ → Option LinkFault
 wrong_unless true c i = None
 wrong_unless false c i = Some (fault.WrongKind (own_name c) i)
 
-unfoldable pub heading_fault : Setting → ClassParts → ℕ → Option LinkFault
-heading_fault s c i = cond (nat_eq i c.super_class || member i c.interfaces) (missing_or c (missing s.names (name_at c.pool i)) (wrong_unless (heading_fits s c i) c i)) None
+unfoldable pub supertype_fault : Setting → ClassParts → ℕ → Option LinkFault
+supertype_fault s c i = cond (nat_eq i c.super_class || member i c.interfaces) (missing_or c (missing s.names (name_at c.pool i)) (wrong_unless (supertype_fits s c i) c i)) None
 
 -- the first fault of a class's superclass and superinterfaces, by pool index
-unfoldable pub headings_fault : Setting → ClassParts → Option LinkFault
-headings_fault s c = first_some (heading_fault s c) (indices c)
+unfoldable pub supertypes_fault : Setting → ClassParts → Option LinkFault
+supertypes_fault s c = first_some (supertype_fault s c) (indices c)
 
 -- ---- references
 

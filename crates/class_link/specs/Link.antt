@@ -17,7 +17,7 @@ use Rattle.class_link.specs.Literals.{literals}
 use Rattle.class_link.specs.Assembly.{assembled, skeleton}
 use Rattle.class_link.specs.References.{Setting}
 use Rattle.class_link.specs.Bodies.{linked_body}
-use Rattle.class_link.specs.Faults.{first_some, duplicate_fault, headings_fault, all_references_fault, test_entry}
+use Rattle.class_link.specs.Faults.{first_some, duplicate_fault, supertypes_fault, all_references_fault, test_entry}
 use Rattle.member_lookup.specs.Ancestors.{IsFirstCycle}
 
 -- what references are resolved with
@@ -52,7 +52,7 @@ program_of cs tests files = assembled (λ c code. linked_body (setting cs) c.poo
 unfoldable pub link_by : Option ℕ → List ClassParts → TestLines → Result Program LinkFault
 link_by cycle cs lines = do
   different ← unless (duplicate_fault cs)
-  headed ← unless (first_some (headings_fault (setting cs)) cs)
+  headed ← unless (first_some (supertypes_fault (setting cs)) cs)
   acyclic ← unless (cycle_fault cs cycle)
   resolved ← unless (all_references_fault (setting cs) builtin_count cs)
   tests ← tests_of (setting cs) lines.budget [] lines.tests
@@ -61,7 +61,7 @@ link_by cycle cs lines = do
 -- the answer is that of linking, where cycle is the first class that is its own ancestor; it isn't looked for where names
 -- don't differ, or superclasses and superinterfaces are at fault
 abbrev pub LinksBy : Option ℕ → List ClassParts → TestLines → Result Program LinkFault → Type 0
-LinksBy cycle cs lines answer = (duplicate_fault cs ≡ None → first_some (headings_fault (setting cs)) cs ≡ None → IsFirstCycle (skeleton cs) cycle) × (answer ≡ link_by cycle cs lines)
+LinksBy cycle cs lines answer = (duplicate_fault cs ≡ None → first_some (supertypes_fault (setting cs)) cs ≡ None → IsFirstCycle (skeleton cs) cycle) × (answer ≡ link_by cycle cs lines)
 
 -- What linking says of its answer; want of memory says nothing.
 abbrev pub Links : List ClassParts → TestLines → Result Program LinkFault → Type 0

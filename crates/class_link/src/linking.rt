@@ -13,7 +13,7 @@ use crate::assembly::{setting_of, with_bodies};
 use crate::bodies::bodies_of;
 use crate::entries::name_at;
 use crate::fault::LinkFault;
-use crate::headings::check_all_headings;
+use crate::supertypes::check_all_supertypes;
 use crate::lines::TestLines;
 use crate::reference_faults::check_all_references;
 use crate::setting::Setting;
@@ -91,7 +91,7 @@ pub fn link(alloc: Global, classes: &[ClassFile], lines: &TestLines) -> Result<P
     ensures linked { IfOk result Linked }
 {
     let setting = setting_of(alloc, classes)?;
-    check_all_headings(alloc, &setting, classes)?;
+    check_all_supertypes(alloc, &setting, classes)?;
     check_cycles(alloc, &setting, classes)?;
     let targets = check_all_references(alloc, &setting, classes)?;
     let tests = tests_of(alloc, &setting, lines.budget, lines.tests.as_slice())?;

@@ -58,9 +58,9 @@ fn superclass_fits(p: &Program, class: &ClassParts, above: u32) -> bool
 }
 
 // The entry serves where the class names it; `named` says that this is among its superinterfaces.
-fn heading_fits(setting: &Setting, class: &ClassParts, index: u16, named: bool) -> bool
+fn supertype_fits(setting: &Setting, class: &ClassParts, index: u16, named: bool) -> bool
     requires { named ≡ member index class.now.interfaces }
-    ensures { result ≡ faults.heading_fits setting.now class.now index }
+    ensures { result ≡ faults.supertype_fits setting.now class.now index }
 {
     let name = name_at(class.pool.slots(), index);
     let above = setting.names.number_or_first(name);
@@ -70,8 +70,8 @@ fn heading_fits(setting: &Setting, class: &ClassParts, index: u16, named: bool) 
     !starts_array(name) && (as_superclass && as_interface)
 }
 
-#[tactic(auto, unfolding(crate::specs::Faults::heading_fault))]
-fn check_heading(
+#[tactic(auto, unfolding(crate::specs::Faults::supertype_fault))]
+fn check_supertype(
     alloc: Global,
     setting: &Setting,
     class: &ClassParts,
@@ -79,7 +79,7 @@ fn check_heading(
     named: bool,
 ) -> Result<(), LinkFault>
     requires { named ≡ member index class.now.interfaces }
-    ensures { Gives nothing result (unless (faults.heading_fault setting.now class.now index)) }
+    ensures { Gives nothing result (unless (faults.supertype_fault setting.now class.now index)) }
 {
     if index != class.super_class && !named {
         return Ok(());
@@ -89,7 +89,7 @@ fn check_heading(
         alloc,
         class,
         needed,
-        heading_fits(setting, class, index, named),
+        supertype_fits(setting, class, index, named),
         index,
     )
 }
@@ -120,28 +120,28 @@ fn listed(alloc: Global, size: usize, indices: &[u16]) -> Result<Vec<bool>, NoMe
 }
 
 // The first fault of a class's superclass and superinterfaces, by pool index.
-#[tactic(auto, unfolding(crate::specs::Faults::headings_fault))]
-fn check_headings(alloc: Global, setting: &Setting, class: &ClassParts) -> Result<(), LinkFault>
-    ensures { Gives nothing result (unless (faults.headings_fault setting.now class.now)) }
+#[tactic(auto, unfolding(crate::specs::Faults::supertypes_fault))]
+fn check_supertypes(alloc: Global, setting: &Setting, class: &ClassParts) -> Result<(), LinkFault>
+    ensures { Gives nothing result (unless (faults.supertypes_fault setting.now class.now)) }
 {
     let end = class.pool.slots().len() + 1;
     let table = listed(alloc, end, class.interfaces.as_slice())?;
     for index in 1..end {
-        check_heading(alloc, setting, class, index as u16, table[index])?;
+        check_supertype(alloc, setting, class, index as u16, table[index])?;
     }
     Ok(())
 }
 
 /// The first fault of the superclasses and superinterfaces of class files: each is there and may stand where it is named.
-pub(crate) fn check_all_headings(
+pub(crate) fn check_all_supertypes(
     alloc: Global,
     setting: &Setting,
     classes: &[ClassFile],
 ) -> Result<(), LinkFault>
-    ensures { Gives nothing result (unless (first_some (faults.headings_fault setting.now) classes.now)) }
+    ensures { Gives nothing result (unless (first_some (faults.supertypes_fault setting.now) classes.now)) }
 {
     for class in classes {
-        check_headings(alloc, setting, class.parts())?;
+        check_supertypes(alloc, setting, class.parts())?;
     }
     Ok(())
 }
