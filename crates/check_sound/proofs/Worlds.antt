@@ -15,7 +15,7 @@ use Rattle.jvm_model.proofs.Locations.{same_true, same_false, at_put_same, at_pu
 use Rattle.jvm_model.proofs.Bridges.{exists_has}
 use Rattle.jvm_model.proofs.Standing.{exists_put, exists_make}
 use Rattle.check_sound.specs.Types.{Types, ValueType, int_type, long_type, reference, HasType}
-use Rattle.check_sound.specs.Typed.{IsPlace, IsTyped, IsTypedWorld, IsNew, Grows}
+use Rattle.check_sound.specs.Typed.{IsPlace, HasPlaceType, IsTypedWorld, IsNew, Grows}
 
 pub type_grows : (ty : Types) (hs is : List Head) → Grows hs is → (t : ValueType) (v : Value) → HasType ty hs t v → HasType ty is t v
 type_grows ty hs is g int_type (Int n) h = tt
@@ -45,14 +45,14 @@ newest_is : (hs : List Head) (h : Head) (o : ℕ) (k : Head) → o ≡ length hs
 newest_is hs h o k q e = let z : slice_get (hs ++ (h ∷ [])) o ≡ Some h = rw q (newest_head hs h) in cc
 
 module _ (p : Program) (ty : Types) where
-  pub world_put : (hs : List Head) (w : World) (l : Location) (c : Content l) → IsTypedWorld p ty hs w → IsPlace p hs l → IsTyped p ty hs l c → IsTypedWorld p ty hs (put w l c)
+  pub world_put : (hs : List Head) (w : World) (l : Location) (c : Content l) → IsTypedWorld p ty hs w → IsPlace p hs l → HasPlaceType p ty hs l c → IsTypedWorld p ty hs (put w l c)
   world_put hs w l c t q r = record {
     objects = size_put w l c ∙ t.objects;
     there = λ m i. exists_put w l c m (t.there m i);
     typed = λ m i. elim (cases_Bool (same m l)) [
       | inl e ↦ let g = same_true m l e in
-          subst (λ z. IsTyped p ty hs z (at (put w l c) z)) (sym g) (subst (λ (d : Content l). IsTyped p ty hs l d) (sym (at_put_same w l c (exists_has w l (t.there l q)))) r)
-      | inr e ↦ subst (λ (d : Content m). IsTyped p ty hs m d) (sym (at_put_other w l m c (same_false m l e))) (t.typed m i)
+          subst (λ z. HasPlaceType p ty hs z (at (put w l c) z)) (sym g) (subst (λ (d : Content l). HasPlaceType p ty hs l d) (sym (at_put_same w l c (exists_has w l (t.there l q)))) r)
+      | inr e ↦ subst (λ (d : Content m). HasPlaceType p ty hs m d) (sym (at_put_other w l m c (same_false m l e))) (t.typed m i)
     ];
   }
 
@@ -67,7 +67,7 @@ module _ (p : Program) (ty : Types) where
   older_place hs h (place.Field o f) n i = (i.0, i.1, older_head hs h o i.0 (λ e. n (ap Some e)) i.2, i.3, i.4)
   older_place hs h (place.Elem o k) n i = (i.0, i.1, i.2, older_head hs h o i.0 (λ e. n (ap Some e)) i.3, i.4, i.5)
 
-  typed_grows : (hs is : List Head) → Grows hs is → (l : Location) (c : Content l) → IsTyped p ty hs l c → IsTyped p ty is l c
+  typed_grows : (hs is : List Head) → Grows hs is → (l : Location) (c : Content l) → HasPlaceType p ty hs l c → HasPlaceType p ty is l c
   typed_grows hs is g (place.Static f) v r = type_grows ty hs is g _ v r
   typed_grows hs is g (place.Field o f) v r = type_grows ty hs is g _ v r
   typed_grows hs is g (place.Elem o i) v r = (r.0, g o r.0 r.1, type_grows ty hs is g _ v r.2)
@@ -106,7 +106,7 @@ module _ (p : Program) (ty : Types) where
         let k = (d.elems i.1 j i.2 (ap (λ (z : Head). z.kind) h ∙ i.4) lt).0 in
         (within a e, subst (λ (z : Object). j < length z.elems) (sym (newest a e)) k)
 
-    new_typed : (l : Location) → IsOf l (size w) → IsPlace p (hs ++ (x.head ∷ [])) l → IsTyped p ty (hs ++ (x.head ∷ [])) l (part x l)
+    new_typed : (l : Location) → IsOf l (size w) → IsPlace p (hs ++ (x.head ∷ [])) l → HasPlaceType p ty (hs ++ (x.head ∷ [])) l (part x l)
     new_typed (place.Static f) o i = absurd (cc)
     new_typed (place.Init c) o i = absurd (cc)
     new_typed (place.File n) o i = tt
@@ -132,8 +132,8 @@ module _ (p : Program) (ty : Types) where
         | inr n ↦ exists_make w x l (t.there l (older_place hs x.head l (λ o. n (o ∙ ap Some (sym t.objects))) i))
       ];
       typed = λ l i. elim (is_of_cases l (size w)) [
-        | inl o ↦ subst (λ (c : Content l). IsTyped p ty (hs ++ (x.head ∷ [])) l c) (sym (at_make_new w x l o)) (new_typed l o i)
-        | inr n ↦ subst (λ (c : Content l). IsTyped p ty (hs ++ (x.head ∷ [])) l c) (sym (at_make_other w x l n))
+        | inl o ↦ subst (λ (c : Content l). HasPlaceType p ty (hs ++ (x.head ∷ [])) l c) (sym (at_make_new w x l o)) (new_typed l o i)
+        | inr n ↦ subst (λ (c : Content l). HasPlaceType p ty (hs ++ (x.head ∷ [])) l c) (sym (at_make_other w x l n))
             (typed_grows hs (hs ++ (x.head ∷ [])) (grows_one hs x.head) l (at w l) (t.typed l (older_place hs x.head l (λ o. n (o ∙ ap Some (sym t.objects))) i)))
       ];
     }

@@ -32,20 +32,20 @@ IsPlace p hs (place.File n) = Unit {0}
 IsPlace p hs (place.Prop n) = Unit {0}
 
 -- the content has the type of its location; a head is of a kind of the program
-abbrev pub IsTyped : Program → Types → List Head → (l : Location) → Content l → Type 0
-IsTyped p ty hs (place.Static f) v = HasType ty hs (ty.declared (field_at p f).descriptor) v
-IsTyped p ty hs (place.Init c) s = Unit {0}
-IsTyped p ty hs (place.Head o) h = (slice_get hs o ≡ Some h) × IsKind p h.kind
-IsTyped p ty hs (place.Field o f) v = HasType ty hs (ty.declared (field_at p f).descriptor) v
-IsTyped p ty hs (place.Elem o i) v = (h : Head) × (slice_get hs o ≡ Some h) × HasType ty hs (element_type h.kind) v
-IsTyped p ty hs (place.Text o) t = Unit {0}
-IsTyped p ty hs (place.File n) t = Unit {0}
-IsTyped p ty hs (place.Prop n) t = Unit {0}
+abbrev pub HasPlaceType : Program → Types → List Head → (l : Location) → Content l → Type 0
+HasPlaceType p ty hs (place.Static f) v = HasType ty hs (ty.declared (field_at p f).descriptor) v
+HasPlaceType p ty hs (place.Init c) s = Unit {0}
+HasPlaceType p ty hs (place.Head o) h = (slice_get hs o ≡ Some h) × IsKind p h.kind
+HasPlaceType p ty hs (place.Field o f) v = HasType ty hs (ty.declared (field_at p f).descriptor) v
+HasPlaceType p ty hs (place.Elem o i) v = (h : Head) × (slice_get hs o ≡ Some h) × HasType ty hs (element_type h.kind) v
+HasPlaceType p ty hs (place.Text o) t = Unit {0}
+HasPlaceType p ty hs (place.File n) t = Unit {0}
+HasPlaceType p ty hs (place.Prop n) t = Unit {0}
 
 pub record IsTypedWorld (p : Program) (ty : Types) (hs : List Head) (w : World) : Type 0 where
   pub objects : size w ≡ length hs
   pub there : (l : Location) → IsPlace p hs l → Exists w l
-  pub typed : (l : Location) → IsPlace p hs l → IsTyped p ty hs l (at w l)
+  pub typed : (l : Location) → IsPlace p hs l → HasPlaceType p ty hs l (at w l)
 
 -- a new object of a kind of the program with its cells: those of its class's layout, or as many elements as its head says
 pub record IsNew (p : Program) (ty : Types) (hs : List Head) (x : Object) : Type 0 where
@@ -56,8 +56,8 @@ pub record IsNew (p : Program) (ty : Types) (hs : List Head) (x : Object) : Type
 -- Each access is at a place and of its type, and each answer is good over the heads then.
 pub data TypedAccess (p : Program) (ty : Types) {A : Type 0} (P : List Head → A → Type 0) : List Head → Access A → Type 0 where
   typed_done : {hs : List Head} {a : A} → P hs a → TypedAccess p ty P hs (done a)
-  typed_read : {hs : List Head} {l : Location} {k : Content l → Access A} → IsPlace p hs l → ((c : Content l) → IsTyped p ty hs l c → TypedAccess p ty P hs (k c)) → TypedAccess p ty P hs (read l k)
-  typed_write : {hs : List Head} {l : Location} {c : Content l} {t : Access A} → IsPlace p hs l → IsTyped p ty hs l c → TypedAccess p ty P hs t → TypedAccess p ty P hs (write l c t)
+  typed_read : {hs : List Head} {l : Location} {k : Content l → Access A} → IsPlace p hs l → ((c : Content l) → HasPlaceType p ty hs l c → TypedAccess p ty P hs (k c)) → TypedAccess p ty P hs (read l k)
+  typed_write : {hs : List Head} {l : Location} {c : Content l} {t : Access A} → IsPlace p hs l → HasPlaceType p ty hs l c → TypedAccess p ty P hs t → TypedAccess p ty P hs (write l c t)
   typed_make : {hs : List Head} {x : Object} {k : ℕ → Access A} → IsNew p ty hs x → TypedAccess p ty P (hs ++ (x.head ∷ [])) (k (length hs)) → TypedAccess p ty P hs (make x k)
   typed_spend : {hs : List Head} {n : ℕ} {t : Access A} → TypedAccess p ty P hs t → TypedAccess p ty P hs (spend n t)
 

@@ -7,11 +7,11 @@ use Rattle.jvm_model.specs.World.{Object, World, Content, put, make_object}
 use Rattle.jvm_model.specs.Classes.{blank}
 use Rattle.jvm_model.specs.Linked.{IsKind}
 use Rattle.check_sound.specs.Types.{Types}
-use Rattle.check_sound.specs.Typed.{IsPlace, IsTyped, IsTypedWorld, IsNew, AreSound}
+use Rattle.check_sound.specs.Typed.{IsPlace, HasPlaceType, IsTypedWorld, IsNew, AreSound}
 
 -- a content of its location's type, put at a place of the program
 abbrev pub PutLaw : Type 0
-PutLaw = (p : Program) (ty : Types) (hs : List Head) (w : World) (l : Location) (c : Content l) → IsTypedWorld p ty hs w → IsPlace p hs l → IsTyped p ty hs l c → IsTypedWorld p ty hs (put w l c)
+PutLaw = (p : Program) (ty : Types) (hs : List Head) (w : World) (l : Location) (c : Content l) → IsTypedWorld p ty hs w → IsPlace p hs l → HasPlaceType p ty hs l c → IsTypedWorld p ty hs (put w l c)
 
 -- a new object with its cells
 abbrev pub MakeLaw : Type 0

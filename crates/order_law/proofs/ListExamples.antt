@@ -158,10 +158,10 @@ unfolding is_record_form
 edge_forms = refl
 
 abbrev ordered : EdgeKind → ℕ → ℕ → EdgeKind → ℕ → ℕ → Bool
-ordered k u t l v s = is_record_form (3 ∷ 3 ∷ 3 ∷ []) (edge_at k u t (codes "a") ∷ edge_at l v s (codes "a") ∷ [])
+ordered k u t l v s = is_record_form (3 ∷ 3 ∷ 3 ∷ 3 ∷ []) (edge_at k u t (codes "a") ∷ edge_at l v s (codes "a") ∷ [])
 
-orders : ordered Raw 1 2 Raw 1 3 ∷ ordered Raw 1 3 Raw 1 2 ∷ ordered Waw 1 3 Raw 2 3 ∷ ordered Raw 2 3 Raw 1 3 ∷ ordered Raw 1 2 Waw 1 2 ∷ ordered Waw 1 2 War 1 2 ∷ ordered War 1 2 Waw 1 2 ∷ ordered Raw 1 2 Raw 1 2 ∷ []
-    ≡ true ∷ false ∷ true ∷ false ∷ true ∷ true ∷ false ∷ false ∷ []
+orders : ordered Raw 1 2 Raw 1 3 ∷ ordered Raw 1 3 Raw 1 2 ∷ ordered Waw 1 3 Raw 2 3 ∷ ordered Raw 2 3 Raw 1 3 ∷ ordered Raw 2 3 Raw 1 4 ∷ ordered Raw 1 4 Raw 2 3 ∷ ordered Raw 1 2 Waw 1 2 ∷ ordered Waw 1 2 War 1 2 ∷ ordered War 1 2 Waw 1 2 ∷ ordered Raw 1 2 Raw 1 2 ∷ []
+    ≡ true ∷ false ∷ true ∷ false ∷ true ∷ false ∷ true ∷ true ∷ false ∷ false ∷ []
 unfolding is_record_form
 orders = refl
 

@@ -6,8 +6,9 @@ ghost use Rattle.order_law.specs.RecordForm.{is_record_form, is_reach_form, are_
 use crate::edges::Edge;
 use et_base::{Items, Text};
 
-/// What a test can depend on besides the record's edges. `settled`: it reads nothing that a test may change but the
-/// standard stream. `classes`: the classes of the suite that it may reach, by their numbers from 1, ascending.
+/// What a test can depend on besides the record's edges. `settled`: each of its exposed reads is of the static `System.out`,
+/// and no code of the suite puts that. `classes`: the classes of the suite that it may reach, by their numbers from 1,
+/// ascending.
 #[derive(Debug, Drop)]
 pub struct Reach {
     pub settled: bool,
@@ -34,8 +35,8 @@ pub struct Record {
     ghost more_form: { IsTrue (is_reach_form units more) },
 }
 
-/// SHA-256 sums of a suite: over the suite text and all class files, of the suite text, of each class file, and over the
-/// five bytes `eager` and all class files and the suite text.
+/// SHA-256 sums of a suite: over the suite text and all class files, each behind its length; of the suite text; of each
+/// class file; and over the five bytes `eager` and then what the first is over.
 #[derive(Debug, Drop)]
 pub struct Prints {
     pub digest: [u8; 32],
