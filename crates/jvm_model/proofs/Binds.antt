@@ -1,20 +1,17 @@
 -- What a program of accesses does that is put together by bind.
 use Rattle.std.proofs.Common.{◌≡◌, ℕ, List, ◌++◌, ◌+◌, ◌-◌, Bool, true, false, ◌&&◌, nat_le, if◌then◌else◌, refl, ap, sym, ◌∙◌, subst, arith, append_assoc}
+use Rattle.std.proofs.Math.Bool.{and_assoc}
 use Rattle.jvm_model.specs.declared.values.Touch.{Touch}
 use Rattle.jvm_model.specs.World.{World, at, put, size, make_object, has}
 use Rattle.jvm_model.specs.Access.{Access, done, read, write, make, spend, bind, made, run}
 use Rattle.jvm_model.specs.View.{Counted, over, ended, counted, and_then, touched, IsSafe, Any}
 
-and_assoc : (a b c : Bool) → (a && (b && c)) ≡ ((a && b) && c)
-and_assoc true b c = refl
-and_assoc false b c = refl
-
 -- the run of one program after another
 pub run_bind : {A B : Type 0} (a : Access A) (f : A → Access B) (w : World) →
     run (bind a f) w ≡ (let r = run a w in let s = run (f r.value) r.world in record { sound = r.sound && s.sound; value = s.value; world = s.world; touches = r.touches ++ s.touches; units = r.units + s.units })
 run_bind (done a) f w = let e : 0 + (run (f a) w).units ≡ (run (f a) w).units = omega arith in rw e
-run_bind (read l k) f w = let r = run (k (at w l)) w in rw (run_bind (k (at w l)) f w, and_assoc (has w l) r.sound (run (f r.value) r.world).sound)
-run_bind (write l c rest) f w = let r = run rest (put w l c) in rw (run_bind rest f (put w l c), and_assoc (has w l) r.sound (run (f r.value) r.world).sound)
+run_bind (read l k) f w = let r = run (k (at w l)) w in rw (run_bind (k (at w l)) f w, ← and_assoc (has w l) r.sound (run (f r.value) r.world).sound)
+run_bind (write l c rest) f w = let r = run rest (put w l c) in rw (run_bind rest f (put w l c), ← and_assoc (has w l) r.sound (run (f r.value) r.world).sound)
 run_bind (make x k) f w = let r = run (k (size w)) (make_object w x) in rw (run_bind (k (size w)) f (make_object w x), ← append_assoc (made (size w) x) r.touches (run (f r.value) r.world).touches)
 run_bind (spend n rest) f w = let r = run rest w in let e : n + (r.units + (run (f r.value) r.world).units) ≡ (n + r.units) + (run (f r.value) r.world).units = omega arith in rw (run_bind rest f w, e)
 

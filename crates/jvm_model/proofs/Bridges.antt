@@ -1,6 +1,6 @@
 -- The code's view of a program of accesses is its run.
-use Rattle.std.proofs.Common.{◌≡◌, ℕ, List, [], ◌∷◌, ◌++◌, ◌+◌, ◌-◌, Bool, true, ◌&&◌, nat_le, if◌then◌else◌, refl, ap, sym, ◌∙◌, arith, append_assoc, append-nil, inl, inr}
-use Rattle.std.proofs.lemmas.Bool.{cases_Bool}
+use Rattle.std.proofs.Common.{◌≡◌, ℕ, List, [], ◌∷◌, ◌++◌, ◌+◌, ◌-◌, true, nat_le, if◌then◌else◌, refl, ap, sym, ◌∙◌, arith, append_assoc, append-nil, inl, inr}
+use Rattle.std.proofs.lemmas.Bool.{cases_Bool, and_from}
 use Rattle.jvm_model.specs.declared.values.Touch.{Touch}
 use Rattle.jvm_model.specs.declared.values.Location.{Location}
 use Rattle.jvm_model.specs.declared.values.Location.TheVariants as place
@@ -43,14 +43,11 @@ exists_has w (place.Text o) h = grind arith
 exists_has w (place.File n) h = refl
 exists_has w (place.Prop n) h = refl
 
-and_both : (a b : Bool) → a ≡ true → b ≡ true → (a && b) ≡ true
-and_both a b p q = rw (p, q) refl
-
 -- a safe program meets only locations that stand
 pub safe_sound : {A : Type 0} (G : A → Type 0) (t : Access A) (w : World) → IsSafe G t w → (run t w).sound ≡ true
 safe_sound G (done a) w h = refl
-safe_sound G (read l k) w h = and_both (has w l) _ (exists_has w l h.0) (safe_sound G (k (at w l)) w h.1)
-safe_sound G (write l c rest) w h = and_both (has w l) _ (exists_has w l h.0) (safe_sound G rest (put w l c) h.1)
+safe_sound G (read l k) w h = and_from (has w l) _ (exists_has w l h.0) (safe_sound G (k (at w l)) w h.1)
+safe_sound G (write l c rest) w h = and_from (has w l) _ (exists_has w l h.0) (safe_sound G rest (put w l c) h.1)
 safe_sound G (make x k) w h = safe_sound G (k (size w)) (make_object w x) h
 safe_sound G (spend n rest) w h = safe_sound G rest w h
 

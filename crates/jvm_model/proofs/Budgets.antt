@@ -20,7 +20,7 @@ IsEnd out_of_steps = ⊥
 abbrev joined : Ran Turn → Ran End → Ran End
 joined r s = record { sound = r.sound && s.sound; value = s.value; world = s.world; touches = r.touches ++ s.touches; units = r.units + s.units }
 
-step_costs : (p : Program) (s : State) (w : World) → 1 ≤ (run (step p s) w).units
+pub step_costs : (p : Program) (s : State) (w : World) → 1 ≤ (run (step p s) w).units
 unfolding step
 step_costs p s w = omega arith
 

@@ -24,4 +24,5 @@ pub mod ExampleParts
 pub mod Examples
 mod LargerExamples
 mod MoreExamples
+mod NativeExamples
 pub mod LinkedExample

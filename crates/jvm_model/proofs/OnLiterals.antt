@@ -25,7 +25,7 @@ use Rattle.jvm_model.specs.NativesString.{native_string, native_builder, hash_of
 use Rattle.jvm_model.specs.NativesOutside.{native_system, native_print, native_files, native_env}
 use Rattle.jvm_model.specs.Driver.{drive, drives, drive_first, drive_init, drive_set_up, drive_method, drive_tear_down, judge}
 use Rattle.std.specs.Fmt.{digits}
-use Rattle.et_base.specs.Numbers.{add64, add32, l2i}
+use Rattle.et_base.specs.Numbers.{add64, add32, l2i, i2c}
 use Rattle.std.specs.Char.Utf16.{utf16_chars}
 use lib.Utf8.{encode}
 use Rattle.std.specs.Int.{int_wrap}
@@ -44,5 +44,5 @@ unfolding builtin_classes builtin_fields builtin_methods builtin_defs class_boun
     native_object native_throwable native_string native_builder native_system native_print
     native_files native_env drive drives drive_first drive_init drive_set_up drive_method
     drive_tear_down judge digits add64 utf16_chars encode add32 int_wrap lookup_target hash_of nest
-    children nest_cost row_arrays row_casts kind_fits class_fits l2i suite_fault suite_limit
+    children nest_cost row_arrays row_casts kind_fits class_fits l2i i2c suite_fault suite_limit
 machine_on_literals = tt

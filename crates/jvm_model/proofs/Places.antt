@@ -1,5 +1,5 @@
 -- Instructions by their index in the code, where the places ascend.
-use Rattle.std.proofs.Common.{◌≡◌, ℕ, zero, suc, ◌+◌, ◌<◌, ◌≤◌, List, [], ◌∷◌, length, get_or, Bool, true, false, ◌||◌, nat_eq, refl, sym, ◌∙◌, inl, inr, arith, Some}
+use Rattle.std.proofs.Common.{◌≡◌, ℕ, zero, suc, ◌+◌, ◌<◌, ◌≤◌, List, [], ◌∷◌, length, get_or, true, false, nat_eq, refl, sym, ◌∙◌, inl, inr, arith, Some}
 use Rattle.std.proofs.lemmas.Bool.{cases_Bool, eqb-true, eq-eqb, false_from_ne_true}
 use Rattle.jvm_model.specs.declared.program.Placed.{Placed}
 use Rattle.jvm_model.specs.declared.program.Program.{Program}
@@ -35,15 +35,11 @@ pub record Index (xs : List Placed) (n : ℕ) (d : Placed) : Type 0 where
   pub within : index < length xs
   pub place : (get_or xs index d).pc ≡ n
 
-or_cases : (a b : Bool) → (a || b) ≡ true → a ≡ false → b ≡ true
-or_cases true b e f = absurd (cc)
-or_cases false b e f = e
-
 pub index_of : (xs : List Placed) (n : ℕ) (d : Placed) → place_listed n xs ≡ true → Index xs n d
 index_of [] n d h = absurd (cc)
 index_of (x ∷ xs) n d h = elim (cases_Bool (nat_eq n x.pc)) [
   | inl e ↦ record { index = 0; within = omega arith; place = sym (eqb-true n x.pc e) }
-  | inr e ↦ let i = index_of xs n d (or_cases (nat_eq n x.pc) (place_listed n xs) h e) in let w = i.within in record { index = suc i.index; within = omega arith; place = i.place }
+  | inr e ↦ let i = index_of xs n d (rw e at h) in let w = i.within in record { index = suc i.index; within = omega arith; place = i.place }
 ]
 
 -- the next place and the form at an index of a method's code

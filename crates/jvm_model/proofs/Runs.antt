@@ -14,14 +14,14 @@ first_last x xs None = refl
 first_last x xs (Some y) = refl
 
 -- what the first test of a list gave, and the others
-record Split (p : Program) (w : World) (t : ℕ) (l : List ℕ) (xs : List Given) : Type 0 where
+pub record Split (p : Program) (w : World) (t : ℕ) (l : List ℕ) (xs : List Given) : Type 0 where
   pub first : Given
   pub others : List Given
   pub first_is : one_test p w t (test_at p t).budget ≡ Some first
   pub others_are : runs_on p first.world l ≡ Some others
   pub whole : xs ≡ first ∷ others
 
-split_rest : (p : Program) (w : World) (t : ℕ) (l : List ℕ) (xs : List Given) (x : Given) (o : Option (List Given)) → one_test p w t (test_at p t).budget ≡ Some x →
+pub split_rest : (p : Program) (w : World) (t : ℕ) (l : List ℕ) (xs : List Given) (x : Given) (o : Option (List Given)) → one_test p w t (test_at p t).budget ≡ Some x →
     runs_on p x.world l ≡ o → with_first x o ≡ Some xs → Split p w t l xs
 split_rest p w t l xs x None e f g = absurd (cc)
 split_rest p w t l xs x (Some ys) e f g = record { first = x; others = ys; first_is = e; others_are = f; whole = (cc) }
@@ -33,7 +33,7 @@ split_by : (p : Program) (w : World) (t : ℕ) (l : List ℕ) (xs : List Given) 
 split_by p w t l xs None e g = absurd (cc)
 split_by p w t l xs (Some x) e g = split_rest p w t l xs x (runs_on p x.world l) e refl g
 
-split : (p : Program) (w : World) (t : ℕ) (l : List ℕ) (xs : List Given) → runs_on p w (t ∷ l) ≡ Some xs → Split p w t l xs
+pub split : (p : Program) (w : World) (t : ℕ) (l : List ℕ) (xs : List Given) → runs_on p w (t ∷ l) ≡ Some xs → Split p w t l xs
 split p w t l xs e = split_by p w t l xs (one_test p w t (test_at p t).budget) refl e
 
 one_more : (p : Program) (w : World) (t : ℕ) (o : Option Given) → one_test p w t (test_at p t).budget ≡ o → runs_on p w (t ∷ []) ≡ with_last [] o
