@@ -16,6 +16,7 @@ pub mod Same
 pub mod Leaves
 pub mod Histories
 pub mod OwnRecord
+pub mod OwnForm
 pub mod Posts
 pub mod OrderFaults
 pub mod Plans

@@ -110,7 +110,7 @@ in_range : (n a x : ℕ) → a ≤ x → x < a + n → Member x (range_with_len 
 in_range zero a x lo hi = absurd (omega arith)
 in_range (suc n) a x lo hi = elim (cases_eq x a) [ inl e ↦ inl e | inr ne ↦ inr (in_range n (a + 1) x (omega arith) (omega arith)) ]
 
-range_within : (n a x : ℕ) → Member x (range_with_len a n) → (a ≤ x) × (x < a + n)
+pub range_within : (n a x : ℕ) → Member x (range_with_len a n) → (a ≤ x) × (x < a + n)
 range_within zero a x i = absurd i
 range_within (suc n) a x i = elim i [ inl e ↦ (omega arith, omega arith) | inr j ↦ let r = range_within n (a + 1) x j in let lo = r.0 in let hi = r.1 in (omega arith, omega arith) ]
 

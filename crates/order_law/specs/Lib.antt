@@ -12,5 +12,6 @@ pub mod OwnRecord
 pub mod RecordForm
 pub mod Plan
 pub mod Reach
+pub mod OwnForm
 pub mod OrderFault
 pub mod Walk

@@ -1,0 +1,11 @@
+use Rattle.order_law.proofs.OwnForm.{units_law, ordered_law, counted_law}
+use Rattle.order_law.proofs.own_form_law.Goals as goal
+
+pub returns-clause-units : goal.returns-clause-units
+returns-clause-units c = units_law
+
+pub returns-clause-ordered : goal.returns-clause-ordered
+returns-clause-ordered c = ordered_law
+
+pub returns-clause-counted : goal.returns-clause-counted
+returns-clause-counted c = counted_law
