@@ -1,0 +1,4 @@
+public class T {
+    public static void t() {
+    }
+}
