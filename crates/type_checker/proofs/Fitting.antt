@@ -1,37 +1,24 @@
 -- Types that are assignable one by one.
-use Rattle.std.proofs.Common.{◌≡◌, suc, List, [], ◌∷◌, ◌++◌, length, reverse, ◌&&◌, Bool, true, false, refl, ap, sym, ◌∙◌, arith, inl, inr, ◌⊎◌}
+use Rattle.std.proofs.Common.{◌≡◌, suc, List, [], ◌∷◌, ◌++◌, length, reverse, ◌&&◌, true, false, refl, ap, sym, ◌∙◌, arith, inl, inr, ◌⊎◌}
 use Rattle.std.proofs.lemmas.Bool.{cases_eq}
+use Rattle.std.proofs.Math.Bool.{and-false, and_comm, and_assoc}
 use Rattle.std.proofs.lemmas.List.{reverse-append, length-reverse}
 use Rattle.jvm_model.specs.declared.program.Program.{Program}
 use Rattle.type_frames.specs.declared.vtype.VType.{VType}
 use Rattle.type_frames.specs.Assign.{assignable}
 use Rattle.type_frames.specs.Rules.{fit_all}
 
-and_false : (b : Bool) → (b && false) ≡ false
-and_false true = refl
-and_false false = refl
-
 pub fit_all_lengths : (p : Program) (xs ys : List VType) → (length xs ≡ length ys → ⊥) → fit_all p xs ys ≡ false
 fit_all_lengths p [] [] ne = absurd (ne refl)
 fit_all_lengths p [] (y ∷ ys) ne = refl
 fit_all_lengths p (x ∷ xs) [] ne = refl
-fit_all_lengths p (x ∷ xs) (y ∷ ys) ne = ap (λ b. assignable p x y && b) (fit_all_lengths p xs ys (λ e. ne (ap suc e))) ∙ and_false (assignable p x y)
-
-and_assoc : (a b c : Bool) → (a && (b && c)) ≡ ((a && b) && c)
-and_assoc true b c = refl
-and_assoc false b c = refl
-
-and_comm : (a b : Bool) → (a && b) ≡ (b && a)
-and_comm true true = refl
-and_comm true false = refl
-and_comm false true = refl
-and_comm false false = refl
+fit_all_lengths p (x ∷ xs) (y ∷ ys) ne = ap (λ b. assignable p x y && b) (fit_all_lengths p xs ys (λ e. ne (ap suc e))) ∙ and-false (assignable p x y)
 
 fit_all_end : (p : Program) (xs ys : List VType) (x y : VType) → length xs ≡ length ys → fit_all p (xs ++ x ∷ []) (ys ++ y ∷ []) ≡ (fit_all p xs ys && assignable p x y)
 fit_all_end p [] [] x y e = and_comm (assignable p x y) true
 fit_all_end p [] (b ∷ ys) x y e = cc
 fit_all_end p (a ∷ xs) [] x y e = cc
-fit_all_end p (a ∷ xs) (b ∷ ys) x y e = let q : length xs ≡ length ys = omega arith in ap (λ c. assignable p a b && c) (fit_all_end p xs ys x y q) ∙ and_assoc (assignable p a b) (fit_all p xs ys) (assignable p x y)
+fit_all_end p (a ∷ xs) (b ∷ ys) x y e = let q : length xs ≡ length ys = omega arith in ap (λ c. assignable p a b && c) (fit_all_end p xs ys x y q) ∙ sym (and_assoc (assignable p a b) (fit_all p xs ys) (assignable p x y))
 
 reversed_alike : (p : Program) (xs ys : List VType) → length xs ≡ length ys → fit_all p (reverse xs) (reverse ys) ≡ fit_all p xs ys
 reversed_alike p [] [] e = refl

@@ -19,7 +19,9 @@ fn turn_one(
     to: &VType,
 ) -> Result<(), NoMemory>
     requires { i < length xs.old.items }
-    ensures { OnOk result (xs.new.items ≡ slice_set xs.old.items i (rules.turned_one from.now to.now (slice_index_or xs.old.items i types.Top))) }
+    ensures { OnOk result (xs.new.items ≡
+        slice_set xs.old.items i
+        (rules.turned_one from.now to.now (slice_index_or xs.old.items i types.Top))) }
 {
     if same(&xs[i], from) {
         xs[i] = copy_type(alloc, to)?;
@@ -108,13 +110,16 @@ fn flag_after(turn: &Turn, flag: bool) -> bool
 
 #[tactic(auto, using(crate::proofs::Stacks::reverse_turned))]
 fn turn_stack(alloc: Global, stack: &mut Vec<VType>, turn: &Turn) -> Result<(), NoMemory>
-    ensures { OnOk result (reverse stack.new.items ≡ rules.turned turn.now (reverse stack.old.items)) }
+    ensures { OnOk result (reverse stack.new.items ≡
+        rules.turned turn.now (reverse stack.old.items)) }
 {
     turn_all(alloc, stack, turn)
 }
 
 fn stack_after(alloc: Global, stack: &mut Vec<VType>, s: &Sides) -> Result<(), NoMemory>
-    ensures { OnOk result (reverse stack.new.items ≡ s.now.gives ++ rules.turned s.now.turn (drop (length s.now.takes) (reverse stack.old.items))) }
+    ensures { OnOk result (reverse stack.new.items ≡
+        s.now.gives ++
+        rules.turned s.now.turn (drop (length s.now.takes) (reverse stack.old.items))) }
 {
     take_off(stack, s.takes.len());
     turn_stack(alloc, stack, &s.turn)?;
@@ -122,7 +127,8 @@ fn stack_after(alloc: Global, stack: &mut Vec<VType>, s: &Sides) -> Result<(), N
 }
 
 fn locals_after(alloc: Global, locals: &mut Vec<VType>, s: &Sides) -> Result<(), NoMemory>
-    ensures { OnOk result (locals.new.items ≡ rules.set_all (rules.turned s.now.turn locals.old.items) s.now.sets) }
+    ensures { OnOk result (locals.new.items ≡
+        rules.set_all (rules.turned s.now.turn locals.old.items) s.now.sets) }
 {
     turn_all(alloc, locals, &s.turn)?;
     set_all(alloc, locals, s.sets.as_slice())

@@ -2,7 +2,6 @@
 
 ghost use Rattle.std.specs.Prelude.{◌≡◌, ◌∷◌, ◌++◌, [], IfOk, OnOk, flat_map, map, replicate, reverse, cond, length, slice_index_or};
 ghost use Rattle.jvm_model.specs.declared.values.Base.TheVariants as jvm;
-ghost use Rattle.jvm_model.specs.Classes.{field_at, method_at};
 ghost use Rattle.type_frames.specs.declared.vtype.VType.TheVariants as types;
 ghost use Rattle.type_frames.specs.declared.sides.Need.TheVariants as wants;
 ghost use Rattle.type_frames.specs.Frames.{same};
@@ -10,31 +9,13 @@ ghost use Rattle.type_frames.specs.Descriptors.{base_text, kind_name, types_of};
 ghost use Rattle.type_frames.specs.Sides.{argument_needs, int_need, int_type, long_need, long_type, needs_of, number_need, number_type, objects_text, on_stack, place_of, plain, result_types, two};
 
 use crate::shape::Shape;
-use et_base::{Items, NoMemory, Units};
-use jvm_model::{Base, Kind, Program};
-use std::alloc::Global;
-use type_frames::{
-    Need, Sides, Turn, VType, class_name, copy_type, copy_units, parameters, push_types,
-    return_type, same, spread,
+use et_base::letters::{
+    ARRAY, BOOLEAN, BYTE, CHAR, CLASS, DOUBLE, FLOAT, INT, LONG, SEMICOLON, SHORT, VOID,
 };
-
-/// The class `java.lang.Object`.
-pub const OBJECT: u32 = 0;
-
-/// The units of types.
-const BRACKET: u16 = 91;
-
-const SEMICOLON: u16 = 59;
-
-const D: u16 = 68;
-
-const F: u16 = 70;
-
-const J: u16 = 74;
-
-const L: u16 = 76;
-
-const V: u16 = 86;
+use et_base::{Items, NoMemory, Units};
+use jvm_model::{Base, Kind, OBJECT, Program, parameters, return_type};
+use std::alloc::Global;
+use type_frames::{Need, Sides, Turn, VType, class_name, copy_type, push_types, same, spread};
 
 /// What takes and gives, and nothing else.
 pub fn plain(alloc: Global, takes: Items<Need>, gives: Items<VType>) -> Sides
@@ -99,7 +80,8 @@ pub fn push_number(needs: &mut Items<Need>, wide: bool) -> Result<(), NoMemory>
 
 /// Appends the needs of two places: of a long, where the top one is the second half of one.
 pub fn push_two(needs: &mut Items<Need>, half: bool) -> Result<(), NoMemory>
-    ensures { OnOk result (needs.new ≡ needs.old ++ cond half long_need (wants.One ∷ wants.One ∷ [])) }
+    ensures { OnOk result (needs.new ≡
+        needs.old ++ cond half long_need (wants.One ∷ wants.One ∷ [])) }
 {
     if half {
         return push_long(needs);
@@ -190,22 +172,22 @@ pub fn push_needs(alloc: Global, needs: &mut Items<Need>, text: &[u16]) -> Resul
     let Some((u, rest)) = text.split_first() else {
         return Ok(());
     };
-    if *u == J {
+    if *u == LONG {
         return push_long(needs);
     }
-    if *u == L {
-        return needs.push(Need::Fits(VType::Object(copy_units(alloc, class_name(rest))?)));
+    if *u == CLASS {
+        return needs.push(Need::Fits(VType::Object(Items::from_slice(alloc, class_name(rest))?)));
     }
-    if *u == BRACKET {
-        return needs.push(Need::Fits(VType::Object(copy_units(alloc, text)?)));
+    if *u == ARRAY {
+        return needs.push(Need::Fits(VType::Object(Items::from_slice(alloc, text)?)));
     }
-    if *u == V {
+    if *u == VOID {
         return Ok(());
     }
-    if *u == F {
+    if *u == FLOAT {
         return needs.push(Need::Never);
     }
-    if *u == D {
+    if *u == DOUBLE {
         needs.push(Need::Never)?;
         return needs.push(Need::Never);
     }
@@ -262,7 +244,7 @@ fn push_brackets(text: &mut Units, dims: u8) -> Result<(), NoMemory>
     ensures { OnOk result (text.new ≡ text.old ++ replicate dims 91) }
 {
     for done in 0..dims {
-        text.push(BRACKET)?;
+        text.push(ARRAY)?;
     }
     Ok(())
 }
@@ -270,10 +252,8 @@ fn push_brackets(text: &mut Units, dims: u8) -> Result<(), NoMemory>
 fn push_class(p: &Program, text: &mut Units, class: u32) -> Result<(), NoMemory>
     ensures { OnOk result (text.new ≡ text.old ++ base_text p.now (jvm.Class class)) }
 {
-    text.push(L)?;
-    if let Some(c) = p.classes.as_slice().get(class as usize) {
-        text.extend_from_slice(c.name.as_slice())?;
-    }
+    text.push(CLASS)?;
+    text.extend_from_slice(p.class_name(class))?;
     text.push(SEMICOLON)
 }
 
@@ -281,12 +261,12 @@ fn push_base(p: &Program, text: &mut Units, base: &Base) -> Result<(), NoMemory>
     ensures { OnOk result (text.new ≡ text.old ++ base_text p.now base.now) }
 {
     match base {
-        Base::Boolean => text.push(90),
-        Base::Byte => text.push(66),
-        Base::Char => text.push(67),
-        Base::Short => text.push(83),
-        Base::Int => text.push(73),
-        Base::Long => text.push(J),
+        Base::Boolean => text.push(BOOLEAN),
+        Base::Byte => text.push(BYTE),
+        Base::Char => text.push(CHAR),
+        Base::Short => text.push(SHORT),
+        Base::Int => text.push(INT),
+        Base::Long => text.push(LONG),
         Base::Class(class) => push_class(p, text, *class),
     }
 }
@@ -296,10 +276,7 @@ pub fn kind_name(alloc: Global, p: &Program, kind: &Kind) -> Result<Units, NoMem
     ensures { IfOk result (λ name. name ≡ kind_name p.now kind.now) }
 {
     match kind {
-        Kind::Class(class) => match p.classes.as_slice().get(*class as usize) {
-            None => Ok(Items::new(alloc)),
-            Some(c) => copy_units(alloc, c.name.as_slice()),
-        },
+        Kind::Class(class) => Items::from_slice(alloc, p.class_name(*class)),
         Kind::Array { dims, base } => {
             let mut text = Items::new(alloc);
             push_brackets(&mut text, *dims)?;
@@ -314,57 +291,7 @@ pub fn objects_text(alloc: Global, p: &Program) -> Result<Units, NoMemory>
     ensures { IfOk result (λ text. text ≡ objects_text p.now) }
 {
     let mut text = Items::new(alloc);
-    text.push(BRACKET)?;
+    text.push(ARRAY)?;
     push_class(p, &mut text, OBJECT)?;
     Ok(text)
-}
-
-/// The descriptor of a field.
-pub fn field_descriptor(p: &Program, field: u32) -> &[u16]
-    ensures { result.now ≡ (field_at p.now field).descriptor }
-{
-    match p.fields.as_slice().get(field as usize) {
-        None => &[],
-        Some(x) => x.descriptor.as_slice(),
-    }
-}
-
-/// The class that declares a field.
-pub fn field_class(p: &Program, field: u32) -> u32
-    ensures { result ≡ (field_at p.now field).class }
-{
-    match p.fields.as_slice().get(field as usize) {
-        None => 0,
-        Some(x) => x.class,
-    }
-}
-
-/// The descriptor of a method.
-pub fn method_descriptor(p: &Program, method: u32) -> &[u16]
-    ensures { result.now ≡ (method_at p.now method).descriptor }
-{
-    match p.methods.as_slice().get(method as usize) {
-        None => &[],
-        Some(m) => m.descriptor.as_slice(),
-    }
-}
-
-/// The name of a method.
-pub fn method_name(p: &Program, method: u32) -> &[u16]
-    ensures { result.now ≡ (method_at p.now method).name }
-{
-    match p.methods.as_slice().get(method as usize) {
-        None => &[],
-        Some(m) => m.name.as_slice(),
-    }
-}
-
-/// The class that declares a method.
-pub fn method_class(p: &Program, method: u32) -> u32
-    ensures { result ≡ (method_at p.now method).class }
-{
-    match p.methods.as_slice().get(method as usize) {
-        None => 0,
-        Some(m) => m.class,
-    }
 }

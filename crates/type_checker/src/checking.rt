@@ -10,44 +10,31 @@ ghost use Rattle.type_frames.specs.Typing as typing;
 ghost use Rattle.type_frames.specs.Typing.{IsTyped, all_frames, check_fault, class_fault, classes_fault, fields_fault, given_classes, is_native, is_unserved, members_fault, methods_fault, unsupported_field, unsupported_method};
 
 use crate::walk::method_fault;
+use et_base::letters::{ARRAY, DOUBLE, FLOAT, VOID};
 use et_base::{Items, NoMemory, Units};
-use jvm_model::{ClassRec, FieldRec, MethodRec, Program};
-use std::alloc::Global;
-use type_frames::{
-    CheckFault, Checked, Frame, copy_units, given_frames, parameters, return_type, same_units,
+use jvm_model::{
+    BUILTIN_COUNT, CLINIT, ClassRec, FieldRec, MethodRec, Program, parameters, return_type,
 };
-
-/// The number of built-in classes, which stand first.
-const BUILTIN: usize = 32;
-
-/// The units of `<clinit>` and of types.
-const CLINIT: [u16; 8] = [60, 99, 108, 105, 110, 105, 116, 62];
-
-const BRACKET: u16 = 91;
-
-const D: u16 = 68;
-
-const F: u16 = 70;
-
-const V: u16 = 86;
+use std::alloc::Global;
+use type_frames::{CheckFault, Checked, Frame, given_frames};
 
 // The letter of the innermost element type of a type.
 fn element_letter(text: &[u16]) -> u16
     ensures { result ≡ descriptors.element_letter text.now }
 {
     for u in text {
-        if *u != BRACKET {
+        if *u != ARRAY {
             return *u;
         }
     }
-    V
+    VOID
 }
 
 fn is_float(text: &[u16]) -> bool
     ensures { result ≡ descriptors.is_float text.now }
 {
     let letter = element_letter(text);
-    letter == F || letter == D
+    letter == FLOAT || letter == DOUBLE
 }
 
 fn any_float(texts: &[Units]) -> bool
@@ -68,8 +55,8 @@ fn unsupported(alloc: Global, class: &[u16], member: &[u16]) -> Result<CheckFaul
     ensures { IfOk result (λ e. e ≡ faults.Unsupported class.now member.now) }
 {
     Ok(CheckFault::Unsupported {
-        class: copy_units(alloc, class)?,
-        member: copy_units(alloc, member)?,
+        class: Items::from_slice(alloc, class)?,
+        member: Items::from_slice(alloc, member)?,
     })
 }
 
@@ -90,11 +77,9 @@ fn unsupported_field(
 fn is_unserved(c: &ClassRec, m: &MethodRec) -> bool
     ensures { result ≡ is_unserved c.now m.now }
 {
-    let is_interface = c.flags / 0x0200 % 2 == 1;
-    let is_private = m.flags / 0x0002 % 2 == 1;
-    m.body.is_some()
-        && (is_interface
-            && (!same_units(m.name.as_slice(), &CLINIT) && (is_private || c.version < 52)))
+    m.has_code()
+        && (c.is_interface()
+            && (m.name.as_slice() != CLINIT.as_slice() && (m.is_private() || c.version < 52)))
 }
 
 fn is_native(m: &MethodRec) -> bool
@@ -116,7 +101,7 @@ fn unsupported_method(
     Ok(None)
 }
 
-// The same of a field by its number.
+// The fault of the field of a number, if it has one; of a member in the two functions after it.
 fn field_fault(
     alloc: Global,
     p: &Program,
@@ -125,7 +110,7 @@ fn field_fault(
 ) -> Result<Option<CheckFault>, NoMemory>
     ensures { IfOk result (λ o. o ≡ unsupported_field c.now (classes.field_at p.now field)) }
 {
-    match p.fields.as_slice().get(field as usize) {
+    match p.field(field) {
         None => Ok(None),
         Some(x) => unsupported_field(alloc, c, x),
     }
@@ -140,7 +125,7 @@ fn member_fault(
 ) -> Result<Option<CheckFault>, NoMemory>
     ensures { IfOk result (λ o. o ≡ unsupported_method c.now (classes.method_at p.now method)) }
 {
-    match p.methods.as_slice().get(method as usize) {
+    match p.method(method) {
         None => Ok(None),
         Some(m) => unsupported_method(alloc, c, m),
     }
@@ -154,9 +139,10 @@ fn numbered_fault(
     number: u32,
     method: u32,
 ) -> Result<Option<CheckFault>, NoMemory>
-    ensures { IfOk result (λ o. o ≡ typing.method_fault p.now name.now number (classes.method_at p.now method)) }
+    ensures { IfOk result (λ o.
+        o ≡ typing.method_fault p.now name.now number (classes.method_at p.now method)) }
 {
-    match p.methods.as_slice().get(method as usize) {
+    match p.method(method) {
         None => Ok(None),
         Some(m) => method_fault(alloc, p, name, number, m),
     }
@@ -220,10 +206,11 @@ fn given_classes(p: &Program) -> &[ClassRec]
     ensures { result.now ≡ given_classes p.now }
 {
     let classes = p.classes.as_slice();
-    if classes.len() < BUILTIN {
+    let builtin = BUILTIN_COUNT as usize;
+    if classes.len() < builtin {
         return &[];
     }
-    let (_, given) = classes.split_at(BUILTIN);
+    let (_, given) = classes.split_at(builtin);
     given
 }
 

@@ -6,11 +6,11 @@ ghost use Rattle.jvm_model.specs.Descriptors.{return_type};
 ghost use Rattle.type_frames.specs.Descriptors.{types_of};
 
 use et_base::{Items, NoMemory};
-use jvm_model::{Body, Instr, MethodRec, Placed, Program};
+use jvm_model::{Body, Instr, MethodRec, Placed, Program, return_type};
 use std::alloc::Global;
 use std::marker::Model;
 use type_frames::{
-    Frame, Places, VType, code_places, entry_types, is_constructor, push_types, return_type, spread,
+    Frame, Places, VType, code_places, entry_types, is_constructor, push_types, spread,
 };
 
 /// A method with its given frames, and where its instructions, frames and targets are. Contracts see it as its

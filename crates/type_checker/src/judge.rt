@@ -10,10 +10,10 @@ use crate::context::{Context, given_at, is_target};
 use crate::rules::{is_entered, leads_on, rule_1, rule_2, rule_3, rule_5, rule_9, rule_10};
 use crate::shape::Shape;
 use crate::sides::sides;
-use et_base::NoMemory;
+use et_base::{Items, NoMemory};
 use jvm_model::{Placed, Program};
 use std::alloc::Global;
-use type_frames::{CheckFault, Sides, copy_units};
+use type_frames::{CheckFault, Sides};
 
 /// What the rules say of an instruction: the lowest one that it breaks, or the frame that goes on, if control does.
 #[derive(Drop)]
@@ -30,7 +30,7 @@ pub enum Turned {
     On { next: Option<Shape> },
 }
 
-/// The same, with the fault named.
+/// How the walk goes on, a broken rule or a missing frame as a fault that names class, method and place.
 #[derive(Drop)]
 pub enum Step {
     Faulty { fault: CheckFault },
@@ -146,19 +146,20 @@ fn named_step(
     running: Option<Shape>,
 ) -> Result<Step, NoMemory>
     requires { k < length e.now.body.code }
-    ensures { IfOk result (λ t. IsStep p.now e.now name.now method k x.now (taken_at e.now x.now.pc running) t) }
+    ensures { IfOk result (λ t.
+        IsStep p.now e.now name.now method k x.now (taken_at e.now x.now.pc running) t) }
 {
     match turned_at(alloc, p, e, k, x, running)? {
         Turned::NoFrame => Ok(Step::Faulty {
             fault: CheckFault::NoFrame {
-                class: copy_units(alloc, name)?,
+                class: Items::from_slice(alloc, name)?,
                 method,
                 pc: x.pc,
             },
         }),
         Turned::Broken { rule } => Ok(Step::Faulty {
             fault: CheckFault::Rule {
-                class: copy_units(alloc, name)?,
+                class: Items::from_slice(alloc, name)?,
                 method,
                 pc: x.pc,
                 rule,
@@ -179,7 +180,9 @@ pub fn step_at(
     running: Option<Shape>,
 ) -> Result<Step, NoMemory>
     requires { k < length e.now.body.code }
-    ensures { IfOk result (λ t. (x : Placed) → slice_get e.now.body.code k ≡ Some x → IsStep p.now e.now name.now method k x (taken_at e.now x.pc running) t) }
+    ensures { IfOk result (λ t.
+        (x : Placed) → slice_get e.now.body.code k ≡ Some x →
+        IsStep p.now e.now name.now method k x (taken_at e.now x.pc running) t) }
 {
     let x = &e.body.code.as_slice()[k];
     named_step(alloc, p, e, name, method, k, x, running)

@@ -11,29 +11,16 @@ ghost use Rattle.type_frames.specs.Descriptors.{kind_name, types_of};
 ghost use Rattle.type_frames.specs.Sides.{argument_needs, array_need, call_sides, element_type, init_sides, int_need, int_type, is_that, is_raw, is_start, is_unset, leaving, loaded, needs_of, new_sides, object_of, on_stack, owner_need, place_of, plain, put_field_sides, ref_sides, refs_sides, return_sides, return_typed, returns, special_need, special_sides, started, stored};
 
 use crate::build::{
-    OBJECT, argument_needs, field_class, field_descriptor, int_need, int_type, kind_name,
-    long_type, method_class, method_descriptor, method_name, number_need, objects_text, one_need,
+    argument_needs, int_need, int_type, kind_name, long_type, number_need, objects_text, one_need,
     one_type, place_of, plain, push_int, push_needs, result_types, text_types,
 };
 use crate::context::{Context, made_at};
 use crate::shape::Shape;
+use et_base::letters::{ARRAY, CHAR, CLASS, INT, LONG, SHORT};
 use et_base::{Items, NoMemory};
-use jvm_model::{Cell, Kind, Program, Sort};
+use jvm_model::{CLINIT, Cell, INIT, Kind, OBJECT, Program, Sort, THROWABLE};
 use std::alloc::Global;
-use type_frames::{
-    Need, Sides, Turn, VType, assignable, class_name, copy_type, copy_units, object_of, same,
-    same_units,
-};
-
-/// The class `java.lang.Throwable`.
-pub const THROWABLE: u32 = 7;
-
-/// The units of `<init>` and `<clinit>`.
-const INIT: [u16; 6] = [60, 105, 110, 105, 116, 62];
-
-const CLINIT: [u16; 8] = [60, 99, 108, 105, 110, 105, 116, 62];
-
-const L: u16 = 76;
+use type_frames::{Need, Sides, Turn, VType, assignable, class_name, copy_type, object_of, same};
 
 /// Whether a type is one of an uninitialised object.
 pub fn is_raw(t: &VType) -> bool
@@ -112,7 +99,7 @@ fn return_typed(
         ([VType::Int], Some(Sort::Int)) => Ok(returns(alloc, int_need(alloc)?, !early)),
         ([VType::Long], Some(Sort::Long)) => Ok(returns(alloc, number_need(alloc, true)?, !early)),
         ([VType::Object(name)], Some(Sort::Ref)) => {
-            let t = VType::Object(copy_units(alloc, name.as_slice())?);
+            let t = VType::Object(Items::from_slice(alloc, name.as_slice())?);
             Ok(returns(alloc, one_need(alloc, Need::Fits(t))?, !early))
         }
         (_, None) => Ok(returns(alloc, Items::new(alloc), false)),
@@ -134,12 +121,13 @@ pub fn give_back(
 }
 
 pub fn get_static(alloc: Global, p: &Program, field: u32) -> Result<Sides, NoMemory>
-    ensures { IfOk result (λ s. s ≡ plain [] (on_stack (types_of (field_at p.now field).descriptor))) }
+    ensures { IfOk result (λ s.
+        s ≡ plain [] (on_stack (types_of (field_at p.now field).descriptor))) }
 {
     Ok(plain(
         alloc,
         Items::new(alloc),
-        text_types(alloc, field_descriptor(p, field))?,
+        text_types(alloc, p.field_descriptor(field))?,
     ))
 }
 
@@ -147,7 +135,7 @@ pub fn put_static(alloc: Global, p: &Program, field: u32) -> Result<Sides, NoMem
     ensures { IfOk result (λ s. s ≡ plain (needs_of (field_at p.now field).descriptor) []) }
 {
     let mut takes = Items::new(alloc);
-    push_needs(alloc, &mut takes, field_descriptor(p, field))?;
+    push_needs(alloc, &mut takes, p.field_descriptor(field))?;
     Ok(plain(alloc, takes, Items::new(alloc)))
 }
 
@@ -159,10 +147,12 @@ fn object_need(alloc: Global, p: &Program, class: u32) -> Result<Need, NoMemory>
 }
 
 pub fn get_field(alloc: Global, p: &Program, named: u32, field: u32) -> Result<Sides, NoMemory>
-    ensures { IfOk result (λ s. s ≡ plain (wants.Fits (object_of p.now named) ∷ []) (on_stack (types_of (field_at p.now field).descriptor))) }
+    ensures { IfOk result (λ s.
+        s ≡ plain (wants.Fits (object_of p.now named) ∷ [])
+        (on_stack (types_of (field_at p.now field).descriptor))) }
 {
     let takes = one_need(alloc, object_need(alloc, p, named)?)?;
-    Ok(plain(alloc, takes, text_types(alloc, field_descriptor(p, field))?))
+    Ok(plain(alloc, takes, text_types(alloc, p.field_descriptor(field))?))
 }
 
 // The object of a putfield: also an uninitialised `this`, where the named and the declaring class are the current one.
@@ -176,7 +166,7 @@ fn owner_need(
 ) -> Result<Need, NoMemory>
     ensures { IfOk result (λ n. n ≡ owner_need p.now e.now named (field_at p.now field) t.now) }
 {
-    if same(t, &VType::UninitThis) && (named == e.class && field_class(p, field) == e.class) {
+    if same(t, &VType::UninitThis) && (named == e.class && p.field_class(field) == e.class) {
         return Ok(Need::Fits(VType::UninitThis));
     }
     object_need(alloc, p, named)
@@ -190,10 +180,11 @@ pub fn put_field(
     named: u32,
     field: u32,
 ) -> Result<Sides, NoMemory>
-    ensures { IfOk result (λ s. s ≡ put_field_sides p.now e.now f.now named (field_at p.now field)) }
+    ensures { IfOk result (λ s.
+        s ≡ put_field_sides p.now e.now f.now named (field_at p.now field)) }
 {
     let mut takes = Items::new(alloc);
-    push_needs(alloc, &mut takes, field_descriptor(p, field))?;
+    push_needs(alloc, &mut takes, p.field_descriptor(field))?;
     let t = place_of(alloc, f, takes.len())?;
     takes.push(owner_need(alloc, p, e, named, field, &t)?)?;
     Ok(plain(alloc, takes, Items::new(alloc)))
@@ -203,17 +194,17 @@ pub fn put_field(
 fn call(alloc: Global, p: &Program, method: u32, receiver: Option<Need>) -> Result<Sides, NoMemory>
     ensures { IfOk result (λ s. s ≡ call_sides (method_at p.now method) (option_to_list receiver)) }
 {
-    let mut takes = argument_needs(alloc, method_descriptor(p, method))?;
+    let mut takes = argument_needs(alloc, p.method_descriptor(method))?;
     if let Some(need) = receiver {
         takes.push(need)?;
     }
     let mut s = plain(
         alloc,
         takes,
-        result_types(alloc, method_descriptor(p, method))?,
+        result_types(alloc, p.method_descriptor(method))?,
     );
-    let name = method_name(p, method);
-    s.calls_well = !(same_units(name, &CLINIT) || same_units(name, &INIT));
+    let name = p.method_name(method);
+    s.calls_well = !(name == CLINIT.as_slice() || name == INIT.as_slice());
     Ok(s)
 }
 
@@ -229,7 +220,9 @@ pub fn call_virtual(
     named: &Kind,
     method: u32,
 ) -> Result<Sides, NoMemory>
-    ensures { IfOk result (λ s. s ≡ call_sides (method_at p.now method) (wants.Fits (types.Object (kind_name p.now named.now)) ∷ [])) }
+    ensures { IfOk result (λ s.
+        s ≡ call_sides (method_at p.now method)
+        (wants.Fits (types.Object (kind_name p.now named.now)) ∷ [])) }
 {
     let need = Need::Fits(VType::Object(kind_name(alloc, p, named)?));
     call(alloc, p, method, Some(need))
@@ -241,7 +234,8 @@ pub fn call_interface(
     named: u32,
     method: u32,
 ) -> Result<Sides, NoMemory>
-    ensures { IfOk result (λ s. s ≡ call_sides (method_at p.now method) (wants.Fits (object_of p.now named) ∷ [])) }
+    ensures { IfOk result (λ s.
+        s ≡ call_sides (method_at p.now method) (wants.Fits (object_of p.now named) ∷ [])) }
 {
     let need = object_need(alloc, p, named)?;
     call(alloc, p, method, Some(need))
@@ -262,12 +256,9 @@ fn special_need(alloc: Global, p: &Program, e: &Context, named: &Kind) -> Result
 fn is_superclass(p: &Program, e: &Context, class: u32) -> bool
     ensures { result ≡ is_that class (class_at p.now e.now.class).superclass }
 {
-    match p.classes.as_slice().get(e.class as usize) {
+    match p.superclass(e.class) {
         None => false,
-        Some(c) => match c.superclass {
-            None => false,
-            Some(d) => class == d,
-        },
+        Some(d) => class == d,
     }
 }
 
@@ -301,17 +292,19 @@ fn started(
 }
 
 fn init(alloc: Global, p: &Program, e: &Context, f: &Shape, method: u32) -> Result<Sides, NoMemory>
-    ensures { IfOk result (λ s. s ≡ init_sides p.now e.now f.now (method_at p.now method) (place_of f.now (length (argument_needs (method_at p.now method).descriptor)))) }
+    ensures { IfOk result (λ s.
+        s ≡ init_sides p.now e.now f.now (method_at p.now method)
+        (place_of f.now (length (argument_needs (method_at p.now method).descriptor)))) }
 {
-    let mut takes = argument_needs(alloc, method_descriptor(p, method))?;
+    let mut takes = argument_needs(alloc, p.method_descriptor(method))?;
     let t = place_of(alloc, f, takes.len())?;
     takes.push(Need::Raw)?;
     let mut s = plain(
         alloc,
         takes,
-        result_types(alloc, method_descriptor(p, method))?,
+        result_types(alloc, p.method_descriptor(method))?,
     );
-    let class = method_class(p, method);
+    let class = p.method_class(method);
     s.starts_well = is_start(p, e, class, &t);
     let to = started(alloc, p, e, class, &t)?;
     s.turn = Turn::All { from: t, to };
@@ -326,9 +319,10 @@ pub fn call_special(
     named: &Kind,
     method: u32,
 ) -> Result<Sides, NoMemory>
-    ensures { IfOk result (λ s. s ≡ special_sides p.now e.now f.now named.now (method_at p.now method)) }
+    ensures { IfOk result (λ s.
+        s ≡ special_sides p.now e.now f.now named.now (method_at p.now method)) }
 {
-    if same_units(method_name(p, method), &INIT) {
+    if p.method_name(method) == INIT.as_slice() {
         return init(alloc, p, e, f, method);
     }
     let need = special_need(alloc, p, e, named)?;
@@ -378,12 +372,12 @@ fn array_need(alloc: Global, p: &Program, of: &Cell) -> Result<Need, NoMemory>
     ensures { IfOk result (λ n. n ≡ array_need p.now of.now) }
 {
     match of {
-        Cell::Int => Ok(Need::Fits(VType::Object(copy_units(alloc, &[91, 73])?))),
-        Cell::Long => Ok(Need::Fits(VType::Object(copy_units(alloc, &[91, 74])?))),
+        Cell::Int => Ok(Need::Fits(VType::Object(Items::from_slice(alloc, &[ARRAY, INT])?))),
+        Cell::Long => Ok(Need::Fits(VType::Object(Items::from_slice(alloc, &[ARRAY, LONG])?))),
         Cell::Ref => Ok(Need::Fits(VType::Object(objects_text(alloc, p)?))),
         Cell::Byte => Ok(Need::Small),
-        Cell::Char => Ok(Need::Fits(VType::Object(copy_units(alloc, &[91, 67])?))),
-        Cell::Short => Ok(Need::Fits(VType::Object(copy_units(alloc, &[91, 83])?))),
+        Cell::Char => Ok(Need::Fits(VType::Object(Items::from_slice(alloc, &[ARRAY, CHAR])?))),
+        Cell::Short => Ok(Need::Fits(VType::Object(Items::from_slice(alloc, &[ARRAY, SHORT])?))),
     }
 }
 
@@ -396,10 +390,10 @@ fn element_of(alloc: Global, name: &[u16]) -> Result<VType, NoMemory>
         [_, rest @ ..] => match rest {
             [] => Ok(VType::Top),
             [w, ws @ ..] => {
-                if *w == L {
-                    return Ok(VType::Object(copy_units(alloc, class_name(ws))?));
+                if *w == CLASS {
+                    return Ok(VType::Object(Items::from_slice(alloc, class_name(ws))?));
                 }
-                Ok(VType::Object(copy_units(alloc, rest)?))
+                Ok(VType::Object(Items::from_slice(alloc, rest)?))
             }
         },
     }
@@ -440,7 +434,8 @@ fn stored(alloc: Global, p: &Program, of: &Cell) -> Result<Items<Need>, NoMemory
 }
 
 pub fn array_load(alloc: Global, p: &Program, f: &Shape, of: &Cell) -> Result<Sides, NoMemory>
-    ensures { IfOk result (λ s. s ≡ plain (wants.Fits types.Int ∷ array_need p.now of.now ∷ []) (loaded f.now of.now)) }
+    ensures { IfOk result (λ s.
+        s ≡ plain (wants.Fits types.Int ∷ array_need p.now of.now ∷ []) (loaded f.now of.now)) }
 {
     let mut takes = int_need(alloc)?;
     takes.push(array_need(alloc, p, of)?)?;
@@ -448,7 +443,8 @@ pub fn array_load(alloc: Global, p: &Program, f: &Shape, of: &Cell) -> Result<Si
 }
 
 pub fn array_store(alloc: Global, p: &Program, of: &Cell) -> Result<Sides, NoMemory>
-    ensures { IfOk result (λ s. s ≡ plain (stored p.now of.now ++ (wants.Fits types.Int ∷ array_need p.now of.now ∷ [])) []) }
+    ensures { IfOk result (λ s.
+        s ≡ plain (stored p.now of.now ++ (wants.Fits types.Int ∷ array_need p.now of.now ∷ [])) []) }
 {
     let mut takes = stored(alloc, p, of)?;
     push_int(&mut takes)?;
@@ -474,7 +470,9 @@ fn int_needs(alloc: Global, count: u8) -> Result<Items<Need>, NoMemory>
 }
 
 pub fn new_arrays(alloc: Global, p: &Program, kind: &Kind, dims: u8) -> Result<Sides, NoMemory>
-    ensures { IfOk result (λ s. s ≡ plain (replicate dims (wants.Fits types.Int)) (types.Object (kind_name p.now kind.now) ∷ [])) }
+    ensures { IfOk result (λ s.
+        s ≡ plain (replicate dims (wants.Fits types.Int))
+        (types.Object (kind_name p.now kind.now) ∷ [])) }
 {
     let gives = one_type(alloc, VType::Object(kind_name(alloc, p, kind)?))?;
     Ok(plain(alloc, int_needs(alloc, dims)?, gives))
@@ -494,7 +492,9 @@ pub fn throw(alloc: Global, p: &Program) -> Result<Sides, NoMemory>
 }
 
 pub fn cast(alloc: Global, p: &Program, kind: &Kind) -> Result<Sides, NoMemory>
-    ensures { IfOk result (λ s. s ≡ plain (wants.Fits (object_of p.now 0) ∷ []) (types.Object (kind_name p.now kind.now) ∷ [])) }
+    ensures { IfOk result (λ s.
+        s ≡ plain (wants.Fits (object_of p.now 0) ∷ [])
+        (types.Object (kind_name p.now kind.now) ∷ [])) }
 {
     let takes = one_need(alloc, object_need(alloc, p, OBJECT)?)?;
     let gives = one_type(alloc, VType::Object(kind_name(alloc, p, kind)?))?;

@@ -11,12 +11,9 @@ use crate::build::{
 };
 use crate::shape::Shape;
 use et_base::{Items, NoMemory};
-use jvm_model::{Conv, Op, Program, Sort, Value};
+use jvm_model::{Conv, Op, Program, STRING, Sort, Value};
 use std::alloc::Global;
 use type_frames::{Need, Reading, Setting, Sides, VType, copy_type, object_of};
-
-/// The class `java.lang.String`.
-const STRING: u32 = 1;
 
 pub fn pop(alloc: Global) -> Result<Sides, NoMemory>
     ensures { IfOk result (λ s. s ≡ plain (wants.One ∷ []) []) }
@@ -51,7 +48,8 @@ pub fn dup_x1(alloc: Global, f: &Shape) -> Result<Sides, NoMemory>
 }
 
 pub fn dup_x2(alloc: Global, f: &Shape) -> Result<Sides, NoMemory>
-    ensures { IfOk result (λ s. s ≡ dup_x2_sides (place_of f.now 0) (place_of f.now 1) (place_of f.now 2)) }
+    ensures { IfOk result (λ s.
+        s ≡ dup_x2_sides (place_of f.now 0) (place_of f.now 1) (place_of f.now 2)) }
 {
     let mut takes = one_need(alloc, Need::One)?;
     push_two(&mut takes, is_half(alloc, f, 1)?)?;
@@ -67,7 +65,8 @@ pub fn dup2(alloc: Global, f: &Shape) -> Result<Sides, NoMemory>
 }
 
 pub fn dup2_x1(alloc: Global, f: &Shape) -> Result<Sides, NoMemory>
-    ensures { IfOk result (λ s. s ≡ dup2_x1_sides (place_of f.now 0) (place_of f.now 1) (place_of f.now 2)) }
+    ensures { IfOk result (λ s.
+        s ≡ dup2_x1_sides (place_of f.now 0) (place_of f.now 1) (place_of f.now 2)) }
 {
     let mut takes = Items::new(alloc);
     push_two(&mut takes, is_half(alloc, f, 0)?)?;
@@ -76,7 +75,8 @@ pub fn dup2_x1(alloc: Global, f: &Shape) -> Result<Sides, NoMemory>
 }
 
 pub fn dup2_x2(alloc: Global, f: &Shape) -> Result<Sides, NoMemory>
-    ensures { IfOk result (λ s. s ≡ dup2_x2_sides (place_of f.now 0) (place_of f.now 1) (place_of f.now 2) (place_of f.now 3)) }
+    ensures { IfOk result (λ s.
+        s ≡ dup2_x2_sides (place_of f.now 0) (place_of f.now 1) (place_of f.now 2) (place_of f.now 3)) }
 {
     let mut takes = Items::new(alloc);
     push_two(&mut takes, is_half(alloc, f, 0)?)?;
@@ -118,7 +118,8 @@ fn second_need(alloc: Global, op: &Op, wide: bool) -> Result<Items<Need>, NoMemo
 }
 
 pub fn binary(alloc: Global, op: &Op, wide: bool) -> Result<Sides, NoMemory>
-    ensures { IfOk result (λ s. s ≡ plain (second_need op.now wide ++ number_need wide) (number_type wide)) }
+    ensures { IfOk result (λ s.
+        s ≡ plain (second_need op.now wide ++ number_need wide) (number_type wide)) }
 {
     let mut takes = second_need(alloc, op, wide)?;
     push_number(&mut takes, wide)?;
@@ -192,7 +193,9 @@ fn local_of(alloc: Global, f: &Shape, n: u16) -> Result<VType, NoMemory>
 }
 
 fn load_long(alloc: Global, local: u16) -> Result<Sides, NoMemory>
-    ensures { IfOk result (λ s. s ≡ record (plain [] long_type) { reads = reading local (wants.Fits types.Long) ∷ reading (local + 1) wants.Half ∷ [] }) }
+    ensures { IfOk result (λ s.
+        s ≡ record (plain [] long_type)
+        { reads = reading local (wants.Fits types.Long) ∷ reading (local + 1) wants.Half ∷ [] }) }
 {
     let mut s = plain(alloc, Items::new(alloc), long_type(alloc)?);
     s.reads.push(Reading {
@@ -222,7 +225,9 @@ pub fn load(alloc: Global, f: &Shape, of: &Sort, local: u16) -> Result<Sides, No
 }
 
 fn store_long(alloc: Global, local: u16) -> Result<Sides, NoMemory>
-    ensures { IfOk result (λ s. s ≡ record (plain long_need []) { sets = setting (local + 1) types.Top ∷ setting local types.Long ∷ [] }) }
+    ensures { IfOk result (λ s.
+        s ≡ record (plain long_need [])
+        { sets = setting (local + 1) types.Top ∷ setting local types.Long ∷ [] }) }
 {
     let mut s = plain(alloc, number_need(alloc, true)?, Items::new(alloc));
     s.sets.push(Setting {

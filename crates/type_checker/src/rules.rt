@@ -10,16 +10,15 @@ ghost use Rattle.type_frames.specs.Rules as rules;
 
 use crate::after::opening;
 use crate::context::{Context, given_at, made_at};
-use crate::members::{THROWABLE, is_raw};
+use crate::members::is_raw;
 use crate::shape::Shape;
 use et_base::NoMemory;
-use jvm_model::{Handler, Instr, Placed, Program};
+use et_base::letters::{ARRAY, BOOLEAN, BYTE};
+use jvm_model::{Handler, Instr, Placed, Program, THROWABLE};
 use std::alloc::Global;
 use type_frames::{
     Frame, Need, Reading, Setting, Sides, VType, assignable, object_assignable, same,
 };
-
-const BRACKET: u16 = 91;
 
 fn is_ref(t: &VType) -> bool
     ensures { result ≡ rules.is_ref t.now }
@@ -43,7 +42,7 @@ fn is_small_name(name: &[u16]) -> bool
     ensures { result ≡ rules.is_small (types.Object name.now) }
 {
     match name {
-        [u, w] => *u == BRACKET && (*w == 66 || *w == 90),
+        [u, w] => *u == ARRAY && (*w == BYTE || *w == BOOLEAN),
         _ => false,
     }
 }
@@ -65,7 +64,7 @@ fn is_array(t: &VType) -> bool
         VType::Null => true,
         VType::Object(name) => match name.as_slice().first() {
             None => false,
-            Some(u) => *u == BRACKET,
+            Some(u) => *u == ARRAY,
         },
         _ => false,
     }
@@ -255,10 +254,7 @@ fn caught(h: &Handler) -> u32
 fn caught_name<'a>(p: &'a Program, h: &Handler) -> &'a [u16]
     ensures { result.now ≡ name_of p.now (rules.caught h.now) }
 {
-    match p.classes.as_slice().get(caught(h) as usize) {
-        None => &[],
-        Some(c) => c.name.as_slice(),
-    }
+    p.class_name(caught(h))
 }
 
 fn handles(p: &Program, e: &Context, pc: u32, f: &Shape, h: &Handler) -> bool
@@ -330,7 +326,9 @@ fn fits_next(p: &Program, e: &Context, g: &Shape, k: usize) -> bool
 /// The part of rule 4 on what comes after: what stands then, g, is assignable to what is given where control goes.
 pub fn leads_on(p: &Program, e: &Context, k: usize, x: &Placed, g: &Shape, falls: bool) -> bool
     requires { k < length e.now.body.code }
-    ensures { result ≡ (rules.fits_targets p.now e.now g.now (leads x.now.form) && (not falls || rules.fits_next p.now e.now g.now (slice_get e.now.body.code (k + 1)))) }
+    ensures { result ≡
+        (rules.fits_targets p.now e.now g.now (leads x.now.form) &&
+        (not falls || rules.fits_next p.now e.now g.now (slice_get e.now.body.code (k + 1)))) }
 {
     fits_leads(p, e, g, &x.form) && (!falls || fits_next(p, e, g, k))
 }

@@ -9,7 +9,7 @@ use crate::judge::{Step, step_at};
 use et_base::{Items, NoMemory};
 use jvm_model::{MethodRec, Program};
 use std::alloc::Global;
-use type_frames::{CheckFault, copy_units, given_frames};
+use type_frames::{CheckFault, given_frames};
 
 fn code_length(e: &Context) -> usize
     ensures { result ≡ length e.now.body.code }
@@ -53,7 +53,7 @@ pub fn method_fault(
         return Ok(None);
     };
     let Some(given) = given_frames(alloc, p, m)? else {
-        let class = copy_units(alloc, name)?;
+        let class = Items::from_slice(alloc, name)?;
         return Ok(Some(CheckFault::Rule {
             class,
             method,

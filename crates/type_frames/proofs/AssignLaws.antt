@@ -3,6 +3,7 @@
 use Rattle.std.proofs.Common.{◌≡◌, ◌⊎◌, ℕ, suc, ◌<◌, List, [], ◌∷◌, length, drop, Bool, true, false, not, ◌&&◌, ◌||◌, nat_eq, cond, ltb, refl, sym, ◌∙◌, ap, subst, inl, inr, arith, Option, Some, None}
 use Rattle.std.specs.Prelude.{position, option_and_then, nat_le, nat_lt}
 use Rattle.std.specs.List.{list_all, list_any}
+use Rattle.std.specs.Str.{bytes_eq}
 use Rattle.std.proofs.lemmas.Bool.{and_parts, and_from, or_cases, or_left, or_right, cases_lt, eqb-true, eq-eqb, false_from_ne_true, lt-ltb}
 use Rattle.std.proofs.lemmas.Iterator.Adapters.{position_from-zero}
 use Rattle.std.proofs.lemmas.List.Quantifiers.{position-Some}
@@ -11,7 +12,6 @@ use Rattle.std.proofs.lemmas.List.Sums.{position_or_len_is}
 use Rattle.et_base.specs.Names.{is_plain, is_unqualified, parts_of, grown, is_class_name, after_element, after_type, ends, is_field_descriptor, is_class_entry_name}
 use Rattle.jvm_model.specs.declared.program.Program.{Program}
 use Rattle.jvm_model.specs.declared.program.ClassRec.{ClassRec}
-use Rattle.jvm_model.specs.World.{same_units}
 use Rattle.jvm_model.specs.Builtin.{builtin_count, object_class}
 use Rattle.jvm_model.specs.Library.{builtin_classes, builtin_defs}
 use Rattle.jvm_model.specs.Classes.{class_at, no_class, is_interface, is_below, upwards, member}
@@ -32,7 +32,7 @@ is_bracket u = nat_eq u 91
 
 class_itself : (p : Program) (a : List ℕ) → class_fits p a a ≡ true
 unfolding class_fits
-class_itself p a = or_left (same_units a a) (takes_any p a || extends p a a) (units_refl a)
+class_itself p a = or_left (bytes_eq a a) (takes_any p a || extends p a a) (units_refl a)
 
 -- brackets alone name no type
 pub element_itself : (p : Program) (a : List ℕ) → list_any (λ u. not (is_bracket u)) a ≡ true → element_fits p a a ≡ true
@@ -90,7 +90,7 @@ module _ (p : Program) (l : Linked p) where
   -- the number of a name names a class
   named_is : (a : List ℕ) (c : ℕ) → class_named p a ≡ Some c → IsClass p c
   named_is a c e =
-      let test : ClassRec → Bool = λ x. same_units x.name a in
+      let test : ClassRec → Bool = λ x. bytes_eq x.name a in
       (position-Some test p.classes c no_class (position_from-zero test p.classes ∙ e)).0
 
   -- what stands above Object and above an interface
@@ -163,7 +163,7 @@ module _ (p : Program) (l : Linked p) where
 
   takes_fits : (b c : List ℕ) → takes_any p b ≡ true → class_fits p b c ≡ true → takes_any p c ≡ true
   unfolding class_fits
-  takes_fits b c t e = elim (or_cases (same_units b c) (takes_any p c || extends p b c) e) [
+  takes_fits b c t e = elim (or_cases (bytes_eq b c) (takes_any p c || extends p b c) e) [
     | inl q ↦ subst (λ x. takes_any p x ≡ true) (units_true b c q) t
     | inr q ↦ elim (or_cases (takes_any p c) (extends p b c) q) [
       | inl r ↦ r
@@ -173,23 +173,23 @@ module _ (p : Program) (l : Linked p) where
 
   takes_class : (a c : List ℕ) → takes_any p c ≡ true → class_fits p a c ≡ true
   unfolding class_fits
-  takes_class a c t = or_right (same_units a c) (takes_any p c || extends p a c) (or_left (takes_any p c) (extends p a c) t)
+  takes_class a c t = or_right (bytes_eq a c) (takes_any p c || extends p a c) (or_left (takes_any p c) (extends p a c) t)
 
   class_trans : (a b c : List ℕ) → class_fits p a b ≡ true → class_fits p b c ≡ true → class_fits p a c ≡ true
   unfolding class_fits
-  class_trans a b c e f = elim (or_cases (same_units a b) (takes_any p b || extends p a b) e) [
+  class_trans a b c e f = elim (or_cases (bytes_eq a b) (takes_any p b || extends p a b) e) [
     | inl q ↦ subst (λ x. class_fits p x c ≡ true) (sym (units_true a b q)) f
     | inr q ↦ elim (or_cases (takes_any p b) (extends p a b) q) [
       | inl r ↦ takes_class a c (takes_fits b c r f)
-      | inr r ↦ below r (or_cases (same_units b c) (takes_any p c || extends p b c) f)
+      | inr r ↦ below r (or_cases (bytes_eq b c) (takes_any p c || extends p b c) f)
     ]
   ]
     where
-      below : extends p a b ≡ true → (same_units b c ≡ true) ⊎ ((takes_any p c || extends p b c) ≡ true) → class_fits p a c ≡ true
+      below : extends p a b ≡ true → (bytes_eq b c ≡ true) ⊎ ((takes_any p c || extends p b c) ≡ true) → class_fits p a c ≡ true
       below r (inl s) = subst (λ x. class_fits p a x ≡ true) (units_true b c s) e
       below r (inr s) = elim (or_cases (takes_any p c) (extends p b c) s) [
         | inl t ↦ takes_class a c t
-        | inr t ↦ or_right (same_units a c) (takes_any p c || extends p a c) (or_right (takes_any p c) (extends p a c) (extends_trans a b c r t))
+        | inr t ↦ or_right (bytes_eq a c) (takes_any p c || extends p a c) (or_right (takes_any p c) (extends p a c) (extends_trans a b c r t))
       ]
 
   -- how an element type stands for another, by their first units
@@ -277,7 +277,7 @@ module _ (p : Program) (l : Linked p) where
 
   first_named : (c : ℕ) → IsClass p c → class_named p (name_of p c) ≡ Some c
   first_named c h =
-      let test : ClassRec → Bool = λ x. same_units x.name (name_of p c) in
+      let test : ClassRec → Bool = λ x. bytes_eq x.name (name_of p c) in
       let before : (k : ℕ) → k < c → test (class_at p k) ≡ false =
       λ k g. false_from_ne_true (test (class_at p k)) (λ t. let q : k ≡ c = l.distinct.classes k c (omega arith) h (units_true (class_at p k).name (name_of p c) t) in omega arith) in
       let place = position_or_len_is test p.classes c no_class (omega arith) before (λ g. units_refl (name_of p c)) in

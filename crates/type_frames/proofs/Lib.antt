@@ -1,5 +1,6 @@
 pub mod Units
 pub mod PlaceLemmas
 pub mod MapLemmas
-pub mod ScanLemmas
 pub mod AssignLaws
+pub mod Started
+pub mod TypedExample

@@ -2,8 +2,8 @@
 -- program lacks counts as one below Object (this project's).
 use Rattle.std.specs.Prelude.{ℕ, List, [], ◌∷◌, drop, Bool, true, false, not, ◌&&◌, ◌||◌, nat_eq, Option, Some, None}
 use Rattle.std.specs.List.{position_from}
+use Rattle.std.specs.Str.{bytes_eq}
 use Rattle.jvm_model.specs.declared.program.Program.{Program}
-use Rattle.jvm_model.specs.World.{same_units}
 use Rattle.jvm_model.specs.Classes.{class_at, is_interface, is_below}
 use Rattle.jvm_model.specs.Builtin.{object_class}
 use Rattle.type_frames.specs.declared.vtype.VType.{VType}
@@ -12,7 +12,7 @@ use Rattle.type_frames.specs.Descriptors.{class_name}
 
 -- the number of the class of a name
 abbrev pub class_named : Program → List ℕ → Option ℕ
-class_named p name = position_from (λ c. same_units c.name name) 0 p.classes
+class_named p name = position_from (λ c. bytes_eq c.name name) 0 p.classes
 
 -- the class is Object or an interface, which take any reference
 unfoldable pub takes_any : Program → List ℕ → Bool
@@ -24,7 +24,7 @@ extends p a b = elim (class_named p a) [ None ↦ false | Some c ↦ elim (class
 
 -- of two classes by name
 unfoldable pub class_fits : Program → List ℕ → List ℕ → Bool
-class_fits p a b = same_units a b || (takes_any p b || extends p a b)
+class_fits p a b = bytes_eq a b || (takes_any p b || extends p a b)
 
 -- Of two element types of arrays, by descriptor: arrays of arrays go by their elements, an array is an Object and every
 -- interface, two classes go as classes do, and number types are the same.

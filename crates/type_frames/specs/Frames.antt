@@ -1,7 +1,7 @@
 -- Frames as the rules see them (JVMS 4.10.1.4).
 use Rattle.std.specs.Prelude.{ℕ, List, [], ◌∷◌, ◌++◌, length, reverse, replicate, Bool, true, false, nat_eq, ◌-◌, Option, slice_index_or, flat_map}
 use Rattle.std.specs.List.{position_from, list_any}
-use Rattle.jvm_model.specs.World.{same_units}
+use Rattle.std.specs.Str.{bytes_eq}
 use Rattle.type_frames.specs.declared.vtype.VType.{VType}
 use Rattle.type_frames.specs.declared.vtype.VType.TheVariants.{Top, Int, Long, Null, Object, UninitThis, Uninit}
 use Rattle.type_frames.specs.declared.vtype.Frame.{Frame}
@@ -18,7 +18,7 @@ same Top Top = true
 same Int Int = true
 same Long Long = true
 same Null Null = true
-same (Object a) (Object b) = same_units a b
+same (Object a) (Object b) = bytes_eq a b
 same UninitThis UninitThis = true
 same (Uninit a) (Uninit b) = nat_eq a b
 same _ _ = false

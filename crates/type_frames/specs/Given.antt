@@ -1,5 +1,6 @@
 -- The frames that a method's stack map gives (JVMS 4.7.4 and 4.10.1.5), or none where the map is malformed.
 use Rattle.std.specs.Prelude.{ℕ, List, [], ◌∷◌, ◌++◌, length, take, map, Bool, true, false, not, ◌&&◌, ◌||◌, nat_eq, nat_lt, nat_le, ◌+◌, ◌-◌, Option, Some, None, flat_map, is_some}
+use Rattle.std.specs.Str.{bytes_eq}
 use Rattle.jvm_model.specs.declared.program.Program.{Program}
 use Rattle.jvm_model.specs.declared.program.MethodRec.{MethodRec}
 use Rattle.jvm_model.specs.declared.program.Body.{Body}
@@ -7,7 +8,6 @@ use Rattle.jvm_model.specs.declared.program.Placed.{Placed}
 use Rattle.jvm_model.specs.declared.program.FrameRec.{FrameRec}
 use Rattle.jvm_model.specs.declared.program.TypeRec.{TypeRec}
 use Rattle.jvm_model.specs.declared.program.TypeRec.TheVariants as entry
-use Rattle.jvm_model.specs.World.{same_units}
 use Rattle.jvm_model.specs.Classes.{is_static, init_name}
 use Rattle.type_frames.specs.declared.vtype.VType.{VType}
 use Rattle.type_frames.specs.declared.vtype.VType.TheVariants.{Top, Int, Long, Null, Object, UninitThis, Uninit}
@@ -18,7 +18,7 @@ use Rattle.jvm_model.specs.Descriptors.{parameters}
 
 -- an instance method `<init>`; a static one is an ordinary method
 abbrev pub is_constructor : MethodRec → Bool
-is_constructor m = not (is_static m.flags) && same_units m.name init_name
+is_constructor m = not (is_static m.flags) && bytes_eq m.name init_name
 
 -- the type of `this`, if there is one
 abbrev pub this_types : Program → MethodRec → List VType

@@ -5,8 +5,8 @@ pub mod AssignLaws
 pub mod Given
 pub mod Places
 pub mod MapReading
-pub mod Scanning
 pub mod Environment
 pub mod Sides
 pub mod Rules
 pub mod Typing
+pub mod TypedState

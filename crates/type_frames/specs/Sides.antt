@@ -1,6 +1,7 @@
 -- What each instruction needs and leaves (JVMS 4.10.1.9): the table of the check.
 use Rattle.std.specs.Prelude.{ℕ, List, [], ◌∷◌, ◌++◌, length, reverse, replicate, Bool, true, false, not, ◌&&◌, ◌||◌, cond, nat_eq, ◌+◌, Option, Some, None, slice_index_or, flat_map}
 use Rattle.std.specs.List.{list_any}
+use Rattle.std.specs.Str.{bytes_eq}
 use Rattle.jvm_model.specs.declared.values.Value.{Value}
 use Rattle.jvm_model.specs.declared.values.Value.TheVariants as value
 use Rattle.jvm_model.specs.declared.values.Kind.{Kind}
@@ -17,7 +18,6 @@ use Rattle.jvm_model.specs.declared.instr.Op.{Op}
 use Rattle.jvm_model.specs.declared.instr.Op.TheVariants as op
 use Rattle.jvm_model.specs.declared.instr.Conv.{Conv}
 use Rattle.jvm_model.specs.declared.instr.Conv.TheVariants as conv
-use Rattle.jvm_model.specs.World.{same_units}
 use Rattle.jvm_model.specs.Classes.{class_at, field_at, method_at, init_name, clinit_name}
 use Rattle.jvm_model.specs.Descriptors.{parameters, return_type}
 use Rattle.jvm_model.specs.Builtin.{object_class, string_class, throwable_class}
@@ -217,7 +217,7 @@ result_types d = on_stack (types_of (return_type d))
 
 -- a call with these needs of its receiver; `<clinit>` and `<init>` aren't called so
 abbrev pub call_sides : MethodRec → List Need → Sides
-call_sides m receiver = record (plain (argument_needs m.descriptor ++ receiver) (result_types m.descriptor)) { calls_well = not (same_units m.name clinit_name || same_units m.name init_name) }
+call_sides m receiver = record (plain (argument_needs m.descriptor ++ receiver) (result_types m.descriptor)) { calls_well = not (bytes_eq m.name clinit_name || bytes_eq m.name init_name) }
 
 -- The receiver of invokespecial is of the current class, which is the named one or below it.
 abbrev pub special_need : Program → Environment → Kind → Need
@@ -243,7 +243,7 @@ abbrev pub init_sides : Program → Environment → Slots → MethodRec → VTyp
 init_sides p e f m t = record (plain (argument_needs m.descriptor ++ Raw ∷ []) (result_types m.descriptor)) { turn = All t (started p e m.class t); starts_well = is_start p e m.class t }
 
 abbrev pub special_sides : Program → Environment → Slots → Kind → MethodRec → Sides
-special_sides p e f named m = elim (same_units m.name init_name) [
+special_sides p e f named m = elim (bytes_eq m.name init_name) [
   | true ↦ init_sides p e f m (place_of f (length (argument_needs m.descriptor)))
   | false ↦ call_sides m (special_need p e named ∷ [])
 ]

@@ -1,12 +1,12 @@
 -- The frame before an instruction, what it is for a program to be typed, and its first fault.
 use Rattle.std.specs.Prelude.{ℕ, zero, suc, List, [], ◌∷◌, drop, map, Bool, true, not, ◌&&◌, ◌||◌, cond, nat_lt, Option, Some, None, slice_get, is_some, ◌≡◌, unwrap_or}
+use Rattle.std.specs.Str.{bytes_eq}
 use Rattle.jvm_model.specs.declared.program.Program.{Program}
 use Rattle.jvm_model.specs.declared.program.ClassRec.{ClassRec}
 use Rattle.jvm_model.specs.declared.program.FieldRec.{FieldRec}
 use Rattle.jvm_model.specs.declared.program.MethodRec.{MethodRec}
 use Rattle.jvm_model.specs.declared.program.Body.{Body}
 use Rattle.jvm_model.specs.declared.program.Placed.{Placed}
-use Rattle.jvm_model.specs.World.{same_units}
 use Rattle.jvm_model.specs.Classes.{field_at, method_at, is_private, is_interface, has_flag, clinit_name}
 use Rattle.jvm_model.specs.Builtin.{builtin_count}
 use Rattle.jvm_model.specs.Linked.{Linked}
@@ -74,7 +74,7 @@ is_native flags = has_flag 0x0100 flags
 
 -- an interface method with code, other than `<clinit>`, that is private or of a class file of version 50 or 51
 abbrev pub is_unserved : ClassRec → MethodRec → Bool
-is_unserved c m = is_some m.body && (is_interface c.flags && (not (same_units m.name clinit_name) && (is_private m.flags || nat_lt c.version 52)))
+is_unserved c m = is_some m.body && (is_interface c.flags && (not (bytes_eq m.name clinit_name) && (is_private m.flags || nat_lt c.version 52)))
 
 abbrev pub unsupported_field : ClassRec → FieldRec → Option CheckFault
 unsupported_field c x = cond (is_float x.descriptor) (Some (Unsupported c.name x.name)) None

@@ -1,29 +1,21 @@
 //! What may stand where a type is asked (JVMS 4.10.1.2).
 
 ghost use Rattle.std.specs.Prelude.{◌≡◌, Some, None};
-ghost use Rattle.jvm_model.specs.World.{same_units};
+ghost use Rattle.std.specs.Str.{bytes_eq};
 ghost use Rattle.jvm_model.specs.Classes as classes;
-ghost use Rattle.jvm_model.specs.Classes.{class_at, class_bound, is_below, member, upwards_in};
+ghost use Rattle.jvm_model.specs.Classes.{class_at};
 ghost use Rattle.type_frames.specs.Assign.{assignable, class_fits, class_named, element_fits, extends, is_array, object_fits, takes_any};
 ghost use Rattle.type_frames.specs.Frames.{same};
 ghost use Rattle.type_frames.specs.declared.vtype.VType.TheVariants as types;
 
 use crate::descriptors::class_name;
 use crate::vtype::VType;
-use jvm_model::Program;
-
-/// The class `java.lang.Object`.
-const OBJECT: usize = 0;
-
-/// The units of L and of an array's bracket.
-const L: u16 = 76;
-
-const BRACKET: u16 = 91;
+use et_base::letters::{ARRAY, CLASS};
+use jvm_model::{OBJECT, Program};
 
 /// Whether two names are one.
-#[tactic(auto, using(crate::proofs::Units::same_pointwise))]
 pub fn same_units(a: &[u16], b: &[u16]) -> bool
-    ensures { result ≡ same_units a.now b.now }
+    ensures { result ≡ bytes_eq a.now b.now }
 {
     a == b
 }
@@ -37,7 +29,7 @@ pub fn same(a: &VType, b: &VType) -> bool
         (VType::Int, VType::Int) => true,
         (VType::Long, VType::Long) => true,
         (VType::Null, VType::Null) => true,
-        (VType::Object(x), VType::Object(y)) => same_units(x.as_slice(), y.as_slice()),
+        (VType::Object(x), VType::Object(y)) => x.as_slice() == y.as_slice(),
         (VType::UninitThis, VType::UninitThis) => true,
         (VType::Uninit { pc: x }, VType::Uninit { pc: y }) => *x == *y,
         _ => false,
@@ -48,52 +40,7 @@ pub fn same(a: &VType, b: &VType) -> bool
 fn class_named(p: &Program, name: &[u16]) -> Option<usize>
     ensures { result ≡ class_named p.now name.now }
 {
-    p.classes
-        .as_slice()
-        .iter()
-        .position(|c| same_units(c.name.as_slice(), name))
-}
-
-// The number of the superclass of a class.
-fn superclass(p: &Program, class: usize) -> Option<u32>
-    ensures { result ≡ (class_at p.now class).superclass }
-{
-    match p.classes.as_slice().get(class) {
-        None => None,
-        Some(c) => c.superclass,
-    }
-}
-
-// A class is another one or below it, at most so many steps up.
-fn is_below_in(p: &Program, steps: u32, class: usize, above: usize) -> bool
-    ensures { result ≡ member above (upwards_in p.now steps class) }
-{
-    if steps == 0 {
-        return false;
-    }
-    if above == class {
-        return true;
-    }
-    match superclass(p, class) {
-        None => false,
-        Some(next) => is_below_in(p, steps - 1, next as usize, above),
-    }
-}
-
-// The length that no chain of superclasses passes.
-#[tactic(auto, unfolding(jvm_model::specs::Classes::class_bound))]
-fn class_bound() -> u32
-    ensures { result ≡ class_bound }
-{
-    1200
-}
-
-#[tactic(auto, unfolding(jvm_model::specs::Classes::is_below))]
-fn is_below(p: &Program, class: usize, above: usize) -> bool
-    ensures { result ≡ is_below p.now class above }
-{
-    let steps = class_bound();
-    is_below_in(p, steps, class, above)
+    p.classes.iter().position(|c| c.name.as_slice() == name)
 }
 
 // A class of the program is another one or below it.
@@ -105,18 +52,18 @@ fn extends(p: &Program, a: &[u16], b: &[u16]) -> bool
         None => false,
         Some(c) => match class_named(p, b) {
             None => false,
-            Some(d) => is_below(p, c, d),
+            Some(d) => p.is_place_below(c, d),
         },
     }
 }
 
-// Whether a class is an interface.
+// Whether the class at a place is an interface.
 fn is_interface(p: &Program, class: usize) -> bool
     ensures { result ≡ classes.is_interface (class_at p.now class).flags }
 {
     match p.classes.as_slice().get(class) {
         None => false,
-        Some(c) => c.flags / 0x0200 % 2 == 1,
+        Some(c) => c.is_interface(),
     }
 }
 
@@ -127,7 +74,7 @@ fn takes_any(p: &Program, b: &[u16]) -> bool
 {
     match class_named(p, b) {
         None => false,
-        Some(d) => d == OBJECT || is_interface(p, d),
+        Some(d) => d == OBJECT as usize || is_interface(p, d),
     }
 }
 
@@ -135,7 +82,7 @@ fn takes_any(p: &Program, b: &[u16]) -> bool
 fn class_fits(p: &Program, a: &[u16], b: &[u16]) -> bool
     ensures { result ≡ class_fits p.now a.now b.now }
 {
-    same_units(a, b) || (takes_any(p, b) || extends(p, a, b))
+    a == b || (takes_any(p, b) || extends(p, a, b))
 }
 
 fn element_fits(p: &Program, a: &[u16], b: &[u16]) -> bool
@@ -147,14 +94,14 @@ fn element_fits(p: &Program, a: &[u16], b: &[u16]) -> bool
     let Some((w, ws)) = b.split_first() else {
         return false;
     };
-    if *w == L {
-        if *u == L {
+    if *w == CLASS {
+        if *u == CLASS {
             return class_fits(p, class_name(us), class_name(ws));
         }
-        return *u == BRACKET && takes_any(p, class_name(ws));
+        return *u == ARRAY && takes_any(p, class_name(ws));
     }
-    if *w == BRACKET {
-        return *u == BRACKET && element_fits(p, us, ws);
+    if *w == ARRAY {
+        return *u == ARRAY && element_fits(p, us, ws);
     }
     *u == *w
 }
@@ -164,7 +111,7 @@ fn is_array(name: &[u16]) -> bool
 {
     match name.first() {
         None => false,
-        Some(u) => *u == BRACKET,
+        Some(u) => *u == ARRAY,
     }
 }
 

@@ -9,17 +9,14 @@ ghost use Rattle.type_frames.specs.Frames.{holds_this, padded, places_of, spread
 ghost use Rattle.type_frames.specs.Given.{all_types, appended, body_frames, chopped, entry_types, frame_at, frames_from, given_frames, is_constructor, locals_after, places, plain_type, this_types, type_of};
 ghost use Rattle.type_frames.specs.MapReading.{prefixed, IsTaken};
 
-use crate::assign::{same, same_units};
-use crate::descriptors::{copy_units, parameters, push_all_types};
+use crate::assign::same;
+use crate::descriptors::push_all_types;
 use crate::fault::FrameFault;
 use crate::places::Places;
 use crate::vtype::{Frame, VType};
 use et_base::{Items, NoMemory};
-use jvm_model::{Body, FrameRec, MethodRec, Placed, Program, TypeRec};
+use jvm_model::{Body, FrameRec, INIT, MethodRec, Placed, Program, TypeRec, parameters};
 use std::alloc::Global;
-
-/// The units of `<init>`.
-const INIT: [u16; 6] = [60, 105, 110, 105, 116, 62];
 
 /// The same type.
 pub fn copy_type(alloc: Global, t: &VType) -> Result<VType, NoMemory>
@@ -30,7 +27,7 @@ pub fn copy_type(alloc: Global, t: &VType) -> Result<VType, NoMemory>
         VType::Int => VType::Int,
         VType::Long => VType::Long,
         VType::Null => VType::Null,
-        VType::Object(name) => VType::Object(copy_units(alloc, name.as_slice())?),
+        VType::Object(name) => VType::Object(Items::from_slice(alloc, name.as_slice())?),
         VType::UninitThis => VType::UninitThis,
         VType::Uninit { pc } => VType::Uninit { pc: *pc },
     })
@@ -74,13 +71,7 @@ pub fn padded(places: Items<VType>, count: u16) -> Result<Items<VType>, NoMemory
 pub fn is_constructor(m: &MethodRec) -> bool
     ensures { result ≡ is_constructor m.now }
 {
-    !is_static(m) && same_units(m.name.as_slice(), &INIT)
-}
-
-fn is_static(m: &MethodRec) -> bool
-    ensures { result ≡ classes.is_static m.now.flags }
-{
-    m.flags / 0x0008 % 2 == 1
+    !m.is_static() && m.name.as_slice() == INIT.as_slice()
 }
 
 // The types that stand for `this`, if there is one.
@@ -88,7 +79,7 @@ fn this_types(alloc: Global, p: &Program, m: &MethodRec) -> Result<Items<VType>,
     ensures { IfOk result (λ ts. ts ≡ this_types p.now m.now) }
 {
     let mut types = Items::new(alloc);
-    if is_static(m) {
+    if m.is_static() {
         return Ok(types);
     }
     if is_constructor(m) {
@@ -103,10 +94,7 @@ fn this_types(alloc: Global, p: &Program, m: &MethodRec) -> Result<Items<VType>,
 pub fn object_of(alloc: Global, p: &Program, class: u32) -> Result<VType, NoMemory>
     ensures { IfOk result (λ t. t ≡ types.Object (classes.class_at p.now class).name) }
 {
-    match p.classes.as_slice().get(class as usize) {
-        None => Ok(VType::Object(Items::new(alloc))),
-        Some(c) => Ok(VType::Object(copy_units(alloc, c.name.as_slice())?)),
-    }
+    Ok(VType::Object(Items::from_slice(alloc, p.class_name(class))?))
 }
 
 /// The types with which a method is entered, a long as one (JVMS 4.10.1.6).
@@ -125,7 +113,10 @@ fn type_of(alloc: Global, t: &TypeRec) -> Result<Option<VType>, NoMemory>
 {
     match t {
         TypeRec::Plain { tag } => Ok(plain_type(*tag)),
-        TypeRec::Object { name } => Ok(Some(VType::Object(copy_units(alloc, name.as_slice())?))),
+        TypeRec::Object { name } => Ok(Some(VType::Object(Items::from_slice(
+            alloc,
+            name.as_slice(),
+        )?))),
         TypeRec::Uninit { pc } => Ok(Some(VType::Uninit { pc: u32::from(*pc) })),
     }
 }
@@ -367,10 +358,13 @@ pub fn given_frames(
 /// at no instruction, a chop or an append past the locals.
 #[tactic(auto, unfolding(crate::specs::Given::given_frames))]
 pub fn read_frames(alloc: Global, p: &Program, method: u32) -> Result<Items<Frame>, FrameFault>
-    ensures read { IfOk result (λ gs. given_frames p.now (classes.method_at p.now method) ≡ Some gs) }
-    ensures malformed { IfErr result (λ e. (pc : ℕ) → e ≡ faults.Rule8 pc → (pc ≡ 0) × (given_frames p.now (classes.method_at p.now method) ≡ None)) }
+    ensures read { IfOk result (λ gs.
+        given_frames p.now (classes.method_at p.now method) ≡ Some gs) }
+    ensures malformed { IfErr result (λ e.
+        (pc : ℕ) → e ≡ faults.Rule8 pc →
+        (pc ≡ 0) × (given_frames p.now (classes.method_at p.now method) ≡ None)) }
 {
-    let Some(m) = p.methods.as_slice().get(method as usize) else {
+    let Some(m) = p.method(method) else {
         return Ok(Items::new(alloc));
     };
     match given_frames(alloc, p, m)? {

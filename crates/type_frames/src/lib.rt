@@ -13,15 +13,13 @@ mod vtype;
 
 pub use assign::{assignable, object_assignable, same, same_units};
 pub use checked::Checked;
-pub use descriptors::{
-    class_name, copy_units, parameters, push_all_types, push_types, return_type,
-};
+pub use descriptors::{class_name, push_all_types, push_types};
 pub use fault::{CheckFault, FrameFault};
 pub use given::{
     code_places, copy_type, entry_types, given_frames, is_constructor, object_of, padded,
     read_frames, spread,
 };
-pub use laws::{itself_law, reference_law, transitive_law};
+pub use laws::{itself_law, reference_law, started_law, transitive_law};
 pub use places::Places;
 pub use sides::{Need, Reading, Setting, Sides, Turn};
 pub use vtype::{Frame, VType};

@@ -87,7 +87,8 @@ impl Places {
     /// The number itself, if it stands in the list.
     pub fn number_at(&self, number: u64) -> Option<u32>
         ensures none { IsNone result → index_of number self.now ≡ None }
-        ensures some { IfSome result (λ m. (m ≡ number) × (is_some (index_of number self.now) ≡ true)) }
+        ensures some { IfSome result (λ m.
+            (m ≡ number) × (is_some (index_of number self.now) ≡ true)) }
     {
         match self.find(number) {
             None => None,
