@@ -3,9 +3,12 @@ use Rattle.std.proofs.Common.{◌≡◌, ◌↔◌, ℕ, zero, suc, ◌<◌, Lis
 use Rattle.std.specs.Prelude.{codes}
 use Rattle.std.proofs.lemmas.Bool.{true≢false}
 use Rattle.jvm_model.specs.declared.outcome.Outcome.{Outcome}
+use Rattle.jvm_model.specs.declared.program.Program.{Program}
 use Rattle.jvm_model.specs.Suite.{is_detected, all_tests}
+use Rattle.jvm_model.specs.Linked.{Linked}
 use Rattle.jvm_model.proofs.ExampleParts.{passed, line}
 use Rattle.jvm_model.proofs.Examples.{counter_suite, return_suite}
+use Rattle.jvm_model.proofs.LinkedExample.{return_linked}
 use Rattle.order_law.specs.declared.edges.Edge.{Edge}
 use Rattle.order_law.specs.declared.edges.EdgeKind.{EdgeKind}
 use Rattle.order_law.specs.declared.edges.EdgeKind.TheVariants.{Raw, Waw, War}
@@ -258,3 +261,13 @@ return_history = ((0, [], refl, record { front = []; rest = []; split = refl; po
 return_complete : IsComplete one_chain (post 1 [] 1 (passed [] 3) ∷ claimed)
 return_complete zero t m = elim m [ inl e ↦ rw e (1, inl refl) | inr n ↦ absurd n ]
 return_complete (suc i) t m = absurd m
+
+record IsMet (p : Program) (C : List (List ℕ)) (es : List Event) : Type 0 where
+  linked : Linked p
+  detected : is_detected p ≡ true
+  lawful : Lawful (edges_of p) (all_tests p)
+  legal : Legal p C 1 es
+  complete : IsComplete C es
+
+premises_met : IsMet return_suite one_chain (post 1 [] 1 (passed [] 3) ∷ claimed)
+premises_met = record { linked = return_linked; detected = return_detected; lawful = return_lawful; legal = return_history; complete = return_complete }

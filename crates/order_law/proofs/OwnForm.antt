@@ -9,16 +9,19 @@ use Rattle.jvm_model.specs.declared.values.Touch.{Touch}
 use Rattle.jvm_model.specs.declared.program.Program.{Program}
 use Rattle.jvm_model.specs.World.{same}
 use Rattle.jvm_model.specs.Suite.{Given, runs, all_tests, seq, is_detected, suite_limit, within_limit, units_of, outcome_in, given_by_test}
-use Rattle.jvm_model.specs.Linked.{Linked}
+use Rattle.jvm_model.specs.declared.values.Kind.{Kind}
+use Rattle.jvm_model.specs.Builtin.{builtin_count}
+use Rattle.jvm_model.specs.State.{test_at}
+use Rattle.jvm_model.specs.Linked.{IsGiven, Linked}
 use Rattle.order_law.specs.declared.edges.Edge.{Edge}
 use Rattle.order_law.specs.declared.edges.EdgeKind.{EdgeKind}
 use Rattle.order_law.specs.declared.edges.EdgeKind.TheVariants.{Raw, Waw, War}
 use Rattle.order_law.specs.Conflicts.{Member}
 use Rattle.order_law.specs.Histories.{Touches, writes_in, exposed_in}
 use Rattle.order_law.specs.OwnRecord.{conflicts, first_places, places_in, conflict_places_in, edge_of, edges_between_in, edges_in}
-use Rattle.order_law.specs.RecordForm.{are_units, kind_number, edge_before, edges_ascend}
-use Rattle.order_law.specs.Reach.{units_in}
-use Rattle.order_law.specs.OwnForm.{UnitsLaw, IsCounted, OrderedLaw, CountedLaw}
+use Rattle.order_law.specs.RecordForm.{are_units, kind_number, edge_before, edges_ascend, numbers_ascend}
+use Rattle.order_law.specs.Reach.{units_in, ReachesIn, own, touched, mentioned}
+use Rattle.order_law.specs.OwnForm.{UnitsLaw, IsCounted, OrderedLaw, CountedLaw, ReachLaw}
 use Rattle.order_law.proofs.OwnRecord.{range_within}
 
 -- units
@@ -188,3 +191,33 @@ ordered_law p T by = ordered p T by
 
 pub counted_law : CountedLaw
 counted_law p T by e i = counted p T by e i
+
+-- reaches
+reached_given : (p : Program) (T : Touches) (kinds : ℕ → ℕ → Kind) (t : ℕ) {c : ℕ} → ReachesIn p T kinds t c → IsGiven p c
+reached_given p T kinds t (own g) = g
+reached_given p T kinds t (touched o m i g) = g
+reached_given p T kinds t (mentioned r m g) = g
+
+some_there : (x : ℕ) (xs : List ℕ) → Member x xs → 1 ≤ length xs
+some_there x [] i = absurd i
+some_there x (y ∷ xs) i = omega arith
+
+all_members : (g : ℕ → Bool) (xs : List ℕ) → ((x : ℕ) → Member x xs → g x ≡ true) → list_all g xs ≡ true
+all_members g [] h = refl
+all_members g (x ∷ xs) h = and_from (g x) (list_all g xs) (h x (inl refl)) (all_members g xs (λ y i. h y (inr i)))
+
+pub reach_law : ReachLaw
+reach_law p T kinds t r linked low reach =
+    let lo = low.0 in
+    let hi = low.1 in
+    let g : IsGiven p (test_at p t).class = (linked.tests (t - 1) _ (omega arith)).given in
+    let a = g.0 in
+    let e : (test_at p t).class - 31 + 31 ≡ (test_at p t).class = omega arith in
+    let i = (reach.classes ((test_at p t).class - 31)).1 (subst (λ (c : ℕ). ReachesIn p T kinds t c) (sym e) (own g)) in
+    let within = (λ (x : ℕ) (m : Member x r.classes).
+        let h = reached_given p T kinds t ((reach.classes x).0 m) in
+        let b = h.0 in
+        let c = h.1 in
+        and_from (nat_le 1 x) (nat_le x (length p.classes - builtin_count)) (le-leb 1 x (omega arith)) (le-leb x (length p.classes - builtin_count) (omega arith))) in
+    and_from (nat_le 1 (length r.classes)) _ (le-leb 1 (length r.classes) (some_there _ r.classes i))
+        (and_from (list_all (λ x. nat_le 1 x && nat_le x (length p.classes - builtin_count)) r.classes) (numbers_ascend r.classes) (all_members _ r.classes within) reach.ascending)

@@ -6,7 +6,7 @@ ghost use Rattle.order_law.specs.Histories.{LawOfOrder};
 ghost use Rattle.order_law.specs.Plan.{LawOfInterleavings, LawOfHistories, ChainsApart, FormsApart};
 ghost use Rattle.order_law.specs.OwnRecord.{OwnLaw, EdgesLaw};
 ghost use Rattle.order_law.specs.OrderFault.{LawOfFaults};
-ghost use Rattle.order_law.specs.OwnForm.{UnitsLaw, OrderedLaw, CountedLaw};
+ghost use Rattle.order_law.specs.OwnForm.{UnitsLaw, OrderedLaw, CountedLaw, ReachLaw};
 ghost use Rattle.order_law.specs.Walk.{WalkLaw};
 
 mod edges;
@@ -55,13 +55,14 @@ pub fn order_fault_law()
     ensures { LawOfFaults }
 {}
 
-/// What the record of a program keeps of a record's form: the units of a detected program's tests; and, of the edges of any
+/// What the record of a program keeps of a record's form: the units of a detected program's tests; of the edges of any
 /// touches, their order, the numbers of their tests, and that each counts one location at least and at most as many as the
-/// later test touches.
+/// later test touches; and the reach of a linked program's test.
 pub fn own_form_law()
     ensures units { UnitsLaw }
     ensures ordered { OrderedLaw }
     ensures counted { CountedLaw }
+    ensures reach { ReachLaw }
 {}
 
 /// The walk to an object. To each object that an earlier test made and of which a test touches something, the test came by

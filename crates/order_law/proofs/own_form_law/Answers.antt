@@ -1,4 +1,4 @@
-use Rattle.order_law.proofs.OwnForm.{units_law, ordered_law, counted_law}
+use Rattle.order_law.proofs.OwnForm.{units_law, ordered_law, counted_law, reach_law}
 use Rattle.order_law.proofs.own_form_law.Goals as goal
 
 pub returns-clause-units : goal.returns-clause-units
@@ -9,3 +9,6 @@ returns-clause-ordered c = ordered_law
 
 pub returns-clause-counted : goal.returns-clause-counted
 returns-clause-counted c = counted_law
+
+pub returns-clause-reach : goal.returns-clause-reach
+returns-clause-reach c = reach_law
