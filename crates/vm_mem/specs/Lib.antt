@@ -1,0 +1,5 @@
+pub mod Story
+pub mod Stores
+pub mod Kept
+pub mod Fields
+pub mod Noting

@@ -1,0 +1,158 @@
+ghost use Rattle.std.specs.Prelude.{◌≡◌, ◌∷◌, [], ◌++◌, map, filter, IfOk, OnOk};
+ghost use Rattle.jvm_model.specs.declared.values.Kind.TheVariants.{Class};
+ghost use Rattle.jvm_model.specs.Classes.{blank, fields_of, default_of, layout_in, upwards_in};
+ghost use Rattle.jvm_model.specs.Classes as classes;
+ghost use Rattle.jvm_model.specs.Linked.{Linked};
+ghost use Rattle.vm_mem.specs.Fields.{is_instance_field, opening_field};
+
+use crate::object::Object;
+use et_base::{Items, NoMemory};
+use jvm_model::{Base, Head, Kind, Program, Value, class_bound};
+use std::alloc::Global;
+use std::marker::Model;
+use std::snapshot::Snapshot;
+
+/// The fields of each class's instances with their default values, in the order of the layout. Contracts see the
+/// program.
+#[derive(Drop)]
+pub struct Layouts {
+    fields: Items<Items<(u32, Value)>>,
+    program: Snapshot<Program>,
+    alloc: Global,
+}
+
+impl Model for Layouts {
+    ghost use Rattle.std.specs.Prelude.{◌≡◌, ℕ, [], get_or};
+    ghost use Rattle.jvm_model.specs.declared.program.Program.{Program as Linked};
+    ghost use Rattle.jvm_model.specs.declared.values.Kind.TheVariants.{Class};
+    ghost use Rattle.jvm_model.specs.Classes.{fields_of};
+
+    ghost Value = { Linked };
+
+    ghost view = { λ x. x.program.value };
+
+    ghost invariant = { λ x. (c : ℕ) → get_or x.fields c [] ≡ fields_of x.program.value (Class c) };
+}
+
+impl Layouts {
+    /// The layouts of a linked program's classes.
+    pub fn of(alloc: Global, p: &Program) -> Result<Layouts, NoMemory>
+        requires { Linked p.now }
+        ensures { IfOk result (λ x. x ≡ p.now) }
+    {
+        let mut fields = Items::new(alloc);
+        for class in 0..p.classes.len() as u32 {
+            fields.push(layout(alloc, p, class)?)?;
+        }
+        Ok(Layouts {
+            fields,
+            program: Snapshot::of(p),
+            alloc,
+        })
+    }
+
+    /// The fields of a class's new instances by number, with their default values. It takes no memory.
+    pub fn fields(&self, class: u32) -> &[(u32, Value)]
+        ensures { result.now ≡ fields_of self.now (Class class) }
+    {
+        match self.fields.get(class as usize) {
+            Some(fields) => fields.as_slice(),
+            None => &[],
+        }
+    }
+
+    /// A new object of a head, with default cells and no text.
+    #[tactic(auto, unfolding(jvm_model::specs::Classes::blank))]
+    pub(crate) fn blank(&self, head: Head) -> Result<Object, NoMemory>
+        ensures { IfOk result (λ x. x ≡ blank self.now head) }
+    {
+        match head.kind {
+            Kind::Class(class) => {
+                let fields = Vec::from_slice(self.alloc, self.fields(class))?;
+                Ok(Object::new(self.alloc, head, fields, Vec::new(self.alloc)))
+            }
+            Kind::Array { dims, base } => {
+                let mut elems = Vec::new(self.alloc);
+                elems.resize(head.length as usize, element_default(dims, base))?;
+                Ok(Object::new(self.alloc, head, Vec::new(self.alloc), elems))
+            }
+        }
+    }
+}
+
+/// The fields of a class's instances with their default values.
+#[tactic(auto, unfolding(jvm_model::specs::Classes::layout))]
+fn layout(alloc: Global, p: &Program, class: u32) -> Result<Items<(u32, Value)>, NoMemory>
+    ensures { IfOk result (λ v. v ≡ fields_of p.now (Class class)) }
+{
+    let mut fields = Vec::new(alloc);
+    push_layout(p, class_bound(), class, &mut fields)?;
+    Ok(Items::from_vec(fields))
+}
+
+/// Appends the fields of a class's instances, of it and of at most so many classes with it from it upwards.
+fn push_layout(
+    p: &Program,
+    steps: u32,
+    class: u32,
+    fields: &mut Vec<(u32, Value)>,
+) -> Result<(), NoMemory>
+    ensures { OnOk result (fields.new.items ≡ fields.old.items ++ map (opening_field p.now) (layout_in p.now (upwards_in p.now steps class))) }
+{
+    if steps == 0 {
+        return Ok(());
+    }
+    match p.superclass(class) {
+        None => push_fields(p, p.class_fields(class), fields),
+        Some(above) => {
+            push_layout(p, steps - 1, above, fields)?;
+            push_fields(p, p.class_fields(class), fields)
+        }
+    }
+}
+
+/// Appends the instance fields among these.
+fn push_fields(p: &Program, own: &[u32], fields: &mut Vec<(u32, Value)>) -> Result<(), NoMemory>
+    ensures { OnOk result (fields.new.items ≡ fields.old.items ++ map (opening_field p.now) (filter (is_instance_field p.now) own.now)) }
+{
+    for field in own {
+        push_field(p, *field, fields)?;
+    }
+    Ok(())
+}
+
+/// Appends a field, unless it is static.
+fn push_field(p: &Program, field: u32, fields: &mut Vec<(u32, Value)>) -> Result<(), NoMemory>
+    ensures { OnOk result (fields.new.items ≡ fields.old.items ++ map (opening_field p.now) (filter (is_instance_field p.now) (field ∷ []))) }
+{
+    if p.is_static_field(field) {
+        return Ok(());
+    }
+    fields.push((field, default_value(p.field_descriptor(field))))?;
+    Ok(())
+}
+
+/// The default value of a type (JVMS 2.3 and 2.4).
+fn default_value(descriptor: &[u16]) -> Value
+    ensures { result ≡ default_of descriptor.now }
+{
+    match descriptor {
+        [66 | 67 | 73 | 83 | 90, ..] => Value::Int(0),
+        [74, ..] => Value::Long(0),
+        _ => Value::Null,
+    }
+}
+
+/// The default value of an array's elements (JVMS 2.3 and 2.4).
+pub fn element_default(dims: u8, base: Base) -> Value
+    ensures { result ≡ classes.element_default dims base }
+{
+    if dims != 1 {
+        return Value::Null;
+    }
+    match base {
+        Base::Boolean | Base::Byte | Base::Char | Base::Short | Base::Int => Value::Int(0),
+        Base::Long => Value::Long(0),
+        Base::Class(_) => Value::Null,
+    }
+}
