@@ -1,6 +1,7 @@
 -- Look-ups and changes of a map's entries, seen as names with their texts.
-use Rattle.std.proofs.Common.{◌≡◌, ℕ, Bool, cond, nat_eq, List, [], ◌∷◌, map, Option, None, Some, refl, sym, ap, ◌∙◌, true, false, Bor, MatchOption, option_copied}
+use Rattle.std.proofs.Common.{◌≡◌, ℕ, Bool, cond, nat_eq, List, [], ◌∷◌, map, Option, None, Some, is_some, ◌||◌, refl, sym, ap, ◌∙◌, true, false, Bor, MatchOption, option_copied}
 use Rattle.std.specs.Cmp.Lexicographic.{pointwise}
+use Rattle.std.specs.List.{list_any}
 use Rattle.std.specs.Map.{lookup}
 use Rattle.std.specs.Option.{option_flatten}
 use Rattle.std.specs.declared.vec.Vec.{Vec}
@@ -37,3 +38,12 @@ keep_named (x ∷ xs) k v =
 pub lent : {A : Type 0} (r : Option (Bor A)) (o p : Option A) → option_copied r ≡ o → p ≡ o → MatchOption r (p ≡ None) (λ t. p ≡ Some t.now)
 lent None o p e h = h ∙ sym e
 lent (Some t) o p e h = h ∙ sym e
+
+some_cond : {A : Type 0} (b : Bool) (x : A) (y : Option A) → (b || is_some y) ≡ is_some (cond b (Some x) y)
+some_cond true x y = refl
+some_cond false x y = refl
+
+-- a name that came is a key of the map
+pub any_named : (n : List ℕ) (es : List Entry) → list_any (λ e. bytes_eq n e.0) (map named es) ≡ is_some (lookup (λ k. pointwise nat_eq n k.items) es)
+any_named n [] = refl
+any_named n (x ∷ xs) = ap (λ b. bytes_eq n x.0.items || b) (any_named n xs) ∙ some_cond (bytes_eq n x.0.items) x.1 (lookup (λ k. pointwise nat_eq n k.items) xs)

@@ -1,4 +1,5 @@
 ghost use Rattle.std.specs.Prelude.{◌≡◌, List, [], None, Some, OnOk, OnErr, MatchOption};
+ghost use Rattle.std.specs.List.{list_any};
 ghost use Rattle.std.specs.Str.{bytes_eq};
 ghost use Rattle.jvm_model.specs.World.{look, keep};
 
@@ -53,6 +54,16 @@ impl Store {
         }
     }
 
+    /// Whether a name of a part came, be its text there or taken off. It takes no memory.
+    pub fn has(&self, part: Part, name: &Units) -> bool
+        ensures { result ≡ list_any (λ e. bytes_eq name.now e.0) (in_part part self.now) }
+    {
+        match part {
+            Part::File => self.files.has(name.as_slice()),
+            Part::Prop => self.props.has(name.as_slice()),
+        }
+    }
+
     /// Puts a text at a name of a part; `None` takes it off. After a refusal the store is as before.
     pub fn put(&mut self, part: Part, name: Units, content: Option<Units>) -> Result<(), NoMemory>
         ensures put { OnOk result (self.new ≡ with_part part self.old (keep bytes_eq (in_part part self.old) name content)) }
@@ -62,5 +73,13 @@ impl Store {
             Part::File => self.files.put(name, content),
             Part::Prop => self.props.put(name, content),
         }
+    }
+
+    /// Takes all names of both parts away. It takes no memory.
+    pub fn clear(&mut self)
+        ensures { self.new ≡ record { files = []; props = [] } }
+    {
+        self.files.clear();
+        self.props.clear();
     }
 }

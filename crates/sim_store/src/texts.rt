@@ -1,4 +1,5 @@
 ghost use Rattle.std.specs.Prelude.{◌≡◌, List, [], None, Some, OnOk, OnErr, MatchOption};
+ghost use Rattle.std.specs.List.{list_any};
 ghost use Rattle.std.specs.Str.{bytes_eq};
 ghost use Rattle.jvm_model.specs.World.{look, keep};
 
@@ -43,6 +44,13 @@ impl Texts {
         }
     }
 
+    /// Whether a name came, be its text there or taken off.
+    pub fn has(&self, name: &[u16]) -> bool
+        ensures { result ≡ list_any (λ e. bytes_eq name.now e.0) self.now }
+    {
+        self.entries.contains_key(name)
+    }
+
     /// Puts a text at a name, or takes it off. After a refusal all is as before.
     pub fn put(&mut self, name: Units, content: Option<Units>) -> Result<(), NoMemory>
         ensures put { OnOk result (self.new ≡ keep bytes_eq self.old name content) }
@@ -50,5 +58,12 @@ impl Texts {
     {
         self.entries.insert(name.into_vec(), content)?;
         Ok(())
+    }
+
+    /// Takes all names away. It takes no memory.
+    pub fn clear(&mut self)
+        ensures { self.new ≡ [] }
+    {
+        self.entries.truncate(0);
     }
 }

@@ -1,5 +1,4 @@
 pub mod Story
 pub mod Stores
 pub mod Kept
-pub mod Fields
 pub mod Noting

@@ -1,13 +1,12 @@
-ghost use Rattle.std.specs.Prelude.{◌≡◌, ◌∷◌, [], ◌++◌, map, filter, IfOk, OnOk};
+ghost use Rattle.std.specs.Prelude.{◌≡◌, IfOk};
 ghost use Rattle.jvm_model.specs.declared.values.Kind.TheVariants.{Class};
-ghost use Rattle.jvm_model.specs.Classes.{blank, fields_of, default_of, layout_in, upwards_in};
+ghost use Rattle.jvm_model.specs.Classes.{blank, fields_of, default_of};
 ghost use Rattle.jvm_model.specs.Classes as classes;
 ghost use Rattle.jvm_model.specs.Linked.{Linked};
-ghost use Rattle.vm_mem.specs.Fields.{is_instance_field, opening_field};
 
 use crate::object::Object;
 use et_base::{Items, NoMemory};
-use jvm_model::{Base, Head, Kind, Program, Value, class_bound};
+use jvm_model::{Base, Head, Kind, Program, Value};
 use std::alloc::Global;
 use std::marker::Model;
 use std::snapshot::Snapshot;
@@ -81,55 +80,15 @@ impl Layouts {
 }
 
 /// The fields of a class's instances with their default values.
-#[tactic(auto, unfolding(jvm_model::specs::Classes::layout))]
 fn layout(alloc: Global, p: &Program, class: u32) -> Result<Items<(u32, Value)>, NoMemory>
     ensures { IfOk result (λ v. v ≡ fields_of p.now (Class class)) }
 {
-    let mut fields = Vec::new(alloc);
-    push_layout(p, class_bound(), class, &mut fields)?;
-    Ok(Items::from_vec(fields))
-}
-
-/// Appends the fields of a class's instances, of it and of at most so many classes with it from it upwards.
-fn push_layout(
-    p: &Program,
-    steps: u32,
-    class: u32,
-    fields: &mut Vec<(u32, Value)>,
-) -> Result<(), NoMemory>
-    ensures { OnOk result (fields.new.items ≡ fields.old.items ++ map (opening_field p.now) (layout_in p.now (upwards_in p.now steps class))) }
-{
-    if steps == 0 {
-        return Ok(());
+    let numbers = p.layout(alloc, class)?;
+    let mut fields = Items::new(alloc);
+    for field in numbers.as_slice() {
+        fields.push((*field, default_value(p.field_descriptor(*field))))?;
     }
-    match p.superclass(class) {
-        None => push_fields(p, p.class_fields(class), fields),
-        Some(above) => {
-            push_layout(p, steps - 1, above, fields)?;
-            push_fields(p, p.class_fields(class), fields)
-        }
-    }
-}
-
-/// Appends the instance fields among these.
-fn push_fields(p: &Program, own: &[u32], fields: &mut Vec<(u32, Value)>) -> Result<(), NoMemory>
-    ensures { OnOk result (fields.new.items ≡ fields.old.items ++ map (opening_field p.now) (filter (is_instance_field p.now) own.now)) }
-{
-    for field in own {
-        push_field(p, *field, fields)?;
-    }
-    Ok(())
-}
-
-/// Appends a field, unless it is static.
-fn push_field(p: &Program, field: u32, fields: &mut Vec<(u32, Value)>) -> Result<(), NoMemory>
-    ensures { OnOk result (fields.new.items ≡ fields.old.items ++ map (opening_field p.now) (filter (is_instance_field p.now) (field ∷ []))) }
-{
-    if p.is_static_field(field) {
-        return Ok(());
-    }
-    fields.push((field, default_value(p.field_descriptor(field))))?;
-    Ok(())
+    Ok(fields)
 }
 
 /// The default value of a type (JVMS 2.3 and 2.4).
