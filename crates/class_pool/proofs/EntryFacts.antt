@@ -1,13 +1,12 @@
 -- What the indices of a pool name, down to the texts.
 use Rattle.std.proofs.Common.{◌≡◌, ◌<◌, ◌^◌, ◌+◌, ℕ, zero, suc, Bool, true, false, ◌&&◌, List, length, Option, Some, None, is_some, refl, ap, ◌∙◌, arith, inl, inr}
-use Rattle.std.proofs.lemmas.Bool.{cases_lt}
+use Rattle.std.proofs.lemmas.Bool.{cases_lt, and_parts, or_cases}
 use Rattle.std.proofs.lemmas.List.{get_or_past}
 use Rattle.class_pool.specs.declared.pool.Entry.{Entry}
 use Rattle.class_pool.specs.declared.pool.Entry.TheVariants.{Utf8, Class, Str, Field, Method, InterfaceMethod, NameAndType}
 use Rattle.et_base.specs.Names.{is_unqualified, is_method_name, is_class_name, is_class_entry_name, is_field_descriptor, is_method_descriptor, starts_array}
 use Rattle.class_pool.specs.Pool.{entry_of, is_text, is_class, text_of, class_name_of, in_text, in_pair}
 use Rattle.class_pool.specs.PoolGrammar.{EntryFits, IsPool}
-use Rattle.class_pool.proofs.Laws.{both_true, either_true}
 use Rattle.class_pool.proofs.PoolFacts.{wants_none, entry_fits, entry_indices, class_named, field_class, field_pair, method_class, method_pair, interface_method_class, interface_method_pair}
 
 -- ---- what an index may name
@@ -77,7 +76,7 @@ pair_at : (name_test descriptor_test : List ℕ → Bool) (slots : List (Option 
     → NamesMember name_test descriptor_test slots class pair
 pair_at name_test descriptor_test slots class pair None of is h = absurd cc
 pair_at name_test descriptor_test slots class pair (Some (NameAndType name descriptor)) of is h =
-    let b = both_true _ _ h in
+    let b = and_parts _ _ h in
     record { of = of; name = name; descriptor = descriptor; entry = is; name_text = text_from name_test slots name b.0; descriptor_text = text_from descriptor_test slots descriptor b.1 }
 pair_at name_test descriptor_test slots class pair (Some e) of is h = absurd cc
 
@@ -88,9 +87,9 @@ member_from name_test descriptor_test slots class pair of h = pair_at name_test 
 -- a name that begins with no bracket is that of a class and no array
 pub plain_name : (us : List ℕ) → is_class_entry_name us ≡ true → starts_array us ≡ false → is_class_name us ≡ true
 unfolding is_class_entry_name
-plain_name us h bare = elim (either_true (is_class_name us) (starts_array us && is_field_descriptor us) h) [
+plain_name us h bare = elim (or_cases (is_class_name us) (starts_array us && is_field_descriptor us) h) [
   | inl named ↦ named
-  | inr array ↦ absurd (let there : starts_array us ≡ true = (both_true _ _ array).0 in cc)
+  | inr array ↦ absurd (let there : starts_array us ≡ true = (and_parts _ _ array).0 in cc)
 ]
 
 -- an index that names an entry is one of two bytes

@@ -2,7 +2,8 @@
 use Rattle.std.proofs.Common.{◌≡◌, ℕ, zero, suc, Bool, true, false, cond, ltb, List, [], ◌∷◌, ◌++◌, length, take, drop, Result, Ok, Err, refl, subst}
 use Rattle.std.specs.Int.{Width, byte_len, from_be_bytes}
 use Rattle.class_pool.specs.declared.fault.Fault.{Fault}
-use Rattle.class_pool.specs.Reading.{◌>>=◌, number_or, run_or, tested}
+use Rattle.et_base.specs.Answers.{◌>>=◌, tested}
+use Rattle.class_pool.specs.Reading.{number_or, run_or}
 use Rattle.class_pool.specs.Loops.{counted}
 
 -- each fault of a reader is of this sort

@@ -3,7 +3,8 @@ use Rattle.std.proofs.Common.{◌≡◌, ℕ, zero, suc, ◌-◌, ◌+◌, ◌�
 use Rattle.class_pool.specs.declared.fault.Fault.{Fault}
 use Rattle.class_pool.specs.declared.fault.ReadError.{ReadError}
 use Rattle.class_pool.specs.declared.fault.ReadError.TheVariants as errors
-use Rattle.class_pool.specs.Reading.{◌>>=◌, Fails}
+use Rattle.et_base.specs.Answers.{◌>>=◌, Fails}
+use Rattle.class_pool.specs.Reading.{named}
 use Rattle.class_pool.specs.Loops.{counted, to_end, folded}
 
 -- ---- as many as a count says
@@ -16,7 +17,7 @@ counted_on step front n i bytes x total lt h so_far =
     sym (ap (λ r. r >>= λ y. counted step (front ++ y.0 ∷ []) (n - (i + 1)) y.1) h) ∙ sym (ap (λ m. counted step front m bytes) k) ∙ so_far
 
 pub counted_fails : {A : Type 0} (e : ReadError) (step : List A → ℕ → List ℕ → Result (A × List ℕ) Fault) (front : List A) (n i : ℕ) (bytes : List ℕ) (total : Result (List A × List ℕ) Fault)
-    → i < n → Fails e (step front (n - (i + 1)) bytes) → counted step front (n - i) bytes ≡ total → Fails e total
+    → i < n → Fails (named e) (step front (n - (i + 1)) bytes) → counted step front (n - i) bytes ≡ total → Fails (named e) total
 unfolding counted
 counted_fails errors.Memory step front n i bytes total lt h so_far = tt
 counted_fails (errors.Fault f) step front n i bytes total lt h so_far =
@@ -41,7 +42,7 @@ to_end_on step front n i (b ∷ bytes) x total lt some h so_far =
     sym (ap (λ r. r >>= λ y. to_end step (front ++ y.0 ∷ []) (n - (i + 1)) y.1) h) ∙ sym (ap (λ m. to_end step front m (b ∷ bytes)) k) ∙ so_far
 
 pub to_end_fails : {A : Type 0} (e : ReadError) (step : List A → List ℕ → Result (A × List ℕ) Fault) (front : List A) (n i : ℕ) (bytes : List ℕ) (total : Result (List A) Fault)
-    → i < n → 0 < length bytes → Fails e (step front bytes) → to_end step front (n - i) bytes ≡ total → Fails e total
+    → i < n → 0 < length bytes → Fails (named e) (step front bytes) → to_end step front (n - i) bytes ≡ total → Fails (named e) total
 unfolding to_end
 to_end_fails errors.Memory step front n i bytes total lt some h so_far = tt
 to_end_fails (errors.Fault f) step front n i [] total lt some h so_far = absurd (omega arith)
@@ -72,7 +73,7 @@ folded_on step s n i bytes x total lt h so_far =
     sym (ap (λ r. r >>= λ y. folded step y.0 (n - (i + 1)) y.1) h) ∙ sym (ap (λ m. folded step s m bytes) k) ∙ so_far
 
 pub folded_fails : {S : Type 0} (e : ReadError) (step : S → List ℕ → Result (S × List ℕ) Fault) (s : S) (n i : ℕ) (bytes : List ℕ) (total : Result (S × List ℕ) Fault)
-    → i < n → Fails e (step s bytes) → folded step s (n - i) bytes ≡ total → Fails e total
+    → i < n → Fails (named e) (step s bytes) → folded step s (n - i) bytes ≡ total → Fails (named e) total
 unfolding folded
 folded_fails errors.Memory step s n i bytes total lt h so_far = tt
 folded_fails (errors.Fault f) step s n i bytes total lt h so_far =

@@ -1,4 +1,5 @@
 -- Descriptors: what is read of them is their grammar, and the other way.
+use Rattle.std.proofs.Math.Bool.{or-true}
 use Rattle.std.proofs.lemmas.List.Sums.{sum_by-cons}
 use Rattle.std.proofs.lemmas.Slice.Eq.{bytes_eq-Decides}
 use Rattle.std.specs.Str.{bytes_eq}
@@ -6,11 +7,11 @@ use Rattle.std.proofs.Common.{◌≡◌, ℕ, zero, suc, ◌+◌, ◌<◌, ◌�
 use Rattle.std.specs.List.{AllByRecursion, position_or_len, concat, sum_by}
 use Rattle.std.specs.Option.{option_and_then, option_map}
 use Rattle.std.proofs.Math.ListN.{replicate}
-use Rattle.std.proofs.lemmas.Bool.{eqb-true, ltb-true, lt-ltb, leb-true, le-leb, ltb-false, le-ltb}
+use Rattle.std.proofs.lemmas.Bool.{eqb-true, ltb-true, lt-ltb, leb-true, le-leb, ltb-false, le-ltb, and_parts, or_cases}
 use Rattle.std.proofs.lemmas.List.{take_at, drop_at, length-append, append-nil, length-replicate}
 use Rattle.et_base.specs.Names.{is_plain, is_class_name, is_base, after_class, after_element, after_type, ends, is_field_descriptor, after_close, closed, argument, arguments, argument_units, is_return, units_of_type}
 use Rattle.class_pool.specs.NamesGrammar.{IsElement, IsFieldType, IsMethodType}
-use Rattle.class_pool.proofs.Laws.{picked_bool, both_true, either_true}
+use Rattle.class_pool.proofs.Laws.{picked_bool}
 use Rattle.class_pool.proofs.NamesLaw.{is_named_on, named_from}
 
 -- ---- the first unit that passes a test
@@ -59,9 +60,9 @@ units_no_semicolon : (begun : Bool) (us : List ℕ) → is_named_on begun us ≡
 units_no_semicolon begun [] h = tt
 units_no_semicolon begun (u ∷ us) h = picked_bool (eqb u 47)
     (λ slash. let r : (begun && is_named_on false us) ≡ true = sym (ap (λ b. cond b (begun && is_named_on false us) (is_plain u && is_named_on true us)) slash) ∙ h in
-    (ap (λ k. eqb k 59) (eqb-true u 47 slash), units_no_semicolon false us (both_true _ _ r).1))
+    (ap (λ k. eqb k 59) (eqb-true u 47 slash), units_no_semicolon false us (and_parts _ _ r).1))
     (λ slash. let r : (is_plain u && is_named_on true us) ≡ true = sym (ap (λ b. cond b (begun && is_named_on false us) (is_plain u && is_named_on true us)) slash) ∙ h in
-    (picked_bool (eqb u 59) (λ semicolon. absurd (let e : is_plain u ≡ false = ap is_plain (eqb-true u 59 semicolon) in let f : is_plain u ≡ true = (both_true _ _ r).0 in cc)) (λ none. none), units_no_semicolon true us (both_true _ _ r).1))
+    (picked_bool (eqb u 59) (λ semicolon. absurd (let e : is_plain u ≡ false = ap is_plain (eqb-true u 59 semicolon) in let f : is_plain u ≡ true = (and_parts _ _ r).0 in cc)) (λ none. none), units_no_semicolon true us (and_parts _ _ r).1))
 
 some_is : (x y : List ℕ) (o : Option (List ℕ)) → o ≡ Some x → o ≡ Some y → x ≡ y
 some_is x y o e f = cc
@@ -212,10 +213,6 @@ and_then_number : (o : Option (ℕ × List ℕ)) (f : ℕ × List ℕ → Option
 and_then_number None f y e = absurd cc
 and_then_number (Some x) f y e = (x, refl, e)
 
-or_true : (b : Bool) → (b || true) ≡ true
-or_true true = refl
-or_true false = refl
-
 argument_by : (b : Bool) (n : ℕ) (o : Option (List ℕ)) (x : ℕ × List ℕ) → cond b None (option_map (λ rest. (n, rest)) o) ≡ Some x → (b ≡ false) × (o ≡ Some x.1) × (x.0 ≡ n)
 argument_by true n o x e = absurd cc
 argument_by false n None x e = absurd cc
@@ -291,14 +288,14 @@ arguments_again (type ∷ types) (suc n) so_far rest each lt le =
 -- ---- method descriptors
 
 return_taken : (us : List ℕ) → is_return us ≡ true → (us ≡ 86 ∷ []) ⊎ IsFieldType us
-return_taken us e = elim (either_true (bytes_eq us (86 ∷ [])) (is_field_descriptor us) e) [
+return_taken us e = elim (or_cases (bytes_eq us (86 ∷ [])) (is_field_descriptor us) e) [
   | inl v ↦ inl ((bytes_eq-Decides us (86 ∷ [])).0 v)
   | inr f ↦ inr (field_taken us f)
 ]
 
 return_again : (us : List ℕ) → (us ≡ 86 ∷ []) ⊎ IsFieldType us → is_return us ≡ true
 return_again us (inl v) = ap (λ b. b || is_field_descriptor us) ((bytes_eq-Decides us (86 ∷ [])).1 v)
-return_again us (inr f) = ap (λ b. bytes_eq us (86 ∷ []) || b) (field_again us f) ∙ or_true (bytes_eq us (86 ∷ []))
+return_again us (inr f) = ap (λ b. bytes_eq us (86 ∷ []) || b) (field_again us f) ∙ or-true (bytes_eq us (86 ∷ []))
 
 cond_number : (b : Bool) (m n : ℕ) → cond b (Some m) None ≡ Some n → (b ≡ true) × (m ≡ n)
 cond_number true m n e = (refl, cc)

@@ -1,6 +1,6 @@
 -- Pools at an offset: what is read is spelled so, and what is spelled so is read.
-use Rattle.std.proofs.Common.{◌≡◌, ℕ, List, ◌++◌, length, drop, Option, Result, Ok, Err, IfOk, refl, sym, ap, subst, ◌∙◌, arith}
-use Rattle.std.proofs.lemmas.List.{length-append}
+use Rattle.std.proofs.Common.{◌≡◌, ℕ, List, [], ◌++◌, length, drop, Option, Result, Ok, Err, IfOk, refl, sym, ap, subst, ◌∙◌, arith}
+use Rattle.std.proofs.lemmas.List.{length-append, append-nil}
 use Rattle.class_pool.specs.declared.fault.Fault.{Fault}
 use Rattle.class_pool.specs.declared.pool.Entry.{Entry}
 use Rattle.class_pool.specs.declared.offsets.PoolFault.{PoolFault}
@@ -57,3 +57,7 @@ is_read bytes at slots after s =
 
 pub only : (bytes : List ℕ) (at : ℕ) (r : Result (Slots × ℕ) PoolFault) → PoolGives r (read_from bytes at) → (slots : Slots) (after : ℕ) → SpelledFrom bytes at slots after → PoolGives r (Ok (slots, after))
 only bytes at r e slots after s = subst (PoolGives r) (is_read bytes at slots after s) e
+
+-- a spelling by itself is read wholly
+pub is_reread : (text : List ℕ) (slots : Slots) → PoolText text slots → read_from text 0 ≡ Ok (slots, length text)
+is_reread text slots h = is_read text 0 slots (length text) (record { text = text; rest = []; parts = sym (append-nil text); spelled = h; ends = omega arith })

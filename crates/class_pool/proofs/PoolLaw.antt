@@ -1,7 +1,7 @@
 -- The pool: what is read is spelled so, and the other way.
 use Rattle.std.proofs.Common.{◌≡◌, ℕ, zero, suc, ◌-◌, ◌^◌, ◌<◌, true, false, cond, eqb, ltb, ◌&&◌, List, [], ◌∷◌, ◌++◌, length, Option, Some, None, Result, Ok, Err, refl, sym, ap, subst, ◌∙◌, arith, lit<, All}
 use Rattle.std.specs.Int.{w8, w16, w32, w64, to_be_bytes, cast_unsigned}
-use Rattle.std.proofs.lemmas.Bool.{eqb-true, ltb-true, lt-ltb}
+use Rattle.std.proofs.lemmas.Bool.{eqb-true, ltb-true, lt-ltb, and_parts}
 use Rattle.std.proofs.lemmas.List.{append-nil}
 use Rattle.std.proofs.lemmas.List.Elements.{All-nil, All-head, All-tail, All-cons}
 use Rattle.et_base.specs.Utf.{utf, IsUnits}
@@ -11,11 +11,12 @@ use Rattle.class_pool.specs.declared.fault.Fault.{Fault}
 use Rattle.class_pool.specs.declared.fault.Fault.TheVariants.{BadTag, BadIndex, BadDescriptor}
 use Rattle.class_pool.specs.declared.pool.Entry.{Entry}
 use Rattle.class_pool.specs.declared.pool.Entry.TheVariants.{Utf8, Integer, Float, Long, Double, Class, Str, Field, Method, InterfaceMethod, NameAndType, MethodHandle, MethodType, InvokeDynamic}
-use Rattle.class_pool.specs.Reading.{◌>>=◌, number_at, run_at}
+use Rattle.et_base.specs.Answers.{◌>>=◌}
+use Rattle.class_pool.specs.Reading.{number_at, run_at}
 use Rattle.class_pool.specs.Pool.{units_or, text_at, single_at, twin_at, handle_at, twins_at, singles_at, numbers_at, body_at, entry_at, slot_by, slot_at, is_second, is_wide, slot_len, slots_at, wrong_index, wrong_name, found_at, pass, no_place, indices_pass, names_pass, pool_at}
 use Rattle.class_pool.specs.Grammar.{IsBytes, Nothing, Then, Mapped, Never, Number, Signed, Run, Counted, Joined}
 use Rattle.class_pool.specs.PoolGrammar.{entry_bytes, EntryFits, EntryText, SlotText, IsSound, PoolText}
-use Rattle.class_pool.proofs.Laws.{reads_8, reads_16, reads_32, reads_64, reads_signed_as, wide32, wide64, reads_run_then, both_true, chosen, done, bind_ok, ok_is, Taken, Reads, reads_nothing, reads_then, reads_mapped, reads_if, reads_never, reads_as, reads_counted}
+use Rattle.class_pool.proofs.Laws.{reads_8, reads_16, reads_32, reads_64, reads_signed_as, wide32, wide64, reads_run_then, chosen, done, bind_ok, ok_is, Taken, Reads, reads_nothing, reads_then, reads_mapped, reads_if, reads_never, reads_as, reads_counted}
 
 -- ---- texts
 
@@ -160,8 +161,8 @@ numbers_to : (slots tag : ℕ) (text more : List ℕ) (e : Entry) → text ≡ t
 numbers_to slots tag text more e whole body =
     chosen (eqb tag 3) _ _ body (λ h (n, s, is). subst (λ y. EntryText slots text y) (sym is) (tagged 3 tag more text whole h ∙ ap (λ x. to_be_bytes w8 3 ++ x) s.0, s.1, λ w. absurd cc))
     (λ _ body. chosen (eqb tag 4) _ _ body (λ h (n, s, is). subst (λ y. EntryText slots text y) (sym is) (tagged 4 tag more text whole h ∙ ap (λ x. to_be_bytes w8 4 ++ x) s.0, s.1, λ w. absurd cc))
-    (λ _ body. chosen (eqb tag 5 && ltb 0 slots) _ _ body (λ h (n, s, is). let b = both_true _ _ h in subst (λ y. EntryText slots text y) (sym is) (tagged 5 tag more text whole b.0 ∙ ap (λ x. to_be_bytes w8 5 ++ x) s.0, s.1, λ w. ltb-true _ _ b.1))
-    (λ _ body. chosen (eqb tag 6 && ltb 0 slots) _ _ body (λ h (n, s, is). let b = both_true _ _ h in subst (λ y. EntryText slots text y) (sym is) (tagged 6 tag more text whole b.0 ∙ ap (λ x. to_be_bytes w8 6 ++ x) s.0, s.1, λ w. ltb-true _ _ b.1))
+    (λ _ body. chosen (eqb tag 5 && ltb 0 slots) _ _ body (λ h (n, s, is). let b = and_parts _ _ h in subst (λ y. EntryText slots text y) (sym is) (tagged 5 tag more text whole b.0 ∙ ap (λ x. to_be_bytes w8 5 ++ x) s.0, s.1, λ w. ltb-true _ _ b.1))
+    (λ _ body. chosen (eqb tag 6 && ltb 0 slots) _ _ body (λ h (n, s, is). let b = and_parts _ _ h in subst (λ y. EntryText slots text y) (sym is) (tagged 6 tag more text whole b.0 ∙ ap (λ x. to_be_bytes w8 6 ++ x) s.0, s.1, λ w. ltb-true _ _ b.1))
     (λ _ body. singles_to slots tag text more e whole body))))
 
 entry_to : (slots : ℕ) (text : List ℕ) (e : Entry) → Then (Number w8 (2 ^ 8)) (λ tag. Body tag slots) text e → EntryText slots text e

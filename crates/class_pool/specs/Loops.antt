@@ -1,7 +1,7 @@
 -- Items one after the other: as many as a count says, or until a run of bytes has ended.
 use Rattle.std.specs.Prelude.{ℕ, zero, suc, List, [], ◌∷◌, ◌++◌, Result, Ok}
 use Rattle.class_pool.specs.declared.fault.Fault.{Fault}
-use Rattle.class_pool.specs.Reading.{◌>>=◌}
+use Rattle.et_base.specs.Answers.{◌>>=◌}
 
 -- n more items behind those of front. What one is may depend on those before it and on how many follow.
 unfoldable pub counted : {A : Type 0} → (List A → ℕ → List ℕ → Result (A × List ℕ) Fault) → List A → ℕ → List ℕ → Result (List A × List ℕ) Fault

@@ -1,5 +1,6 @@
 -- A pool that begins at an offset in bytes, and the offset of its first fault.
-use Rattle.std.specs.Prelude.{◌≡◌, ℕ, ◌+◌, ◌-◌, List, ◌++◌, length, drop, Option, Result, Ok, Err}
+use Rattle.std.specs.Prelude.{◌≡◌, ℕ, ◌+◌, ◌-◌, List, ◌++◌, length, drop, Option, Some, None, Result, Ok, Err}
+use Rattle.et_base.specs.Answers.{Gives}
 use Rattle.class_pool.specs.declared.fault.Fault.{Fault}
 use Rattle.class_pool.specs.declared.fault.Fault.TheVariants as faults
 use Rattle.class_pool.specs.declared.pool.Entry.{Entry}
@@ -47,7 +48,11 @@ pub record SpelledFrom (bytes : List ℕ) (at : ℕ) (slots : List (Option Entry
   pub spelled : PoolText text slots
   pub ends : after ≡ at + length text
 
+-- the fault that is answered; want of memory is none
+abbrev pub told : PoolFault → Option PoolFault
+told NoMemory = None
+told fault = Some fault
+
 -- What was returned is what reading gives, unless memory ran out.
 abbrev pub PoolGives : Result (List (Option Entry) × ℕ) PoolFault → Result (List (Option Entry) × ℕ) PoolFault → Type 0
-PoolGives (Err NoMemory) read = Unit {0}
-PoolGives result read = read ≡ result
+PoolGives = Gives told (λ x. x)

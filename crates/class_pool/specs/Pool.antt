@@ -7,7 +7,8 @@ use Rattle.class_pool.specs.declared.fault.Fault.{Fault}
 use Rattle.class_pool.specs.declared.fault.Fault.TheVariants.{BadTag, BadIndex, BadUtf, BadDescriptor}
 use Rattle.class_pool.specs.declared.pool.Entry.{Entry}
 use Rattle.class_pool.specs.declared.pool.Entry.TheVariants.{Utf8, Integer, Float, Long, Double, Class, Str, Field, Method, InterfaceMethod, NameAndType, MethodHandle, MethodType, InvokeDynamic}
-use Rattle.class_pool.specs.Reading.{◌>>=◌, number_at, run_at}
+use Rattle.et_base.specs.Answers.{◌>>=◌}
+use Rattle.class_pool.specs.Reading.{number_at, run_at}
 use Rattle.class_pool.specs.Loops.{counted}
 use Rattle.et_base.specs.Names.{is_unqualified, is_method_name, is_class_entry_name, is_field_descriptor, is_method_descriptor}
 

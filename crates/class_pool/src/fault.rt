@@ -1,7 +1,8 @@
 //! Why bytes are no class file.
 
 ghost use Rattle.std.specs.Prelude.{◌≡◌};
-ghost use Rattle.class_pool.specs.Reading.{Gives, tested, nothing};
+ghost use Rattle.et_base.specs.Answers.{tested, nothing};
+ghost use Rattle.class_pool.specs.Reading.{Gives};
 ghost use Rattle.class_pool.specs.declared.fault.ReadError.TheVariants.{Memory};
 
 use et_base::NoMemory;

@@ -5,28 +5,22 @@ ghost use Rattle.std.specs.Prelude.{◌≡◌, ◌==◌, not, length, option_map
 ghost use Rattle.std.specs.List.{list_all};
 ghost use Rattle.et_base.specs.Names.{is_plain, is_unqualified, is_special, is_unpointed, is_method_name, is_class_name, is_base, after_class, after_element, after_type, ends, is_field_descriptor, starts_array, is_class_entry_name, units_of_type, argument, after_close, arguments, is_return, argument_units, is_method_descriptor};
 
-const DOT: u16 = 46;
-
-const SLASH: u16 = 47;
-
-const SEMICOLON: u16 = 59;
-
-const LESS: u16 = 60;
-
-const MORE: u16 = 62;
-
-const BRACKET: u16 = 91;
+use et_base::is_ascii_text;
+use et_base::letters::{
+    ARRAY, BOOLEAN, BYTE, CHAR, CLASS, CLOSE, DOT, DOUBLE, FLOAT, GREATER, INT, LESS, LONG, OPEN,
+    SEMICOLON, SHORT, SLASH, VOID,
+};
 
 fn is_plain(unit: u16) -> bool
     ensures { result ≡ is_plain unit }
 {
-    !(unit == DOT || unit == SEMICOLON || unit == BRACKET || unit == SLASH)
+    !(unit == DOT || unit == SEMICOLON || unit == ARRAY || unit == SLASH)
 }
 
 fn is_unpointed(unit: u16) -> bool
     ensures { result ≡ is_unpointed unit }
 {
-    !(unit == LESS || unit == MORE)
+    !(unit == LESS || unit == GREATER)
 }
 
 fn all_plain(units: &[u16]) -> bool
@@ -50,11 +44,10 @@ pub fn is_unqualified(units: &[u16]) -> bool
 }
 
 /// Whether these units are `<init>` or `<clinit>` (JVMS 2.9).
-pub fn is_special(units: &[u16]) -> bool
+pub(crate) fn is_special(units: &[u16]) -> bool
     ensures { result ≡ is_special units.now }
 {
-    units == [60, 105, 110, 105, 116, 62].as_slice()
-        || units == [60, 99, 108, 105, 110, 105, 116, 62].as_slice()
+    is_ascii_text(units, b"<init>") || is_ascii_text(units, b"<clinit>")
 }
 
 /// Whether these units are a method's name: `<init>`, `<clinit>` or an unqualified name without `<`
@@ -68,7 +61,7 @@ pub fn is_method_name(units: &[u16]) -> bool
 /// Whether these units are the name of a class or interface in internal form: unqualified names
 /// joined by `/` (JVMS 4.2.1).
 #[tactic(auto, using(crate::proofs::NamesLaw::named_from))]
-pub fn is_class_name(units: &[u16]) -> bool
+pub(crate) fn is_class_name(units: &[u16]) -> bool
     ensures { result ≡ is_class_name units.now }
 {
     let mut begun = false;
@@ -90,8 +83,10 @@ pub fn is_class_name(units: &[u16]) -> bool
 fn is_base(unit: u16) -> bool
     ensures { result ≡ is_base unit }
 {
-    // B C D F I J S Z
-    matches!(unit, 66 | 67 | 68 | 70 | 73 | 74 | 83 | 90)
+    matches!(
+        unit,
+        BYTE | CHAR | DOUBLE | FLOAT | INT | LONG | SHORT | BOOLEAN
+    )
 }
 
 // Where the first semicolon stands.
@@ -124,7 +119,7 @@ fn after_element(units: &[u16]) -> Option<&[u16]>
         [first, rest @ ..] => {
             if is_base(*first) {
                 Some(rest)
-            } else if *first == 76 {
+            } else if *first == CLASS {
                 after_class(rest)
             } else {
                 None
@@ -137,13 +132,13 @@ fn after_element(units: &[u16]) -> Option<&[u16]>
 fn brackets(units: &[u16]) -> Option<usize>
     ensures { result ≡ position (λ u. not (u == 91)) units.now }
 {
-    units.iter().position(|unit| *unit != BRACKET)
+    units.iter().position(|unit| *unit != ARRAY)
 }
 
 /// What follows the field type at the front; none where none stands there. An array type has at most
 /// 255 dimensions (JVMS 4.3.2).
 #[tactic(auto, unfolding(et_base::specs::Names::after_type))]
-pub fn after_type(units: &[u16]) -> Option<&[u16]>
+pub(crate) fn after_type(units: &[u16]) -> Option<&[u16]>
     ensures { option_map (λ x. x.now) result ≡ after_type units.now }
 {
     let dimensions = brackets(units)?;
@@ -172,10 +167,10 @@ pub fn is_field_descriptor(units: &[u16]) -> bool
 /// Whether a Class entry may have this name: that of a class or interface, or an array type's
 /// descriptor (JVMS 4.4.1).
 #[tactic(auto, unfolding(et_base::specs::Names::is_class_entry_name))]
-pub fn is_class_entry_name(units: &[u16]) -> bool
+pub(crate) fn is_class_entry_name(units: &[u16]) -> bool
     ensures { result ≡ is_class_entry_name units.now }
 {
-    is_class_name(units) || (units.first() == Some(&91) && is_field_descriptor(units))
+    is_class_name(units) || (units.first() == Some(&ARRAY) && is_field_descriptor(units))
 }
 
 // How many argument units the type at the front takes.
@@ -183,8 +178,7 @@ fn units_of_type(units: &[u16]) -> u8
     ensures { result ≡ units_of_type units.now }
 {
     match units {
-        // J and D
-        [74 | 68, ..] => 2,
+        [LONG | DOUBLE, ..] => 2,
         _ => 1,
     }
 }
@@ -204,7 +198,7 @@ fn after_close(units: &[u16]) -> Option<&[u16]>
     ensures { option_map (λ x. x.now) result ≡ after_close units.now }
 {
     match units {
-        [41, rest @ ..] => Some(rest),
+        [CLOSE, rest @ ..] => Some(rest),
         _ => None,
     }
 }
@@ -229,7 +223,7 @@ fn arguments(units: &[u16]) -> Option<(u8, &[u16])>
 fn is_return(units: &[u16]) -> bool
     ensures { result ≡ is_return units.now }
 {
-    units == [86].as_slice() || is_field_descriptor(units)
+    units == [VOID].as_slice() || is_field_descriptor(units)
 }
 
 #[tactic(auto, unfolding(et_base::specs::Names::argument_units))]
@@ -237,7 +231,7 @@ fn count_arguments(units: &[u16]) -> Option<u8>
     ensures { result ≡ argument_units units.now }
 {
     match units {
-        [40, rest @ ..] => {
+        [OPEN, rest @ ..] => {
             let (count, after) = arguments(rest)?;
             if is_return(after) { Some(count) } else { None }
         }
@@ -256,7 +250,7 @@ pub fn argument_units(units: &[u16]) -> Option<u8>
 }
 
 /// Whether these units are a method descriptor (JVMS 4.3.3).
-pub fn is_method_descriptor(units: &[u16]) -> bool
+pub(crate) fn is_method_descriptor(units: &[u16]) -> bool
     ensures { result ≡ is_method_descriptor units.now }
 {
     argument_units(units).is_some()

@@ -1,7 +1,8 @@
 //! The two passes over a pool: what its entries name, and the names and descriptors (JVMS 4.4).
 
 ghost use Rattle.std.specs.Prelude.{◌≡◌, ◌||◌, map, IfOk, IfErr, None};
-ghost use Rattle.class_pool.specs.Reading.{Gives, nothing};
+ghost use Rattle.et_base.specs.Answers.{nothing};
+ghost use Rattle.class_pool.specs.Reading.{Gives};
 ghost use Rattle.class_pool.specs.Pool.{entry_of, is_class, is_pair, is_field_pair, is_method_pair, wants_at, wrong_index, wrong_name, pass, indices_pass, names_pass};
 ghost use Rattle.class_pool.specs.Marks.{mark_of_text, no_mark, mark_of, marked};
 

@@ -1,9 +1,10 @@
 //! Pools, written as bytes.
 
-ghost use Rattle.std.specs.Prelude.{◌≡◌, ◌++◌, ◌∷◌, ◌^◌, ◌<◌, length, OnOk, IfOk, Some};
+ghost use Rattle.std.specs.Prelude.{◌≡◌, ◌++◌, ◌∷◌, ◌^◌, ◌<◌, length, OnOk, IfOk, Ok, Some};
 ghost use Rattle.std.specs.Int.{w8, w16, to_be_bytes};
 ghost use Rattle.et_base.specs.Utf.{utf};
 ghost use Rattle.class_pool.specs.PoolGrammar.{EntryFits, twin_bytes, slot_bytes, IsPool, pool_spelling, PoolText};
+ghost use Rattle.class_pool.specs.Offsets.{read_from};
 
 use crate::constant_pool::Pool;
 use crate::pool::{Entry, after_units};
@@ -105,10 +106,11 @@ pub fn put_pool(out: &mut Vec<u8>, pool: &Pool) -> Result<(), NoMemory>
     put_slots(out, pool.slots())
 }
 
-/// The spelling of a pool, which is read again as the same pool.
+/// The spelling of a pool, which is read again as the same pool, all of it.
 pub fn write_pool(alloc: Global, pool: &Pool) -> Result<Vec<u8>, NoMemory>
     ensures bytes { IfOk result (λ v. v.items ≡ pool_spelling pool.now) }
     ensures spelled { IfOk result (λ v. PoolText v.items pool.now) }
+    ensures again { IfOk result (λ v. read_from v.items 0 ≡ Ok (pool.now, length v.items)) }
 {
     let mut out = Vec::new(alloc);
     put_slots(&mut out, pool.slots())?;

@@ -1,11 +1,10 @@
 -- What is known of a class file that some bytes spell.
 use Rattle.std.proofs.Common.{◌≡◌, ◌<◌, ◌≤◌, ◌^◌, ℕ, true, false, not, List, [], ◌∷◌, length, Option, Some, None, refl, sym, ap, subst, ◌∙◌, All}
-use Rattle.std.proofs.lemmas.Bool.{leb-true, not-true}
+use Rattle.std.proofs.lemmas.Bool.{leb-true, not-true, and_parts}
 use Rattle.class_pool.specs.declared.pool.Entry.{Entry}
 use Rattle.class_pool.specs.declared.pool.Entry.TheVariants.{Utf8, Class}
 use Rattle.class_pool.specs.Pool.{entry_of, is_class, class_name_of}
 use Rattle.class_pool.specs.PoolGrammar.{IsPool}
-use Rattle.class_pool.proofs.Laws.{both_true}
 use Rattle.class_pool.proofs.WriteLaw.{pool_kept}
 use Rattle.class_pool.proofs.GrammarFacts.{counted_all, counted_length}
 use Rattle.class_pool.proofs.EntryFacts.{NamesText, NamesClass, EntryFacts, class_from, plain_name, units_are, entry_facts}
@@ -77,7 +76,7 @@ IsVersion version = (version.0 < 2 ^ 16) × (50 ≤ version.1) × (version.1 ≤
 
 head_facts : (text : List ℕ) (version : ℕ × ℕ) → HeadText text version → IsVersion version
 head_facts text version (magic, t1, m1, e1, s1, (right, (minor, t2, m2, e2, s2, (major, t3, m3, e3, s3, (within, (nil, is)))))) =
-    let w = both_true _ _ within in
+    let w = and_parts _ _ within in
     subst IsVersion (sym is) (s2.1, leb-true _ _ w.0, leb-true _ _ w.1)
 
 interfaces_facts : (slots : List (Option Entry)) → IsPool slots → (text : List ℕ) (xs : List ℕ) → InterfacesText slots text xs → All (NamesShort slots) xs × (length xs < 2 ^ 16)

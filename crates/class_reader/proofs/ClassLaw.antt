@@ -6,7 +6,8 @@ use Rattle.std.proofs.lemmas.List.{append-nil, nil_from_length}
 use Rattle.class_pool.specs.declared.fault.Fault.{Fault}
 use Rattle.class_pool.specs.declared.fault.Fault.TheVariants.{Truncated, BadMagic, BadVersion, BadLength, Repeated, CodeKind, Trailing}
 use Rattle.class_pool.specs.declared.pool.Entry.{Entry}
-use Rattle.class_pool.specs.Reading.{◌>>=◌, number_at, run_at, tested}
+use Rattle.et_base.specs.Answers.{◌>>=◌, tested}
+use Rattle.class_pool.specs.Reading.{number_at, run_at}
 use Rattle.class_pool.specs.Loops.{counted, folded}
 use Rattle.class_pool.specs.Pool.{entry_of, is_text, is_class, pool_at}
 use Rattle.class_pool.specs.Grammar.{IsBytes, Nothing, Then, Mapped, Tested, Run, Sized}

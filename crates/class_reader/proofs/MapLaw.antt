@@ -5,7 +5,8 @@ use Rattle.std.proofs.lemmas.Bool.{eqb-true}
 use Rattle.std.proofs.lemmas.List.{append-nil, length-append, take_at}
 use Rattle.class_pool.specs.declared.fault.Fault.TheVariants.{Truncated, BadLength}
 use Rattle.class_pool.specs.declared.pool.Entry.{Entry}
-use Rattle.class_pool.specs.Reading.{◌>>=◌, number_at, run_at, tested}
+use Rattle.et_base.specs.Answers.{◌>>=◌, tested}
+use Rattle.class_pool.specs.Reading.{number_at, run_at}
 use Rattle.class_pool.specs.Loops.{counted}
 use Rattle.class_pool.specs.Grammar.{IsBytes, Nothing, Mapped, Never, Joined}
 use Rattle.class_pool.proofs.Laws.{bind_ok, ok_is, tested_ok, picked, Taken, Reads, reads_nothing, reads_then, tested_then, reads_mapped, reads_if, reads_never, reads_run, reads_8, reads_16, reads_32, reads_counted}

@@ -4,7 +4,8 @@ use Rattle.class_pool.specs.declared.fault.Fault.{Fault}
 use Rattle.class_pool.specs.declared.fault.ReadError.{ReadError}
 use Rattle.class_pool.specs.declared.fault.ReadError.TheVariants as errors
 use Rattle.class_pool.specs.declared.pool.Entry.{Entry}
-use Rattle.class_pool.specs.Reading.{◌>>=◌, Fails}
+use Rattle.et_base.specs.Answers.{◌>>=◌, Fails}
+use Rattle.class_pool.specs.Reading.{named}
 use Rattle.class_reader.specs.declared.parts.MapFrame.{MapFrame}
 use Rattle.class_reader.specs.Maps.{frame_at, has_bad_tag, within, kept_at, frames_at}
 
@@ -28,7 +29,7 @@ frames_on slots left len total n i front bytes x all lt good h so_far =
     sym (ap (λ r. r >>= λ f. frames_at slots left len total (n - (i + 1)) (front ++ f.0 ∷ []) f.1) h) ∙ frames_next slots left len total n i front bytes all lt good so_far
 
 pub frames_fail : (e : ReadError) (slots : List (Option Entry)) (left len total n i : ℕ) (front : List MapFrame) (bytes : List ℕ) (all : Frames)
-    → i < n → has_bad_tag slots (take (within len total bytes) bytes) ≡ false → Fails e (frame_at true slots left bytes) → frames_at slots left len total (n - i) front bytes ≡ all → Fails e all
+    → i < n → has_bad_tag slots (take (within len total bytes) bytes) ≡ false → Fails (named e) (frame_at true slots left bytes) → frames_at slots left len total (n - i) front bytes ≡ all → Fails (named e) all
 frames_fail errors.Memory slots left len total n i front bytes all lt good h so_far = tt
 frames_fail (errors.Fault f) slots left len total n i front bytes all lt good h so_far =
     sym (frames_next slots left len total n i front bytes all lt good so_far) ∙ ap (λ r. r >>= λ f. frames_at slots left len total (n - (i + 1)) (front ++ f.0 ∷ []) f.1) h

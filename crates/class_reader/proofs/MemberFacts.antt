@@ -1,4 +1,5 @@
 -- What is known of a class file's fields and methods.
+use Rattle.std.proofs.Math.Bool.{or-true}
 use Rattle.std.proofs.Common.{◌≡◌, ◌<◌, ◌≤◌, ◌^◌, ◌+◌, ℕ, zero, suc, Bool, true, false, not, cond, ◌&&◌, ◌||◌, List, [], ◌∷◌, ◌++◌, length, take, get_or, Option, Some, None, is_some, refl, sym, ap, subst, ◌∙◌, arith, inl, inr, All}
 use Rattle.std.specs.Prelude.{IfSome}
 use Rattle.std.specs.List.{AllByRecursion}
@@ -104,17 +105,13 @@ method_so slots pool before n text m (flags, t1, m1, e1, short, (name, t2, m2, e
 
 -- ---- members differ
 
-or_true : (a : Bool) → (a || true) ≡ true
-or_true true = refl
-or_true false = refl
-
 repeated_at : (slots : List (Option Entry)) (before : List MemberPart) (i : ℕ) (d : MemberPart) (name descriptor : ℕ) → i < length before
     → same_text (entry_of slots (get_or before i d).name) (entry_of slots name) ≡ true → same_text (entry_of slots (get_or before i d).descriptor) (entry_of slots descriptor) ≡ true → is_repeated slots before name descriptor ≡ true
 repeated_at slots [] i d name descriptor lt p q = absurd (omega arith)
 repeated_at slots (m ∷ ms) zero d name descriptor lt p q = rw (p, q) refl
 repeated_at slots (m ∷ ms) (suc i) d name descriptor lt p q =
     ap (λ b. same_text (entry_of slots m.name) (entry_of slots name) && same_text (entry_of slots m.descriptor) (entry_of slots descriptor) || b) (repeated_at slots ms i d name descriptor (omega arith) p q)
-    ∙ or_true (same_text (entry_of slots m.name) (entry_of slots name) && same_text (entry_of slots m.descriptor) (entry_of slots descriptor))
+    ∙ or-true (same_text (entry_of slots m.name) (entry_of slots name) && same_text (entry_of slots m.descriptor) (entry_of slots descriptor))
 
 some_same : (a b : List ℕ) → text_of (Some (Utf8 a)) ≡ text_of (Some (Utf8 b)) → a ≡ b
 some_same a b e = cc

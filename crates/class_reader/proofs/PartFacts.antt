@@ -2,13 +2,13 @@
 use Rattle.std.proofs.Common.{◌≡◌, ◌≢◌, ◌⊎◌, ℕ, zero, suc, ◌-◌, ◌%◌, ◌^◌, ◌<◌, ◌≤◌, Bool, true, false, cond, eqb, ltb, ◌&&◌, ◌||◌, List, [], ◌∷◌, length, Option, refl, sym, subst, ◌∙◌, arith, inl, inr, All}
 use Rattle.std.specs.Prelude.{IfSome}
 use Rattle.std.specs.List.{AllByRecursion}
-use Rattle.std.proofs.lemmas.Bool.{eqb-true, ltb-true}
+use Rattle.std.proofs.lemmas.Bool.{eqb-true, ltb-true, and_parts, or_cases}
 use Rattle.std.proofs.lemmas.List.Elements.{All-from_recursion}
 use Rattle.class_pool.specs.declared.pool.Entry.{Entry}
 use Rattle.class_pool.specs.Pool.{entry_of, is_class}
 use Rattle.class_pool.specs.Grammar.{IsBytes, Sized}
 use Rattle.class_pool.specs.PoolGrammar.{IsPool}
-use Rattle.class_pool.proofs.Laws.{both_true, either_true, chosen}
+use Rattle.class_pool.proofs.Laws.{chosen}
 use Rattle.class_pool.proofs.GrammarFacts.{counted_all, counted_length}
 use Rattle.class_pool.proofs.EntryFacts.{NamesClass, class_from}
 use Rattle.code_decode.specs.declared.decoding.Code.{Code}
@@ -82,16 +82,16 @@ pub record PartFacts (slots : List (Option Entry)) (part : CodePart) : Type 0 wh
 -- ---- handlers
 
 begins_from : (code : Code) (pc : ℕ) → begins_at code pc ≡ true → Begins code pc
-begins_from code pc h = let b = both_true (has_start code.ops pc) (ltb pc code.length) h in record { begins = b.0; inside = ltb-true _ _ b.1 }
+begins_from code pc h = let b = and_parts (has_start code.ops pc) (ltb pc code.length) h in record { begins = b.0; inside = ltb-true _ _ b.1 }
 
 ends_from : (code : Code) (pc : ℕ) → ends_at code pc ≡ true → Begins code pc ⊎ (pc ≡ code.length)
-ends_from code pc h = elim (either_true (begins_at code pc) (eqb pc code.length) h) [
+ends_from code pc h = elim (or_cases (begins_at code pc) (eqb pc code.length) h) [
   | inl b ↦ inl (begins_from code pc b)
   | inr e ↦ inr (eqb-true _ _ e)
 ]
 
 caught_from : (slots : List (Option Entry)) (i : ℕ) → IsPool slots → is_caught slots i ≡ true → (i ≡ 0) ⊎ NamesClass slots i
-caught_from slots i pool h = elim (either_true (eqb i 0) (is_class (entry_of slots i)) h) [
+caught_from slots i pool h = elim (or_cases (eqb i 0) (is_class (entry_of slots i)) h) [
   | inl e ↦ inl (eqb-true _ _ e)
   | inr c ↦ inr (class_from slots i pool c)
 ]
@@ -238,7 +238,7 @@ map_facts slots pool text m (content, e, lt, (n, t1, m1, e1, s1, (is, frames))) 
 
 run_length : (text run : List ℕ) → RunText text run → (0 < length run) × (length run < 2 ^ 16)
 run_length text run (n, one, more, e, s, (fits, r)) =
-    let b = both_true (ltb 0 n) (ltb n 65536) fits in
+    let b = and_parts (ltb 0 n) (ltb n 65536) fits in
     (subst (λ k. 0 < k) (sym r.1) (ltb-true _ _ b.0), subst (λ k. k < 2 ^ 16) (sym r.1) (ltb-true _ _ b.1))
 
 part_facts_of : (slots : List (Option Entry)) → IsPool slots → (text : List ℕ) (part : CodePart) → PartText slots text part → PartFacts slots part

@@ -1,4 +1,5 @@
 -- Texts by the first slot that has them, and keys of names and descriptors.
+use Rattle.std.proofs.Math.Bool.{or_comm, or_assoc, or-true, or-false}
 use Rattle.std.proofs.Common.{◌≡◌, ℕ, zero, suc, ◌+◌, ◌-◌, ◌*◌, ◌<◌, ◌≤◌, Bool, true, false, cond, eqb, eq-eqb, ◌&&◌, ◌||◌, List, [], ◌∷◌, ◌++◌, length, take, get_or, Option, Some, None, is_some, unwrap_or, refl, sym, ap, ◌∙◌, arith, add-zero}
 use Rattle.std.specs.Prelude.{OnOk, Result, Ok, Err}
 use Rattle.std.specs.Option.{option_or}
@@ -132,30 +133,20 @@ key_same slots n d m e few hn hd hm he =
 is_at_number : (k q : ℕ) → is_at (nat_cmp k) q ≡ eqb k q
 is_at_number k q = grind (arith, nat_tests)
 
-or_comm : (a b : Bool) → cond a true b ≡ (b || a)
-or_comm true true = refl
-or_comm true false = refl
-or_comm false true = refl
-or_comm false false = refl
+cond_or : (a b : Bool) → cond a true b ≡ (b || a)
+cond_or true b = sym (or-true b)
+cond_or false b = sym (or-false b)
 
 -- one more name and descriptor
 pub seen_more : (slots : List (Option Entry)) (before : List MemberPart) (name descriptor : ℕ) (old new : BTreeSet ℕ) → length slots < 65536 → is_text (entry_of slots name) ≡ true → is_text (entry_of slots descriptor) ≡ true
     → IsSeen slots before old → Updates nat_cmp old new (key_of slots name descriptor) true → IsSeenWith slots before name descriptor new
 seen_more slots before name descriptor old new few hn hd seen updates = λ n d tn td.
     updates.0 (key_of slots n d) ∙ ap (λ b. cond b true (contains nat_cmp old (key_of slots n d))) (is_at_number (key_of slots name descriptor) (key_of slots n d) ∙ key_same slots name descriptor n d few hn hd tn td)
-    ∙ ap (cond (is_same slots name descriptor n d) true) (seen n d tn td) ∙ or_comm (is_same slots name descriptor n d) (is_repeated slots before n d)
-
-or_assoc : (a b c : Bool) → (a || (b || c)) ≡ ((a || b) || c)
-or_assoc true b c = refl
-or_assoc false b c = refl
-
-or_false : (a : Bool) → (a || false) ≡ (false || a)
-or_false true = refl
-or_false false = refl
+    ∙ ap (cond (is_same slots name descriptor n d) true) (seen n d tn td) ∙ cond_or (is_same slots name descriptor n d) (is_repeated slots before n d)
 
 is_repeated-push : (slots : List (Option Entry)) (before : List MemberPart) (m : MemberPart) (n d : ℕ) → is_repeated slots (before ++ m ∷ []) n d ≡ (is_repeated slots before n d || is_same slots m.name m.descriptor n d)
-is_repeated-push slots [] m n d = or_false (is_same slots m.name m.descriptor n d)
-is_repeated-push slots (a ∷ before) m n d = ap (λ b. is_same slots a.name a.descriptor n d || b) (is_repeated-push slots before m n d) ∙ or_assoc (is_same slots a.name a.descriptor n d) (is_repeated slots before n d) (is_same slots m.name m.descriptor n d)
+is_repeated-push slots [] m n d = or_comm (is_same slots m.name m.descriptor n d) false
+is_repeated-push slots (a ∷ before) m n d = ap (λ b. is_same slots a.name a.descriptor n d || b) (is_repeated-push slots before m n d) ∙ sym (or_assoc (is_same slots a.name a.descriptor n d) (is_repeated slots before n d) (is_same slots m.name m.descriptor n d))
 
 -- the member of that name and descriptor
 pub seen_member : (slots : List (Option Entry)) (before : List MemberPart) (m : MemberPart) (keys : BTreeSet ℕ) → IsSeenWith slots before m.name m.descriptor keys → IsSeen slots (before ++ m ∷ []) keys

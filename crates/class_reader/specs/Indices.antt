@@ -4,7 +4,8 @@ use Rattle.std.specs.Int.{w16}
 use Rattle.class_pool.specs.declared.fault.Fault.{Fault}
 use Rattle.class_pool.specs.declared.fault.Fault.TheVariants.{BadIndex, BadDescriptor}
 use Rattle.class_pool.specs.declared.pool.Entry.{Entry}
-use Rattle.class_pool.specs.Reading.{◌>>=◌, number_at, tested}
+use Rattle.et_base.specs.Answers.{◌>>=◌, tested}
+use Rattle.class_pool.specs.Reading.{number_at}
 use Rattle.class_pool.specs.Pool.{entry_of, is_text}
 use Rattle.class_pool.specs.Grammar.{Nothing, Then, Tested, Number}
 

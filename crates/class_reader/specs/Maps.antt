@@ -4,7 +4,8 @@ use Rattle.std.specs.Int.{w8, w16, w32}
 use Rattle.class_pool.specs.declared.fault.Fault.{Fault}
 use Rattle.class_pool.specs.declared.fault.Fault.TheVariants.{BadLength}
 use Rattle.class_pool.specs.declared.pool.Entry.{Entry}
-use Rattle.class_pool.specs.Reading.{◌>>=◌, number_at, run_at, tested}
+use Rattle.et_base.specs.Answers.{◌>>=◌, tested}
+use Rattle.class_pool.specs.Reading.{number_at, run_at}
 use Rattle.class_pool.specs.Loops.{counted}
 use Rattle.class_pool.specs.Pool.{is_class}
 use Rattle.class_reader.specs.declared.parts.MapType.{MapType}

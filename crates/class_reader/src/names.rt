@@ -1,7 +1,6 @@
 //! What an index of a class file must name, place by place.
 
 ghost use Rattle.std.specs.Prelude.{◌≡◌, ◌≤◌, true, IfOk};
-ghost use Rattle.std.specs.Str.{bytes_eq};
 ghost use Rattle.class_pool.specs.Pool.{entry_of, is_text, is_class};
 ghost use Rattle.class_pool.specs.Reading.{Gives};
 ghost use Rattle.class_reader.specs.Names.{is_text_of, is_code, is_constant_value, is_stack_map, own_units, has_room, is_small, begins_array, is_own_class, is_field_name, is_field_type, is_method_name, is_method_type, fits_constant, fits_flags};
@@ -11,28 +10,14 @@ use crate::texts::Texts;
 use class_pool::fault::wants;
 use class_pool::fields::u16_at;
 use class_pool::{Entry, Fault, Pool, ReadError};
+use et_base::is_ascii_text;
+use et_base::letters::ARRAY;
 
-const CODE: [u16; 4] = [67, 111, 100, 101];
-
-const STACK_MAP_TABLE: [u16; 13] = [83, 116, 97, 99, 107, 77, 97, 112, 84, 97, 98, 108, 101];
-
-const STRING: [u16; 18] = [
-    76, 106, 97, 118, 97, 47, 108, 97, 110, 103, 47, 83, 116, 114, 105, 110, 103, 59,
-];
-
-const CONSTANT_VALUE: [u16; 13] = [67, 111, 110, 115, 116, 97, 110, 116, 86, 97, 108, 117, 101];
-
-fn same_units(a: &[u16], b: &[u16]) -> bool
-    ensures { result ≡ bytes_eq a.now b.now }
-{
-    a == b
-}
-
-fn is_text_of(pool: &Pool, index: u16, text: &[u16]) -> bool
+fn is_text_of(pool: &Pool, index: u16, text: &[u8]) -> bool
     ensures { result ≡ is_text_of text.now (entry_of pool.now index) }
 {
     match pool.entry(index) {
-        Some(Entry::Utf8(units)) => same_units(units.as_slice(), text),
+        Some(Entry::Utf8(units)) => is_ascii_text(units.as_slice(), text),
         _ => false,
     }
 }
@@ -41,21 +26,21 @@ fn is_text_of(pool: &Pool, index: u16, text: &[u16]) -> bool
 pub fn names_code(pool: &Pool, index: u16) -> bool
     ensures { result ≡ is_code (entry_of pool.now index) }
 {
-    is_text_of(pool, index, &CODE)
+    is_text_of(pool, index, b"Code")
 }
 
 /// Whether the index names the text `ConstantValue`.
 pub fn names_constant_value(pool: &Pool, index: u16) -> bool
     ensures { result ≡ is_constant_value (entry_of pool.now index) }
 {
-    is_text_of(pool, index, &CONSTANT_VALUE)
+    is_text_of(pool, index, b"ConstantValue")
 }
 
 /// Whether the index names the text `StackMapTable`.
 pub fn names_stack_map(pool: &Pool, index: u16) -> bool
     ensures { result ≡ is_stack_map (entry_of pool.now index) }
 {
-    is_text_of(pool, index, &STACK_MAP_TABLE)
+    is_text_of(pool, index, b"StackMapTable")
 }
 
 /// Whether the index names a text.
@@ -82,7 +67,7 @@ fn begins_array(pool: &Pool, index: u16) -> bool
     ensures { result ≡ begins_array (entry_of pool.now index) }
 {
     match pool.entry(index) {
-        Some(Entry::Utf8(units)) => units.as_slice().first() == Some(&91),
+        Some(Entry::Utf8(units)) => units.as_slice().first() == Some(&ARRAY),
         _ => false,
     }
 }
@@ -122,11 +107,11 @@ fn is_method_type(texts: &Texts, flags: u16, index: u16) -> bool
 fn is_small(pool: &Pool, descriptor: u16) -> bool
     ensures { result ≡ is_small (entry_of pool.now descriptor) }
 {
-    is_text_of(pool, descriptor, &[73])
-        || is_text_of(pool, descriptor, &[83])
-        || is_text_of(pool, descriptor, &[67])
-        || is_text_of(pool, descriptor, &[66])
-        || is_text_of(pool, descriptor, &[90])
+    is_text_of(pool, descriptor, b"I")
+        || is_text_of(pool, descriptor, b"S")
+        || is_text_of(pool, descriptor, b"C")
+        || is_text_of(pool, descriptor, b"B")
+        || is_text_of(pool, descriptor, b"Z")
 }
 
 /// Whether the index names a constant that fits the descriptor (JVMS table 4.7.2-A).
@@ -135,10 +120,10 @@ pub fn fits_constant(pool: &Pool, descriptor: u16, index: u16) -> bool
 {
     match pool.entry(index) {
         Some(Entry::Integer(_)) => is_small(pool, descriptor),
-        Some(Entry::Float(_)) => is_text_of(pool, descriptor, &[70]),
-        Some(Entry::Long(_)) => is_text_of(pool, descriptor, &[74]),
-        Some(Entry::Double(_)) => is_text_of(pool, descriptor, &[68]),
-        Some(Entry::Str { .. }) => is_text_of(pool, descriptor, &STRING),
+        Some(Entry::Float(_)) => is_text_of(pool, descriptor, b"F"),
+        Some(Entry::Long(_)) => is_text_of(pool, descriptor, b"J"),
+        Some(Entry::Double(_)) => is_text_of(pool, descriptor, b"D"),
+        Some(Entry::Str { .. }) => is_text_of(pool, descriptor, b"Ljava/lang/String;"),
         _ => false,
     }
 }

@@ -126,7 +126,9 @@ fn spelling(alloc: Global, parts: &ClassParts) -> Result<Vec<u8>, NoMemory>
 /// pool that is its name. Padding in code is written as zeros. It takes time in proportion to the bytes
 /// and to the pool.
 pub fn write_class(alloc: Global, class: &ClassFile) -> Result<Vec<u8>, NoMemory>
-    // What is written spells the class file.
+    // What is written is this spelling.
+    ensures bytes { IfOk result (λ v. v.items ≡ class_spelling class.now) }
+    // It spells the class file.
     ensures written { IfOk result (λ v. class_bytes v.items class.now) }
     // So reading it gives the same.
     ensures again { IfOk result (λ v. class_of v.items ≡ Ok class.now) }

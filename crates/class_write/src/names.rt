@@ -1,17 +1,11 @@
 //! Where the names of attributes stand in a pool.
 
 ghost use Rattle.std.specs.Prelude.{◌≡◌, ◌+◌, ◌<◌, ◌^◌, length};
-ghost use Rattle.std.specs.Str.{bytes_eq};
 ghost use Rattle.class_reader.specs.Names.{is_text_of};
 ghost use Rattle.class_write.specs.Spelling.{index_of, names_of};
 
 use class_pool::{Entry, Pool};
-
-const CONSTANT_VALUE: [u16; 13] = [67, 111, 110, 115, 116, 97, 110, 116, 86, 97, 108, 117, 101];
-
-const CODE: [u16; 4] = [67, 111, 100, 101];
-
-const STACK_MAP_TABLE: [u16; 13] = [83, 116, 97, 99, 107, 77, 97, 112, 84, 97, 98, 108, 101];
+use et_base::is_ascii_text;
 
 /// The pool indices of the names of the attributes that are written; 0 where the pool lacks one.
 #[derive(Clone, Copy, Debug)]
@@ -24,23 +18,17 @@ pub struct Names {
     pub stack_map: u16,
 }
 
-fn same_units(a: &[u16], b: &[u16]) -> bool
-    ensures { result ≡ bytes_eq a.now b.now }
-{
-    a == b
-}
-
-fn is_text_of(slot: &Option<Entry>, text: &[u16]) -> bool
+fn is_text_of(slot: &Option<Entry>, text: &[u8]) -> bool
     ensures { result ≡ is_text_of text.now slot.now }
 {
     match slot {
-        Some(Entry::Utf8(units)) => same_units(units.as_slice(), text),
+        Some(Entry::Utf8(units)) => is_ascii_text(units.as_slice(), text),
         _ => false,
     }
 }
 
 // The index of the first entry that is this text.
-fn index_of(slots: &[Option<Entry>], text: &[u16]) -> u16
+fn index_of(slots: &[Option<Entry>], text: &[u8]) -> u16
     requires { length slots.now + 1 < 2 ^ 16 }
     ensures { result ≡ index_of slots.now text.now }
 {
@@ -57,9 +45,9 @@ fn names_in(slots: &[Option<Entry>]) -> Names
     ensures { result ≡ names_of slots.now }
 {
     Names {
-        constant_value: index_of(slots, &CONSTANT_VALUE),
-        code: index_of(slots, &CODE),
-        stack_map: index_of(slots, &STACK_MAP_TABLE),
+        constant_value: index_of(slots, b"ConstantValue"),
+        code: index_of(slots, b"Code"),
+        stack_map: index_of(slots, b"StackMapTable"),
     }
 }
 

@@ -4,7 +4,7 @@ use Rattle.std.specs.List.{list_all, enumerate_from}
 use Rattle.std.specs.Int.{Width, w8, w16, w32, byte_len, cast_signed}
 use lib.Signed.{le_z_yes, lt_z_yes}
 use borrow.Author.Gap.{read_sfits}
-use Rattle.std.proofs.lemmas.Bool.{eq-eqb, ltb-true, leb-true}
+use Rattle.std.proofs.lemmas.Bool.{eq-eqb, ltb-true, leb-true, and_parts}
 use Rattle.std.proofs.lemmas.Bool.Decides.{nat_tests}
 use Rattle.std.proofs.lemmas.Int.{ints}
 use Rattle.std.proofs.lemmas.List.{length-append}
@@ -12,7 +12,6 @@ use Rattle.std.proofs.lemmas.List.FromFn.{length-enumerate_from, get_or-enumerat
 use Rattle.std.proofs.lemmas.List.Elements.{All-nil, All-push}
 use Rattle.class_pool.specs.declared.pool.Entry.{Entry}
 use Rattle.class_pool.specs.Pool.{entry_of}
-use Rattle.class_pool.proofs.Laws.{both_true}
 use Rattle.class_pool.proofs.GrammarFacts.{chain_counts}
 use Rattle.code_decode.specs.declared.instructions.RawOp.{RawOp}
 use Rattle.code_decode.specs.declared.judging.Fit.{Fit}
@@ -157,23 +156,23 @@ fitting_facts w fits text args (n, one, more, e, s, (right, (none, is))) = recor
 
 interface_facts : (slots : List (Option Entry)) (text : List ℕ) (args : List ℤ) → InterfaceText slots text args → IndexCount (CallsInterface slots) args
 interface_facts slots text args (n, one, more, e, s, (count, two, rest, f, t, (last, three, end, g, u, (right, (fits, (none, is)))))) =
-    record { index = n; count = count; is = is; small = s.1; few = t.1; so = (right_is _ right, (both_true _ _ fits).0) }
+    record { index = n; count = count; is = is; small = s.1; few = t.1; so = (right_is _ right, (and_parts _ _ fits).0) }
 
 dimensions_facts : (slots : List (Option Entry)) (text : List ℕ) (args : List ℤ) → DimensionsText slots text args → IndexCount (MakesArrays slots) args
 dimensions_facts slots text args (n, one, more, e, s, (count, two, rest, f, t, (right, (fits, (none, is))))) =
-    let b = both_true _ _ fits in
+    let b = and_parts _ _ fits in
     record { index = n; count = count; is = is; small = s.1; few = t.1; so = (right_is _ right, ltb-true _ _ b.0, leb-true _ _ b.1) }
 
 -- ---- places
 
 start_place : (ops : List RawOp) (total : ℕ) (z : ℤ) → is_start ops total z ≡ true → IsPlace ops total z
-start_place ops total (pos n) h = let b = both_true (has_start ops n) (ltb n total) h in record { at = n; is = refl; begins = b.0; inside = ltb-true _ _ b.1 }
+start_place ops total (pos n) h = let b = and_parts (has_start ops n) (ltb n total) h in record { at = n; is = refl; begins = b.0; inside = ltb-true _ _ b.1 }
 start_place ops total (negsuc n) h = absurd cc
 
 all_at : {A : Type 0} (test : A → Bool) (xs : List A) (i : ℕ) (d : A) → list_all test xs ≡ true → i < length xs → test (get_or xs i d) ≡ true
 all_at test [] i d h lt = absurd (omega arith)
-all_at test (x ∷ xs) zero d h lt = (both_true (test x) (list_all test xs) h).0
-all_at test (x ∷ xs) (suc i) d h lt = all_at test xs i d (both_true (test x) (list_all test xs) h).1 (omega arith)
+all_at test (x ∷ xs) zero d h lt = (and_parts (test x) (list_all test xs) h).0
+all_at test (x ∷ xs) (suc i) d h lt = all_at test xs i d (and_parts (test x) (list_all test xs) h).1 (omega arith)
 
 from_zero : (i : ℕ) → 0 + i ≡ i
 from_zero i = omega arith

@@ -5,7 +5,8 @@ use Rattle.std.specs.Int.{Width, w8, w16, w32, byte_len, cast_signed}
 use Rattle.class_pool.specs.declared.fault.Fault.{Fault}
 use Rattle.class_pool.specs.declared.pool.Entry.{Entry}
 use Rattle.class_pool.specs.Pool.{entry_of}
-use Rattle.class_pool.specs.Reading.{◌>>=◌, number_or, run_or, tested}
+use Rattle.et_base.specs.Answers.{◌>>=◌, tested}
+use Rattle.class_pool.specs.Reading.{number_or, run_or}
 use Rattle.class_pool.specs.Loops.{folded}
 use Rattle.class_pool.specs.Grammar.{Nothing, Never, Tested, Run, Counted}
 use Rattle.class_pool.proofs.Laws.{Reads, reads_nothing, reads_then, tested_then, reads_mapped, reads_if, reads_never, IsWide, wide8, wide16, wide32, reads_number, reads_run, reads_counted, reads_folded}

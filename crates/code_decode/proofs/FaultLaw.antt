@@ -8,7 +8,8 @@ use Rattle.class_pool.specs.declared.fault.ReadError.{ReadError}
 use Rattle.class_pool.specs.declared.fault.ReadError.TheVariants as errors
 use Rattle.class_pool.specs.declared.pool.Entry.{Entry}
 use Rattle.class_pool.specs.Pool.{entry_of}
-use Rattle.class_pool.specs.Reading.{◌>>=◌, Fails, number_or, run_or, tested}
+use Rattle.et_base.specs.Answers.{◌>>=◌, Fails, tested}
+use Rattle.class_pool.specs.Reading.{named, number_or, run_or}
 use Rattle.class_pool.specs.Loops.{counted, folded, to_end}
 use Rattle.code_decode.specs.declared.place.Spot.{Spot}
 use Rattle.code_decode.specs.declared.instructions.RawOp.{RawOp}
@@ -217,6 +218,6 @@ unfolding code_at
 named_code method slots bytes = named_then method (ops_at method slots bytes) _ (named_ops method slots bytes)
     (λ ops. named_then method (targets_fit method (is_start ops (length bytes)) ops) _ (named_targets method (is_start ops (length bytes)) ops) (λ _. named_ok method _))
 
-pub code_error : (error : ReadError) (method : ℕ) (slots : List (Option Entry)) (bytes : List ℕ) → Fails error (code_at method slots bytes) → IsCodeError method error
+pub code_error : (error : ReadError) (method : ℕ) (slots : List (Option Entry)) (bytes : List ℕ) → Fails (named error) (code_at method slots bytes) → IsCodeError method error
 code_error errors.Memory method slots bytes fails = tt
 code_error (errors.Fault f) method slots bytes fails = (named_code method slots bytes).of f fails

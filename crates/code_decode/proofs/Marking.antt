@@ -1,4 +1,5 @@
 -- Marks of the places where instructions start.
+use Rattle.std.proofs.Math.Bool.{or-true, or-false}
 use Rattle.std.proofs.Common.{◌≡◌, ◌≢◌, ℕ, ◌<◌, ◌≤◌, Bool, true, false, cond, eqb, eq-eqb, ltb, ◌&&◌, ◌||◌, List, [], ◌∷◌, ◌++◌, length, get_or, set, refl, sym, ap, ◌∙◌, arith, inl, inr, get_or-set_other, get_or-set_same}
 use Rattle.std.proofs.Math.ListN.{length-set}
 use Rattle.std.proofs.lemmas.Bool.{cases_lt, le-ltb, lt-ltb, eqb-true}
@@ -11,14 +12,6 @@ has_start-push : (ops : List RawOp) (o : RawOp) (i : ℕ) → has_start (ops ++ 
 has_start-push [] o i = elim (eqb o.pc i) as (λ b. (b || false) ≡ (false || b)) [ true ↦ refl | false ↦ refl ]
 has_start-push (a ∷ ops) o i = ap (λ b. eqb a.pc i || b) (has_start-push ops o i) ∙ elim (eqb a.pc i) as (λ b. (b || (has_start ops i || eqb o.pc i)) ≡ ((b || has_start ops i) || eqb o.pc i)) [ true ↦ refl | false ↦ refl ]
 
-or_true : (a : Bool) → (a || true) ≡ true
-or_true true = refl
-or_true false = refl
-
-or_false : (a : Bool) → a ≡ (a || false)
-or_false true = refl
-or_false false = refl
-
 pub marks_more : (marks : List Bool) (ops : List RawOp) (o : RawOp) (total : ℕ) → o.pc < length marks → Marks marks ops total → Marks (set marks o.pc true) (ops ++ o ∷ []) total
 marks_more marks ops o total lt m = record {
   len = length-set marks o.pc true ∙ m.len;
@@ -27,8 +20,8 @@ marks_more marks ops o total lt m = record {
         let q : i ≡ o.pc = sym (eqb-true _ _ e) in
         let here : get_or (set marks o.pc true) o.pc false ≡ true = rw get_or-set_same refl in
         let inside : ltb i total ≡ true = lt-ltb _ _ (omega (arith, m.len)) in
-        ap (λ k. get_or (set marks o.pc true) k false) q ∙ here ∙ sym (rw (or_true (has_start ops i), inside) refl)
-    | false ↦ λ e. let ne : i ≢ o.pc = λ q. (let r : eqb o.pc i ≡ true = eq-eqb _ _ (sym q) in absurd cc) in rw get_or-set_other (m.at i ∙ ap (λ b. b && ltb i total) (or_false (has_start ops i)))
+        ap (λ k. get_or (set marks o.pc true) k false) q ∙ here ∙ sym (rw (or-true (has_start ops i), inside) refl)
+    | false ↦ λ e. let ne : i ≢ o.pc = λ q. (let r : eqb o.pc i ≡ true = eq-eqb _ _ (sym q) in absurd cc) in rw get_or-set_other (m.at i ∙ ap (λ b. b && ltb i total) (sym (or-false (has_start ops i))))
   ] refl);
 }
 
@@ -37,7 +30,7 @@ marks_past marks ops o total le m = record {
   len = m.len;
   at = λ i. rw has_start-push (elim (eqb o.pc i) as (λ b. eqb o.pc i ≡ b → get_or marks i false ≡ ((has_start ops i || b) && ltb i total)) [
     | true ↦ λ e. grind (arith, nat_tests, m.len, m.at i)
-    | false ↦ λ e. m.at i ∙ ap (λ b. b && ltb i total) (or_false (has_start ops i))
+    | false ↦ λ e. m.at i ∙ ap (λ b. b && ltb i total) (sym (or-false (has_start ops i)))
   ] refl);
 }
 

@@ -1,9 +1,9 @@
 -- What an instruction names by an index that fits it.
-use Rattle.std.proofs.Common.{◌≡◌, ◌≢◌, ◌⊎◌, ℕ, ◌+◌, ◌<◌, ℤ, FitsSigned, Bool, true, false, cond, eqb, ltb, eq-eqb, ◌||◌, List, [], ◌∷◌, length, take, Option, Some, None, refl, sym, ap, subst, ◌∙◌, arith, inl, inr}
+use Rattle.std.proofs.Common.{◌≡◌, ◌≢◌, ◌⊎◌, ℕ, ◌+◌, ◌<◌, ℤ, FitsSigned, Bool, true, false, cond, eqb, ltb, ◌||◌, List, [], ◌∷◌, length, take, Option, Some, None, refl, sym, ap, subst, ◌∙◌, arith, inl, inr}
 use Rattle.std.specs.Prelude.{unwrap_or}
 use Rattle.std.specs.List.{prefix_len}
 use Rattle.std.specs.Int.{w32, w64}
-use Rattle.std.proofs.lemmas.Bool.{eqb-true, ltb-false}
+use Rattle.std.proofs.lemmas.Bool.{eqb-true, ltb-false, eqb-false}
 use Rattle.std.proofs.lemmas.List.{length-take}
 use Rattle.class_pool.specs.declared.pool.Entry.{Entry}
 use Rattle.class_pool.specs.declared.pool.Entry.TheVariants.{Integer, Long, Class, Str, Field, Method, InterfaceMethod}
@@ -105,14 +105,11 @@ made_name us h f =
 array_whole : (us : List ℕ) → array_fit us ≡ fit.Right → IsWhole us
 array_whole us f = (foreign_unless (is_real_array us) fit.Right f).0
 
-unequal : (a b : ℕ) → eqb a b ≡ false → a ≢ b
-unequal a b h e = let same : eqb a b ≡ true = eq-eqb a b e in absurd cc
-
 element_so : (us : List ℕ) → element_fit us ≡ fit.Right → IsWhole us × (dimensions us ≢ 255)
 element_so us f =
     let a = foreign_unless (is_real_array us) _ f in
     let b = wrong_unless (eqb (dimensions us) 255) fit.Right a.1 in
-    (a.0, unequal (dimensions us) 255 b.0)
+    (a.0, eqb-false (dimensions us) 255 b.0)
 
 positive : (n : ℕ) → n ≢ 0 → 0 < n
 positive n ne = omega (arith, ne)
@@ -120,7 +117,7 @@ positive n ne = omega (arith, ne)
 nested_so : (us : List ℕ) → nested_fit us ≡ fit.Right → IsWhole us × (0 < dimensions us)
 nested_so us f =
     let a = wrong_unless (eqb (dimensions us) 0) (array_fit us) f in
-    (array_whole us a.1, positive (dimensions us) (unequal (dimensions us) 0 a.0))
+    (array_whole us a.1, positive (dimensions us) (eqb-false (dimensions us) 0 a.0))
 
 -- ---- classes
 

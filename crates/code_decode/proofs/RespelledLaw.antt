@@ -3,11 +3,11 @@ use Rattle.std.proofs.Common.{◌≡◌, ℕ, ◌+◌, Bool, true, false, not, c
 use Rattle.std.specs.Prelude.{ℤ, pos, negsuc}
 use Rattle.std.specs.List.{AllByRecursion, flat_map, list_all, enumerate_from}
 use Rattle.std.specs.Int.{w8, w16, w32, to_be_bytes}
-use Rattle.std.proofs.lemmas.Bool.{eqb-true}
+use Rattle.std.proofs.lemmas.Bool.{eqb-true, and_parts}
 use Rattle.std.proofs.lemmas.List.{length-append}
 use Rattle.class_pool.specs.declared.pool.Entry.{Entry}
 use Rattle.class_pool.specs.Pool.{entry_of}
-use Rattle.class_pool.proofs.Laws.{both_true, picked_bool}
+use Rattle.class_pool.proofs.Laws.{picked_bool}
 use Rattle.code_decode.specs.declared.instructions.RawOp.{RawOp}
 use Rattle.code_decode.specs.declared.decoding.Code.{Code}
 use Rattle.code_decode.specs.declared.opcodes.Shape.{Shape}
@@ -117,7 +117,7 @@ start_inside ops total (negsuc n) false h = refl
 all_weaker : {X : Type 0} (p q : X → Bool) → ((x : X) → p x ≡ true → q x ≡ true) → (xs : List X) → list_all p xs ≡ true → list_all q xs ≡ true
 all_weaker p q weaker [] h = refl
 all_weaker p q weaker (x ∷ xs) h =
-    let both = both_true (p x) (list_all p xs) h in
+    let both = and_parts (p x) (list_all p xs) h in
     ap (λ b. b && list_all q xs) (weaker x both.0) ∙ all_weaker p q weaker xs both.1
 
 all_inside : (all : List RawOp) (total : ℕ) (ops : List RawOp) → AllByRecursion (λ o. leads_to (is_start all total) o ≡ true) ops → AllByRecursion (λ o. leads_to is_inside o ≡ true) ops

@@ -2,11 +2,10 @@
 use Rattle.std.proofs.Common.{◌≡◌, ℕ, ◌*◌, ◌^◌, ◌<◌, Bool, true, false, cond, ltb, ◌&&◌, List, [], ◌∷◌, ◌++◌, Option, Some, refl, sym, ap, ◌∙◌, arith}
 use Rattle.std.specs.Prelude.{ℤ, pos, negsuc, ◌+ℤ◌, ◌-ℤ◌}
 use Rattle.std.specs.Int.{Width, w8, w16, w32, byte_len, to_be_bytes, cast_signed, cast_unsigned}
-use Rattle.std.proofs.lemmas.Bool.{eqb-true}
+use Rattle.std.proofs.lemmas.Bool.{eqb-true, and_parts}
 use Rattle.std.proofs.lemmas.Int.{ints, of_z-to_z}
 use Rattle.std.proofs.lemmas.List.{append-nil}
 use Rattle.class_pool.specs.declared.pool.Entry.{Entry}
-use Rattle.class_pool.proofs.Laws.{both_true}
 use Rattle.code_decode.specs.declared.judging.Fit.{Fit}
 use Rattle.code_decode.specs.declared.opcodes.Shape.TheVariants as shape
 use Rattle.code_decode.specs.Place.{place, target}
@@ -63,7 +62,7 @@ pub branch_same : (w : Width) (total pc : ℕ) → Turns w → (text : List ℕ)
 branch_same w total pc turns text args (n, s, e) inside =
     let z = target total pc (cast_signed w n) in
     let h : (is_inside z && true) ≡ true = ap (leads (Some shape.Branch) is_inside) (sym e) ∙ inside in
-    s.0 ∙ offset_same w total pc n z turns s.1 refl (both_true (is_inside z) true h).0 ∙ ap (one_bytes (offset_bytes w pc)) (sym e)
+    s.0 ∙ offset_same w total pc n z turns s.1 refl (and_parts (is_inside z) true h).0 ∙ ap (one_bytes (offset_bytes w pc)) (sym e)
 
 pub increment_same : (w : Width) → Turns w → (text : List ℕ) (args : List ℤ) → IncrementText w text args → text ≡ two_bytes (number_bytes w) (signed_bytes w) args
 increment_same w turns text args (local, one, more, e, s, (by, t, is)) =
@@ -75,7 +74,7 @@ fitting_same w fits text args (n, one, more, e, s, (right, (none, is))) =
 
 pub interface_same : (slots : List (Option Entry)) (text : List ℕ) (args : List ℤ) → InterfaceText slots text args → text ≡ two_bytes (number_bytes w16) (λ count. number_bytes w8 count ++ 0 ∷ []) args
 interface_same slots text args (n, one, more, e, s, (count, two, rest, f, t, (last, three, end, g, u, (right, (fits, (none, is)))))) =
-    let nothing : last ≡ 0 = eqb-true _ _ (both_true _ _ fits).1 in
+    let nothing : last ≡ 0 = eqb-true _ _ (and_parts _ _ fits).1 in
     let third : rest ≡ 0 ∷ [] = g ∙ ap (λ m. three ++ m) none ∙ append-nil three ∙ u.0 ∙ ap (to_be_bytes w8) nothing in
     e ∙ ap (λ o. o ++ more) s.0 ∙ ap (λ m. to_be_bytes w16 n ++ m) (f ∙ ap (λ o. o ++ rest) t.0 ∙ ap (λ m. to_be_bytes w8 count ++ m) third) ∙ ap (two_bytes (number_bytes w16) (λ count. number_bytes w8 count ++ 0 ∷ [])) (sym is)
 

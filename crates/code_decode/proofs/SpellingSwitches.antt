@@ -1,4 +1,5 @@
 -- The spelling of switches.
+use Rattle.std.proofs.lemmas.Bool.{and_parts}
 use Rattle.std.proofs.Common.{◌≡◌, ℕ, zero, suc, ◌+◌, ◌/◌, ◌%◌, ◌≤◌, Bool, true, not, ◌||◌, List, [], ◌∷◌, ◌++◌, length, replicate, Some, refl, sym, ap, subst, ◌∙◌, append_assoc, arith}
 use Rattle.std.specs.Prelude.{ℤ}
 use Rattle.std.specs.List.{flat_map, list_all, enumerate_from}
@@ -6,7 +7,6 @@ use Rattle.std.specs.Int.{w32, to_be_bytes}
 use Rattle.std.proofs.lemmas.Bool.Decides.{nat_tests}
 use Rattle.std.proofs.lemmas.List.{append-nil, length-append, length-replicate}
 use Rattle.class_pool.specs.Grammar.{IsBytes, Nothing, Then, Tested, Counted, Joined, Chain}
-use Rattle.class_pool.proofs.Laws.{both_true}
 use Rattle.code_decode.specs.declared.opcodes.Shape.{Shape}
 use Rattle.code_decode.specs.declared.opcodes.Shape.TheVariants as shape
 use Rattle.code_decode.specs.Targets.{is_place, leads}
@@ -63,7 +63,7 @@ row_place i b le h = grind (arith, nat_tests)
 rows_same : (total pc : ℕ) (xs before : List ℤ) (text : List ℕ) (i : ℕ) → 3 ≤ i → Joined (λ _ _. PlaceText total pc) before text xs → inside_from shape.Table i xs ≡ true → text ≡ flat_map (offset_bytes w32 pc) xs
 rows_same total pc [] before text i le s h = s
 rows_same total pc (x ∷ xs) before text i le (one, more, e, s, others) h =
-    let p = both_true _ _ h in
+    let p = and_parts _ _ h in
     let first : one ≡ offset_bytes w32 pc x = place_same total pc one x s (row_place i (is_inside x) le p.0) in
     e ∙ ap (λ o. o ++ more) first ∙ ap (λ m. offset_bytes w32 pc x ++ m) (rows_same total pc xs (before ++ x ∷ []) more (i + 1) (omega arith) others p.1)
 
@@ -76,7 +76,7 @@ pub table_again : (total pc : ℕ) (text : List ℕ) (args : List ℤ) → Table
 table_again total pc text args (other, one, more, e, s, (ends, two, rows, f, t, (xs, is, len, joined))) inside =
     let made : List ℤ = other ∷ ends.0 ∷ ends.1 ∷ xs in
     let h : leads (Some shape.Table) is_inside made ≡ true = ap (leads (Some shape.Table) is_inside) (sym is) ∙ inside in
-    let p = both_true (is_inside other) (inside_from shape.Table 3 xs) h in
+    let p = and_parts (is_inside other) (inside_from shape.Table 3 xs) h in
     let second : more ≡ (signed_bytes w32 ends.0 ++ signed_bytes w32 ends.1) ++ flat_map (offset_bytes w32 pc) xs =
     f ∙ ap (λ o. o ++ rows) (ends_same two ends t) ∙ ap (λ m. (signed_bytes w32 ends.0 ++ signed_bytes w32 ends.1) ++ m) (rows_same total pc xs (other ∷ ends.0 ∷ ends.1 ∷ []) rows 3 (omega arith) joined p.1) in
     let whole : Respelled (TableText total pc) (one ++ more) (table_bytes pc made) args =
@@ -105,8 +105,8 @@ pairs_of total pc (suc n) before text args (mid, one, more, e, (key, two, rest, 
       all = r.all ∙ append_assoc before (key ∷ to ∷ []) r.pairs;
       len = omega (arith, r.len);
       same = λ i odd h.
-          let p = both_true (not (is_place (Some shape.Lookup) i) || is_inside key) _ h in
-          let q = both_true (not (is_place (Some shape.Lookup) (i + 1)) || is_inside to) _ p.1 in
+          let p = and_parts (not (is_place (Some shape.Lookup) i) || is_inside key) _ h in
+          let q = and_parts (not (is_place (Some shape.Lookup) (i + 1)) || is_inside to) _ p.1 in
           let first : two ≡ signed_bytes w32 key = word_same two key s in
           let second : rest ≡ offset_bytes w32 pc to = place_same total pc rest to t (lookup_place i (is_inside to) odd q.0) in
           let third : more ≡ pair_bytes pc r.pairs = r.same (i + 1 + 1) (omega arith) q.1 in
@@ -125,7 +125,7 @@ lookup_again total pc text args (other, one, more, e, s, (listed, two, rest, f, 
     let r = pairs_of total pc n (other ∷ []) four listed chain in
     let all : args ≡ other ∷ r.pairs = is ∙ r.all in
     let h : leads (Some shape.Lookup) is_inside (other ∷ r.pairs) ≡ true = ap (leads (Some shape.Lookup) is_inside) (sym all) ∙ inside in
-    let p = both_true (is_inside other) (inside_from shape.Lookup 1 r.pairs) h in
+    let p = and_parts (is_inside other) (inside_from shape.Lookup 1 r.pairs) h in
     let second : more ≡ to_be_bytes w32 (length r.pairs / 2) ++ pair_bytes pc r.pairs =
     f ∙ ap (λ m. two ++ m) none ∙ append-nil two ∙ g ∙ ap (λ o. o ++ four) (count_same three n t ∙ ap (to_be_bytes w32) (half n (length r.pairs) r.len))
     ∙ ap (λ m. to_be_bytes w32 (length r.pairs / 2) ++ m) (r.same 1 refl p.1) in

@@ -5,7 +5,7 @@ use Rattle.class_pool.specs.declared.fault.Fault.TheVariants as faults
 use Rattle.class_pool.specs.declared.fault.ReadError.{ReadError}
 use Rattle.class_pool.specs.declared.fault.ReadError.TheVariants as errors
 use Rattle.class_pool.specs.declared.pool.Entry.{Entry}
-use Rattle.class_pool.specs.Reading.{◌>>=◌}
+use Rattle.et_base.specs.Answers.{◌>>=◌}
 use Rattle.code_decode.specs.declared.decoding.Code.{Code}
 use Rattle.code_decode.specs.declared.decoding.CodeFault.{CodeFault}
 use Rattle.code_decode.specs.declared.decoding.CodeFault.TheVariants as code

@@ -3,7 +3,8 @@ use Rattle.std.specs.Prelude.{ℕ, ℤ, ◌-◌, List, [], length, Option, Some,
 use Rattle.std.specs.Int.{w8, w16, w32}
 use Rattle.class_pool.specs.declared.fault.Fault.{Fault}
 use Rattle.class_pool.specs.declared.pool.Entry.{Entry}
-use Rattle.class_pool.specs.Reading.{◌>>=◌, number_or}
+use Rattle.et_base.specs.Answers.{◌>>=◌}
+use Rattle.class_pool.specs.Reading.{number_or}
 use Rattle.class_pool.specs.Loops.{to_end}
 use Rattle.class_pool.specs.Pool.{entry_of}
 use Rattle.code_decode.specs.declared.place.Spot.{Spot}

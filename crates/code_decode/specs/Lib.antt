@@ -1,4 +1,5 @@
 pub mod Place
+pub mod Held
 pub mod Opcodes
 pub mod Judging
 pub mod Operands

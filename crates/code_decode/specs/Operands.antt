@@ -3,7 +3,8 @@ use Rattle.std.specs.Prelude.{ℕ, ℤ, pos, List, [], ◌∷◌, Option, Result
 use Rattle.std.specs.Int.{Width, w8, w16, cast_signed}
 use Rattle.class_pool.specs.declared.fault.Fault.{Fault}
 use Rattle.class_pool.specs.declared.pool.Entry.{Entry}
-use Rattle.class_pool.specs.Reading.{◌>>=◌, number_or, tested}
+use Rattle.et_base.specs.Answers.{◌>>=◌, tested}
+use Rattle.class_pool.specs.Reading.{number_or}
 use Rattle.class_pool.specs.Pool.{entry_of}
 use Rattle.code_decode.specs.declared.place.Spot.{Spot}
 use Rattle.code_decode.specs.declared.judging.Fit.{Fit}

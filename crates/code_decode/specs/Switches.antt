@@ -3,7 +3,8 @@ use Rattle.std.specs.Prelude.{ℕ, ℤ, pos, ◌+◌, ◌-◌, ◌%◌, ◌-ℤ�
 use Rattle.std.specs.Int.{w32, cast_signed}
 use Rattle.std.specs.List.{list_all, enumerate_from}
 use Rattle.class_pool.specs.declared.fault.Fault.{Fault}
-use Rattle.class_pool.specs.Reading.{◌>>=◌, number_or, run_or, tested}
+use Rattle.et_base.specs.Answers.{◌>>=◌, tested}
+use Rattle.class_pool.specs.Reading.{number_or, run_or}
 use Rattle.class_pool.specs.Loops.{counted, folded}
 use Rattle.code_decode.specs.declared.place.Spot.{Spot}
 use Rattle.code_decode.specs.Place.{cut, wrong, target}

@@ -1,7 +1,8 @@
 //! A whole code.
 
 ghost use Rattle.std.specs.Prelude.{◌≡◌, ◌<◌, length, IfOk, IfErr, Ok, Err, Result};
-ghost use Rattle.class_pool.specs.Reading.{Gives, Fails, nothing};
+ghost use Rattle.et_base.specs.Answers.{Fails, nothing};
+ghost use Rattle.class_pool.specs.Reading.{named, Gives};
 ghost use Rattle.class_pool.specs.declared.fault.Fault.{Fault};
 ghost use Rattle.code_decode.specs.Targets.{Marks, is_start, is_marked, targets_fit};
 ghost use Rattle.code_decode.specs.Instructions.{ops_at};
@@ -77,7 +78,7 @@ pub fn code_at(
 // The public form of an error.
 fn code_fault(error: ReadError) -> CodeFault
     requires { IsCodeError 0 error }
-    ensures { (read : Result Code Fault) → Fails error read → Faults result read }
+    ensures { (read : Result Code Fault) → Fails (named error) read → Faults result read }
 {
     match error {
         ReadError::Memory => CodeFault::NoMemory,

@@ -5,6 +5,7 @@ ghost use Rattle.std.specs.Int.{w8, w16};
 ghost use Rattle.class_pool.specs.Reading.{Gives};
 ghost use Rattle.code_decode.specs.Instructions.{args_at, shaped_at, wide_args_at, wide_at, op_at, spot_at, ops_at};
 
+use crate::args::Args;
 use crate::opcodes::{Shape, shape_of, takes_local};
 use crate::operands::{
     branch_of, byte_of, constant_of, dimensions_of, entry_of, far_branch_of, increment_of,
@@ -29,7 +30,7 @@ pub struct RawOp {
     /// Its operands in the order of JVMS 6.5, without padding and without the zero of invokeinterface. Places in
     /// the code are pcs. tableswitch has its default, low, high and the places; lookupswitch its
     /// default, then keys and places in turn.
-    pub args: Items<i32>,
+    pub args: Args,
 }
 
 #[tactic(auto, unfolding(crate::specs::Instructions::args_at))]
@@ -40,23 +41,23 @@ fn args_of<'a>(
     opcode: u8,
     shape: Shape,
     bytes: &'a [u8],
-) -> Result<(Items<i32>, &'a [u8]), ReadError>
+) -> Result<(Args, &'a [u8]), ReadError>
     ensures { Gives (λ x. (x.0, x.1.now)) result (args_at pool.now spot.now opcode shape bytes.now) }
 {
     match shape {
-        Shape::Plain => Ok((Items::new(alloc), bytes)),
-        Shape::Byte => byte_of(alloc, spot, bytes),
-        Shape::Short => short_of(alloc, spot, bytes),
-        Shape::Local => local_of(alloc, spot, bytes),
-        Shape::Increment => increment_of(alloc, spot, bytes),
-        Shape::Near(constant) => near_constant_of(alloc, pool, spot, opcode, constant, bytes),
-        Shape::Far(constant) => constant_of(alloc, pool, spot, opcode, constant, bytes),
-        Shape::Entry(named) => entry_of(alloc, pool, spot, opcode, named, bytes),
-        Shape::Interface => interface_of(alloc, pool, spot, bytes),
-        Shape::Kind => kind_of(alloc, spot, opcode, bytes),
-        Shape::Dimensions => dimensions_of(alloc, pool, spot, bytes),
-        Shape::Branch => branch_of(alloc, spot, bytes),
-        Shape::FarBranch => far_branch_of(alloc, spot, bytes),
+        Shape::Plain => Ok((Args::none(), bytes)),
+        Shape::Byte => byte_of(spot, bytes),
+        Shape::Short => short_of(spot, bytes),
+        Shape::Local => local_of(spot, bytes),
+        Shape::Increment => increment_of(spot, bytes),
+        Shape::Near(constant) => near_constant_of(pool, spot, opcode, constant, bytes),
+        Shape::Far(constant) => constant_of(pool, spot, opcode, constant, bytes),
+        Shape::Entry(named) => entry_of(pool, spot, opcode, named, bytes),
+        Shape::Interface => interface_of(pool, spot, bytes),
+        Shape::Kind => kind_of(spot, opcode, bytes),
+        Shape::Dimensions => dimensions_of(pool, spot, bytes),
+        Shape::Branch => branch_of(spot, bytes),
+        Shape::FarBranch => far_branch_of(spot, bytes),
         Shape::Table => table_of(alloc, spot, bytes),
         Shape::Lookup => lookup_of(alloc, spot, bytes),
     }
@@ -91,18 +92,13 @@ fn shaped_of<'a>(
 }
 
 #[tactic(auto, unfolding(crate::specs::Instructions::wide_args_at))]
-fn wide_args_of<'a>(
-    alloc: Global,
-    spot: &Spot,
-    opcode: u8,
-    bytes: &'a [u8],
-) -> Result<(Items<i32>, &'a [u8]), ReadError>
+fn wide_args_of<'a>(spot: &Spot, opcode: u8, bytes: &'a [u8]) -> Result<(Args, &'a [u8]), ReadError>
     ensures { Gives (λ x. (x.0, x.1.now)) result (wide_args_at spot.now opcode bytes.now) }
 {
     if takes_local(opcode) {
-        wide_local_of(alloc, spot, bytes)
+        wide_local_of(spot, bytes)
     } else if opcode == 132 {
-        wide_increment_of(alloc, spot, bytes)
+        wide_increment_of(spot, bytes)
     } else {
         Err(ReadError::Fault(spot.foreign(196)))
     }
@@ -110,11 +106,11 @@ fn wide_args_of<'a>(
 
 // An instruction behind wide.
 #[tactic(auto, unfolding(crate::specs::Instructions::wide_at))]
-fn wide_of<'a>(alloc: Global, spot: &Spot, bytes: &'a [u8]) -> Result<(RawOp, &'a [u8]), ReadError>
+fn wide_of<'a>(spot: &Spot, bytes: &'a [u8]) -> Result<(RawOp, &'a [u8]), ReadError>
     ensures { Gives (λ x. (x.0, x.1.now)) result (wide_at spot.now bytes.now) }
 {
     let (opcode, rest) = u8_or(spot.cut(), bytes)?;
-    let (args, rest) = wide_args_of(alloc, spot, opcode, rest)?;
+    let (args, rest) = wide_args_of(spot, opcode, rest)?;
     Ok((
         RawOp {
             pc: spot.pc as u32,
@@ -138,7 +134,7 @@ fn op_of<'a>(
 {
     let (opcode, rest) = u8_or(spot.cut(), bytes)?;
     if opcode == 196 {
-        wide_of(alloc, spot, rest)
+        wide_of(spot, rest)
     } else {
         shaped_of(alloc, pool, spot, opcode, shape_of(opcode), rest)
     }
@@ -156,7 +152,8 @@ pub fn ops_of(
     ensures { Gives (λ x. x) result (ops_at method pool.now bytes.now) }
 {
     let total = bytes.len() as u16;
-    let mut ops = Items::new(alloc);
+    // An instruction takes two bytes in the mean.
+    let mut ops = Items::with_capacity(alloc, bytes.len() / 2)?;
     let mut rest = bytes;
     for _ in 0..bytes.len() {
         if rest.is_empty() {

@@ -1,6 +1,7 @@
 //! The code of a method, taken to instructions with their operands, exactly (JVMS 4.7.3, 4.9.1 and chapter 6).
 #![tactic(auto)]
 
+mod args;
 mod decoding;
 mod instructions;
 mod judging;
@@ -10,6 +11,7 @@ mod place;
 mod starts;
 mod switches;
 
+pub use args::Args;
 pub use decoding::{Code, CodeFault, code_at, decode};
 pub use instructions::RawOp;
 pub use opcodes::{Constant, Named, Shape, shape_of, takes_local};

@@ -1,7 +1,8 @@
 //! Where the instructions of a code begin.
 
 ghost use Rattle.std.specs.Prelude.{◌≡◌, ◌<◌, nat_lt, length, IfOk, IfErr, List, Bool, true, false, not, replicate, slice_index_or, slice_set, if◌then◌else◌};
-ghost use Rattle.class_pool.specs.Reading.{Gives, nothing, tested};
+ghost use Rattle.et_base.specs.Answers.{nothing, tested};
+ghost use Rattle.class_pool.specs.Reading.{Gives};
 ghost use Rattle.class_pool.specs.declared.fault.Fault.TheVariants.{BadTarget};
 ghost use Rattle.class_pool.specs.declared.fault.ReadError.TheVariants.{Memory};
 ghost use Rattle.code_decode.specs.Targets.{Marks, is_place, is_marked, leads, leads_to, targets_fit};
@@ -58,9 +59,7 @@ fn blank(alloc: Global, total: usize) -> Result<Vec<bool>, ReadError>
     ensures err { IfErr result (λ e. e ≡ Memory) }
 {
     let mut marks = Vec::new(alloc);
-    for i in 0..total {
-        marks.push(false)?;
-    }
+    marks.resize(total, false)?;
     Ok(marks)
 }
 
@@ -97,7 +96,10 @@ fn leads(shape: Option<Shape>, starts: &Starts, args: &[i32]) -> bool
 fn leads_to_starts(starts: &Starts, op: &RawOp) -> bool
     ensures { result ≡ leads_to (is_marked starts.now) op.now }
 {
-    leads(shape_of(op.opcode), starts, op.args.as_slice())
+    match op.args.as_slice() {
+        [] => true,
+        args => leads(shape_of(op.opcode), starts, args),
+    }
 }
 
 fn judge_op(method: u32, starts: &Starts, op: &RawOp) -> Result<(), ReadError>

@@ -6,7 +6,7 @@ ghost use Rattle.class_pool.specs.Loops.{counted, folded};
 ghost use Rattle.class_pool.specs.declared.fault.ReadError.TheVariants.{Memory};
 ghost use Rattle.code_decode.specs.Switches.{padding, word_at, place_at, other_at, ends_at, span, rows_at, table_at, count_at, pairs_at, pair_at, keys_rise, lookup_at};
 
-use crate::operands::one;
+use crate::args::Args;
 use crate::place::Spot;
 use class_pool::ReadError;
 use class_pool::fault::wants;
@@ -76,6 +76,15 @@ fn add_two(args: &mut Items<i32>, first: i32, second: i32) -> Result<(), ReadErr
     Ok(())
 }
 
+fn one(alloc: Global, arg: i32) -> Result<Items<i32>, ReadError>
+    ensures gives { IfOk result (λ v. v ≡ arg ∷ []) }
+    ensures err { IfErr result (λ e. e ≡ Memory) }
+{
+    let mut args = Items::new(alloc);
+    args.push(arg)?;
+    Ok(args)
+}
+
 fn three(alloc: Global, first: i32, second: i32, third: i32) -> Result<Items<i32>, ReadError>
     ensures gives { IfOk result (λ v. v ≡ first ∷ second ∷ third ∷ []) }
     ensures err { IfErr result (λ e. e ≡ Memory) }
@@ -127,12 +136,13 @@ pub fn table_of<'a>(
     alloc: Global,
     spot: &Spot,
     bytes: &'a [u8],
-) -> Result<(Items<i32>, &'a [u8]), ReadError>
+) -> Result<(Args, &'a [u8]), ReadError>
     ensures { Gives (λ x. (x.0, x.1.now)) result (table_at spot.now bytes.now) }
 {
     let (other, rest) = other_of(spot, bytes)?;
     let ((low, high), rest) = ends_of(spot, rest)?;
-    rows_of(alloc, spot, other, low, high, rest)
+    let (args, rest) = rows_of(alloc, spot, other, low, high, rest)?;
+    Ok((Args::many(alloc, args)?, rest))
 }
 
 #[tactic(auto, unfolding(crate::specs::Switches::count_at))]
@@ -207,11 +217,11 @@ pub fn lookup_of<'a>(
     alloc: Global,
     spot: &Spot,
     bytes: &'a [u8],
-) -> Result<(Items<i32>, &'a [u8]), ReadError>
+) -> Result<(Args, &'a [u8]), ReadError>
     ensures { Gives (λ x. (x.0, x.1.now)) result (lookup_at spot.now bytes.now) }
 {
     let (other, rest) = other_of(spot, bytes)?;
     let (args, rest) = pairs_of(alloc, spot, other, rest)?;
     wants(keys_rise(args.as_slice()), spot.wrong())?;
-    Ok((args, rest))
+    Ok((Args::many(alloc, args)?, rest))
 }

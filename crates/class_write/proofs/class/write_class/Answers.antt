@@ -6,6 +6,9 @@ use Rattle.class_write.specs.Spelling.{class_spelling}
 use Rattle.class_write.proofs.WriteLaw.{class_written, class_reread}
 use Rattle.class_write.proofs.class.write_class.Goals as goal
 
+pub returns-clause-bytes : goal.returns-clause-bytes
+returns-clause-bytes c = IfOk-weaker c.spelling.result _ _ (λ v e. e ∙ ap class_spelling c.parts.ensures.gives) c.spelling.ensures
+
 pub returns-clause-written : goal.returns-clause-written
 returns-clause-written c =
     let parts = c.args.class.now in

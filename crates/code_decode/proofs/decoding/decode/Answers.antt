@@ -1,5 +1,6 @@
 use Rattle.std.proofs.Common.{◌∙◌, sym, subst, arith, Ok}
-use Rattle.class_pool.specs.Reading.{Fails}
+use Rattle.et_base.specs.Answers.{Fails}
+use Rattle.class_pool.specs.Reading.{named}
 use Rattle.code_decode.proofs.WholeLaw.{code_takes, code_again}
 use Rattle.code_decode.proofs.FaultLaw.{code_error}
 use Rattle.code_decode.proofs.decoding.decode.Goals as goal
@@ -14,4 +15,4 @@ pub returns-in-Ok-clause-only : goal.returns-in-Ok-clause-only
 returns-in-Ok-clause-only c = λ code spelled. sym (code_again 0 c.args.pool.now c.args.code.now code spelled) ∙ c.in-Ok.ensures.gives
 
 pub returns-in-Err-clause-only : goal.returns-in-Err-clause-only
-returns-in-Err-clause-only c = λ code spelled. c.code_fault.ensures (Ok code) (subst (λ r. Fails c.in-Err.error r) (code_again 0 c.args.pool.now c.args.code.now code spelled) c.in-Err.ensures.gives)
+returns-in-Err-clause-only c = λ code spelled. c.code_fault.ensures (Ok code) (subst (λ r. Fails (named c.in-Err.error) r) (code_again 0 c.args.pool.now c.args.code.now code spelled) c.in-Err.ensures.gives)

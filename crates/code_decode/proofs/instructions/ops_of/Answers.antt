@@ -8,7 +8,7 @@ use Rattle.code_decode.proofs.instructions.ops_of.Goals.{else-loop-test, then-lo
 pub returns-in_err-op : goal.returns-in_err-op
 unfolding ops_at
 returns-in_err-op c =
-    let p = err_from_is_err_and c.from_residual.result c.from_residual.ensures.1 in
+    let p = err_from_is_err_and c.from_residual-in_err-op.result c.from_residual-in_err-op.ensures.1 in
     rw (p.1, p.2) (to_end_fails c.in_err-op.field-0.0 (λ _ rest. op_at c.args.pool.now (spot_at c.args.method (length c.args.bytes.now) rest) rest) c.loop.ops _ c.loop.counter c.loop.rest.now _ c.loop-test.true (grind arith) (rw c.spot_at-spot.ensures at c.in_err-op.ensures) c.loop.invariant)
 
 pub loop-preserved : goal.loop-preserved
