@@ -1,4 +1,4 @@
-ghost use Rattle.std.specs.Prelude.{◌≡◌, ℕ, List, length, take, replicate, ◌-◌, ◌*◌, ◌<◌, ◌≤◌, ◌++◌, slice_index_or, slice_set, IfOk, OnOk, OnErr, []};
+ghost use Rattle.std.specs.Prelude.{◌≡◌, ℕ, List, length, take, replicate, ◌-◌, ◌*◌, ◌^◌, ◌<◌, ◌≤◌, ◌++◌, slice_index_or, slice_set, IfOk, OnOk, OnErr, []};
 ghost use Rattle.cell_region.specs.Chunks.{AreLong, joined, chunk_size};
 
 use crate::chunk::Chunk;
@@ -69,6 +69,7 @@ impl<T: Copy> Region<T> {
     pub fn grow(&mut self, n: u64, fill: T) -> Result<Block, NoMemory>
         ensures block { IfOk result (λ b. (b.start ≡ length self.old) × (b.len ≡ n)) }
         ensures grown { OnOk result (self.new ≡ self.old ++ replicate n fill) }
+        ensures room { OnOk result (length self.new < 2 ^ 64) }
         ensures kept { OnErr result (self.new ≡ self.old) }
     {
         let start = self.len;
