@@ -1,10 +1,8 @@
 -- The start state of a test is typed: no entry stands yet.
-use Rattle.std.proofs.Common.{ℕ, ◌<◌, ◌≤◌, length, arith}
+use Rattle.std.proofs.Common.{arith}
 use Rattle.std.specs.List.{IsDistinct}
 use Rattle.std.proofs.lemmas.List.Elements.{All-nil}
-use Rattle.jvm_model.specs.declared.program.Program.{Program}
-use Rattle.jvm_model.specs.World.{World}
-use Rattle.type_frames.specs.TypedState.{TypedWorld, TypedState, StartedLaw}
+use Rattle.type_frames.specs.TypedState.{StartedLaw}
 
 pub started_law : StartedLaw
 unfolding IsDistinct

@@ -1,6 +1,6 @@
 -- Typed states of a small suite: the start of its test, a class whose superclass is being initialised, and a frame that waits
 -- at a call.
-use Rattle.std.proofs.Common.{◌≡◌, ℕ, zero, suc, ◌<◌, List, [], ◌∷◌, length, pos, Bool, true, false, Some, None, refl, arith}
+use Rattle.std.proofs.Common.{ℕ, zero, suc, ◌<◌, List, [], ◌∷◌, length, pos, Bool, true, false, Some, None, refl, arith}
 use Rattle.std.specs.Prelude.{codes}
 use Rattle.std.specs.List.{IsDistinct}
 use Rattle.std.proofs.lemmas.List.Elements.{All-nil, All-from_recursion}
@@ -21,7 +21,7 @@ use Rattle.jvm_model.specs.Descriptors.{parameters, return_type}
 use Rattle.jvm_model.specs.Entries.{Entry}
 use Rattle.jvm_model.specs.Initialise.{parts_of}
 use Rattle.jvm_model.specs.Linked.{IsField}
-use Rattle.jvm_model.specs.State.{State, started}
+use Rattle.jvm_model.specs.State.{started}
 use Rattle.jvm_model.specs.Suite.{opening}
 use Rattle.jvm_model.proofs.ExampleParts.{program, class, body, fixed, static_int, test, int_const, get_static, put_static, call_static, returns}
 use Rattle.type_frames.specs.Frames.{index_of}
