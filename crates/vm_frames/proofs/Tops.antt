@@ -3,6 +3,8 @@ use Rattle.std.proofs.Common.{◌≡◌, ◌≢◌, ℕ, zero, suc, ◌<◌, ◌
 use Rattle.std.proofs.lemmas.List.{take-set-le, get_or_read}
 use Rattle.jvm_model.specs.declared.values.Value.{Value}
 use Rattle.jvm_model.specs.declared.values.Value.TheVariants.{Null}
+use Rattle.jvm_model.specs.declared.state.EntryKind.{EntryKind}
+use Rattle.jvm_model.specs.declared.state.EntryKind.TheVariants.{Absent, InMethod, InClass}
 use Rattle.jvm_model.specs.Entries.{Entries, with_stack}
 use Rattle.jvm_model.specs.RowsMoves.{with_local}
 use Rattle.vm_frames.specs.declared.extent.Extent.{Extent}
@@ -123,3 +125,8 @@ room_above xs e saved s w q h =
     omega (arith, room, length_downwards xs e.top (e.top - e.first) (omega arith), w.here)
 
 pub ruleset tops = (length_upwards, upwards_get, length_downwards, downwards_get, downwards_none, entries-push, entries-pop, entries-set, standing-move, standing-set, standing-push)
+
+pub limit_most : (k : EntryKind) → operand_limit k ≤ 65535
+limit_most Absent = omega arith
+limit_most InMethod = omega arith
+limit_most (InClass b) = omega arith

@@ -214,7 +214,7 @@ impl FrameStack {
 
     /// Enters a method with so many of the topmost operands as its arguments, which leave the caller's operands (JVMS
     /// 2.6.1 and 6.5). After a refusal the entries are as before.
-    pub fn enter(&mut self, method: u32, max_locals: u16, arguments: u16) -> Result<(), PushFault>
+    pub fn enter(&mut self, method: u32, max_locals: u16, arguments: usize) -> Result<(), PushFault>
         requires { arguments ≤ length self.old.top.stack }
         ensures entered { OnOk result (self.new ≡ called_with max_locals method arguments self.old) }
         ensures deep { (result ≡ Err PushFault.Deep) ↔ (is_full self.old ≡ true) }
@@ -224,7 +224,7 @@ impl FrameStack {
             return Err(PushFault::Deep);
         }
         let base = self.current.top;
-        let from = base - arguments as usize;
+        let from = base - arguments;
         let first = frame_of_operands(&mut self.slots, from, base, max_locals)?;
         save(
             &mut self.saved,

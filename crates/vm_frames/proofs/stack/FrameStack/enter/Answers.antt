@@ -1,7 +1,7 @@
 use Rattle.std.proofs.Common.{sym, ap, ◌∙◌, ◌-◌, arith}
 use Rattle.jvm_model.specs.Entries.{Entries, is_full}
 use Rattle.vm_frames.specs.Stack.{called_with}
-use Rattle.vm_frames.proofs.Tops.{length_downwards}
+use Rattle.vm_frames.proofs.Tops.{length_downwards, limit_most}
 use Rattle.std.proofs.lemmas.Result.{err_from_is_err_and}
 use Rattle.vm_frames.proofs.Entering.{standing-entered, standing-grown, entries-entered, entries-kept, few_operands}
 use Rattle.vm_frames.proofs.stack.FrameStack.enter.Goals as goal
@@ -34,3 +34,8 @@ returns-clause-entered c =
     entries-entered i.slots.items c.frame_of_operands.new.slots.items i.current c.frame-self-inside.result i.saved.items c.save.new.saved.items c.args.arguments c.args.method c.args.max_locals c.in_ok-first.first c.self.invariant
     (few_operands i.slots.items i.current i.saved.items c.args.self.now c.args.arguments c.self.view_is c.requires) c.in_ok-first.ensures.made c.frame-self-inside.ensures c.in_ok-save.ensures.saved
     ∙ ap (λ (s : Entries). called_with c.args.max_locals c.args.method c.args.arguments s) c.self.view_is
+
+pub frame_of_operands-requires-clause-limit : goal.frame_of_operands-requires-clause-limit
+frame_of_operands-requires-clause-limit c =
+  let i = c.self.inside in
+  omega (arith, c.self.invariant.here, limit_most i.current.kind)

@@ -1,0 +1,41 @@
+-- Instructions by number. A table has for each byte place 1 and the number of the instruction there, or 0.
+use Rattle.std.specs.Prelude.{◌≡◌, ℕ, zero, suc, List, [], ◌∷◌, ◌+◌, cond, nat_eq, get_or, drop, Option, Some, None}
+use Rattle.jvm_model.specs.declared.instr.Instr.TheVariants as form
+use Rattle.jvm_model.specs.declared.program.Program.{Program}
+use Rattle.jvm_model.specs.declared.program.Body.{Body}
+use Rattle.jvm_model.specs.declared.program.Placed.{Placed}
+use Rattle.jvm_model.specs.Classes.{Found, place_after, found_of, method_at}
+
+abbrev pub one_later : ℕ → ℕ
+one_later zero = 0
+one_later (suc n) = suc (suc n)
+
+-- 1 and the number of the first instruction at a place, or 0
+abbrev pub number_in : List Placed → ℕ → ℕ
+number_in [] pc = 0
+number_in (x ∷ xs) pc = cond (nat_eq x.pc pc) 1 (one_later (number_in xs pc))
+
+abbrev pub number_of : Option Body → ℕ → ℕ
+number_of None pc = 0
+number_of (Some b) pc = number_in b.code pc
+
+-- the table of a code
+abbrev pub ArePlaces : Option Body → List ℕ → Type 0
+ArePlaces body numbers = (pc : ℕ) → get_or numbers pc 0 ≡ number_of body pc
+
+abbrev pub no_placed : Placed
+no_placed = record { pc = 0; form = form.Nop }
+
+-- the instruction of a number in a code whose length is end, and the place of the one after it
+abbrev pub instruction : List Placed → ℕ → ℕ → Found
+instruction code end i = record { form = (get_or code i no_placed).form; after = place_after (drop (suc i) code) end }
+
+abbrev pub instruction_of : Option Body → Option ℕ → Option Found
+instruction_of None n = None
+instruction_of (Some b) None = None
+instruction_of (Some b) (Some i) = Some (instruction b.code b.length i)
+
+-- the number, or none at 0
+abbrev pub less_one : ℕ → Option ℕ
+less_one zero = None
+less_one (suc i) = Some i

@@ -1,0 +1,82 @@
+//! The tables of a program.
+
+ghost use Rattle.std.specs.Prelude.{◌≡◌, ◌<◌, IfOk, Some, None, option_copied, option_map, length, get_or, []};
+ghost use Rattle.jvm_model.specs.Classes.{form_at, found_of, method_at};
+ghost use Rattle.jvm_model.specs.Classes as classes;
+ghost use Rattle.jvm_model.specs.Linked.{Linked};
+ghost use Rattle.vm_tables.specs.Numbers.{instruction_of};
+
+use crate::numbers::numbers_of;
+use et_base::{Items, NoMemory};
+use jvm_model::{Instr, Program};
+use std::alloc::Global;
+use std::marker::Model;
+use std::snapshot::Snapshot;
+
+/// What a step asks of a program, made once: its instructions by byte place. Contracts see the program.
+#[derive(Drop)]
+pub struct Tables {
+    numbers: Items<Items<u16>>,
+    program: Snapshot<Program>,
+}
+
+impl Model for Tables {
+    ghost use Rattle.std.specs.Prelude.{ℕ, [], get_or};
+    ghost use Rattle.jvm_model.specs.declared.program.Program.{Program as Numbered};
+    ghost use Rattle.jvm_model.specs.Classes.{method_at};
+    ghost use Rattle.vm_tables.specs.Numbers.{ArePlaces};
+
+    ghost Value = { Numbered };
+
+    ghost view = { λ t. t.program.value };
+
+    ghost invariant = { λ t. (m : ℕ) → ArePlaces (method_at t.program.value m).body (get_or t.numbers m []) };
+}
+
+impl Tables {
+    /// The tables of a linked program.
+    pub fn of(alloc: Global, p: &Program) -> Result<Tables, NoMemory>
+        requires { Linked p.now }
+        ensures { IfOk result (λ tables. tables ≡ p.now) }
+    {
+        let mut numbers = Items::new(alloc);
+        for method in p.methods.as_slice() {
+            let places = match &method.body {
+                None => Items::new(alloc),
+                Some(body) => numbers_of(alloc, body)?,
+            };
+            numbers.push(places)?;
+        }
+        Ok(Tables {
+            numbers,
+            program: Snapshot::of(p),
+        })
+    }
+
+    /// The number of the instruction at a byte place of a method's code, from 0. With `instruction_of` of the program's
+    /// body it is the instruction that the definition finds there, and the place of the one after it.
+    #[tactic(auto, using(crate::proofs::Places::found_number))]
+    pub fn number(&self, method: u32, pc: u32) -> Option<u32>
+        ensures { found_of (method_at self.now method).body pc
+            ≡ instruction_of (method_at self.now method).body result }
+    {
+        match entry_at(&self.numbers, method, pc) {
+            0 => None,
+            next => Some(u32::from(next) - 1),
+        }
+    }
+}
+
+/// The entry of a method's table at a byte place, 0 where there is none.
+#[tactic(auto, using(crate::proofs::Places::get_some, crate::proofs::Places::get_none))]
+fn entry_at(numbers: &Items<Items<u16>>, method: u32, pc: u32) -> u16
+    ensures { result ≡ get_or (get_or numbers.now method []) pc 0 }
+{
+    match numbers.get(method as usize) {
+        None => 0,
+        Some(places) => match places.get(pc as usize) {
+            None => 0,
+            Some(number) => *number,
+        },
+    }
+}
