@@ -1,14 +1,16 @@
 -- The numbers of instructions by byte place.
-use Rattle.std.proofs.Common.{◌≡◌, ◌≢◌, ℕ, zero, suc, ◌<◌, ◌≤◌, ◌+◌, ◌-◌, List, [], ◌∷◌, ◌++◌, length, get_or, set, take, drop, cond, eqb, Bool, true, false, Option, Some, None, slice_get, refl, sym, ap, ◌∙◌, arith, subst, get_or-set_other, get_or-set_same}
+use Rattle.std.proofs.Common.{inl, inr, ◌≡◌, ◌≢◌, ℕ, zero, suc, ◌<◌, ◌≤◌, ◌+◌, ◌-◌, List, [], ◌∷◌, ◌++◌, length, get_or, set, take, drop, cond, eqb, Bool, true, false, Option, Some, None, slice_get, refl, sym, ap, ◌∙◌, arith, subst, get_or-set_other, get_or-set_same}
 use Rattle.std.proofs.lemmas.List.Elements.{All-get_or}
-use Rattle.std.proofs.lemmas.Bool.{eqb-true, eqb-false}
-use Rattle.std.proofs.lemmas.List.{take_more, length-take-le, get_or-take}
+use Rattle.std.proofs.lemmas.Bool.{eqb-true, eqb-false, eq-eqb, ne_eqb, cases_lt}
+use Rattle.std.proofs.lemmas.List.{take_more, length-take-le, get_or-take, get_or_past}
 use Rattle.jvm_model.specs.declared.program.Placed.{Placed}
 use Rattle.jvm_model.specs.declared.program.Body.{Body}
 use Rattle.jvm_model.specs.declared.program.Program.{Program}
-use Rattle.jvm_model.specs.Classes.{method_at, Found, found_in, found_of, place_after}
+use Rattle.jvm_model.specs.Descriptors.{parameters}
+use Rattle.jvm_model.specs.RowsCalls.{argument_count}
+use Rattle.jvm_model.specs.Classes.{no_method, method_at, Found, found_in, found_of, place_after}
 use Rattle.jvm_model.specs.Linked.{Ascends, IsBody}
-use Rattle.vm_tables.specs.Numbers.{one_later, number_in, number_of, ArePlaces, no_placed, instruction, instruction_of, less_one}
+use Rattle.vm_tables.specs.Numbers.{one_later, number_in, number_of, ArePlaces, AreArguments, no_placed, instruction, instruction_of, less_one}
 
 -- what stands at a number of a table
 abbrev by_number : List Placed → ℕ → ℕ → Option Found
@@ -20,7 +22,7 @@ by_number_later x xs end zero = refl
 by_number_later x xs end (suc n) = refl
 
 found_or_later : (b : Bool) (x : Placed) (xs : List Placed) (end pc : ℕ) → found_in xs end pc ≡ by_number xs end (number_in xs pc)
-  → (elim b as (λ _. Option Found) [ true ↦ Some (record { form = x.form; after = place_after xs end }) | false ↦ found_in xs end pc ]) ≡ by_number (x ∷ xs) end (cond b 1 (one_later (number_in xs pc)))
+    → (elim b as (λ _. Option Found) [ true ↦ Some (record { form = x.form; after = place_after xs end }) | false ↦ found_in xs end pc ]) ≡ by_number (x ∷ xs) end (cond b 1 (one_later (number_in xs pc)))
 found_or_later true x xs end pc e = refl
 found_or_later false x xs end pc e = e ∙ by_number_later x xs end (number_in xs pc)
 
@@ -60,9 +62,9 @@ number_last false false n m h = refl
 number_in-push : (xs : List Placed) (x : Placed) (pc : ℕ) → ((k : ℕ) → k < length xs → (get_or xs k x).pc < x.pc) → number_in (xs ++ x ∷ []) pc ≡ cond (eqb x.pc pc) (length xs + 1) (number_in xs pc)
 number_in-push [] x pc h = refl
 number_in-push (y ∷ ys) x pc h =
-  let first : y.pc < x.pc = h 0 (omega arith) in
-  let apart : eqb y.pc pc ≡ true → eqb x.pc pc ≡ true → ⊥ = λ p q. (let none : ⊥ = omega (arith, eqb-true y.pc pc p, eqb-true x.pc pc q) in none) in
-  rw (number_in-push ys x pc (λ k l. h (suc k) (omega arith))) (number_last (eqb y.pc pc) (eqb x.pc pc) (length ys) (number_in ys pc) apart)
+    let first : y.pc < x.pc = h 0 (omega arith) in
+    let apart : eqb y.pc pc ≡ true → eqb x.pc pc ≡ true → ⊥ = λ p q. (let none : ⊥ = omega (arith, eqb-true y.pc pc p, eqb-true x.pc pc q) in none) in
+    rw (number_in-push ys x pc (λ k l. h (suc k) (omega arith))) (number_last (eqb y.pc pc) (eqb x.pc pc) (length ys) (number_in ys pc) apart)
 
 number_write : (b : Bool) (numbers : List ℕ) (place pc n : ℕ) → (b ≡ true → place ≡ pc) → (b ≡ false → place ≢ pc) → place < length numbers → get_or (set numbers place n) pc 0 ≡ cond b n (get_or numbers pc 0)
 number_write true numbers place pc n p q l = rw (← p refl) (get_or-set_same numbers place n 0 l)
@@ -70,21 +72,21 @@ number_write false numbers place pc n p q l = get_or-set_other numbers place pc 
 
 -- what a loop over a code keeps of its table
 pub places_more : (n : ℕ) (code : List Placed) (i : ℕ) (x : Placed) (numbers : List ℕ) → Ascends n code → i < length code → x ≡ get_or code i x → x.pc < length numbers
-  → ((pc : ℕ) → get_or numbers pc 0 ≡ number_in (take i code) pc) → (pc : ℕ) → get_or (set numbers x.pc (i + 1)) pc 0 ≡ number_in (take (i + 1) code) pc
+    → ((pc : ℕ) → get_or numbers pc 0 ≡ number_in (take i code) pc) → (pc : ℕ) → get_or (set numbers x.pc (i + 1)) pc 0 ≡ number_in (take (i + 1) code) pc
 places_more n code i x numbers a l here inside h pc =
-  let upto : length (take i code) ≡ i = length-take-le i code (omega arith) in
-  let before : (k : ℕ) → k < length (take i code) → (get_or (take i code) k x).pc < x.pc = λ k m. (let low : k < i = omega arith in let same : get_or (take i code) k x ≡ get_or code k x = get_or-take i code k x low in let below : (get_or code k x).pc < (get_or code i x).pc = ascending_below n code i k x a low l in let goal : (get_or code k x).pc < x.pc = subst (λ (y : Placed). (get_or code k x).pc < y.pc) (sym here) below in subst (λ (y : Placed). y.pc < x.pc) (sym same) goal) in
-  let written : get_or (set numbers x.pc (i + 1)) pc 0 ≡ cond (eqb x.pc pc) (i + 1) (get_or numbers pc 0) = number_write (eqb x.pc pc) numbers x.pc pc (i + 1) (eqb-true x.pc pc) (eqb-false x.pc pc) inside in
-  let last : take (i + 1) code ≡ take i code ++ x ∷ [] = take_more code i x l ∙ ap (λ (y : Placed). take i code ++ y ∷ []) (sym here) in
-  written ∙ (rw (h pc, last, number_in-push (take i code) x pc before, upto) refl)
+    let upto : length (take i code) ≡ i = length-take-le i code (omega arith) in
+    let before : (k : ℕ) → k < length (take i code) → (get_or (take i code) k x).pc < x.pc = λ k m. (let low : k < i = omega arith in let same : get_or (take i code) k x ≡ get_or code k x = get_or-take i code k x low in let below : (get_or code k x).pc < (get_or code i x).pc = ascending_below n code i k x a low l in let goal : (get_or code k x).pc < x.pc = subst (λ (y : Placed). (get_or code k x).pc < y.pc) (sym here) below in subst (λ (y : Placed). y.pc < x.pc) (sym same) goal) in
+    let written : get_or (set numbers x.pc (i + 1)) pc 0 ≡ cond (eqb x.pc pc) (i + 1) (get_or numbers pc 0) = number_write (eqb x.pc pc) numbers x.pc pc (i + 1) (eqb-true x.pc pc) (eqb-false x.pc pc) inside in
+    let last : take (i + 1) code ≡ take i code ++ x ∷ [] = take_more code i x l ∙ ap (λ (y : Placed). take i code ++ y ∷ []) (sym here) in
+    written ∙ (rw (h pc, last, number_in-push (take i code) x pc before, upto) refl)
 
 -- what a body's code says of its instruction i
 pub place_within : (b : Body) (i : ℕ) (x : Placed) → IsBody b → i < length b.code → x ≡ get_or b.code i x → (x.pc < b.length) × (i ≤ x.pc) × (b.length < 65536)
 place_within b i x w l here =
-  let inside : (get_or b.code i x).pc < b.length = All-get_or (λ (y : Placed). y.pc < b.length) b.code i x l w.within in
-  let high : 0 + i ≤ (get_or b.code i x).pc = ascending_number 0 b.code i x w.ascending l in
-  let place : x.pc ≡ (get_or b.code i x).pc = ap (λ (y : Placed). y.pc) here in
-  (omega arith, omega arith, omega (arith, w.short))
+    let inside : (get_or b.code i x).pc < b.length = All-get_or (λ (y : Placed). y.pc < b.length) b.code i x l w.within in
+    let high : 0 + i ≤ (get_or b.code i x).pc = ascending_number 0 b.code i x w.ascending l in
+    let place : x.pc ≡ (get_or b.code i x).pc = ap (λ (y : Placed). y.pc) here in
+    (omega arith, omega arith, omega (arith, w.short))
 
 pub get_some : {A : Type 0} (xs : List A) (i : ℕ) (v d : A) → slice_get xs i ≡ Some v → get_or xs i d ≡ v
 get_some [] i v d q = cc
@@ -98,11 +100,35 @@ get_none (x ∷ xs) (suc i) d q = get_none xs i d q
 
 -- what a table's entry says of the program
 pub number_found : (p q : Program) (m pc n : ℕ) (tables : List (List ℕ)) → ((k : ℕ) → ArePlaces (method_at p k).body (get_or tables k [])) → p ≡ q → n ≡ get_or (get_or tables m []) pc 0
-  → found_of (method_at q m).body pc ≡ instruction_of (method_at q m).body (less_one n)
+    → found_of (method_at q m).body pc ≡ instruction_of (method_at q m).body (less_one n)
 number_found p q m pc n tables h e r =
-  let here : found_of (method_at p m).body pc ≡ instruction_of (method_at p m).body (less_one n) = rw r (found_number (method_at p m).body (get_or tables m []) pc (h m)) in
-  subst (λ (w : Program). found_of (method_at w m).body pc ≡ instruction_of (method_at w m).body (less_one n)) e here
+    let here : found_of (method_at p m).body pc ≡ instruction_of (method_at p m).body (less_one n) = rw r (found_number (method_at p m).body (get_or tables m []) pc (h m)) in
+    subst (λ (w : Program). found_of (method_at w m).body pc ≡ instruction_of (method_at w m).body (less_one n)) e here
 
 pub less_one_some : (n : ℕ) → 0 < n → less_one n ≡ Some (n - 1)
 less_one_some zero h = let none : ⊥ = omega arith in absurd none
 less_one_some (suc n) h = let back : suc n - 1 ≡ n = omega arith in rw back refl
+
+-- a method that the program lacks has no arguments
+pub arguments_all : (p : Program) (counts : List ℕ) → length p.methods ≤ length counts → length counts ≤ length p.methods → ((m : ℕ) → m < length counts → get_or counts m 0 ≡ argument_count p m) → (m : ℕ) → get_or counts m 0 ≡ argument_count p m
+unfolding argument_count parameters
+arguments_all p counts l g h m =
+    elim (cases_lt m (length counts)) [
+      | inl low ↦ h m low
+      | inr high ↦
+          let past : get_or p.methods m no_method ≡ no_method = get_or_past p.methods m no_method (omega arith) in
+          rw (past, get_or_past counts m 0 high) refl
+    ]
+
+pub argument_found : (p q : Program) (m : ℕ) (counts : List ℕ) → AreArguments p counts → p ≡ q → get_or counts m 0 ≡ argument_count q m
+argument_found p q m counts h e = subst (λ (w : Program). get_or counts m 0 ≡ argument_count w m) e (h m)
+
+-- The run of a code: an instruction's own place has its number, so the place after it has the next one.
+pub number_in-place : (n : ℕ) (code : List Placed) (i : ℕ) (d : Placed) → Ascends n code → i < length code → number_in code (get_or code i d).pc ≡ i + 1
+number_in-place n [] i d a l = let none : ⊥ = omega arith in absurd none
+number_in-place n (x ∷ xs) zero d a l = rw (eq-eqb x.pc x.pc refl) refl
+number_in-place n (x ∷ xs) (suc i) d a l =
+    let later : x.pc + 1 + i ≤ (get_or xs i d).pc = ascending_number (x.pc + 1) xs i d a.1 (omega arith) in
+    let apart : eqb x.pc (get_or xs i d).pc ≡ false = ne_eqb x.pc (get_or xs i d).pc (λ e. (let none : ⊥ = omega arith in none)) in
+    let next : i + 1 ≡ suc i = omega arith in
+    rw (apart, number_in-place (x.pc + 1) xs i d a.1 (omega arith), next) (let last : suc i + 1 ≡ suc (suc i) = omega arith in sym last)

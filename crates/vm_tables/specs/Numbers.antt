@@ -4,6 +4,7 @@ use Rattle.jvm_model.specs.declared.instr.Instr.TheVariants as form
 use Rattle.jvm_model.specs.declared.program.Program.{Program}
 use Rattle.jvm_model.specs.declared.program.Body.{Body}
 use Rattle.jvm_model.specs.declared.program.Placed.{Placed}
+use Rattle.jvm_model.specs.RowsCalls.{argument_count}
 use Rattle.jvm_model.specs.Classes.{Found, place_after, found_of, method_at}
 
 abbrev pub one_later : ℕ → ℕ
@@ -39,3 +40,14 @@ instruction_of (Some b) (Some i) = Some (instruction b.code b.length i)
 abbrev pub less_one : ℕ → Option ℕ
 less_one zero = None
 less_one (suc i) = Some i
+
+-- the tables of a program's methods
+abbrev pub AreNumbers : Program → List (List ℕ) → Type 0
+AreNumbers p tables = (m : ℕ) → ArePlaces (method_at p m).body (get_or tables m [])
+
+abbrev pub AreArguments : Program → List ℕ → Type 0
+AreArguments p counts = (m : ℕ) → get_or counts m 0 ≡ argument_count p m
+
+pub record AreTables (p : Program) (tables : List (List ℕ)) (counts : List ℕ) : Type 0 where
+  pub numbers : AreNumbers p tables
+  pub arguments : AreArguments p counts

@@ -1,6 +1,6 @@
 //! The numbers of a method's instructions by byte place.
 
-ghost use Rattle.std.specs.Prelude.{IfOk, Some, None};
+ghost use Rattle.std.specs.Prelude.{IfOk, Some};
 ghost use Rattle.jvm_model.specs.Linked.{IsBody};
 ghost use Rattle.vm_tables.specs.Numbers.{ArePlaces};
 

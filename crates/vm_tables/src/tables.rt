@@ -1,14 +1,14 @@
 //! The tables of a program.
 
-ghost use Rattle.std.specs.Prelude.{◌≡◌, ◌<◌, IfOk, Some, None, option_copied, option_map, length, get_or, []};
-ghost use Rattle.jvm_model.specs.Classes.{form_at, found_of, method_at};
-ghost use Rattle.jvm_model.specs.Classes as classes;
+ghost use Rattle.std.specs.Prelude.{◌≡◌, IfOk, get_or, []};
+ghost use Rattle.jvm_model.specs.Classes.{found_of, method_at};
+ghost use Rattle.jvm_model.specs.RowsCalls.{argument_count};
 ghost use Rattle.jvm_model.specs.Linked.{Linked};
-ghost use Rattle.vm_tables.specs.Numbers.{instruction_of};
+ghost use Rattle.vm_tables.specs.Numbers.{instruction_of, AreNumbers, AreArguments};
 
 use crate::numbers::numbers_of;
 use et_base::{Items, NoMemory};
-use jvm_model::{Instr, Program};
+use jvm_model::{Program, parameter_count};
 use std::alloc::Global;
 use std::marker::Model;
 use std::snapshot::Snapshot;
@@ -17,20 +17,19 @@ use std::snapshot::Snapshot;
 #[derive(Drop)]
 pub struct Tables {
     numbers: Items<Items<u16>>,
+    arguments: Items<usize>,
     program: Snapshot<Program>,
 }
 
 impl Model for Tables {
-    ghost use Rattle.std.specs.Prelude.{ℕ, [], get_or};
     ghost use Rattle.jvm_model.specs.declared.program.Program.{Program as Numbered};
-    ghost use Rattle.jvm_model.specs.Classes.{method_at};
-    ghost use Rattle.vm_tables.specs.Numbers.{ArePlaces};
+    ghost use Rattle.vm_tables.specs.Numbers.{AreTables};
 
     ghost Value = { Numbered };
 
     ghost view = { λ t. t.program.value };
 
-    ghost invariant = { λ t. (m : ℕ) → ArePlaces (method_at t.program.value m).body (get_or t.numbers m []) };
+    ghost invariant = { λ t. AreTables t.program.value t.numbers t.arguments };
 }
 
 impl Tables {
@@ -39,18 +38,22 @@ impl Tables {
         requires { Linked p.now }
         ensures { IfOk result (λ tables. tables ≡ p.now) }
     {
-        let mut numbers = Items::new(alloc);
-        for method in p.methods.as_slice() {
-            let places = match &method.body {
-                None => Items::new(alloc),
-                Some(body) => numbers_of(alloc, body)?,
-            };
-            numbers.push(places)?;
-        }
         Ok(Tables {
-            numbers,
+            numbers: all_numbers(alloc, p)?,
+            arguments: all_arguments(alloc, p)?,
             program: Snapshot::of(p),
         })
+    }
+
+    /// How many arguments a method's descriptor asks for, the receiver left aside: a long is one.
+    #[tactic(auto, using(crate::proofs::Places::argument_found))]
+    pub fn arguments(&self, method: u32) -> usize
+        ensures { result ≡ argument_count self.now method }
+    {
+        match self.arguments.get(method as usize) {
+            None => 0,
+            Some(count) => *count,
+        }
     }
 
     /// The number of the instruction at a byte place of a method's code, from 0. With `instruction_of` of the program's
@@ -79,4 +82,32 @@ fn entry_at(numbers: &Items<Items<u16>>, method: u32, pc: u32) -> u16
             Some(number) => *number,
         },
     }
+}
+
+/// The numbers of each method's instructions by byte place.
+fn all_numbers(alloc: Global, p: &Program) -> Result<Items<Items<u16>>, NoMemory>
+    requires { Linked p.now }
+    ensures { IfOk result (λ numbers. AreNumbers p.now numbers) }
+{
+    let mut numbers = Items::new(alloc);
+    for method in p.methods.as_slice() {
+        let places = match &method.body {
+            None => Items::new(alloc),
+            Some(body) => numbers_of(alloc, body)?,
+        };
+        numbers.push(places)?;
+    }
+    Ok(numbers)
+}
+
+/// Each method's number of arguments.
+#[tactic(auto, using(crate::proofs::Places::arguments_all), unfolding(jvm_model::specs::RowsCalls::argument_count))]
+fn all_arguments(alloc: Global, p: &Program) -> Result<Items<usize>, NoMemory>
+    ensures { IfOk result (λ arguments. AreArguments p.now arguments) }
+{
+    let mut arguments = Items::new(alloc);
+    for method in p.methods.as_slice() {
+        arguments.push(parameter_count(method.descriptor.as_slice()))?;
+    }
+    Ok(arguments)
 }

@@ -37,5 +37,5 @@ returns-clause-entered c =
 
 pub frame_of_operands-requires-clause-limit : goal.frame_of_operands-requires-clause-limit
 frame_of_operands-requires-clause-limit c =
-  let i = c.self.inside in
-  omega (arith, c.self.invariant.here, limit_most i.current.kind)
+    let i = c.self.inside in
+    omega (arith, c.self.invariant.here, limit_most i.current.kind, few_operands i.slots.items i.current i.saved.items c.args.self.now c.args.arguments c.self.view_is c.requires, length_downwards i.slots.items i.current.top (i.current.top - i.current.first) (omega arith))

@@ -4,11 +4,11 @@ use Rattle.vm_tables.proofs.tables.Tables.number.Goals as goal
 
 pub returns-in-0 : goal.returns-in-0
 returns-in-0 c =
-  let found = number_found c.self.inside.program.value c.args.self.now c.args.method c.args.pc c.entry_at.result c.self.inside.numbers c.self.invariant c.self.view_is c.entry_at.ensures in
-  rw c.in-0.is at found
+    let found = number_found c.self.inside.program.value c.args.self.now c.args.method c.args.pc c.entry_at.result c.self.inside.numbers c.self.invariant.numbers c.self.view_is c.entry_at.ensures in
+    rw c.in-0.is at found
 
 pub returns-in_default : goal.returns-in_default
 returns-in_default c =
-  let found = number_found c.self.inside.program.value c.args.self.now c.args.method c.args.pc c.entry_at.result c.self.inside.numbers c.self.invariant c.self.view_is c.entry_at.ensures in
-  let some : 0 < c.entry_at.result = omega arith in
-  rw c.from.ensures (rw (less_one_some c.entry_at.result some) at found)
+    let found = number_found c.self.inside.program.value c.args.self.now c.args.method c.args.pc c.entry_at.result c.self.inside.numbers c.self.invariant.numbers c.self.view_is c.entry_at.ensures in
+    let some : 0 < c.entry_at.result = omega arith in
+    rw c.from.ensures (rw (less_one_some c.entry_at.result some) at found)
