@@ -1,5 +1,5 @@
 -- The record of a program is in a record's form: units, the order of edges, and their numbers.
-use Rattle.std.proofs.Common.{◌≡◌, ◌⊎◌, ℕ, zero, suc, ◌+◌, ◌-◌, ◌<◌, ◌≤◌, Bool, true, false, not, ◌&&◌, ◌||◌, cond, nat_eq, nat_lt, nat_le, List, [], ◌∷◌, ◌++◌, map, filter, flat_map, length, slice_get, refl, sym, ◌∙◌, ap, subst, inl, inr, arith, Option, Some, None}
+use Rattle.std.proofs.Common.{◌≡◌, ◌⊎◌, ℕ, zero, suc, ◌+◌, ◌-◌, ◌<◌, ◌≤◌, Bool, true, not, ◌&&◌, nat_eq, nat_lt, nat_le, List, [], ◌∷◌, ◌++◌, map, filter, flat_map, length, slice_get, refl, sym, ◌∙◌, ap, subst, inl, inr, arith, Option, Some, None}
 use Rattle.std.specs.List.{range_with_len, list_all}
 use Rattle.std.proofs.lemmas.Bool.{cases_Bool, and_from, and_parts, or_left, or_right, eq-eqb, lt-ltb, le-leb, leb-true}
 use Rattle.std.proofs.lemmas.List.{length-map}
@@ -12,14 +12,14 @@ use Rattle.jvm_model.specs.Suite.{Given, runs, all_tests, seq, is_detected, suit
 use Rattle.jvm_model.specs.declared.values.Kind.{Kind}
 use Rattle.jvm_model.specs.Builtin.{builtin_count}
 use Rattle.jvm_model.specs.State.{test_at}
-use Rattle.jvm_model.specs.Linked.{IsGiven, Linked}
+use Rattle.jvm_model.specs.Linked.{IsGiven}
 use Rattle.order_law.specs.declared.edges.Edge.{Edge}
 use Rattle.order_law.specs.declared.edges.EdgeKind.{EdgeKind}
 use Rattle.order_law.specs.declared.edges.EdgeKind.TheVariants.{Raw, Waw, War}
 use Rattle.order_law.specs.Conflicts.{Member}
 use Rattle.order_law.specs.Histories.{Touches, writes_in, exposed_in}
 use Rattle.order_law.specs.OwnRecord.{conflicts, first_places, places_in, conflict_places_in, edge_of, edges_between_in, edges_in}
-use Rattle.order_law.specs.RecordForm.{are_units, kind_number, edge_before, edges_ascend, numbers_ascend}
+use Rattle.order_law.specs.RecordForm.{kind_number, edge_before, edges_ascend, numbers_ascend}
 use Rattle.order_law.specs.Reach.{units_in, ReachesIn, own, touched, mentioned}
 use Rattle.order_law.specs.OwnForm.{UnitsLaw, IsCounted, OrderedLaw, CountedLaw, ReachLaw}
 use Rattle.order_law.proofs.OwnRecord.{range_within}
@@ -45,8 +45,8 @@ units_law p linked detected =
     let few = linked.few_tests in
     let n = length-map (all_tests p) (λ t. units_in (seq p t)) ∙ length-range_with_len 1 (length p.tests) in
     and_from (nat_le (length (map (λ t. units_in (seq p t)) (all_tests p))) 1024) (list_all (λ u. nat_le u 67108864) (map (λ t. units_in (seq p t)) (all_tests p)))
-        (le-leb _ _ (omega arith))
-        (all_mapped (λ t. units_in (seq p t)) (λ u. nat_le u 67108864) (all_tests p) (λ t. le-leb _ _ (within (runs p (all_tests p)) t detected)))
+    (le-leb _ _ (omega arith))
+    (all_mapped (λ t. units_in (seq p t)) (λ u. nat_le u 67108864) (all_tests p) (λ t. le-leb _ _ (within (runs p (all_tests p)) t detected)))
 
 -- members of lists of edges
 either_list : (xs ys : List Edge) (e : Edge) → Member e (xs ++ ys) → Member e xs ⊎ Member e ys
@@ -215,9 +215,9 @@ reach_law p T kinds t r linked low reach =
     let e : (test_at p t).class - 31 + 31 ≡ (test_at p t).class = omega arith in
     let i = (reach.classes ((test_at p t).class - 31)).1 (subst (λ (c : ℕ). ReachesIn p T kinds t c) (sym e) (own g)) in
     let within = (λ (x : ℕ) (m : Member x r.classes).
-        let h = reached_given p T kinds t ((reach.classes x).0 m) in
-        let b = h.0 in
-        let c = h.1 in
-        and_from (nat_le 1 x) (nat_le x (length p.classes - builtin_count)) (le-leb 1 x (omega arith)) (le-leb x (length p.classes - builtin_count) (omega arith))) in
+    let h = reached_given p T kinds t ((reach.classes x).0 m) in
+    let b = h.0 in
+    let c = h.1 in
+    and_from (nat_le 1 x) (nat_le x (length p.classes - builtin_count)) (le-leb 1 x (omega arith)) (le-leb x (length p.classes - builtin_count) (omega arith))) in
     and_from (nat_le 1 (length r.classes)) _ (le-leb 1 (length r.classes) (some_there _ r.classes i))
-        (and_from (list_all (λ x. nat_le 1 x && nat_le x (length p.classes - builtin_count)) r.classes) (numbers_ascend r.classes) (all_members _ r.classes within) reach.ascending)
+    (and_from (list_all (λ x. nat_le 1 x && nat_le x (length p.classes - builtin_count)) r.classes) (numbers_ascend r.classes) (all_members _ r.classes within) reach.ascending)
