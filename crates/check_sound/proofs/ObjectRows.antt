@@ -1,5 +1,5 @@
 -- Typing lemmas for the other rows with touches: array stores and lengths, instanceof, and calls on a receiver.
-use Rattle.std.proofs.Common.{◌≡◌, ℕ, ℤ, ◌<◌, List, [], ◌∷◌, slice_get, true, false, cond, nat_lt, pos, negsuc, refl, sym, subst, Option, Some, None, arith, length}
+use Rattle.std.proofs.Common.{◌≡◌, ℕ, ℤ, ◌<◌, List, [], ◌∷◌, slice_get, true, false, cond, nat_lt, pos, negsuc, refl, sym, subst, Option, Some, None}
 use Rattle.std.proofs.lemmas.Bool.{ltb-true}
 use Rattle.jvm_model.specs.declared.values.Value.{Value}
 use Rattle.jvm_model.specs.declared.values.Value.TheVariants.{Int, Long, Null, Lit, Obj}
