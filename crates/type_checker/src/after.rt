@@ -135,7 +135,7 @@ fn locals_after(alloc: Global, locals: &mut Vec<VType>, s: &Sides) -> Result<(),
 }
 
 /// The frame after an instruction with these sides.
-pub fn after(alloc: Global, f: Shape, s: &Sides) -> Result<Shape, NoMemory>
+pub(crate) fn after(alloc: Global, f: Shape, s: &Sides) -> Result<Shape, NoMemory>
     ensures { IfOk result (λ g. g ≡ rules.after f s.now) }
 {
     let Shape {
@@ -164,7 +164,7 @@ fn copy_types(alloc: Global, types: &[VType]) -> Result<Vec<VType>, NoMemory>
 }
 
 /// The frame of the descriptor.
-pub fn opening(alloc: Global, e: &Context) -> Result<Shape, NoMemory>
+pub(crate) fn opening(alloc: Global, e: &Context) -> Result<Shape, NoMemory>
     ensures { IfOk result (λ g. g ≡ rules.opening e.now) }
 {
     let args = Items::from_vec(copy_types(alloc, e.args.as_slice())?);
@@ -177,7 +177,7 @@ pub fn opening(alloc: Global, e: &Context) -> Result<Shape, NoMemory>
 }
 
 /// A given frame as one that goes on.
-pub fn shape_of(alloc: Global, g: &Frame) -> Result<Shape, NoMemory>
+pub(crate) fn shape_of(alloc: Global, g: &Frame) -> Result<Shape, NoMemory>
     ensures { IfOk result (λ f. f ≡ slots_of g.now) }
 {
     Ok(Shape {

@@ -18,7 +18,7 @@ use std::alloc::Global;
 use type_frames::{Need, Sides, Turn, VType, class_name, copy_type, push_types, same, spread};
 
 /// What takes and gives, and nothing else.
-pub fn plain(alloc: Global, takes: Items<Need>, gives: Items<VType>) -> Sides
+pub(crate) fn plain(alloc: Global, takes: Items<Need>, gives: Items<VType>) -> Sides
     ensures { result ≡ plain takes gives }
 {
     Sides {
@@ -35,7 +35,7 @@ pub fn plain(alloc: Global, takes: Items<Need>, gives: Items<VType>) -> Sides
 }
 
 /// One need.
-pub fn one_need(alloc: Global, need: Need) -> Result<Items<Need>, NoMemory>
+pub(crate) fn one_need(alloc: Global, need: Need) -> Result<Items<Need>, NoMemory>
     ensures { IfOk result (λ ns. ns ≡ need ∷ []) }
 {
     let mut needs = Items::new(alloc);
@@ -44,7 +44,7 @@ pub fn one_need(alloc: Global, need: Need) -> Result<Items<Need>, NoMemory>
 }
 
 /// One type.
-pub fn one_type(alloc: Global, t: VType) -> Result<Items<VType>, NoMemory>
+pub(crate) fn one_type(alloc: Global, t: VType) -> Result<Items<VType>, NoMemory>
     ensures { IfOk result (λ ts. ts ≡ t ∷ []) }
 {
     let mut types = Items::new(alloc);
@@ -53,14 +53,14 @@ pub fn one_type(alloc: Global, t: VType) -> Result<Items<VType>, NoMemory>
 }
 
 /// Appends the need of an int.
-pub fn push_int(needs: &mut Items<Need>) -> Result<(), NoMemory>
+pub(crate) fn push_int(needs: &mut Items<Need>) -> Result<(), NoMemory>
     ensures { OnOk result (needs.new ≡ needs.old ++ int_need) }
 {
     needs.push(Need::Fits(VType::Int))
 }
 
 /// Appends the needs of a long.
-pub fn push_long(needs: &mut Items<Need>) -> Result<(), NoMemory>
+pub(crate) fn push_long(needs: &mut Items<Need>) -> Result<(), NoMemory>
     ensures { OnOk result (needs.new ≡ needs.old ++ long_need) }
 {
     needs.push(Need::Half)?;
@@ -68,7 +68,7 @@ pub fn push_long(needs: &mut Items<Need>) -> Result<(), NoMemory>
 }
 
 /// Appends the needs of a whole number of either width.
-pub fn push_number(needs: &mut Items<Need>, wide: bool) -> Result<(), NoMemory>
+pub(crate) fn push_number(needs: &mut Items<Need>, wide: bool) -> Result<(), NoMemory>
     ensures { OnOk result (needs.new ≡ needs.old ++ number_need wide) }
 {
     if wide {
@@ -79,7 +79,7 @@ pub fn push_number(needs: &mut Items<Need>, wide: bool) -> Result<(), NoMemory>
 }
 
 /// Appends the needs of two places: of a long, where the top one is the second half of one.
-pub fn push_two(needs: &mut Items<Need>, half: bool) -> Result<(), NoMemory>
+pub(crate) fn push_two(needs: &mut Items<Need>, half: bool) -> Result<(), NoMemory>
     ensures { OnOk result (needs.new ≡
         needs.old ++ cond half long_need (wants.One ∷ wants.One ∷ [])) }
 {
@@ -91,14 +91,14 @@ pub fn push_two(needs: &mut Items<Need>, half: bool) -> Result<(), NoMemory>
 }
 
 /// The need of an int.
-pub fn int_need(alloc: Global) -> Result<Items<Need>, NoMemory>
+pub(crate) fn int_need(alloc: Global) -> Result<Items<Need>, NoMemory>
     ensures { IfOk result (λ ns. ns ≡ int_need) }
 {
     one_need(alloc, Need::Fits(VType::Int))
 }
 
 /// The needs of a whole number of either width.
-pub fn number_need(alloc: Global, wide: bool) -> Result<Items<Need>, NoMemory>
+pub(crate) fn number_need(alloc: Global, wide: bool) -> Result<Items<Need>, NoMemory>
     ensures { IfOk result (λ ns. ns ≡ number_need wide) }
 {
     let mut needs = Items::new(alloc);
@@ -107,14 +107,14 @@ pub fn number_need(alloc: Global, wide: bool) -> Result<Items<Need>, NoMemory>
 }
 
 /// The places of an int.
-pub fn int_type(alloc: Global) -> Result<Items<VType>, NoMemory>
+pub(crate) fn int_type(alloc: Global) -> Result<Items<VType>, NoMemory>
     ensures { IfOk result (λ ts. ts ≡ int_type) }
 {
     one_type(alloc, VType::Int)
 }
 
 /// The places of a long, top first.
-pub fn long_type(alloc: Global) -> Result<Items<VType>, NoMemory>
+pub(crate) fn long_type(alloc: Global) -> Result<Items<VType>, NoMemory>
     ensures { IfOk result (λ ts. ts ≡ long_type) }
 {
     let mut types = Items::new(alloc);
@@ -124,7 +124,7 @@ pub fn long_type(alloc: Global) -> Result<Items<VType>, NoMemory>
 }
 
 /// The places of a whole number of either width.
-pub fn number_type(alloc: Global, wide: bool) -> Result<Items<VType>, NoMemory>
+pub(crate) fn number_type(alloc: Global, wide: bool) -> Result<Items<VType>, NoMemory>
     ensures { IfOk result (λ ts. ts ≡ number_type wide) }
 {
     if wide {
@@ -136,7 +136,7 @@ pub fn number_type(alloc: Global, wide: bool) -> Result<Items<VType>, NoMemory>
 
 /// The type of a place of the stack, from its top.
 #[tactic(auto, using(crate::proofs::Stacks::from_top, crate::proofs::Stacks::from_top_past))]
-pub fn place_of(alloc: Global, f: &Shape, n: usize) -> Result<VType, NoMemory>
+pub(crate) fn place_of(alloc: Global, f: &Shape, n: usize) -> Result<VType, NoMemory>
     ensures { IfOk result (λ t. t ≡ place_of f.now n) }
 {
     let depth = f.stack.len();
@@ -147,7 +147,7 @@ pub fn place_of(alloc: Global, f: &Shape, n: usize) -> Result<VType, NoMemory>
 }
 
 /// Whether a place of the stack is the second half of a long.
-pub fn is_half(alloc: Global, f: &Shape, n: usize) -> Result<bool, NoMemory>
+pub(crate) fn is_half(alloc: Global, f: &Shape, n: usize) -> Result<bool, NoMemory>
     ensures { IfOk result (λ b. b ≡ same (place_of f.now n) types.Top) }
 {
     let t = place_of(alloc, f, n)?;
@@ -155,7 +155,7 @@ pub fn is_half(alloc: Global, f: &Shape, n: usize) -> Result<bool, NoMemory>
 }
 
 /// The types of these places of the stack.
-pub fn moved(alloc: Global, f: &Shape, order: &[usize]) -> Result<Items<VType>, NoMemory>
+pub(crate) fn moved(alloc: Global, f: &Shape, order: &[usize]) -> Result<Items<VType>, NoMemory>
     ensures { IfOk result (λ ts. ts ≡ map (λ n. place_of f.now n) order.now) }
 {
     let mut types = Items::new(alloc);
@@ -166,7 +166,11 @@ pub fn moved(alloc: Global, f: &Shape, order: &[usize]) -> Result<Items<VType>, 
 }
 
 /// Appends the needs of a value of a type's text, top first.
-pub fn push_needs(alloc: Global, needs: &mut Items<Need>, text: &[u16]) -> Result<(), NoMemory>
+pub(crate) fn push_needs(
+    alloc: Global,
+    needs: &mut Items<Need>,
+    text: &[u16],
+) -> Result<(), NoMemory>
     ensures { OnOk result (needs.new ≡ needs.old ++ needs_of text.now) }
 {
     let Some((u, rest)) = text.split_first() else {
@@ -206,7 +210,7 @@ fn push_all_needs(alloc: Global, needs: &mut Items<Need>, texts: &[Units]) -> Re
 }
 
 /// The needs of a call's arguments, top first.
-pub fn argument_needs(alloc: Global, descriptor: &[u16]) -> Result<Items<Need>, NoMemory>
+pub(crate) fn argument_needs(alloc: Global, descriptor: &[u16]) -> Result<Items<Need>, NoMemory>
     ensures { IfOk result (λ ns. ns ≡ argument_needs descriptor.now) }
 {
     let mut needs = Items::new(alloc);
@@ -216,7 +220,7 @@ pub fn argument_needs(alloc: Global, descriptor: &[u16]) -> Result<Items<Need>, 
 }
 
 /// Types as they stand on the stack, top first.
-pub fn on_stack(alloc: Global, types: &[VType]) -> Result<Items<VType>, NoMemory>
+pub(crate) fn on_stack(alloc: Global, types: &[VType]) -> Result<Items<VType>, NoMemory>
     ensures { IfOk result (λ ts. ts ≡ on_stack types.now) }
 {
     let mut places = spread(alloc, types)?.into_vec();
@@ -225,7 +229,7 @@ pub fn on_stack(alloc: Global, types: &[VType]) -> Result<Items<VType>, NoMemory
 }
 
 /// The places of the type that a text says.
-pub fn text_types(alloc: Global, text: &[u16]) -> Result<Items<VType>, NoMemory>
+pub(crate) fn text_types(alloc: Global, text: &[u16]) -> Result<Items<VType>, NoMemory>
     ensures { IfOk result (λ ts. ts ≡ on_stack (types_of text.now)) }
 {
     let mut types = Items::new(alloc);
@@ -234,7 +238,7 @@ pub fn text_types(alloc: Global, text: &[u16]) -> Result<Items<VType>, NoMemory>
 }
 
 /// The places of what a method of this descriptor returns.
-pub fn result_types(alloc: Global, descriptor: &[u16]) -> Result<Items<VType>, NoMemory>
+pub(crate) fn result_types(alloc: Global, descriptor: &[u16]) -> Result<Items<VType>, NoMemory>
     ensures { IfOk result (λ ts. ts ≡ result_types descriptor.now) }
 {
     text_types(alloc, return_type(descriptor))
@@ -272,7 +276,7 @@ fn push_base(p: &Program, text: &mut Units, base: &Base) -> Result<(), NoMemory>
 }
 
 /// The name of a class, or the descriptor of an array.
-pub fn kind_name(alloc: Global, p: &Program, kind: &Kind) -> Result<Units, NoMemory>
+pub(crate) fn kind_name(alloc: Global, p: &Program, kind: &Kind) -> Result<Units, NoMemory>
     ensures { IfOk result (λ name. name ≡ kind_name p.now kind.now) }
 {
     match kind {
@@ -287,7 +291,7 @@ pub fn kind_name(alloc: Global, p: &Program, kind: &Kind) -> Result<Units, NoMem
 }
 
 /// The array type of one dimension over Object.
-pub fn objects_text(alloc: Global, p: &Program) -> Result<Units, NoMemory>
+pub(crate) fn objects_text(alloc: Global, p: &Program) -> Result<Units, NoMemory>
     ensures { IfOk result (λ text. text ≡ objects_text p.now) }
 {
     let mut text = Items::new(alloc);

@@ -16,7 +16,7 @@ use type_frames::{
 /// A method with its given frames, and where its instructions, frames and targets are. Contracts see it as its
 /// environment.
 #[derive(Drop)]
-pub struct Context<'a> {
+pub(crate) struct Context<'a> {
     pub class: u32,
     pub starts: bool,
     pub args: Items<VType>,
@@ -118,7 +118,7 @@ fn result_types(alloc: Global, m: &MethodRec) -> Result<Items<VType>, NoMemory>
 }
 
 /// The context of a method with this code and these given frames.
-pub fn context_of<'a>(
+pub(crate) fn context_of<'a>(
     alloc: Global,
     p: &Program,
     m: &MethodRec,
@@ -147,7 +147,7 @@ pub fn context_of<'a>(
 
 /// The frame that is given at a place.
 #[tactic(auto, unfolding(type_frames::specs::Environment::given_at))]
-pub fn given_at<'a>(e: &'a Context, pc: u32) -> Option<&'a Frame>
+pub(crate) fn given_at<'a>(e: &'a Context, pc: u32) -> Option<&'a Frame>
     ensures { MatchOption result (given_at e.now pc ≡ None) (λ g. given_at e.now pc ≡ Some g.now) }
 {
     match e.frames.find(u64::from(pc)) {
@@ -158,7 +158,7 @@ pub fn given_at<'a>(e: &'a Context, pc: u32) -> Option<&'a Frame>
 
 /// The class that the `new` at a place names, if there is one.
 #[tactic(auto, unfolding(type_frames::specs::Environment::made_at))]
-pub fn made_at(e: &Context, pc: u32) -> Option<u32>
+pub(crate) fn made_at(e: &Context, pc: u32) -> Option<u32>
     ensures { result ≡ made_at e.now pc }
 {
     match e.code.find(u64::from(pc)) {
@@ -181,7 +181,7 @@ fn class_made(x: &Placed) -> Option<u32>
 
 /// Whether a branch or a handler leads to a place.
 #[tactic(auto, unfolding(type_frames::specs::Environment::is_target))]
-pub fn is_target(e: &Context, pc: u32) -> bool
+pub(crate) fn is_target(e: &Context, pc: u32) -> bool
     ensures { result ≡ is_target e.now pc }
 {
     e.targets.find(u64::from(pc)).is_some()

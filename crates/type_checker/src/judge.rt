@@ -17,14 +17,14 @@ use type_frames::{CheckFault, Sides};
 
 /// What the rules say of an instruction: the lowest one that it breaks, or the frame that goes on, if control does.
 #[derive(Drop)]
-pub enum Judged {
+pub(crate) enum Judged {
     Broken { rule: u32 },
     Kept { next: Option<Shape> },
 }
 
 /// How the walk over a method goes on after an instruction.
 #[derive(Drop)]
-pub enum Turned {
+pub(crate) enum Turned {
     NoFrame,
     Broken { rule: u32 },
     On { next: Option<Shape> },
@@ -32,7 +32,7 @@ pub enum Turned {
 
 /// How the walk goes on, a broken rule or a missing frame as a fault that names class, method and place.
 #[derive(Drop)]
-pub enum Step {
+pub(crate) enum Step {
     Faulty { fault: CheckFault },
     Onward { next: Option<Shape> },
 }
@@ -170,7 +170,7 @@ fn named_step(
 }
 
 /// The step at the k-th instruction.
-pub fn step_at(
+pub(crate) fn step_at(
     alloc: Global,
     p: &Program,
     e: &Context,

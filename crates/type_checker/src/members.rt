@@ -23,7 +23,7 @@ use std::alloc::Global;
 use type_frames::{Need, Sides, Turn, VType, assignable, class_name, copy_type, object_of, same};
 
 /// Whether a type is one of an uninitialised object.
-pub fn is_raw(t: &VType) -> bool
+pub(crate) fn is_raw(t: &VType) -> bool
     ensures { result ≡ is_raw t.now }
 {
     match t {
@@ -32,7 +32,7 @@ pub fn is_raw(t: &VType) -> bool
     }
 }
 
-pub fn reference(alloc: Global, f: &Shape) -> Result<Sides, NoMemory>
+pub(crate) fn reference(alloc: Global, f: &Shape) -> Result<Sides, NoMemory>
     ensures { IfOk result (λ s. s ≡ ref_sides (place_of f.now 0)) }
 {
     let mut s = plain(alloc, one_need(alloc, Need::Ref)?, Items::new(alloc));
@@ -41,7 +41,7 @@ pub fn reference(alloc: Global, f: &Shape) -> Result<Sides, NoMemory>
     Ok(s)
 }
 
-pub fn references(alloc: Global, f: &Shape) -> Result<Sides, NoMemory>
+pub(crate) fn references(alloc: Global, f: &Shape) -> Result<Sides, NoMemory>
     ensures { IfOk result (λ s. s ≡ refs_sides (place_of f.now 0) (place_of f.now 1)) }
 {
     let mut takes = one_need(alloc, Need::Ref)?;
@@ -53,13 +53,13 @@ pub fn references(alloc: Global, f: &Shape) -> Result<Sides, NoMemory>
     Ok(s)
 }
 
-pub fn test(alloc: Global) -> Result<Sides, NoMemory>
+pub(crate) fn test(alloc: Global) -> Result<Sides, NoMemory>
     ensures { IfOk result (λ s. s ≡ plain int_need []) }
 {
     Ok(plain(alloc, int_need(alloc)?, Items::new(alloc)))
 }
 
-pub fn test_two(alloc: Global) -> Result<Sides, NoMemory>
+pub(crate) fn test_two(alloc: Global) -> Result<Sides, NoMemory>
     ensures { IfOk result (λ s. s ≡ plain (int_need ++ int_need) []) }
 {
     let mut takes = int_need(alloc)?;
@@ -68,7 +68,7 @@ pub fn test_two(alloc: Global) -> Result<Sides, NoMemory>
 }
 
 /// Control doesn't go on at the next instruction.
-pub fn leaving(s: Sides) -> Sides
+pub(crate) fn leaving(s: Sides) -> Sides
     ensures { result ≡ leaving s }
 {
     let mut s = s;
@@ -109,7 +109,7 @@ fn return_typed(
     }
 }
 
-pub fn give_back(
+pub(crate) fn give_back(
     alloc: Global,
     e: &Context,
     f: &Shape,
@@ -120,7 +120,7 @@ pub fn give_back(
     return_typed(alloc, e.result.as_slice(), e.starts && f.flag, of)
 }
 
-pub fn get_static(alloc: Global, p: &Program, field: u32) -> Result<Sides, NoMemory>
+pub(crate) fn get_static(alloc: Global, p: &Program, field: u32) -> Result<Sides, NoMemory>
     ensures { IfOk result (λ s.
         s ≡ plain [] (on_stack (types_of (field_at p.now field).descriptor))) }
 {
@@ -131,7 +131,7 @@ pub fn get_static(alloc: Global, p: &Program, field: u32) -> Result<Sides, NoMem
     ))
 }
 
-pub fn put_static(alloc: Global, p: &Program, field: u32) -> Result<Sides, NoMemory>
+pub(crate) fn put_static(alloc: Global, p: &Program, field: u32) -> Result<Sides, NoMemory>
     ensures { IfOk result (λ s. s ≡ plain (needs_of (field_at p.now field).descriptor) []) }
 {
     let mut takes = Items::new(alloc);
@@ -146,7 +146,12 @@ fn object_need(alloc: Global, p: &Program, class: u32) -> Result<Need, NoMemory>
     Ok(Need::Fits(object_of(alloc, p, class)?))
 }
 
-pub fn get_field(alloc: Global, p: &Program, named: u32, field: u32) -> Result<Sides, NoMemory>
+pub(crate) fn get_field(
+    alloc: Global,
+    p: &Program,
+    named: u32,
+    field: u32,
+) -> Result<Sides, NoMemory>
     ensures { IfOk result (λ s.
         s ≡ plain (wants.Fits (object_of p.now named) ∷ [])
         (on_stack (types_of (field_at p.now field).descriptor))) }
@@ -172,7 +177,7 @@ fn owner_need(
     object_need(alloc, p, named)
 }
 
-pub fn put_field(
+pub(crate) fn put_field(
     alloc: Global,
     p: &Program,
     e: &Context,
@@ -208,13 +213,13 @@ fn call(alloc: Global, p: &Program, method: u32, receiver: Option<Need>) -> Resu
     Ok(s)
 }
 
-pub fn call_static(alloc: Global, p: &Program, method: u32) -> Result<Sides, NoMemory>
+pub(crate) fn call_static(alloc: Global, p: &Program, method: u32) -> Result<Sides, NoMemory>
     ensures { IfOk result (λ s. s ≡ call_sides (method_at p.now method) []) }
 {
     call(alloc, p, method, None)
 }
 
-pub fn call_virtual(
+pub(crate) fn call_virtual(
     alloc: Global,
     p: &Program,
     named: &Kind,
@@ -228,7 +233,7 @@ pub fn call_virtual(
     call(alloc, p, method, Some(need))
 }
 
-pub fn call_interface(
+pub(crate) fn call_interface(
     alloc: Global,
     p: &Program,
     named: u32,
@@ -311,7 +316,7 @@ fn init(alloc: Global, p: &Program, e: &Context, f: &Shape, method: u32) -> Resu
     Ok(s)
 }
 
-pub fn call_special(
+pub(crate) fn call_special(
     alloc: Global,
     p: &Program,
     e: &Context,
@@ -351,7 +356,7 @@ fn holds_made(stack: &[VType], pc: u32) -> bool
     stack.iter().rev().any(|t| is_made(t, pc))
 }
 
-pub fn create(alloc: Global, f: &Shape, pc: u32) -> Result<Sides, NoMemory>
+pub(crate) fn create(alloc: Global, f: &Shape, pc: u32) -> Result<Sides, NoMemory>
     ensures { IfOk result (λ s. s ≡ new_sides f.now pc) }
 {
     let mut s = plain(
@@ -433,7 +438,12 @@ fn stored(alloc: Global, p: &Program, of: &Cell) -> Result<Items<Need>, NoMemory
     }
 }
 
-pub fn array_load(alloc: Global, p: &Program, f: &Shape, of: &Cell) -> Result<Sides, NoMemory>
+pub(crate) fn array_load(
+    alloc: Global,
+    p: &Program,
+    f: &Shape,
+    of: &Cell,
+) -> Result<Sides, NoMemory>
     ensures { IfOk result (λ s.
         s ≡ plain (wants.Fits types.Int ∷ array_need p.now of.now ∷ []) (loaded f.now of.now)) }
 {
@@ -442,7 +452,7 @@ pub fn array_load(alloc: Global, p: &Program, f: &Shape, of: &Cell) -> Result<Si
     Ok(plain(alloc, takes, loaded(alloc, f, of)?))
 }
 
-pub fn array_store(alloc: Global, p: &Program, of: &Cell) -> Result<Sides, NoMemory>
+pub(crate) fn array_store(alloc: Global, p: &Program, of: &Cell) -> Result<Sides, NoMemory>
     ensures { IfOk result (λ s.
         s ≡ plain (stored p.now of.now ++ (wants.Fits types.Int ∷ array_need p.now of.now ∷ [])) []) }
 {
@@ -452,7 +462,7 @@ pub fn array_store(alloc: Global, p: &Program, of: &Cell) -> Result<Sides, NoMem
     Ok(plain(alloc, takes, Items::new(alloc)))
 }
 
-pub fn new_array(alloc: Global, p: &Program, kind: &Kind) -> Result<Sides, NoMemory>
+pub(crate) fn new_array(alloc: Global, p: &Program, kind: &Kind) -> Result<Sides, NoMemory>
     ensures { IfOk result (λ s. s ≡ plain int_need (types.Object (kind_name p.now kind.now) ∷ [])) }
 {
     let gives = one_type(alloc, VType::Object(kind_name(alloc, p, kind)?))?;
@@ -469,7 +479,12 @@ fn int_needs(alloc: Global, count: u8) -> Result<Items<Need>, NoMemory>
     Ok(needs)
 }
 
-pub fn new_arrays(alloc: Global, p: &Program, kind: &Kind, dims: u8) -> Result<Sides, NoMemory>
+pub(crate) fn new_arrays(
+    alloc: Global,
+    p: &Program,
+    kind: &Kind,
+    dims: u8,
+) -> Result<Sides, NoMemory>
     ensures { IfOk result (λ s.
         s ≡ plain (replicate dims (wants.Fits types.Int))
         (types.Object (kind_name p.now kind.now) ∷ [])) }
@@ -478,20 +493,20 @@ pub fn new_arrays(alloc: Global, p: &Program, kind: &Kind, dims: u8) -> Result<S
     Ok(plain(alloc, int_needs(alloc, dims)?, gives))
 }
 
-pub fn array_length(alloc: Global) -> Result<Sides, NoMemory>
+pub(crate) fn array_length(alloc: Global) -> Result<Sides, NoMemory>
     ensures { IfOk result (λ s. s ≡ plain (wants.Array ∷ []) int_type) }
 {
     Ok(plain(alloc, one_need(alloc, Need::Array)?, int_type(alloc)?))
 }
 
-pub fn throw(alloc: Global, p: &Program) -> Result<Sides, NoMemory>
+pub(crate) fn throw(alloc: Global, p: &Program) -> Result<Sides, NoMemory>
     ensures { IfOk result (λ s. s ≡ leaving (plain (wants.Fits (object_of p.now 7) ∷ []) [])) }
 {
     let takes = one_need(alloc, object_need(alloc, p, THROWABLE)?)?;
     Ok(leaving(plain(alloc, takes, Items::new(alloc))))
 }
 
-pub fn cast(alloc: Global, p: &Program, kind: &Kind) -> Result<Sides, NoMemory>
+pub(crate) fn cast(alloc: Global, p: &Program, kind: &Kind) -> Result<Sides, NoMemory>
     ensures { IfOk result (λ s.
         s ≡ plain (wants.Fits (object_of p.now 0) ∷ [])
         (types.Object (kind_name p.now kind.now) ∷ [])) }
@@ -501,7 +516,7 @@ pub fn cast(alloc: Global, p: &Program, kind: &Kind) -> Result<Sides, NoMemory>
     Ok(plain(alloc, takes, gives))
 }
 
-pub fn instance_of(alloc: Global, p: &Program) -> Result<Sides, NoMemory>
+pub(crate) fn instance_of(alloc: Global, p: &Program) -> Result<Sides, NoMemory>
     ensures { IfOk result (λ s. s ≡ plain (wants.Fits (object_of p.now 0) ∷ []) int_type) }
 {
     let takes = one_need(alloc, object_need(alloc, p, OBJECT)?)?;

@@ -15,13 +15,13 @@ use jvm_model::{Conv, Op, Program, STRING, Sort, Value};
 use std::alloc::Global;
 use type_frames::{Need, Reading, Setting, Sides, VType, copy_type, object_of};
 
-pub fn pop(alloc: Global) -> Result<Sides, NoMemory>
+pub(crate) fn pop(alloc: Global) -> Result<Sides, NoMemory>
     ensures { IfOk result (λ s. s ≡ plain (wants.One ∷ []) []) }
 {
     Ok(plain(alloc, one_need(alloc, Need::One)?, Items::new(alloc)))
 }
 
-pub fn pop2(alloc: Global, f: &Shape) -> Result<Sides, NoMemory>
+pub(crate) fn pop2(alloc: Global, f: &Shape) -> Result<Sides, NoMemory>
     ensures { IfOk result (λ s. s ≡ plain (two (place_of f.now 0)) []) }
 {
     let mut takes = Items::new(alloc);
@@ -29,7 +29,7 @@ pub fn pop2(alloc: Global, f: &Shape) -> Result<Sides, NoMemory>
     Ok(plain(alloc, takes, Items::new(alloc)))
 }
 
-pub fn dup(alloc: Global, f: &Shape) -> Result<Sides, NoMemory>
+pub(crate) fn dup(alloc: Global, f: &Shape) -> Result<Sides, NoMemory>
     ensures { IfOk result (λ s. s ≡ dup_sides (place_of f.now 0)) }
 {
     Ok(plain(
@@ -39,7 +39,7 @@ pub fn dup(alloc: Global, f: &Shape) -> Result<Sides, NoMemory>
     ))
 }
 
-pub fn dup_x1(alloc: Global, f: &Shape) -> Result<Sides, NoMemory>
+pub(crate) fn dup_x1(alloc: Global, f: &Shape) -> Result<Sides, NoMemory>
     ensures { IfOk result (λ s. s ≡ dup_x1_sides (place_of f.now 0) (place_of f.now 1)) }
 {
     let mut takes = one_need(alloc, Need::One)?;
@@ -47,7 +47,7 @@ pub fn dup_x1(alloc: Global, f: &Shape) -> Result<Sides, NoMemory>
     Ok(plain(alloc, takes, moved(alloc, f, &[0, 1, 0])?))
 }
 
-pub fn dup_x2(alloc: Global, f: &Shape) -> Result<Sides, NoMemory>
+pub(crate) fn dup_x2(alloc: Global, f: &Shape) -> Result<Sides, NoMemory>
     ensures { IfOk result (λ s.
         s ≡ dup_x2_sides (place_of f.now 0) (place_of f.now 1) (place_of f.now 2)) }
 {
@@ -56,7 +56,7 @@ pub fn dup_x2(alloc: Global, f: &Shape) -> Result<Sides, NoMemory>
     Ok(plain(alloc, takes, moved(alloc, f, &[0, 1, 2, 0])?))
 }
 
-pub fn dup2(alloc: Global, f: &Shape) -> Result<Sides, NoMemory>
+pub(crate) fn dup2(alloc: Global, f: &Shape) -> Result<Sides, NoMemory>
     ensures { IfOk result (λ s. s ≡ dup2_sides (place_of f.now 0) (place_of f.now 1)) }
 {
     let mut takes = Items::new(alloc);
@@ -64,7 +64,7 @@ pub fn dup2(alloc: Global, f: &Shape) -> Result<Sides, NoMemory>
     Ok(plain(alloc, takes, moved(alloc, f, &[0, 1, 0, 1])?))
 }
 
-pub fn dup2_x1(alloc: Global, f: &Shape) -> Result<Sides, NoMemory>
+pub(crate) fn dup2_x1(alloc: Global, f: &Shape) -> Result<Sides, NoMemory>
     ensures { IfOk result (λ s.
         s ≡ dup2_x1_sides (place_of f.now 0) (place_of f.now 1) (place_of f.now 2)) }
 {
@@ -74,7 +74,7 @@ pub fn dup2_x1(alloc: Global, f: &Shape) -> Result<Sides, NoMemory>
     Ok(plain(alloc, takes, moved(alloc, f, &[0, 1, 2, 0, 1])?))
 }
 
-pub fn dup2_x2(alloc: Global, f: &Shape) -> Result<Sides, NoMemory>
+pub(crate) fn dup2_x2(alloc: Global, f: &Shape) -> Result<Sides, NoMemory>
     ensures { IfOk result (λ s.
         s ≡ dup2_x2_sides (place_of f.now 0) (place_of f.now 1) (place_of f.now 2) (place_of f.now 3)) }
 {
@@ -84,7 +84,7 @@ pub fn dup2_x2(alloc: Global, f: &Shape) -> Result<Sides, NoMemory>
     Ok(plain(alloc, takes, moved(alloc, f, &[0, 1, 2, 3, 0, 1])?))
 }
 
-pub fn swap(alloc: Global, f: &Shape) -> Result<Sides, NoMemory>
+pub(crate) fn swap(alloc: Global, f: &Shape) -> Result<Sides, NoMemory>
     ensures { IfOk result (λ s. s ≡ swap_sides (place_of f.now 0) (place_of f.now 1)) }
 {
     let mut takes = one_need(alloc, Need::One)?;
@@ -92,7 +92,7 @@ pub fn swap(alloc: Global, f: &Shape) -> Result<Sides, NoMemory>
     Ok(plain(alloc, takes, moved(alloc, f, &[1, 0])?))
 }
 
-pub fn constant(alloc: Global, p: &Program, v: &Value) -> Result<Sides, NoMemory>
+pub(crate) fn constant(alloc: Global, p: &Program, v: &Value) -> Result<Sides, NoMemory>
     ensures { IfOk result (λ s. s ≡ plain [] (const_type p.now v.now)) }
 {
     let gives = match v {
@@ -117,7 +117,7 @@ fn second_need(alloc: Global, op: &Op, wide: bool) -> Result<Items<Need>, NoMemo
     }
 }
 
-pub fn binary(alloc: Global, op: &Op, wide: bool) -> Result<Sides, NoMemory>
+pub(crate) fn binary(alloc: Global, op: &Op, wide: bool) -> Result<Sides, NoMemory>
     ensures { IfOk result (λ s.
         s ≡ plain (second_need op.now wide ++ number_need wide) (number_type wide)) }
 {
@@ -126,13 +126,13 @@ pub fn binary(alloc: Global, op: &Op, wide: bool) -> Result<Sides, NoMemory>
     Ok(plain(alloc, takes, number_type(alloc, wide)?))
 }
 
-pub fn negation(alloc: Global, wide: bool) -> Result<Sides, NoMemory>
+pub(crate) fn negation(alloc: Global, wide: bool) -> Result<Sides, NoMemory>
     ensures { IfOk result (λ s. s ≡ plain (number_need wide) (number_type wide)) }
 {
     Ok(plain(alloc, number_need(alloc, wide)?, number_type(alloc, wide)?))
 }
 
-pub fn conversion(alloc: Global, to: &Conv) -> Result<Sides, NoMemory>
+pub(crate) fn conversion(alloc: Global, to: &Conv) -> Result<Sides, NoMemory>
     ensures { IfOk result (λ s. s ≡ convert_sides to.now) }
 {
     match to {
@@ -146,7 +146,7 @@ pub fn conversion(alloc: Global, to: &Conv) -> Result<Sides, NoMemory>
     }
 }
 
-pub fn comparison(alloc: Global) -> Result<Sides, NoMemory>
+pub(crate) fn comparison(alloc: Global) -> Result<Sides, NoMemory>
     ensures { IfOk result (λ s. s ≡ plain (long_need ++ long_need) int_type) }
 {
     let mut takes = number_need(alloc, true)?;
@@ -209,7 +209,7 @@ fn load_long(alloc: Global, local: u16) -> Result<Sides, NoMemory>
     Ok(s)
 }
 
-pub fn load(alloc: Global, f: &Shape, of: &Sort, local: u16) -> Result<Sides, NoMemory>
+pub(crate) fn load(alloc: Global, f: &Shape, of: &Sort, local: u16) -> Result<Sides, NoMemory>
     ensures { IfOk result (λ s. s ≡ load_sides f.now of.now local) }
 {
     match of {
@@ -241,7 +241,7 @@ fn store_long(alloc: Global, local: u16) -> Result<Sides, NoMemory>
     Ok(s)
 }
 
-pub fn store(alloc: Global, f: &Shape, of: &Sort, local: u16) -> Result<Sides, NoMemory>
+pub(crate) fn store(alloc: Global, f: &Shape, of: &Sort, local: u16) -> Result<Sides, NoMemory>
     ensures { IfOk result (λ s. s ≡ store_sides f.now of.now local) }
 {
     match of {
@@ -256,7 +256,7 @@ pub fn store(alloc: Global, f: &Shape, of: &Sort, local: u16) -> Result<Sides, N
     }
 }
 
-pub fn increment(alloc: Global, local: u16) -> Result<Sides, NoMemory>
+pub(crate) fn increment(alloc: Global, local: u16) -> Result<Sides, NoMemory>
     ensures { IfOk result (λ s. s ≡ inc_sides local) }
 {
     with_reading(alloc, Items::new(alloc), local, Need::Fits(VType::Int))

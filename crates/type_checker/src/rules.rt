@@ -193,7 +193,7 @@ fn slots_fit(p: &Program, f: &Shape, g: &Frame) -> bool
 }
 
 /// Whether what is given at a place, if something is, takes a frame.
-pub fn fits_at(p: &Program, e: &Context, f: &Shape, pc: u32) -> bool
+pub(crate) fn fits_at(p: &Program, e: &Context, f: &Shape, pc: u32) -> bool
     ensures { result ≡ rules.fits_at p.now e.now f.now pc }
 {
     match given_at(e, pc) {
@@ -273,7 +273,7 @@ fn handles(p: &Program, e: &Context, pc: u32, f: &Shape, h: &Handler) -> bool
 }
 
 /// Rule 9: handlers take what may be thrown.
-pub fn rule_9(p: &Program, e: &Context, x: &Placed, f: &Shape) -> bool
+pub(crate) fn rule_9(p: &Program, e: &Context, x: &Placed, f: &Shape) -> bool
     ensures { result ≡ rules.rule_9 p.now e.now x.now f.now }
 {
     e.body
@@ -285,7 +285,7 @@ pub fn rule_9(p: &Program, e: &Context, x: &Placed, f: &Shape) -> bool
 
 /// Rule 1: the stack has enough places, and doesn't grow past its end.
 #[tactic(auto, using(crate::proofs::Stacks::length_reverse))]
-pub fn rule_1(e: &Context, f: &Shape, s: &Sides) -> bool
+pub(crate) fn rule_1(e: &Context, f: &Shape, s: &Sides) -> bool
     ensures { result ≡ rules.rule_1 e.now f.now s.now }
 {
     let depth = f.stack.len();
@@ -299,14 +299,14 @@ pub fn rule_1(e: &Context, f: &Shape, s: &Sides) -> bool
 }
 
 /// Rule 2: the operands are of the types needed.
-pub fn rule_2(p: &Program, f: &Shape, s: &Sides) -> bool
+pub(crate) fn rule_2(p: &Program, f: &Shape, s: &Sides) -> bool
     ensures { result ≡ rules.rule_2 p.now f.now s.now }
 {
     meet_all(p, s.takes.as_slice(), &f.stack)
 }
 
 /// Rule 3: the locals are there, and of the types needed.
-pub fn rule_3(p: &Program, e: &Context, f: &Shape, s: &Sides) -> bool
+pub(crate) fn rule_3(p: &Program, e: &Context, f: &Shape, s: &Sides) -> bool
     ensures { result ≡ rules.rule_3 p.now e.now f.now s.now }
 {
     let most = e.body.max_locals;
@@ -324,7 +324,14 @@ fn fits_next(p: &Program, e: &Context, g: &Shape, k: usize) -> bool
 }
 
 /// The part of rule 4 on what comes after: what stands then, g, is assignable to what is given where control goes.
-pub fn leads_on(p: &Program, e: &Context, k: usize, x: &Placed, g: &Shape, falls: bool) -> bool
+pub(crate) fn leads_on(
+    p: &Program,
+    e: &Context,
+    k: usize,
+    x: &Placed,
+    g: &Shape,
+    falls: bool,
+) -> bool
     requires { k < length e.now.body.code }
     ensures { result ≡
         (rules.fits_targets p.now e.now g.now (leads x.now.form) &&
@@ -334,7 +341,7 @@ pub fn leads_on(p: &Program, e: &Context, k: usize, x: &Placed, g: &Shape, falls
 }
 
 /// The part of rule 4 on the first instruction: what is given there takes the descriptor's frame.
-pub fn is_entered(
+pub(crate) fn is_entered(
     alloc: Global,
     p: &Program,
     e: &Context,
@@ -351,7 +358,7 @@ pub fn is_entered(
 }
 
 /// Rule 5: control doesn't pass the end of the code.
-pub fn rule_5(e: &Context, k: usize, falls: bool) -> bool
+pub(crate) fn rule_5(e: &Context, k: usize, falls: bool) -> bool
     requires { k < length e.now.body.code }
     ensures { result ≡ (not falls || nat_lt (k + 1) (length e.now.body.code)) }
 {
@@ -360,7 +367,7 @@ pub fn rule_5(e: &Context, k: usize, falls: bool) -> bool
 }
 
 /// Rule 10: the arguments are within the locals.
-pub fn rule_10(e: &Context, k: usize) -> bool
+pub(crate) fn rule_10(e: &Context, k: usize) -> bool
     ensures { result ≡ rules.rule_10 e.now k }
 {
     k > 0 || e.args.len() <= e.body.max_locals as usize

@@ -5,7 +5,7 @@ use type_frames::VType;
 
 /// The types of the locals and of the stack, whose last one is its top; contracts see the top first.
 #[derive(Drop)]
-pub struct Shape {
+pub(crate) struct Shape {
     pub locals: Vec<VType>,
     pub stack: Vec<VType>,
     pub flag: bool,

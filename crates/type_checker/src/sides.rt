@@ -20,7 +20,7 @@ fn nothing(alloc: Global) -> Sides
 
 /// The sides of an instruction at a place, with the frame before it.
 #[tactic(auto, unfolding(type_frames::specs::Sides::sides))]
-pub fn sides(
+pub(crate) fn sides(
     alloc: Global,
     p: &Program,
     e: &Context,

@@ -40,7 +40,7 @@ fn code_fault(
 
 /// The first fault of a method, which has this number in its class file.
 #[tactic(auto, unfolding(type_frames::specs::Typing::method_fault))]
-pub fn method_fault(
+pub(crate) fn method_fault(
     alloc: Global,
     p: &Program,
     name: &[u16],

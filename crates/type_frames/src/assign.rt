@@ -1,7 +1,6 @@
 //! What may stand where a type is asked (JVMS 4.10.1.2).
 
 ghost use Rattle.std.specs.Prelude.{◌≡◌, Some, None};
-ghost use Rattle.std.specs.Str.{bytes_eq};
 ghost use Rattle.jvm_model.specs.Classes as classes;
 ghost use Rattle.jvm_model.specs.Classes.{class_at};
 ghost use Rattle.type_frames.specs.Assign.{assignable, class_fits, class_named, element_fits, extends, is_array, object_fits, takes_any};
@@ -12,13 +11,6 @@ use crate::descriptors::class_name;
 use crate::vtype::VType;
 use et_base::letters::{ARRAY, CLASS};
 use jvm_model::{OBJECT, Program};
-
-/// Whether two names are one.
-pub fn same_units(a: &[u16], b: &[u16]) -> bool
-    ensures { result ≡ bytes_eq a.now b.now }
-{
-    a == b
-}
 
 /// Whether two types are one.
 pub fn same(a: &VType, b: &VType) -> bool

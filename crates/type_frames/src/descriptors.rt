@@ -48,7 +48,7 @@ pub fn push_types(alloc: Global, types: &mut Items<VType>, text: &[u16]) -> Resu
 }
 
 /// Appends the types that texts say. After a refusal part of them may stand there.
-pub fn push_all_types(
+pub(crate) fn push_all_types(
     alloc: Global,
     types: &mut Items<VType>,
     texts: &[Units],

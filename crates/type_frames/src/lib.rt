@@ -11,9 +11,9 @@ mod places;
 mod sides;
 mod vtype;
 
-pub use assign::{assignable, object_assignable, same, same_units};
+pub use assign::{assignable, object_assignable, same};
 pub use checked::Checked;
-pub use descriptors::{class_name, push_all_types, push_types};
+pub use descriptors::{class_name, push_types};
 pub use fault::{CheckFault, FrameFault};
 pub use given::{
     code_places, copy_type, entry_types, given_frames, is_constructor, object_of, padded,
