@@ -1,5 +1,5 @@
 -- The numbers of instructions by byte place.
-use Rattle.std.proofs.Common.{inl, inr, ◌≡◌, ◌≢◌, ℕ, zero, suc, ◌<◌, ◌≤◌, ◌+◌, ◌-◌, List, [], ◌∷◌, ◌++◌, length, get_or, set, take, drop, cond, eqb, Bool, true, false, Option, Some, None, slice_get, refl, sym, ap, ◌∙◌, arith, subst, get_or-set_other, get_or-set_same}
+use Rattle.std.proofs.Common.{inl, inr, ◌≡◌, ◌≢◌, ℕ, zero, suc, ◌<◌, ◌≤◌, ◌+◌, ◌-◌, List, [], ◌∷◌, ◌++◌, length, get_or, set, take, cond, eqb, Bool, true, false, Option, Some, None, slice_get, refl, sym, ap, ◌∙◌, arith, subst, get_or-set_other, get_or-set_same}
 use Rattle.std.proofs.lemmas.List.Elements.{All-get_or}
 use Rattle.std.proofs.lemmas.Bool.{eqb-true, eqb-false, eq-eqb, ne_eqb, cases_lt}
 use Rattle.std.proofs.lemmas.List.{take_more, length-take-le, get_or-take, get_or_past}
@@ -10,7 +10,7 @@ use Rattle.jvm_model.specs.Descriptors.{parameters}
 use Rattle.jvm_model.specs.RowsCalls.{argument_count}
 use Rattle.jvm_model.specs.Classes.{no_method, method_at, Found, found_in, found_of, place_after}
 use Rattle.jvm_model.specs.Linked.{Ascends, IsBody}
-use Rattle.vm_tables.specs.Numbers.{one_later, number_in, number_of, ArePlaces, AreArguments, no_placed, instruction, instruction_of, less_one}
+use Rattle.vm_tables.specs.Numbers.{code_of, one_later, number_in, number_of, ArePlaces, AreArguments, instruction, instruction_of, less_one}
 
 -- what stands at a number of a table
 abbrev by_number : List Placed → ℕ → ℕ → Option Found
@@ -132,3 +132,23 @@ number_in-place n (x ∷ xs) (suc i) d a l =
     let apart : eqb x.pc (get_or xs i d).pc ≡ false = ne_eqb x.pc (get_or xs i d).pc (λ e. (let none : ⊥ = omega arith in none)) in
     let next : i + 1 ≡ suc i = omega arith in
     rw (apart, number_in-place (x.pc + 1) xs i d a.1 (omega arith), next) (let last : suc i + 1 ≡ suc (suc i) = omega arith in sym last)
+
+later_le : (b : Bool) (n k : ℕ) → n ≤ k → cond b 1 (one_later n) ≤ suc k
+later_le true n k h = omega arith
+later_le false zero k h = omega arith
+later_le false (suc n) k h = omega arith
+
+number_in-le : (code : List Placed) (pc : ℕ) → number_in code pc ≤ length code
+number_in-le [] pc = omega arith
+number_in-le (x ∷ xs) pc = later_le (eqb x.pc pc) (number_in xs pc) (length xs) (number_in-le xs pc)
+
+number_of-le : (body : Option Body) (pc : ℕ) → number_of body pc ≤ length (code_of body)
+number_of-le None pc = omega arith
+number_of-le (Some b) pc = number_in-le b.code pc
+
+-- no table's entry passes the number of instructions
+pub number_inside : (p q : Program) (m pc n : ℕ) (tables : List (List ℕ)) → ((k : ℕ) → ArePlaces (method_at p k).body (get_or tables k [])) → p ≡ q → n ≡ get_or (get_or tables m []) pc 0
+    → n ≤ length (code_of (method_at q m).body)
+number_inside p q m pc n tables h e r =
+    let here : n ≤ length (code_of (method_at p m).body) = rw (r, h m pc) (number_of-le (method_at p m).body pc) in
+    subst (λ (w : Program). n ≤ length (code_of (method_at w m).body)) e here

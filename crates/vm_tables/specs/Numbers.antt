@@ -1,11 +1,11 @@
 -- Instructions by number. A table has for each byte place 1 and the number of the instruction there, or 0.
-use Rattle.std.specs.Prelude.{◌≡◌, ℕ, zero, suc, List, [], ◌∷◌, ◌+◌, cond, nat_eq, get_or, drop, Option, Some, None}
+use Rattle.std.specs.Prelude.{◌≡◌, ℕ, zero, suc, List, [], ◌∷◌, cond, nat_eq, get_or, drop, Option, Some, None}
 use Rattle.jvm_model.specs.declared.instr.Instr.TheVariants as form
 use Rattle.jvm_model.specs.declared.program.Program.{Program}
 use Rattle.jvm_model.specs.declared.program.Body.{Body}
 use Rattle.jvm_model.specs.declared.program.Placed.{Placed}
 use Rattle.jvm_model.specs.RowsCalls.{argument_count}
-use Rattle.jvm_model.specs.Classes.{Found, place_after, found_of, method_at}
+use Rattle.jvm_model.specs.Classes.{Found, place_after, method_at}
 
 abbrev pub one_later : ℕ → ℕ
 one_later zero = 0
@@ -19,6 +19,10 @@ number_in (x ∷ xs) pc = cond (nat_eq x.pc pc) 1 (one_later (number_in xs pc))
 abbrev pub number_of : Option Body → ℕ → ℕ
 number_of None pc = 0
 number_of (Some b) pc = number_in b.code pc
+
+abbrev pub code_of : Option Body → List Placed
+code_of None = []
+code_of (Some b) = b.code
 
 -- the table of a code
 abbrev pub ArePlaces : Option Body → List ℕ → Type 0

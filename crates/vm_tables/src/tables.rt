@@ -1,10 +1,10 @@
 //! The tables of a program.
 
-ghost use Rattle.std.specs.Prelude.{◌≡◌, IfOk, get_or, []};
+ghost use Rattle.std.specs.Prelude.{◌≡◌, ◌<◌, IfOk, IfSome, length, get_or, []};
 ghost use Rattle.jvm_model.specs.Classes.{found_of, method_at};
 ghost use Rattle.jvm_model.specs.RowsCalls.{argument_count};
 ghost use Rattle.jvm_model.specs.Linked.{Linked};
-ghost use Rattle.vm_tables.specs.Numbers.{instruction_of, AreNumbers, AreArguments};
+ghost use Rattle.vm_tables.specs.Numbers.{code_of, instruction_of, AreNumbers, AreArguments};
 
 use crate::numbers::numbers_of;
 use et_base::{Items, NoMemory};
@@ -58,10 +58,10 @@ impl Tables {
 
     /// The number of the instruction at a byte place of a method's code, from 0. With `instruction_of` of the program's
     /// body it is the instruction that the definition finds there, and the place of the one after it.
-    #[tactic(auto, using(crate::proofs::Places::found_number))]
     pub fn number(&self, method: u32, pc: u32) -> Option<u32>
-        ensures { found_of (method_at self.now method).body pc
+        ensures found { found_of (method_at self.now method).body pc
             ≡ instruction_of (method_at self.now method).body result }
+        ensures within { IfSome result (λ i. i < length (code_of (method_at self.now method).body)) }
     {
         match entry_at(&self.numbers, method, pc) {
             0 => None,

@@ -1,4 +1,4 @@
-use Rattle.std.proofs.Common.{◌≡◌, ◌+◌, ◌<◌, length, get_or, arith, length-set, ap, ◌∙◌}
+use Rattle.std.proofs.Common.{◌+◌, ◌<◌, length, arith, length-set, ◌∙◌}
 use Rattle.vm_tables.proofs.Places.{place_within, places_more}
 use Rattle.vm_tables.proofs.numbers.numbers_of.Goals as goal
 
