@@ -16,9 +16,9 @@ ghost use Rattle.jvm_model.specs.Library.{
 };
 ghost use Rattle.builtin_lib.specs.Rows.{class_of, field_of, method_of, field_count, method_count};
 
-use crate::rows::{ClassRow, FieldRow, MethodRow, units_of};
+use crate::rows::{ClassRow, FieldRow, MethodRow};
 use crate::tables::class_rows;
-use et_base::{Items, NoMemory};
+use et_base::{Items, NoMemory, Units};
 use jvm_model::{ClassRec, FieldRec, MethodRec};
 use std::alloc::Global;
 
@@ -83,7 +83,7 @@ fn class_record(
     ensures { IfOk result (λ made. made ∷ [] ≡ class_recs (map class_of all.now) field method (class_of row.now ∷ [])) }
 {
     Ok(ClassRec {
-        name: units_of(alloc, row.name)?,
+        name: Units::from_ascii(alloc, row.name)?,
         version: 52,
         flags: row.flags,
         superclass: superclass_number(all, row),
@@ -117,8 +117,8 @@ fn field_record(alloc: Global, class: u32, row: &FieldRow) -> Result<FieldRec, N
 {
     Ok(FieldRec {
         class,
-        name: units_of(alloc, row.name)?,
-        descriptor: units_of(alloc, row.descriptor)?,
+        name: Units::from_ascii(alloc, row.name)?,
+        descriptor: Units::from_ascii(alloc, row.descriptor)?,
         flags: row.flags,
         opening: row.opening,
     })
@@ -157,8 +157,8 @@ fn method_record(alloc: Global, class: u32, row: &MethodRow) -> Result<MethodRec
 {
     Ok(MethodRec {
         class,
-        name: units_of(alloc, row.name)?,
-        descriptor: units_of(alloc, row.descriptor)?,
+        name: Units::from_ascii(alloc, row.name)?,
+        descriptor: Units::from_ascii(alloc, row.descriptor)?,
         flags: row.flags,
         native: Some(row.native),
         body: None,

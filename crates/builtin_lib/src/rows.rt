@@ -1,10 +1,9 @@
 //! Rows of the tables of built-in classes, and what they stand for.
 
 ghost use Rattle.std.specs.Prelude.{◌≡◌, IfOk, map};
-ghost use Rattle.std.specs.Str.{bytes_eq};
 ghost use Rattle.builtin_lib.specs.Rows.{class_of, field_of, method_of, class_row, native_row};
 
-use et_base::{Items, NoMemory, Units};
+use et_base::{Items, NoMemory, Units, is_ascii_text};
 use jvm_model::{ClassDef, FieldDef, MethodDef, Native, Value};
 use std::alloc::Global;
 
@@ -36,23 +35,12 @@ pub struct ClassRow {
     pub methods: &'static [MethodRow],
 }
 
-/// The code units of an ASCII text.
-pub fn units_of(alloc: Global, text: &[u8]) -> Result<Units, NoMemory>
-    ensures { IfOk result (λ units. units ≡ text.now) }
-{
-    let mut units = Vec::new(alloc);
-    for byte in text {
-        units.push(*byte as u16)?;
-    }
-    Ok(Items::from_vec(units))
-}
-
 fn field(alloc: Global, row: &FieldRow) -> Result<FieldDef, NoMemory>
     ensures { IfOk result (λ made. made ≡ field_of row.now) }
 {
     Ok(FieldDef {
-        name: units_of(alloc, row.name)?,
-        descriptor: units_of(alloc, row.descriptor)?,
+        name: Units::from_ascii(alloc, row.name)?,
+        descriptor: Units::from_ascii(alloc, row.descriptor)?,
         flags: row.flags,
         opening: row.opening,
     })
@@ -72,8 +60,8 @@ fn method(alloc: Global, row: &MethodRow) -> Result<MethodDef, NoMemory>
     ensures { IfOk result (λ made. made ≡ method_of row.now) }
 {
     Ok(MethodDef {
-        name: units_of(alloc, row.name)?,
-        descriptor: units_of(alloc, row.descriptor)?,
+        name: Units::from_ascii(alloc, row.name)?,
+        descriptor: Units::from_ascii(alloc, row.descriptor)?,
         flags: row.flags,
         native: row.native,
     })
@@ -94,7 +82,7 @@ fn superclass(alloc: Global, row: &ClassRow) -> Result<Option<Units>, NoMemory>
 {
     match row.superclass {
         None => Ok(None),
-        Some(name) => Ok(Some(units_of(alloc, name)?)),
+        Some(name) => Ok(Some(Units::from_ascii(alloc, name)?)),
     }
 }
 
@@ -102,7 +90,7 @@ fn class(alloc: Global, row: &ClassRow) -> Result<ClassDef, NoMemory>
     ensures { IfOk result (λ made. made ≡ class_of row.now) }
 {
     Ok(ClassDef {
-        name: units_of(alloc, row.name)?,
+        name: Units::from_ascii(alloc, row.name)?,
         flags: row.flags,
         superclass: superclass(alloc, row)?,
         interfaces: Items::new(alloc),
@@ -120,19 +108,6 @@ pub fn classes(alloc: Global, rows: &[ClassRow]) -> Result<Items<ClassDef>, NoMe
         made.push(class(alloc, row)?)?;
     }
     Ok(Items::from_vec(made))
-}
-
-// Whether code units are those of an ASCII text.
-fn is_ascii_text(units: &[u16], text: &[u8]) -> bool
-    ensures { result ≡ bytes_eq units.now text.now }
-{
-    match units {
-        [] => text.is_empty(),
-        [unit, units @ ..] => match text {
-            [] => false,
-            [byte, text @ ..] => *unit == *byte as u16 && is_ascii_text(units, text),
-        },
-    }
 }
 
 /// The native of the first row with this name and descriptor.

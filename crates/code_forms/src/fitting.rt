@@ -82,9 +82,7 @@ fn field_fits(p: &Program, used: Use, field: u32) -> bool
 {
     match used {
         Use::StaticField => p.is_static_field(field),
-        Use::InstanceField => {
-            !p.is_static_field(field) && !p.is_interface(p.field_class(field))
-        }
+        Use::InstanceField => { !p.is_static_field(field) && !p.is_interface(p.field_class(field)) }
         _ => false,
     }
 }

@@ -167,7 +167,8 @@ fn superinterfaces(alloc: Global, p: &Program, class: u32) -> Result<Vec<u32>, N
 fn is_open(p: &Program, method: u32, name: &[u16], descriptor: &[u16]) -> bool
     ensures { result ≡ is_open p.now name.now descriptor.now method }
 {
-    is_method(p, method, name, descriptor) && (!p.is_private_method(method) && !p.is_static_method(method))
+    is_method(p, method, name, descriptor)
+        && (!p.is_private_method(method) && !p.is_static_method(method))
 }
 
 // Notes the methods of a name and descriptor that a class declares, neither static nor private.
