@@ -11,8 +11,8 @@ use crate::mentions::mentions;
 use crate::names::ClassNames;
 use class_pool::Entry;
 use class_reader::{ClassFile, ClassParts, MemberPart};
-use et_base::{Items, NoMemory};
-use jvm_model::{CLINIT, ClassRec, NO_ARGUMENTS};
+use et_base::{Items, NoMemory, is_ascii_text};
+use jvm_model::ClassRec;
 use std::alloc::Global;
 
 // So many numbers from the first on.
@@ -48,8 +48,8 @@ fn is_initialiser(slots: &[Option<Entry>], part: &MemberPart) -> bool
     ensures { result ≡ is_initialiser slots.now part.now }
 {
     is_static(part.flags)
-        && (text_at(slots, part.name) == &CLINIT[..]
-            && (text_at(slots, part.descriptor) == &NO_ARGUMENTS[..] && part.code.is_some()))
+        && (is_ascii_text(text_at(slots, part.name), b"<clinit>")
+            && (is_ascii_text(text_at(slots, part.descriptor), b"()V") && part.code.is_some()))
 }
 
 // The number of that method, where the first of these has the number `first`.

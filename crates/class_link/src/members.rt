@@ -12,6 +12,7 @@ use crate::literals::Literals;
 use class_pool::Entry;
 use class_pool::lookup::entry_at;
 use class_reader::{ClassFile, CodePart, MemberPart};
+use et_base::letters::{BOOLEAN, BYTE, CHAR, INT, LONG, SHORT};
 use et_base::{Items, NoMemory, i2b, i2c, i2s};
 use jvm_model::{Body, FieldRec, MethodRec, Value};
 use std::alloc::Global;
@@ -30,8 +31,8 @@ fn default_of(descriptor: &[u16]) -> Value
     ensures { result ≡ default_of descriptor.now }
 {
     match descriptor {
-        [66 | 67 | 73 | 83 | 90, ..] => Value::Int(0),
-        [74, ..] => Value::Long(0),
+        [BYTE | CHAR | INT | SHORT | BOOLEAN, ..] => Value::Int(0),
+        [LONG, ..] => Value::Long(0),
         _ => Value::Null,
     }
 }
@@ -41,10 +42,10 @@ fn narrow_int(unit: u16, number: i32) -> i32
     ensures { result ≡ narrow_int unit number }
 {
     match unit {
-        90 => number.rem_euclid(2),
-        66 => i2b(number),
-        67 => i2c(number),
-        83 => i2s(number),
+        BOOLEAN => number.rem_euclid(2),
+        BYTE => i2b(number),
+        CHAR => i2c(number),
+        SHORT => i2s(number),
         _ => number,
     }
 }

@@ -17,6 +17,7 @@ use crate::entries::name_at;
 use crate::fault::LinkFault;
 use crate::text_set::TextSet;
 use class_reader::ClassFile;
+use et_base::letters::{ARRAY, BOOLEAN, BYTE, CHAR, CLASS, INT, LONG, SHORT};
 use et_base::{Items, NoMemory, Units};
 use jvm_model::{Base, ClassRec, Kind};
 use std::alloc::Global;
@@ -58,7 +59,7 @@ pub(crate) fn starts_array(name: &[u16]) -> bool
 {
     match name {
         [] => false,
-        [unit, ..] => *unit == 91,
+        [unit, ..] => *unit == ARRAY,
     }
 }
 
@@ -66,7 +67,7 @@ pub(crate) fn starts_array(name: &[u16]) -> bool
 fn dimensions(name: &[u16]) -> usize
     ensures { result ≡ dimensions name.now }
 {
-    name.iter().take_while(|unit| **unit == 91).count()
+    name.iter().take_while(|unit| **unit == ARRAY).count()
 }
 
 // A name without its last unit.
@@ -80,7 +81,7 @@ fn element_class(element: &[u16]) -> Option<&[u16]>
     ensures { option_copied result ≡ element_class element.now }
 {
     match element {
-        [76, rest @ ..] => Some(within_type(rest)),
+        [CLASS, rest @ ..] => Some(within_type(rest)),
         _ => None,
     }
 }
@@ -113,13 +114,13 @@ fn base_of(names: &ClassNames, element: &[u16]) -> Option<Base>
     ensures { result ≡ base_of names.now element.now }
 {
     match element {
-        [90, ..] => Some(Base::Boolean),
-        [66, ..] => Some(Base::Byte),
-        [67, ..] => Some(Base::Char),
-        [83, ..] => Some(Base::Short),
-        [73, ..] => Some(Base::Int),
-        [74, ..] => Some(Base::Long),
-        [76, rest @ ..] => match names.number(within_type(rest)) {
+        [BOOLEAN, ..] => Some(Base::Boolean),
+        [BYTE, ..] => Some(Base::Byte),
+        [CHAR, ..] => Some(Base::Char),
+        [SHORT, ..] => Some(Base::Short),
+        [INT, ..] => Some(Base::Int),
+        [LONG, ..] => Some(Base::Long),
+        [CLASS, rest @ ..] => match names.number(within_type(rest)) {
             Some(class) => Some(Base::Class(class)),
             None => None,
         },
