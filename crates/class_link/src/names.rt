@@ -101,11 +101,17 @@ pub(crate) fn needed_class(name: &[u16]) -> Option<&[u16]>
 
 /// The class that such a name needs, where it isn't there.
 #[tactic(auto, unfolding(crate::specs::ClassNames::missing))]
-pub(crate) fn missing(alloc: Global, names: &ClassNames, name: &[u16]) -> Result<Option<Units>, NoMemory>
+pub(crate) fn missing(
+    alloc: Global,
+    names: &ClassNames,
+    name: &[u16],
+) -> Result<Option<Units>, NoMemory>
     ensures { IfOk result (λ x. x ≡ missing names.now name.now) }
 {
     match needed_class(name) {
-        Some(needed) if names.number(needed).is_none() => Ok(Some(Items::from_slice(alloc, needed)?)),
+        Some(needed) if names.number(needed).is_none() => Ok(Some(Items::from_slice(
+            alloc, needed,
+        )?)),
         _ => Ok(None),
     }
 }

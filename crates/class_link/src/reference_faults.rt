@@ -10,8 +10,8 @@ ghost use Rattle.class_link.specs.Marks as marking;
 ghost use Rattle.class_link.specs.Marks.{mark_fault};
 
 use crate::fault::LinkFault;
-use crate::supertypes::{judged, own_name};
 use crate::setting::Setting;
+use crate::supertypes::{judged, own_name};
 use crate::targets::{Targets, missing_for, target_in, targets_of};
 use crate::uses::{User, marks_of};
 use class_pool::lookup;

@@ -59,8 +59,7 @@ fn is_test_method(p: &Program, class: u32, method: u32) -> bool
     ensures { result ≡ faults.is_test_method p.now class method }
 {
     p.has_code(method)
-        && (p.is_static_method(method)
-            || has_plain_method(p, &INIT, p.class_methods(class)))
+        && (p.is_static_method(method) || has_plain_method(p, &INIT, p.class_methods(class)))
 }
 
 fn entry_with(budget: u64, line: &TestLine, class: u32, method: u32) -> TestEntry
