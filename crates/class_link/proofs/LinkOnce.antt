@@ -4,9 +4,9 @@ use Rattle.std.proofs.lemmas.Bool.{cases_lt}
 use Rattle.class_reader.specs.declared.parts.ClassParts.{ClassParts}
 use Rattle.jvm_model.specs.declared.program.Program.{Program}
 use Rattle.jvm_model.specs.Builtin.{builtin_count}
-use Rattle.jvm_model.specs.Classes.{class_at, member}
+use Rattle.jvm_model.specs.Classes.{class_at}
 use Rattle.jvm_model.specs.Linked.{IsClass}
-use Rattle.member_lookup.specs.Ancestors.{directs, IsFirstCycle}
+use Rattle.member_lookup.specs.Ancestors.{IsFirstCycle}
 use Rattle.member_lookup.proofs.Ancestry.{is_direct, nothing_above, place_of}
 use Rattle.member_lookup.proofs.FirstCycle.{AreThere, cycle_found, cycle_once}
 use Rattle.class_link.specs.declared.fault.LinkFault.{LinkFault}
