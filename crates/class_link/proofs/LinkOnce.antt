@@ -1,5 +1,5 @@
 -- Linking has exactly one answer.
-use Rattle.std.proofs.Common.{◌≡◌, ℕ, List, [], length, Option, Some, None, Result, Ok, Err, refl, ◌∙◌, ap, subst, inl, inr, IfSome}
+use Rattle.std.proofs.Common.{◌≡◌, ℕ, List, [], length, Option, Some, None, Result, Ok, Err, refl, sym, ◌∙◌, ap, subst, inl, inr, IfSome}
 use Rattle.std.proofs.lemmas.Bool.{cases_lt}
 use Rattle.class_reader.specs.declared.parts.ClassParts.{ClassParts}
 use Rattle.jvm_model.specs.declared.program.Program.{Program}
@@ -60,8 +60,12 @@ said cs lines (Err (fault.NoMember class index)) m l = l
 said cs lines (Err (fault.WrongKind class index)) m l = l
 said cs lines (Err (fault.NotATest test)) m l = l
 
+-- what links in two ways is one answer
+pub links_by_once : (cs : List ClassParts) (lines : TestLines) (a b : Option ℕ) (x y : Result Program LinkFault) → LinksBy a cs lines x → LinksBy b cs lines y → x ≡ y
+links_by_once cs lines a b x y (p, e) (q, f) = e ∙ link_same cs lines a b (λ d h. cycle_once (skeleton cs) a b (p d h) (q d h)) ∙ sym f
+
 same_answer : (cs : List ClassParts) (lines : TestLines) (cycle : Option ℕ) (answer : Result Program LinkFault) → IsFirstCycle (skeleton cs) cycle → ((other : Option ℕ) × LinksBy other cs lines answer) → answer ≡ link_by cycle cs lines
-same_answer cs lines cycle answer first (other, (known, same)) = same ∙ link_same cs lines other cycle (λ d h. cycle_once (skeleton cs) other cycle (known d h) first)
+same_answer cs lines cycle answer first (other, by) = links_by_once cs lines other cycle answer (link_by cycle cs lines) by ((λ _ _. first), refl)
 
 pub links_once : LinksOnce
 links_once cs lines =
