@@ -71,7 +71,3 @@ frame_grown old more new base max_locals args first within h =
       room = h.room;
       slots = omega (arith, h.slots, length-append old more);
     }
-
--- a slice of a vector that was written is the vector's items
-pub written_back : (n : ℕ) (xs ys : List Value) → length xs ≡ n → length ys ≡ n → take n (xs ++ drop (length xs) ys) ≡ xs
-written_back n xs ys h k = take_at xs (drop (length xs) ys) n h
