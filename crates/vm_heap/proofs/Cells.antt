@@ -1,0 +1,256 @@
+-- Fields and elements of an object by the cells of the region.
+use Rattle.std.proofs.Common.{◌≡◌, ℕ, zero, suc, ◌+◌, ◌^◌, ◌-◌, ◌<◌, ◌≤◌, List, [], ◌∷◌, ◌++◌, length, get_or, set, take, drop, map, replicate, nat_eq, true, Option, Some, None, refl, sym, subst, ap, ◌∙◌, arith, inl, inr, length-append, append_assoc}
+use Rattle.std.specs.List.{zip}
+use Rattle.std.proofs.lemmas.Bool.{cases_Bool}
+use Rattle.std.proofs.lemmas.List.{get_or_default, take_more, map-append, get_or-take, get_or-drop, drop-set-lt, length-drop, length-take-le, nil_from_length}
+use Rattle.std.proofs.Math.Seq.{set-append_seam}
+use Rattle.jvm_model.specs.declared.program.Program.{Program}
+use Rattle.jvm_model.specs.declared.values.Value.{Value}
+use Rattle.jvm_model.specs.declared.values.Value.TheVariants.{Null}
+use Rattle.jvm_model.specs.declared.values.Kind.{Kind}
+use Rattle.jvm_model.specs.declared.values.Kind.TheVariants.{Class, Array}
+use Rattle.jvm_model.specs.declared.values.Head.{Head}
+use Rattle.jvm_model.specs.World.{Object, look, keep, put_at, no_object}
+use Rattle.jvm_model.specs.Classes.{member, fields_of, elems_of, blank}
+use Rattle.jvm_model.specs.View.{keys}
+use Rattle.vm_heap.specs.declared.header.Header.{Header}
+use Rattle.vm_heap.specs.Objects.{field_numbers, new_cells, cell_count, object_of, objects_of, IsWhole, place}
+use Rattle.vm_heap.specs.Held.{Held}
+use Rattle.vm_heap.proofs.Objects.{before, own_cells, object_there, cell_set, start_at, cells_within, length-objects_of, with_text, whole_text, text_set, made_last, whole_last}
+
+pub place_below : (f : ℕ) (ks : List ℕ) → member f ks ≡ true → place f ks < length ks
+place_below f [] h = absurd (cc)
+place_below f (k ∷ ks) h = elim (cases_Bool (nat_eq f k)) [
+  | inl e ↦ rw e (omega arith)
+  | inr e ↦ let r = rw e at h in let i = place_below f ks r in rw e (omega arith)
+]
+
+pub place_most : (f : ℕ) (ks : List ℕ) → place f ks ≤ length ks
+place_most f [] = omega arith
+place_most f (k ∷ ks) = let i = place_most f ks in elim (cases_Bool (nat_eq f k)) [ inl e ↦ rw e (omega arith) | inr e ↦ rw e (omega arith) ]
+
+keys_zip : (ks : List ℕ) (cs : List Value) → length ks ≤ length cs → keys (zip ks cs) ≡ ks
+keys_zip [] cs h = refl
+keys_zip (k ∷ ks) [] h = absurd (omega arith)
+keys_zip (k ∷ ks) (c ∷ cs) h = ap (λ t. k ∷ t) (keys_zip ks cs (omega arith))
+
+field_got : (ks : List ℕ) (cs : List Value) (f : ℕ) → member f ks ≡ true → length ks ≤ length cs → look nat_eq Null (zip ks cs) f ≡ get_or cs (place f ks) Null
+field_got [] cs f h w = absurd (cc)
+field_got (k ∷ ks) [] f h w = absurd (omega arith)
+field_got (k ∷ ks) (c ∷ cs) f h w = elim (cases_Bool (nat_eq f k)) [
+  | inl e ↦ rw e refl
+  | inr e ↦ let r = rw e at h in let i = field_got ks cs f r (omega arith) in rw e i
+]
+
+field_kept : (ks : List ℕ) (cs : List Value) (f : ℕ) (v : Value) → member f ks ≡ true → length ks ≤ length cs → zip ks (set cs (place f ks) v) ≡ keep nat_eq (zip ks cs) f v
+field_kept [] cs f v h w = absurd (cc)
+field_kept (k ∷ ks) [] f v h w = absurd (omega arith)
+field_kept (k ∷ ks) (c ∷ cs) f v h w = elim (cases_Bool (nat_eq f k)) [
+  | inl e ↦ rw e refl
+  | inr e ↦ let r = rw e at h in let i = field_kept ks cs f v r (omega arith) in rw e (ap (λ t. (k, c) ∷ t) i)
+]
+
+put_at_set : (xs : List Value) (i : ℕ) (v : Value) → i < length xs → set xs i v ≡ put_at Null xs i v
+put_at_set [] i v h = absurd (omega arith)
+put_at_set (x ∷ xs) zero v h = refl
+put_at_set (x ∷ xs) (suc i) v h = ap (λ t. x ∷ t) (put_at_set xs i v (omega arith))
+
+length_keys : (fs : List (ℕ × Value)) → length (keys fs) ≡ length fs
+length_keys [] = refl
+length_keys (f ∷ fs) = ap suc (length_keys fs)
+
+abbrev pub values_of : List (ℕ × Value) → List Value
+values_of fs = map (λ x. x.1) fs
+
+length_values : (fs : List (ℕ × Value)) → length (map (λ x. x.1) fs) ≡ length (keys fs)
+length_values [] = refl
+length_values (f ∷ fs) = ap suc (length_values fs)
+
+-- only arrays have elements, and they have no fields
+elems_alone : (p : Program) (k : Kind) (n : ℕ) → 0 < length (elems_of k n) → length (fields_of p k) ≡ 0
+elems_alone p (Class c) n h = absurd (omega arith)
+elems_alone p (Array d b) n h = refl
+
+-- Where a field or element of an object stands in the region.
+pub record Cell (p : Program) (xs : List Header) (cs : List Value) (n : ℕ) (v : Value) (changed : Value → List Object) : Type 0 where
+  pub within : n < length cs
+  pub value : get_or cs n Null ≡ v
+  pub after : (w : Value) → objects_of p xs (set cs n w) ≡ changed w
+
+abbrev pub made_of : Header → List (ℕ × Value) → List Value → Object
+made_of x fs es = record { head = x.head; fields = fs; elems = es; text = x.text }
+
+abbrev pub blank_of : Head → List (ℕ × Value) → List Value → Object
+blank_of h fs es = record { head = h; fields = fs; elems = es; text = None }
+
+abbrev pub with_fields : Object → List (ℕ × Value) → Object
+with_fields x fs = record x { fields = fs }
+
+abbrev pub with_elems : Object → List Value → Object
+with_elems x es = record x { elems = es }
+
+field_made : (x : Header) (ks : List ℕ) (s : List Value) (f : ℕ) (w : Value) → member f ks ≡ true → length ks ≤ length s →
+    made_of x (zip ks (set s (place f ks) w)) (drop (length ks) (set s (place f ks) w)) ≡ made_of x (keep nat_eq (zip ks s) f w) (drop (length ks) s)
+field_made x ks s f w m h =
+    let k = place_below f ks m in
+    ap (λ t. made_of x t (drop (length ks) (set s (place f ks) w))) (field_kept ks s f w m h) ∙ ap (λ t. made_of x (keep nat_eq (zip ks s) f w) t) (drop-set-lt (length ks) s (place f ks) w k)
+
+elem_made : (x : Header) (ks : List ℕ) (s : List Value) (i : ℕ) (w : Value) → ks ≡ [] → i < length s →
+    made_of x (zip ks (set s i w)) (drop (length ks) (set s i w)) ≡ made_of x (zip ks s) (put_at Null (drop (length ks) s) i w)
+elem_made x ks s i w e h = rw e (ap (λ t. made_of x [] t) (put_at_set s i w h))
+
+length-own : (p : Program) (xs : List Header) (cs : List Value) (o : ℕ) (x : Header) → IsWhole p xs cs → o < length xs → x ≡ get_or xs o x → length (own_cells p x (before p xs o) cs) ≡ cell_count p x.head
+length-own p xs cs o x h w q =
+    let b : before p xs o + cell_count p x.head ≤ length cs = rw q (cells_within p xs cs o x h w) in
+    let d = length-drop (before p xs o) cs in
+    let m : cell_count p x.head ≤ length (drop (before p xs o) cs) = omega arith in
+    length-take-le (cell_count p x.head) (drop (before p xs o) cs) m
+
+-- a cell of an object
+own_cell : (p : Program) (xs : List Header) (cs : List Value) (o k : ℕ) (x : Header) → IsWhole p xs cs → o < length xs → x ≡ get_or xs o x → k < cell_count p x.head →
+    Cell p xs cs (x.start + k) (get_or (own_cells p x (before p xs o) cs) k Null) (λ w. set (objects_of p xs cs) o (object_of p x (set (own_cells p x (before p xs o) cs) k w)))
+own_cell p xs cs o k x h w q n =
+    let b : before p xs o + cell_count p x.head ≤ length cs = rw q (cells_within p xs cs o x h w) in
+    let s : x.start ≡ before p xs o = ap (λ y. y.start) q ∙ start_at p xs cs o x h w in
+    let m : k < cell_count p (get_or xs o x).head = rw (← q) n in
+    record {
+      within = omega arith;
+      value = ap (λ t. get_or cs (t + k) Null) s ∙ sym (get_or-drop (before p xs o) cs k Null) ∙ sym (get_or-take (cell_count p x.head) (drop (before p xs o) cs) k Null n);
+      after = λ v. ap (λ t. objects_of p xs (set cs (t + k) v)) s ∙ cell_set p xs cs o k x v w m ∙ ap (λ y. set (objects_of p xs cs) o (object_of p y (set (own_cells p y (before p xs o) cs) k v))) (sym q);
+    }
+
+pub field_cell : (p : Program) (xs : List Header) (cs : List Value) (o : ℕ) (x : Header) (e : Object) (f : ℕ) → IsWhole p xs cs → o < length xs → x ≡ get_or xs o x →
+    member f (keys (get_or (objects_of p xs cs) o e).fields) ≡ true →
+    Cell p xs cs (x.start + place f (field_numbers p x.head)) (look nat_eq Null (get_or (objects_of p xs cs) o e).fields f)
+    (λ w. set (objects_of p xs cs) o (with_fields (get_or (objects_of p xs cs) o e) (keep nat_eq (get_or (objects_of p xs cs) o e).fields f w)))
+field_cell p xs cs o x e f h w q m =
+    let s = own_cells p x (before p xs o) cs in
+    let ks = field_numbers p x.head in
+    let l = length-own p xs cs o x h w q in
+    let n : length ks ≤ length s = omega arith in
+    let there : get_or (objects_of p xs cs) o e ≡ object_of p x s = object_there p xs cs o x e w ∙ ap (λ y. object_of p y (own_cells p y (before p xs o) cs)) (sym q) in
+    let r : member f ks ≡ true = ap (member f) (sym (keys_zip ks s n)) ∙ ap (λ y. member f (keys y.fields)) (sym there) ∙ m in
+    let b = place_below f ks r in
+    let c = own_cell p xs cs o (place f ks) x h w q (omega arith) in
+    record {
+      within = c.within;
+      value = c.value ∙ sym (field_got ks s f r n) ∙ ap (λ y. look nat_eq Null y.fields f) (sym there);
+      after = λ v. c.after v ∙ ap (set (objects_of p xs cs) o) (field_made x ks s f v r n ∙ ap (λ y. with_fields y (keep nat_eq y.fields f v)) (sym there));
+    }
+
+pub elem_cell : (p : Program) (xs : List Header) (cs : List Value) (o : ℕ) (x : Header) (e : Object) (i : ℕ) → IsWhole p xs cs → o < length xs → x ≡ get_or xs o x →
+    i < length (get_or (objects_of p xs cs) o e).elems →
+    Cell p xs cs (x.start + i) (get_or (get_or (objects_of p xs cs) o e).elems i Null)
+    (λ w. set (objects_of p xs cs) o (with_elems (get_or (objects_of p xs cs) o e) (put_at Null (get_or (objects_of p xs cs) o e).elems i w)))
+elem_cell p xs cs o x e i h w q m =
+    let s = own_cells p x (before p xs o) cs in
+    let ks = field_numbers p x.head in
+    let l = length-own p xs cs o x h w q in
+    let there : get_or (objects_of p xs cs) o e ≡ object_of p x s = object_there p xs cs o x e w ∙ ap (λ y. object_of p y (own_cells p y (before p xs o) cs)) (sym q) in
+    let d : length (get_or (objects_of p xs cs) o e).elems ≡ length s - length ks = ap (λ y. length y.elems) there ∙ length-drop (length ks) s in
+    let z : 0 < length (elems_of x.head.kind x.head.length) = omega arith in
+    let none : ks ≡ [] = nil_from_length ks (length_keys (fields_of p x.head.kind) ∙ elems_alone p x.head.kind x.head.length z) in
+    let n : i < length s = omega arith in
+    let c = own_cell p xs cs o i x h w q (omega arith) in
+    let g : get_or s i Null ≡ get_or (drop (length ks) s) i Null = rw none refl in
+    record {
+      within = c.within;
+      value = c.value ∙ g ∙ ap (λ y. get_or y.elems i Null) (sym there);
+      after = λ v. c.after v ∙ ap (set (objects_of p xs cs) o) (elem_made x ks s i v none n ∙ ap (λ y. with_elems y (put_at Null y.elems i v)) (sym there));
+    }
+
+zip_back : (fs : List (ℕ × Value)) (es : List Value) → zip (keys fs) (map (λ x. x.1) fs ++ es) ≡ fs
+zip_back [] es = refl
+zip_back (f ∷ fs) es = ap (λ t. f ∷ t) (zip_back fs es)
+
+drop_back : (fs : List (ℕ × Value)) (es : List Value) → drop (length (keys fs)) (map (λ x. x.1) fs ++ es) ≡ es
+drop_back [] es = refl
+drop_back (f ∷ fs) es = drop_back fs es
+
+pub length-new_cells : (p : Program) (h : Head) → length (new_cells p h) ≡ cell_count p h
+length-new_cells p h =
+    length-append (values_of (fields_of p h.kind)) (elems_of h.kind h.length)
+    ∙ ap (λ n. n + length (elems_of h.kind h.length)) (length_values (fields_of p h.kind))
+
+-- a header over new cells is the new object
+pub new_object : (p : Program) (x : Header) (h : Head) → x.head ≡ h → x.text ≡ None → object_of p x (new_cells p h) ≡ blank p h
+unfolding blank
+new_object p x h e t =
+    ap (λ y. object_of p (record { head = y; start = x.start; text = x.text }) (new_cells p h)) e
+    ∙ ap (λ y. object_of p (record { head = h; start = x.start; text = y }) (new_cells p h)) t
+    ∙ ap (λ y. blank_of h y (drop (length (field_numbers p h)) (new_cells p h))) (zip_back (fields_of p h.kind) (elems_of h.kind h.length))
+    ∙ ap (λ y. blank_of h (fields_of p h.kind) y) (drop_back (fields_of p h.kind) (elems_of h.kind h.length))
+
+-- the next cell gets its value
+pub fill_next : (a vs : List Value) (m : ℕ) (v : Value) → set (a ++ (vs ++ replicate (suc m) Null)) (length a + length vs) v ≡ a ++ ((vs ++ v ∷ []) ++ replicate m Null)
+fill_next a vs m v =
+    ap (λ t. set t (length a + length vs) v) (sym (append_assoc a vs (replicate (suc m) Null))) ∙ ap (λ n. set ((a ++ vs) ++ replicate (suc m) Null) n v) (sym (length-append a vs))
+    ∙ set-append_seam (a ++ vs) Null (replicate m Null) v ∙ append_assoc a vs (v ∷ replicate m Null) ∙ ap (λ t. a ++ t) (sym (append_assoc vs (v ∷ []) (replicate m Null)))
+
+pub text_there : (p : Program) (xs : List Header) (cs : List Value) (o : ℕ) (x : Header) (e : Object) → o < length xs → x ≡ get_or xs o x → x.text ≡ (get_or (objects_of p xs cs) o e).text
+text_there p xs cs o x e w q = ap (λ y. y.text) q ∙ ap (λ y. y.text) (sym (object_there p xs cs o x e w))
+
+pub head_there : (p : Program) (xs : List Header) (cs : List Value) (o : ℕ) (x : Header) (e : Object) → o < length xs → x ≡ get_or xs o x → x.head ≡ (get_or (objects_of p xs cs) o e).head
+head_there p xs cs o x e w q = ap (λ y. y.head) q ∙ ap (λ y. y.head) (sym (object_there p xs cs o x e w))
+
+-- a heap's view, and one with a part of an object changed
+abbrev pub held : Program → List Object → Held
+held p xs = record { program = p; objects = xs }
+
+abbrev pub field_changed : Held → ℕ → ℕ → Value → Held
+field_changed h o f v = record h { objects = set h.objects o (with_fields (get_or h.objects o no_object) (keep nat_eq (get_or h.objects o no_object).fields f v)) }
+
+abbrev pub elem_changed : Held → ℕ → ℕ → Value → Held
+elem_changed h o i v = record h { objects = set h.objects o (with_elems (get_or h.objects o no_object) (put_at Null (get_or h.objects o no_object).elems i v)) }
+
+abbrev pub text_changed : Held → ℕ → List ℕ → Held
+text_changed h o t = record h { objects = set h.objects o (record (get_or h.objects o no_object) { text = Some t }) }
+
+pub headers_there : (p : Program) (xs : List Header) (cs : List Value) (h : Held) (o : ℕ) → held p (objects_of p xs cs) ≡ h → o < length h.objects → o < length xs
+headers_there p xs cs h o e w = let l = length-objects_of p xs cs in let m : length (objects_of p xs cs) ≡ length h.objects = ap (λ y. length y.objects) e in omega arith
+
+pub got : (cs : List Value) (n : ℕ) (r v : Value) → r ≡ get_or cs n r → n < length cs → get_or cs n Null ≡ v → r ≡ v
+got cs n r v e w g = e ∙ get_or_default cs n r Null w ∙ g
+
+-- a header with another text
+pub whole_written : (p : Program) (xs : List Header) (cs : List Value) (o : ℕ) (x : Header) (t : Option (List ℕ)) → IsWhole p xs cs → o < length xs → x ≡ get_or xs o x → IsWhole p (set xs o (with_text x t)) cs
+whole_written p xs cs o x t h w q = subst (λ y. IsWhole p (set xs o (with_text y t)) cs) (sym q) (whole_text p xs cs o x t h w)
+
+pub text_written : (p : Program) (xs : List Header) (cs : List Value) (o : ℕ) (x : Header) (u : Option (List ℕ)) (t : List ℕ) → o < length xs → x ≡ get_or xs o x → u ≡ Some t →
+    held p (objects_of p (set xs o (with_text x u)) cs) ≡ text_changed (held p (objects_of p xs cs)) o t
+text_written p xs cs o x u t w q e =
+    ap (λ y. held p (objects_of p (set xs o (with_text x y)) cs)) e ∙ ap (λ y. held p (objects_of p (set xs o (with_text y (Some t))) cs)) q
+    ∙ ap (held p) (text_set p xs cs o x no_object (Some t) w)
+
+-- one more object of a heap
+pub held_last : (p : Program) (xs : List Header) (x : Header) (cs : List Value) (h : Head) → IsWhole p xs cs → x.head ≡ h → x.text ≡ None →
+    held p (objects_of p (xs ++ x ∷ []) (cs ++ new_cells p h)) ≡ held p (objects_of p xs cs ++ blank p h ∷ [])
+held_last p xs x cs h w e t =
+    let n : length (new_cells p h) ≡ cell_count p x.head = rw e (length-new_cells p h) in
+    ap (held p) (made_last p xs x cs (new_cells p h) w.full n ∙ ap (λ y. objects_of p xs cs ++ y ∷ []) (new_object p x h e t))
+
+pub cells_last : (p : Program) (xs : List Header) (x : Header) (cs : List Value) (h : Head) → IsWhole p xs cs → x.head ≡ h → x.start ≡ length cs → length (cs ++ new_cells p h) < 2 ^ 64 → IsWhole p (xs ++ x ∷ []) (cs ++ new_cells p h)
+cells_last p xs x cs h w e s f = whole_last p xs x cs (new_cells p h) w s (rw e (length-new_cells p h)) f
+
+-- one more cell has its value
+pub filled : (old : List Value) (fs : List (ℕ × Value)) (cs ds : List Value) (i n : ℕ) (e : ℕ × Value) → i < length fs → cs ≡ old ++ (map (λ x. x.1) (take i fs) ++ replicate (length fs - i) Null) → n ≡ length old + i →
+    ds ≡ set cs n (get_or fs i e).1 → ds ≡ old ++ (map (λ x. x.1) (take (i + 1) fs) ++ replicate (length fs - (i + 1)) Null)
+filled old fs cs ds i n e w c q d =
+    let v = (get_or fs i e).1 in
+    let vs = values_of (take i fs) in
+    let l : length vs ≡ i = length_values (take i fs) ∙ length_keys (take i fs) ∙ length-take-le i fs (omega arith) in
+    let m : length fs - i ≡ suc (length fs - (i + 1)) = omega arith in
+    let a : n ≡ length old + length vs = omega arith in
+    let t : values_of (take (i + 1) fs) ≡ vs ++ v ∷ [] = ap values_of (take_more fs i e w) ∙ map-append (λ x. x.1) (take i fs) (get_or fs i e ∷ []) in
+    d ∙ ap (λ y. set y n v) (c ∙ ap (λ k. old ++ (vs ++ replicate k Null)) m) ∙ ap (λ k. set (old ++ (vs ++ replicate (suc (length fs - (i + 1))) Null)) k v) a
+    ∙ fill_next old vs (length fs - (i + 1)) v ∙ ap (λ y. old ++ (y ++ replicate (length fs - (i + 1)) Null)) (sym t)
+
+-- an object's cells are within the region
+pub room_within : (p : Program) (xs : List Header) (cs : List Value) (o : ℕ) (x : Header) → IsWhole p xs cs → o < length xs → x ≡ get_or xs o x → x.start + length (field_numbers p x.head) ≤ length cs
+room_within p xs cs o x h w q =
+    let b : before p xs o + cell_count p x.head ≤ length cs = rw q (cells_within p xs cs o x h w) in
+    let s : x.start ≡ before p xs o = ap (λ y. y.start) q ∙ start_at p xs cs o x h w in
+    omega arith
+
+abbrev pub last_on : Held → Head → Held
+last_on y h = record y { objects = y.objects ++ blank y.program h ∷ [] }

@@ -1,0 +1,45 @@
+use Rattle.std.proofs.Common.{◌<◌, ◌∙◌, ap, length, get_or, arith, rules}
+use Rattle.jvm_model.specs.World.{no_object}
+use Rattle.vm_heap.specs.Objects.{objects_of}
+use Rattle.vm_heap.proofs.Cells.{elem_cell, headers_there, held, elem_changed}
+use Rattle.vm_heap.proofs.heap.Heap.set_elem.Goals as goal
+
+pub index-header-requires : goal.index-header-requires
+index-header-requires c =
+    let p = c.self.inside.layouts in
+    let xs = c.self.inside.headers.items in
+    let cs = c.self.inside.cells in
+    let w : c.args.object < length xs = headers_there p xs cs c.args.self.now c.args.object c.self.view_is c.requires.object in
+    search rules
+
+pub overflow_add-place : goal.overflow_add-place
+overflow_add-place c =
+    let p = c.self.inside.layouts in
+    let xs = c.self.inside.headers.items in
+    let cs = c.self.inside.cells in
+    let w : c.args.object < length xs = headers_there p xs cs c.args.self.now c.args.object c.self.view_is c.requires.object in
+    let m : c.args.index < length (get_or (objects_of p xs cs) c.args.object no_object).elems = rw (← c.self.view_is) at c.requires.index in
+    let k = elem_cell p xs cs c.args.object c.index-header.result.now no_object c.args.index c.self.invariant w c.index-header.ensures m in
+    let b = k.within in
+    let f = c.self.invariant.few in
+    omega arith
+
+pub set-requires : goal.set-requires
+set-requires c =
+    let p = c.self.inside.layouts in
+    let xs = c.self.inside.headers.items in
+    let cs = c.self.inside.cells in
+    let w : c.args.object < length xs = headers_there p xs cs c.args.self.now c.args.object c.self.view_is c.requires.object in
+    let m : c.args.index < length (get_or (objects_of p xs cs) c.args.object no_object).elems = rw (← c.self.view_is) at c.requires.index in
+    let k = elem_cell p xs cs c.args.object c.index-header.result.now no_object c.args.index c.self.invariant w c.index-header.ensures m in
+    k.within
+
+pub returns : goal.returns
+returns c =
+    let p = c.self.inside.layouts in
+    let xs = c.self.inside.headers.items in
+    let cs = c.self.inside.cells in
+    let w : c.args.object < length xs = headers_there p xs cs c.args.self.now c.args.object c.self.view_is c.requires.object in
+    let m : c.args.index < length (get_or (objects_of p xs cs) c.args.object no_object).elems = rw (← c.self.view_is) at c.requires.index in
+    let k = elem_cell p xs cs c.args.object c.index-header.result.now no_object c.args.index c.self.invariant w c.index-header.ensures m in
+    ap (λ t. held p (objects_of p xs t)) c.set.ensures ∙ ap (held p) (k.after c.args.v) ∙ ap (λ h. elem_changed h c.args.object c.args.index c.args.v) c.self.view_is

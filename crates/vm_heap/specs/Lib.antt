@@ -1,0 +1,4 @@
+pub mod Held
+pub mod Objects
+pub mod Changes
+pub mod Opened

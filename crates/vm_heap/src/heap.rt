@@ -1,0 +1,202 @@
+ghost use Rattle.std.specs.Prelude.{◌≡◌, ◌<◌, ◌+◌, ◌^◌, [], ◌∷◌, ◌++◌, length, map, set, get_or, nat_eq, true, Some, IfOk, OnOk, OnErr};
+ghost use Rattle.jvm_model.specs.declared.values.Value.TheVariants.{Null};
+ghost use Rattle.jvm_model.specs.World.{look, keep, put_at, text_or_empty, no_object};
+ghost use Rattle.jvm_model.specs.Classes.{member, blank};
+ghost use Rattle.jvm_model.specs.View.{keys};
+ghost use Rattle.vm_heap.specs.Objects.{field_numbers, new_cells, cell_count, place};
+
+use crate::header::Header;
+use cell_region::{Mark, Region};
+use et_base::{NoMemory, Units};
+use jvm_model::{Head, Kind, Program, Value};
+use std::alloc::Global;
+use std::marker::Model;
+use vm_mem::{Layouts, TextCell, element_default};
+
+/// All objects: a header each, and the cells of all of them in one region in the order of the objects.
+#[derive(Drop)]
+pub struct Heap {
+    headers: Vec<Header>,
+    cells: Region<Value>,
+    layouts: Layouts,
+    alloc: Global,
+}
+
+impl Model for Heap {
+    ghost use Rattle.vm_heap.specs.Held.{Held};
+    ghost use Rattle.vm_heap.specs.Objects.{objects_of, IsWhole};
+
+    ghost Value = { Held };
+
+    ghost view = { λ s. record { program = s.layouts; objects = objects_of s.layouts s.headers.items s.cells } };
+
+    ghost invariant = { λ s. IsWhole s.layouts s.headers.items s.cells };
+}
+
+impl Heap {
+    ghost use Rattle.jvm_model.specs.Linked.{Linked};
+
+    /// No objects yet of a linked program.
+    pub fn new(alloc: Global, p: &Program) -> Result<Heap, NoMemory>
+        requires { Linked p.now }
+        ensures { IfOk result (λ x. x ≡ record { program = p.now; objects = [] }) }
+    {
+        Ok(Heap {
+            headers: Vec::new(alloc),
+            cells: Region::new(alloc),
+            layouts: Layouts::of(alloc, p)?,
+            alloc,
+        })
+    }
+
+    /// The head of an object.
+    pub fn head(&self, object: u64) -> Head
+        requires { object < length self.now.objects }
+        ensures { result ≡ (get_or self.now.objects object no_object).head }
+    {
+        self.headers[object as usize].head
+    }
+
+    /// The value of a field.
+    pub fn field(&self, object: u64, field: u32) -> Value
+        requires object { object < length self.now.objects }
+        requires field { member field (keys (get_or self.now.objects object no_object).fields) ≡ true }
+        ensures { result ≡ look nat_eq Null (get_or self.now.objects object no_object).fields field }
+    {
+        let header = &self.headers[object as usize];
+        self.cells.get(field_place(&self.layouts, header, field))
+    }
+
+    /// Gives a field another value.
+    pub fn set_field(&mut self, object: u64, field: u32, v: Value)
+        requires object { object < length self.old.objects }
+        requires field { member field (keys (get_or self.old.objects object no_object).fields) ≡ true }
+        ensures { let x = get_or self.old.objects object no_object in self.new ≡ record self.old { objects = set self.old.objects object (record x { fields = keep nat_eq x.fields field v }) } }
+    {
+        let header = &self.headers[object as usize];
+        let place = field_place(&self.layouts, header, field);
+        self.cells.set(place, v);
+    }
+
+    /// The value of an element.
+    pub fn elem(&self, object: u64, index: u32) -> Value
+        requires object { object < length self.now.objects }
+        requires index { index < length (get_or self.now.objects object no_object).elems }
+        ensures { result ≡ get_or (get_or self.now.objects object no_object).elems index Null }
+    {
+        let header = &self.headers[object as usize];
+        self.cells.get(header.start + index as u64)
+    }
+
+    /// Gives an element another value.
+    pub fn set_elem(&mut self, object: u64, index: u32, v: Value)
+        requires object { object < length self.old.objects }
+        requires index { index < length (get_or self.old.objects object no_object).elems }
+        ensures { let x = get_or self.old.objects object no_object in self.new ≡ record self.old { objects = set self.old.objects object (record x { elems = put_at Null x.elems index v }) } }
+    {
+        let header = &self.headers[object as usize];
+        let place = header.start + index as u64;
+        self.cells.set(place, v);
+    }
+
+    /// The text of an object, empty until one was written.
+    pub fn text(&self, object: u64) -> &Units
+        requires { object < length self.now.objects }
+        ensures { result.now ≡ text_or_empty (get_or self.now.objects object no_object).text }
+    {
+        self.headers[object as usize].text.get()
+    }
+
+    /// Writes the text of an object.
+    pub fn set_text(&mut self, object: u64, text: Units)
+        requires { object < length self.old.objects }
+        ensures { let x = get_or self.old.objects object no_object in self.new ≡ record self.old { objects = set self.old.objects object (record x { text = Some text }) } }
+    {
+        self.headers[object as usize].text.set(text);
+    }
+
+    /// Makes a new object with default cells and no text, and answers its place. After a refusal there are the objects
+    /// of before.
+    pub fn make(&mut self, head: Head) -> Result<u64, NoMemory>
+        ensures gives { IfOk result (λ o. o ≡ length self.old.objects) }
+        ensures made { OnOk result (self.new ≡ record self.old { objects = self.old.objects ++ blank self.old.program head ∷ [] }) }
+        ensures kept { OnErr result (self.new ≡ self.old) }
+    {
+        let object = self.headers.len() as u64;
+        let mark = self.cells.mark();
+        append_cells(&mut self.cells, &self.layouts, head)?;
+        let header = Header {
+            head,
+            start: mark.len,
+            text: TextCell::new(self.alloc),
+        };
+        if self.headers.push(header).is_err() {
+            self.cells.release(mark);
+            return Err(NoMemory {});
+        }
+        Ok(object)
+    }
+
+    /// Takes all objects away. It takes no memory.
+    pub fn clear(&mut self)
+        ensures { self.new ≡ record self.old { objects = [] } }
+    {
+        self.headers.clear();
+        self.cells.release(Mark { len: 0 });
+    }
+}
+
+/// The place of a field's cell.
+fn field_place(layouts: &Layouts, header: &Header, field: u32) -> u64
+    requires { header.now.start + length (field_numbers layouts.now header.now.head) < 2 ^ 64 }
+    ensures { result ≡ header.now.start + place field (field_numbers layouts.now header.now.head) }
+{
+    match header.head.kind {
+        Kind::Class(class) => header.start + place_of(layouts.fields(class), field),
+        Kind::Array { .. } => header.start,
+    }
+}
+
+/// The place of a number among these, or how many there are.
+fn place_of(fields: &[(u32, Value)], field: u32) -> u64
+    ensures { result ≡ place field (keys fields.now) }
+{
+    let mut place = 0;
+    for (number, _) in fields {
+        if field == *number {
+            return place;
+        }
+        place += 1;
+    }
+    place
+}
+
+/// Appends the cells of a new object. After a refusal the cells are as before.
+fn append_cells(cells: &mut Region<Value>, layouts: &Layouts, head: Head) -> Result<(), NoMemory>
+    ensures made { OnOk result (cells.new ≡ cells.old ++ new_cells layouts.now head) }
+    ensures room { OnOk result (length cells.new < 2 ^ 64) }
+    ensures kept { OnErr result (cells.new ≡ cells.old) }
+{
+    match head.kind {
+        Kind::Class(class) => append_values(cells, layouts.fields(class)),
+        Kind::Array { dims, base } => {
+            cells.grow(head.length as u64, element_default(dims, base))?;
+            Ok(())
+        }
+    }
+}
+
+/// Appends a cell with the value of each field. After a refusal the cells are as before.
+fn append_values(cells: &mut Region<Value>, fields: &[(u32, Value)]) -> Result<(), NoMemory>
+    ensures made { OnOk result (cells.new ≡ cells.old ++ map (λ x. x.1) fields.now) }
+    ensures room { OnOk result (length cells.new < 2 ^ 64) }
+    ensures kept { OnErr result (cells.new ≡ cells.old) }
+{
+    let block = cells.grow(fields.len() as u64, Value::Null)?;
+    let mut place = block.start;
+    for (_, v) in fields {
+        cells.set(place, *v);
+        place += 1;
+    }
+    Ok(())
+}

@@ -1,0 +1,9 @@
+//! The memory of the product: the cells of all objects in one region, set back without taking memory.
+#![tactic(auto)]
+
+mod changes;
+mod header;
+mod heap;
+mod region_memory;
+
+pub use region_memory::RegionMemory;
