@@ -3,6 +3,7 @@ pub mod ContentLaws
 pub mod GoodLines
 pub mod LineLaws
 pub mod LoadLaws
+pub mod LoadOnce
 pub mod NumberLaws
 pub mod ReadingLaws
 pub mod SetLaws

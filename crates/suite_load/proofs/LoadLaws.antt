@@ -1,7 +1,9 @@
 -- Refusals of loading, and its parts joined.
-use Rattle.std.proofs.Common.{◌≡◌, ◌≤◌, ◌<◌, ℕ, ◌+◌, List, [], ◌∷◌, ◌++◌, length, take, drop, get_or, Option, Some, None, Ok, Err, IfSome, refl, sym, ap, ◌∙◌, subst, inl, inr, arith}
+use Rattle.std.proofs.Common.{◌≡◌, ◌≤◌, ◌<◌, ℕ, ◌+◌, List, [], ◌∷◌, ◌++◌, length, take, drop, get_or, Option, Some, None, Result, Ok, Err, IfSome, refl, sym, ap, ◌∙◌, subst}
 use Rattle.std.proofs.lemmas.List.{take_more, take_all, take-append-drop, drop_more}
-use Rattle.outside.specs.Counts.{Rose}
+use Rattle.et_base.specs.Answers.{Fails}
+use Rattle.outside.specs.Depot.{Files, DepotView, FailedAt}
+use Rattle.outside.proofs.CountLemmas.{rose_later}
 use Rattle.class_reader.specs.declared.parts.ClassParts.{ClassParts}
 use Rattle.jvm_model.specs.declared.program.Names.{Names}
 use Rattle.jvm_model.specs.declared.program.Program.{Program}
@@ -9,35 +11,38 @@ use Rattle.suite_load.specs.declared.suite_text.SuiteText.{SuiteText}
 use Rattle.suite_load.specs.declared.load_fault.LoadFault.{LoadFault}
 use Rattle.suite_load.specs.declared.load_fault.LoadFault.TheVariants as fault
 use Rattle.suite_load.specs.declared.loaded.Loaded.{Loaded}
-use Rattle.suite_load.specs.Loading.{◌>>=◌, Files, suite_in, class_in, classes_in, read_in, ReadGives, Loads, IsReadAmong, names_in}
-use Rattle.suite_load.specs.LoadAnswers.{Refuses, IsProper, LoadAnswers, Checks}
+use Rattle.suite_load.specs.Loading.{◌>>=◌, suite_in, class_in, classes_in, read_in, ReadGives, Loads, IsReadAmong, names_in}
+use Rattle.suite_load.specs.LoadAnswers.{says, IsProper, LoadAnswers, Checks}
 
 -- ---- refusals
 
-pub refuses_weaker : (P Q : LoadFault → Type 0) (e : LoadFault) → ((f : LoadFault) → P f → Q f) → Refuses P e → Refuses Q e
-refuses_weaker P Q fault.NoMemory h r = tt
-refuses_weaker P Q (fault.Depot name) h r = tt
-refuses_weaker P Q (fault.Absent name) h r = h (fault.Absent name) r
-refuses_weaker P Q (fault.TooLarge name) h r = h (fault.TooLarge name) r
-refuses_weaker P Q (fault.Suite line why) h r = h (fault.Suite line why) r
-refuses_weaker P Q (fault.Class name f) h r = h (fault.Class name f) r
-refuses_weaker P Q (fault.Link f) h r = h (fault.Link f) r
-refuses_weaker P Q (fault.Check f) h r = h (fault.Check f) r
+pub refuses_weaker : (P Q : LoadFault → Type 0) (o : Option LoadFault) → ((f : LoadFault) → P f → Q f) → IfSome o P → IfSome o Q
+refuses_weaker P Q None h r = tt
+refuses_weaker P Q (Some f) h r = h f r
 
-rose_before : (first old new : ℕ) → first ≤ old → Rose old new → Rose first new
-rose_before first old new le (inl lt) = inl (omega arith)
-rose_before first old new le (inr e) = inr e
+-- the same of what a definition gives
+pub fails_on : {X : Type 0} (P : LoadFault → Type 0) (o : Option LoadFault) (given : Result X LoadFault) → ((f : LoadFault) → given ≡ Err f → P f) → Fails o given → IfSome o P
+fails_on P None given h r = tt
+fails_on P (Some f) given h r = h f r
 
--- what is said of a fault of a part is said of it in the whole, which began before
-pub proper_weaker : (P Q : List ℕ → Type 0) (e : LoadFault) (first old new : ℕ) → ((read : List ℕ) → P read → Q read) → first ≤ old → IsProper P e old new → IsProper Q e first new
-proper_weaker P Q fault.NoMemory first old new h le r = tt
-proper_weaker P Q (fault.Depot name) first old new h le r = (h name r.0, rose_before first old new le r.1)
-proper_weaker P Q (fault.Absent name) first old new h le r = tt
-proper_weaker P Q (fault.TooLarge name) first old new h le r = tt
-proper_weaker P Q (fault.Suite line why) first old new h le r = tt
-proper_weaker P Q (fault.Class name f) first old new h le r = r
-proper_weaker P Q (fault.Link f) first old new h le r = r
-proper_weaker P Q (fault.Check f) first old new h le r = r
+pub fails_weaker : {X Y : Type 0} (o : Option LoadFault) (given : Result Y LoadFault) (part : Result X LoadFault) → ((f : LoadFault) → part ≡ Err f → given ≡ Err f) → Fails o part → Fails o given
+fails_weaker None given part h r = tt
+fails_weaker (Some f) given part h r = h f r
+
+-- what is said of a fault of a part is said of it in the whole
+pub proper_weaker : (P Q : List ℕ → Type 0) (e : LoadFault) → ((read : List ℕ) → P read → Q read) → IsProper P e → IsProper Q e
+proper_weaker P Q fault.NoMemory h r = tt
+proper_weaker P Q (fault.Depot name) h r = h name r
+proper_weaker P Q (fault.Absent name) h r = tt
+proper_weaker P Q (fault.TooLarge name) h r = tt
+proper_weaker P Q (fault.Suite line why) h r = tt
+proper_weaker P Q (fault.Class name f) h r = r
+proper_weaker P Q (fault.Link f) h r = r
+proper_weaker P Q (fault.Check f) h r = r
+
+-- a depot that failed late failed
+failed_later : (first old new : DepotView) (name : List ℕ) → first.faults ≤ old.faults → FailedAt old new name → FailedAt first new name
+failed_later first old new name le f = record { rose = rose_later first.faults old.faults new.faults le f.rose; named = f.named }
 
 -- ---- class files one after another
 
@@ -85,11 +90,11 @@ so_far_more (Some files) was names i name classes now next c w lt e h g =
     subst (λ ns. AreRead files 0 ns (classes ++ c ∷ []) next) (sym longer) (read_more files 0 (take i names) name classes now next c h there)
 
 pub so_far_fails : (told was : Option Files) (names : List (List ℕ)) (i : ℕ) (name : List ℕ) (classes : List ClassParts) (now : ℕ) (e : LoadFault) → was ≡ told → i < length names → name ≡ get_or names i name →
-    SoFar told (take i names) classes now → IfSome was (λ files. Refuses (λ f. class_in files now name ≡ Err f) e) → IfSome told (λ files. Refuses (λ f. classes_in files 0 names ≡ Err f) e)
+    SoFar told (take i names) classes now → IfSome was (λ files. Fails (says e) (class_in files now name)) → IfSome told (λ files. Fails (says e) (classes_in files 0 names))
 so_far_fails None was names i name classes now e w lt at h g = tt
 so_far_fails (Some files) was names i name classes now e w lt at h g =
-    let there = subst (λ o. IfSome o (λ files. Refuses (λ f. class_in files now name ≡ Err f) e)) w g in
-    refuses_weaker (λ f. class_in files now name ≡ Err f) (λ f. classes_in files 0 names ≡ Err f) e
+    let there = subst (λ o. IfSome o (λ files. Fails (says e) (class_in files now name))) w g in
+    fails_weaker (says e) (classes_in files 0 names) (class_in files now name)
     (λ f k. ap (classes_in files 0) (parted names i name lt at) ∙ read_fails files 0 (take i names) name (drop (i + 1) names) classes now f h k) there
 
 pub so_far_all : (told : Option Files) (names : List (List ℕ)) (i : ℕ) (classes : List ClassParts) (now : ℕ) → length names ≤ i → SoFar told (take i names) classes now → IfSome told (λ files. classes_in files 0 names ≡ Ok classes)
@@ -100,11 +105,11 @@ read_here : (told : Option Files) (names : List (List ℕ)) (i : ℕ) (name : Li
 read_here None names i name classes now lt e h = tt
 read_here (Some files) names i name classes now lt e h = (take i names, drop (i + 1) names, parted names i name lt e, rw (read_gives files 0 (take i names) classes now h) refl)
 
-pub so_far_proper : (told : Option Files) (names : List (List ℕ)) (i : ℕ) (name : List ℕ) (classes : List ClassParts) (now : ℕ) (e : LoadFault) (first old new : ℕ) → i < length names → name ≡ get_or names i name → SoFar told (take i names) classes now → first ≤ old →
-    IsProper (λ read. read ≡ name) e old new → IsProper (λ read. IfSome told (λ files. IsReadAmong files names read)) e first new
+pub so_far_proper : (told : Option Files) (names : List (List ℕ)) (i : ℕ) (name : List ℕ) (classes : List ClassParts) (now : ℕ) (e : LoadFault) (first old new : DepotView) → i < length names → name ≡ get_or names i name → SoFar told (take i names) classes now → first.faults ≤ old.faults →
+    IsProper (λ read. (read ≡ name) × FailedAt old new read) e → IsProper (λ read. IfSome told (λ files. IsReadAmong files names read) × FailedAt first new read) e
 so_far_proper told names i name classes now e first old new lt at h le d =
-    proper_weaker (λ read. read ≡ name) (λ read. IfSome told (λ files. IsReadAmong files names read)) e first old new
-    (λ read same. subst (λ n. IfSome told (λ files. IsReadAmong files names n)) (sym same) (read_here told names i name classes now lt at h)) le d
+    proper_weaker (λ read. (read ≡ name) × FailedAt old new read) (λ read. IfSome told (λ files. IsReadAmong files names read) × FailedAt first new read) e
+    (λ read f. (subst (λ n. IfSome told (λ files. IsReadAmong files names n)) (sym f.0) (read_here told names i name classes now lt at h), failed_later first old new read le f.1)) d
 
 -- ---- loading as a whole
 
@@ -113,21 +118,21 @@ unfolding read_in
 read_done files name suite classes e h = ap (λ r. r >>= λ s. classes_in files 0 s.classes >>= λ cs. Ok (s, cs)) e ∙ ap (λ r. r >>= λ cs. Ok (suite, cs)) h
 
 -- the suite text isn't read
-pub unread_suite : (told : Option Files) (name : List ℕ) (e : LoadFault) → IfSome told (λ files. Refuses (λ f. suite_in files name ≡ Err f) e) → IfSome told (λ files. LoadAnswers files name (Err e))
+pub unread_suite : (told : Option Files) (name : List ℕ) (e : LoadFault) → IfSome told (λ files. Fails (says e) (suite_in files name)) → IfSome told (λ files. LoadAnswers files name (Err e))
 unfolding read_in
 unread_suite None name e h = tt
 unread_suite (Some files) name e h =
-    refuses_weaker (λ f. suite_in files name ≡ Err f) (λ f. Loads files name (Err f)) e
+    fails_on (λ f. Loads files name (Err f)) (says e) (suite_in files name)
     (λ f k. subst (λ r. ReadGives r (Err f)) (sym (ap (λ r. r >>= λ s. classes_in files 0 s.classes >>= λ cs. Ok (s, cs)) k)) refl) h
 
 -- a class file isn't read
-pub unread_class : (told was : Option Files) (name : List ℕ) (suite : SuiteText) (names : List (List ℕ)) (e : LoadFault) → was ≡ told → names ≡ suite.classes → IfSome told (λ files. suite_in files name ≡ Ok suite) → IfSome was (λ files. Refuses (λ f. classes_in files 0 names ≡ Err f) e) →
+pub unread_class : (told was : Option Files) (name : List ℕ) (suite : SuiteText) (names : List (List ℕ)) (e : LoadFault) → was ≡ told → names ≡ suite.classes → IfSome told (λ files. suite_in files name ≡ Ok suite) → IfSome was (λ files. Fails (says e) (classes_in files 0 names)) →
     IfSome told (λ files. LoadAnswers files name (Err e))
 unfolding read_in
 unread_class None was name suite names e w n s h = tt
 unread_class (Some files) was name suite names e w n s h =
-    let there = subst (λ o. IfSome o (λ files. Refuses (λ f. classes_in files 0 names ≡ Err f) e)) w h in
-    refuses_weaker (λ f. classes_in files 0 names ≡ Err f) (λ f. Loads files name (Err f)) e
+    let there = subst (λ o. IfSome o (λ files. Fails (says e) (classes_in files 0 names))) w h in
+    fails_on (λ f. Loads files name (Err f)) (says e) (classes_in files 0 names)
     (λ f k.
     let whole = ap (λ r. r >>= λ t. classes_in files 0 t.classes >>= λ cs. Ok (t, cs)) s ∙ ap (λ r. r >>= λ cs. Ok (suite, cs)) (ap (classes_in files 0) (sym n) ∙ k) in
     subst (λ r. ReadGives r (Err f)) (sym whole) refl) there
@@ -140,9 +145,9 @@ all_read (Some files) was name suite names classes w n s h =
     let there = subst (λ o. IfSome o (λ files. classes_in files 0 names ≡ Ok classes)) w h in
     read_done files name suite classes s (ap (classes_in files 0) (sym n) ∙ there)
 
-pub not_checked : (told : Option Files) (name : List ℕ) (suite : SuiteText) (classes : List ClassParts) (e : LoadFault) → IfSome told (λ files. read_in files name ≡ Ok (suite, classes)) → Refuses (λ f. ReadGives (Ok (suite, classes)) (Err f)) e → IfSome told (λ files. LoadAnswers files name (Err e))
+pub not_checked : (told : Option Files) (name : List ℕ) (suite : SuiteText) (classes : List ClassParts) (e : LoadFault) → IfSome told (λ files. read_in files name ≡ Ok (suite, classes)) → IfSome (says e) (λ f. ReadGives (Ok (suite, classes)) (Err f)) → IfSome told (λ files. LoadAnswers files name (Err e))
 not_checked None name suite classes e r h = tt
-not_checked (Some files) name suite classes e r h = refuses_weaker (λ f. ReadGives (Ok (suite, classes)) (Err f)) (λ f. Loads files name (Err f)) e (λ f k. subst (λ x. ReadGives x (Err f)) (sym r) k) h
+not_checked (Some files) name suite classes e r h = refuses_weaker (λ f. ReadGives (Ok (suite, classes)) (Err f)) (λ f. Loads files name (Err f)) (says e) (λ f k. subst (λ x. ReadGives x (Err f)) (sym r) k) h
 
 pub loads_all : (told : Option Files) (name : List ℕ) (suite : SuiteText) (classes : List ClassParts) (p q : Program) (names : Names) → names ≡ names_in suite q → q ≡ p → IfSome told (λ files. read_in files name ≡ Ok (suite, classes)) → Checks suite classes (Ok p) →
     IfSome told (λ files. LoadAnswers files name (Ok (record { checked = p; names = names })))

@@ -1,6 +1,7 @@
 -- What a part of loading answered of what a definition says.
-use Rattle.std.specs.Prelude.{◌≡◌, ◌≢◌, ℕ, List, Result, Ok, Err}
-use Rattle.outside.specs.Counts.{Rose}
+use Rattle.std.specs.Prelude.{◌≢◌, ℕ, List, Option, Some, None, Result, Ok, Err, IfSome}
+use Rattle.et_base.specs.Answers.{Gives}
+use Rattle.outside.specs.Depot.{Files}
 use Rattle.outside.specs.declared.depot.DepotRefusal.{DepotRefusal}
 use Rattle.outside.specs.declared.depot.DepotRefusal.TheVariants as refused
 use Rattle.class_reader.specs.declared.fault.ClassFault.TheVariants as class
@@ -13,38 +14,39 @@ use Rattle.suite_load.specs.declared.suite_text.SuiteText.{SuiteText}
 use Rattle.suite_load.specs.declared.load_fault.LoadFault.{LoadFault}
 use Rattle.suite_load.specs.declared.load_fault.LoadFault.TheVariants as fault
 use Rattle.suite_load.specs.declared.loaded.Loaded.{Loaded}
-use Rattle.suite_load.specs.Loading.{Files, ReadGives, Loads, loaded_of}
+use Rattle.suite_load.specs.Loading.{ReadGives, Loads, loaded_of}
 
--- a refusal stands for what P says of it; a failing depot's and want of memory are free
-abbrev pub Refuses : (LoadFault → Type 0) → LoadFault → Type 0
-Refuses P fault.NoMemory = Unit {0}
-Refuses P (fault.Depot name) = Unit {0}
-Refuses P (fault.Absent name) = P (fault.Absent name)
-Refuses P (fault.TooLarge name) = P (fault.TooLarge name)
-Refuses P (fault.Suite line why) = P (fault.Suite line why)
-Refuses P (fault.Class name f) = P (fault.Class name f)
-Refuses P (fault.Link f) = P (fault.Link f)
-Refuses P (fault.Check f) = P (fault.Check f)
+-- the fault that a definition knows of; a failing depot's and want of memory are free
+abbrev pub says : LoadFault → Option LoadFault
+says fault.NoMemory = None
+says (fault.Depot name) = None
+says (fault.Absent name) = Some (fault.Absent name)
+says (fault.TooLarge name) = Some (fault.TooLarge name)
+says (fault.Suite line why) = Some (fault.Suite line why)
+says (fault.Class name f) = Some (fault.Class name f)
+says (fault.Link f) = Some (fault.Link f)
+says (fault.Check f) = Some (fault.Check f)
 
 -- the answer is the definition's
-abbrev pub Answers : {A B : Type 0} → (A → B) → Result A LoadFault → Result B LoadFault → Type 0
-Answers view (Ok x) d = d ≡ Ok (view x)
-Answers view (Err e) d = Refuses (λ f. d ≡ Err f) e
+abbrev pub Answers : {A : Type 0} → Result A LoadFault → Result A LoadFault → Type 0
+Answers result given = Gives says (λ x. x) result given
 
-abbrev pub itself : {A : Type 0} → A → A
-itself x = x
+-- the relation R says this answer
+abbrev pub Says : {A : Type 0} → (Result A LoadFault → Type 0) → Result A LoadFault → Type 0
+Says R (Ok x) = R (Ok x)
+Says R (Err e) = IfSome (says e) (λ f. R (Err f))
 
--- Whatever the depot tells: a failing depot is named by a file that is read, and only where its count of faults rose; want
--- of memory is no fault of a class file, of linking or of the check, and a line that names no test is none of linking.
-abbrev pub IsProper : (List ℕ → Type 0) → LoadFault → ℕ → ℕ → Type 0
-IsProper IsRead fault.NoMemory old new = Unit {0}
-IsProper IsRead (fault.Depot name) old new = IsRead name × Rose old new
-IsProper IsRead (fault.Absent name) old new = Unit {0}
-IsProper IsRead (fault.TooLarge name) old new = Unit {0}
-IsProper IsRead (fault.Suite line why) old new = Unit {0}
-IsProper IsRead (fault.Class name f) old new = f ≢ class.NoMemory
-IsProper IsRead (fault.Link f) old new = (f ≢ linking.NoMemory) × ((t : ℕ) → f ≢ linking.NotATest t)
-IsProper IsRead (fault.Check f) old new = f ≢ checking.NoMemory
+-- Whatever the depot tells: of a failing depot P holds at the file that is named; want of memory is no fault of a class
+-- file, of linking or of the check, and a line that names no test is none of linking.
+abbrev pub IsProper : (List ℕ → Type 0) → LoadFault → Type 0
+IsProper P fault.NoMemory = Unit {0}
+IsProper P (fault.Depot name) = P name
+IsProper P (fault.Absent name) = Unit {0}
+IsProper P (fault.TooLarge name) = Unit {0}
+IsProper P (fault.Suite line why) = Unit {0}
+IsProper P (fault.Class name f) = f ≢ class.NoMemory
+IsProper P (fault.Link f) = (f ≢ linking.NoMemory) × ((t : ℕ) → f ≢ linking.NotATest t)
+IsProper P (fault.Check f) = f ≢ checking.NoMemory
 
 -- how a refusal of the depot at the file of a name is answered
 abbrev pub refusal_of : DepotRefusal → List ℕ → LoadFault
@@ -60,10 +62,9 @@ check_answer f = fault.Check f
 
 -- loading the suite of this name answers this
 abbrev pub LoadAnswers : Files → List ℕ → Result Loaded LoadFault → Type 0
-LoadAnswers files name (Ok l) = Loads files name (Ok l)
-LoadAnswers files name (Err e) = Refuses (λ f. Loads files name (Err f)) e
+LoadAnswers files name result = Says (Loads files name) result
 
 -- linking and the check of these class files answer this
 abbrev pub Checks : SuiteText → List ClassParts → Result Program LoadFault → Type 0
 Checks suite cs (Ok p) = ReadGives (Ok (suite, cs)) (Ok (loaded_of suite p))
-Checks suite cs (Err e) = Refuses (λ f. ReadGives (Ok (suite, cs)) (Err f)) e
+Checks suite cs (Err e) = IfSome (says e) (λ f. ReadGives (Ok (suite, cs)) (Err f))

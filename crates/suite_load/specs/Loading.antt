@@ -1,8 +1,9 @@
 -- What loading a suite gives, or the first fault: the suite text, the class files in order, linking, tests, the check (this
 -- project's order).
 use Rattle.std.specs.Prelude.{◌≡◌, ◌⊎◌, IsOk, ℕ, ◌+◌, ◌-◌, List, [], ◌∷◌, ◌++◌, length, map, get_or, min, nat_le, Option, Some, None, Result, Ok, Err, if◌then◌else◌}
+pub use Rattle.et_base.specs.Answers.{◌>>=◌}
 use Rattle.et_base.specs.Quotes.{name_of}
-use Rattle.outside.specs.Depot.{content}
+use Rattle.outside.specs.Depot.{Files, content}
 use Rattle.class_reader.specs.declared.parts.ClassParts.{ClassParts}
 use Rattle.class_reader.specs.declared.fault.ClassFault.{ClassFault}
 use Rattle.class_reader.specs.declared.fault.ClassFault.TheVariants as class
@@ -25,15 +26,6 @@ use Rattle.suite_load.specs.SuiteForm.{suite_of}
 use Rattle.suite_load.specs.declared.load_fault.LoadFault.{LoadFault}
 use Rattle.suite_load.specs.declared.load_fault.LoadFault.TheVariants as fault
 use Rattle.suite_load.specs.declared.loaded.Loaded.{Loaded}
-
-infixl 10 ◌>>=◌
-abbrev pub ◌>>=◌ : {A B : Type 0} → Result A LoadFault → (A → Result B LoadFault) → Result B LoadFault
-(Ok x) >>= f = f x
-(Err e) >>= f = Err e
-
--- files by name; the first of a name counts
-abbrev pub Files : Type 0
-Files = List (List ℕ × List ℕ)
 
 -- ---- files
 
@@ -152,6 +144,11 @@ ReadGives (Ok x) answer = (cycle : Option ℕ) × (linked : Result Program LinkF
 -- The answer of loading the suite of this name.
 abbrev pub Loads : Files → List ℕ → Result Loaded LoadFault → Type 0
 Loads files name answer = ReadGives (read_in files name) answer
+
+-- Loading has exactly one answer.
+abbrev pub LoadsOnce : Type 0
+LoadsOnce = (files : Files) (name : List ℕ) → (answer : Result Loaded LoadFault) × Loads files name answer
+    × ((other : Result Loaded LoadFault) → Loads files name other → other ≡ answer)
 
 -- a class file that is read where these are asked for: those before it are read without fault
 abbrev pub IsReadAmong : Files → List (List ℕ) → List ℕ → Type 0

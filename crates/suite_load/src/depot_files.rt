@@ -1,17 +1,18 @@
 //! A suite's text and its class files, read from a depot.
 
 ghost use Rattle.std.specs.Prelude.{◌≡◌, ◌≤◌, ◌<◌, ◌^◌, ◌+◌, ◌++◌, ◌∷◌, [], drop, length, IfOk, IfErr, IfSome};
+ghost use Rattle.outside.specs.Depot.{FailedAt};
 ghost use Rattle.class_link.specs.Link.{AreLines};
 ghost use Rattle.class_reader.specs.Faults.{class_of};
 ghost use Rattle.suite_load.specs.SuiteForm.{suite_of};
 ghost use Rattle.suite_load.specs.Loading as loading;
-ghost use Rattle.suite_load.specs.LoadAnswers.{Answers, IsProper, refusal_of, itself};
+ghost use Rattle.suite_load.specs.LoadAnswers.{Answers, IsProper, refusal_of};
 
 use crate::load_fault::LoadFault;
 use crate::suite_reading::read_suite;
 use crate::suite_text::{SuiteRefusal, SuiteText};
 use class_reader::{ClassFault, ClassFile, read_class};
-use et_base::{Items, NoMemory, Text};
+use et_base::{Items, Text};
 use outside::{Depot, DepotRefusal};
 use std::alloc::Global;
 
@@ -20,14 +21,6 @@ const FILE_LIMIT: u64 = 1_048_576;
 
 /// The most bytes of all class files.
 const ALL_LIMIT: u64 = 67_108_864;
-
-fn copy(alloc: Global, text: &Text) -> Result<Text, NoMemory>
-    ensures { IfOk result (λ made. made ≡ text.now) }
-{
-    let mut made = Text::new(alloc);
-    made.extend_from_slice(text.as_slice())?;
-    Ok(made)
-}
 
 // How a refusal of the depot at the file of this name is answered.
 fn named(refusal: DepotRefusal, name: Text) -> LoadFault
@@ -49,16 +42,18 @@ fn read_file<D: Depot>(
     name: &Text,
     most: u64,
 ) -> Result<Text, LoadFault>
-    ensures told { D.told depot.new ≡ D.told depot.old }
-    ensures faults { D.faults depot.old ≤ D.faults depot.new }
-    ensures answers { IfSome (D.told depot.old) (λ files. Answers itself result (loading.file_of files most name.now)) }
-    ensures proper { IfErr result (λ e. IsProper (λ read. read ≡ name.now) e (D.faults depot.old) (D.faults depot.new)) }
+    ensures told { (D.shown depot.new).told ≡ (D.shown depot.old).told }
+    ensures faults { (D.shown depot.old).faults ≤ (D.shown depot.new).faults }
+    ensures answers { IfSome (D.shown depot.old).told (λ files.
+        Answers result (loading.file_of files most name.now)) }
+    ensures proper { IfErr result (IsProper (λ read.
+        (read ≡ name.now) × FailedAt (D.shown depot.old) (D.shown depot.new) read)) }
     ensures within { IfOk result (λ bytes. length bytes ≤ most) }
 {
     match depot.read(name, most) {
         Ok(bytes) => Ok(Text::from_vec(bytes)),
         Err(refusal) => {
-            let name = copy(alloc, name)?;
+            let name = Text::from_slice(alloc, name.as_slice())?;
             Err(named(refusal, name))
         }
     }
@@ -68,8 +63,8 @@ fn read_file<D: Depot>(
 fn suite_of_bytes(alloc: Global, bytes: &[u8]) -> Result<SuiteText, LoadFault>
     ensures lines { IfOk result (λ suite. AreLines (loading.lines_of suite)) }
     ensures few { IfOk result (λ suite. length suite.classes ≤ 1024) }
-    ensures answers { Answers itself result (loading.suite_answer (suite_of bytes.now)) }
-    ensures proper { IfErr result (λ e. IsProper (λ _. ⊥) e 0 0) }
+    ensures answers { Answers result (loading.suite_answer (suite_of bytes.now)) }
+    ensures proper { IfErr result (IsProper (λ _. ⊥)) }
 {
     match read_suite(alloc, bytes) {
         Ok(suite) => Ok(suite),
@@ -81,12 +76,14 @@ fn suite_of_bytes(alloc: Global, bytes: &[u8]) -> Result<SuiteText, LoadFault>
 /// The suite text of this name.
 #[tactic(auto, unfolding(crate::specs::Loading::suite_in))]
 pub fn suite_in<D: Depot>(alloc: Global, depot: &mut D, name: &Text) -> Result<SuiteText, LoadFault>
-    ensures told { D.told depot.new ≡ D.told depot.old }
-    ensures faults { D.faults depot.old ≤ D.faults depot.new }
+    ensures told { (D.shown depot.new).told ≡ (D.shown depot.old).told }
+    ensures faults { (D.shown depot.old).faults ≤ (D.shown depot.new).faults }
     ensures lines { IfOk result (λ suite. AreLines (loading.lines_of suite)) }
     ensures few { IfOk result (λ suite. length suite.classes ≤ 1024) }
-    ensures answers { IfSome (D.told depot.old) (λ files. Answers itself result (loading.suite_in files name.now)) }
-    ensures proper { IfErr result (λ e. IsProper (λ read. read ≡ name.now) e (D.faults depot.old) (D.faults depot.new)) }
+    ensures answers { IfSome (D.shown depot.old).told (λ files.
+        Answers result (loading.suite_in files name.now)) }
+    ensures proper { IfErr result (IsProper (λ read.
+        (read ≡ name.now) × FailedAt (D.shown depot.old) (D.shown depot.new) read)) }
 {
     let bytes = read_file(alloc, depot, name, FILE_LIMIT)?;
     let suite = suite_of_bytes(alloc, bytes.as_slice())?;
@@ -96,7 +93,7 @@ pub fn suite_in<D: Depot>(alloc: Global, depot: &mut D, name: &Text) -> Result<S
 // How a fault of the class file of this name is answered.
 fn class_fault(fault: ClassFault, name: Text) -> LoadFault
     ensures named { result ≡ loading.class_fault name fault }
-    ensures proper { IsProper (λ _. ⊥) result 0 0 }
+    ensures proper { IsProper (λ _. ⊥) result }
 {
     match fault {
         ClassFault::NoMemory => LoadFault::NoMemory,
@@ -107,13 +104,13 @@ fn class_fault(fault: ClassFault, name: Text) -> LoadFault
 // The class file of this name that the bytes spell.
 fn class_of_bytes(alloc: Global, bytes: &[u8], name: &Text) -> Result<ClassFile, LoadFault>
     requires { length bytes.now < 2 ^ 32 }
-    ensures answers { Answers itself result (loading.class_answer name.now (class_of bytes.now)) }
-    ensures proper { IfErr result (λ e. IsProper (λ _. ⊥) e 0 0) }
+    ensures answers { Answers result (loading.class_answer name.now (class_of bytes.now)) }
+    ensures proper { IfErr result (IsProper (λ _. ⊥)) }
 {
     match read_class(alloc, bytes) {
         Ok(class) => Ok(class),
         Err(fault) => {
-            let name = copy(alloc, name)?;
+            let name = Text::from_slice(alloc, name.as_slice())?;
             Err(class_fault(fault, name))
         }
     }
@@ -136,10 +133,12 @@ fn class_in<D: Depot>(
     name: &Text,
 ) -> Result<(ClassFile, u64), LoadFault>
     requires { read ≤ 67108864 }
-    ensures told { D.told depot.new ≡ D.told depot.old }
-    ensures faults { D.faults depot.old ≤ D.faults depot.new }
-    ensures answers { IfSome (D.told depot.old) (λ files. Answers itself result (loading.class_in files read name.now)) }
-    ensures proper { IfErr result (λ e. IsProper (λ read. read ≡ name.now) e (D.faults depot.old) (D.faults depot.new)) }
+    ensures told { (D.shown depot.new).told ≡ (D.shown depot.old).told }
+    ensures faults { (D.shown depot.old).faults ≤ (D.shown depot.new).faults }
+    ensures answers { IfSome (D.shown depot.old).told (λ files.
+        Answers result (loading.class_in files read name.now)) }
+    ensures proper { IfErr result (IsProper (λ read.
+        (read ≡ name.now) × FailedAt (D.shown depot.old) (D.shown depot.new) read)) }
     ensures within { IfOk result (λ x. x.1 ≤ 67108864) }
 {
     let bytes = read_file(alloc, depot, name, room_after(read))?;
@@ -153,11 +152,14 @@ pub fn classes_in<D: Depot>(
     depot: &mut D,
     names: &[Text],
 ) -> Result<Items<ClassFile>, LoadFault>
-    ensures told { D.told depot.new ≡ D.told depot.old }
-    ensures faults { D.faults depot.old ≤ D.faults depot.new }
+    ensures told { (D.shown depot.new).told ≡ (D.shown depot.old).told }
+    ensures faults { (D.shown depot.old).faults ≤ (D.shown depot.new).faults }
     ensures count { IfOk result (λ cs. length cs ≡ length names.now) }
-    ensures answers { IfSome (D.told depot.old) (λ files. Answers itself result (loading.classes_in files 0 names.now)) }
-    ensures proper { IfErr result (λ e. IsProper (λ read. IfSome (D.told depot.old) (λ files. loading.IsReadAmong files names.now read)) e (D.faults depot.old) (D.faults depot.new)) }
+    ensures answers { IfSome (D.shown depot.old).told (λ files.
+        Answers result (loading.classes_in files 0 names.now)) }
+    ensures proper { IfErr result (IsProper (λ read.
+        IfSome (D.shown depot.old).told (λ files. loading.IsReadAmong files names.now read)
+        × FailedAt (D.shown depot.old) (D.shown depot.new) read)) }
 {
     let mut classes = Items::new(alloc);
     let mut read = 0;

@@ -5,12 +5,11 @@ mod content;
 mod cut;
 mod depot_files;
 mod first_word;
+mod laws;
 mod line_forms;
 mod lines_before;
 mod linking;
 mod load_fault;
-#[cfg(test)]
-mod load_tests;
 mod loaded;
 mod name_set;
 mod names;
@@ -20,10 +19,9 @@ mod suite_line;
 mod suite_reading;
 mod suite_text;
 mod test_line;
-#[cfg(test)]
-mod tests;
 mod whole_suite;
 
+pub use laws::loads_once;
 pub use load_fault::LoadFault;
 pub use loaded::Loaded;
 pub use names::{is_depot_name, is_test_name};

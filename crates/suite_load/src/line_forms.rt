@@ -16,8 +16,8 @@ use crate::names::{is_depot_name, is_file_name, is_test_name};
 use crate::numbers::{budget_of, clock_of, seed_of};
 use crate::suite_line::SuiteLine;
 use crate::suite_text::{SuiteRefusal, TestLine, Why};
-use crate::test_line::{test_from, text_of};
-use et_base::{NoMemory, Units};
+use crate::test_line::test_from;
+use et_base::{NoMemory, Text, Units};
 use std::alloc::Global;
 
 /// The most lines of one kind.
@@ -130,7 +130,7 @@ pub fn class_line(
     ensures new { IfOk result (form.IsNew before.now) }
 {
     let name = class_name(before, rest)?;
-    let name = text_of(alloc, name)?;
+    let name = Text::from_slice(alloc, name)?;
     Ok(SuiteLine::Class(name))
 }
 
@@ -167,7 +167,7 @@ pub fn file_line(
     placed(before, FILE, is_file_name(name))?;
     let content = checked_content(alloc, before, text)?;
     fresh(before, before.files(), name)?;
-    let name = text_of(alloc, name)?;
+    let name = Text::from_slice(alloc, name)?;
     Ok(SuiteLine::File(name, content))
 }
 

@@ -1,15 +1,13 @@
 //! The good lines before a line.
 
-ghost use Rattle.std.specs.Prelude.{◌≡◌, ℕ, ◌+◌, ◌==◌, List, [], ◌∷◌, ◌++◌, length, false, IfOk};
-ghost use Rattle.std.specs.List.{list_any};
-ghost use Rattle.std.specs.Str.{bytes_eq};
+ghost use Rattle.std.specs.Prelude.{◌≡◌, ◌+◌, ◌^◌, ◌<◌, ◌==◌, [], ◌∷◌, ◌++◌, length, IfOk, IsOk};
 ghost use Rattle.suite_load.specs.SuiteForm as form;
 ghost use Rattle.suite_load.specs.Reading.{Names};
 
 use crate::name_set::NameSet;
 use crate::suite_line::SuiteLine;
-use crate::suite_text::{SuiteRefusal, TestLine, Why};
-use et_base::{NoMemory, Text, Units};
+use crate::suite_text::{SuiteRefusal, Why};
+use et_base::NoMemory;
 use std::alloc::Global;
 use std::marker::Model;
 
@@ -108,7 +106,8 @@ impl LinesBefore {
 
     /// The number of the next line, from 1. The limits of a suite text are met long before there is no such number.
     pub fn number(&self) -> Result<u32, NoMemory>
-        ensures { IfOk result (λ n. n ≡ length self.now + 1) }
+        ensures number { IfOk result (λ n. n ≡ length self.now + 1) }
+        ensures fits { length self.now + 1 < 2 ^ 32 → IsOk result }
     {
         match u32::try_from(self.lines.len() + 1) {
             Ok(number) => Ok(number),
@@ -118,7 +117,8 @@ impl LinesBefore {
 
     /// That this is wrong with the next line.
     pub fn fault(&self, why: Why) -> SuiteRefusal
-        ensures { Names result (form.fault self.now why) }
+        ensures named { Names result (form.fault self.now why) }
+        ensures fits { length self.now + 1 < 2 ^ 32 → result ≡ form.fault self.now why }
     {
         match self.number() {
             Ok(line) => SuiteRefusal::Suite { line, why },
@@ -127,162 +127,32 @@ impl LinesBefore {
     }
 
     /// The lines with one more, whose name doesn't stand in a line of its kind.
-    pub fn with(self, alloc: Global, line: SuiteLine) -> Result<LinesBefore, NoMemory>
+    pub fn with(mut self, alloc: Global, line: SuiteLine) -> Result<LinesBefore, NoMemory>
         requires { form.IsNew self line }
         ensures { IfOk result (λ b. b ≡ self ++ line ∷ []) }
     {
-        match line {
-            SuiteLine::Header => self.with_header(),
-            SuiteLine::Budget(units) => self.with_budget(units),
-            SuiteLine::Class(name) => self.with_class(alloc, name),
-            SuiteLine::File(name, content) => self.with_file(alloc, name, content),
-            SuiteLine::Test(test) => self.with_test(alloc, test),
-            SuiteLine::End => self.with_end(),
+        match &line {
+            SuiteLine::Header => self.last = self.last.max(HEADER),
+            SuiteLine::Budget(_) => self.last = self.last.max(BUDGET),
+            SuiteLine::Class(name) => {
+                self.classes.insert(alloc, name.as_slice())?;
+                self.last = self.last.max(CLASS);
+            }
+            SuiteLine::File(name, _) => {
+                self.files.insert(alloc, name.as_slice())?;
+                self.last = self.last.max(FILE);
+            }
+            SuiteLine::Test(test) => {
+                self.tests.insert(alloc, test.name.as_slice())?;
+                self.last = self.last.max(TEST);
+            }
+            SuiteLine::End => {
+                self.last = self.last.max(END);
+                self.ended = true;
+            }
         }
-    }
-
-    // The lines and the header.
-    fn with_header(self) -> Result<LinesBefore, NoMemory>
-        ensures { IfOk result (λ b. b ≡ self ++ SuiteLine.Header ∷ []) }
-    {
-        let LinesBefore {
-            mut lines,
-            last,
-            ended,
-            classes,
-            files,
-            tests,
-        } = self;
-        lines.push(SuiteLine::Header)?;
-        Ok(LinesBefore {
-            lines,
-            last: last.max(HEADER),
-            ended,
-            classes,
-            files,
-            tests,
-        })
-    }
-
-    // The lines and a budget.
-    fn with_budget(self, units: u64) -> Result<LinesBefore, NoMemory>
-        ensures { IfOk result (λ b. b ≡ self ++ SuiteLine.Budget units ∷ []) }
-    {
-        let LinesBefore {
-            mut lines,
-            last,
-            ended,
-            classes,
-            files,
-            tests,
-        } = self;
-        lines.push(SuiteLine::Budget(units))?;
-        Ok(LinesBefore {
-            lines,
-            last: last.max(BUDGET),
-            ended,
-            classes,
-            files,
-            tests,
-        })
-    }
-
-    // The lines and a class file, whose name doesn't stand yet.
-    fn with_class(self, alloc: Global, name: Text) -> Result<LinesBefore, NoMemory>
-        requires { list_any (bytes_eq name) (form.class_names self) ≡ false }
-        ensures { IfOk result (λ b. b ≡ self ++ SuiteLine.Class name ∷ []) }
-    {
-        let LinesBefore {
-            mut lines,
-            last,
-            ended,
-            classes,
-            files,
-            tests,
-        } = self;
-        let classes = classes.with(alloc, name.as_slice())?;
-        lines.push(SuiteLine::Class(name))?;
-        Ok(LinesBefore {
-            lines,
-            last: last.max(CLASS),
-            ended,
-            classes,
-            files,
-            tests,
-        })
-    }
-
-    // The lines and a file, whose name doesn't stand yet.
-    fn with_file(self, alloc: Global, name: Text, content: Units) -> Result<LinesBefore, NoMemory>
-        requires { list_any (bytes_eq name) (form.file_names self) ≡ false }
-        ensures { IfOk result (λ b. b ≡ self ++ SuiteLine.File name content ∷ []) }
-    {
-        let LinesBefore {
-            mut lines,
-            last,
-            ended,
-            classes,
-            files,
-            tests,
-        } = self;
-        let files = files.with(alloc, name.as_slice())?;
-        lines.push(SuiteLine::File(name, content))?;
-        Ok(LinesBefore {
-            lines,
-            last: last.max(FILE),
-            ended,
-            classes,
-            files,
-            tests,
-        })
-    }
-
-    // The lines and a test, whose name doesn't stand yet.
-    fn with_test(self, alloc: Global, test: TestLine) -> Result<LinesBefore, NoMemory>
-        requires { list_any (bytes_eq test.name) (form.test_names self) ≡ false }
-        ensures { IfOk result (λ b. b ≡ self ++ SuiteLine.Test test ∷ []) }
-    {
-        let LinesBefore {
-            mut lines,
-            last,
-            ended,
-            classes,
-            files,
-            tests,
-        } = self;
-        let tests = tests.with(alloc, test.name.as_slice())?;
-        lines.push(SuiteLine::Test(test))?;
-        Ok(LinesBefore {
-            lines,
-            last: last.max(TEST),
-            ended,
-            classes,
-            files,
-            tests,
-        })
-    }
-
-    // The lines and the end.
-    fn with_end(self) -> Result<LinesBefore, NoMemory>
-        ensures { IfOk result (λ b. b ≡ self ++ SuiteLine.End ∷ []) }
-    {
-        let LinesBefore {
-            mut lines,
-            last,
-            ended: _,
-            classes,
-            files,
-            tests,
-        } = self;
-        lines.push(SuiteLine::End)?;
-        Ok(LinesBefore {
-            lines,
-            last: last.max(END),
-            ended: true,
-            classes,
-            files,
-            tests,
-        })
+        self.lines.push(line)?;
+        Ok(self)
     }
 
     /// The lines themselves.

@@ -15,20 +15,12 @@ use std::alloc::Global;
 use type_checker::check;
 use type_frames::{CheckFault, Checked};
 
-fn copy(alloc: Global, units: &Units) -> Result<Units, NoMemory>
-    ensures { IfOk result (λ made. made ≡ units.now) }
-{
-    let mut made = Units::new(alloc);
-    made.extend_from_slice(units.as_slice())?;
-    Ok(made)
-}
-
 fn line_of(alloc: Global, test: &TestLine) -> Result<class_link::TestLine, NoMemory>
     ensures { IfOk result (λ made. made ≡ loading.line_of test.now) }
 {
     Ok(class_link::TestLine {
-        class: copy(alloc, &test.class)?,
-        method: copy(alloc, &test.method)?,
+        class: Units::from_slice(alloc, test.class.as_slice())?,
+        method: Units::from_slice(alloc, test.method.as_slice())?,
         clock: test.clock,
         seed: test.seed,
     })
@@ -49,8 +41,8 @@ fn files_of(alloc: Global, files: &[FileLine]) -> Result<Items<(Units, Units)>, 
 {
     let mut made = Items::new(alloc);
     for file in files {
-        let name = copy(alloc, &file.name)?;
-        let content = copy(alloc, &file.content)?;
+        let name = Units::from_slice(alloc, file.name.as_slice())?;
+        let content = Units::from_slice(alloc, file.content.as_slice())?;
         made.push((name, content))?;
     }
     Ok(made)
@@ -80,7 +72,7 @@ fn line_number(suite: &SuiteText, test: u32) -> u32
 // How a fault of linking is answered.
 fn link_fault(suite: &SuiteText, fault: LinkFault) -> LoadFault
     ensures named { result ≡ loading.link_fault suite.now fault }
-    ensures proper { IsProper (λ _. ⊥) result 0 0 }
+    ensures proper { IsProper (λ _. ⊥) result }
 {
     match fault {
         LinkFault::NotATest { test } => LoadFault::Suite {
@@ -95,7 +87,7 @@ fn link_fault(suite: &SuiteText, fault: LinkFault) -> LoadFault
 // How a fault of the check is answered.
 fn check_fault(fault: CheckFault) -> LoadFault
     ensures named { result ≡ check_answer fault }
-    ensures proper { IsProper (λ _. ⊥) result 0 0 }
+    ensures proper { IsProper (λ _. ⊥) result }
 {
     match fault {
         CheckFault::NoMemory => LoadFault::NoMemory,
@@ -112,7 +104,7 @@ pub fn program_of(
     requires few { length classes.now ≤ 1024 }
     requires lines { AreLines (loading.lines_of suite.now) }
     ensures gives { Checks suite.now classes.now result }
-    ensures proper { IfErr result (λ e. IsProper (λ _. ⊥) e 0 0) }
+    ensures proper { IfErr result (IsProper (λ _. ⊥)) }
     ensures typed { IfOk result IsTyped }
 {
     let lines = lines_of(alloc, suite)?;

@@ -1,6 +1,6 @@
 //! The names that were met, for a fast look-up.
 
-ghost use Rattle.std.specs.Prelude.{◌≡◌, ℕ, List, [], ◌∷◌, ◌++◌, length, false, map, IfOk};
+ghost use Rattle.std.specs.Prelude.{◌≡◌, ℕ, List, [], ◌∷◌, ◌++◌, length, false, map, OnOk};
 ghost use Rattle.std.specs.List.{list_any};
 ghost use Rattle.std.specs.Str.{bytes_eq};
 
@@ -45,13 +45,12 @@ impl NameSet {
         self.names.contains(name)
     }
 
-    /// The names with one more, which isn't among them.
-    pub fn with(self, alloc: Global, name: &[u8]) -> Result<NameSet, NoMemory>
-        requires { list_any (bytes_eq name.now) self ≡ false }
-        ensures { IfOk result (λ s. s ≡ self ++ name.now ∷ []) }
+    /// Adds a name, which isn't among them.
+    pub fn insert(&mut self, alloc: Global, name: &[u8]) -> Result<(), NoMemory>
+        requires { list_any (bytes_eq name.now) self.old ≡ false }
+        ensures { OnOk result (self.new ≡ self.old ++ name.now ∷ []) }
     {
-        let NameSet { mut names } = self;
-        names.insert(Vec::from_slice(alloc, name)?)?;
-        Ok(NameSet { names })
+        self.names.insert(Vec::from_slice(alloc, name)?)?;
+        Ok(())
     }
 }

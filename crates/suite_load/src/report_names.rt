@@ -14,9 +14,7 @@ fn test_names(alloc: Global, tests: &[TestLine]) -> Result<Items<Text>, NoMemory
 {
     let mut made = Items::new(alloc);
     for test in tests {
-        let mut name = Text::new(alloc);
-        name.extend_from_slice(test.name.as_slice())?;
-        made.push(name)?;
+        made.push(Text::from_slice(alloc, test.name.as_slice())?)?;
     }
     Ok(made)
 }

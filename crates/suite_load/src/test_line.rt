@@ -19,13 +19,6 @@ pub fn units_of(alloc: Global, bytes: &[u8]) -> Result<Units, NoMemory>
     Ok(units)
 }
 
-/// A copy of bytes.
-pub fn text_of(alloc: Global, bytes: &[u8]) -> Result<Text, NoMemory>
-    ensures { IfOk result (λ text. text ≡ bytes.now) }
-{
-    Ok(Items::from_vec(Vec::from_slice(alloc, bytes)?))
-}
-
 // A name as code units, with `/` for each dot.
 fn slashed(alloc: Global, bytes: &[u8]) -> Result<Units, NoMemory>
     ensures { IfOk result (λ units. units ≡ map form.slash_for_dot bytes.now) }
@@ -71,7 +64,7 @@ pub fn test_from(
     let n = after_last_dot(name);
     let class = slashed(alloc, &name[..n.saturating_sub(1)])?;
     let method = units_of(alloc, &name[n..])?;
-    let name = text_of(alloc, name)?;
+    let name = Text::from_slice(alloc, name)?;
     Ok(TestLine {
         line,
         name,

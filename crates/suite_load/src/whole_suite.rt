@@ -1,6 +1,7 @@
 //! Loading of a whole suite.
 
 ghost use Rattle.std.specs.Prelude.{◌≡◌, ◌≤◌, IfOk, IfErr, IfSome};
+ghost use Rattle.outside.specs.Depot.{FailedAt};
 ghost use Rattle.type_frames.specs.Typing.{IsTyped};
 ghost use Rattle.suite_load.specs.Loading.{IsRead};
 ghost use Rattle.suite_load.specs.LoadAnswers.{LoadAnswers, IsProper};
@@ -19,16 +20,18 @@ use std::alloc::Global;
 /// Faults come in this order: the suite text isn't there (`Absent`), is longer than 1 MiB (`TooLarge`) or has a faulty line
 /// (`Suite`); a class file, in the suite's order, isn't there, is longer than 1 MiB or with those before it than 64 MiB, or
 /// isn't in its grammar (`Class`); the class files don't link (`Link`); a test line names no test (`Suite`); a class breaks a
-/// rule of the type checker (`Check`). `Depot` comes where the depot failed at a file, and `NoMemory` where an allocation was
+/// rule of the type checker (`Check`). `Depot` comes where the depot failed at a file, which is named, and `NoMemory` where an allocation was
 /// refused. The bytes of a class file are dropped before the next one is read.
 pub fn load<D: Depot>(alloc: Global, depot: &mut D, name: &Text) -> Result<Loaded, LoadFault>
-    ensures told { D.told depot.new ≡ D.told depot.old }
-    ensures faults { D.faults depot.old ≤ D.faults depot.new }
+    ensures told { (D.shown depot.new).told ≡ (D.shown depot.old).told }
+    ensures faults { (D.shown depot.old).faults ≤ (D.shown depot.new).faults }
     // Which program or fault it is, where the depot's files are told.
-    ensures loads { IfSome (D.told depot.old) (λ files. LoadAnswers files name.now result) }
-    // Whatever the depot tells: a failing depot is named by a file that is read, where its count of faults rose; want of memory
-    // is answered by itself alone, and a line that names no test by its line.
-    ensures proper { IfErr result (λ e. IsProper (λ read. IfSome (D.told depot.old) (λ files. IsRead files name.now read)) e (D.faults depot.old) (D.faults depot.new)) }
+    ensures loads { IfSome (D.shown depot.old).told (λ files. LoadAnswers files name.now result) }
+    // Whatever the depot tells, `Depot` names the file of its last read that failed, and where it tells its files, one that is
+    // read; want of memory is answered by itself alone, and a line that names no test by its line.
+    ensures proper { IfErr result (IsProper (λ read.
+        IfSome (D.shown depot.old).told (λ files. IsRead files name.now read)
+        × FailedAt (D.shown depot.old) (D.shown depot.new) read)) }
     // The program is typed.
     ensures typed { IfOk result (λ l. IsTyped l.checked) }
 {

@@ -8,13 +8,13 @@ pub returns-in_err-class-clause-answers : goal.returns-in_err-class-clause-answe
 returns-in_err-class-clause-answers g c =
     let at = c.loop-name in
     let p = err_from_is_err_and c.from_residual.result c.from_residual.ensures.1 in
-    rw (p.1, p.2) (so_far_fails _ _ c.args.names.now at.name-index c.name-item.result at.classes at.read _ at.invariant.told (omega arith) c.name-item.is at.invariant.files c.in_err-class.ensures.answers)
+    rw (p.1, p.2) (so_far_fails _ _ c.args.names.now at.name-index c.name-item.result at.classes at.read c.in_err-class.field-0.0 at.invariant.told (omega arith) c.name-item.is at.invariant.files c.in_err-class.ensures.answers)
 
 pub returns-in_err-class-clause-proper : goal.returns-in_err-class-clause-proper
 returns-in_err-class-clause-proper g c =
     let at = c.loop-name in
     let p = err_from_is_err_and c.from_residual.result c.from_residual.ensures.1 in
-    rw (p.1, p.2) (so_far_proper _ c.args.names.now at.name-index c.name-item.result at.classes at.read _ _ _ _ (omega arith) c.name-item.is at.invariant.files at.invariant.faults c.in_err-class.ensures.proper)
+    rw (p.1, p.2) (so_far_proper _ c.args.names.now at.name-index c.name-item.result at.classes at.read c.in_err-class.field-0.0 _ _ _ (omega arith) c.name-item.is at.invariant.files at.invariant.faults c.in_err-class.ensures.proper)
 
 pub loop-name-preserved : goal.loop-name-preserved
 loop-name-preserved g c =

@@ -5,9 +5,9 @@ use Rattle.suite_load.proofs.depot_files.classes_in.Given as goal
 -- the class files of the names so far are read
 abbrev pub invariant-loop-name : goal.invariant-loop-name
 invariant-loop-name g l = record {
-  told : g.D.Depot.told l.depot ≡ g.D.Depot.told l.fn.depot;
-  faults : g.D.Depot.faults l.fn.depot ≤ g.D.Depot.faults l.depot;
+  told : (g.D.Depot.shown l.depot).told ≡ (g.D.Depot.shown l.fn.depot).told;
+  faults : (g.D.Depot.shown l.fn.depot).faults ≤ (g.D.Depot.shown l.depot).faults;
   within : l.read ≤ 67108864;
   count : length l.classes ≡ l.name-index;
-  files : SoFar (g.D.Depot.told l.fn.depot) (take l.name-index l.names) l.classes l.read;
+  files : SoFar (g.D.Depot.shown l.fn.depot).told (take l.name-index l.names) l.classes l.read;
 }

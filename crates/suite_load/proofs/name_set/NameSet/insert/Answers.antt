@@ -2,7 +2,7 @@ use Rattle.std.proofs.Common.{◌≡◌, ℕ, List, false, ◌∙◌, ap, map, �
 use Rattle.std.specs.List.{list_any}
 use Rattle.std.specs.Str.{bytes_eq}
 use Rattle.suite_load.proofs.SetLaws.{name_goes_last}
-use Rattle.suite_load.proofs.name_set.NameSet.with.Goals as goal
+use Rattle.suite_load.proofs.name_set.NameSet.insert.Goals as goal
 
 pub returns : goal.returns
 returns c =
@@ -11,4 +11,4 @@ returns c =
     let named = c.in_ok-from_slice.ensures.items in
     let new : list_any (bytes_eq key.items) (map (λ v. v.items) old) ≡ false = rw (named, c.self.view_is) c.requires in
     ap (map (λ v. v.items)) c.in_ok-insert.ensures.keys ∙ name_goes_last (λ v. v.items) old key new
-    ∙ ap (λ (ns : List (List ℕ)). ns ++ key.items ∷ []) c.self.view_is ∙ ap (λ n. c.args.self ++ n ∷ []) named
+    ∙ ap (λ (ns : List (List ℕ)). ns ++ key.items ∷ []) c.self.view_is ∙ ap (λ n. c.args.self.now ++ n ∷ []) named
