@@ -55,7 +55,8 @@ fn answer_on<D: Depot, S: Sink, L: Ledger>(
     requires name { blank.name ≡ L.name }
     requires parts { blank.parts ≡ L.parts }
     requires some { 0 < blank.parts }
-    ensures { Ends words.now result (D.faults depot.old) (D.faults depot.new) (S.faults sink.old) (S.faults sink.new) }
+    ensures { let depot_now = D.shown depot.new in let sink_now = S.shown sink.new in
+        Ends words.now result (D.shown depot.old) depot_now (S.shown sink.old) sink_now }
 {
     let mut steps = Steps::<L>::new(blank);
     electric_plain(alloc, words, depot, sink, &mut steps)
@@ -68,7 +69,8 @@ pub fn answer<D: Depot, S: Sink>(
     depot: &mut D,
     sink: &mut S,
 ) -> Status
-    ensures { Ends words.now result (D.faults depot.old) (D.faults depot.new) (S.faults sink.old) (S.faults sink.new) }
+    ensures { let depot_now = D.shown depot.new in let sink_now = S.shown sink.new in
+        Ends words.now result (D.shown depot.old) depot_now (S.shown sink.old) sink_now }
 {
     answer_on::<D, S, Brand>(alloc, words, depot, sink, Blank::new(1))
 }

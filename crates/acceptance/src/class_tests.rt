@@ -1,5 +1,5 @@
 use crate::asking::{answers, depot};
-use crate::class_files::{BARE_WAYS, FAR, INNER, NAMED, WAYS};
+use crate::class_files::{FAR, INNER, NAMED};
 use crate::files::{RETURN_CLASS, RETURN_SUITE};
 use class_reader::{ClassFile, read_class};
 use class_write::write_class;
@@ -17,24 +17,12 @@ struct Shape {
     written: usize,
 }
 
-const SHAPES: [Shape; 5] = [
+const SHAPES: [Shape; 3] = [
     Shape {
         bytes: &INNER,
         fields: 1,
         methods: 2,
         written: 368,
-    },
-    Shape {
-        bytes: &WAYS,
-        fields: 0,
-        methods: 3,
-        written: 999,
-    },
-    Shape {
-        bytes: &BARE_WAYS,
-        fields: 0,
-        methods: 3,
-        written: 800,
     },
     Shape {
         bytes: &NAMED,
@@ -95,78 +83,6 @@ fn each_cut_of_a_class_file_is_named(rt: HostRuntime) -> Result<(), Fail> {
         assert!(rt;
             answers(alloc, &RUN, &mut depot, 1000, 3, line.as_slice())?,
             "cut to {len}"
-        );
-    }
-    Ok(())
-}
-
-// A byte of the class file of `T`, another value for it, and the line that answers.
-const BROKEN: [(usize, u8, &[u8]); 12] = [
-    (3, 0, b"electric: class T.class bad-magic\n"),
-    (7, 53, b"electric: class T.class bad-version 53\n"),
-    (10, 2, b"electric: class T.class bad-tag 10 2\n"),
-    (13, 200, b"electric: class T.class bad-utf 13\n"),
-    (13, 59, b"electric: class T.class bad-descriptor 15\n"),
-    (61, 9, b"electric: class T.class bad-index 60\n"),
-    (89, 2, b"electric: class T.class bad-length 78\n"),
-    (90, 99, b"electric: class T.class unsupported 1 0 99\n"),
-    (35, 117, b"electric: link missing T java.lang.Objecu\n"),
-    (61, 2, b"electric: link cycle T\n"),
-    (90, 87, b"electric: check T 1 0 rule 1\n"),
-    (90, 0, b"electric: check T 1 0 rule 5\n"),
-];
-
-#[test]
-fn faults_of_a_class_are_named(rt: HostRuntime) -> Result<(), Fail> {
-    let alloc = rt.alloc();
-    for (place, value, line) in BROKEN {
-        let mut broken = RETURN_CLASS;
-        if place < 97 {
-            broken[place] = value;
-        }
-        let mut depot = depot(alloc, &[(b"s", RETURN_SUITE), (b"T.class", &broken)], &[])?;
-        assert!(rt;
-            answers(alloc, &RUN, &mut depot, 1000, 3, line)?,
-            "byte {place} set to {value}"
-        );
-    }
-    Ok(())
-}
-
-// A suite text and the line that answers it.
-const SUITES: [(&[u8], &[u8]); 7] = [
-    (b"", b"electric: suite 1 header\n"),
-    (
-        b"electric-suite 1\nwalk\nend\n",
-        b"electric: suite 2 form\n",
-    ),
-    (
-        b"electric-suite 1\ntest A.a\nclass T\nend\n",
-        b"electric: suite 3 order\n",
-    ),
-    (
-        b"electric-suite 1\nclass .\nend\n",
-        b"electric: suite 2 name\n",
-    ),
-    (
-        b"electric-suite 1\nbudget 0\nend\n",
-        b"electric: suite 2 number\n",
-    ),
-    (
-        b"electric-suite 1\nclass T\nclass T\nend\n",
-        b"electric: suite 3 twice\n",
-    ),
-    (b"electric-suite 1\nend\nend\n", b"electric: suite 3 form\n"),
-];
-
-#[test]
-fn faulty_lines_of_a_suite_text_are_named(rt: HostRuntime) -> Result<(), Fail> {
-    let alloc = rt.alloc();
-    for (suite, line) in SUITES {
-        let mut depot = depot(alloc, &[(b"s", suite)], &[])?;
-        assert!(rt;
-            answers(alloc, &RUN, &mut depot, 1000, 3, line)?,
-            "{line:?}"
         );
     }
     Ok(())

@@ -47,12 +47,3 @@ test 2 Counter.show passed units 8
 out \"5\\n\"
 passed 2 failed 0 error 0
 ";
-
-pub const EMPTY_SUITE: &[u8] = b"electric-suite 1
-end
-";
-
-pub const EMPTY_REPORT: &[u8] = b"electric-run 1
-selected 0 executed 0 chains -
-passed 0 failed 0 error 0
-";

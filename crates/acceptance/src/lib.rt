@@ -1,5 +1,4 @@
-//! Tests of the top call: small suites in memory, what is written of them and how the call ends. Tests of class files that are
-//! written, linked and checked.
+//! Tests of the top call over depots and sinks that fail, and of class files that are cut or written back.
 #![tactic(auto)]
 
 pub mod asking;
@@ -9,10 +8,6 @@ mod class_files;
 mod class_tests;
 #[cfg(test)]
 mod files;
-#[cfg(test)]
-mod link_classes;
-#[cfg(test)]
-mod link_tests;
 #[cfg(test)]
 mod outsides;
 #[cfg(test)]

@@ -1,10 +1,9 @@
-//! Sinks that fail at chosen calls, and a depot without memory.
+//! Sinks that fail at chosen calls.
 
 ghost use Rattle.std.specs.Prelude.{◌<◌};
 
 use crate::asking::{File, answer, depot, sink, words};
-use et_base::{NoMemory, Text};
-use outside::{Depot, DepotRefusal};
+use et_base::NoMemory;
 use std::alloc::Global;
 
 /// How a run ended, and what its sink holds.
@@ -36,20 +35,4 @@ pub fn held_before(
         len: held.len(),
         is_prefix: text.starts_with(held),
     })
-}
-
-/// A depot without memory for any file.
-#[derive(Drop)]
-pub struct FullDepot {}
-
-impl Depot for FullDepot {
-    ghost use Rattle.std.specs.Prelude.{None};
-
-    ghost told = { λ _. None };
-
-    ghost faults = { λ _. 0 };
-
-    fn read(&mut self, _name: &Text, _limit: u64) -> Result<Vec<u8>, DepotRefusal> {
-        Err(DepotRefusal::NoMemory)
-    }
 }
