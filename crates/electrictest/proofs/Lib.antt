@@ -1,4 +1,5 @@
 mod Serving
 mod Runs
+mod Loading
 mod Replying
 mod TextLaws

@@ -13,7 +13,7 @@ use Rattle.jvm_model.specs.declared.program.FieldRec.{FieldRec}
 use Rattle.jvm_model.specs.declared.program.MethodRec.{MethodRec}
 use Rattle.jvm_model.specs.declared.program.Body.{Body}
 use Rattle.jvm_model.specs.declared.program.Placed.{Placed}
-use Rattle.jvm_model.specs.World.{same_units}
+use Rattle.std.specs.Str.{bytes_eq}
 use Rattle.jvm_model.specs.Classes.{no_class, no_field, no_method, class_at, field_at, method_at, is_interface, is_static, is_trivial, declares_start, default_interfaces, upwards, place_after}
 use Rattle.jvm_model.specs.Descriptors.{parameters}
 use Rattle.jvm_model.specs.Library.{builtin_defs, builtin_fields, builtin_methods}
@@ -73,13 +73,13 @@ zero_is Null e = absurd (cc)
 zero_is (Lit n) e = absurd (cc)
 zero_is (Obj o) e = absurd (cc)
 
-int_alone : (d : List ℕ) → same_units d (73 ∷ []) ≡ true → d ≡ 73 ∷ []
+int_alone : (d : List ℕ) → bytes_eq d (73 ∷ []) ≡ true → d ≡ 73 ∷ []
 int_alone [] e = absurd (cc)
 int_alone (u ∷ []) e = ap (λ k. k ∷ []) (eqb-true u 73 (and_parts (nat_eq u 73) true e).0)
 int_alone (u ∷ v ∷ us) e = let q = (and_parts (nat_eq u 73) false e).1 in absurd (cc)
 
 field_parts : (f : FieldRec) → is_fitting_field f ≡ true → (f.descriptor ≡ 73 ∷ []) × (f.opening ≡ Int (pos 0))
-field_parts f e = let q = and_parts (same_units f.descriptor (codes "I")) (is_zero f.opening) e in (int_alone f.descriptor q.0, zero_is f.opening q.1)
+field_parts f e = let q = and_parts (bytes_eq f.descriptor (codes "I")) (is_zero f.opening) e in (int_alone f.descriptor q.0, zero_is f.opening q.1)
 
 given_at : (p : Program) → list_all is_fitting_field (given_fields p) ≡ true → (f : ℕ) → 2 ≤ f → f < length p.fields → is_fitting_field (field_at p f) ≡ true
 given_at p e f two below =

@@ -1,32 +1,41 @@
 -- What the top call promises: its status, the bytes on the sink and the steps (this project's).
-use Rattle.std.specs.Prelude.{◌≡◌, ◌≢◌, ◌⊎◌, ℕ, ◌+◌, ◌-◌, ◌^◌, ◌≤◌, List, ◌++◌, length, true, Option, None, IfSome}
+use Rattle.std.specs.Prelude.{◌≡◌, ◌≢◌, ◌⊎◌, ℕ, ◌+◌, ◌-◌, ◌^◌, ◌≤◌, List, length, true, None, IsSome}
 use Rattle.outside.specs.Counts.{Rose}
-use Rattle.outside.specs.Sink.{appended, HasRoom}
-use Rattle.suite_load.specs.Loading.{Files}
-use Rattle.electrictest.specs.Answers.{IsProperInput}
+use Rattle.outside.specs.Depot.{Files, DepotView, FailedAt}
+use Rattle.outside.specs.Sink.{SinkView, TookPrefix, appended, HasRoom}
+use Rattle.class_reader.specs.declared.fault.ClassFault.TheVariants as class
+use Rattle.class_link.specs.declared.fault.LinkFault.TheVariants as linking
+use Rattle.type_frames.specs.declared.fault.CheckFault.TheVariants as checking
+use Rattle.electrictest.specs.declared.status.InputFault.TheVariants as input
 use Rattle.electrictest.specs.declared.status.Status.{Status}
 use Rattle.electrictest.specs.declared.status.Status.TheVariants as ends
-use Rattle.electrictest.specs.Replies.{suite_word, fault_line, IsReadFor, IsReport, IsAnswer}
+use Rattle.electrictest.specs.Replies.{suite_word, fault_line, IsReport, IsAnswer}
 
--- loading is refused for the words only where they have no form, and else by input, by a depot at a file that is read, or
--- by memory
-abbrev pub NamedEnds : Option Files → List (List ℕ) → Status → ℕ → ℕ → Type 0
-NamedEnds told words ends.NoMemory old new = Unit {0}
-NamedEnds told words (ends.Depot name) old new = IfSome told (λ files. IsReadFor files words name) × Rose old new
-NamedEnds told words ends.Words old new = suite_word words ≡ None
-NamedEnds told words (ends.Input f) old new = IsProperInput f
-NamedEnds told words (ends.Over f) old new = ⊥
-NamedEnds told words ends.Done old new = ⊥
-NamedEnds told words ends.NotPassed old new = ⊥
-NamedEnds told words ends.Sink old new = ⊥
+-- want of memory is answered by itself alone, and a test line that names no test by its line
+abbrev pub IsProperInput : input.the_data → Type 0
+IsProperInput (input.Class name f) = f ≢ class.NoMemory
+IsProperInput (input.Link f) = (f ≢ linking.NoMemory) × ((t : ℕ) → f ≢ linking.NotATest t)
+IsProperInput (input.Check f) = f ≢ checking.NoMemory
+IsProperInput _ = Unit {0}
 
--- a report is refused for the words only where they have no form, and for the depot only where its count of faults rose
-abbrev pub ReportEnds : List (List ℕ) → Status → ℕ → ℕ → Type 0
-ReportEnds words ends.NoMemory old new = Unit {0}
-ReportEnds words (ends.Depot name) old new = Rose old new
+-- the answer to a suite that loads, where the first machine doesn't run it
+abbrev pub IsNotYet : Status → Type 0
+IsNotYet ends.NoMemory = Unit {0}
+IsNotYet (ends.Input (input.NotYet name)) = Unit {0}
+IsNotYet _ = ⊥
+
+-- the words have the form that is served
+abbrev pub HasForm : List (List ℕ) → Type 0
+HasForm words = IsSome (suite_word words)
+
+-- Why there is no report, whatever the depot tells: exactly words in no form are answered `Words`, unless memory ran out; a
+-- depot is named by the file of its last read that failed.
+abbrev pub ReportEnds : List (List ℕ) → Status → DepotView → DepotView → Type 0
 ReportEnds words ends.Words old new = suite_word words ≡ None
-ReportEnds words (ends.Input f) old new = IsProperInput f
-ReportEnds words (ends.Over f) old new = Unit {0}
+ReportEnds words (ends.Input f) old new = HasForm words × IsProperInput f
+ReportEnds words (ends.Depot name) old new = HasForm words × FailedAt old new name
+ReportEnds words (ends.Over f) old new = HasForm words
+ReportEnds words ends.NoMemory old new = Unit {0}
 ReportEnds words ends.Done old new = ⊥
 ReportEnds words ends.NotPassed old new = ⊥
 ReportEnds words ends.Sink old new = ⊥
@@ -37,49 +46,34 @@ pub record Reported (files : Files) (words : List (List ℕ)) (text : List ℕ) 
   pub report : IsReport files words true text units
   pub steps : now ≡ begun + units
 
--- a sink before and after a call: what it tells of its bytes, its room before, and its counts of faults
-pub record SinkChange : Type 0 where
-  pub old : Option (List ℕ)
-  pub new : Option (List ℕ)
-  pub room : Option ℕ
-  pub before : ℕ
-  pub after : ℕ
-
--- nothing was written
-pub record Untouched (sink : SinkChange) : Type 0 where
-  pub bytes : sink.new ≡ sink.old
-  pub faults : sink.after ≡ sink.before
-
 -- the text was taken; where a told room holds it, the count of faults stood still
-pub record Whole (text : List ℕ) (sink : SinkChange) : Type 0 where
-  pub taken : sink.new ≡ appended sink.old text
-  pub kept : HasRoom sink.room (length text) → sink.after ≡ sink.before
+pub record Whole (text : List ℕ) (old new : SinkView) : Type 0 where
+  pub taken : new.told ≡ appended old.told text
+  pub kept : HasRoom old.room (length text) → new.faults ≡ old.faults
 
 -- a part of the text was taken, and the count of faults rose: no told room holds the text, or the count had ended
-pub record Cut (text : List ℕ) (sink : SinkChange) : Type 0 where
-  pub front : List ℕ
-  pub back : List ℕ
-  pub parts : text ≡ front ++ back
-  pub taken : sink.new ≡ appended sink.old front
-  pub rose : Rose sink.before sink.after
-  pub kept : HasRoom sink.room (length text) → (sink.after ≡ sink.before) × (2 ^ 64 - 1 ≤ sink.before)
+pub record Cut (text : List ℕ) (old new : SinkView) : Type 0 where
+  pub part : TookPrefix old new text
+  pub rose : Rose old.faults new.faults
+  pub kept : HasRoom old.room (length text) → (new.faults ≡ old.faults) × (2 ^ 64 - 1 ≤ old.faults)
 
 -- the text was written and the status stands, or the sink failed
-abbrev pub Writes : List ℕ → Status → Status → SinkChange → Type 0
-Writes text status result sink = ((result ≡ status) × Whole text sink) ⊎ ((result ≡ ends.Sink) × Cut text sink)
+abbrev pub Writes : List ℕ → Status → Status → SinkView → SinkView → Type 0
+Writes text status result old new = ((result ≡ status) × Whole text old new) ⊎ ((result ≡ ends.Sink) × Cut text old new)
 
 -- the line of a refusal was written or the sink failed at it, or memory was refused and nothing was written
-abbrev pub Refused : Status → Status → SinkChange → Type 0
-Refused status result sink = ((status ≢ ends.NoMemory) × Writes (fault_line status) status result sink) ⊎ ((result ≡ ends.NoMemory) × Untouched sink)
+abbrev pub Refused : Status → Status → SinkView → SinkView → Type 0
+Refused status result old new =
+    ((status ≢ ends.NoMemory) × Writes (fault_line status) status result old new) ⊎ ((result ≡ ends.NoMemory) × (new ≡ old))
 
 -- What the sink took by each status, whatever the depot tells: nothing where memory was refused, the fault line of a
 -- refusal, and a part of a text where the sink failed.
-abbrev pub Taken : Status → SinkChange → Type 0
-Taken ends.NoMemory sink = Untouched sink
-Taken ends.Sink sink = (text : List ℕ) × Cut text sink
-Taken ends.Done sink = (text : List ℕ) × Whole text sink
-Taken ends.NotPassed sink = (text : List ℕ) × Whole text sink
-Taken s sink = Whole (fault_line s) sink
+abbrev pub Taken : Status → SinkView → SinkView → Type 0
+Taken ends.NoMemory old new = new ≡ old
+Taken ends.Sink old new = (text : List ℕ) × Cut text old new
+Taken ends.Done old new = (text : List ℕ) × Whole text old new
+Taken ends.NotPassed old new = (text : List ℕ) × Whole text old new
+Taken s old new = Whole (fault_line s) old new
 
 -- the steps rose by these units, where a report was written
 abbrev pub Counted : Status → ℕ → ℕ → ℕ → Type 0
@@ -87,17 +81,17 @@ Counted ends.Done units begun now = now ≡ begun + units
 Counted ends.NotPassed units begun now = now ≡ begun + units
 Counted _ units begun now = Unit {0}
 
--- a failing depot is answered only where its count of faults rose
-abbrev pub DepotRose : Status → ℕ → ℕ → Type 0
-DepotRose (ends.Depot name) before after = Rose before after
-DepotRose _ before after = Unit {0}
+-- a failing depot is answered by the file of its last read that failed
+abbrev pub DepotFailed : Status → DepotView → DepotView → Type 0
+DepotFailed (ends.Depot name) old new = FailedAt old new name
+DepotFailed _ old new = Unit {0}
 
--- What a call was asked for and counted: the words, the depot's files, its counts of faults, and the counts of steps.
+-- What a call was asked for: the words and the depot's files; the depot before and after, and the counts of steps.
 pub record Asked : Type 0 where
   pub files : Files
   pub words : List (List ℕ)
-  pub before : ℕ
-  pub after : ℕ
+  pub depot : DepotView
+  pub depot_now : DepotView
   pub begun : ℕ
   pub now : ℕ
 
@@ -107,33 +101,29 @@ pub record Answering (asked : Asked) (s : Status) : Type 0 where
   pub units : ℕ
   pub answers : IsAnswer asked.files asked.words s text units
   pub counted : Counted s units asked.begun asked.now
-  pub rose : DepotRose s asked.before asked.after
+  pub failed : DepotFailed s asked.depot asked.depot_now
 
 -- it was written as a whole
-pub record Replied (asked : Asked) (s : Status) (sink : SinkChange) : Type 0 where
+pub record Replied (asked : Asked) (s : Status) (old new : SinkView) : Type 0 where
   pub reply : Answering asked s
-  pub whole : Whole reply.text sink
+  pub whole : Whole reply.text old new
 
 -- a part of it was written
-pub record PartReplied (asked : Asked) (sink : SinkChange) : Type 0 where
+pub record PartReplied (asked : Asked) (old new : SinkView) : Type 0 where
   pub status : Status
   pub reply : Answering asked status
-  pub cut : Cut reply.text sink
+  pub cut : Cut reply.text old new
 
 -- what is on the sink by each status: nothing where memory was refused, a part where the sink failed, and else the answer
-abbrev pub Served : Asked → Status → SinkChange → Type 0
-Served asked ends.NoMemory sink = Untouched sink
-Served asked ends.Sink sink = PartReplied asked sink
-Served asked s sink = Replied asked s sink
+abbrev pub Served : Asked → Status → SinkView → SinkView → Type 0
+Served asked ends.NoMemory old new = new ≡ old
+Served asked ends.Sink old new = PartReplied asked old new
+Served asked s old new = Replied asked s old new
 
--- Whatever the depot tells: its and the sink's failures are answered only where their counts of faults rose, the words only
--- where they have no form, and an input by its own fault. The counts are the depot's and the sink's, before and after.
-abbrev pub Ends : List (List ℕ) → Status → ℕ → ℕ → ℕ → ℕ → Type 0
-Ends words ends.Words depot depot_now sink sink_now = suite_word words ≡ None
-Ends words (ends.Depot name) depot depot_now sink sink_now = Rose depot depot_now
-Ends words ends.Sink depot depot_now sink sink_now = Rose sink sink_now
-Ends words ends.Done depot depot_now sink sink_now = Unit {0}
-Ends words ends.NotPassed depot depot_now sink sink_now = Unit {0}
-Ends words (ends.Input f) depot depot_now sink sink_now = IsProperInput f
-Ends words ends.NoMemory depot depot_now sink sink_now = Unit {0}
-Ends words (ends.Over f) depot depot_now sink sink_now = Unit {0}
+-- Whatever the depot tells: a sink is answered only where its count of faults rose, a report only for words in form, and each
+-- other status as `ReportEnds` says.
+abbrev pub Ends : List (List ℕ) → Status → DepotView → DepotView → SinkView → SinkView → Type 0
+Ends words ends.Sink depot depot_now sink sink_now = Rose sink.faults sink_now.faults
+Ends words ends.Done depot depot_now sink sink_now = HasForm words
+Ends words ends.NotPassed depot depot_now sink sink_now = HasForm words
+Ends words s depot depot_now sink sink_now = ReportEnds words s depot depot_now

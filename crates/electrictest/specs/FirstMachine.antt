@@ -9,7 +9,7 @@ use Rattle.jvm_model.specs.declared.program.FieldRec.{FieldRec}
 use Rattle.jvm_model.specs.declared.program.MethodRec.{MethodRec}
 use Rattle.jvm_model.specs.declared.program.TestEntry.{TestEntry}
 use Rattle.jvm_model.specs.Classes.{method_at, is_static}
-use Rattle.jvm_model.specs.World.{same_units}
+use Rattle.std.specs.Str.{bytes_eq}
 use Rattle.vm_interp.specs.Served.{body_or_none}
 use Rattle.vm_interp.specs.Fitting.{is_served_body}
 
@@ -19,7 +19,7 @@ is_zero _ = false
 
 -- an int that opens with 0
 abbrev pub is_fitting_field : FieldRec → Bool
-is_fitting_field f = same_units f.descriptor (codes "I") && is_zero f.opening
+is_fitting_field f = bytes_eq f.descriptor (codes "I") && is_zero f.opening
 
 -- a static method whose code goes straight on over ints
 abbrev pub is_fitting_method : Program → MethodRec → Bool

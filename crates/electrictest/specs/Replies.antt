@@ -11,7 +11,8 @@ use Rattle.jvm_model.specs.Texts.{outcome_lines, count_line}
 use Rattle.suite_load.specs.declared.load_fault.LoadFault.{LoadFault}
 use Rattle.suite_load.specs.declared.load_fault.LoadFault.TheVariants as fault
 use Rattle.suite_load.specs.declared.loaded.Loaded.{Loaded}
-use Rattle.suite_load.specs.Loading.{Files, Loads, IsRead}
+use Rattle.outside.specs.Depot.{Files}
+use Rattle.suite_load.specs.Loading.{Loads, IsRead}
 use Rattle.suite_load.specs.NameForms.{is_depot_name}
 use Rattle.electrictest.specs.declared.status.Status.{Status}
 use Rattle.electrictest.specs.declared.status.Status.TheVariants as ends

@@ -5,7 +5,6 @@ ghost use Rattle.std.specs.List.{list_all};
 ghost use Rattle.electrictest.specs.FirstMachine as first;
 
 use jvm_model::{ClassRec, FieldRec, MethodRec, Program, TestEntry, Value};
-use type_frames::same_units;
 use vm_interp::is_served;
 
 /// The descriptor of an int.
@@ -26,7 +25,7 @@ fn is_zero(value: &Value) -> bool
 fn is_fitting_field(field: &FieldRec) -> bool
     ensures { result ≡ first.is_fitting_field field.now }
 {
-    same_units(field.descriptor.as_slice(), &INT) && is_zero(&field.opening)
+    field.descriptor.as_slice() == INT.as_slice() && is_zero(&field.opening)
 }
 
 fn are_fitting_fields(fields: &[FieldRec]) -> bool

@@ -1,27 +1,19 @@
-//! From a depot's files to a program that the first machine runs.
+//! From words and a depot's files to a program that the first machine runs.
 
-ghost use Rattle.std.specs.Prelude.{◌≡◌, ◌≤◌, IfOk, IfErr, IfSome, Ok};
+ghost use Rattle.std.specs.Prelude.{◌≡◌, ◌≤◌, IfOk, IfErr, IfSome, Ok, option_copied};
+ghost use Rattle.et_base.specs.Answers.{Gives};
 ghost use Rattle.type_frames.specs.Typing.{IsTyped};
-ghost use Rattle.suite_load.specs.Loading.{IsRead};
 ghost use Rattle.electrictest.specs.Runnable.{IsRunnable};
-ghost use Rattle.electrictest.specs.Answers.{Answers, LoadEnds};
+ghost use Rattle.electrictest.specs.Answers.{says};
+ghost use Rattle.electrictest.specs.Commands.{HasForm, IsNotYet, ReportEnds};
 ghost use Rattle.electrictest.specs.Replies as reply;
 
 use crate::first_machine::fits_first_machine;
 use crate::status::{InputFault, Status};
-use et_base::{NoMemory, Text};
+use et_base::Text;
 use outside::Depot;
 use std::alloc::Global;
-use suite_load::{LoadFault, Loaded, load};
-
-/// A copy of a text.
-pub fn copy_text(alloc: Global, text: &Text) -> Result<Text, NoMemory>
-    ensures { IfOk result (λ made. made ≡ text.now) }
-{
-    let mut made = Text::new(alloc);
-    made.extend_from_slice(text.as_slice())?;
-    Ok(made)
-}
+use suite_load::{LoadFault, Loaded, is_depot_name, load};
 
 // How a fault of loading is answered.
 fn status_of(fault: LoadFault) -> Status
@@ -42,29 +34,54 @@ fn status_of(fault: LoadFault) -> Status
 // The loaded suite of this name, where the first machine runs it.
 fn served(alloc: Global, loaded: Loaded, name: &Text) -> Result<Loaded, Status>
     requires typed { IsTyped loaded.checked }
-    ensures answers { Answers (λ answer. answer ≡ reply.served name.now (Ok loaded)) result }
-    ensures ends { IfErr result (λ e. LoadEnds (λ _. ⊥) e 0 0) }
+    ensures answers { Gives says (λ l. l) result (reply.served name.now (Ok loaded)) }
+    ensures not_yet { IfErr result IsNotYet }
     ensures runs { IfOk result (λ l. IsRunnable l.checked) }
 {
     if fits_first_machine(loaded.checked.program()) {
         Ok(loaded)
     } else {
-        let name = copy_text(alloc, name)?;
+        let name = Text::from_slice(alloc, name.as_slice())?;
         Err(Status::Input(InputFault::NotYet { name }))
     }
 }
 
-/// The suite of this name: its program, which the first machine runs, and the names that reports print.
+// The suite's name in `run SUITE - 1 all`.
+#[tactic(auto, unfolding(crate::specs::Replies::suite_word))]
+fn suite_word(words: &[Text]) -> Option<&Text>
+    ensures { option_copied result ≡ reply.suite_word words.now }
+{
+    match words {
+        [command, suite, record, workers, selection] => {
+            let is_run = command.as_slice() == b"run".as_slice()
+                && is_depot_name(suite.as_slice())
+                && record.as_slice() == b"-".as_slice()
+                && workers.as_slice() == b"1".as_slice()
+                && selection.as_slice() == b"all".as_slice();
+            if is_run { Some(suite) } else { None }
+        }
+        _ => None,
+    }
+}
+
+/// The suite that the words name: its program, which the first machine runs, and the names that reports print.
 ///
-/// `Input` comes as the first fault of loading does, or as `NotYet` exactly where the suite loads and its program isn't one
-/// that the first machine runs; `Depot` only where the depot's count of faults rose.
-pub fn load_named<D: Depot>(alloc: Global, depot: &mut D, name: &Text) -> Result<Loaded, Status>
-    ensures told { D.told depot.new ≡ D.told depot.old }
-    ensures faults { D.faults depot.old ≤ D.faults depot.new }
-    ensures answers { IfSome (D.told depot.old) (λ files. Answers (reply.LoadsNamed files name.now) result) }
-    ensures ends { IfErr result (λ e. LoadEnds (λ read. IfSome (D.told depot.old) (λ files. IsRead files name.now read)) e (D.faults depot.old) (D.faults depot.new)) }
+/// `Words` comes exactly where the words have no form; `Input` as the first fault of loading does, or as `NotYet` exactly
+/// where the suite loads and its program isn't one that the first machine runs; `Depot` only where the depot failed.
+pub fn load_for<D: Depot>(alloc: Global, words: &[Text], depot: &mut D) -> Result<Loaded, Status>
+    ensures told { (D.shown depot.new).told ≡ (D.shown depot.old).told }
+    ensures faults { (D.shown depot.old).faults ≤ (D.shown depot.new).faults }
+    ensures loads { IfOk result (λ l.
+        IfSome (D.shown depot.old).told (λ files. reply.LoadsFor files words.now (Ok l))) }
+    ensures refused { IfErr result (λ s.
+        IfSome (D.shown depot.old).told (λ files. reply.Unreported files words.now s)) }
+    ensures form { IfOk result (λ _. HasForm words.now) }
+    ensures ends { IfErr result (λ s. ReportEnds words.now s (D.shown depot.old) (D.shown depot.new)) }
     ensures runs { IfOk result (λ l. IsRunnable l.checked) }
 {
+    let Some(name) = suite_word(words) else {
+        return Err(Status::Words);
+    };
     match load(alloc, depot, name) {
         Ok(loaded) => served(alloc, loaded, name),
         Err(fault) => Err(status_of(fault)),

@@ -12,7 +12,6 @@ ghost use Rattle.jvm_model.specs.declared.outcome.Verdict.TheVariants as verdict
 ghost use Rattle.electrictest.specs.Replies as reply;
 ghost use Rattle.electrictest.specs.Tests as tests;
 
-use crate::loading::copy_text;
 use crate::status::{OverFault, Status};
 use et_base::{Items, NoMemory, Text};
 use jvm_model::{Names, Outcome, Verdict};
@@ -31,7 +30,7 @@ fn test_name(alloc: Global, names: &Names, test: u32) -> Result<Text, NoMemory>
     ensures { IfOk result (λ name. name ≡ reply.test_name names.now test) }
 {
     match names.tests.as_slice().get((test - 1) as usize) {
-        Some(name) => copy_text(alloc, name),
+        Some(name) => Text::from_slice(alloc, name.as_slice()),
         None => Ok(Text::new(alloc)),
     }
 }

@@ -1,0 +1,50 @@
+-- Loading for the words.
+use Rattle.std.proofs.Common.{◌≡◌, ◌≢◌, ℕ, List, Option, Some, None, Result, Ok, Err, IfSome, refl, sym, ap, subst}
+use Rattle.outside.specs.Depot.{Files, DepotView, FailedAt}
+use Rattle.suite_load.specs.declared.load_fault.LoadFault.{LoadFault}
+use Rattle.suite_load.specs.declared.load_fault.LoadFault.TheVariants as fault
+use Rattle.suite_load.specs.declared.loaded.Loaded.{Loaded}
+use Rattle.suite_load.specs.Loading.{Loads, IsRead}
+use Rattle.suite_load.specs.LoadAnswers.{LoadAnswers, IsProper}
+use Rattle.electrictest.specs.declared.status.Status.{Status}
+use Rattle.electrictest.specs.declared.status.Status.TheVariants as ends
+use Rattle.electrictest.specs.declared.status.InputFault.TheVariants as input
+use Rattle.electrictest.specs.Answers.{says}
+use Rattle.electrictest.specs.Commands.{HasForm, IsNotYet, ReportEnds}
+use Rattle.electrictest.specs.Replies.{suite_word, status_of, served, LoadsAny, LoadsFor, IsReadFor, Unreported}
+
+-- the words name a suite
+pub loads_for : (files : Files) (words : List (List ℕ)) (name : List ℕ) (loading : Result Loaded LoadFault) (answer : Result Loaded Status) → suite_word words ≡ Some name → Loads files name loading → answer ≡ served name loading → LoadsFor files words answer
+loads_for files words name loading answer e h s = subst (λ o. LoadsAny files o answer) (sym e) (loading, h, s)
+
+pub loads_none : (files : Files) (words : List (List ℕ)) → suite_word words ≡ None → LoadsFor files words (Err ends.Words)
+loads_none files words e = subst (λ o. LoadsAny files o (Err ends.Words)) (sym e) refl
+
+-- a fault of loading is answered by its status
+pub unloaded : (files : Files) (words : List (List ℕ)) (name : List ℕ) (e : LoadFault) (P : List ℕ → Type 0) → suite_word words ≡ Some name → LoadAnswers files name (Err e) → IsProper (λ read. IsRead files name read × P read) e → Unreported files words (status_of e)
+unloaded files words name fault.NoMemory P w h p = tt
+unloaded files words name (fault.Depot read) P w h p = (name, w, p.0)
+unloaded files words name (fault.Absent read) P w h p = loads_for files words name (Err (fault.Absent read)) _ w h refl
+unloaded files words name (fault.TooLarge read) P w h p = loads_for files words name (Err (fault.TooLarge read)) _ w h refl
+unloaded files words name (fault.Suite line why) P w h p = loads_for files words name (Err (fault.Suite line why)) _ w h refl
+unloaded files words name (fault.Class read f) P w h p = loads_for files words name (Err (fault.Class read f)) _ w h refl
+unloaded files words name (fault.Link f) P w h p = loads_for files words name (Err (fault.Link f)) _ w h refl
+unloaded files words name (fault.Check f) P w h p = loads_for files words name (Err (fault.Check f)) _ w h refl
+
+pub unloaded_told : (told : Option Files) (words : List (List ℕ)) (name : List ℕ) (e : LoadFault) (P : List ℕ → Type 0) → suite_word words ≡ Some name → IfSome told (λ files. LoadAnswers files name (Err e)) → IsProper (λ read. IfSome told (λ files. IsRead files name read) × P read) e →
+    IfSome told (λ files. Unreported files words (status_of e))
+unloaded_told None words name e P w h p = tt
+unloaded_told (Some files) words name e P w h p = unloaded files words name e P w h p
+
+form_of : (words : List (List ℕ)) (name : List ℕ) → suite_word words ≡ Some name → HasForm words
+form_of words name e = rw e refl
+
+pub fault_ends : (words : List (List ℕ)) (name : List ℕ) (e : LoadFault) (P : List ℕ → Type 0) (old new : DepotView) → suite_word words ≡ Some name → IsProper (λ read. P read × FailedAt old new read) e → ReportEnds words (status_of e) old new
+fault_ends words name fault.NoMemory P old new w p = tt
+fault_ends words name (fault.Depot read) P old new w p = (form_of words name w, p.1)
+fault_ends words name (fault.Absent read) P old new w p = (form_of words name w, tt)
+fault_ends words name (fault.TooLarge read) P old new w p = (form_of words name w, tt)
+fault_ends words name (fault.Suite line why) P old new w p = (form_of words name w, tt)
+fault_ends words name (fault.Class read f) P old new w p = (form_of words name w, p)
+fault_ends words name (fault.Link f) P old new w p = (form_of words name w, p)
+fault_ends words name (fault.Check f) P old new w p = (form_of words name w, p)
