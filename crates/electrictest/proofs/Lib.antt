@@ -1,5 +1,5 @@
 mod Serving
 mod Runs
-mod Loading
+mod ForWords
 mod Replying
 mod TextLaws
