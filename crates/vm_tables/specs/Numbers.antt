@@ -5,7 +5,8 @@ use Rattle.jvm_model.specs.declared.program.Program.{Program}
 use Rattle.jvm_model.specs.declared.program.Body.{Body}
 use Rattle.jvm_model.specs.declared.program.Placed.{Placed}
 use Rattle.jvm_model.specs.RowsCalls.{argument_count}
-use Rattle.jvm_model.specs.Classes.{Found, place_after, method_at}
+use Rattle.jvm_model.specs.Linked.{IsClass}
+use Rattle.jvm_model.specs.Classes.{layout, Found, place_after, method_at}
 
 abbrev pub one_later : ℕ → ℕ
 one_later zero = 0
@@ -52,6 +53,10 @@ AreNumbers p tables = (m : ℕ) → ArePlaces (method_at p m).body (get_or table
 abbrev pub AreArguments : Program → List ℕ → Type 0
 AreArguments p counts = (m : ℕ) → get_or counts m 0 ≡ argument_count p m
 
-pub record AreTables (p : Program) (tables : List (List ℕ)) (counts : List ℕ) : Type 0 where
+abbrev pub AreLayouts : Program → List (List ℕ) → Type 0
+AreLayouts p layouts = (c : ℕ) → IsClass p c → get_or layouts c [] ≡ layout p c
+
+pub record AreTables (p : Program) (tables : List (List ℕ)) (counts : List ℕ) (layouts : List (List ℕ)) : Type 0 where
   pub numbers : AreNumbers p tables
   pub arguments : AreArguments p counts
+  pub fields : AreLayouts p layouts

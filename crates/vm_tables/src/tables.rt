@@ -1,10 +1,10 @@
 //! The tables of a program.
 
 ghost use Rattle.std.specs.Prelude.{◌≡◌, ◌<◌, IfOk, IfSome, length, get_or, []};
-ghost use Rattle.jvm_model.specs.Classes.{found_of, method_at};
+ghost use Rattle.jvm_model.specs.Classes.{found_of, method_at, layout};
 ghost use Rattle.jvm_model.specs.RowsCalls.{argument_count};
-ghost use Rattle.jvm_model.specs.Linked.{Linked};
-ghost use Rattle.vm_tables.specs.Numbers.{code_of, instruction_of, AreNumbers, AreArguments};
+ghost use Rattle.jvm_model.specs.Linked.{Linked, IsClass};
+ghost use Rattle.vm_tables.specs.Numbers.{code_of, instruction_of, AreNumbers, AreArguments, AreLayouts};
 
 use crate::numbers::numbers_of;
 use et_base::{Items, NoMemory};
@@ -13,11 +13,13 @@ use std::alloc::Global;
 use std::marker::Model;
 use std::snapshot::Snapshot;
 
-/// What a step asks of a program, made once: its instructions by byte place. Contracts see the program.
+/// What a step asks of a program, made once: its instructions by byte place, counts of
+/// arguments, and fields of objects. Contracts see the program.
 #[derive(Drop)]
 pub struct Tables {
     numbers: Items<Items<u16>>,
     arguments: Items<usize>,
+    layouts: Items<Items<u32>>,
     program: Snapshot<Program>,
 }
 
@@ -29,7 +31,7 @@ impl Model for Tables {
 
     ghost view = { λ t. t.program.value };
 
-    ghost invariant = { λ t. AreTables t.program.value t.numbers t.arguments };
+    ghost invariant = { λ t. AreTables t.program.value t.numbers t.arguments t.layouts };
 }
 
 impl Tables {
@@ -41,6 +43,7 @@ impl Tables {
         Ok(Tables {
             numbers: all_numbers(alloc, p)?,
             arguments: all_arguments(alloc, p)?,
+            layouts: all_layouts(alloc, p)?,
             program: Snapshot::of(p),
         })
     }
@@ -53,6 +56,18 @@ impl Tables {
         match self.arguments.get(method as usize) {
             None => 0,
             Some(count) => *count,
+        }
+    }
+
+    /// The instance fields of a class's objects, those of superclasses first.
+    #[tactic(auto, using(crate::proofs::Places::layout_found, crate::proofs::Places::get_some, crate::proofs::Places::get_none))]
+    pub fn layout(&self, class: u32) -> &[u32]
+        requires { IsClass self.now class }
+        ensures { result.now ≡ layout self.now class }
+    {
+        match self.layouts.get(class as usize) {
+            None => &[],
+            Some(fields) => fields.as_slice(),
         }
     }
 
@@ -110,4 +125,16 @@ fn all_arguments(alloc: Global, p: &Program) -> Result<Items<usize>, NoMemory>
         arguments.push(parameter_count(method.descriptor.as_slice()))?;
     }
     Ok(arguments)
+}
+
+/// Each class's instance fields.
+fn all_layouts(alloc: Global, p: &Program) -> Result<Items<Items<u32>>, NoMemory>
+    requires { Linked p.now }
+    ensures { IfOk result (λ layouts. AreLayouts p.now layouts) }
+{
+    let mut layouts = Items::new(alloc);
+    for class in 0..p.classes.len() as u32 {
+        layouts.push(p.layout(alloc, class)?)?;
+    }
+    Ok(layouts)
 }
