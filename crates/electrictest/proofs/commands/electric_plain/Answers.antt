@@ -2,13 +2,13 @@ use Rattle.electrictest.proofs.Replying.{served_done, served_refused, taken_done
 use Rattle.electrictest.proofs.commands.electric_plain.Goals as goal
 
 pub returns-in-Ok-clause-served : goal.returns-in-Ok-clause-served
-returns-in-Ok-clause-served g c = served_done _ c.args.words.now _ _ c.args.steps.now c.reported.new.steps c.in-Ok.text c.as_slice.result.now c.written.result _ c.in-Ok.ensures.reports c.as_slice.ensures c.written.ensures.writes
+returns-in-Ok-clause-served g c = served_done _ c.args.words.now _ _ c.args.steps.now c.reported.new.steps c.in-Ok.text c.as_slice.result.now c.written.result _ _ c.in-Ok.ensures.reports c.as_slice.ensures c.written.ensures.writes
 
 pub returns-in-Ok-clause-taken : goal.returns-in-Ok-clause-taken
-returns-in-Ok-clause-taken g c = taken_done c.as_slice.result.now c.written.result _ c.written.ensures.writes
+returns-in-Ok-clause-taken g c = taken_done c.as_slice.result.now c.written.result _ _ c.written.ensures.writes
 
 pub returns-in-Err-clause-served : goal.returns-in-Err-clause-served
-returns-in-Err-clause-served g c = served_refused _ c.args.words.now _ _ c.args.steps.now c.reported.new.steps c.in-Err.status c.refused.result _ c.in-Err.ensures.refused c.in-Err.ensures.ends c.refused.ensures.writes
+returns-in-Err-clause-served g c = served_refused _ c.args.words.now _ _ c.args.steps.now c.reported.new.steps c.in-Err.status c.refused.result _ _ c.in-Err.ensures.refused c.in-Err.ensures.ends c.refused.ensures.writes
 
 pub returns-in-Err-clause-taken : goal.returns-in-Err-clause-taken
-returns-in-Err-clause-taken g c = taken_refused c.args.words.now _ _ c.in-Err.status c.refused.result _ c.in-Err.ensures.ends c.refused.ensures.writes
+returns-in-Err-clause-taken g c = taken_refused c.args.words.now _ _ c.in-Err.status c.refused.result _ _ c.in-Err.ensures.ends c.refused.ensures.writes
