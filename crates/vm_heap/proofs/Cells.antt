@@ -1,5 +1,5 @@
 -- Fields and elements of an object by the cells of the region.
-use Rattle.std.proofs.Common.{◌≡◌, ℕ, zero, suc, ◌+◌, ◌^◌, ◌-◌, ◌<◌, ◌≤◌, List, [], ◌∷◌, ◌++◌, length, get_or, set, take, drop, map, replicate, nat_eq, true, Option, Some, None, refl, sym, subst, ap, ◌∙◌, arith, inl, inr, length-append, append_assoc}
+use Rattle.std.proofs.Common.{◌≡◌, ℕ, suc, ◌+◌, ◌^◌, ◌-◌, ◌<◌, ◌≤◌, List, [], ◌∷◌, ◌++◌, length, get_or, set, take, drop, map, replicate, nat_eq, true, Option, Some, None, refl, sym, subst, ap, ◌∙◌, arith, inl, inr, length-append, append_assoc}
 use Rattle.std.specs.List.{zip}
 use Rattle.std.proofs.lemmas.Bool.{cases_Bool}
 use Rattle.std.proofs.lemmas.List.{get_or_default, take_more, map-append, get_or-take, get_or-drop, drop-set-lt, length-drop, length-take-le, nil_from_length}
@@ -11,11 +11,13 @@ use Rattle.jvm_model.specs.declared.values.Kind.{Kind}
 use Rattle.jvm_model.specs.declared.values.Kind.TheVariants.{Class, Array}
 use Rattle.jvm_model.specs.declared.values.Head.{Head}
 use Rattle.jvm_model.specs.World.{Object, look, keep, put_at, no_object}
-use Rattle.jvm_model.specs.Classes.{member, fields_of, elems_of, blank}
+use Rattle.jvm_model.specs.Classes.{member, layout, field_at, default_of, fields_of, elems_of, blank}
 use Rattle.jvm_model.specs.View.{keys}
 use Rattle.vm_heap.specs.declared.header.Header.{Header}
-use Rattle.vm_heap.specs.Objects.{field_numbers, new_cells, cell_count, object_of, objects_of, IsWhole, place}
+use Rattle.vm_heap.specs.Objects.{field_numbers, new_cells, cell_count, object_of, objects_of, IsWhole}
+use Rattle.vm_tables.specs.FieldPlaces.{place}
 use Rattle.vm_heap.specs.Held.{Held}
+use Rattle.vm_mem.proofs.Entries.{put_at_set}
 use Rattle.vm_heap.proofs.Objects.{before, own_cells, object_there, cell_set, start_at, cells_within, length-objects_of, with_text, whole_text, text_set, made_last, whole_last}
 
 pub place_below : (f : ℕ) (ks : List ℕ) → member f ks ≡ true → place f ks < length ks
@@ -24,10 +26,6 @@ place_below f (k ∷ ks) h = elim (cases_Bool (nat_eq f k)) [
   | inl e ↦ rw e (omega arith)
   | inr e ↦ let r = rw e at h in let i = place_below f ks r in rw e (omega arith)
 ]
-
-pub place_most : (f : ℕ) (ks : List ℕ) → place f ks ≤ length ks
-place_most f [] = omega arith
-place_most f (k ∷ ks) = let i = place_most f ks in elim (cases_Bool (nat_eq f k)) [ inl e ↦ rw e (omega arith) | inr e ↦ rw e (omega arith) ]
 
 keys_zip : (ks : List ℕ) (cs : List Value) → length ks ≤ length cs → keys (zip ks cs) ≡ ks
 keys_zip [] cs h = refl
@@ -49,11 +47,6 @@ field_kept (k ∷ ks) (c ∷ cs) f v h w = elim (cases_Bool (nat_eq f k)) [
   | inl e ↦ rw e refl
   | inr e ↦ let r = rw e at h in let i = field_kept ks cs f v r (omega arith) in rw e (ap (λ t. (k, c) ∷ t) i)
 ]
-
-put_at_set : (xs : List Value) (i : ℕ) (v : Value) → i < length xs → set xs i v ≡ put_at Null xs i v
-put_at_set [] i v h = absurd (omega arith)
-put_at_set (x ∷ xs) zero v h = refl
-put_at_set (x ∷ xs) (suc i) v h = ap (λ t. x ∷ t) (put_at_set xs i v (omega arith))
 
 length_keys : (fs : List (ℕ × Value)) → length (keys fs) ≡ length fs
 length_keys [] = refl
@@ -97,7 +90,7 @@ field_made x ks s f w m h =
 
 elem_made : (x : Header) (ks : List ℕ) (s : List Value) (i : ℕ) (w : Value) → ks ≡ [] → i < length s →
     made_of x (zip ks (set s i w)) (drop (length ks) (set s i w)) ≡ made_of x (zip ks s) (put_at Null (drop (length ks) s) i w)
-elem_made x ks s i w e h = rw e (ap (λ t. made_of x [] t) (put_at_set s i w h))
+elem_made x ks s i w e h = rw e (ap (λ t. made_of x [] t) (sym (put_at_set Null s i w h)))
 
 length-own : (p : Program) (xs : List Header) (cs : List Value) (o : ℕ) (x : Header) → IsWhole p xs cs → o < length xs → x ≡ get_or xs o x → length (own_cells p x (before p xs o) cs) ≡ cell_count p x.head
 length-own p xs cs o x h w q =
@@ -119,23 +112,38 @@ own_cell p xs cs o k x h w q n =
       after = λ v. ap (λ t. objects_of p xs (set cs (t + k) v)) s ∙ cell_set p xs cs o k x v w m ∙ ap (λ y. set (objects_of p xs cs) o (object_of p y (set (own_cells p y (before p xs o) cs) k v))) (sym q);
     }
 
-pub field_cell : (p : Program) (xs : List Header) (cs : List Value) (o : ℕ) (x : Header) (e : Object) (f : ℕ) → IsWhole p xs cs → o < length xs → x ≡ get_or xs o x →
+keys_laid : (p : Program) (d : ℕ → Value) (fs : List ℕ) → keys (map (λ f. (f, d f)) fs) ≡ fs
+keys_laid p d [] = refl
+keys_laid p d (f ∷ fs) = ap (λ t. f ∷ t) (keys_laid p d fs)
+
+-- a number is the place of a field in the objects of each class of a program
+abbrev pub IsPlaceOf : Program → ℕ → ℕ → Type 0
+IsPlaceOf p f n = (c : ℕ) → member f (layout p c) ≡ true → n ≡ place f (layout p c)
+
+kind_place : (p : Program) (k : Kind) (f n : ℕ) → IsPlaceOf p f n → member f (keys (fields_of p k)) ≡ true → n ≡ place f (keys (fields_of p k))
+kind_place p (Array d b) f n h m = absurd (cc)
+kind_place p (Class c) f n h m =
+    let e = keys_laid p (λ g. default_of (field_at p g).descriptor) (layout p c) in
+    h c (ap (member f) (sym e) ∙ m) ∙ ap (place f) (sym e)
+
+pub field_cell : (p t : Program) (xs : List Header) (cs : List Value) (o : ℕ) (x : Header) (e : Object) (f n : ℕ) → t ≡ p → IsPlaceOf t f n → IsWhole p xs cs → o < length xs → x ≡ get_or xs o x →
     member f (keys (get_or (objects_of p xs cs) o e).fields) ≡ true →
-    Cell p xs cs (x.start + place f (field_numbers p x.head)) (look nat_eq Null (get_or (objects_of p xs cs) o e).fields f)
+    Cell p xs cs (x.start + n) (look nat_eq Null (get_or (objects_of p xs cs) o e).fields f)
     (λ w. set (objects_of p xs cs) o (with_fields (get_or (objects_of p xs cs) o e) (keep nat_eq (get_or (objects_of p xs cs) o e).fields f w)))
-field_cell p xs cs o x e f h w q m =
+field_cell p t xs cs o x e f n same at h w q m =
     let s = own_cells p x (before p xs o) cs in
     let ks = field_numbers p x.head in
     let l = length-own p xs cs o x h w q in
-    let n : length ks ≤ length s = omega arith in
+    let long : length ks ≤ length s = omega arith in
     let there : get_or (objects_of p xs cs) o e ≡ object_of p x s = object_there p xs cs o x e w ∙ ap (λ y. object_of p y (own_cells p y (before p xs o) cs)) (sym q) in
-    let r : member f ks ≡ true = ap (member f) (sym (keys_zip ks s n)) ∙ ap (λ y. member f (keys y.fields)) (sym there) ∙ m in
+    let r : member f ks ≡ true = ap (member f) (sym (keys_zip ks s long)) ∙ ap (λ y. member f (keys y.fields)) (sym there) ∙ m in
     let b = place_below f ks r in
-    let c = own_cell p xs cs o (place f ks) x h w q (omega arith) in
+    let k : n ≡ place f ks = kind_place p x.head.kind f n (subst (λ y. IsPlaceOf y f n) same at) r in
+    let c = own_cell p xs cs o n x h w q (omega arith) in
     record {
       within = c.within;
-      value = c.value ∙ sym (field_got ks s f r n) ∙ ap (λ y. look nat_eq Null y.fields f) (sym there);
-      after = λ v. c.after v ∙ ap (set (objects_of p xs cs) o) (field_made x ks s f v r n ∙ ap (λ y. with_fields y (keep nat_eq y.fields f v)) (sym there));
+      value = c.value ∙ ap (λ y. get_or s y Null) k ∙ sym (field_got ks s f r long) ∙ ap (λ y. look nat_eq Null y.fields f) (sym there);
+      after = λ v. c.after v ∙ ap (λ y. set (objects_of p xs cs) o (object_of p x (set s y v))) k ∙ ap (set (objects_of p xs cs) o) (field_made x ks s f v r long ∙ ap (λ y. with_fields y (keep nat_eq y.fields f v)) (sym there));
     }
 
 pub elem_cell : (p : Program) (xs : List Header) (cs : List Value) (o : ℕ) (x : Header) (e : Object) (i : ℕ) → IsWhole p xs cs → o < length xs → x ≡ get_or xs o x →
@@ -244,13 +252,6 @@ filled old fs cs ds i n e w c q d =
     let t : values_of (take (i + 1) fs) ≡ vs ++ v ∷ [] = ap values_of (take_more fs i e w) ∙ map-append (λ x. x.1) (take i fs) (get_or fs i e ∷ []) in
     d ∙ ap (λ y. set y n v) (c ∙ ap (λ k. old ++ (vs ++ replicate k Null)) m) ∙ ap (λ k. set (old ++ (vs ++ replicate (suc (length fs - (i + 1))) Null)) k v) a
     ∙ fill_next old vs (length fs - (i + 1)) v ∙ ap (λ y. old ++ (y ++ replicate (length fs - (i + 1)) Null)) (sym t)
-
--- an object's cells are within the region
-pub room_within : (p : Program) (xs : List Header) (cs : List Value) (o : ℕ) (x : Header) → IsWhole p xs cs → o < length xs → x ≡ get_or xs o x → x.start + length (field_numbers p x.head) ≤ length cs
-room_within p xs cs o x h w q =
-    let b : before p xs o + cell_count p x.head ≤ length cs = rw q (cells_within p xs cs o x h w) in
-    let s : x.start ≡ before p xs o = ap (λ y. y.start) q ∙ start_at p xs cs o x h w in
-    omega arith
 
 abbrev pub last_on : Held → Head → Held
 last_on y h = record y { objects = y.objects ++ blank y.program h ∷ [] }

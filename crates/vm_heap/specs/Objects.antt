@@ -1,5 +1,5 @@
 -- The objects whose cells stand one after the other in a region.
-use Rattle.std.specs.Prelude.{◌≡◌, ℕ, suc, ◌+◌, ◌<◌, ◌^◌, List, [], ◌∷◌, ◌++◌, length, take, drop, map, nat_eq, cond}
+use Rattle.std.specs.Prelude.{◌≡◌, ℕ, ◌+◌, ◌<◌, ◌^◌, List, [], ◌∷◌, ◌++◌, length, take, drop, map}
 use Rattle.std.specs.List.{zip}
 use Rattle.jvm_model.specs.declared.program.Program.{Program}
 use Rattle.jvm_model.specs.declared.values.Value.{Value}
@@ -46,7 +46,7 @@ pub record IsWhole (p : Program) (xs : List Header) (cs : List Value) : Type 0 w
   pub full : length cs ≡ total p xs
   pub few : length cs < 2 ^ 64
 
--- the place of a number in a list, or the list's length
-abbrev pub place : ℕ → List ℕ → ℕ
-place f [] = 0
-place f (k ∷ ks) = cond (nat_eq f k) 0 (suc (place f ks))
+-- a heap's headers and cells go together, and its table of places is of the same program
+pub record IsHeap (p q : Program) (xs : List Header) (cs : List Value) : Type 0 where
+  pub whole : IsWhole p xs cs
+  pub same : q ≡ p

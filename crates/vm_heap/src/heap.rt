@@ -3,7 +3,7 @@ ghost use Rattle.jvm_model.specs.declared.values.Value.TheVariants.{Null};
 ghost use Rattle.jvm_model.specs.World.{look, keep, put_at, text_or_empty, no_object};
 ghost use Rattle.jvm_model.specs.Classes.{member, blank};
 ghost use Rattle.jvm_model.specs.View.{keys};
-ghost use Rattle.vm_heap.specs.Objects.{field_numbers, new_cells, cell_count, place};
+ghost use Rattle.vm_heap.specs.Objects.{new_cells};
 
 use crate::header::Header;
 use cell_region::{Mark, Region};
@@ -12,6 +12,7 @@ use jvm_model::{Head, Kind, Program, Value};
 use std::alloc::Global;
 use std::marker::Model;
 use vm_mem::{Layouts, TextCell, element_default};
+use vm_tables::FieldPlaces;
 
 /// All objects: a header each, and the cells of all of them in one region in the order of the objects.
 #[derive(Drop)]
@@ -19,18 +20,19 @@ pub struct Heap {
     headers: Vec<Header>,
     cells: Region<Value>,
     layouts: Layouts,
+    places: FieldPlaces,
     alloc: Global,
 }
 
 impl Model for Heap {
     ghost use Rattle.vm_heap.specs.Held.{Held};
-    ghost use Rattle.vm_heap.specs.Objects.{objects_of, IsWhole};
+    ghost use Rattle.vm_heap.specs.Objects.{objects_of, IsHeap};
 
     ghost Value = { Held };
 
     ghost view = { λ s. record { program = s.layouts; objects = objects_of s.layouts s.headers.items s.cells } };
 
-    ghost invariant = { λ s. IsWhole s.layouts s.headers.items s.cells };
+    ghost invariant = { λ s. IsHeap s.layouts s.places s.headers.items s.cells };
 }
 
 impl Heap {
@@ -45,6 +47,7 @@ impl Heap {
             headers: Vec::new(alloc),
             cells: Region::new(alloc),
             layouts: Layouts::of(alloc, p)?,
+            places: FieldPlaces::of(alloc, p)?,
             alloc,
         })
     }
@@ -63,8 +66,8 @@ impl Heap {
         requires field { member field (keys (get_or self.now.objects object no_object).fields) ≡ true }
         ensures { result ≡ look nat_eq Null (get_or self.now.objects object no_object).fields field }
     {
-        let header = &self.headers[object as usize];
-        self.cells.get(field_place(&self.layouts, header, field))
+        let start = self.headers[object as usize].start;
+        self.cells.get(start + self.places.place(field) as u64)
     }
 
     /// Gives a field another value.
@@ -73,8 +76,8 @@ impl Heap {
         requires field { member field (keys (get_or self.old.objects object no_object).fields) ≡ true }
         ensures { let x = get_or self.old.objects object no_object in self.new ≡ record self.old { objects = set self.old.objects object (record x { fields = keep nat_eq x.fields field v }) } }
     {
-        let header = &self.headers[object as usize];
-        let place = field_place(&self.layouts, header, field);
+        let start = self.headers[object as usize].start;
+        let place = start + self.places.place(field) as u64;
         self.cells.set(place, v);
     }
 
@@ -144,31 +147,6 @@ impl Heap {
         self.headers.clear();
         self.cells.release(Mark { len: 0 });
     }
-}
-
-/// The place of a field's cell.
-fn field_place(layouts: &Layouts, header: &Header, field: u32) -> u64
-    requires { header.now.start + length (field_numbers layouts.now header.now.head) < 2 ^ 64 }
-    ensures { result ≡ header.now.start + place field (field_numbers layouts.now header.now.head) }
-{
-    match header.head.kind {
-        Kind::Class(class) => header.start + place_of(layouts.fields(class), field),
-        Kind::Array { .. } => header.start,
-    }
-}
-
-/// The place of a number among these, or how many there are.
-fn place_of(fields: &[(u32, Value)], field: u32) -> u64
-    ensures { result ≡ place field (keys fields.now) }
-{
-    let mut place = 0;
-    for (number, _) in fields {
-        if field == *number {
-            return place;
-        }
-        place += 1;
-    }
-    place
 }
 
 /// Appends the cells of a new object. After a refusal the cells are as before.

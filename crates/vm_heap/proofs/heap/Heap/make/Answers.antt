@@ -16,7 +16,7 @@ invariant_of-self-else-is_err c =
     let i : c.push.new.self.items ≡ xs ++ h ∷ [] = c.push.ensures.items ∙ ap (λ (b : Bool). cond b (xs ++ h ∷ []) xs) e in
     let m : c.append_cells.new.cells ≡ cs ++ new_cells p c.args.head = c.in_ok-append_cells.ensures.made in
     let f : length (cs ++ new_cells p c.args.head) < 2 ^ 64 = rw m at c.in_ok-append_cells.ensures.room in
-    rw (i, m) (cells_last p xs h cs c.args.head c.self.invariant refl c.mark-mark.ensures f)
+    record { same = c.self.invariant.same; whole = rw (i, m) (cells_last p xs h cs c.args.head c.self.invariant.whole refl c.mark-mark.ensures f) }
 
 pub returns-clause-gives : goal.returns-clause-gives
 returns-clause-gives c = rw (← c.self.view_is, length-objects_of c.self.inside.layouts c.self.inside.headers.items c.self.inside.cells) (search rules)
@@ -31,4 +31,4 @@ returns-clause-made c =
     let i : c.push.new.self.items ≡ xs ++ h ∷ [] = c.push.ensures.items ∙ ap (λ (b : Bool). cond b (xs ++ h ∷ []) xs) e in
     let m : c.append_cells.new.cells ≡ cs ++ new_cells p c.args.head = c.in_ok-append_cells.ensures.made in
     ap (λ (t : List Header). held p (objects_of p t c.append_cells.new.cells)) i ∙ ap (λ (t : List Value). held p (objects_of p (xs ++ h ∷ []) t)) m
-    ∙ held_last p xs h cs c.args.head c.self.invariant refl c.new.ensures ∙ ap (λ y. last_on y c.args.head) c.self.view_is
+    ∙ held_last p xs h cs c.args.head c.self.invariant.whole refl c.new.ensures ∙ ap (λ y. last_on y c.args.head) c.self.view_is

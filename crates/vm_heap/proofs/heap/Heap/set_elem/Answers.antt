@@ -19,9 +19,9 @@ overflow_add-place c =
     let cs = c.self.inside.cells in
     let w : c.args.object < length xs = headers_there p xs cs c.args.self.now c.args.object c.self.view_is c.requires.object in
     let m : c.args.index < length (get_or (objects_of p xs cs) c.args.object no_object).elems = rw (← c.self.view_is) at c.requires.index in
-    let k = elem_cell p xs cs c.args.object c.index-header.result.now no_object c.args.index c.self.invariant w c.index-header.ensures m in
+    let k = elem_cell p xs cs c.args.object c.index-header.result.now no_object c.args.index c.self.invariant.whole w c.index-header.ensures m in
     let b = k.within in
-    let f = c.self.invariant.few in
+    let f = c.self.invariant.whole.few in
     omega arith
 
 pub set-requires : goal.set-requires
@@ -31,7 +31,7 @@ set-requires c =
     let cs = c.self.inside.cells in
     let w : c.args.object < length xs = headers_there p xs cs c.args.self.now c.args.object c.self.view_is c.requires.object in
     let m : c.args.index < length (get_or (objects_of p xs cs) c.args.object no_object).elems = rw (← c.self.view_is) at c.requires.index in
-    let k = elem_cell p xs cs c.args.object c.index-header.result.now no_object c.args.index c.self.invariant w c.index-header.ensures m in
+    let k = elem_cell p xs cs c.args.object c.index-header.result.now no_object c.args.index c.self.invariant.whole w c.index-header.ensures m in
     k.within
 
 pub returns : goal.returns
@@ -41,5 +41,5 @@ returns c =
     let cs = c.self.inside.cells in
     let w : c.args.object < length xs = headers_there p xs cs c.args.self.now c.args.object c.self.view_is c.requires.object in
     let m : c.args.index < length (get_or (objects_of p xs cs) c.args.object no_object).elems = rw (← c.self.view_is) at c.requires.index in
-    let k = elem_cell p xs cs c.args.object c.index-header.result.now no_object c.args.index c.self.invariant w c.index-header.ensures m in
+    let k = elem_cell p xs cs c.args.object c.index-header.result.now no_object c.args.index c.self.invariant.whole w c.index-header.ensures m in
     ap (λ t. held p (objects_of p xs t)) c.set.ensures ∙ ap (held p) (k.after c.args.v) ∙ ap (λ h. elem_changed h c.args.object c.args.index c.args.v) c.self.view_is

@@ -16,7 +16,7 @@ invariant_of-self c =
     let xs = c.self.inside.headers.items in
     let cs = c.self.inside.cells in
     let w : c.args.object < length xs = headers_there p xs cs c.args.self.now c.args.object c.self.view_is c.requires in
-    whole_written p xs cs c.args.object c.index_mut.result.now c.set.new.self c.self.invariant w c.index_mut.ensures.value
+    record { same = c.self.invariant.same; whole = whole_written p xs cs c.args.object c.index_mut.result.now c.set.new.self c.self.invariant.whole w c.index_mut.ensures.value }
 
 pub returns : goal.returns
 returns c =
