@@ -141,7 +141,7 @@ module _ (p : Program) (l : Linked p) where
         | inr r ↦ let same : c ≡ d = omega arith in let none = subst (λ (n : ℕ). member f (layout p n) ≡ true) same t in absurd (cc)
       ])
 
-past_classes : (p : Program) (c : ℕ) → length p.classes ≤ c → layout p c ≡ []
+pub past_classes : (p : Program) (c : ℕ) → length p.classes ≤ c → layout p c ≡ []
 unfolding layout class_bound
 past_classes p c h =
     let e : class_at p c ≡ no_class = get_or_past p.classes c no_class h in
@@ -154,3 +154,9 @@ noted_all p q n places e h g =
       | inr l ↦ let none = rw (past_classes p c (omega arith)) at m in absurd (cc)
     ]) in
     subst (λ w. AreFieldPlaces w places) (sym e) all
+
+pub cells_all : (p : Program) (n : ℕ) (cells : List ℕ) → length cells ≡ n → length p.classes ≤ n → ((c : ℕ) → c < n → get_or cells c 0 ≡ length (layout p c)) → (c : ℕ) → get_or cells c 0 ≡ length (layout p c)
+cells_all p n cells l h g c = elim (cases_lt c n) [
+  | inl i ↦ g c i
+  | inr i ↦ get_or_past cells c 0 (omega arith) ∙ sym (ap (length {A = ℕ}) (past_classes p c (omega arith)))
+]

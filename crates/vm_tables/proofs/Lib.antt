@@ -1,2 +1,4 @@
+pub mod Gathering
 pub mod Laid
 pub mod Places
+pub mod Started

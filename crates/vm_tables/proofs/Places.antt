@@ -9,8 +9,8 @@ use Rattle.jvm_model.specs.declared.program.Program.{Program}
 use Rattle.jvm_model.specs.Descriptors.{parameters}
 use Rattle.jvm_model.specs.RowsCalls.{argument_count}
 use Rattle.jvm_model.specs.Classes.{layout, no_method, method_at, Found, found_in, found_of, place_after}
-use Rattle.jvm_model.specs.Linked.{Ascends, IsBody, IsClass}
-use Rattle.vm_tables.specs.Numbers.{AreLayouts, code_of, one_later, number_in, number_of, ArePlaces, AreArguments, instruction, instruction_of, less_one}
+use Rattle.jvm_model.specs.Linked.{Ascends, IsBody}
+use Rattle.vm_tables.specs.Numbers.{AreCells, code_of, one_later, number_in, number_of, ArePlaces, AreArguments, instruction, instruction_of, less_one}
 
 -- what stands at a number of a table
 abbrev by_number : List Placed → ℕ → ℕ → Option Found
@@ -153,7 +153,5 @@ number_inside p q m pc n tables h e r =
     let here : n ≤ length (code_of (method_at p m).body) = rw (r, h m pc) (number_of-le (method_at p m).body pc) in
     subst (λ (w : Program). n ≤ length (code_of (method_at w m).body)) e here
 
-pub layout_found : (p q : Program) (c : ℕ) (layouts : List (List ℕ)) → AreLayouts p layouts → p ≡ q → IsClass q c → get_or layouts c [] ≡ layout q c
-layout_found p q c layouts h e there =
-    let here : IsClass p c = subst (λ (w : Program). IsClass w c) (sym e) there in
-    subst (λ (w : Program). get_or layouts c [] ≡ layout w c) e (h c here)
+pub cells_found : (p q : Program) (c : ℕ) (cells : List ℕ) → AreCells p cells → p ≡ q → get_or cells c 0 ≡ length (layout q c)
+cells_found p q c cells h e = subst (λ (w : Program). get_or cells c 0 ≡ length (layout w c)) e (h c)

@@ -1,2 +1,4 @@
 pub mod FieldPlaces
+pub mod Interfaces
 pub mod Numbers
+pub mod Starts

@@ -1,11 +1,10 @@
 -- Instructions by number. A table has for each byte place 1 and the number of the instruction there, or 0.
-use Rattle.std.specs.Prelude.{◌≡◌, ℕ, zero, suc, List, [], ◌∷◌, cond, nat_eq, get_or, drop, Option, Some, None}
+use Rattle.std.specs.Prelude.{◌≡◌, ℕ, zero, suc, List, [], ◌∷◌, length, cond, nat_eq, get_or, drop, Option, Some, None}
 use Rattle.jvm_model.specs.declared.instr.Instr.TheVariants as form
 use Rattle.jvm_model.specs.declared.program.Program.{Program}
 use Rattle.jvm_model.specs.declared.program.Body.{Body}
 use Rattle.jvm_model.specs.declared.program.Placed.{Placed}
 use Rattle.jvm_model.specs.RowsCalls.{argument_count}
-use Rattle.jvm_model.specs.Linked.{IsClass}
 use Rattle.jvm_model.specs.Classes.{layout, Found, place_after, method_at}
 
 abbrev pub one_later : ℕ → ℕ
@@ -53,10 +52,14 @@ AreNumbers p tables = (m : ℕ) → ArePlaces (method_at p m).body (get_or table
 abbrev pub AreArguments : Program → List ℕ → Type 0
 AreArguments p counts = (m : ℕ) → get_or counts m 0 ≡ argument_count p m
 
-abbrev pub AreLayouts : Program → List (List ℕ) → Type 0
-AreLayouts p layouts = (c : ℕ) → IsClass p c → get_or layouts c [] ≡ layout p c
+abbrev pub AreCells : Program → List ℕ → Type 0
+AreCells p counts = (c : ℕ) → get_or counts c 0 ≡ length (layout p c)
 
-pub record AreTables (p : Program) (tables : List (List ℕ)) (counts : List ℕ) (layouts : List (List ℕ)) : Type 0 where
+-- the tables of a program, of which the last three are seen as their programs
+pub record AreTables (p : Program) (tables : List (List ℕ)) (counts sizes : List ℕ) (q r s : Program) : Type 0 where
   pub numbers : AreNumbers p tables
   pub arguments : AreArguments p counts
-  pub fields : AreLayouts p layouts
+  pub cells : AreCells p sizes
+  pub defaults : q ≡ p
+  pub trivial : r ≡ p
+  pub parts : s ≡ p

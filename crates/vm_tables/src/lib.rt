@@ -2,8 +2,12 @@
 #![tactic(auto)]
 
 mod field_places;
+mod interfaces;
 mod numbers;
+mod parts;
 mod tables;
+mod trivial;
 
 pub use field_places::FieldPlaces;
+pub use parts::Part;
 pub use tables::Tables;

@@ -1,25 +1,34 @@
 //! The tables of a program.
 
-ghost use Rattle.std.specs.Prelude.{◌≡◌, ◌<◌, IfOk, IfSome, length, get_or, []};
+ghost use Rattle.std.specs.Prelude.{◌≡◌, ◌<◌, IfOk, IfSome, length, map, get_or, []};
+ghost use Rattle.jvm_model.specs.Classes as classes;
 ghost use Rattle.jvm_model.specs.Classes.{found_of, method_at, layout};
+ghost use Rattle.jvm_model.specs.Initialise.{parts_of};
 ghost use Rattle.jvm_model.specs.RowsCalls.{argument_count};
-ghost use Rattle.jvm_model.specs.Linked.{Linked, IsClass};
-ghost use Rattle.vm_tables.specs.Numbers.{code_of, instruction_of, AreNumbers, AreArguments, AreLayouts};
+ghost use Rattle.jvm_model.specs.Linked.{Linked};
+ghost use Rattle.vm_tables.specs.Numbers.{code_of, instruction_of, AreNumbers, AreArguments, AreCells};
+ghost use Rattle.vm_tables.specs.Starts.{part_of};
 
+use crate::interfaces::DefaultInterfaces;
 use crate::numbers::numbers_of;
+use crate::parts::{Part, Parts};
+use crate::trivial::TrivialClasses;
 use et_base::{Items, NoMemory};
 use jvm_model::{Program, parameter_count};
 use std::alloc::Global;
 use std::marker::Model;
 use std::snapshot::Snapshot;
 
-/// What a step asks of a program, made once: its instructions by byte place, counts of
-/// arguments, and fields of objects. Contracts see the program.
+/// What a step asks of a program, made once: instructions by byte place, counts of arguments and of cells, and what starts
+/// with a class. Contracts see the program.
 #[derive(Drop)]
 pub struct Tables {
     numbers: Items<Items<u16>>,
     arguments: Items<usize>,
-    layouts: Items<Items<u32>>,
+    cells: Items<usize>,
+    defaults: DefaultInterfaces,
+    trivial: TrivialClasses,
+    parts: Parts,
     program: Snapshot<Program>,
 }
 
@@ -31,7 +40,7 @@ impl Model for Tables {
 
     ghost view = { λ t. t.program.value };
 
-    ghost invariant = { λ t. AreTables t.program.value t.numbers t.arguments t.layouts };
+    ghost invariant = { λ t. AreTables t.program.value t.numbers t.arguments t.cells t.defaults t.trivial t.parts };
 }
 
 impl Tables {
@@ -40,10 +49,16 @@ impl Tables {
         requires { Linked p.now }
         ensures { IfOk result (λ tables. tables ≡ p.now) }
     {
+        let defaults = DefaultInterfaces::of(alloc, p)?;
+        let trivial = TrivialClasses::of(alloc, p, &defaults)?;
+        let parts = Parts::of(alloc, p, &defaults, &trivial)?;
         Ok(Tables {
             numbers: all_numbers(alloc, p)?,
             arguments: all_arguments(alloc, p)?,
-            layouts: all_layouts(alloc, p)?,
+            cells: all_cells(alloc, p)?,
+            defaults,
+            trivial,
+            parts,
             program: Snapshot::of(p),
         })
     }
@@ -59,16 +74,37 @@ impl Tables {
         }
     }
 
-    /// The instance fields of a class's objects, those of superclasses first.
-    #[tactic(auto, using(crate::proofs::Places::layout_found, crate::proofs::Places::get_some, crate::proofs::Places::get_none))]
-    pub fn layout(&self, class: u32) -> &[u32]
-        requires { IsClass self.now class }
-        ensures { result.now ≡ layout self.now class }
+    /// How many cells an instance of a class has: one for each instance field, those of superclasses too.
+    #[tactic(auto, using(crate::proofs::Places::cells_found, crate::proofs::Places::get_some, crate::proofs::Places::get_none))]
+    pub fn cells(&self, class: u32) -> usize
+        ensures { result ≡ length (layout self.now class) }
     {
-        match self.layouts.get(class as usize) {
-            None => &[],
-            Some(fields) => fields.as_slice(),
+        match self.cells.get(class as usize) {
+            None => 0,
+            Some(count) => *count,
         }
+    }
+
+    /// Whether a class or interface has no initialisation state, so that its use starts nothing.
+    pub fn is_trivial(&self, class: u32) -> bool
+        ensures { result ≡ classes.is_trivial self.now class }
+    {
+        self.trivial.contains(class)
+    }
+
+    /// The default interfaces that a class starts itself, in order (JVMS 5.5).
+    pub fn default_interfaces(&self, class: u32) -> &[u32]
+        ensures { result.now ≡ classes.default_interfaces self.now class }
+    {
+        self.defaults.get(class)
+    }
+
+    /// What is initialised before a class, in order: its superclass and then its default interfaces, trivial ones left
+    /// aside; nothing for an interface (JVMS 5.5).
+    pub fn parts(&self, class: u32) -> &[Part]
+        ensures { map part_of result.now ≡ parts_of self.now class }
+    {
+        self.parts.get(class)
     }
 
     /// The number of the instruction at a byte place of a method's code, from 0. With `instruction_of` of the program's
@@ -127,14 +163,15 @@ fn all_arguments(alloc: Global, p: &Program) -> Result<Items<usize>, NoMemory>
     Ok(arguments)
 }
 
-/// Each class's instance fields.
-fn all_layouts(alloc: Global, p: &Program) -> Result<Items<Items<u32>>, NoMemory>
+/// Each class's number of cells.
+fn all_cells(alloc: Global, p: &Program) -> Result<Items<usize>, NoMemory>
     requires { Linked p.now }
-    ensures { IfOk result (λ layouts. AreLayouts p.now layouts) }
+    ensures { IfOk result (λ cells. AreCells p.now cells) }
 {
-    let mut layouts = Items::new(alloc);
+    let mut cells = Items::new(alloc);
     for class in 0..p.classes.len() as u32 {
-        layouts.push(p.layout(alloc, class)?)?;
+        let fields = p.layout(alloc, class)?;
+        cells.push(fields.len())?;
     }
-    Ok(layouts)
+    Ok(cells)
 }

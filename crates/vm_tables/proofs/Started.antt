@@ -1,0 +1,72 @@
+-- Default interfaces, trivial classes and parts of all class numbers.
+use Rattle.std.proofs.Common.{◌≡◌, ℕ, ◌+◌, ◌<◌, ◌≤◌, List, [], ◌∷◌, ◌++◌, append_assoc, length, get_or, take, filter, map, Bool, true, false, refl, sym, ◌∙◌, ap, subst, inl, inr, arith}
+use Rattle.std.proofs.lemmas.Bool.{cases_lt}
+use Rattle.std.proofs.lemmas.List.{get_or_past, map-append, take_more}
+use Rattle.std.proofs.lemmas.List.Elements.{filter-append}
+use Rattle.jvm_model.specs.declared.program.Program.{Program}
+use Rattle.jvm_model.specs.Classes.{class_at, no_class, class_bound, own_interfaces, default_interfaces, is_interface, is_trivial}
+use Rattle.jvm_model.specs.Initialise.{Part as Before, parts_of, superclass_part}
+use Rattle.vm_tables.specs.declared.parts.Part.{Part}
+use Rattle.vm_tables.specs.Interfaces.{AreDefaults}
+use Rattle.vm_tables.specs.Starts.{AreTrivial, AreParts, part_of, interface_part, is_started}
+
+-- ---- a number past the classes
+
+module _ (p : Program) (c : ℕ) (h : length p.classes ≤ c) where
+  past : class_at p c ≡ no_class
+  past = get_or_past p.classes c no_class h
+
+  default_past : default_interfaces p c ≡ []
+  unfolding default_interfaces own_interfaces
+  default_past = rw past (refl {a = []})
+
+  trivial_past : is_trivial p c ≡ true
+  unfolding is_trivial class_bound
+  trivial_past = rw (past, default_past) (refl {a = true})
+
+  parts_past : parts_of p c ≡ []
+  unfolding parts_of
+  parts_past = rw (past, default_past) (refl {a = []})
+
+-- ---- whole tables
+
+table_all : {A B : Type 0} (view : A → B) (f : ℕ → B) (d : A) (xs : List A) (m n : ℕ) → length xs ≡ n → m ≤ n → ((c : ℕ) → c < n → view (get_or xs c d) ≡ f c) → ((c : ℕ) → m ≤ c → f c ≡ view d) → (c : ℕ) → view (get_or xs c d) ≡ f c
+table_all view f d xs m n l k g h c = elim (cases_lt c n) [
+  | inl i ↦ g c i
+  | inr i ↦ ap view (get_or_past xs c d (omega arith)) ∙ sym (h c (omega arith))
+]
+
+module _ (p q : Program) (n : ℕ) (e : q ≡ p) (k : length p.classes ≤ n) where
+  pub default_all : (xs : List (List ℕ)) → length xs ≡ n → ((c : ℕ) → c < n → get_or xs c [] ≡ default_interfaces p c) → AreDefaults q xs
+  default_all xs l g = let all : AreDefaults p xs = table_all (λ x. x) (default_interfaces p) [] xs (length p.classes) n l k g (λ c h. default_past p c h) in subst (λ w. AreDefaults w xs) (sym e) all
+
+  pub trivial_all : (xs : List Bool) → length xs ≡ n → ((c : ℕ) → c < n → get_or xs c true ≡ is_trivial p c) → AreTrivial q xs
+  trivial_all xs l g = let all : AreTrivial p xs = table_all (λ x. x) (is_trivial p) true xs (length p.classes) n l k g (λ c h. trivial_past p c h) in subst (λ w. AreTrivial w xs) (sym e) all
+
+  pub parts_all : (xs : List (List Part)) → length xs ≡ n → ((c : ℕ) → c < n → map part_of (get_or xs c []) ≡ parts_of p c) → AreParts q xs
+  parts_all xs l g = let all : AreParts p xs = table_all (map part_of) (parts_of p) [] xs (length p.classes) n l k g (λ c h. parts_past p c h) in subst (λ w. AreParts w xs) (sym e) all
+
+-- ---- parts
+
+-- one default interface more
+pub part_more : (p : Program) (xs : List ℕ) (i : ℕ) (start old new : List Before) → i < length xs → old ≡ start ++ filter (λ x. is_started p x) (map interface_part (take i xs))
+    → new ≡ old ++ filter (λ x. is_started p x) (interface_part (get_or xs i 0) ∷ []) → new ≡ start ++ filter (λ x. is_started p x) (map interface_part (take (i + 1) xs))
+part_more p xs i start old new h e g =
+    let test : Before → Bool = λ x. is_started p x in
+    let here : List Before = filter test (interface_part (get_or xs i 0) ∷ []) in
+    let before : List Before = filter test (map interface_part (take i xs)) in
+    let more : filter test (map interface_part (take (i + 1) xs)) ≡ before ++ here =
+    ap (λ (ys : List ℕ). filter test (map interface_part ys)) (take_more xs i 0 h)
+    ∙ (ap (λ (ys : List Before). filter test ys) (map-append interface_part (take i xs) (get_or xs i 0 ∷ [])) ∙ filter-append test (map interface_part (take i xs)) (interface_part (get_or xs i 0) ∷ [])) in
+    g ∙ (ap (λ (ys : List Before). ys ++ here) e ∙ (append_assoc start before here ∙ ap (λ (ys : List Before). start ++ ys) (sym more)))
+
+-- the parts of a class that is no interface
+pub all_parts : (p : Program) (c : ℕ) (none one all : List Before) → is_interface (class_at p c).flags ≡ false → none ≡ [] → one ≡ none ++ filter (λ x. is_started p x) (superclass_part (class_at p c).superclass)
+    → all ≡ one ++ filter (λ x. is_started p x) (map interface_part (default_interfaces p c)) → all ≡ parts_of p c
+unfolding parts_of
+all_parts p c none one all b n e g =
+    let test : Before → Bool = λ x. is_started p x in
+    let first : List Before = superclass_part (class_at p c).superclass in
+    let rest : List Before = map interface_part (default_interfaces p c) in
+    let joined : all ≡ filter test first ++ filter test rest = g ∙ ap (λ (ys : List Before). ys ++ filter test rest) (e ∙ ap (λ (ys : List Before). ys ++ filter test first) n) in
+    rw b (joined ∙ sym (filter-append test first rest))
