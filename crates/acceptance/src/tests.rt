@@ -20,7 +20,10 @@ fn a_suite_is_answered_in_pieces_of_any_size(rt: HostRuntime) -> Result<(), Fail
     let alloc = rt.alloc();
     for most in [1, 3, 1000] {
         let mut depot = depot(alloc, &COUNTER_FILES, &[])?;
-        assert!(rt; answers(alloc, &RUN, &mut depot, most, 0, COUNTER_REPORT)?, "{most}");
+        assert!(rt;
+            answers(alloc, &RUN, &mut depot, most, 0, COUNTER_REPORT)?,
+            "{most}"
+        );
     }
     Ok(())
 }

@@ -11,9 +11,12 @@ use Rattle.suite_load.specs.Loading.{read_in, lines_of, checked_of, ReadGives, L
 gives_once : (read : Result (SuiteText × List ClassParts) LoadFault) → (answer : Result Loaded LoadFault) × ReadGives read answer × ((other : Result Loaded LoadFault) → ReadGives read other → other ≡ answer)
 gives_once (Err f) = (Err f, refl, λ other h. h)
 gives_once (Ok x) =
-    let linked = links_once x.1 (lines_of x.0) in
-    (checked_of x.0 linked.0, (linked.1, linked.0, linked.2, refl), λ other h.
-    h.3 ∙ ap (checked_of x.0) (links_by_once x.1 (lines_of x.0) h.0 linked.1 h.1 linked.0 h.2 linked.2))
+    let linked = links_once x.1 (lines_of x.0) in (
+      checked_of x.0 linked.0,
+      (linked.1, linked.0, linked.2, refl),
+      λ other h.
+          h.3 ∙ ap (checked_of x.0) (links_by_once x.1 (lines_of x.0) h.0 linked.1 h.1 linked.0 h.2 linked.2),
+    )
 
 pub loads_once : LoadsOnce
 loads_once files name = gives_once (read_in files name)
