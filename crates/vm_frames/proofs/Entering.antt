@@ -1,5 +1,5 @@
 -- Entries that are pushed and popped.
-use Rattle.std.proofs.Common.{◌≡◌, ℕ, zero, suc, ◌<◌, ◌≤◌, ◌-◌, ◌+◌, List, [], ◌∷◌, ◌++◌, length, get_or, take, drop, map, reverse, refl, sym, ap, ◌∙◌, arith, length-append, false, subst}
+use Rattle.std.proofs.Common.{◌≡◌, ℕ, zero, suc, ◌<◌, ◌≤◌, ◌-◌, ◌+◌, ◌^◌, List, [], ◌∷◌, ◌++◌, length, get_or, take, drop, map, reverse, refl, sym, ap, ◌∙◌, arith, length-append, false, subst}
 use Rattle.std.proofs.lemmas.List.{reverse-append, take-take, take_at, drop_at, drop_more, take_more, drop-append-le, append-nil, length-take-le, nil_from_length, length-map, length-reverse, drop-take, drop_all}
 use Rattle.std.proofs.lemmas.Bool.Decides.{nat_tests}
 use Rattle.jvm_model.specs.declared.values.Value.{Value}
@@ -43,14 +43,16 @@ standing-popped n e c saved rest q w =
       here = record { locals = below.0.locals; operands = below.0.operands; limited = below.0.limited; room = below.0.room; under = omega (arith, below.0, w.here) };
       below = below.1;
       depth = omega (arith, w.depth, ap length q, length-append rest (e ∷ []));
+      few = w.few;
     }
 
-pub standing-emptied : (n : ℕ) (rest : List Extent) → length rest ≡ 0 → IsStanding n no_extent rest
-standing-emptied n rest h =
+pub standing-emptied : (n : ℕ) (c : Extent) (saved rest : List Extent) → IsStanding n c saved → length rest ≡ 0 → IsStanding n no_extent rest
+standing-emptied n c saved rest w h =
     rw (nil_from_length rest h) (record {
       here = record { locals = omega arith; operands = omega arith; limited = omega arith; room = omega arith; under = omega arith };
       below = tt;
       depth = omega arith;
+      few = w.few;
     })
 
 pub ruleset popping = (entries-popped, entries-emptied, standing-popped, standing-emptied)
@@ -75,11 +77,12 @@ pub frame_below : (xs ys : List Value) (base max_locals : ℕ) (args : List Valu
 frame_below xs ys base max_locals args first within h =
     sym (take_at (take base xs) (filled max_locals (slots_of args)) base (length-take-le base xs within)) ∙ (ap (λ (zs : List Value). take base zs) (sym h.locals) ∙ take-take base first ys h.start)
 
-pub standing-grown : (n n' : ℕ) (e : Extent) (saved : List Extent) → n ≤ n' → IsStanding n e saved → IsStanding n' e saved
-standing-grown n n' e saved h w = record {
+pub standing-grown : (n n' : ℕ) (e : Extent) (saved : List Extent) → n ≤ n' → n' < 2 ^ 63 → IsStanding n e saved → IsStanding n' e saved
+standing-grown n n' e saved h few w = record {
   here = record { locals = w.here.locals; operands = w.here.operands; limited = w.here.limited; room = omega (arith, w.here); under = omega (arith, w.here) };
   below = stacked-grow n n' e.base e.base (reverse saved) h (omega arith) w.below;
   depth = w.depth;
+  few = few;
 }
 
 stacked-saved : (n b : ℕ) (k : EntryKind) (e : Extent) (saved : List Extent) → IsWithin n b e → AreStacked n e.base (reverse saved) → AreStacked n b (reverse (saved ++ saved_by k e))
@@ -100,14 +103,15 @@ room_to_save xs e f saved h =
     omega (arith, few, stand, length-append saved (saved_by e.kind e), length-append saved (saved_by e.kind f), length-saved_by e.kind e f)
 
 -- an extent stands above one whose operands were cut to t
-pub standing-opened : (xs : List Value) (n t : ℕ) (e f : Extent) (saved : List Extent) → IsStanding (length xs) e saved → is_full (entries_at xs e saved) ≡ false → length xs ≤ n → e.first ≤ t → t ≤ e.top → t ≤ f.base → IsWithin n n f
+pub standing-opened : (xs : List Value) (n t : ℕ) (e f : Extent) (saved : List Extent) → IsStanding (length xs) e saved → is_full (entries_at xs e saved) ≡ false → length xs ≤ n → n < 2 ^ 63 → e.first ≤ t → t ≤ e.top → t ≤ f.base → IsWithin n n f
     → IsStanding n f (saved ++ saved_by e.kind (record e { top = t }))
-standing-opened xs n t e f saved w full grown low high over there =
+standing-opened xs n t e f saved w full grown few low high over there =
     let here : IsWithin n f.base (record e { top = t }) = record { locals = w.here.locals; operands = low; limited = omega (arith, w.here); room = omega (arith, w.here); under = over } in
     record {
       here = there;
       below = stacked-saved n f.base e.kind (record e { top = t }) saved here (stacked-grow (length xs) n e.base e.base (reverse saved) grown (omega arith) w.below);
       depth = room_to_save xs e (record e { top = t }) saved full;
+      few = few;
     }
 
 pub entries-opened : (xs ys : List Value) (t : ℕ) (e f : Extent) (saved : List Extent) → IsStanding (length xs) e saved → e.first ≤ t → t ≤ e.top → take e.top xs ≡ take e.top ys
@@ -187,17 +191,17 @@ pub standing-entered : (xs ys : List Value) (e f : Extent) (saved saved' : List 
     → f ≡ frame_at m e.top first → saved' ≡ saved ++ saved_by e.kind (record e { top = e.top - n }) → IsStanding (length ys) f saved'
 standing-entered xs ys e f saved saved' n m max_locals args first w full few h q r =
     let there : n ≤ e.top - e.first = omega (arith, length_downwards xs e.top (e.top - e.first) (omega arith)) in
-    rw (q, r) (standing-opened xs (length ys) (e.top - n) e (frame_at m e.top first) saved w full h.slots (omega (arith, w.here)) (omega arith) (omega arith) (within-frame xs ys m e.top max_locals args first h))
+    rw (q, r) (standing-opened xs (length ys) (e.top - n) e (frame_at m e.top first) saved w full h.slots h.few (omega (arith, w.here)) (omega arith) (omega arith) (within-frame xs ys m e.top max_locals args first h))
 
 pub standing-pushed : (xs ys : List Value) (e f : Extent) (saved saved' : List Extent) (m max_locals : ℕ) (args : List Value) (first : ℕ) → IsStanding (length xs) e saved → is_full (entries_at xs e saved) ≡ false → HasFrame xs ys e.top max_locals args first
     → f ≡ frame_at m e.top first → saved' ≡ saved ++ saved_by e.kind e → IsStanding (length ys) f saved'
 standing-pushed xs ys e f saved saved' m max_locals args first w full h q r =
-    rw (q, r) (standing-opened xs (length ys) e.top e (frame_at m e.top first) saved w full h.slots w.here.operands (omega arith) (omega arith) (within-frame xs ys m e.top max_locals args first h))
+    rw (q, r) (standing-opened xs (length ys) e.top e (frame_at m e.top first) saved w full h.slots h.few w.here.operands (omega arith) (omega arith) (within-frame xs ys m e.top max_locals args first h))
 
 pub standing-init : (xs : List Value) (e f : Extent) (saved saved' : List Extent) (c : ℕ) → IsStanding (length xs) e saved → is_full (entries_at xs e saved) ≡ false
     → f ≡ init_at c e.top → saved' ≡ saved ++ saved_by e.kind e → IsStanding (length xs) f saved'
 standing-init xs e f saved saved' c w full q r =
-    rw (q, r) (standing-opened xs (length xs) e.top e (init_at c e.top) saved w full (omega arith) w.here.operands (omega arith) (omega arith)
+    rw (q, r) (standing-opened xs (length xs) e.top e (init_at c e.top) saved w full (omega arith) w.few w.here.operands (omega arith) (omega arith)
     (record { locals = omega arith; operands = omega arith; limited = omega arith; room = omega (arith, w.here); under = omega (arith, w.here) }))
 
 -- operands that the entries have, in the slots

@@ -1,5 +1,5 @@
+pub mod Kept
 pub mod Lower
 pub mod Tops
 pub mod Frames
 pub mod Entering
-pub mod Typed

@@ -1,6 +1,6 @@
 -- What the calls on the top entry leave.
 use Rattle.std.proofs.Common.{◌≡◌, ◌≢◌, ℕ, zero, suc, ◌<◌, ◌≤◌, ◌-◌, ◌+◌, List, [], ◌∷◌, length, get_or, set, take, map, reverse, slice_get, Some, refl, sym, ap, ◌∙◌, arith, subst, get_or-set_other, get_or-set_same, length-set}
-use Rattle.std.proofs.lemmas.List.{take-set-le, get_or_read}
+use Rattle.std.proofs.lemmas.List.{take-set-le}
 use Rattle.jvm_model.specs.declared.values.Value.{Value}
 use Rattle.jvm_model.specs.declared.values.Value.TheVariants.{Null}
 use Rattle.jvm_model.specs.declared.state.EntryKind.{EntryKind}
@@ -83,14 +83,13 @@ entries-push xs e saved n v w h =
     rw (more, locals, below) refl
 
 -- a pop
-pub entries-pop : (xs : List Value) (e : Extent) (saved : List Extent) (n : ℕ) (v : Value) → IsStanding n e saved → n ≡ length xs → 0 < length (downwards xs e.top (e.top - e.first)) → v ≡ get_or xs (e.top - 1) v
+pub entries-pop : (xs : List Value) (e : Extent) (saved : List Extent) (n : ℕ) (v : Value) → IsStanding n e saved → n ≡ length xs → 0 < length (downwards xs e.top (e.top - e.first)) → v ≡ get_or xs (e.top - 1) Null
     → entries_at xs e saved ≡ with_stack (entries_at xs (record e { top = e.top - 1 }) saved) (v ∷ downwards xs (e.top - 1) (e.top - 1 - e.first))
 entries-pop xs e saved n v w q h r =
     let some : e.first < e.top = omega (arith, length_downwards xs e.top (e.top - e.first) (omega arith)) in
     let next : suc (e.top - 1) ≡ e.top = omega arith in
-    let read : v ≡ get_or xs (e.top - 1) Null = get_or_read xs (e.top - 1) v (omega (arith, w.here)) r Null in
     let step : downwards xs (suc (e.top - 1)) (suc (e.top - 1) - e.first) ≡ get_or xs (e.top - 1) Null ∷ downwards xs (e.top - 1) (e.top - 1 - e.first) = downwards_more xs e.first (e.top - 1) (omega arith) in
-    let more : downwards xs e.top (e.top - e.first) ≡ v ∷ downwards xs (e.top - 1) (e.top - 1 - e.first) = (rw next at step) ∙ ap (λ (x : Value). x ∷ downwards xs (e.top - 1) (e.top - 1 - e.first)) (sym read) in
+    let more : downwards xs e.top (e.top - e.first) ≡ v ∷ downwards xs (e.top - 1) (e.top - 1 - e.first) = (rw next at step) ∙ ap (λ (x : Value). x ∷ downwards xs (e.top - 1) (e.top - 1 - e.first)) (sym r) in
     rw more refl
 
 -- a write of a local
@@ -108,6 +107,7 @@ standing-move n t e saved w low high = record {
   here = record { locals = w.here.locals; operands = low; limited = high; room = w.here.room; under = omega (arith, w.here) };
   below = w.below;
   depth = w.depth;
+  few = w.few;
 }
 
 -- a write keeps how many slots there are
@@ -124,7 +124,30 @@ room_above xs e saved s w q h =
     let room : HasRoom 1 (entries_at xs e saved) = subst (λ (t : Entries). HasRoom 1 t) (sym q) h in
     omega (arith, room, length_downwards xs e.top (e.top - e.first) (omega arith), w.here)
 
-pub ruleset tops = (length_upwards, upwards_get, length_downwards, downwards_get, downwards_none, entries-push, entries-pop, entries-set, standing-move, standing-set, standing-push)
+-- one more operand stands
+pub standing-raised : (xs : List Value) (i : ℕ) (v : Value) (e : Extent) (saved : List Extent) (s : Entries) → IsStanding (length xs) e saved → entries_at xs e saved ≡ s → HasRoom 1 s
+    → IsStanding (length (set xs i v)) (record e { top = e.top + 1 }) saved
+standing-raised xs i v e saved s w q h =
+    standing-push xs i (e.top + 1) v e saved w (omega (arith, w.here)) (room_above xs e saved s w q h)
+
+-- what stands at the place of a local or an operand
+pub local_is : (xs : List Value) (b n i : ℕ) → i < n → get_or (upwards xs b n) i Null ≡ get_or xs (b + i) Null
+local_is xs b zero i h = absurd (omega arith)
+local_is xs b (suc n) zero h = let here : b + 0 ≡ b = omega arith in rw here refl
+local_is xs b (suc n) (suc i) h = let there : b + suc i ≡ suc b + i = omega arith in rw (there, local_is xs (suc b) n i (omega arith)) refl
+
+pub operand_is : (xs : List Value) (t n k : ℕ) → n ≤ t → k < n → get_or (downwards xs t n) k Null ≡ get_or xs (t - 1 - k) Null
+operand_is xs t zero k g h = absurd (omega arith)
+operand_is xs zero (suc n) k g h = absurd (omega arith)
+operand_is xs (suc t) (suc n) zero g h = let here : suc t - 1 - 0 ≡ t = omega arith in rw here refl
+operand_is xs (suc t) (suc n) (suc k) g h =
+    let there : suc t - 1 - suc k ≡ t - 1 - k = omega arith in
+    rw (there, operand_is xs t n k (omega arith) (omega arith)) refl
+
+pub top_is : (xs : List Value) (t n : ℕ) → n ≤ t → 0 < n → get_or (downwards xs t n) 0 Null ≡ get_or xs (t - 1) Null
+top_is xs t n g h = let here : t - 1 - 0 ≡ t - 1 = omega arith in operand_is xs t n 0 g h ∙ rw here refl
+
+pub ruleset tops = (length_upwards, upwards_get, length_downwards, downwards_get, downwards_none, entries-push, entries-pop, entries-set, standing-move, standing-set, standing-push, local_is, operand_is, top_is)
 
 pub limit_most : (k : EntryKind) → operand_limit k ≤ 65535
 limit_most Absent = omega arith

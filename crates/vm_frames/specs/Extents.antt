@@ -1,5 +1,5 @@
 -- How entries stand in one list of slots.
-use Rattle.std.specs.Prelude.{ℕ, zero, suc, List, [], ◌∷◌, ◌+◌, ◌-◌, ◌≤◌, ◌<◌, ◌≡◌, ◌++◌, length, take, map, reverse, get_or}
+use Rattle.std.specs.Prelude.{ℕ, zero, suc, List, [], ◌∷◌, ◌+◌, ◌-◌, ◌^◌, ◌≤◌, ◌<◌, ◌≡◌, ◌++◌, length, take, map, reverse, get_or}
 use Rattle.jvm_model.specs.declared.values.Value.{Value}
 use Rattle.jvm_model.specs.declared.values.Value.TheVariants.{Null}
 use Rattle.jvm_model.specs.declared.state.EntryKind.{EntryKind}
@@ -46,11 +46,13 @@ abbrev pub AreStacked : ℕ → ℕ → List Extent → Type 0
 AreStacked n b [] = Unit {0}
 AreStacked n b (e ∷ es) = IsWithin n b e × AreStacked n e.base es
 
--- among n slots the top extent stands above the saved ones, of which there are fewer than entries may stand
+-- among n slots, which memory can hold, the top extent stands above the saved ones, of which there are fewer than entries
+-- may stand
 pub record IsStanding (n : ℕ) (e : Extent) (saved : List Extent) : Type 0 where
   pub here : IsWithin n n e
   pub below : AreStacked n e.base (reverse saved)
   pub depth : length saved < entry_limit
+  pub few : n < 2 ^ 63
 
 -- the extent stands among those that are saved, unless it is no entry
 abbrev pub saved_by : EntryKind → Extent → List Extent
@@ -65,3 +67,4 @@ pub record HasFrame (old new : List Value) (base max_locals : ℕ) (args : List 
   pub start : base ≤ first
   pub room : first + operand_limit InMethod ≤ length new
   pub slots : length old ≤ length new
+  pub few : length new < 2 ^ 63

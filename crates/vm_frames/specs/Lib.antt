@@ -1,3 +1,4 @@
+pub mod Slots
 pub mod Extents
 pub mod Stack
 pub mod TopEntries

@@ -1,10 +1,11 @@
 -- What contracts say of a stack of entries beside the definitions of the machine.
 use Rattle.std.specs.Prelude.{ℕ, List, [], ◌∷◌, ◌+◌, ◌≤◌, length, take, drop, reverse, get_or}
 use Rattle.jvm_model.specs.declared.values.Value.{Value}
-use Rattle.jvm_model.specs.declared.values.Value.TheVariants.{Int, Long, Null, Lit, Obj}
+use Rattle.jvm_model.specs.declared.values.Value.TheVariants.{Null}
 use Rattle.jvm_model.specs.declared.state.EntryKind.{EntryKind}
 use Rattle.jvm_model.specs.declared.state.EntryKind.TheVariants.{Absent, InMethod, InClass}
 use Rattle.jvm_model.specs.RowsMoves.{with_local}
+use Rattle.vm_frames.specs.Slots.{IsInt, IsLong}
 use Rattle.jvm_model.specs.Entries.{Entry, Entries, with_entry, with_stack, filled, slots_of}
 
 -- How many operands an entry may have: the greatest max_stack that a class file can say (JVMS 4.7.3), and none but in a
@@ -29,11 +30,12 @@ called_with max_locals m n s = with_entry (frame_with max_locals m (reverse (tak
 -- the top operand is an int
 abbrev pub HasIntOnTop : List Value → Type 0
 HasIntOnTop [] = ⊥
-HasIntOnTop (Int n ∷ vs) = Unit {0}
-HasIntOnTop (Long n ∷ vs) = ⊥
-HasIntOnTop (Null ∷ vs) = ⊥
-HasIntOnTop (Lit n ∷ vs) = ⊥
-HasIntOnTop (Obj o ∷ vs) = ⊥
+HasIntOnTop (v ∷ vs) = IsInt v
+
+-- the top operand is a long
+abbrev pub HasLongOnTop : List Value → Type 0
+HasLongOnTop [] = ⊥
+HasLongOnTop (v ∷ vs) = IsLong v
 
 -- the top operand goes into a local
 abbrev pub stored_local : Entries → ℕ → Entries

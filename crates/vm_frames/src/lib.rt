@@ -4,6 +4,7 @@
 
 mod extent;
 mod fault;
+mod locals;
 mod slots;
 mod stack;
 

@@ -1,145 +1,187 @@
-//! Writes of a frame's locals into the slots.
+//! Values by place, each kept as its tag and its bits.
 
-ghost use Rattle.std.specs.Prelude.{◌≡◌, ◌<◌, ◌≤◌, ◌+◌, ◌-◌, ◌*◌, ◌++◌, ◌∷◌, [], List, length, take, drop, replicate, IfOk, OnErr, vec_len};
-ghost use Rattle.std.specs.Option.{option_to_list};
-ghost use Rattle.jvm_model.specs.declared.values.Value.TheVariants.{Null};
-ghost use Rattle.jvm_model.specs.Entries.{slots_of, filled};
-ghost use Rattle.vm_frames.specs.Extents.{HasFrame};
+ghost use Rattle.std.specs.Prelude.{◌≡◌, ◌<◌, ◌-◌, ◌^◌, ◌++◌, [], length, set, get_or, replicate, IfOk, OnErr};
+ghost use Rattle.jvm_model.specs.declared.values.Value.TheVariants.{Int, Long, Null};
+ghost use Rattle.jvm_model.specs.RowsMoves.{is_long};
+ghost use Rattle.vm_frames.specs.declared.slots.Tag.TheVariants.{OfNull};
+ghost use Rattle.vm_frames.specs.Slots.{IsInt, IsLong, Fit, value_of};
 
 use et_base::NoMemory;
 use jvm_model::Value;
+use std::alloc::Global;
+use std::marker::Model;
 
-/// How many operands a frame may have: the greatest `max_stack` that a class file can say (JVMS 4.7.3).
-const OPERAND_LIMIT: usize = 65_535;
+/// Which of the values the bits of a place are.
+#[derive(Clone, Copy, Debug)]
+pub enum Tag {
+    OfInt,
+    OfLong,
+    OfNull,
+    OfLit,
+    OfObj,
+}
 
-/// Makes at least so many slots. After a refusal there are as many as before.
-fn grow(slots: &mut Vec<Value>, wanted: usize) -> Result<(), NoMemory>
-    ensures grown { IfOk result (λ _. slots.new.items ≡ slots.old.items ++ replicate (wanted - vec_len slots.old) Null) }
-    ensures kept { OnErr result (slots.new.items ≡ slots.old.items) }
+/// Values by place. Contracts see the list of them.
+///
+/// A place takes nine bytes where a `Value` takes sixteen, and a typed read or write makes and matches none. After a
+/// refusal there may be more bits than tags; the list ends with the tags.
+#[derive(Debug, Drop)]
+pub struct Slots {
+    tags: Vec<Tag>,
+    bits: Vec<u64>,
+}
+
+impl Model for Slots {
+    ghost use Rattle.std.specs.Prelude.{◌≤◌, length};
+    ghost use Rattle.vm_frames.specs.Slots.{Values, values, AreFit};
+
+    ghost Value = { Values };
+
+    ghost view = { λ s. values s.tags.items s.bits.items };
+
+    ghost invariant = { λ s. (length s.tags.items ≤ length s.bits.items)
+        × AreFit s.tags.items s.bits.items };
+}
+
+#[tactic(auto, using(crate::proofs::Kept::kept))]
+impl Slots {
+    /// No place. It takes no memory.
+    pub fn new(alloc: Global) -> Slots
+        ensures { result ≡ [] }
+    {
+        Slots {
+            tags: Vec::new(alloc),
+            bits: Vec::new(alloc),
+        }
+    }
+
+    /// Makes at least so many places, the new ones with null. After a refusal there are as many as before. There are never
+    /// as many as 2^63.
+    pub fn grow(&mut self, wanted: usize) -> Result<(), NoMemory>
+        ensures grown { IfOk result (λ _.
+            self.new ≡ self.old ++ replicate (wanted - length self.old) Null) }
+        ensures kept { OnErr result (self.new ≡ self.old) }
+        ensures few { length self.new < 2 ^ 63 }
+    {
+        grow_bits(&mut self.bits, wanted)?;
+        grow_tags(&mut self.tags, wanted)?;
+        Ok(())
+    }
+
+    /// The value of a place.
+    pub fn get(&self, i: usize) -> Value
+        requires { i < length self.now }
+        ensures { result ≡ get_or self.now i Null }
+    {
+        let bits = self.bits[i];
+        match self.tags[i] {
+            Tag::OfInt => Value::Int((bits as u32).cast_signed()),
+            Tag::OfLong => Value::Long(bits.cast_signed()),
+            Tag::OfNull => Value::Null,
+            Tag::OfLit => Value::Lit(bits as u32),
+            Tag::OfObj => Value::Obj(bits),
+        }
+    }
+
+    /// Writes a value at a place.
+    pub fn set(&mut self, i: usize, v: Value)
+        requires { i < length self.old }
+        ensures { self.new ≡ set self.old i v }
+    {
+        match v {
+            Value::Int(n) => self.set_int(i, n),
+            Value::Long(n) => self.set_long(i, n),
+            Value::Null => self.put(i, Tag::OfNull, 0),
+            Value::Lit(n) => self.put(i, Tag::OfLit, u64::from(n)),
+            Value::Obj(o) => self.put(i, Tag::OfObj, o),
+        }
+    }
+
+    /// Whether the value of a place is a long.
+    pub fn is_long(&self, i: usize) -> bool
+        requires { i < length self.now }
+        ensures { result ≡ is_long (get_or self.now i Null) }
+    {
+        matches!(self.tags[i], Tag::OfLong)
+    }
+
+    /// The int of a place.
+    pub fn int_at(&self, i: usize) -> i32
+        requires place { i < length self.now }
+        requires int { IsInt (get_or self.now i Null) }
+        ensures { get_or self.now i Null ≡ Int result }
+    {
+        (self.bits[i] as u32).cast_signed()
+    }
+
+    /// Writes an int at a place.
+    pub fn set_int(&mut self, i: usize, n: i32)
+        requires { i < length self.old }
+        ensures { self.new ≡ set self.old i (Int n) }
+    {
+        self.put(i, Tag::OfInt, u64::from(n.cast_unsigned()));
+    }
+
+    /// The long of a place.
+    pub fn long_at(&self, i: usize) -> i64
+        requires place { i < length self.now }
+        requires long { IsLong (get_or self.now i Null) }
+        ensures { get_or self.now i Null ≡ Long result }
+    {
+        self.bits[i].cast_signed()
+    }
+
+    /// Writes a long at a place.
+    pub fn set_long(&mut self, i: usize, n: i64)
+        requires { i < length self.old }
+        ensures { self.new ≡ set self.old i (Long n) }
+    {
+        self.put(i, Tag::OfLong, n.cast_unsigned());
+    }
+
+    /// Writes the value of a place at another.
+    pub fn copy(&mut self, from: usize, to: usize)
+        requires from { from < length self.old }
+        requires to { to < length self.old }
+        ensures { self.new ≡ set self.old to (get_or self.old from Null) }
+    {
+        let bits = self.bits[from];
+        let tag = self.tags[from];
+        self.put(to, tag, bits);
+    }
+
+    /// Writes a tag and bits that fit it at a place.
+    fn put(&mut self, i: usize, tag: Tag, bits: u64)
+        requires place { i < length self.old }
+        requires fit { Fit tag bits }
+        ensures { self.new ≡ set self.old i (value_of tag bits) }
+    {
+        self.tags[i] = tag;
+        self.bits[i] = bits;
+    }
+}
+
+/// Makes at least so many bits. After a refusal there are as many as before.
+fn grow_bits(bits: &mut Vec<u64>, wanted: usize) -> Result<(), NoMemory>
+    ensures grown { IfOk result (λ _.
+        bits.new.items ≡ bits.old.items ++ replicate (wanted - length bits.old.items) 0) }
+    ensures kept { OnErr result (bits.new.items ≡ bits.old.items) }
+    ensures few { length bits.new.items < 2 ^ 63 }
 {
-    if slots.len() < wanted {
-        slots.resize(wanted, Value::Null)?;
+    if bits.len() < wanted {
+        bits.resize(wanted, 0)?;
     }
     Ok(())
 }
 
-/// Writes an argument as a local at the place `to`: a long takes two slots (JVMS 2.6.1). Answers the place after it.
-#[tactic(auto, using(crate::proofs::Frames::put_one, crate::proofs::Frames::put_two_slots))]
-fn put_argument(slots: &mut [Value], to: usize, v: Value) -> usize
-    requires { to + 1 < length slots.old }
-    ensures written { take result slots.new ≡ take to slots.old ++ slots_of (v ∷ []) }
-    ensures end { result ≡ to + length (slots_of (v ∷ [])) }
-    ensures most { result ≤ to + 2 }
+/// Makes at least so many tags, the new ones of null. After a refusal there are as many as before.
+fn grow_tags(tags: &mut Vec<Tag>, wanted: usize) -> Result<(), NoMemory>
+    ensures grown { IfOk result (λ _.
+        tags.new.items ≡ tags.old.items ++ replicate (wanted - length tags.old.items) OfNull) }
+    ensures kept { OnErr result (tags.new.items ≡ tags.old.items) }
 {
-    slots[to] = v;
-    match v {
-        Value::Long(_) => {
-            slots[to + 1] = Value::Null;
-            to + 2
-        }
-        Value::Int(_) | Value::Null | Value::Lit(_) | Value::Obj(_) => to + 1,
+    if tags.len() < wanted {
+        tags.resize(wanted, Tag::OfNull)?;
     }
-}
-
-/// Writes the values from the place `from` up to `base` as locals from `base` on. Answers the place after them.
-fn copy_arguments(slots: &mut [Value], from: usize, base: usize) -> usize
-    requires order { from ≤ base }
-    requires room { base + 2 * (base - from) ≤ length slots.old }
-    ensures written { take result slots.new ≡ take base slots.old ++ slots_of (drop from (take base slots.old)) }
-    ensures start { base ≤ result }
-    ensures most { result ≤ base + 2 * (base - from) }
-{
-    let mut to = base;
-    for place in from..base {
-        let v = slots[place];
-        to = put_argument(slots, to, v);
-    }
-    to
-}
-
-/// Fills the slots from `from` up to `to` with null.
-#[tactic(auto, using(crate::proofs::Frames::clear_more))]
-fn clear(slots: &mut [Value], from: usize, to: usize)
-    requires order { from ≤ to }
-    requires room { to ≤ length slots.old }
-    ensures { take to slots.new ≡ take from slots.old ++ replicate (to - from) Null }
-{
-    for place in from..to {
-        slots[place] = Value::Null;
-    }
-}
-
-/// Writes the locals of a frame whose arguments stand from the place `from` up to `base`, from `base` on. Answers the
-/// place after them.
-#[tactic(auto, using(crate::proofs::Frames::frame_made))]
-fn locals_of_operands(slots: &mut [Value], from: usize, base: usize, max_locals: u16) -> usize
-    requires order { from ≤ base }
-    requires limit { base ≤ from + 65535 }
-    requires room { base + max_locals + 2 * (base - from) + 65535 ≤ length slots.old }
-    ensures { HasFrame slots.old slots.new base max_locals (drop from (take base slots.old)) result }
-{
-    let to = copy_arguments(slots, from, base);
-    let first = to.max(base + max_locals as usize);
-    clear(slots, to, first);
-    first
-}
-
-/// Writes the locals of a frame with no argument or one from `base` on. Answers the place after them.
-#[tactic(auto, using(crate::proofs::Frames::frame_made))]
-fn locals_of_receiver(
-    slots: &mut [Value],
-    base: usize,
-    max_locals: u16,
-    receiver: Option<Value>,
-) -> usize
-    requires { base + max_locals + 2 + 65535 ≤ length slots.old }
-    ensures { HasFrame slots.old slots.new base max_locals (option_to_list receiver) result }
-{
-    let to = match receiver {
-        Some(v) => put_argument(slots, base, v),
-        None => base,
-    };
-    let first = to.max(base + max_locals as usize);
-    clear(slots, to, first);
-    first
-}
-
-/// The frame of a method whose arguments stand from the place `from` up to `base`: its locals are written from `base` on,
-/// and there is room for its operands. Answers the place after the locals. After a refusal the slots are as before.
-#[tactic(auto, using(crate::proofs::Frames::frame_grown))]
-pub fn frame_of_operands(
-    slots: &mut Vec<Value>,
-    from: usize,
-    base: usize,
-    max_locals: u16,
-) -> Result<usize, NoMemory>
-    requires order { from ≤ base }
-    requires limit { base ≤ from + 65535 }
-    requires within { base ≤ vec_len slots.old }
-    ensures made { IfOk result (λ first.
-        HasFrame slots.old.items slots.new.items base max_locals
-        (drop from (take base slots.old.items)) first) }
-    ensures kept { OnErr result (slots.new.items ≡ slots.old.items) }
-{
-    let wanted = base + max_locals as usize + 2 * (base - from) + OPERAND_LIMIT;
-    grow(slots, wanted)?;
-    Ok(locals_of_operands(slots, from, base, max_locals))
-}
-
-/// The same of a frame with no argument or one.
-#[tactic(auto, using(crate::proofs::Frames::frame_grown))]
-pub fn frame_of_receiver(
-    slots: &mut Vec<Value>,
-    base: usize,
-    max_locals: u16,
-    receiver: Option<Value>,
-) -> Result<usize, NoMemory>
-    requires { base ≤ vec_len slots.old }
-    ensures made { IfOk result (λ first.
-        HasFrame slots.old.items slots.new.items base max_locals (option_to_list receiver) first) }
-    ensures kept { OnErr result (slots.new.items ≡ slots.old.items) }
-{
-    let wanted = base + max_locals as usize + 2 + OPERAND_LIMIT;
-    grow(slots, wanted)?;
-    Ok(locals_of_receiver(slots, base, max_locals, receiver))
+    Ok(())
 }

@@ -2,15 +2,16 @@
 
 ghost use Rattle.std.specs.Prelude.{◌≡◌, ◌≤◌, ◌<◌, ◌+◌, ◌∷◌, ◌↔◌, length, slice_get, get_or, Some, Err, OnOk, OnErr, true, false, []};
 ghost use Rattle.std.specs.Option.{option_to_list};
-ghost use Rattle.jvm_model.specs.declared.values.Value.TheVariants.{Int, Null};
+ghost use Rattle.jvm_model.specs.declared.values.Value.TheVariants.{Int, Long, Null};
 ghost use Rattle.jvm_model.specs.Entries.{no_entries, with_stack, with_place, with_entry, class_entry, popped_entry, all_entries, is_full};
 ghost use Rattle.jvm_model.specs.Initialise.{with_entered};
-ghost use Rattle.jvm_model.specs.RowsMoves.{with_local};
-ghost use Rattle.vm_frames.specs.Stack.{HasRoom, HasIntOnTop, frame_with, called_with, stored_local};
+ghost use Rattle.jvm_model.specs.RowsMoves.{with_local, is_long};
+ghost use Rattle.vm_frames.specs.Stack.{HasRoom, HasIntOnTop, HasLongOnTop, frame_with, called_with, stored_local};
 
 use crate::extent::{Extent, save};
 use crate::fault::PushFault;
-use crate::slots::{frame_of_operands, frame_of_receiver};
+use crate::locals::{frame_of_operands, frame_of_receiver};
+use crate::slots::Slots;
 use jvm_model::{EntryKind, Value};
 use std::alloc::Global;
 use std::marker::Model;
@@ -33,7 +34,7 @@ pub enum TopEntry {
 /// the top entry takes memory.
 #[derive(Debug, Drop)]
 pub struct FrameStack {
-    slots: Vec<Value>,
+    slots: Slots,
     saved: Vec<Extent>,
     current: Extent,
 }
@@ -46,9 +47,9 @@ impl Model for FrameStack {
 
     ghost use Rattle.vm_frames.specs.Extents.{entries_at, IsStanding};
 
-    ghost view = { λ f. entries_at f.slots.items f.current f.saved.items };
+    ghost view = { λ f. entries_at f.slots f.current f.saved.items };
 
-    ghost invariant = { λ f. IsStanding (length f.slots.items) f.current f.saved.items };
+    ghost invariant = { λ f. IsStanding (length f.slots) f.current f.saved.items };
 }
 
 impl FrameStack {
@@ -59,7 +60,7 @@ impl FrameStack {
         ensures { result ≡ no_entries }
     {
         FrameStack {
-            slots: Vec::new(alloc),
+            slots: Slots::new(alloc),
             saved: Vec::new(alloc),
             current: Extent::NONE,
         }
@@ -137,7 +138,7 @@ impl FrameStack {
         requires { i < length self.now.top.locals }
         ensures { slice_get self.now.top.locals i ≡ Some result }
     {
-        self.slots[self.current.base + i as usize]
+        self.slots.get(self.current.base + i as usize)
     }
 
     /// Sets the local of a slot.
@@ -146,7 +147,7 @@ impl FrameStack {
         requires { i < length self.old.top.locals }
         ensures { self.new ≡ with_local self.old i v }
     {
-        self.slots[self.current.base + i as usize] = v;
+        self.slots.set(self.current.base + i as usize, v);
     }
 
     /// The operand that is `k` operands below the top one.
@@ -155,7 +156,7 @@ impl FrameStack {
         requires { k < length self.now.top.stack }
         ensures { slice_get self.now.top.stack k ≡ Some result }
     {
-        self.slots[self.current.top - 1 - k as usize]
+        self.slots.get(self.current.top - 1 - k as usize)
     }
 
     /// Puts an operand on top.
@@ -164,7 +165,7 @@ impl FrameStack {
         requires { HasRoom 1 self.old }
         ensures { self.new ≡ with_stack self.old (v ∷ self.old.top.stack) }
     {
-        self.slots[self.current.top] = v;
+        self.slots.set(self.current.top, v);
         self.current.top += 1;
     }
 
@@ -176,7 +177,7 @@ impl FrameStack {
         ensures room { HasRoom 1 self.new }
     {
         self.current.top -= 1;
-        self.slots[self.current.top]
+        self.slots.get(self.current.top)
     }
 
     /// Takes all operands.
@@ -274,31 +275,58 @@ impl FrameStack {
 
 impl FrameStack {
     /// Puts an int on top.
+    #[tactic(auto, using(crate::proofs::Tops::tops))]
     pub fn push_int(&mut self, n: i32)
         requires { HasRoom 1 self.old }
         ensures { self.new ≡ with_stack self.old (Int n ∷ self.old.top.stack) }
     {
-        self.push_value(Value::Int(n));
+        self.slots.set_int(self.current.top, n);
+        self.current.top += 1;
     }
 
     /// Takes the int on top. There is room for one operand again.
-    #[tactic(auto, using(crate::proofs::Typed::int_on_top))]
+    #[tactic(auto, using(crate::proofs::Tops::tops))]
     pub fn pop_int(&mut self) -> i32
         requires { HasIntOnTop self.old.top.stack }
         ensures popped { self.old ≡ with_stack self.new (Int result ∷ self.new.top.stack) }
         ensures room { HasRoom 1 self.new }
     {
-        match self.pop_value() {
-            Value::Int(n) => n,
-            Value::Long(_) => unreachable!(),
-            Value::Null => unreachable!(),
-            Value::Lit(_) => unreachable!(),
-            Value::Obj(_) => unreachable!(),
-        }
+        self.current.top -= 1;
+        self.slots.int_at(self.current.top)
+    }
+
+    /// Puts a long on top.
+    #[tactic(auto, using(crate::proofs::Tops::tops))]
+    pub fn push_long(&mut self, n: i64)
+        requires { HasRoom 1 self.old }
+        ensures { self.new ≡ with_stack self.old (Long n ∷ self.old.top.stack) }
+    {
+        self.slots.set_long(self.current.top, n);
+        self.current.top += 1;
+    }
+
+    /// Takes the long on top. There is room for one operand again.
+    #[tactic(auto, using(crate::proofs::Tops::tops))]
+    pub fn pop_long(&mut self) -> i64
+        requires { HasLongOnTop self.old.top.stack }
+        ensures popped { self.old ≡ with_stack self.new (Long result ∷ self.new.top.stack) }
+        ensures room { HasRoom 1 self.new }
+    {
+        self.current.top -= 1;
+        self.slots.long_at(self.current.top)
+    }
+
+    /// Whether the operand that is `k` operands below the top one is a long.
+    #[tactic(auto, using(crate::proofs::Tops::tops))]
+    pub fn is_long(&self, k: u16) -> bool
+        requires { k < length self.now.top.stack }
+        ensures { result ≡ is_long (get_or self.now.top.stack k Null) }
+    {
+        self.slots.is_long(self.current.top - 1 - k as usize)
     }
 
     /// Puts the local of a slot on top.
-    #[tactic(auto, using(crate::proofs::Typed::read_value))]
+    #[tactic(auto, using(crate::proofs::Tops::tops))]
     pub fn load(&mut self, i: u16)
         requires place { i < length self.old.top.locals }
         requires room { HasRoom 1 self.old }
@@ -306,31 +334,33 @@ impl FrameStack {
         ensures loaded { self.new
             ≡ with_stack self.old (get_or self.old.top.locals i Null ∷ self.old.top.stack) }
     {
-        let v = self.local(i);
-        self.push_value(v);
+        self.slots
+            .copy(self.current.base + i as usize, self.current.top);
+        self.current.top += 1;
     }
 
     /// Takes the top operand into the local of a slot. There is room for one operand again.
-    #[tactic(auto, using(crate::proofs::Typed::stored))]
+    #[tactic(auto, using(crate::proofs::Tops::tops))]
     pub fn store(&mut self, i: u16)
         requires operand { 0 < length self.old.top.stack }
         requires place { i < length self.old.top.locals }
         ensures stored { self.new ≡ stored_local self.old i }
         ensures room { HasRoom 1 self.new }
     {
-        let v = self.pop_value();
-        self.set_local(i, v);
+        self.current.top -= 1;
+        self.slots
+            .copy(self.current.top, self.current.base + i as usize);
     }
 
     /// Puts the top operand on top once more.
-    #[tactic(auto, using(crate::proofs::Typed::read_value))]
+    #[tactic(auto, using(crate::proofs::Tops::tops))]
     pub fn dup(&mut self)
         requires operand { 0 < length self.old.top.stack }
         requires room { HasRoom 1 self.old }
         ensures { self.new
             ≡ with_stack self.old (get_or self.old.top.stack 0 Null ∷ self.old.top.stack) }
     {
-        let v = self.peek(0);
-        self.push_value(v);
+        self.slots.copy(self.current.top - 1, self.current.top);
+        self.current.top += 1;
     }
 }

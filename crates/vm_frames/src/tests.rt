@@ -21,6 +21,10 @@ fn frames_are_entered_and_left(rt: HostRuntime) -> Result<(), Fail> {
     assert!(rt; stack.pop_value() == Value::Int(3));
     stack.store(0);
     assert!(rt; stack.local(0) == Value::Int(3));
+    stack.push_long(-1);
+    assert!(rt; stack.is_long(0) && stack.pop_long() == -1);
+    stack.push_value(Value::Lit(6));
+    assert!(rt; stack.pop_value() == Value::Lit(6));
     stack.clear_stack();
     stack.pop();
     assert!(rt; stack.top() == Some(TopEntry::Method { method: 7, pc: 4 }));
