@@ -1,0 +1,57 @@
+-- What contracts say of the forms that touch nothing.
+use Rattle.std.specs.Prelude.{◌≡◌, ℕ, [], Bool, true, false, cond}
+use Rattle.jvm_model.specs.declared.instr.Instr.{Instr}
+use Rattle.jvm_model.specs.declared.outcome.Next.{Next}
+use Rattle.jvm_model.specs.declared.outcome.Next.TheVariants.{Go, Fault, Raise, Enter, Leave, Over}
+use Rattle.jvm_model.specs.declared.program.Program.{Program}
+use Rattle.jvm_model.specs.World.{World}
+use Rattle.jvm_model.specs.Access.{Access, done}
+use Rattle.jvm_model.specs.Classes.{next_place}
+use Rattle.jvm_model.specs.Entries.{Entries, with_place}
+use Rattle.jvm_model.specs.Rows.{Answer, answer}
+use Rattle.jvm_model.specs.Step.{row}
+use Rattle.jvm_model.specs.View.{IsSafe, IsRow}
+
+abbrev pub no_program : Program
+no_program = record { classes = []; fields = []; methods = []; literals = []; tests = []; files = [] }
+
+abbrev pub no_world : World
+no_world = record { objects = []; statics = []; states = []; files = []; props = [] }
+
+-- A part of a row that touches nothing is there. Neither the program nor the world has a part in whether it is, so these
+-- stand for all.
+abbrev pub IsThere : (Program → Entries → Access (Answer Entries)) → Entries → Type 0
+IsThere t s = IsSafe IsRow (t no_program s) no_world
+
+-- a part of a row goes on at the next instruction, whatever the program and the place of this one
+abbrev pub Continues : (Program → Entries → Access (Answer Entries)) → Entries → Entries → Type 0
+Continues t s u = (p : Program) (q : ℕ) → t p (with_place s q) ≡ done (answer Go (with_place u (next_place p s.top.number q)))
+
+-- there is a row of a form that touches nothing
+abbrev pub HasRow : Instr → Entries → Type 0
+HasRow i s = IsThere (λ p t. row p i t) s
+
+-- the row goes on at the next instruction
+abbrev pub GoesOn : Instr → Entries → Entries → Type 0
+GoesOn i s u = Continues (λ p t. row p i t) s u
+
+-- the row goes on at a place of the code
+abbrev pub GoesTo : Instr → ℕ → Entries → Entries → Type 0
+GoesTo i n s u = (p : Program) (q : ℕ) → row p i (with_place s q) ≡ done (answer Go (with_place u n))
+
+-- the row goes on at its target, or at the next instruction
+abbrev pub Branches : Instr → Bool → ℕ → Entries → Entries → Type 0
+Branches i b to s u = cond b (GoesTo i to s u) (GoesOn i s u)
+
+-- the row throws by itself a new throwable of a class
+abbrev pub Throws : Instr → ℕ → Entries → Entries → Type 0
+Throws i c s u = (p : Program) (q : ℕ) → row p i (with_place s q) ≡ done (answer (Fault c) (with_place u q))
+
+-- the row ends as a call answered
+abbrev pub Ends : Instr → Next → Entries → Entries → Type 0
+Ends i Go s u = GoesOn i s u
+Ends i (Fault c) s u = Throws i c s u
+Ends i (Raise v) s u = ⊥
+Ends i (Enter m) s u = ⊥
+Ends i Leave s u = ⊥
+Ends i Over s u = ⊥
