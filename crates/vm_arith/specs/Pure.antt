@@ -1,5 +1,7 @@
 -- What contracts say of the forms that touch nothing.
-use Rattle.std.specs.Prelude.{◌≡◌, ℕ, [], Bool, true, false, cond}
+use Rattle.std.specs.Prelude.{◌≡◌, ℕ, List, [], ◌∷◌, Bool, cond}
+use Rattle.jvm_model.specs.declared.values.Value.{Value}
+use Rattle.jvm_model.specs.declared.values.Value.TheVariants.{Int, Long, Null, Lit, Obj}
 use Rattle.jvm_model.specs.declared.instr.Instr.{Instr}
 use Rattle.jvm_model.specs.declared.outcome.Next.{Next}
 use Rattle.jvm_model.specs.declared.outcome.Next.TheVariants.{Go, Fault, Raise, Enter, Leave, Over}
@@ -11,6 +13,7 @@ use Rattle.jvm_model.specs.Entries.{Entries, with_place}
 use Rattle.jvm_model.specs.Rows.{Answer, answer}
 use Rattle.jvm_model.specs.Step.{row}
 use Rattle.jvm_model.specs.View.{IsSafe, IsRow}
+use Rattle.vm_frames.specs.Stack.{HasIntOnTop}
 
 abbrev pub no_program : Program
 no_program = record { classes = []; fields = []; methods = []; literals = []; tests = []; files = [] }
@@ -23,9 +26,34 @@ no_world = record { objects = []; statics = []; states = []; files = []; props =
 abbrev pub IsThere : (Program → Entries → Access (Answer Entries)) → Entries → Type 0
 IsThere t s = IsSafe IsRow (t no_program s) no_world
 
+-- the top entry is the same one, but for its operands, locals and place in the code
+pub record IsSameFrame (s u : Entries) : Type 0 where
+  pub kind : u.top.kind ≡ s.top.kind
+  pub number : u.top.number ≡ s.top.number
+  pub below : u.below ≡ s.below
+
+-- the top operand is a long
+abbrev pub HasLongOnTop : List Value → Type 0
+HasLongOnTop [] = ⊥
+HasLongOnTop (Int n ∷ vs) = ⊥
+HasLongOnTop (Long n ∷ vs) = Unit {0}
+HasLongOnTop (Null ∷ vs) = ⊥
+HasLongOnTop (Lit n ∷ vs) = ⊥
+HasLongOnTop (Obj o ∷ vs) = ⊥
+
+-- the two top operands are ints
+abbrev pub HasIntsOnTop : List Value → Type 0
+HasIntsOnTop [] = ⊥
+HasIntsOnTop (Int n ∷ vs) = HasIntOnTop vs
+HasIntsOnTop (Long n ∷ vs) = ⊥
+HasIntsOnTop (Null ∷ vs) = ⊥
+HasIntsOnTop (Lit n ∷ vs) = ⊥
+HasIntsOnTop (Obj o ∷ vs) = ⊥
+
 -- a part of a row goes on at the next instruction, whatever the program and the place of this one
-abbrev pub Continues : (Program → Entries → Access (Answer Entries)) → Entries → Entries → Type 0
-Continues t s u = (p : Program) (q : ℕ) → t p (with_place s q) ≡ done (answer Go (with_place u (next_place p s.top.number q)))
+pub record Continues (t : Program → Entries → Access (Answer Entries)) (s u : Entries) : Type 0 where
+  pub frame : IsSameFrame s u
+  pub row : (p : Program) (q : ℕ) → t p (with_place s q) ≡ done (answer Go (with_place u (next_place p s.top.number q)))
 
 -- there is a row of a form that touches nothing
 abbrev pub HasRow : Instr → Entries → Type 0
@@ -36,16 +64,19 @@ abbrev pub GoesOn : Instr → Entries → Entries → Type 0
 GoesOn i s u = Continues (λ p t. row p i t) s u
 
 -- the row goes on at a place of the code
-abbrev pub GoesTo : Instr → ℕ → Entries → Entries → Type 0
-GoesTo i n s u = (p : Program) (q : ℕ) → row p i (with_place s q) ≡ done (answer Go (with_place u n))
+pub record GoesTo (i : Instr) (n : ℕ) (s u : Entries) : Type 0 where
+  pub frame : IsSameFrame s u
+  pub row : (p : Program) (q : ℕ) → row p i (with_place s q) ≡ done (answer Go (with_place u n))
 
--- the row goes on at its target, or at the next instruction
-abbrev pub Branches : Instr → Bool → ℕ → Entries → Entries → Type 0
-Branches i b to s u = cond b (GoesTo i to s u) (GoesOn i s u)
+-- the row goes on at its target where its test holds, else at the next instruction
+pub record Branches (i : ℕ → Instr) (b : Bool) (s u : Entries) : Type 0 where
+  pub frame : IsSameFrame s u
+  pub row : (to : ℕ) (p : Program) (q : ℕ) → row p (i to) (with_place s q) ≡ done (answer Go (with_place u (cond b to (next_place p s.top.number q))))
 
 -- the row throws by itself a new throwable of a class
-abbrev pub Throws : Instr → ℕ → Entries → Entries → Type 0
-Throws i c s u = (p : Program) (q : ℕ) → row p i (with_place s q) ≡ done (answer (Fault c) (with_place u q))
+pub record Throws (i : Instr) (c : ℕ) (s u : Entries) : Type 0 where
+  pub frame : IsSameFrame s u
+  pub row : (p : Program) (q : ℕ) → row p i (with_place s q) ≡ done (answer (Fault c) (with_place u q))
 
 -- the row ends as a call answered
 abbrev pub Ends : Instr → Next → Entries → Entries → Type 0
