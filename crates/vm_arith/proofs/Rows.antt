@@ -1,18 +1,17 @@
 -- Whether a form that touches nothing has its row lies in the operands and locals alone.
-use Rattle.std.proofs.Common.{◌≡◌, ◌<◌, ℕ, ℤ, List, [], ◌∷◌, length, slice_get, Bool, true, false, cond, nat_lt, int_eq, pos, Option, Some, None}
+use Rattle.std.proofs.Common.{ℕ, ℤ, List, [], ◌∷◌, length, slice_get, Bool, true, false, cond, nat_lt, int_eq, pos, Option, Some, None}
 use Rattle.jvm_model.specs.declared.values.Value.{Value}
 use Rattle.jvm_model.specs.declared.values.Value.TheVariants.{Int, Long, Null, Lit, Obj}
 use Rattle.jvm_model.specs.declared.instr.Op.{Op}
 use Rattle.jvm_model.specs.declared.instr.Conv.{Conv}
 use Rattle.jvm_model.specs.declared.instr.Conv.TheVariants as conv
-use Rattle.jvm_model.specs.declared.instr.IfTest.{IfTest}
 use Rattle.jvm_model.specs.declared.instr.Instr.{Instr}
 use Rattle.jvm_model.specs.declared.instr.Instr.TheVariants as form
 use Rattle.jvm_model.specs.declared.program.Program.{Program}
 use Rattle.jvm_model.specs.World.{World}
 use Rattle.jvm_model.specs.Access.{Access}
 use Rattle.jvm_model.specs.Entries.{Entries, with_stack}
-use Rattle.jvm_model.specs.Rows.{Answer, popping, on_int, on_long, on_reference, goes_on}
+use Rattle.jvm_model.specs.Rows.{Answer, popping, on_int, on_long, on_reference}
 use Rattle.jvm_model.specs.RowsMoves.{is_long, loaded, stored, two_under_long, two_under_two, row_moves}
 use Rattle.jvm_model.specs.RowsArith.{divides, shifts, unless_zero, two_ints, two_longs, long_by_int, converted, increased, row_arith}
 use Rattle.jvm_model.specs.RowsBranches.{goes_if, row_branches}
