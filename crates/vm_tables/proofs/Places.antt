@@ -1,16 +1,19 @@
 -- The numbers of instructions by byte place.
-use Rattle.std.proofs.Common.{inl, inr, ◌≡◌, ◌≢◌, ℕ, zero, suc, ◌<◌, ◌≤◌, ◌+◌, ◌-◌, List, [], ◌∷◌, ◌++◌, length, get_or, set, take, cond, eqb, Bool, true, false, Option, Some, None, slice_get, refl, sym, ap, ◌∙◌, arith, subst, get_or-set_other, get_or-set_same}
+use Rattle.std.proofs.Common.{inl, inr, ◌≡◌, ◌≢◌, ℕ, zero, suc, ◌<◌, ◌≤◌, ◌+◌, ◌-◌, List, [], ◌∷◌, ◌++◌, length, get_or, set, take, drop, cond, eqb, Bool, true, false, Option, Some, None, slice_get, refl, sym, ap, ◌∙◌, arith, subst, get_or-set_other, get_or-set_same}
 use Rattle.std.proofs.lemmas.List.Elements.{All-get_or}
 use Rattle.std.proofs.lemmas.Bool.{eqb-true, eqb-false, eq-eqb, ne_eqb, cases_lt}
-use Rattle.std.proofs.lemmas.List.{take_more, length-take-le, get_or-take, get_or_past}
+use Rattle.std.proofs.lemmas.List.{take_more, length-take-le, get_or-take, get_or_append_left, get_or_past, drop_all, length_push}
+use Rattle.std.proofs.Math.Seq.{get_or-append_seam}
+use Rattle.jvm_model.specs.declared.instr.Instr.{Instr}
 use Rattle.jvm_model.specs.declared.program.Placed.{Placed}
 use Rattle.jvm_model.specs.declared.program.Body.{Body}
+use Rattle.jvm_model.specs.declared.program.MethodRec.{MethodRec}
 use Rattle.jvm_model.specs.declared.program.Program.{Program}
 use Rattle.jvm_model.specs.Descriptors.{parameters}
 use Rattle.jvm_model.specs.RowsCalls.{argument_count}
-use Rattle.jvm_model.specs.Classes.{layout, no_method, method_at, Found, found_in, found_of, place_after}
+use Rattle.jvm_model.specs.Classes.{layout, no_method, method_at, Found, found_in, found_of, form_at, next_place, place_after}
 use Rattle.jvm_model.specs.Linked.{Ascends, IsBody}
-use Rattle.vm_tables.specs.Numbers.{AreCells, code_of, one_later, number_in, number_of, ArePlaces, AreArguments, instruction, instruction_of, less_one}
+use Rattle.vm_tables.specs.Numbers.{AreCells, code_of, one_later, number_in, number_of, ArePlaces, AreArguments, AreNexts, AllNexts, after_or, next_of, no_placed, instruction, instruction_of, less_one}
 
 -- what stands at a number of a table
 abbrev by_number : List Placed → ℕ → ℕ → Option Found
@@ -155,3 +158,114 @@ number_inside p q m pc n tables h e r =
 
 pub cells_found : (p q : Program) (c : ℕ) (cells : List ℕ) → AreCells p cells → p ≡ q → get_or cells c 0 ≡ length (layout q c)
 cells_found p q c cells h e = subst (λ (w : Program). get_or cells c 0 ≡ length (layout w c)) e (h c)
+
+-- ---- the place after an instruction
+
+pub place_at : (code : List Placed) (i end : ℕ) (d : Placed) → i < length code → place_after (drop i code) end ≡ (get_or code i d).pc
+place_at [] i end d l = let none : ⊥ = omega arith in absurd none
+place_at (x ∷ xs) zero end d l = refl
+place_at (x ∷ xs) (suc i) end d l = place_at xs i end d (omega arith)
+
+pub place_past : (code : List Placed) (i end : ℕ) → length code ≤ i → place_after (drop i code) end ≡ end
+place_past code i end l = ap (λ xs. place_after xs end) (drop_all i code l)
+
+pub placed_low : (b : Body) (i : ℕ) (d : Placed) → IsBody b → i < length b.code → (get_or b.code i d).pc < 65536
+placed_low b i d w l = let inside : (get_or b.code i d).pc < b.length = All-get_or (λ (y : Placed). y.pc < b.length) b.code i d l w.within in omega (arith, w.short)
+
+-- where an entry of a table leads
+abbrev next_by : Body → ℕ → ℕ → ℕ
+next_by b pc zero = pc
+next_by b pc (suc i) = place_after (drop (suc i) b.code) b.length
+
+after_by : (b : Body) (pc n : ℕ) → after_or pc (instruction_of (Some b) (less_one n)) ≡ next_by b pc n
+after_by b pc zero = refl
+after_by b pc (suc i) = refl
+
+next_number : (b : Body) (numbers : List ℕ) (pc : ℕ) → ArePlaces (Some b) numbers → next_of (Some b) pc ≡ next_by b pc (get_or numbers pc 0)
+next_number b numbers pc h = ap (after_or pc) (found_number (Some b) numbers pc h) ∙ after_by b pc (get_or numbers pc 0)
+
+pub next_none : (b : Body) (numbers : List ℕ) (pc : ℕ) → ArePlaces (Some b) numbers → get_or numbers pc 0 ≡ 0 → pc ≡ next_of (Some b) pc
+next_none b numbers pc h e = sym (next_number b numbers pc h ∙ ap (next_by b pc) e)
+
+next_by_some : (b : Body) (pc n : ℕ) → 0 < n → next_by b pc n ≡ place_after (drop n b.code) b.length
+next_by_some b pc zero l = let none : ⊥ = omega arith in absurd none
+next_by_some b pc (suc i) l = refl
+
+pub next_some : (b : Body) (numbers : List ℕ) (pc n place : ℕ) → ArePlaces (Some b) numbers → get_or numbers pc 0 ≡ n → 0 < n → place ≡ place_after (drop n b.code) b.length → place ≡ next_of (Some b) pc
+next_some b numbers pc n place h e l r = r ∙ (sym (next_by_some b pc n l) ∙ sym (next_number b numbers pc h ∙ ap (next_by b pc) e))
+
+-- a place past the code has itself
+pub next_past : (b : Body) (numbers : List ℕ) (pc : ℕ) → ArePlaces (Some b) numbers → length numbers ≤ pc → next_of (Some b) pc ≡ pc
+next_past b numbers pc h l = sym (next_none b numbers pc h (get_or_past numbers pc 0 l))
+
+pub nexts_all : (b : Body) (numbers nexts : List ℕ) (n : ℕ) → ArePlaces (Some b) numbers → length numbers ≤ n → length nexts ≡ n → ((pc : ℕ) → pc < n → get_or nexts pc pc ≡ next_of (Some b) pc) → AreNexts (Some b) nexts
+nexts_all b numbers nexts n h m e g pc = elim (cases_lt pc n) [
+  | inl i ↦ g pc i
+  | inr i ↦ get_or_past nexts pc pc (omega arith) ∙ sym (next_past b numbers pc h (omega arith))
+]
+
+next_found : (o : Option Found) (pc : ℕ) → (elim o as (λ _. ℕ) [ None ↦ pc | Some x ↦ x.after ]) ≡ after_or pc o
+next_found None pc = refl
+next_found (Some x) pc = refl
+
+-- what a table's entry says of the program
+pub next_is : (p q : Program) (m pc n : ℕ) (tables : List (List ℕ)) → AllNexts p tables → p ≡ q → n ≡ get_or (get_or tables m []) pc pc → n ≡ next_place q m pc
+unfolding next_place
+next_is p q m pc n tables h e r =
+    let here : n ≡ after_or pc (found_of (method_at p m).body pc) = r ∙ h m pc in
+    subst (λ (w : Program). n ≡ after_or pc (found_of (method_at w m).body pc)) e here ∙ sym (next_found (found_of (method_at q m).body pc) pc)
+
+-- ---- the form at a place
+
+abbrev form_found : Option Found → Option Instr
+form_found None = None
+form_found (Some x) = Some x.form
+
+form_by : (o : Option Found) → (elim o as (λ _. Option Instr) [ None ↦ None | Some x ↦ Some x.form ]) ≡ form_found o
+form_by None = refl
+form_by (Some x) = refl
+
+form_numbered : (p : Program) (m pc : ℕ) (n : Option ℕ) → found_of (method_at p m).body pc ≡ instruction_of (method_at p m).body n → form_at p m pc ≡ form_found (instruction_of (method_at p m).body n)
+unfolding form_at
+form_numbered p m pc n e = form_by (found_of (method_at p m).body pc) ∙ ap form_found e
+
+no_number : (o : Option Body) → form_found (instruction_of o None) ≡ None
+no_number None = refl
+no_number (Some b) = refl
+
+-- no number, or no code
+pub form_none : (p : Program) (m pc : ℕ) → found_of (method_at p m).body pc ≡ instruction_of (method_at p m).body None → form_at p m pc ≡ None
+form_none p m pc e = form_numbered p m pc None e ∙ no_number (method_at p m).body
+
+pub form_bare : (p : Program) (m pc : ℕ) (n : Option ℕ) → found_of (method_at p m).body pc ≡ instruction_of (method_at p m).body n → (method_at p m).body ≡ None → form_at p m pc ≡ None
+form_bare p m pc n e h = form_numbered p m pc n e ∙ ap (λ o. form_found (instruction_of o n)) h
+
+pub form_some : (p : Program) (m pc i : ℕ) (b : Body) → found_of (method_at p m).body pc ≡ instruction_of (method_at p m).body (Some i) → (method_at p m).body ≡ Some b → form_at p m pc ≡ Some (get_or b.code i no_placed).form
+form_some p m pc i b e h = form_numbered p m pc (Some i) e ∙ ap (λ o. form_found (instruction_of o (Some i))) h
+
+pub form_is : (p q : Program) (m pc i : ℕ) (r : MethodRec) (b : Body) (x : Placed) → q ≡ p → found_of (method_at q m).body pc ≡ instruction_of (method_at q m).body (Some i) → r ≡ method_at p m → Some b ≡ r.body → Some x ≡ slice_get b.code i → Some x.form ≡ form_at p m pc
+form_is p q m pc i r b x e f h s g =
+    let found : found_of (method_at p m).body pc ≡ instruction_of (method_at p m).body (Some i) = subst (λ (w : Program). found_of (method_at w m).body pc ≡ instruction_of (method_at w m).body (Some i)) e f in
+    let coded : (method_at p m).body ≡ Some b = ap (λ (y : MethodRec). y.body) (sym h) ∙ sym s in
+    let here : get_or b.code i no_placed ≡ x = get_some b.code i x no_placed (sym g) in
+    sym (form_some p m pc i b found coded ∙ ap (λ (y : Placed). Some y.form) here)
+
+pub form_isnt : (p q : Program) (m pc : ℕ) (o : Option Instr) → q ≡ p → found_of (method_at q m).body pc ≡ instruction_of (method_at q m).body None → o ≡ None → o ≡ form_at p m pc
+form_isnt p q m pc o e f n =
+    let found : found_of (method_at p m).body pc ≡ instruction_of (method_at p m).body None = subst (λ (w : Program). found_of (method_at w m).body pc ≡ instruction_of (method_at w m).body None) e f in
+    n ∙ sym (form_none p m pc found)
+
+-- ---- one method more
+
+pub tables_more : (P : ℕ → List ℕ → Type 0) (old new : List (List ℕ)) (x : List ℕ) (i : ℕ) → new ≡ old ++ x ∷ [] → length old ≡ i → ((m : ℕ) → m < i → P m (get_or old m [])) → P i x → (m : ℕ) → m < i + 1 → P m (get_or new m [])
+tables_more P old new x i e l h q m g =
+    subst (λ (xs : List (List ℕ)). P m (get_or xs m [])) (sym e) (elim (cases_lt m i) [
+      | inl k ↦ subst (λ (ys : List ℕ). P m ys) (sym (get_or_append_left old (x ∷ []) [] m (omega arith))) (h m k)
+      | inr k ↦
+          let last : get_or (old ++ x ∷ []) i [] ≡ x = subst (λ n. get_or (old ++ x ∷ []) n [] ≡ x) l (get_or-append_seam old x [] []) in
+          let same : m ≡ i = omega arith in
+          subst (λ n. P n (get_or (old ++ x ∷ []) n [])) (sym same) (subst (λ (ys : List ℕ). P i ys) (sym last) q)
+    ])
+
+pub length_more : (old new : List (List ℕ)) (x : List ℕ) (i : ℕ) → new ≡ old ++ x ∷ [] → length old ≡ i → length new ≡ i + 1
+length_more old new x i e l = ap (length {A = List ℕ}) e ∙ (length_push old x ∙ ap (λ n. n + 1) l)

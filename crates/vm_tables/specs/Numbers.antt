@@ -5,7 +5,7 @@ use Rattle.jvm_model.specs.declared.program.Program.{Program}
 use Rattle.jvm_model.specs.declared.program.Body.{Body}
 use Rattle.jvm_model.specs.declared.program.Placed.{Placed}
 use Rattle.jvm_model.specs.RowsCalls.{argument_count}
-use Rattle.jvm_model.specs.Classes.{layout, Found, place_after, method_at}
+use Rattle.jvm_model.specs.Classes.{layout, Found, found_of, place_after, method_at}
 
 abbrev pub one_later : ℕ → ℕ
 one_later zero = 0
@@ -28,6 +28,18 @@ code_of (Some b) = b.code
 abbrev pub ArePlaces : Option Body → List ℕ → Type 0
 ArePlaces body numbers = (pc : ℕ) → get_or numbers pc 0 ≡ number_of body pc
 
+-- the place after the instruction that is found, or the place itself
+abbrev pub after_or : ℕ → Option Found → ℕ
+after_or pc None = pc
+after_or pc (Some x) = x.after
+
+abbrev pub next_of : Option Body → ℕ → ℕ
+next_of body pc = after_or pc (found_of body pc)
+
+-- the table of the places after a code's instructions
+abbrev pub AreNexts : Option Body → List ℕ → Type 0
+AreNexts body nexts = (pc : ℕ) → get_or nexts pc pc ≡ next_of body pc
+
 abbrev pub no_placed : Placed
 no_placed = record { pc = 0; form = form.Nop }
 
@@ -49,6 +61,9 @@ less_one (suc i) = Some i
 abbrev pub AreNumbers : Program → List (List ℕ) → Type 0
 AreNumbers p tables = (m : ℕ) → ArePlaces (method_at p m).body (get_or tables m [])
 
+abbrev pub AllNexts : Program → List (List ℕ) → Type 0
+AllNexts p tables = (m : ℕ) → AreNexts (method_at p m).body (get_or tables m [])
+
 abbrev pub AreArguments : Program → List ℕ → Type 0
 AreArguments p counts = (m : ℕ) → get_or counts m 0 ≡ argument_count p m
 
@@ -56,8 +71,9 @@ abbrev pub AreCells : Program → List ℕ → Type 0
 AreCells p counts = (c : ℕ) → get_or counts c 0 ≡ length (layout p c)
 
 -- the tables of a program, of which the last three are seen as their programs
-pub record AreTables (p : Program) (tables : List (List ℕ)) (counts sizes : List ℕ) (q r s : Program) : Type 0 where
+pub record AreTables (p : Program) (tables afters : List (List ℕ)) (counts sizes : List ℕ) (q r s : Program) : Type 0 where
   pub numbers : AreNumbers p tables
+  pub nexts : AllNexts p afters
   pub arguments : AreArguments p counts
   pub cells : AreCells p sizes
   pub defaults : q ≡ p

@@ -1,20 +1,20 @@
 //! The tables of a program.
 
-ghost use Rattle.std.specs.Prelude.{◌≡◌, ◌<◌, IfOk, IfSome, length, map, get_or, []};
+ghost use Rattle.std.specs.Prelude.{◌≡◌, ◌<◌, IfOk, IfSome, length, map, get_or, option_copied, []};
 ghost use Rattle.jvm_model.specs.Classes as classes;
 ghost use Rattle.jvm_model.specs.Classes.{found_of, method_at, layout};
 ghost use Rattle.jvm_model.specs.Initialise.{parts_of};
 ghost use Rattle.jvm_model.specs.RowsCalls.{argument_count};
-ghost use Rattle.jvm_model.specs.Linked.{Linked};
-ghost use Rattle.vm_tables.specs.Numbers.{code_of, instruction_of, AreNumbers, AreArguments, AreCells};
+ghost use Rattle.jvm_model.specs.Linked.{IsBody, Linked};
+ghost use Rattle.vm_tables.specs.Numbers.{code_of, instruction_of, AllNexts, AreArguments, AreCells, AreNexts, AreNumbers, ArePlaces};
 ghost use Rattle.vm_tables.specs.Starts.{part_of};
 
 use crate::interfaces::DefaultInterfaces;
-use crate::numbers::numbers_of;
+use crate::numbers::{nexts_of, numbers_of};
 use crate::parts::{Part, Parts};
 use crate::trivial::TrivialClasses;
 use et_base::{Items, NoMemory};
-use jvm_model::{Program, parameter_count};
+use jvm_model::{Instr, MethodRec, Program, parameter_count};
 use std::alloc::Global;
 use std::marker::Model;
 use std::snapshot::Snapshot;
@@ -24,6 +24,7 @@ use std::snapshot::Snapshot;
 #[derive(Drop)]
 pub struct Tables {
     numbers: Items<Items<u16>>,
+    nexts: Items<Items<u16>>,
     arguments: Items<usize>,
     cells: Items<usize>,
     defaults: DefaultInterfaces,
@@ -40,7 +41,7 @@ impl Model for Tables {
 
     ghost view = { λ t. t.program.value };
 
-    ghost invariant = { λ t. AreTables t.program.value t.numbers t.arguments t.cells t.defaults t.trivial t.parts };
+    ghost invariant = { λ t. AreTables t.program.value t.numbers t.nexts t.arguments t.cells t.defaults t.trivial t.parts };
 }
 
 impl Tables {
@@ -52,8 +53,10 @@ impl Tables {
         let defaults = DefaultInterfaces::of(alloc, p)?;
         let trivial = TrivialClasses::of(alloc, p, &defaults)?;
         let parts = Parts::of(alloc, p, &defaults, &trivial)?;
+        let (numbers, nexts) = all_places(alloc, p)?;
         Ok(Tables {
-            numbers: all_numbers(alloc, p)?,
+            numbers,
+            nexts,
             arguments: all_arguments(alloc, p)?,
             cells: all_cells(alloc, p)?,
             defaults,
@@ -119,6 +122,26 @@ impl Tables {
             next => Some(u32::from(next) - 1),
         }
     }
+
+    /// The form at a byte place of a method's code.
+    pub fn form<'p>(&self, p: &'p Program, method: u32, pc: u32) -> Option<&'p Instr>
+        requires { self.now ≡ p.now }
+        ensures { option_copied result ≡ classes.form_at p.now method pc }
+    {
+        let number = self.number(method, pc)?;
+        let body = p.method(method)?.body.as_ref()?;
+        let placed = body.code.get(number as usize)?;
+        Some(&placed.form)
+    }
+
+    /// The place of the instruction after the one at a byte place of a method's code, or the place itself where no
+    /// instruction begins.
+    #[tactic(auto, using(crate::proofs::Places::next_is))]
+    pub fn next_place(&self, method: u32, pc: u32) -> u32
+        ensures { result ≡ classes.next_place self.now method pc }
+    {
+        next_at(&self.nexts, method, pc)
+    }
 }
 
 /// The entry of a method's table at a byte place, 0 where there is none.
@@ -135,20 +158,53 @@ fn entry_at(numbers: &Items<Items<u16>>, method: u32, pc: u32) -> u16
     }
 }
 
-/// The numbers of each method's instructions by byte place.
-fn all_numbers(alloc: Global, p: &Program) -> Result<Items<Items<u16>>, NoMemory>
+/// The entry of a method's table at a byte place, the place itself where there is none.
+#[tactic(auto, using(crate::proofs::Places::get_some, crate::proofs::Places::get_none))]
+fn next_at(nexts: &Items<Items<u16>>, method: u32, pc: u32) -> u32
+    ensures { result ≡ get_or (get_or nexts.now method []) pc pc }
+{
+    match nexts.get(method as usize) {
+        None => pc,
+        Some(places) => match places.get(pc as usize) {
+            None => pc,
+            Some(next) => u32::from(*next),
+        },
+    }
+}
+
+/// The numbers of each method's instructions by byte place, and the places after them.
+fn all_places(
+    alloc: Global,
+    p: &Program,
+) -> Result<(Items<Items<u16>>, Items<Items<u16>>), NoMemory>
     requires { Linked p.now }
-    ensures { IfOk result (λ numbers. AreNumbers p.now numbers) }
+    ensures numbers { IfOk result (λ tables. AreNumbers p.now tables.0) }
+    ensures nexts { IfOk result (λ tables. AllNexts p.now tables.1) }
 {
     let mut numbers = Items::new(alloc);
+    let mut nexts = Items::new(alloc);
     for method in p.methods.as_slice() {
-        let places = match &method.body {
-            None => Items::new(alloc),
-            Some(body) => numbers_of(alloc, body)?,
-        };
-        numbers.push(places)?;
+        let (own_numbers, own_nexts) = places_of(alloc, method)?;
+        numbers.push(own_numbers)?;
+        nexts.push(own_nexts)?;
     }
-    Ok(numbers)
+    Ok((numbers, nexts))
+}
+
+/// The numbers of a method's instructions by byte place, and the places after them.
+fn places_of(alloc: Global, method: &MethodRec) -> Result<(Items<u16>, Items<u16>), NoMemory>
+    requires { IfSome method.now.body (λ b. IsBody b) }
+    ensures numbers { IfOk result (λ tables. ArePlaces method.now.body tables.0) }
+    ensures nexts { IfOk result (λ tables. AreNexts method.now.body tables.1) }
+{
+    match &method.body {
+        None => Ok((Items::new(alloc), Items::new(alloc))),
+        Some(body) => {
+            let numbers = numbers_of(alloc, body)?;
+            let nexts = nexts_of(alloc, body, numbers.as_slice())?;
+            Ok((numbers, nexts))
+        }
+    }
 }
 
 /// Each method's number of arguments.
