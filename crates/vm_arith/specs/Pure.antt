@@ -34,15 +34,6 @@ pub record IsSameFrame (s u : Entries) : Type 0 where
   pub pc : u.top.pc ≡ s.top.pc
   pub below : u.below ≡ s.below
 
--- the top operand is a long
-abbrev pub HasLongOnTop : List Value → Type 0
-HasLongOnTop [] = ⊥
-HasLongOnTop (Int n ∷ vs) = ⊥
-HasLongOnTop (Long n ∷ vs) = Unit {0}
-HasLongOnTop (Null ∷ vs) = ⊥
-HasLongOnTop (Lit n ∷ vs) = ⊥
-HasLongOnTop (Obj o ∷ vs) = ⊥
-
 -- the two top operands are ints
 abbrev pub HasIntsOnTop : List Value → Type 0
 HasIntsOnTop [] = ⊥

@@ -1,12 +1,9 @@
 //! Arithmetic of whole numbers and conversions.
 #![tactic(auto, unfolding(jvm_model::specs::Step::row, jvm_model::specs::RowsArith::row_arith))]
 
-ghost use Rattle.std.specs.Prelude.{◌≡◌, ◌∷◌, true, false};
+ghost use Rattle.std.specs.Prelude.{true, false};
 ghost use Rattle.jvm_model.specs.declared.instr.Instr.TheVariants as form;
-ghost use Rattle.vm_arith.specs.Pure.{HasRow, HasLongOnTop, GoesOn, Ends};
-ghost use Rattle.vm_frames.specs.Stack.{HasRoom};
-ghost use Rattle.jvm_model.specs.declared.values.Value.TheVariants.{Long};
-ghost use Rattle.jvm_model.specs.Entries.{with_stack};
+ghost use Rattle.vm_arith.specs.Pure.{HasRow, GoesOn, Ends};
 
 use crate::operations::{divides, of_ints, of_longs, shifted, shifts};
 use et_base::{add32, i2b, i2c, i2l, i2s, l2i, lcmp, neg32, neg64};
@@ -42,18 +39,18 @@ pub fn binary_longs(stack: &mut FrameStack, op: Op) -> Next
 {
     if shifts(op) {
         let b = stack.pop_int();
-        let a = pop_long(stack);
-        stack.push_value(Value::Long(shifted(op, a, b)));
+        let a = stack.pop_long();
+        stack.push_long(shifted(op, a, b));
         return Next::Go;
     }
-    let b = pop_long(stack);
-    let a = pop_long(stack);
+    let b = stack.pop_long();
+    let a = stack.pop_long();
     if b == 0 && divides(op) {
         return Next::Fault {
             class: ARITHMETIC_EXCEPTION,
         };
     }
-    stack.push_value(Value::Long(of_longs(op, a, b)));
+    stack.push_long(of_longs(op, a, b));
     Next::Go
 }
 
@@ -71,8 +68,8 @@ pub fn neg_long(stack: &mut FrameStack)
     requires { HasRow (form.Neg true) stack.old }
     ensures { GoesOn (form.Neg true) stack.old stack.new }
 {
-    let a = pop_long(stack);
-    stack.push_value(Value::Long(neg64(a)));
+    let a = stack.pop_long();
+    stack.push_long(neg64(a));
 }
 
 /// Adds a constant to the int in a local (`iinc`).
@@ -94,10 +91,10 @@ pub fn convert(stack: &mut FrameStack, to: Conv)
     match to {
         Conv::I2l => {
             let a = stack.pop_int();
-            stack.push_value(Value::Long(i2l(a)));
+            stack.push_long(i2l(a));
         }
         Conv::L2i => {
-            let a = pop_long(stack);
+            let a = stack.pop_long();
             stack.push_int(l2i(a));
         }
         Conv::I2b => {
@@ -120,19 +117,7 @@ pub fn compare(stack: &mut FrameStack)
     requires { HasRow form.Compare stack.old }
     ensures { GoesOn form.Compare stack.old stack.new }
 {
-    let b = pop_long(stack);
-    let a = pop_long(stack);
+    let b = stack.pop_long();
+    let a = stack.pop_long();
     stack.push_int(lcmp(a, b));
-}
-
-/// Takes the long on top. There is room for one operand again.
-fn pop_long(stack: &mut FrameStack) -> i64
-    requires { HasLongOnTop stack.old.top.stack }
-    ensures popped { stack.old ≡ with_stack stack.new (Long result ∷ stack.new.top.stack) }
-    ensures room { HasRoom 1 stack.new }
-{
-    let Value::Long(n) = stack.pop_value() else {
-        unreachable!()
-    };
-    n
 }
