@@ -1,6 +1,7 @@
 -- Typing lemmas for the other rows with touches: array stores and lengths, instanceof, and calls on a receiver.
 use Rattle.std.proofs.Common.{◌≡◌, ℕ, ℤ, ◌<◌, List, [], ◌∷◌, slice_get, true, false, cond, nat_lt, pos, negsuc, refl, sym, subst, Option, Some, None}
 use Rattle.std.proofs.lemmas.Bool.{ltb-true}
+use Rattle.et_base.specs.Numbers.{l2i}
 use Rattle.jvm_model.specs.declared.values.Value.{Value}
 use Rattle.jvm_model.specs.declared.values.Value.TheVariants.{Int, Long, Null, Lit, Obj}
 use Rattle.jvm_model.specs.declared.values.Base.{Base}
@@ -84,7 +85,7 @@ module _ (p : Program) (ty : Types) (sound : AreSound p ty) (G : List Head → N
 
   pub array_length-typed : (k : Kind) (ts : List ValueType) → NoConstant ty k → ((h : Head) → ty.fits h.kind k ≡ true → IsArrayHead h) → HasTypes ty hs (reference k ∷ ts) s.top.stack → Goes (int_type ∷ ts) → Throws null_pointer_exception ts → R (row_arrays p form.ArrayLength s)
   unfolding row_arrays
-  array_length-typed k ts nc m h go null = popping-typed p ty G hs (reference k) ts s.top.stack h (λ r vs e q. on_object-typed p ty G hs (with_stack s vs) r k e nc (null vs q) (λ o y. head-typed p ty G hs o k y (λ z w f. on_array-typed z (m z f) (typed_done (go (Int (pos z.length) ∷ vs) (tt, q))))))
+  array_length-typed k ts nc m h go null = popping-typed p ty G hs (reference k) ts s.top.stack h (λ r vs e q. on_object-typed p ty G hs (with_stack s vs) r k e nc (null vs q) (λ o y. head-typed p ty G hs o k y (λ z w f. on_array-typed z (m z f) (typed_done (go (Int (l2i (pos z.length)) ∷ vs) (tt, q))))))
 
   -- instanceof
   tested-typed : (k l : Kind) (ts : List ValueType) (v : Value) (vs : List Value) → HasType ty hs (reference l) v → HasTypes ty hs ts vs → Goes (int_type ∷ ts) → R (tested p k s v vs)

@@ -2,9 +2,7 @@
 
 ghost use Rattle.std.specs.Prelude.{◌≡◌, ◌<◌, ◌+◌, ◌++◌, length, map, option_map, IfOk, OnOk};
 ghost use Rattle.class_pool.specs.Pool.{entry_of};
-ghost use Rattle.jvm_model.specs.declared.values.Value.TheVariants.{Int};
-ghost use Rattle.jvm_model.specs.Classes.{is_static, default_of};
-ghost use Rattle.jvm_model.specs.Narrow.{narrow_int, narrowed};
+ghost use Rattle.jvm_model.specs.Classes.{is_static};
 ghost use Rattle.class_link.specs.Assembly.{constant_opening, opening, field_rec, field_recs, method_rec, method_recs, bare_body};
 
 use crate::entries::text_at;
@@ -12,9 +10,8 @@ use crate::literals::Literals;
 use class_pool::Entry;
 use class_pool::lookup::entry_at;
 use class_reader::{ClassFile, CodePart, MemberPart};
-use et_base::letters::{BOOLEAN, BYTE, CHAR, INT, LONG, SHORT};
-use et_base::{Items, NoMemory, i2b, i2c, i2s};
-use jvm_model::{Body, FieldRec, MethodRec, Value};
+use et_base::{Items, NoMemory};
+use jvm_model::{Body, FieldRec, MethodRec, Value, default_of};
 use std::alloc::Global;
 
 const STATIC: u16 = 0x0008;
@@ -24,41 +21,6 @@ pub(crate) fn is_static(flags: u16) -> bool
     ensures { result ≡ is_static flags }
 {
     flags / STATIC % 2 == 1
-}
-
-// The default value of a type, by its descriptor (JVMS 2.3 and 2.4).
-fn default_of(descriptor: &[u16]) -> Value
-    ensures { result ≡ default_of descriptor.now }
-{
-    match descriptor {
-        [BYTE | CHAR | INT | SHORT | BOOLEAN, ..] => Value::Int(0),
-        [LONG, ..] => Value::Long(0),
-        _ => Value::Null,
-    }
-}
-
-// A whole number narrowed to a type, by the first unit of its descriptor.
-fn narrow_int(unit: u16, number: i32) -> i32
-    ensures { result ≡ narrow_int unit number }
-{
-    match unit {
-        BOOLEAN => number.rem_euclid(2),
-        BYTE => i2b(number),
-        CHAR => i2c(number),
-        SHORT => i2s(number),
-        _ => number,
-    }
-}
-
-// The same by the descriptor.
-#[tactic(auto, unfolding(jvm_model::specs::Narrow::narrow))]
-fn narrowed(descriptor: &[u16], number: i32) -> Value
-    ensures { result ≡ narrowed descriptor.now (Int number) }
-{
-    match descriptor {
-        [] => Value::Int(number),
-        [unit, ..] => Value::Int(narrow_int(*unit, number)),
-    }
 }
 
 // The value that a ConstantValue gives to a field of this type (JVMS 4.7.2).
@@ -71,7 +33,7 @@ fn constant_opening(
     ensures { result ≡ constant_opening texts.now slots.now descriptor.now (entry_of slots.now index) }
 {
     match entry_at(slots, index) {
-        Some(Entry::Integer(number)) => narrowed(descriptor, *number),
+        Some(Entry::Integer(number)) => Value::Int(*number).narrowed(descriptor),
         Some(Entry::Long(number)) => Value::Long(*number),
         Some(Entry::Str { text }) => Value::Lit(texts.number(text_at(slots, *text))),
         _ => default_of(descriptor),

@@ -18,6 +18,7 @@ use Rattle.jvm_model.specs.Builtin.{array_index_exception, array_store_exception
 use Rattle.jvm_model.specs.Entries.{Entries, with_stack}
 use Rattle.jvm_model.specs.Kinds.{element_kind, kind_fits}
 use Rattle.jvm_model.specs.Narrow.{narrow}
+use Rattle.et_base.specs.Numbers.{l2i}
 use Rattle.jvm_model.specs.Rows.{Answer, none_here, faults, goes_on, popping, on_int, on_object, with_kind}
 
 -- what comes at an array
@@ -67,5 +68,5 @@ loaded_from p s o i vs h = on_array h.kind (in_range (with_stack s vs) i h.lengt
 unfoldable pub row_arrays : Program → Instr → Entries → Access (Answer Entries)
 row_arrays p (form.ArrayLoad c) s = popping s.top.stack (λ v vs. popping vs (λ r rest. on_int v (λ i. on_object (with_stack s rest) r (λ o. read (place.Head o) (λ h. loaded_from p s o i rest h)))))
 row_arrays p (form.ArrayStore c) s = popping s.top.stack (λ v vs. popping vs (λ j ws. popping ws (λ r rest. on_int j (λ i. on_object (with_stack s rest) r (λ o. read (place.Head o) (λ h. stored_in p c s o i v rest h))))))
-row_arrays p form.ArrayLength s = popping s.top.stack (λ r vs. on_object (with_stack s vs) r (λ o. read (place.Head o) (λ h. on_array h.kind (goes_on p s (Int (pos h.length) ∷ vs)))))
+row_arrays p form.ArrayLength s = popping s.top.stack (λ r vs. on_object (with_stack s vs) r (λ o. read (place.Head o) (λ h. on_array h.kind (goes_on p s (Int (l2i (pos h.length)) ∷ vs)))))
 row_arrays p _ s = none_here

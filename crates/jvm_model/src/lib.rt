@@ -5,6 +5,7 @@ mod builtin;
 mod descriptors;
 mod instr;
 mod library;
+mod narrowing;
 mod outcome;
 mod program;
 mod questions;
@@ -12,12 +13,17 @@ mod state;
 mod values;
 
 pub use builtin::{
-    ASSERTION_ERROR, BUILTIN_COUNT, CLINIT, INIT, NO_ARGUMENTS, OBJECT, PRINT_STREAM, STRING,
-    STRING_BUILDER, THROWABLE,
+    ABSTRACT_METHOD_ERROR, ARITHMETIC_EXCEPTION, ARRAY_INDEX_EXCEPTION, ARRAY_STORE_EXCEPTION,
+    ASSERTION_ERROR, BUILTIN_COUNT, CLASS_CAST_EXCEPTION, CLINIT, ERROR,
+    EXCEPTION_IN_INITIALIZER_ERROR, INCOMPATIBLE_CLASS_CHANGE_ERROR, INIT, INSTANTIATION_ERROR,
+    MESSAGE, NEGATIVE_ARRAY_SIZE_EXCEPTION, NO_ARGUMENTS, NO_CLASS_DEF_FOUND_ERROR,
+    NULL_POINTER_EXCEPTION, OBJECT, PRINT_STREAM, STACK_OVERFLOW_ERROR, STRING, STRING_BUILDER,
+    STRING_INDEX_EXCEPTION, THROWABLE,
 };
 pub use descriptors::{parameter_count, parameters, return_type};
 pub use instr::{Cell, Conv, IfTest, Instr, Op, Sort};
 pub use library::{ClassDef, FieldDef, MethodDef, Native};
+pub use narrowing::{default_of, narrow_int};
 pub use outcome::{Cause, Next, Outcome, Own, Verdict};
 pub use program::{
     Body, ClassRec, FieldRec, FrameRec, Handler, MethodRec, Names, Placed, Program, TestEntry,

@@ -7,8 +7,9 @@ ghost use Rattle.jvm_model.specs.Classes.{layout_in, plain_fields, class_at, fie
 ghost use Rattle.jvm_model.specs.Kinds as kinds;
 ghost use Rattle.jvm_model.specs.Selection.{has_code};
 ghost use Rattle.jvm_model.specs.RowsCalls.{argument_count};
+ghost use Rattle.jvm_model.specs.Rows.{constant_kind};
 
-use crate::builtin::OBJECT;
+use crate::builtin::{OBJECT, PRINT_STREAM, STRING};
 use crate::descriptors::parameter_count;
 use crate::program::{ClassRec, FieldRec, MethodRec, Program};
 use crate::values::{Base, Kind};
@@ -484,6 +485,17 @@ fn is_object(base: Base) -> bool
 }
 
 impl Kind {
+    /// What a constant object is an instance of: the stream is one of PrintStream, the others are strings.
+    pub fn of_constant(literal: u32) -> Kind
+        ensures { result ≡ constant_kind literal }
+    {
+        if literal == 0 {
+            Kind::Class(PRINT_STREAM)
+        } else {
+            Kind::Class(STRING)
+        }
+    }
+
     /// The class of an object of this kind; an array is of class Object (JVMS 6.5, invokevirtual).
     pub fn class(self) -> u32
         ensures { result ≡ kinds.class_of self }

@@ -1,5 +1,6 @@
 -- Rows with touches in pairs: statics, fields, new objects, arrays, casts, calls.
 use Rattle.std.proofs.Common.{◌≡◌, ℕ, ℤ, zero, suc, ◌+◌, Bool, true, false, cond, List, [], ◌∷◌, length, nat_lt, nat_le, slice_get, refl, ap, subst, arith, pos, negsuc, Option, Some, None}
+use Rattle.et_base.specs.Numbers.{l2i}
 use Rattle.jvm_model.specs.declared.values.Value.{Value}
 use Rattle.jvm_model.specs.declared.values.Value.TheVariants.{Int}
 use Rattle.jvm_model.specs.declared.values.Kind.{Kind}
@@ -165,8 +166,8 @@ module _ (tw : Twins) where
       Rows tw (loaded_from tw.left s a i vs h) (loaded_from tw.right t b i ws k)
   loaded_from-paired i f x rs e = on_array-paired e.kind (in_range-paired i (left_with f rs) e.length (λ j. both_read (at_elem j x) (λ v w r. goes_on-paired tw f (one_more r rs))))
 
-  length_int : {a b : ℕ} → a ≡ b → V tw (Int (pos a)) (Int (pos b))
-  length_int {a} {b} e = subst (λ (z : ℕ). V tw (Int (pos a)) (Int (pos z))) e (ints (pos a))
+  length_int : {a b : ℕ} → a ≡ b → V tw (Int (l2i (pos a))) (Int (l2i (pos b)))
+  length_int {a} {b} e = subst (λ (z : ℕ). V tw (Int (l2i (pos a))) (Int (l2i (pos z)))) e (ints (l2i (pos a)))
 
   pub arrays-paired : {i j : Instr} {s t : Entries} → PairedInstr tw.numbers i j → Frames tw s t → Rows tw (row_arrays tw.left i s) (row_arrays tw.right j t)
   unfolding row_arrays

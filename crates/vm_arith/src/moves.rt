@@ -9,11 +9,8 @@ ghost use Rattle.jvm_model.specs.RowsMoves as moves;
 ghost use Rattle.vm_frames.specs.Stack.{HasRoom};
 ghost use Rattle.vm_arith.specs.Pure.{HasRow, IsThere, GoesOn, Continues, Ends};
 
-use jvm_model::{Next, Value};
+use jvm_model::{NULL_POINTER_EXCEPTION, Next, Value};
 use vm_frames::FrameStack;
-
-/// The class `java.lang.NullPointerException`.
-const NULL_POINTER_EXCEPTION: u32 = 24;
 
 /// Puts a constant on top (`aconst_null`, `iconst_<i>`, `lconst_<l>`, `bipush`, `sipush`, `ldc`, `ldc2_w`).
 pub fn constant(stack: &mut FrameStack, v: Value)

@@ -7,11 +7,8 @@ ghost use Rattle.vm_arith.specs.Pure.{HasRow, GoesOn, Ends};
 
 use crate::operations::{divides, of_ints, of_longs, shifted, shifts};
 use et_base::{add32, i2b, i2c, i2l, i2s, l2i, lcmp, neg32, neg64};
-use jvm_model::{Conv, Next, Op, Value};
+use jvm_model::{ARITHMETIC_EXCEPTION, Conv, Next, Op, Value};
 use vm_frames::FrameStack;
-
-/// The class `java.lang.ArithmeticException`.
-const ARITHMETIC_EXCEPTION: u32 = 20;
 
 /// Takes two ints and puts what the operation gives of them, the upper one second; division and remainder by 0 throw
 /// (`iadd`, `isub`, `imul`, `idiv`, `irem`, `ishl`, `ishr`, `iushr`, `iand`, `ior`, `ixor`).

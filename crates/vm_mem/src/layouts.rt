@@ -1,12 +1,12 @@
 ghost use Rattle.std.specs.Prelude.{◌≡◌, IfOk};
 ghost use Rattle.jvm_model.specs.declared.values.Kind.TheVariants.{Class};
-ghost use Rattle.jvm_model.specs.Classes.{blank, fields_of, default_of};
+ghost use Rattle.jvm_model.specs.Classes.{blank, fields_of};
 ghost use Rattle.jvm_model.specs.Classes as classes;
 ghost use Rattle.jvm_model.specs.Linked.{Linked};
 
 use crate::object::Object;
 use et_base::{Items, NoMemory};
-use jvm_model::{Base, Head, Kind, Program, Value};
+use jvm_model::{Base, Head, Kind, Program, Value, default_of};
 use std::alloc::Global;
 use std::marker::Model;
 use std::snapshot::Snapshot;
@@ -86,20 +86,9 @@ fn layout(alloc: Global, p: &Program, class: u32) -> Result<Items<(u32, Value)>,
     let numbers = p.layout(alloc, class)?;
     let mut fields = Items::new(alloc);
     for field in numbers.as_slice() {
-        fields.push((*field, default_value(p.field_descriptor(*field))))?;
+        fields.push((*field, default_of(p.field_descriptor(*field))))?;
     }
     Ok(fields)
-}
-
-/// The default value of a type (JVMS 2.3 and 2.4).
-fn default_value(descriptor: &[u16]) -> Value
-    ensures { result ≡ default_of descriptor.now }
-{
-    match descriptor {
-        [66 | 67 | 73 | 83 | 90, ..] => Value::Int(0),
-        [74, ..] => Value::Long(0),
-        _ => Value::Null,
-    }
 }
 
 /// The default value of an array's elements (JVMS 2.3 and 2.4).

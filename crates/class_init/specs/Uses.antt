@@ -1,0 +1,37 @@
+-- What contracts say of the use of a class.
+use Rattle.std.specs.Prelude.{◌≡◌, ◌≢◌, ℕ, List, Bool, true, false}
+use Rattle.jvm_model.specs.declared.program.Program.{Program}
+use Rattle.jvm_model.specs.declared.values.Touch.{Touch}
+use Rattle.jvm_model.specs.World.{World}
+use Rattle.jvm_model.specs.Entries.{Entries}
+use Rattle.jvm_model.specs.Rows.{Used, ready, begun, refused, begin}
+use Rattle.jvm_model.specs.View.{Counted, over, ended, counted, paid, touched, IsSafe, Any}
+use Rattle.vm_mem.specs.Story.{Story}
+use Rattle.class_init.specs.declared.uses.Use.{Use}
+use Rattle.class_init.specs.declared.uses.Use.TheVariants.{Ready, Begun, Fault, Over}
+
+-- whether the answer has counted the 1 of the step
+abbrev pub counts_step : Use → Bool
+counts_step Ready = false
+counts_step Begun = true
+counts_step (Fault c) = false
+counts_step Over = true
+
+-- how the use of a class ended, where the code answered this and left these
+abbrev pub use_outcome : Use → Entries → World → ℕ → Counted Used
+use_outcome Ready s w left = ended ready w left
+use_outcome Begun s w left = ended (begun s) w left
+use_outcome (Fault c) s w left = ended (refused c) w left
+use_outcome Over s w left = over
+
+-- each location that the use of the class meets is there
+abbrev pub IsUsable : ℕ → Program → World → Entries → Type 0
+IsUsable c p w s = IsSafe Any (begin p c s) w
+
+-- the use of the class, with the 1 of the step where the answer counts it, ends as a call answered
+abbrev pub MeetsUse : ℕ → Program → World → Entries → ℕ → Use → Entries → World → ℕ → Type 0
+MeetsUse c p w s left u s' w' left' = counted (paid (counts_step u) (begin p c s)) w left ≡ use_outcome u s' w' left'
+
+-- unless its cost is above the units left, a memory then follows the touches of the use
+abbrev pub TellsUse : {M : Type 0} → ℕ → Program → World → Entries → Use → (M → Story → List Touch → Type 0) → M → M → Type 0
+TellsUse c p w s u follows old new = u ≢ Over → (h : Story) (ts : List Touch) → follows old h ts → follows new h (touched (begin p c s) w ts)

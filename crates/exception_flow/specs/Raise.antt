@@ -1,0 +1,7 @@
+-- The row of a raised throwable, as contracts name it.
+use Rattle.jvm_model.specs.declared.values.Value.{Value}
+use Rattle.jvm_model.specs.Raising.{row_raise}
+use Rattle.vm_mem.specs.Meets.{Row}
+
+abbrev pub raise_row : Value → Row
+raise_row v p s = row_raise p v s
