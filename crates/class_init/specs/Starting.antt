@@ -6,29 +6,30 @@ use Rattle.jvm_model.specs.declared.program.Program.{Program}
 use Rattle.jvm_model.specs.Classes.{class_at, method_at}
 use Rattle.jvm_model.specs.Rows.{none_here}
 use Rattle.jvm_model.specs.Initialise.{Part, row_fail, finished, looks, looked_at, starts, starts_body}
+use Rattle.jvm_model.specs.Entries.{Entries}
 use Rattle.vm_mem.specs.Meets.{Row}
 
-abbrev pub fail_row : Value → Row
+abbrev pub fail_row : Value → Row Entries
 fail_row v p s = row_fail p v s
 
 -- the class is Done
-abbrev pub leave_row : Row
+abbrev pub leave_row : Row Entries
 leave_row p s = finished s
 
 -- the states of these parts are still to be looked at; n is the price so far
-abbrev pub look_row : List Part → ℕ → Row
+abbrev pub look_row : List Part → ℕ → Row Entries
 look_row xs n p s = looks p xs n s
 
 -- this part is Idle
-abbrev pub begin_row : ℕ → ℕ → Row
+abbrev pub begin_row : ℕ → ℕ → Row Entries
 begin_row c n p s = looked_at c n s none_here Idle
 
 -- no part is left; n is the price of them all
-abbrev pub start_row : ℕ → Row
+abbrev pub start_row : ℕ → Row Entries
 start_row n p s = starts p (class_at p s.top.number).initialiser n s
 
 -- this `<clinit>` is entered
-abbrev pub enter_row : ℕ → ℕ → Row
+abbrev pub enter_row : ℕ → ℕ → Row Entries
 enter_row m n p s = starts_body (method_at p m).body m n s
 
 -- a class's `<clinit>`, where there is one, has code

@@ -12,12 +12,13 @@ use Rattle.jvm_model.specs.Rows.{Answer}
 use Rattle.jvm_model.specs.View.{IsSafe, IsRow, counted, paid, counts_one, outcome, touched}
 use Rattle.vm_mem.specs.Story.{Story}
 
--- a row or a part of one, in a program, on entries
-abbrev pub Row : Type 0
-Row = Program → Entries → Access (Answer Entries)
+-- A row or a part of one, in a program, on what it works on: the entries, or of a built-in method also what the test has of
+-- its own.
+abbrev pub Row : Type 0 → Type 0
+Row S = Program → S → Access (Answer S)
 
 -- there is a row, and each location that it meets is there
-abbrev pub IsReady : Row → Program → World → Entries → Type 0
+abbrev pub IsReady : {S : Type 0} → Row S → Program → World → S → Type 0
 IsReady t p w s = IsSafe IsRow (t p s) w
 
 -- the place of the instruction after the one at the top frame's place
@@ -25,9 +26,9 @@ abbrev pub IsNext : Program → Entries → ℕ → Type 0
 IsNext p s n = next_place p s.top.number s.top.pc ≡ n
 
 -- the row, with the 1 of its step, ends as a call answered, with these entries, world and units left
-abbrev pub Meets : Row → Program → World → Entries → ℕ → Next → Entries → World → ℕ → Type 0
+abbrev pub Meets : {S : Type 0} → Row S → Program → World → S → ℕ → Next → S → World → ℕ → Type 0
 Meets t p w s left x s' w' left' = counted (paid (counts_one p x) (t p s)) w left ≡ outcome x s' w' left'
 
 -- unless its cost is above the units left, a memory then follows the touches of the row
-abbrev pub Tells : {M : Type 0} → Row → Program → World → Entries → Next → (M → Story → List Touch → Type 0) → M → M → Type 0
+abbrev pub Tells : {S M : Type 0} → Row S → Program → World → S → Next → (M → Story → List Touch → Type 0) → M → M → Type 0
 Tells t p w s x follows old new = x ≢ Over → (h : Story) (ts : List Touch) → follows old h ts → follows new h (touched (t p s) w ts)
