@@ -1,0 +1,58 @@
+-- The lengths of an array of arrays as they're taken off the operands.
+use Rattle.std.proofs.Common.{◌≡◌, ◌≢◌, ◌<◌, ◌≤◌, ℕ, ℤ, zero, suc, pos, negsuc, List, [], ◌∷◌, Bool, true, false, Option, Some, None, Result, IfOk, refl, sym, ap, ◌∙◌, subst, arith}
+use Rattle.std.proofs.lemmas.Result.{IfOk-weaker}
+use Rattle.jvm_model.specs.declared.values.Value.{Value}
+use Rattle.jvm_model.specs.declared.values.Value.TheVariants.{Int, Long, Null, Lit, Obj}
+use Rattle.jvm_model.specs.declared.values.Kind.{Kind}
+use Rattle.jvm_model.specs.declared.values.Touch.{Touch}
+use Rattle.jvm_model.specs.declared.outcome.Next.{Next}
+use Rattle.jvm_model.specs.declared.program.Program.{Program}
+use Rattle.jvm_model.specs.World.{World}
+use Rattle.jvm_model.specs.Access.{Access}
+use Rattle.jvm_model.specs.Entries.{Entries, with_stack}
+use Rattle.jvm_model.specs.Rows.{Answer}
+use Rattle.jvm_model.specs.RowsCreate.{sized, nested}
+use Rattle.jvm_model.specs.View.{IsSafe, IsRow, counted, paid, counts_one, outcome, touched}
+use Rattle.vm_mem.specs.Story.{Story}
+use Rattle.vm_mem.specs.Meets.{Row, IsReady, Meets, Tells}
+use Rattle.vm_objects.specs.Nests.{HasInts, nested_row}
+
+module _ (p : Program) (k : Kind) (s : Entries) (w : World) where
+  -- where there is a row, the lengths are ints
+  pub ints_there : (d : ℕ) (vs : List Value) (bad : Bool) (ns : List ℕ) → IsSafe IsRow (sized p k s d vs bad ns) w → HasInts d vs
+  ints_there zero vs bad ns h = tt
+  ints_there (suc d) [] bad ns h = absurd h
+  ints_there (suc d) (Int (pos n) ∷ vs) bad ns h = (tt, ints_there d vs bad (n ∷ ns) h)
+  ints_there (suc d) (Int (negsuc n) ∷ vs) bad ns h = (tt, ints_there d vs true ns h)
+  ints_there (suc d) (Long n ∷ vs) bad ns h = absurd h
+  ints_there (suc d) (Null ∷ vs) bad ns h = absurd h
+  ints_there (suc d) (Lit n ∷ vs) bad ns h = absurd h
+  ints_there (suc d) (Obj o ∷ vs) bad ns h = absurd h
+
+  -- there is one length at least
+  pub some_there : (d : ℕ) (vs : List Value) → IsSafe IsRow (sized p k s d vs false []) w → 0 < d
+  some_there zero vs h = absurd h
+  some_there (suc d) vs h = omega arith
+
+-- what is left of the row looks at no other operands than those that are left
+other_stack : (p : Program) (k : Kind) (s : Entries) (vs : List Value) (ns : List ℕ) → nested p k s vs ns ≡ nested p k (with_stack s vs) vs ns
+other_stack p k s vs [] = refl
+other_stack p k s vs (n ∷ ns) = refl
+
+pub lengths_taken : (p : Program) (k : Kind) (s s' : Entries) (ns : List ℕ) → s' ≡ with_stack s s'.top.stack → nested p k s s'.top.stack ns ≡ nested_row k ns p s'
+lengths_taken p k s s' ns e = other_stack p k s s'.top.stack ns ∙ ap (λ z. nested p k z s'.top.stack ns) (sym e)
+
+-- a row that is another one's on what it works on
+module _ (t u : Row Entries) (p : Program) (s s' : Entries) (w : World) (e : t p s ≡ u p s') where
+  pub same_ready : IsReady t p w s → IsReady u p w s'
+  same_ready h = subst (λ r. IsSafe IsRow r w) e h
+
+  pub same_meets : {E : Type 0} (left : ℕ) (r : Result Next E) (s2 : Entries) (w2 : World) (left2 : ℕ) →
+      IfOk r (λ y. Meets u p w s' left y s2 w2 left2) → IfOk r (λ y. Meets t p w s left y s2 w2 left2)
+  same_meets left r s2 w2 left2 = IfOk-weaker r (λ y. Meets u p w s' left y s2 w2 left2) (λ y. Meets t p w s left y s2 w2 left2)
+      (λ y h. ap (λ z. counted (paid (counts_one p y) z) w left) e ∙ h)
+
+  pub same_tells : {E M : Type 0} (follows : M → Story → List Touch → Type 0) (m0 m2 : M) (r : Result Next E) →
+      IfOk r (λ y. Tells u p w s' y follows m0 m2) → IfOk r (λ y. Tells t p w s y follows m0 m2)
+  same_tells follows m0 m2 r = IfOk-weaker r (λ y. Tells u p w s' y follows m0 m2) (λ y. Tells t p w s y follows m0 m2)
+      (λ y h n q ts f. subst (λ z. follows m2 q z) (sym (ap (λ z. touched z w ts) e)) (h n q ts f))
