@@ -1,21 +1,25 @@
 -- The lengths of an array of arrays as they're taken off the operands.
-use Rattle.std.proofs.Common.{◌≡◌, ◌≢◌, ◌<◌, ◌≤◌, ℕ, ℤ, zero, suc, pos, negsuc, List, [], ◌∷◌, Bool, true, false, Option, Some, None, Result, IfOk, refl, sym, ap, ◌∙◌, subst, arith}
+use Rattle.std.proofs.Common.{◌≡◌, ◌≢◌, ◌<◌, ◌≤◌, ◌+◌, ◌-◌, ℕ, ℤ, zero, suc, pos, negsuc, List, [], ◌∷◌, Bool, true, false, Option, Some, None, Result, IfOk, refl, sym, ap, ◌∙◌, subst, arith}
+use Rattle.std.specs.Prelude.{take, drop, length, slice_set}
 use Rattle.std.proofs.lemmas.Result.{IfOk-weaker}
+use Rattle.std.proofs.lemmas.List.{drop-set, take_all, length-drop}
 use Rattle.jvm_model.specs.declared.values.Value.{Value}
 use Rattle.jvm_model.specs.declared.values.Value.TheVariants.{Int, Long, Null, Lit, Obj}
 use Rattle.jvm_model.specs.declared.values.Kind.{Kind}
 use Rattle.jvm_model.specs.declared.values.Touch.{Touch}
+use Rattle.jvm_model.specs.declared.instr.Instr.TheVariants as form
 use Rattle.jvm_model.specs.declared.outcome.Next.{Next}
 use Rattle.jvm_model.specs.declared.program.Program.{Program}
 use Rattle.jvm_model.specs.World.{World}
 use Rattle.jvm_model.specs.Access.{Access}
 use Rattle.jvm_model.specs.Entries.{Entries, with_stack}
 use Rattle.jvm_model.specs.Rows.{Answer}
-use Rattle.jvm_model.specs.RowsCreate.{sized, nested}
+use Rattle.jvm_model.specs.RowsCreate.{row_create, sized, nested}
 use Rattle.jvm_model.specs.View.{IsSafe, IsRow, counted, paid, counts_one, outcome, touched}
 use Rattle.vm_mem.specs.Story.{Story}
 use Rattle.vm_mem.specs.Meets.{Row, IsReady, Meets, Tells}
-use Rattle.vm_objects.specs.Nests.{HasInts, nested_row}
+use Rattle.vm_objects.specs.Forms.{create_row, count_of}
+use Rattle.vm_objects.specs.Nests.{HasInts, nested_row, taken}
 
 module _ (p : Program) (k : Kind) (s : Entries) (w : World) where
   -- where there is a row, the lengths are ints
@@ -34,13 +38,49 @@ module _ (p : Program) (k : Kind) (s : Entries) (w : World) where
   some_there zero vs h = absurd h
   some_there (suc d) vs h = omega arith
 
+-- a length is taken
+length_step : (p : Program) (k : Kind) (s : Entries) (d : ℕ) (m : ℤ) (n : ℕ) (vs : List Value) (bad : Bool) (ns : List ℕ) → count_of m ≡ Some n → sized p k s (suc d) (Int m ∷ vs) bad ns ≡ sized p k s d vs bad (n ∷ ns)
+length_step p k s d (pos j) n vs bad ns h = let q : j ≡ n = cc in ap (λ x. sized p k s d vs bad (x ∷ ns)) q
+length_step p k s d (negsuc j) n vs bad ns h = absurd (cc)
+
+before_start : (xs : List ℕ) (i n : ℕ) → 0 < i → i ≤ length xs → drop (i - 1) (slice_set xs (i - 1) n) ≡ n ∷ drop i xs
+before_start xs i n a b =
+    let lt : i - 1 < length xs = omega arith in
+    let back : (i - 1) + 1 ≡ i = omega arith in
+    drop-set xs (i - 1) n lt ∙ ap (λ j. n ∷ drop j xs) back
+
+pub length_taken : (p : Program) (k : Kind) (s : Entries) (d i n : ℕ) (m : ℤ) (old new : Entries) (bad : Bool) (xs : List ℕ) → 0 < d → 0 < i → i ≤ length xs → old ≡ with_stack new (Int m ∷ new.top.stack) → count_of m ≡ Some n →
+    sized p k s d old.top.stack bad (drop i xs) ≡ sized p k s (d - 1) new.top.stack bad (drop (i - 1) (slice_set xs (i - 1) n))
+length_taken p k s d i n m old new bad xs some begun within popped count =
+    let less : d ≡ suc (d - 1) = omega arith in
+    ap (λ x. sized p k s x old.top.stack bad (drop i xs)) less
+    ∙ ap (λ (z : Entries). sized p k s (suc (d - 1)) z.top.stack bad (drop i xs)) popped
+    ∙ length_step p k s (d - 1) m n new.top.stack bad (drop i xs) count
+    ∙ ap (λ ys. sized p k s (d - 1) new.top.stack bad ys) (sym (before_start xs i n begun within))
+
+pub row_multi : (p : Program) (k : Kind) (d : ℕ) (s : Entries) → row_create p (form.MultiNewArray k d) s ≡ sized p k s d s.top.stack false []
+unfolding row_create
+row_multi p k d s = refl
+
 -- what is left of the row looks at no other operands than those that are left
 other_stack : (p : Program) (k : Kind) (s : Entries) (vs : List Value) (ns : List ℕ) → nested p k s vs ns ≡ nested p k (with_stack s vs) vs ns
 other_stack p k s vs [] = refl
 other_stack p k s vs (n ∷ ns) = refl
 
-pub lengths_taken : (p : Program) (k : Kind) (s s' : Entries) (ns : List ℕ) → s' ≡ with_stack s s'.top.stack → nested p k s s'.top.stack ns ≡ nested_row k ns p s'
+lengths_taken : (p : Program) (k : Kind) (s s' : Entries) (ns : List ℕ) → s' ≡ with_stack s s'.top.stack → nested p k s s'.top.stack ns ≡ nested_row k ns p s'
 lengths_taken p k s s' ns e = other_stack p k s s'.top.stack ns ∙ ap (λ z. nested p k z s'.top.stack ns) (sym e)
+
+-- from a place of a list up to its end
+to_end : (ns : List ℕ) (i n : ℕ) → length ns ≡ n → take (n - i) (drop i ns) ≡ drop i ns
+to_end ns i n h =
+    let e = length-drop i ns in
+    let k : length (drop i ns) ≤ n - i = omega arith in
+    take_all (n - i) (drop i ns) k
+
+pub row_taken : (p : Program) (k : Kind) (d : ℕ) (s s' : Entries) (ns : List ℕ) (n : ℕ) (r : Option ℕ) (i : ℕ) → length ns ≡ n → sized p k s d s.top.stack false [] ≡ taken p k s s'.top.stack ns r → r ≡ Some i → s' ≡ with_stack s s'.top.stack →
+    create_row (form.MultiNewArray k d) p s ≡ nested_row k (take (n - i) (drop i ns)) p s'
+row_taken p k d s s' ns n r i long e q kept =
+    row_multi p k d s ∙ e ∙ ap (λ x. taken p k s s'.top.stack ns x) q ∙ lengths_taken p k s s' (drop i ns) kept ∙ ap (λ x. nested_row k x p s') (sym (to_end ns i n long))
 
 -- a row that is another one's on what it works on
 module _ (t u : Row Entries) (p : Program) (s s' : Entries) (w : World) (e : t p s ≡ u p s') where

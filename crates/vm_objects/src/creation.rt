@@ -8,14 +8,54 @@ ghost use Rattle.vm_frames.specs.Stack.{HasRoom};
 ghost use Rattle.vm_mem.specs.Meets.{IsReady, IsNext, Meets, Tells};
 ghost use Rattle.vm_objects.specs.Forms.{create_row, object_row, count_of};
 
+use crate::nesting::multi_new_array;
 use class_init::{Use, begin_use};
 use et_base::NoMemory;
 use jvm_model::{
-    Head, INSTANTIATION_ERROR, Kind, NEGATIVE_ARRAY_SIZE_EXCEPTION, Next, Program, Value,
+    Head, INSTANTIATION_ERROR, Instr, Kind, NEGATIVE_ARRAY_SIZE_EXCEPTION, Next, Program, Value,
 };
 use vm_frames::FrameStack;
 use vm_mem::Memory;
 use vm_tables::Tables;
+
+/// Makes the step of `new`, `newarray`, `anewarray` or `multianewarray`, with the byte place of the next instruction. It
+/// writes the head of each new object and all its cells, and costs 1, and for each of them 1 and the number of its cells.
+///
+/// A class without instances and a negative length throw, which counts nothing. Where the initialisation of the class of
+/// `new` is begun, its entry is on top, which costs 1; where the class can't be used the step throws, which counts
+/// nothing. It answers Over where the cost is above the units left. The only error is want of memory.
+pub fn create<M: Memory>(
+    stack: &mut FrameStack,
+    memory: &mut M,
+    program: &Program,
+    tables: &Tables,
+    form: &Instr,
+    next: u32,
+    left: &mut u64,
+) -> Result<Next, NoMemory>
+    requires program { program.now ≡ M.program memory.old }
+    requires tables { tables.now ≡ M.program memory.old }
+    requires row { IsReady (create_row form.now)
+        (M.program memory.old) (M.world memory.old) stack.old }
+    requires room { HasRoom 1 stack.old }
+    requires place { IsNext (M.program memory.old) stack.old next }
+    ensures meets { IfOk result (λ x. Meets (create_row form.now)
+        (M.program memory.old) (M.world memory.old) stack.old left.old
+        x stack.new (M.world memory.new) left.new) }
+    ensures told { IfOk result (λ x. Tells (create_row form.now)
+        (M.program memory.old) (M.world memory.old) stack.old
+        x M.follows memory.old memory.new) }
+    ensures of { OnOk result (M.program memory.new ≡ M.program memory.old) }
+{
+    match form {
+        Instr::New { class } => new_object(stack, memory, program, tables, *class, next, left),
+        Instr::NewArray { kind } => new_array(stack, memory, *kind, next, left),
+        Instr::MultiNewArray { kind, dims } => {
+            multi_new_array(stack, memory, *kind, *dims, next, left)
+        }
+        _ => unreachable!(),
+    }
+}
 
 /// Uses a class and puts a new instance of it on top, its fields with the default values of their types (`new`). It
 /// writes the object's head and each field, and costs 2 and the number of fields.

@@ -10,7 +10,7 @@ mod static_access;
 
 pub use array_access::{array_length, array_load, array_store, arrays};
 pub use casting::{casts, check_cast, instance_of};
-pub use creation::{new_array, new_object};
+pub use creation::{create, new_array, new_object};
 pub use field_access::{fields, get_field, put_field};
 pub use nesting::multi_new_array;
 pub use static_access::{get_static, put_static, statics};
