@@ -2,4 +2,5 @@
 #![tactic(auto)]
 
 mod string;
+mod texts;
 mod working;
