@@ -1,14 +1,20 @@
 -- The rows of built-in methods and of their ends, as contracts name them.
-use Rattle.std.specs.Prelude.{ℕ, List, ◌∷◌}
+use Rattle.std.specs.Prelude.{ℕ, ℤ, pos, List, ◌∷◌, length, get_or, Option, Some, None}
+use Rattle.std.specs.Str.{bytes_eq}
 use Rattle.jvm_model.specs.declared.values.Value.{Value}
 use Rattle.jvm_model.specs.declared.library.Native.{Native}
 use Rattle.jvm_model.specs.declared.outcome.Own.{Own}
 use Rattle.jvm_model.specs.Entries.{Entries}
+use Rattle.jvm_model.specs.declared.values.Value.TheVariants.{Int}
+use Rattle.jvm_model.specs.declared.values.Location.TheVariants as place
+use Rattle.jvm_model.specs.Access.{write, spend}
+use Rattle.jvm_model.specs.Builtin.{string_class, string_index_exception}
+use Rattle.jvm_model.specs.Rows.{faults, on_object}
 use Rattle.jvm_model.specs.Natives.{row_native}
-use Rattle.jvm_model.specs.NativesObject.{native_object, native_throwable}
-use Rattle.jvm_model.specs.NativesString.{native_string, native_builder, joined}
+use Rattle.jvm_model.specs.NativesObject.{native_object, native_throwable, sets_message, makes_message}
+use Rattle.jvm_model.specs.NativesString.{native_string, native_builder, text_index, compares, joined, appends}
 use Rattle.jvm_model.specs.NativesOutside.{native_system, native_print, native_files, native_env}
-use Rattle.jvm_model.specs.Working.{Working, operands, answers, answers_text}
+use Rattle.jvm_model.specs.Working.{Working, operands, with_operands, answers, answers_text, truth}
 use Rattle.vm_mem.specs.Meets.{Row}
 
 -- what a built-in method works on: the entries, and what the test has of its own
@@ -58,3 +64,40 @@ text_row n t p s = answers_text p s (operands s) n t
 -- concat of the texts of a String and of its argument
 abbrev pub joined_row : Value → List ℕ → List ℕ → Row Working
 joined_row r t u p s = joined p s (operands s) r t u
+
+-- a cost besides, and then the call answers this
+abbrev pub costly_row : ℕ → Value → Row Working
+costly_row n v p s = spend n (answers p s (v ∷ operands s))
+
+-- charAt of a text
+abbrev pub unit_row : List ℕ → ℤ → Row Working
+unit_row t i p s = text_index s i (length t) (λ n. answers p s (Int (pos (get_or t n 0)) ∷ operands s))
+
+-- equals of two Strings, with both operands taken
+abbrev pub compared_row : Value → Value → Row Working
+compared_row r v p s = compares p (with_operands s (v ∷ (r ∷ operands s))) (operands s) r v string_class
+
+-- equals of two texts
+abbrev pub same_row : List ℕ → List ℕ → Row Working
+same_row t u p s = spend (length t) (answers p s (truth (bytes_eq t u) ∷ operands s))
+
+-- a part of a text is answered, if there is one
+abbrev pub part_row : Option (List ℕ) → Row Working
+part_row None p s = faults string_index_exception s
+part_row (Some t) p s = answers_text p s (operands s) 0 t
+
+-- the text of a builder is written
+abbrev pub begun_row : Value → List ℕ → Row Working
+begun_row r u p s = on_object s r (λ o. spend (length u) (write (place.Text o) u (answers p s (operands s))))
+
+-- units are appended to a builder
+abbrev pub appended_row : Value → List ℕ → Row Working
+appended_row r u p s = appends p s (operands s) r u
+
+-- a value is the message of a throwable
+abbrev pub kept_row : Value → Value → Row Working
+kept_row r v p s = on_object s r (λ o. sets_message p s (operands s) o v)
+
+-- a new String of a text is the message of a throwable
+abbrev pub told_row : Value → List ℕ → Row Working
+told_row r t p s = makes_message p s (operands s) r t

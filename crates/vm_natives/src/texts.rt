@@ -6,9 +6,10 @@ ghost use Rattle.std.specs.Str.{bytes_eq};
 ghost use Rattle.et_base.specs.Numbers as numbers;
 ghost use Rattle.jvm_model.specs.NativesString as natives;
 ghost use Rattle.jvm_model.specs.Working as working;
+ghost use Rattle.vm_natives.specs.Parts as parts;
 
-use et_base::letters::{BOOLEAN, CHAR};
-use et_base::{NoMemory, Units, decimal64, l2i};
+use et_base::letters::BOOLEAN;
+use et_base::{NoMemory, Units, decimal32, decimal64, l2i};
 use jvm_model::narrow_int;
 use std::alloc::Global;
 
@@ -39,8 +40,38 @@ pub fn same_text(text: &[u16], other: &[u16]) -> bool
     text == other
 }
 
-/// A number in decimal digits, with `-` before one below 0.
-pub fn decimal_text(alloc: Global, number: i64) -> Result<Units, NoMemory>
+/// The units from the first place up to but not the second; None where places are out of range or in the wrong order.
+pub fn part_of(alloc: Global, text: &[u16], from: i32, to: i32) -> Result<Option<Units>, NoMemory>
+    ensures { IfOk result (λ part. part ≡ parts.part_of text.now from to) }
+{
+    if from < 0 || to < from || text.len() < to as usize {
+        return Ok(None);
+    }
+    let part = &text[from as usize..to as usize];
+    Ok(Some(Units::from_slice(alloc, part)?))
+}
+
+/// The units from a place on; None where it is out of range.
+pub fn part_from(alloc: Global, text: &[u16], from: i32) -> Result<Option<Units>, NoMemory>
+    ensures { IfOk result (λ part. part ≡ parts.part_of text.now from (pos (length text.now))) }
+{
+    if from < 0 || text.len() < from as usize {
+        return Ok(None);
+    }
+    let part = &text[from as usize..];
+    Ok(Some(Units::from_slice(alloc, part)?))
+}
+
+/// An int in decimal digits, with `-` before one below 0.
+pub fn int_text(alloc: Global, number: i32) -> Result<Units, NoMemory>
+    ensures { IfOk result (λ text. text ≡ signed_decimal number) }
+{
+    let digits = decimal32(alloc, number)?;
+    Units::from_ascii(alloc, digits.as_slice())
+}
+
+/// A long in decimal digits, with `-` before one below 0.
+pub fn long_text(alloc: Global, number: i64) -> Result<Units, NoMemory>
     ensures { IfOk result (λ text. text ≡ signed_decimal number) }
 {
     let digits = decimal64(alloc, number)?;
@@ -59,8 +90,9 @@ pub fn boolean_text(n: i32) -> &'static [u8]
 }
 
 /// The unit of a char: its low 16 bits.
+#[tactic(auto, unfolding(et_base::specs::Numbers::i2c))]
 pub fn char_unit(n: i32) -> u16
     ensures { result ≡ working.char_of n }
 {
-    narrow_int(CHAR, n) as u16
+    n.rem_euclid(1 << 16) as u16
 }

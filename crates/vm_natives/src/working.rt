@@ -3,10 +3,11 @@
 ghost use Rattle.std.specs.Prelude.{◌≡◌, IfOk, OnOk};
 ghost use Rattle.jvm_model.specs.declared.outcome.Own.{Own};
 ghost use Rattle.jvm_model.specs.declared.program.Program.{Program};
+ghost use Rattle.jvm_model.specs.Working as working;
 ghost use Rattle.jvm_model.specs.World.{World};
 ghost use Rattle.vm_frames.specs.Stack.{HasRoom};
 ghost use Rattle.vm_mem.specs.Meets.{IsReady, IsNext, Meets, Tells};
-ghost use Rattle.vm_natives.specs.Rows.{with_own, end_row, value_row, text_row};
+ghost use Rattle.vm_natives.specs.Rows.{with_own, end_row, value_row, costly_row, text_row};
 
 use et_base::{NoMemory, Units};
 use jvm_model::{Head, Kind, Next, Own, Program, STRING, Value};
@@ -41,6 +42,37 @@ pub fn answer(stack: &mut FrameStack, p: &Program, value: Value, next: u32, left
     stack.set_pc(next);
     *left -= 1;
     Next::Go
+}
+
+/// The call is over and answers a value. It counts the 1 of the step and a cost besides. Over, with nothing done, where
+/// fewer units are left.
+pub fn answer_costly(
+    stack: &mut FrameStack,
+    p: &Program,
+    value: Value,
+    cost: u64,
+    next: u32,
+    left: &mut u64,
+) -> Next
+    requires place { IsNext p.now stack.old next }
+    requires room { HasRoom 1 stack.old }
+    ensures { (w : World) (o : Own) → Meets (costly_row cost value)
+        p.now w (with_own stack.old o) left.old result (with_own stack.new o) w left.new }
+{
+    if *left <= cost {
+        return Next::Over;
+    }
+    stack.push_value(value);
+    stack.set_pc(next);
+    *left -= cost + 1;
+    Next::Go
+}
+
+/// A boolean as a value: 1 or 0.
+pub fn truth(holds: bool) -> Value
+    ensures { result ≡ working.truth holds }
+{
+    if holds { Value::Int(1) } else { Value::Int(0) }
 }
 
 /// The call is over and answers a new String of a text. It counts the 1 of the step, 1 for the object, a unit for each of
