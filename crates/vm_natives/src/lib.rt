@@ -1,5 +1,7 @@
 //! The built-in methods (this project's): each runs in the step that calls it.
 #![tactic(auto)]
 
+mod outside_texts;
+mod stream;
 mod string;
 mod working;
