@@ -3,15 +3,12 @@ use Rattle.std.specs.Prelude.{ℕ, List, ◌∷◌}
 use Rattle.jvm_model.specs.declared.values.Value.{Value}
 use Rattle.jvm_model.specs.declared.library.Native.{Native}
 use Rattle.jvm_model.specs.declared.outcome.Own.{Own}
-use Rattle.jvm_model.specs.declared.outcome.Next.TheVariants.{Go}
-use Rattle.jvm_model.specs.Access.{done}
-use Rattle.jvm_model.specs.Entries.{Entries, with_stack, with_place}
-use Rattle.jvm_model.specs.Rows.{answer, faults}
+use Rattle.jvm_model.specs.Entries.{Entries}
 use Rattle.jvm_model.specs.Natives.{row_native}
 use Rattle.jvm_model.specs.NativesObject.{native_object, native_throwable}
 use Rattle.jvm_model.specs.NativesString.{native_string, native_builder}
 use Rattle.jvm_model.specs.NativesOutside.{native_system, native_print, native_files, native_env}
-use Rattle.jvm_model.specs.Working.{Working, operands, answers_text}
+use Rattle.jvm_model.specs.Working.{Working, operands, answers, answers_text}
 use Rattle.vm_mem.specs.Meets.{Row}
 
 -- what a built-in method works on: the entries, and what the test has of its own
@@ -46,13 +43,13 @@ env_row x p s = native_env p x s
 abbrev pub throwable_row : Native → Row Working
 throwable_row x p s = native_throwable p x s
 
--- the call is over at this place of the code, without an answer
-abbrev pub end_row : ℕ → Row Working
-end_row n p s = done (answer Go (record s { entries = with_place s.entries n }))
+-- the call is over, without an answer
+abbrev pub end_row : Row Working
+end_row p s = answers p s (operands s)
 
--- the call is over at this place of the code, and answers this
-abbrev pub value_row : ℕ → Value → Row Working
-value_row n v p s = done (answer Go (record s { entries = with_place (with_stack s.entries (v ∷ operands s)) n }))
+-- the call is over, and answers this
+abbrev pub value_row : Value → Row Working
+value_row v p s = answers p s (v ∷ operands s)
 
 -- the call answers a new String, and costs this besides
 abbrev pub text_row : ℕ → List ℕ → Row Working

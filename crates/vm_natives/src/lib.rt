@@ -4,4 +4,5 @@
 mod outside_texts;
 mod stream;
 mod string;
+mod texts;
 mod working;

@@ -6,8 +6,9 @@ ghost use Rattle.jvm_model.specs.declared.outcome.Own.{Own};
 ghost use Rattle.vm_mem.specs.Meets.{IsReady, IsNext, Meets, Tells};
 ghost use Rattle.vm_natives.specs.Rows.{with_own, string_row};
 
+use crate::texts::length_of;
 use crate::working::answer;
-use et_base::{NoMemory, l2i};
+use et_base::NoMemory;
 use jvm_model::{NULL_POINTER_EXCEPTION, Next, Program, Value};
 use vm_frames::FrameStack;
 use vm_mem::Memory;
@@ -23,7 +24,7 @@ pub fn length<M: Memory>(
 ) -> Result<Next, NoMemory>
     ghost own: { Own }
     requires program { p.now ≡ M.program memory.old }
-    requires next { IsNext p.now stack.old next }
+    requires place { IsNext p.now stack.old next }
     requires row { IsReady (string_row Native.StringLength)
         (M.program memory.old) (M.world memory.old) (with_own stack.old own) }
     ensures meets { IfOk result (λ x. Meets (string_row Native.StringLength)
@@ -36,12 +37,12 @@ pub fn length<M: Memory>(
 {
     match stack.pop_value() {
         Value::Lit(n) => {
-            let length = p.literal(n).len();
-            Ok(answer(stack, Value::Int(l2i(length as i64)), next, left))
+            let length = length_of(p.literal(n));
+            Ok(answer(stack, p, Value::Int(length), next, left))
         }
         Value::Obj(object) => {
-            let length = memory.get_text(object)?.as_slice().len();
-            Ok(answer(stack, Value::Int(l2i(length as i64)), next, left))
+            let length = length_of(memory.get_text(object)?.as_slice());
+            Ok(answer(stack, p, Value::Int(length), next, left))
         }
         Value::Null => Ok(Next::Fault {
             class: NULL_POINTER_EXCEPTION,

@@ -14,9 +14,10 @@ use vm_frames::FrameStack;
 use vm_mem::Memory;
 
 /// The call is over without an answer. It counts the 1 of the step. Over, with nothing done, where no unit is left.
-pub fn end(stack: &mut FrameStack, next: u32, left: &mut u64) -> Next
-    ensures { (p : Program) (w : World) (o : Own) → Meets (end_row next)
-        p w (with_own stack.old o) left.old result (with_own stack.new o) w left.new }
+pub fn end(stack: &mut FrameStack, p: &Program, next: u32, left: &mut u64) -> Next
+    requires place { IsNext p.now stack.old next }
+    ensures { (w : World) (o : Own) → Meets end_row
+        p.now w (with_own stack.old o) left.old result (with_own stack.new o) w left.new }
 {
     if *left == 0 {
         return Next::Over;
@@ -27,10 +28,11 @@ pub fn end(stack: &mut FrameStack, next: u32, left: &mut u64) -> Next
 }
 
 /// The call is over and answers a value. It counts the 1 of the step. Over, with nothing done, where no unit is left.
-pub fn answer(stack: &mut FrameStack, value: Value, next: u32, left: &mut u64) -> Next
-    requires { HasRoom 1 stack.old }
-    ensures { (p : Program) (w : World) (o : Own) → Meets (value_row next value)
-        p w (with_own stack.old o) left.old result (with_own stack.new o) w left.new }
+pub fn answer(stack: &mut FrameStack, p: &Program, value: Value, next: u32, left: &mut u64) -> Next
+    requires place { IsNext p.now stack.old next }
+    requires room { HasRoom 1 stack.old }
+    ensures { (w : World) (o : Own) → Meets (value_row value)
+        p.now w (with_own stack.old o) left.old result (with_own stack.new o) w left.new }
 {
     if *left == 0 {
         return Next::Over;
@@ -54,7 +56,7 @@ pub fn answer_text<M: Memory>(
 ) -> Result<Next, NoMemory>
     ghost own: { Own }
     requires program { p.now ≡ M.program memory.old }
-    requires next { IsNext p.now stack.old next }
+    requires place { IsNext p.now stack.old next }
     requires room { HasRoom 1 stack.old }
     ensures meets { IfOk result (λ x. Meets (text_row besides text)
         (M.program memory.old) (M.world memory.old) (with_own stack.old own) left.old
