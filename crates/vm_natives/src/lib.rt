@@ -1,7 +1,7 @@
 //! The built-in methods (this project's): each runs in the step that calls it.
 #![tactic(auto)]
 
-mod outside_texts;
+mod env;
 mod stream;
 mod string;
 mod texts;

@@ -1,14 +1,14 @@
 //! The methods of java.io.PrintStream, on the stream of `System.out`.
 
-ghost use Rattle.std.specs.Prelude.{◌≡◌, IfOk, OnOk, ℕ, List};
+ghost use Rattle.std.specs.Prelude.{◌≡◌, ◌++◌, IfOk, OnOk};
+ghost use Rattle.et_base.specs.Quotes.{utf8_of};
 ghost use Rattle.jvm_model.specs.declared.library.Native.{Native};
-ghost use Rattle.jvm_model.specs.declared.program.Program.{Program};
 ghost use Rattle.jvm_model.specs.World.{World};
 ghost use Rattle.vm_mem.specs.Meets.{IsReady, IsNext, Meets, Tells};
 ghost use Rattle.vm_natives.specs.Rows.{with_own, print_row};
-ghost use Rattle.vm_natives.specs.Outside.{printed_row, string_print_row};
+ghost use Rattle.vm_natives.specs.Outside.{bytes_row, string_print_row};
 
-use crate::outside_texts::{boolean_bytes, char_of};
+use crate::texts::{boolean_text, char_unit};
 use et_base::{NoMemory, Text, Units, bytes_of_units, decimal32, decimal64};
 use jvm_model::{Next, Own, Program, Value};
 use std::alloc::Global;
@@ -19,13 +19,15 @@ use vm_mem::Memory;
 /// printed, where fewer are left.
 pub fn print(
     stack: &mut FrameStack,
+    p: &Program,
     own: &mut Own,
     bytes: &[u8],
     next: u32,
     left: &mut u64,
 ) -> Result<Next, NoMemory>
-    ensures { IfOk result (λ x. (p : Program) (w : World) → Meets (printed_row next bytes.now)
-        p w (with_own stack.old own.old) left.old x (with_own stack.new own.new) w left.new) }
+    requires place { IsNext p.now stack.old next }
+    ensures { IfOk result (λ x. (w : World) → Meets (bytes_row bytes.now)
+        p.now w (with_own stack.old own.old) left.old x (with_own stack.new own.new) w left.new) }
 {
     let cost = bytes.len() as u64;
     if *left <= cost {
@@ -35,6 +37,26 @@ pub fn print(
     stack.set_pc(next);
     *left = *left - cost - 1;
     Ok(Next::Go)
+}
+
+/// Prints units in UTF-8, and then these bytes.
+fn print_units(
+    alloc: Global,
+    stack: &mut FrameStack,
+    p: &Program,
+    own: &mut Own,
+    units: &Units,
+    end: &[u8],
+    next: u32,
+    left: &mut u64,
+) -> Result<Next, NoMemory>
+    requires place { IsNext p.now stack.old next }
+    ensures { IfOk result (λ x. (w : World) → Meets (bytes_row (utf8_of units.now ++ end.now))
+        p.now w (with_own stack.old own.old) left.old x (with_own stack.new own.new) w left.new) }
+{
+    let mut bytes = bytes_of_units(alloc, units)?;
+    bytes.extend_from_slice(end)?;
+    print(stack, p, own, bytes.as_slice(), next, left)
 }
 
 /// Prints a String in UTF-8, or `null`, and then these bytes.
@@ -49,7 +71,7 @@ fn print_text<M: Memory>(
     left: &mut u64,
 ) -> Result<Next, NoMemory>
     requires program { p.now ≡ M.program memory.old }
-    requires next { IsNext p.now stack.old next }
+    requires place { IsNext p.now stack.old next }
     requires row { IsReady (string_print_row end.now)
         (M.program memory.old) (M.world memory.old) (with_own stack.old own.old) }
     ensures meets { IfOk result (λ x. Meets (string_print_row end.now)
@@ -62,18 +84,23 @@ fn print_text<M: Memory>(
 {
     let text = stack.pop_value();
     stack.pop_value();
-    let mut bytes = match text {
-        Value::Null => Text::from_slice(alloc, b"null")?,
+    match text {
+        Value::Null => {
+            let mut bytes = Text::from_slice(alloc, b"null")?;
+            bytes.extend_from_slice(end)?;
+            print(stack, p, own, bytes.as_slice(), next, left)
+        }
         Value::Lit(n) => {
             let units = Units::from_slice(alloc, p.literal(n))?;
-            Text::from_vec(bytes_of_units(alloc, &units)?)
+            print_units(alloc, stack, p, own, &units, end, next, left)
         }
-        Value::Obj(object) => Text::from_vec(bytes_of_units(alloc, memory.get_text(object)?)?),
+        Value::Obj(object) => {
+            let units = memory.get_text(object)?;
+            print_units(alloc, stack, p, own, units, end, next, left)
+        }
         Value::Int(_) => unreachable!(),
         Value::Long(_) => unreachable!(),
-    };
-    bytes.extend_from_slice(end)?;
-    print(stack, own, bytes.as_slice(), next, left)
+    }
 }
 
 /// `print(String)`: the text in UTF-8, or `null`. It reads the text of a String that is no constant, and counts 1 and a
@@ -89,7 +116,7 @@ pub fn print_string<M: Memory>(
     left: &mut u64,
 ) -> Result<Next, NoMemory>
     requires program { p.now ≡ M.program memory.old }
-    requires next { IsNext p.now stack.old next }
+    requires place { IsNext p.now stack.old next }
     requires row { IsReady (print_row Native.PrintString)
         (M.program memory.old) (M.world memory.old) (with_own stack.old own.old) }
     ensures meets { IfOk result (λ x. Meets (print_row Native.PrintString)
@@ -103,17 +130,19 @@ pub fn print_string<M: Memory>(
     print_text(alloc, stack, memory, p, own, &[], next, left)
 }
 
-/// `print(int)`: the decimal digits. It counts 1 and a unit for each.
+/// `print(int)`: the decimal digits. It counts 1 and a unit for each byte.
 #[tactic(auto, unfolding(jvm_model::specs::NativesOutside::native_print))]
 pub fn print_int<M: Memory>(
     alloc: Global,
     stack: &mut FrameStack,
     memory: &mut M,
+    p: &Program,
     own: &mut Own,
     next: u32,
     left: &mut u64,
 ) -> Result<Next, NoMemory>
-    requires next { IsNext (M.program memory.old) stack.old next }
+    requires program { p.now ≡ M.program memory.old }
+    requires place { IsNext p.now stack.old next }
     requires row { IsReady (print_row Native.PrintInt)
         (M.program memory.old) (M.world memory.old) (with_own stack.old own.old) }
     ensures meets { IfOk result (λ x. Meets (print_row Native.PrintInt)
@@ -127,20 +156,22 @@ pub fn print_int<M: Memory>(
     let number = stack.pop_int();
     stack.pop_value();
     let bytes = decimal32(alloc, number)?;
-    print(stack, own, bytes.as_slice(), next, left)
+    print(stack, p, own, bytes.as_slice(), next, left)
 }
 
-/// `print(long)`: the decimal digits. It counts 1 and a unit for each.
+/// `print(long)`: the decimal digits. It counts 1 and a unit for each byte.
 #[tactic(auto, unfolding(jvm_model::specs::NativesOutside::native_print))]
 pub fn print_long<M: Memory>(
     alloc: Global,
     stack: &mut FrameStack,
     memory: &mut M,
+    p: &Program,
     own: &mut Own,
     next: u32,
     left: &mut u64,
 ) -> Result<Next, NoMemory>
-    requires next { IsNext (M.program memory.old) stack.old next }
+    requires program { p.now ≡ M.program memory.old }
+    requires place { IsNext p.now stack.old next }
     requires row { IsReady (print_row Native.PrintLong)
         (M.program memory.old) (M.world memory.old) (with_own stack.old own.old) }
     ensures meets { IfOk result (λ x. Meets (print_row Native.PrintLong)
@@ -154,7 +185,7 @@ pub fn print_long<M: Memory>(
     let number = stack.pop_long();
     stack.pop_value();
     let bytes = decimal64(alloc, number)?;
-    print(stack, own, bytes.as_slice(), next, left)
+    print(stack, p, own, bytes.as_slice(), next, left)
 }
 
 /// `print(boolean)`: `true` or `false`. It counts 1 and a unit for each byte.
@@ -162,11 +193,13 @@ pub fn print_long<M: Memory>(
 pub fn print_boolean<M: Memory>(
     stack: &mut FrameStack,
     memory: &mut M,
+    p: &Program,
     own: &mut Own,
     next: u32,
     left: &mut u64,
 ) -> Result<Next, NoMemory>
-    requires next { IsNext (M.program memory.old) stack.old next }
+    requires program { p.now ≡ M.program memory.old }
+    requires place { IsNext p.now stack.old next }
     requires row { IsReady (print_row Native.PrintBoolean)
         (M.program memory.old) (M.world memory.old) (with_own stack.old own.old) }
     ensures meets { IfOk result (λ x. Meets (print_row Native.PrintBoolean)
@@ -179,7 +212,7 @@ pub fn print_boolean<M: Memory>(
 {
     let truth = stack.pop_int();
     stack.pop_value();
-    print(stack, own, boolean_bytes(truth), next, left)
+    print(stack, p, own, boolean_text(truth), next, left)
 }
 
 /// `print(char)`: the char in UTF-8, or `?` where it is a surrogate. It counts 1 and a unit for each byte.
@@ -188,11 +221,13 @@ pub fn print_char<M: Memory>(
     alloc: Global,
     stack: &mut FrameStack,
     memory: &mut M,
+    p: &Program,
     own: &mut Own,
     next: u32,
     left: &mut u64,
 ) -> Result<Next, NoMemory>
-    requires next { IsNext (M.program memory.old) stack.old next }
+    requires program { p.now ≡ M.program memory.old }
+    requires place { IsNext p.now stack.old next }
     requires row { IsReady (print_row Native.PrintChar)
         (M.program memory.old) (M.world memory.old) (with_own stack.old own.old) }
     ensures meets { IfOk result (λ x. Meets (print_row Native.PrintChar)
@@ -205,12 +240,12 @@ pub fn print_char<M: Memory>(
 {
     let char = stack.pop_int();
     stack.pop_value();
-    let units = Units::from_slice(alloc, &[char_of(char)])?;
+    let units = Units::from_slice(alloc, &[char_unit(char)])?;
     let bytes = bytes_of_units(alloc, &units)?;
-    print(stack, own, bytes.as_slice(), next, left)
+    print(stack, p, own, bytes.as_slice(), next, left)
 }
 
-/// `println(String)`: as `print_string`, and a line feed.
+/// `println(String)`: as `print(String)`, and a line feed.
 #[tactic(auto, unfolding(jvm_model::specs::NativesOutside::native_print))]
 pub fn println_string<M: Memory>(
     alloc: Global,
@@ -222,7 +257,7 @@ pub fn println_string<M: Memory>(
     left: &mut u64,
 ) -> Result<Next, NoMemory>
     requires program { p.now ≡ M.program memory.old }
-    requires next { IsNext p.now stack.old next }
+    requires place { IsNext p.now stack.old next }
     requires row { IsReady (print_row Native.PrintlnString)
         (M.program memory.old) (M.world memory.old) (with_own stack.old own.old) }
     ensures meets { IfOk result (λ x. Meets (print_row Native.PrintlnString)
@@ -236,17 +271,19 @@ pub fn println_string<M: Memory>(
     print_text(alloc, stack, memory, p, own, b"\n", next, left)
 }
 
-/// `println(int)`: as `print_int`, and a line feed.
+/// `println(int)`: as `print(int)`, and a line feed.
 #[tactic(auto, unfolding(jvm_model::specs::NativesOutside::native_print))]
 pub fn println_int<M: Memory>(
     alloc: Global,
     stack: &mut FrameStack,
     memory: &mut M,
+    p: &Program,
     own: &mut Own,
     next: u32,
     left: &mut u64,
 ) -> Result<Next, NoMemory>
-    requires next { IsNext (M.program memory.old) stack.old next }
+    requires program { p.now ≡ M.program memory.old }
+    requires place { IsNext p.now stack.old next }
     requires row { IsReady (print_row Native.PrintlnInt)
         (M.program memory.old) (M.world memory.old) (with_own stack.old own.old) }
     ensures meets { IfOk result (λ x. Meets (print_row Native.PrintlnInt)
@@ -261,20 +298,22 @@ pub fn println_int<M: Memory>(
     stack.pop_value();
     let mut bytes = decimal32(alloc, number)?;
     bytes.push(b'\n')?;
-    print(stack, own, bytes.as_slice(), next, left)
+    print(stack, p, own, bytes.as_slice(), next, left)
 }
 
-/// `println(long)`: as `print_long`, and a line feed.
+/// `println(long)`: as `print(long)`, and a line feed.
 #[tactic(auto, unfolding(jvm_model::specs::NativesOutside::native_print))]
 pub fn println_long<M: Memory>(
     alloc: Global,
     stack: &mut FrameStack,
     memory: &mut M,
+    p: &Program,
     own: &mut Own,
     next: u32,
     left: &mut u64,
 ) -> Result<Next, NoMemory>
-    requires next { IsNext (M.program memory.old) stack.old next }
+    requires program { p.now ≡ M.program memory.old }
+    requires place { IsNext p.now stack.old next }
     requires row { IsReady (print_row Native.PrintlnLong)
         (M.program memory.old) (M.world memory.old) (with_own stack.old own.old) }
     ensures meets { IfOk result (λ x. Meets (print_row Native.PrintlnLong)
@@ -289,20 +328,22 @@ pub fn println_long<M: Memory>(
     stack.pop_value();
     let mut bytes = decimal64(alloc, number)?;
     bytes.push(b'\n')?;
-    print(stack, own, bytes.as_slice(), next, left)
+    print(stack, p, own, bytes.as_slice(), next, left)
 }
 
-/// `println(boolean)`: as `print_boolean`, and a line feed.
+/// `println(boolean)`: as `print(boolean)`, and a line feed.
 #[tactic(auto, unfolding(jvm_model::specs::NativesOutside::native_print))]
 pub fn println_boolean<M: Memory>(
     alloc: Global,
     stack: &mut FrameStack,
     memory: &mut M,
+    p: &Program,
     own: &mut Own,
     next: u32,
     left: &mut u64,
 ) -> Result<Next, NoMemory>
-    requires next { IsNext (M.program memory.old) stack.old next }
+    requires program { p.now ≡ M.program memory.old }
+    requires place { IsNext p.now stack.old next }
     requires row { IsReady (print_row Native.PrintlnBoolean)
         (M.program memory.old) (M.world memory.old) (with_own stack.old own.old) }
     ensures meets { IfOk result (λ x. Meets (print_row Native.PrintlnBoolean)
@@ -315,22 +356,24 @@ pub fn println_boolean<M: Memory>(
 {
     let truth = stack.pop_int();
     stack.pop_value();
-    let mut bytes = Text::from_slice(alloc, boolean_bytes(truth))?;
+    let mut bytes = Text::from_slice(alloc, boolean_text(truth))?;
     bytes.push(b'\n')?;
-    print(stack, own, bytes.as_slice(), next, left)
+    print(stack, p, own, bytes.as_slice(), next, left)
 }
 
-/// `println(char)`: as `print_char`, and a line feed.
+/// `println(char)`: as `print(char)`, and a line feed.
 #[tactic(auto, unfolding(jvm_model::specs::NativesOutside::native_print))]
 pub fn println_char<M: Memory>(
     alloc: Global,
     stack: &mut FrameStack,
     memory: &mut M,
+    p: &Program,
     own: &mut Own,
     next: u32,
     left: &mut u64,
 ) -> Result<Next, NoMemory>
-    requires next { IsNext (M.program memory.old) stack.old next }
+    requires program { p.now ≡ M.program memory.old }
+    requires place { IsNext p.now stack.old next }
     requires row { IsReady (print_row Native.PrintlnChar)
         (M.program memory.old) (M.world memory.old) (with_own stack.old own.old) }
     ensures meets { IfOk result (λ x. Meets (print_row Native.PrintlnChar)
@@ -343,10 +386,10 @@ pub fn println_char<M: Memory>(
 {
     let char = stack.pop_int();
     stack.pop_value();
-    let units = Units::from_slice(alloc, &[char_of(char)])?;
+    let units = Units::from_slice(alloc, &[char_unit(char)])?;
     let mut bytes = bytes_of_units(alloc, &units)?;
     bytes.push(b'\n')?;
-    print(stack, own, bytes.as_slice(), next, left)
+    print(stack, p, own, bytes.as_slice(), next, left)
 }
 
 /// `println()`: a line feed. It counts 2.
@@ -354,11 +397,13 @@ pub fn println_char<M: Memory>(
 pub fn println<M: Memory>(
     stack: &mut FrameStack,
     memory: &mut M,
+    p: &Program,
     own: &mut Own,
     next: u32,
     left: &mut u64,
 ) -> Result<Next, NoMemory>
-    requires next { IsNext (M.program memory.old) stack.old next }
+    requires program { p.now ≡ M.program memory.old }
+    requires place { IsNext p.now stack.old next }
     requires row { IsReady (print_row Native.Println)
         (M.program memory.old) (M.world memory.old) (with_own stack.old own.old) }
     ensures meets { IfOk result (λ x. Meets (print_row Native.Println)
@@ -370,6 +415,5 @@ pub fn println<M: Memory>(
     ensures of { OnOk result (M.program memory.new ≡ M.program memory.old) }
 {
     stack.pop_value();
-    print(stack, own, b"\n", next, left)
+    print(stack, p, own, b"\n", next, left)
 }
-
