@@ -2,7 +2,11 @@
 #![tactic(auto)]
 
 mod env;
+mod files;
+mod groups;
+mod named;
 mod stream;
 mod string;
+mod system;
 mod texts;
 mod working;

@@ -9,7 +9,7 @@ ghost use Rattle.vm_mem.specs.Meets.{IsReady, IsNext, Meets, Tells};
 ghost use Rattle.vm_natives.specs.Rows.{with_own, end_row, value_row, text_row};
 
 use et_base::{NoMemory, Units};
-use jvm_model::{Head, Kind, Next, Program, STRING, Value};
+use jvm_model::{Head, Kind, Next, Own, Program, STRING, Value};
 use vm_frames::FrameStack;
 use vm_mem::Memory;
 
@@ -49,20 +49,20 @@ pub fn answer_text<M: Memory>(
     stack: &mut FrameStack,
     memory: &mut M,
     p: &Program,
+    own: &Own,
     text: Units,
     besides: u64,
     next: u32,
     left: &mut u64,
 ) -> Result<Next, NoMemory>
-    ghost own: { Own }
     requires program { p.now ≡ M.program memory.old }
     requires place { IsNext p.now stack.old next }
     requires room { HasRoom 1 stack.old }
     ensures meets { IfOk result (λ x. Meets (text_row besides text)
-        (M.program memory.old) (M.world memory.old) (with_own stack.old own) left.old
-        x (with_own stack.new own) (M.world memory.new) left.new) }
+        (M.program memory.old) (M.world memory.old) (with_own stack.old own.now) left.old
+        x (with_own stack.new own.now) (M.world memory.new) left.new) }
     ensures told { IfOk result (λ x. Tells (text_row besides text)
-        (M.program memory.old) (M.world memory.old) (with_own stack.old own)
+        (M.program memory.old) (M.world memory.old) (with_own stack.old own.now)
         x M.follows memory.old memory.new) }
     ensures of { OnOk result (M.program memory.new ≡ M.program memory.old) }
 {
