@@ -6,7 +6,7 @@ use Rattle.jvm_model.specs.declared.outcome.Own.{Own}
 use Rattle.jvm_model.specs.Entries.{Entries}
 use Rattle.jvm_model.specs.Natives.{row_native}
 use Rattle.jvm_model.specs.NativesObject.{native_object, native_throwable}
-use Rattle.jvm_model.specs.NativesString.{native_string, native_builder}
+use Rattle.jvm_model.specs.NativesString.{native_string, native_builder, joined}
 use Rattle.jvm_model.specs.NativesOutside.{native_system, native_print, native_files, native_env}
 use Rattle.jvm_model.specs.Working.{Working, operands, answers, answers_text}
 use Rattle.vm_mem.specs.Meets.{Row}
@@ -54,3 +54,7 @@ value_row v p s = answers p s (v ∷ operands s)
 -- the call answers a new String, and costs this besides
 abbrev pub text_row : ℕ → List ℕ → Row Working
 text_row n t p s = answers_text p s (operands s) n t
+
+-- concat of the texts of a String and of its argument
+abbrev pub joined_row : Value → List ℕ → List ℕ → Row Working
+joined_row r t u p s = joined p s (operands s) r t u
