@@ -18,7 +18,8 @@ use vm_frames::FrameStack;
 use vm_mem::Memory;
 
 /// `read(String)`: a new String of the file's text, or null where there is no file. It counts 1, a unit for each of the
-/// name, and for a new String 1 and a unit for each of its text.
+/// name, and for a new String 1 and a unit for each of its text. A null name throws NullPointerException. Over, with
+/// nothing made, where fewer units are left.
 #[tactic(auto, unfolding(jvm_model::specs::NativesOutside::native_files, crate::specs::Named::name_row))]
 pub fn read<M: Memory>(
     alloc: Global,
@@ -55,7 +56,8 @@ pub fn read<M: Memory>(
     )
 }
 
-/// `write(String, String)`: the file has this text. It counts 1 and a unit for each of the name and of the text.
+/// `write(String, String)`: the file has this text. It counts 1 and a unit for each of the name and of the text. A null
+/// name or text throws NullPointerException. Over, with nothing written, where fewer units are left.
 #[tactic(auto, unfolding(jvm_model::specs::NativesOutside::native_files, crate::specs::Named::change_row))]
 pub fn write<M: Memory>(
     alloc: Global,
@@ -94,8 +96,8 @@ pub fn write<M: Memory>(
     )
 }
 
-/// `append(String, String)`: this text stands behind what was in the file, where there is none behind nothing. It counts 1
-/// and a unit for each of the name and of the text.
+/// `append(String, String)`: the file has its text and this one after it; where there is no file, this one alone. It counts
+/// and throws as `write` does.
 #[tactic(auto, unfolding(jvm_model::specs::NativesOutside::native_files, crate::specs::Named::change_row))]
 pub fn append<M: Memory>(
     alloc: Global,
@@ -134,7 +136,8 @@ pub fn append<M: Memory>(
     )
 }
 
-/// `delete(String)`: the file is taken away; whether there was one. It counts 1 and a unit for each of the name.
+/// `delete(String)`: the file is taken away; whether there was one is answered. It counts 1 and a unit for each of the
+/// name. A null name throws NullPointerException. Over, with nothing taken away, where fewer units are left.
 #[tactic(auto, unfolding(jvm_model::specs::NativesOutside::native_files, crate::specs::Named::name_row))]
 pub fn delete<M: Memory>(
     alloc: Global,
@@ -171,7 +174,8 @@ pub fn delete<M: Memory>(
     )
 }
 
-/// `exists(String)`: whether there is a file. It counts 1 and a unit for each of the name.
+/// `exists(String)`: whether there is a file. It counts 1 and a unit for each of the name. A null name throws
+/// NullPointerException. Over where fewer units are left.
 #[tactic(auto, unfolding(jvm_model::specs::NativesOutside::native_files, crate::specs::Named::name_row))]
 pub fn exists<M: Memory>(
     alloc: Global,

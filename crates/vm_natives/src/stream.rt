@@ -1,4 +1,5 @@
-//! The methods of java.io.PrintStream, on the stream of `System.out`.
+//! The methods of java.io.PrintStream, on the stream of `System.out`. Each is over once its bytes are printed; where fewer
+//! units are left than it counts it answers Over, with nothing printed.
 
 ghost use Rattle.std.specs.Prelude.{◌≡◌, ◌++◌, IfOk, OnOk};
 ghost use Rattle.et_base.specs.Quotes.{utf8_of};

@@ -35,7 +35,8 @@ pub fn clock(stack: &mut FrameStack, p: &Program, own: &mut Own, next: u32, left
 }
 
 /// `getProperty(String)`: a new String of the property's text, or null where it isn't set. It counts 1, a unit for each of
-/// the name, and for a new String 1 and a unit for each of its text.
+/// the name, and for a new String 1 and a unit for each of its text. A null name throws NullPointerException. Over, with
+/// nothing made, where fewer units are left.
 #[tactic(auto, unfolding(jvm_model::specs::NativesOutside::native_system, crate::specs::Named::name_row))]
 pub fn get_property<M: Memory>(
     alloc: Global,
@@ -72,8 +73,9 @@ pub fn get_property<M: Memory>(
     )
 }
 
-/// `setProperty(String, String)`: the property is set, and its old text is answered as `getProperty` does. It counts a
-/// unit for each of the new text besides.
+/// `setProperty(String, String)`: the property has this text, and its old one is answered as `getProperty` does. It counts
+/// a unit for each of the new text besides. A null name or text throws NullPointerException. Over, with nothing written,
+/// where fewer units are left.
 #[tactic(auto, unfolding(jvm_model::specs::NativesOutside::native_system, crate::specs::Named::change_row))]
 pub fn set_property<M: Memory>(
     alloc: Global,
@@ -112,7 +114,8 @@ pub fn set_property<M: Memory>(
     )
 }
 
-/// `clearProperty(String)`: the property is taken away, and its old text is answered as `getProperty` does.
+/// `clearProperty(String)`: the property is taken away, and its old text is answered. It counts and throws as `getProperty`
+/// does. Over, with nothing taken away, where fewer units are left.
 #[tactic(auto, unfolding(jvm_model::specs::NativesOutside::native_system, crate::specs::Named::name_row))]
 pub fn clear_property<M: Memory>(
     alloc: Global,

@@ -59,6 +59,7 @@ pub fn boolean_text(n: i32) -> &'static [u8]
 }
 
 /// The unit of a char: its low 16 bits.
+#[tactic(auto, unfolding(et_base::specs::Numbers::i2c))]
 pub fn char_unit(n: i32) -> u16
     ensures { result ≡ working.char_of n }
 {
