@@ -3,6 +3,7 @@ use Rattle.std.specs.Prelude.{ℕ, ℤ, pos, List, ◌∷◌, length, get_or, Op
 use Rattle.std.specs.Str.{bytes_eq}
 use Rattle.jvm_model.specs.declared.values.Value.{Value}
 use Rattle.jvm_model.specs.declared.library.Native.{Native}
+use Rattle.jvm_model.specs.declared.library.Native.TheVariants as native
 use Rattle.jvm_model.specs.declared.outcome.Own.{Own}
 use Rattle.jvm_model.specs.Entries.{Entries}
 use Rattle.jvm_model.specs.declared.values.Value.TheVariants.{Int}
@@ -101,3 +102,9 @@ kept_row r v p s = on_object s r (λ o. sets_message p s (operands s) o v)
 -- a new String of a text is the message of a throwable
 abbrev pub told_row : Value → List ℕ → Row Working
 told_row r t p s = makes_message p s (operands s) r t
+
+-- how many operands a method adds: one where it takes none and answers a number
+abbrev pub growth : Native → ℕ
+growth native.SystemClock = 1
+growth native.EnvRandom = 1
+growth _ = 0

@@ -1,6 +1,6 @@
 //! The methods of java.lang.String.
 
-ghost use Rattle.std.specs.Prelude.{◌≡◌, IfOk, OnOk};
+ghost use Rattle.std.specs.Prelude.{◌≡◌, ◌≢◌, IfOk, OnOk};
 ghost use Rattle.jvm_model.specs.declared.library.Native.{Native};
 ghost use Rattle.jvm_model.specs.declared.outcome.Own.{Own};
 ghost use Rattle.jvm_model.specs.World.{World};
@@ -369,7 +369,7 @@ pub fn substring_from<M: Memory>(
 
 /// `substring(int, int)`: the units from the first place up to but not the second. It reads the text; a new String
 /// counts its length and 2. Places out of range or in the wrong order throw StringIndexOutOfBoundsException.
-#[tactic(auto, unfolding(jvm_model::specs::NativesString::native_string))]
+#[tactic(auto, using(crate::proofs::Parts::part_answers), unfolding(jvm_model::specs::NativesString::native_string))]
 pub fn substring<M: Memory>(
     alloc: Global,
     stack: &mut FrameStack,

@@ -22,7 +22,7 @@ pub fn length_of(text: &[u16]) -> i32
 }
 
 /// The sum of the units, each times 31 to the power of the number of those after it, wrapped.
-#[tactic(auto, unfolding(jvm_model::specs::NativesString::hash_of))]
+#[tactic(auto, using(crate::proofs::Hashes::wrapped_step, crate::proofs::Hashes::hashed))]
 pub fn hash_of(text: &[u16]) -> i32
     ensures { result ≡ natives.hash_of text.now }
 {
