@@ -1,0 +1,5 @@
+pub mod Bits
+pub mod Edges
+pub mod Form
+pub mod RowLaws
+pub mod SourceLaws
