@@ -19,10 +19,11 @@ use et_base::letters::{BOOLEAN, BYTE, CHAR, CLASS, INT, LONG, SHORT};
 use et_base::{NoMemory, l2i};
 use jvm_model::{
     ARRAY_INDEX_EXCEPTION, ARRAY_STORE_EXCEPTION, Base, Cell, Head, Instr, Kind,
-    NULL_POINTER_EXCEPTION, Next, Program, Value,
+    NULL_POINTER_EXCEPTION, Next, Value,
 };
 use vm_frames::FrameStack;
 use vm_mem::Memory;
+use vm_tables::Tables;
 
 /// Makes the step of `arraylength` or of a load or store of an array's element, with the byte place of the next
 /// instruction. It reads the array's head, of a reference that is stored its head too, and then touches the element; it
@@ -33,12 +34,12 @@ use vm_mem::Memory;
 pub fn arrays<M: Memory>(
     stack: &mut FrameStack,
     memory: &mut M,
-    program: &Program,
+    tables: &Tables,
     form: &Instr,
     next: u32,
     left: &mut u64,
 ) -> Result<Next, NoMemory>
-    requires program { program.now ≡ M.program memory.old }
+    requires tables { tables.now ≡ M.program memory.old }
     requires row { IsReady (array_row form.now)
         (M.program memory.old) (M.world memory.old) stack.old }
     requires place { IsNext (M.program memory.old) stack.old next }
@@ -53,7 +54,7 @@ pub fn arrays<M: Memory>(
     match form {
         Instr::ArrayLength => array_length(stack, memory, next, left),
         Instr::ArrayLoad { .. } => array_load(stack, memory, next, left),
-        Instr::ArrayStore { of } => array_store(stack, memory, program, *of, next, left),
+        Instr::ArrayStore { of } => array_store(stack, memory, tables, *of, next, left),
         _ => unreachable!(),
     }
 }
@@ -150,12 +151,12 @@ pub fn array_load<M: Memory>(
 pub fn array_store<M: Memory>(
     stack: &mut FrameStack,
     memory: &mut M,
-    program: &Program,
+    tables: &Tables,
     of: Cell,
     next: u32,
     left: &mut u64,
 ) -> Result<Next, NoMemory>
-    requires program { program.now ≡ M.program memory.old }
+    requires tables { tables.now ≡ M.program memory.old }
     requires row { IsReady (array_row (form.ArrayStore of))
         (M.program memory.old) (M.world memory.old) stack.old }
     requires place { IsNext (M.program memory.old) stack.old next }
@@ -174,7 +175,7 @@ pub fn array_store<M: Memory>(
     let index = stack.pop_int();
     match stack.pop_value() {
         Value::Obj(array) => match of {
-            Cell::Ref => store_reference(stack, memory, program, array, index, v, next, left),
+            Cell::Ref => store_reference(stack, memory, tables, array, index, v, next, left),
             Cell::Int | Cell::Long | Cell::Byte | Cell::Char | Cell::Short => store_number(
                 stack, memory, array, index, v, next, left,
             ),
@@ -226,14 +227,14 @@ fn store_number<M: Memory>(
 fn store_reference<M: Memory>(
     stack: &mut FrameStack,
     memory: &mut M,
-    program: &Program,
+    tables: &Tables,
     array: u64,
     index: i32,
     v: Value,
     next: u32,
     left: &mut u64,
 ) -> Result<Next, NoMemory>
-    requires program { program.now ≡ M.program memory.old }
+    requires tables { tables.now ≡ M.program memory.old }
     requires row { IsReady (store_row cell.Ref array index v)
         (M.program memory.old) (M.world memory.old) stack.old }
     requires units { 0 < left.old }
@@ -255,7 +256,7 @@ fn store_reference<M: Memory>(
     match v {
         Value::Null => put_element(stack, memory, array, i, v, next, left),
         Value::Lit(n) => {
-            if !program.kind_fits(Kind::of_constant(n), head.kind.element()) {
+            if !tables.kind_fits(Kind::of_constant(n), head.kind.element()) {
                 return Ok(Next::Fault {
                     class: ARRAY_STORE_EXCEPTION,
                 });
@@ -264,7 +265,7 @@ fn store_reference<M: Memory>(
         }
         Value::Obj(object) => {
             let stored = memory.head(object)?;
-            if !program.kind_fits(stored.kind, head.kind.element()) {
+            if !tables.kind_fits(stored.kind, head.kind.element()) {
                 return Ok(Next::Fault {
                     class: ARRAY_STORE_EXCEPTION,
                 });

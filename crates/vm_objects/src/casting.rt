@@ -12,9 +12,10 @@ ghost use Rattle.vm_mem.specs.Meets.{IsReady, IsNext, Meets, Tells};
 ghost use Rattle.vm_objects.specs.Forms.{cast_row};
 
 use et_base::NoMemory;
-use jvm_model::{CLASS_CAST_EXCEPTION, Instr, Kind, Next, Program, Value};
+use jvm_model::{CLASS_CAST_EXCEPTION, Instr, Kind, Next, Value};
 use vm_frames::FrameStack;
 use vm_mem::Memory;
+use vm_tables::Tables;
 
 /// Makes the step of `checkcast` or `instanceof`, with the byte place of the next instruction. It reads the head of an
 /// object and costs 1; a cast of what isn't of the type throws a ClassCastException, which counts nothing.
@@ -23,12 +24,12 @@ use vm_mem::Memory;
 pub fn casts<M: Memory>(
     stack: &mut FrameStack,
     memory: &mut M,
-    program: &Program,
+    tables: &Tables,
     form: &Instr,
     next: u32,
     left: &mut u64,
 ) -> Result<Next, NoMemory>
-    requires program { program.now ≡ M.program memory.old }
+    requires tables { tables.now ≡ M.program memory.old }
     requires row { IsReady (cast_row form.now)
         (M.program memory.old) (M.world memory.old) stack.old }
     requires place { IsNext (M.program memory.old) stack.old next }
@@ -41,8 +42,8 @@ pub fn casts<M: Memory>(
     ensures of { OnOk result (M.program memory.new ≡ M.program memory.old) }
 {
     match form {
-        Instr::CheckCast { kind } => check_cast(stack, memory, program, *kind, next, left),
-        Instr::InstanceOf { kind } => instance_of(stack, memory, program, *kind, next, left),
+        Instr::CheckCast { kind } => check_cast(stack, memory, tables, *kind, next, left),
+        Instr::InstanceOf { kind } => instance_of(stack, memory, tables, *kind, next, left),
         _ => unreachable!(),
     }
 }
@@ -51,12 +52,12 @@ pub fn casts<M: Memory>(
 pub fn check_cast<M: Memory>(
     stack: &mut FrameStack,
     memory: &mut M,
-    program: &Program,
+    tables: &Tables,
     kind: Kind,
     next: u32,
     left: &mut u64,
 ) -> Result<Next, NoMemory>
-    requires program { program.now ≡ M.program memory.old }
+    requires tables { tables.now ≡ M.program memory.old }
     requires row { IsReady (cast_row (form.CheckCast kind))
         (M.program memory.old) (M.world memory.old) stack.old }
     requires place { IsNext (M.program memory.old) stack.old next }
@@ -79,12 +80,12 @@ pub fn check_cast<M: Memory>(
             Ok(Next::Go)
         }
         Value::Lit(n) => {
-            let fits = program.kind_fits(Kind::of_constant(n), kind);
+            let fits = tables.kind_fits(Kind::of_constant(n), kind);
             Ok(keep_if(fits, stack, Value::Lit(n), next, left))
         }
         Value::Obj(object) => {
             let head = memory.head(object)?;
-            let fits = program.kind_fits(head.kind, kind);
+            let fits = tables.kind_fits(head.kind, kind);
             Ok(keep_if(fits, stack, Value::Obj(object), next, left))
         }
         Value::Int(_) | Value::Long(_) => unreachable!(),
@@ -116,12 +117,12 @@ fn keep_if(fits: bool, stack: &mut FrameStack, v: Value, next: u32, left: &mut u
 pub fn instance_of<M: Memory>(
     stack: &mut FrameStack,
     memory: &mut M,
-    program: &Program,
+    tables: &Tables,
     kind: Kind,
     next: u32,
     left: &mut u64,
 ) -> Result<Next, NoMemory>
-    requires program { program.now ≡ M.program memory.old }
+    requires tables { tables.now ≡ M.program memory.old }
     requires row { IsReady (cast_row (form.InstanceOf kind))
         (M.program memory.old) (M.world memory.old) stack.old }
     requires place { IsNext (M.program memory.old) stack.old next }
@@ -143,7 +144,7 @@ pub fn instance_of<M: Memory>(
         }
         Value::Lit(n) => {
             put_truth(
-                program.kind_fits(Kind::of_constant(n), kind),
+                tables.kind_fits(Kind::of_constant(n), kind),
                 stack,
                 next,
                 left,
@@ -152,7 +153,7 @@ pub fn instance_of<M: Memory>(
         }
         Value::Obj(object) => {
             let head = memory.head(object)?;
-            put_truth(program.kind_fits(head.kind, kind), stack, next, left);
+            put_truth(tables.kind_fits(head.kind, kind), stack, next, left);
             Ok(Next::Go)
         }
         Value::Int(_) | Value::Long(_) => unreachable!(),
