@@ -1,0 +1,4 @@
+pub mod Used
+pub mod Stepped
+pub mod Whole
+pub mod NoEntry

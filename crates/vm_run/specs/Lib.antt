@@ -1,0 +1,4 @@
+pub mod Seen
+pub mod Turns
+pub mod Driving
+pub mod Reaching
