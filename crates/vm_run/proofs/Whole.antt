@@ -1,5 +1,5 @@
 -- The steps of a test, one after the other.
-use Rattle.std.proofs.Common.{◌≡◌, ℕ, zero, suc, ◌-◌, ◌<◌, ◌≤◌, List, Bool, true, nat_le, refl, sym, ap, ◌∙◌, subst, inl, inr, arith, Option, Some, None, IsSome}
+use Rattle.std.proofs.Common.{◌≡◌, ◌≢◌, ℕ, zero, suc, ◌-◌, ◌<◌, ◌≤◌, List, Bool, true, nat_le, refl, sym, ap, ◌∙◌, subst, inl, inr, arith, Option, Some, None, IsSome}
 use Rattle.std.proofs.lemmas.Bool.{cases_Bool, leb-true}
 use Rattle.jvm_model.specs.declared.values.Touch.{Touch}
 use Rattle.jvm_model.specs.declared.outcome.Verdict.{Verdict}
@@ -16,7 +16,10 @@ use Rattle.jvm_model.proofs.Bridges.{compared, counted_is, safe_sound}
 use Rattle.jvm_model.proofs.Budgets.{step_costs}
 use Rattle.jvm_model.proofs.Tests.{one_test_ended, one_test_over}
 use Rattle.vm_run.specs.Reaching.{AllSafe, given_by}
+use Rattle.vm_run.specs.Seen.{seen}
+use Rattle.vm_run.specs.Turns.{turned, as_turned}
 use Rattle.vm_run.specs.declared.state.State.{State as Kept}
+use Rattle.vm_run.specs.declared.turned.Turned.TheVariants.{Goes, Ends, Over}
 
 -- a run that ended under a number of units
 pub record Ended {A : Type 0} (r : Ran A) (b : ℕ) (a : A) (w : World) (left : ℕ) : Type 0 where
@@ -45,61 +48,49 @@ step_falls p s w left a w' left' e =
     let v = x.within in
     omega arith
 
--- What a test's run is from a state on that its steps came to.
-pub record IsRest (p : Program) (t : ℕ) (v : World) (b : ℕ) (s : State) (w : World) (left : ℕ) : Type 0 where
+-- What a test's run is from a state on that its steps came to; f says the touches so far, added to those before.
+pub record IsRest (p : Program) (t : ℕ) (v : World) (b : ℕ) (s : State) (w : World) (left : ℕ) (f : List Touch → List Touch) : Type 0 where
   pub fuel : ℕ
   pub more : left < fuel
   pub same : counted (tree p t b) v b ≡ counted (whole p fuel s) w left
   pub reached : Reaches p t v s w
-  -- the touches so far, added to those before
-  pub so_far : List Touch → List Touch
-  pub touches : (ts : List Touch) → touched (tree p t b) v ts ≡ touched (whole p fuel s) w (so_far ts)
+  pub touches : (ts : List Touch) → touched (tree p t b) v ts ≡ touched (whole p fuel s) w (f ts)
 
-pub rest_at_first : (p : Program) (t : ℕ) (v : World) (b : ℕ) → IsRest p t v b (started p t) v b
+at_first : (p : Program) (t : ℕ) (v : World) (b : ℕ) → IsRest p t v b (started p t) v b (λ ts. ts)
 unfolding tree
-rest_at_first p t v b = record { fuel = suc b; more = omega arith; same = refl; reached = begins; so_far = λ ts. ts; touches = λ ts. refl }
+at_first p t v b = record { fuel = suc b; more = omega arith; same = refl; reached = begins; touches = λ ts. refl }
 
-module _ (p : Program) (t : ℕ) (v : World) (b : ℕ) (s : State) (w : World) (left : ℕ) where
+pub rest_at_first : (p : Program) (t : ℕ) (v : World) (b : ℕ) (s : State) → s ≡ started p t → IsRest p t v b s v b (λ ts. ts)
+rest_at_first p t v b s e = subst (λ (z : State). IsRest p t v b z v b (λ ts. ts)) (sym e) (at_first p t v b)
+
+module _ (p : Program) (t : ℕ) (v : World) (b : ℕ) (s : State) (w : World) (left : ℕ) (f : List Touch → List Touch) where
   goes_by : (n : ℕ) → left < n → (same : counted (tree p t b) v b ≡ counted (whole p n s) w left) → Reaches p t v s w →
-      (so_far : List Touch → List Touch) → ((ts : List Touch) → touched (tree p t b) v ts ≡ touched (whole p n s) w (so_far ts)) →
-      (u : State) (w' : World) (left' : ℕ) → counted (step p s) w left ≡ ended (next u) w' left' → IsRest p t v b u w' left'
-  goes_by zero h same r so_far touches u w' left' e = absurd (omega arith)
-  goes_by (suc m) h same r so_far touches u w' left' e =
+      ((ts : List Touch) → touched (tree p t b) v ts ≡ touched (whole p n s) w (f ts)) →
+      (u : State) (w' : World) (left' : ℕ) → counted (step p s) w left ≡ ended (next u) w' left' → IsRest p t v b u w' left' (λ ts. touched (step p s) w (f ts))
+  goes_by zero h same r touches u w' left' e = absurd (omega arith)
+  goes_by (suc m) h same r touches u w' left' e =
       let x = step_ended p s w left (next u) w' left' e in
-      let f = step_falls p s w left (next u) w' left' e in
+      let g = step_falls p s w left (next u) w' left' e in
       record {
         fuel = m;
         more = omega arith;
         same = same ∙ counted_bind (step p s) (after_step (λ z. whole p m z)) w left ∙ ap (λ z. and_then z (after_step (λ y. whole p m y))) e;
         reached = subst (λ (z : World). Reaches p t v u z) x.world (steps r x.value);
-        so_far = λ ts. touched (step p s) w (so_far ts);
-        touches = λ ts. touches ts ∙ touched_bind (step p s) (after_step (λ z. whole p m z)) w left (next u) w' left' e (so_far ts);
+        touches = λ ts. touches ts ∙ touched_bind (step p s) (after_step (λ z. whole p m z)) w left (next u) w' left' e (f ts);
       }
-
-  pub rest_goes : (h : IsRest p t v b s w left) (u : State) (w' : World) (left' : ℕ) → counted (step p s) w left ≡ ended (next u) w' left' → IsRest p t v b u w' left'
-  rest_goes h u w' left' e = goes_by h.fuel h.more h.same h.reached h.so_far h.touches u w' left' e
 
   ends_by : (n : ℕ) → left < n → counted (tree p t b) v b ≡ counted (whole p n s) w left → (x : Verdict) (o : List ℕ) (w' : World) (left' : ℕ) → counted (step p s) w left ≡ ended (judged x o) w' left' → counted (tree p t b) v b ≡ ended (finished x o) w' left'
   ends_by zero h same x o w' left' e = absurd (omega arith)
   ends_by (suc m) h same x o w' left' e = same ∙ counted_bind (step p s) (after_step (λ z. whole p m z)) w left ∙ ap (λ z. and_then z (after_step (λ y. whole p m y))) e
 
-  pub rest_ends : IsRest p t v b s w left → (x : Verdict) (o : List ℕ) (w' : World) (left' : ℕ) → counted (step p s) w left ≡ ended (judged x o) w' left' → counted (tree p t b) v b ≡ ended (finished x o) w' left'
-  rest_ends h x o w' left' e = ends_by h.fuel h.more h.same x o w' left' e
-
-  touched_by : (n : ℕ) → left < n → (so_far : List Touch → List Touch) → ((ts : List Touch) → touched (tree p t b) v ts ≡ touched (whole p n s) w (so_far ts)) →
-      (x : Verdict) (o : List ℕ) (w' : World) (left' : ℕ) → counted (step p s) w left ≡ ended (judged x o) w' left' → (ts : List Touch) → touched (tree p t b) v ts ≡ touched (step p s) w (so_far ts)
-  touched_by zero h so_far touches x o w' left' e ts = absurd (omega arith)
-  touched_by (suc m) h so_far touches x o w' left' e ts = touches ts ∙ touched_bind (step p s) (after_step (λ z. whole p m z)) w left (judged x o) w' left' e (so_far ts)
-
-  pub rest_touches : (h : IsRest p t v b s w left) (x : Verdict) (o : List ℕ) (w' : World) (left' : ℕ) → counted (step p s) w left ≡ ended (judged x o) w' left' → (ts : List Touch) → touched (tree p t b) v ts ≡ touched (step p s) w (h.so_far ts)
-  rest_touches h x o w' left' e ts = touched_by h.fuel h.more h.so_far h.touches x o w' left' e ts
+  touched_by : (n : ℕ) → left < n → ((ts : List Touch) → touched (tree p t b) v ts ≡ touched (whole p n s) w (f ts)) →
+      (x : Verdict) (o : List ℕ) (w' : World) (left' : ℕ) → counted (step p s) w left ≡ ended (judged x o) w' left' → (ts : List Touch) → touched (tree p t b) v ts ≡ touched (step p s) w (f ts)
+  touched_by zero h touches x o w' left' e ts = absurd (omega arith)
+  touched_by (suc m) h touches x o w' left' e ts = touches ts ∙ touched_bind (step p s) (after_step (λ z. whole p m z)) w left (judged x o) w' left' e (f ts)
 
   over_by : (n : ℕ) → left < n → counted (tree p t b) v b ≡ counted (whole p n s) w left → counted (step p s) w left ≡ over → counted (tree p t b) v b ≡ over
   over_by zero h same e = absurd (omega arith)
   over_by (suc m) h same e = same ∙ counted_bind (step p s) (after_step (λ z. whole p m z)) w left ∙ ap (λ z. and_then z (after_step (λ y. whole p m y))) e
-
-  pub rest_over : IsRest p t v b s w left → counted (step p s) w left ≡ over → counted (tree p t b) v b ≡ over
-  rest_over h e = over_by h.fuel h.more h.same e
 
 -- no step is made with no unit
 pub none_left : (p : Program) (s : State) (w : World) → counted (step p s) w 0 ≡ over
@@ -129,8 +120,47 @@ module _ (p : Program) (t : ℕ) (v : World) (all : AllSafe p t v) where
   unfolding tree
   sound b = safe_sound Any (whole p (suc b) (started p t)) v (safe_whole (suc b) (started p t) v begins)
 
-  pub gives_ended : (b : ℕ) (x : Verdict) (s : Kept) (w : World) (left : ℕ) → counted (tree p t b) v b ≡ ended (finished x s.own.output) w left → one_test p v t b ≡ given_by p t v b (Some x) s w left
+  gives_ended : (b : ℕ) (x : Verdict) (s : Kept) (w : World) (left : ℕ) → counted (tree p t b) v b ≡ ended (finished x s.own.output) w left → one_test p v t b ≡ given_by p t v b (Some x) s w left
   gives_ended b x s w left e = one_test_ended p v t b x s.own.output w left (sound b) e
 
-pub gives_over : (p : Program) (t : ℕ) (v : World) (b : ℕ) (s : Kept) (w : World) (left : ℕ) → counted (tree p t b) v b ≡ over → one_test p v t b ≡ given_by p t v b None s w left
-gives_over p t v b s w left e = one_test_over p v t b e
+gives_over : (p : Program) (t : ℕ) (v : World) (b : ℕ) → counted (tree p t b) v b ≡ over → one_test p v t b ≡ None
+gives_over p t v b e = one_test_over p v t b e
+
+-- no unit is left
+pub gives_none : (p : Program) (t : ℕ) (v : World) (b : ℕ) (s : State) (w : World) (left : ℕ) (f : List Touch → List Touch) → IsRest p t v b s w left f → left ≡ 0 → one_test p v t b ≡ None
+gives_none p t v b s w left f r e = gives_over p t v b (over_by p t v b s w left f r.fuel r.more r.same (ap (λ (n : ℕ). counted (step p s) w n) e ∙ none_left p s w))
+
+-- A step that the code made, in the same program q, and what it answered.
+module _ (p q : Program) (same : q ≡ p) (t : ℕ) (v : World) (b : ℕ) (s : Kept) (w : World) (left : ℕ) (f : List Touch → List Touch) (r : IsRest p t v b (seen s) w left f)
+    (o : Option (Option Verdict)) (s' : Kept) (w' : World) (left' : ℕ) (meets : counted (step q (seen s)) w left ≡ turned (as_turned o) s' w' left') where
+  so : (y : Option (Option Verdict)) → o ≡ y → counted (step p (seen s)) w left ≡ turned (as_turned y) s' w' left'
+  so y e = ap (λ (z : Program). counted (step z (seen s)) w left) (sym same) ∙ meets ∙ ap (λ (z : Option (Option Verdict)). turned (as_turned z) s' w' left') e
+
+  -- the test goes on
+  pub goes_on_rest : o ≡ None → IsRest p t v b (seen s') w' left' (λ ts. touched (step q (seen s)) w (f ts))
+  goes_on_rest e = subst (λ (z : Program). IsRest p t v b (seen s') w' left' (λ ts. touched (step z (seen s)) w (f ts))) (sym same)
+      (goes_by p t v b (seen s) w left f r.fuel r.more r.same r.reached r.touches (seen s') w' left' (so None e))
+
+  pub goes_on_falls : o ≡ None → left' < left
+  goes_on_falls e = step_falls p (seen s) w left (next (seen s')) w' left' (so None e)
+
+  -- it ended
+  gives_by : (all : AllSafe p t v) (y : Option Verdict) → o ≡ Some y → one_test p v t b ≡ given_by p t v b y s' w' left'
+  gives_by all None e = gives_over p t v b (over_by p t v b (seen s) w left f r.fuel r.more r.same (so (Some None) e))
+  gives_by all (Some x) e = gives_ended p t v all b x s' w' left' (ends_by p t v b (seen s) w left f r.fuel r.more r.same x s'.own.output w' left' (so (Some (Some x)) e))
+
+  pub gives_so : AllSafe p t v → (y : Option Verdict) → o ≡ Some y → one_test p v t b ≡ given_by p t v b y s' w' left'
+  gives_so all y e = gives_by all y e
+
+  pub tells_so : (y : Option Verdict) → o ≡ Some y → IsSome y → (ts : List Touch) → touched (tree p t b) v ts ≡ touched (step q (seen s)) w (f ts)
+  tells_so None e h ts = absurd (cc)
+  tells_so (Some x) e h ts = touched_by p t v b (seen s) w left f r.fuel r.more r.touches x s'.own.output w' left' (so (Some (Some x)) e) ts
+      ∙ ap (λ (z : Program). touched (step z (seen s)) w (f ts)) (sym same)
+
+-- an answer that ends the test isn't over
+pub not_over : (o : Option (Option Verdict)) (y : Option Verdict) → o ≡ Some y → IsSome y → as_turned o ≢ Over
+not_over o None e h k = absurd (cc)
+not_over o (Some x) e h k = let z : Ends x ≡ Over = ap as_turned (sym e) ∙ k in cc
+
+pub goes_not_over : (o : Option (Option Verdict)) → o ≡ None → as_turned o ≢ Over
+goes_not_over o e k = let z : Goes ≡ Over = ap as_turned (sym e) ∙ k in cc
