@@ -1,0 +1,4 @@
+pub mod Costs
+pub mod Elements
+pub mod Lengths
+pub mod Using

@@ -1,0 +1,173 @@
+//! Tests of what an object is an instance of. At run time an array implements no interface.
+#![tactic(auto, unfolding(jvm_model::specs::RowsCasts::row_casts))]
+
+ghost use Rattle.std.specs.Prelude.{◌≡◌, ◌<◌, ◌-◌, ◌∷◌, IfOk, OnOk, cond, pos, true, false};
+ghost use Rattle.jvm_model.specs.declared.instr.Instr.TheVariants as form;
+ghost use Rattle.jvm_model.specs.declared.outcome.Next.{Next};
+ghost use Rattle.jvm_model.specs.declared.values.Value.TheVariants.{Int};
+ghost use Rattle.jvm_model.specs.Builtin.{class_cast_exception};
+ghost use Rattle.jvm_model.specs.Entries.{with_stack, with_place};
+ghost use Rattle.vm_frames.specs.Stack.{HasRoom};
+ghost use Rattle.vm_mem.specs.Meets.{IsReady, IsNext, Meets, Tells};
+ghost use Rattle.vm_objects.specs.Forms.{cast_row};
+
+use et_base::NoMemory;
+use jvm_model::{CLASS_CAST_EXCEPTION, Instr, Kind, Next, Program, Value};
+use vm_frames::FrameStack;
+use vm_mem::Memory;
+
+/// Makes the step of `checkcast` or `instanceof`, with the byte place of the next instruction. It reads the head of an
+/// object and costs 1; a cast of what isn't of the type throws a ClassCastException, which counts nothing.
+///
+/// It answers Over where no unit is left. The only error is want of memory.
+pub fn casts<M: Memory>(
+    stack: &mut FrameStack,
+    memory: &mut M,
+    program: &Program,
+    form: &Instr,
+    next: u32,
+    left: &mut u64,
+) -> Result<Next, NoMemory>
+    requires program { program.now ≡ M.program memory.old }
+    requires row { IsReady (cast_row form.now)
+        (M.program memory.old) (M.world memory.old) stack.old }
+    requires place { IsNext (M.program memory.old) stack.old next }
+    ensures meets { IfOk result (λ x. Meets (cast_row form.now)
+        (M.program memory.old) (M.world memory.old) stack.old left.old
+        x stack.new (M.world memory.new) left.new) }
+    ensures told { IfOk result (λ x. Tells (cast_row form.now)
+        (M.program memory.old) (M.world memory.old) stack.old
+        x M.follows memory.old memory.new) }
+    ensures of { OnOk result (M.program memory.new ≡ M.program memory.old) }
+{
+    match form {
+        Instr::CheckCast { kind } => check_cast(stack, memory, program, *kind, next, left),
+        Instr::InstanceOf { kind } => instance_of(stack, memory, program, *kind, next, left),
+        _ => unreachable!(),
+    }
+}
+
+/// Leaves null or an object of the type on top; another throws (`checkcast`).
+pub fn check_cast<M: Memory>(
+    stack: &mut FrameStack,
+    memory: &mut M,
+    program: &Program,
+    kind: Kind,
+    next: u32,
+    left: &mut u64,
+) -> Result<Next, NoMemory>
+    requires program { program.now ≡ M.program memory.old }
+    requires row { IsReady (cast_row (form.CheckCast kind))
+        (M.program memory.old) (M.world memory.old) stack.old }
+    requires place { IsNext (M.program memory.old) stack.old next }
+    ensures meets { IfOk result (λ x. Meets (cast_row (form.CheckCast kind))
+        (M.program memory.old) (M.world memory.old) stack.old left.old
+        x stack.new (M.world memory.new) left.new) }
+    ensures told { IfOk result (λ x. Tells (cast_row (form.CheckCast kind))
+        (M.program memory.old) (M.world memory.old) stack.old
+        x M.follows memory.old memory.new) }
+    ensures of { OnOk result (M.program memory.new ≡ M.program memory.old) }
+{
+    if *left == 0 {
+        return Ok(Next::Over);
+    }
+    match stack.pop_value() {
+        Value::Null => {
+            stack.push_value(Value::Null);
+            stack.set_pc(next);
+            *left -= 1;
+            Ok(Next::Go)
+        }
+        Value::Lit(n) => {
+            let fits = program.kind_fits(Kind::of_constant(n), kind);
+            Ok(keep_if(fits, stack, Value::Lit(n), next, left))
+        }
+        Value::Obj(object) => {
+            let head = memory.head(object)?;
+            let fits = program.kind_fits(head.kind, kind);
+            Ok(keep_if(fits, stack, Value::Obj(object), next, left))
+        }
+        Value::Int(_) | Value::Long(_) => unreachable!(),
+    }
+}
+
+// What was cast is put back and the step goes on, if it is of the type; else the step throws.
+fn keep_if(fits: bool, stack: &mut FrameStack, v: Value, next: u32, left: &mut u64) -> Next
+    requires room { HasRoom 1 stack.old }
+    requires units { 0 < left.old }
+    ensures kept { fits ≡ true → (result ≡ Next.Go)
+        × (stack.new ≡ with_place (with_stack stack.old (v ∷ stack.old.top.stack)) next)
+        × (left.new ≡ left.old - 1) }
+    ensures thrown { fits ≡ false → (result ≡ Next.Fault class_cast_exception)
+        × (stack.new ≡ stack.old) × (left.new ≡ left.old) }
+{
+    if !fits {
+        return Next::Fault {
+            class: CLASS_CAST_EXCEPTION,
+        };
+    }
+    stack.push_value(v);
+    stack.set_pc(next);
+    *left -= 1;
+    Next::Go
+}
+
+/// Takes a reference and puts 1 if it is an object of the type, else 0; null is of none (`instanceof`).
+pub fn instance_of<M: Memory>(
+    stack: &mut FrameStack,
+    memory: &mut M,
+    program: &Program,
+    kind: Kind,
+    next: u32,
+    left: &mut u64,
+) -> Result<Next, NoMemory>
+    requires program { program.now ≡ M.program memory.old }
+    requires row { IsReady (cast_row (form.InstanceOf kind))
+        (M.program memory.old) (M.world memory.old) stack.old }
+    requires place { IsNext (M.program memory.old) stack.old next }
+    ensures meets { IfOk result (λ x. Meets (cast_row (form.InstanceOf kind))
+        (M.program memory.old) (M.world memory.old) stack.old left.old
+        x stack.new (M.world memory.new) left.new) }
+    ensures told { IfOk result (λ x. Tells (cast_row (form.InstanceOf kind))
+        (M.program memory.old) (M.world memory.old) stack.old
+        x M.follows memory.old memory.new) }
+    ensures of { OnOk result (M.program memory.new ≡ M.program memory.old) }
+{
+    if *left == 0 {
+        return Ok(Next::Over);
+    }
+    match stack.pop_value() {
+        Value::Null => {
+            put_truth(false, stack, next, left);
+            Ok(Next::Go)
+        }
+        Value::Lit(n) => {
+            put_truth(
+                program.kind_fits(Kind::of_constant(n), kind),
+                stack,
+                next,
+                left,
+            );
+            Ok(Next::Go)
+        }
+        Value::Obj(object) => {
+            let head = memory.head(object)?;
+            put_truth(program.kind_fits(head.kind, kind), stack, next, left);
+            Ok(Next::Go)
+        }
+        Value::Int(_) | Value::Long(_) => unreachable!(),
+    }
+}
+
+// The answer of a test is put on top, and the step goes on.
+fn put_truth(holds: bool, stack: &mut FrameStack, next: u32, left: &mut u64)
+    requires room { HasRoom 1 stack.old }
+    requires units { 0 < left.old }
+    ensures put { stack.new ≡ with_place
+        (with_stack stack.old (Int (cond holds (pos 1) (pos 0)) ∷ stack.old.top.stack)) next }
+    ensures counted { left.new ≡ left.old - 1 }
+{
+    stack.push_int(i32::from(holds));
+    stack.set_pc(next);
+    *left -= 1;
+}

@@ -1,0 +1,119 @@
+//! Instance fields.
+#![tactic(auto, unfolding(jvm_model::specs::RowsFields::row_fields))]
+
+ghost use Rattle.std.specs.Prelude.{◌≡◌, IfOk, OnOk};
+ghost use Rattle.jvm_model.specs.declared.instr.Instr.TheVariants as form;
+ghost use Rattle.vm_mem.specs.Meets.{IsReady, IsNext, Meets, Tells};
+ghost use Rattle.vm_objects.specs.Forms.{field_row};
+
+use et_base::NoMemory;
+use jvm_model::{Instr, NULL_POINTER_EXCEPTION, Next, Program, Value};
+use vm_frames::FrameStack;
+use vm_mem::Memory;
+
+/// Makes the step of `getfield` or `putfield`, with the byte place of the next instruction. It touches the field and
+/// costs 1; null throws a NullPointerException, which counts nothing.
+///
+/// It answers Over where no unit is left. The only error is want of memory.
+pub fn fields<M: Memory>(
+    stack: &mut FrameStack,
+    memory: &mut M,
+    program: &Program,
+    form: &Instr,
+    next: u32,
+    left: &mut u64,
+) -> Result<Next, NoMemory>
+    requires program { program.now ≡ M.program memory.old }
+    requires row { IsReady (field_row form.now)
+        (M.program memory.old) (M.world memory.old) stack.old }
+    requires place { IsNext (M.program memory.old) stack.old next }
+    ensures meets { IfOk result (λ x. Meets (field_row form.now)
+        (M.program memory.old) (M.world memory.old) stack.old left.old
+        x stack.new (M.world memory.new) left.new) }
+    ensures told { IfOk result (λ x. Tells (field_row form.now)
+        (M.program memory.old) (M.world memory.old) stack.old
+        x M.follows memory.old memory.new) }
+    ensures of { OnOk result (M.program memory.new ≡ M.program memory.old) }
+{
+    match form {
+        Instr::GetField { field, .. } => get_field(stack, memory, *field, next, left),
+        Instr::PutField { field, .. } => put_field(stack, memory, program, *field, next, left),
+        _ => unreachable!(),
+    }
+}
+
+/// Takes an object and puts the value of its field on top (`getfield`).
+pub fn get_field<M: Memory>(
+    stack: &mut FrameStack,
+    memory: &mut M,
+    field: u32,
+    next: u32,
+    left: &mut u64,
+) -> Result<Next, NoMemory>
+    requires row { IsReady (field_row (form.GetField 0 field))
+        (M.program memory.old) (M.world memory.old) stack.old }
+    requires place { IsNext (M.program memory.old) stack.old next }
+    ensures meets { IfOk result (λ x. Meets (field_row (form.GetField 0 field))
+        (M.program memory.old) (M.world memory.old) stack.old left.old
+        x stack.new (M.world memory.new) left.new) }
+    ensures told { IfOk result (λ x. Tells (field_row (form.GetField 0 field))
+        (M.program memory.old) (M.world memory.old) stack.old
+        x M.follows memory.old memory.new) }
+    ensures of { OnOk result (M.program memory.new ≡ M.program memory.old) }
+{
+    if *left == 0 {
+        return Ok(Next::Over);
+    }
+    match stack.pop_value() {
+        Value::Obj(object) => {
+            let v = memory.get_field(object, field)?;
+            stack.push_value(v);
+            stack.set_pc(next);
+            *left -= 1;
+            Ok(Next::Go)
+        }
+        Value::Null => Ok(Next::Fault {
+            class: NULL_POINTER_EXCEPTION,
+        }),
+        Value::Int(_) | Value::Long(_) | Value::Lit(_) => unreachable!(),
+    }
+}
+
+/// Takes a value and an object and gives its field the value, narrowed to the field's type (`putfield`).
+pub fn put_field<M: Memory>(
+    stack: &mut FrameStack,
+    memory: &mut M,
+    program: &Program,
+    field: u32,
+    next: u32,
+    left: &mut u64,
+) -> Result<Next, NoMemory>
+    requires program { program.now ≡ M.program memory.old }
+    requires row { IsReady (field_row (form.PutField 0 field))
+        (M.program memory.old) (M.world memory.old) stack.old }
+    requires place { IsNext (M.program memory.old) stack.old next }
+    ensures meets { IfOk result (λ x. Meets (field_row (form.PutField 0 field))
+        (M.program memory.old) (M.world memory.old) stack.old left.old
+        x stack.new (M.world memory.new) left.new) }
+    ensures told { IfOk result (λ x. Tells (field_row (form.PutField 0 field))
+        (M.program memory.old) (M.world memory.old) stack.old
+        x M.follows memory.old memory.new) }
+    ensures of { OnOk result (M.program memory.new ≡ M.program memory.old) }
+{
+    if *left == 0 {
+        return Ok(Next::Over);
+    }
+    let v = stack.pop_value();
+    match stack.pop_value() {
+        Value::Obj(object) => {
+            memory.put_field(object, field, v.narrowed(program.field_descriptor(field)))?;
+            stack.set_pc(next);
+            *left -= 1;
+            Ok(Next::Go)
+        }
+        Value::Null => Ok(Next::Fault {
+            class: NULL_POINTER_EXCEPTION,
+        }),
+        Value::Int(_) | Value::Long(_) | Value::Lit(_) => unreachable!(),
+    }
+}
