@@ -2,3 +2,4 @@ pub mod Used
 pub mod Stepped
 pub mod Whole
 pub mod NoEntry
+pub mod Quiet
