@@ -1,0 +1,76 @@
+-- What methods do with a name, and perhaps a text: the parts of their rows.
+use Rattle.std.specs.Prelude.{ℕ, List, ◌∷◌, ◌++◌, length, ◌+◌, Bool, is_some, Option, Some, None}
+use Rattle.jvm_model.specs.declared.values.Value.{Value}
+use Rattle.jvm_model.specs.declared.values.Location.TheVariants as place
+use Rattle.jvm_model.specs.World.{text_or_empty}
+use Rattle.jvm_model.specs.Access.{read, write, spend}
+use Rattle.jvm_model.specs.Rows.{on_reference, on_text}
+use Rattle.jvm_model.specs.Working.{Working, operands, answers, answers_found, truth}
+use Rattle.jvm_model.specs.NativesOutside.{changes_property}
+use Rattle.vm_mem.specs.Meets.{Row}
+use Rattle.vm_natives.specs.declared.named.Named.{Named}
+use Rattle.vm_natives.specs.declared.named.Named.TheVariants.{GetProperty, ClearProperty, ReadFile, DeleteFile, FileExists, Given}
+use Rattle.vm_natives.specs.declared.named.Change.{Change}
+use Rattle.vm_natives.specs.declared.named.Change.TheVariants.{SetProperty, WriteFile, AppendFile}
+
+-- the call answers a value at this cost
+abbrev pub priced_row : ℕ → Value → Row Working
+priced_row n v p s = spend n (answers p s (v ∷ operands s))
+
+-- the text of a property, of a file
+abbrev pub property_row : List ℕ → Row Working
+property_row name p s = read (place.Prop name) (λ c. answers_found p s (operands s) (length name) c)
+
+abbrev pub file_row : List ℕ → Row Working
+file_row name p s = read (place.File name) (λ c. answers_found p s (operands s) (length name) c)
+
+-- a property is set or taken away; n units are written
+abbrev pub property_change_row : List ℕ → Option (List ℕ) → ℕ → Row Working
+property_change_row name t n p s = read (place.Prop name) (λ c. changes_property p s (operands s) name n t c)
+
+-- a file has this text, at this cost
+abbrev pub put_row : ℕ → List ℕ → List ℕ → Row Working
+put_row n name t p s = spend n (write (place.File name) (Some t) (answers p s (operands s)))
+
+abbrev pub write_row : List ℕ → List ℕ → Row Working
+write_row name t p s = put_row (length name + length t) name t p s
+
+abbrev pub append_row : List ℕ → List ℕ → Row Working
+append_row name t p s = read (place.File name) (λ c. put_row (length name + length t) name (text_or_empty c ++ t) p s)
+
+-- a file is taken away; this is answered
+abbrev pub taken_row : List ℕ → Bool → Row Working
+taken_row name b p s = spend (length name) (write (place.File name) None (answers p s (truth b ∷ operands s)))
+
+abbrev pub delete_row : List ℕ → Row Working
+delete_row name p s = read (place.File name) (λ c. taken_row name (is_some c) p s)
+
+abbrev pub exists_row : List ℕ → Row Working
+exists_row name p s = read (place.File name) (λ c. priced_row (length name) (truth (is_some c)) p s)
+
+-- what is done with a name and a text
+unfoldable pub change_row : Change → List ℕ → List ℕ → Row Working
+change_row SetProperty name t p s = property_change_row name (Some t) (length t) p s
+change_row WriteFile name t p s = write_row name t p s
+change_row AppendFile name t p s = append_row name t p s
+
+-- the same with the text of a String
+abbrev pub given_row : Change → List ℕ → Value → Row Working
+given_row d name v p s = on_text p s v (λ t. change_row d name t p s)
+
+-- what is done with a name
+unfoldable pub name_row : Named → List ℕ → Row Working
+name_row GetProperty name p s = property_row name p s
+name_row ClearProperty name p s = property_change_row name None 0 p s
+name_row ReadFile name p s = file_row name p s
+name_row DeleteFile name p s = delete_row name p s
+name_row FileExists name p s = exists_row name p s
+name_row (Given d v) name p s = given_row d name v p s
+
+-- the same with the text of a String
+abbrev pub named_row : Named → Value → Row Working
+named_row d v p s = on_text p s v (λ name. name_row d name p s)
+
+-- a method that is given two Strings
+abbrev pub texts_row : Change → Value → Value → Row Working
+texts_row d v u p s = on_reference s u (on_text p s v (λ name. on_text p s u (λ t. change_row d name t p s)))

@@ -1,0 +1,478 @@
+//! The methods of java.lang.StringBuilder.
+
+ghost use Rattle.std.specs.Prelude.{◌≡◌, IfOk, OnOk};
+ghost use Rattle.jvm_model.specs.declared.library.Native.{Native};
+ghost use Rattle.vm_frames.specs.Stack.{HasRoom};
+ghost use Rattle.vm_mem.specs.Meets.{IsReady, IsNext, Meets, Tells};
+ghost use Rattle.vm_natives.specs.Rows.{with_own, builder_row, begun_row, appended_row};
+
+use crate::texts::{boolean_text, char_unit, int_text, length_of, long_text};
+use crate::working::{answer, answer_text};
+use et_base::{NoMemory, Units};
+use jvm_model::{NULL_POINTER_EXCEPTION, Next, Own, Program, Value};
+use std::alloc::Global;
+use vm_frames::FrameStack;
+use vm_mem::Memory;
+
+/// `<init>()`: an empty text is written. It counts 1.
+#[tactic(auto, unfolding(jvm_model::specs::NativesString::native_builder))]
+pub fn init<M: Memory>(
+    alloc: Global,
+    stack: &mut FrameStack,
+    memory: &mut M,
+    p: &Program,
+    own: &Own,
+    next: u32,
+    left: &mut u64,
+) -> Result<Next, NoMemory>
+    requires program { p.now ≡ M.program memory.old }
+    requires place { IsNext p.now stack.old next }
+    requires row { IsReady (builder_row Native.BuilderInit)
+        (M.program memory.old) (M.world memory.old) (with_own stack.old own.now) }
+    ensures meets { IfOk result (λ x. Meets (builder_row Native.BuilderInit)
+        (M.program memory.old) (M.world memory.old) (with_own stack.old own.now) left.old
+        x (with_own stack.new own.now) (M.world memory.new) left.new) }
+    ensures told { IfOk result (λ x. Tells (builder_row Native.BuilderInit)
+        (M.program memory.old) (M.world memory.old) (with_own stack.old own.now)
+        x M.follows memory.old memory.new) }
+    ensures of { OnOk result (M.program memory.new ≡ M.program memory.old) }
+{
+    match stack.pop_value() {
+        Value::Obj(object) => {
+            if *left == 0 {
+                return Ok(Next::Over);
+            }
+            memory.put_text(object, Units::new(alloc))?;
+            stack.set_pc(next);
+            *left -= 1;
+            Ok(Next::Go)
+        }
+        Value::Null => Ok(Next::Fault {
+            class: NULL_POINTER_EXCEPTION,
+        }),
+        Value::Int(_) => unreachable!(),
+        Value::Long(_) => unreachable!(),
+        Value::Lit(_) => unreachable!(),
+    }
+}
+
+/// `<init>(String)`: the text of a String is written. It reads it, and counts 1 and its length.
+#[tactic(auto, unfolding(jvm_model::specs::NativesString::native_builder))]
+pub fn init_string<M: Memory>(
+    alloc: Global,
+    stack: &mut FrameStack,
+    memory: &mut M,
+    p: &Program,
+    own: &Own,
+    next: u32,
+    left: &mut u64,
+) -> Result<Next, NoMemory>
+    requires program { p.now ≡ M.program memory.old }
+    requires place { IsNext p.now stack.old next }
+    requires row { IsReady (builder_row Native.BuilderInitString)
+        (M.program memory.old) (M.world memory.old) (with_own stack.old own.now) }
+    ensures meets { IfOk result (λ x. Meets (builder_row Native.BuilderInitString)
+        (M.program memory.old) (M.world memory.old) (with_own stack.old own.now) left.old
+        x (with_own stack.new own.now) (M.world memory.new) left.new) }
+    ensures told { IfOk result (λ x. Tells (builder_row Native.BuilderInitString)
+        (M.program memory.old) (M.world memory.old) (with_own stack.old own.now)
+        x M.follows memory.old memory.new) }
+    ensures of { OnOk result (M.program memory.new ≡ M.program memory.old) }
+{
+    let argument = stack.pop_value();
+    let receiver = stack.pop_value();
+    match argument {
+        Value::Lit(n) => {
+            let text = Units::from_slice(alloc, p.literal(n))?;
+            begin_with(stack, memory, p, own, receiver, text, next, left)
+        }
+        Value::Obj(object) => {
+            let text = Units::from_slice(alloc, memory.get_text(object)?.as_slice())?;
+            begin_with(stack, memory, p, own, receiver, text, next, left)
+        }
+        Value::Null => Ok(Next::Fault {
+            class: NULL_POINTER_EXCEPTION,
+        }),
+        Value::Int(_) => unreachable!(),
+        Value::Long(_) => unreachable!(),
+    }
+}
+
+/// This text is written into a builder. It counts 1 and its length.
+fn begin_with<M: Memory>(
+    stack: &mut FrameStack,
+    memory: &mut M,
+    p: &Program,
+    own: &Own,
+    receiver: Value,
+    text: Units,
+    next: u32,
+    left: &mut u64,
+) -> Result<Next, NoMemory>
+    requires program { p.now ≡ M.program memory.old }
+    requires place { IsNext p.now stack.old next }
+    requires row { IsReady (begun_row receiver text)
+        (M.program memory.old) (M.world memory.old) (with_own stack.old own.now) }
+    ensures meets { IfOk result (λ x. Meets (begun_row receiver text)
+        (M.program memory.old) (M.world memory.old) (with_own stack.old own.now) left.old
+        x (with_own stack.new own.now) (M.world memory.new) left.new) }
+    ensures told { IfOk result (λ x. Tells (begun_row receiver text)
+        (M.program memory.old) (M.world memory.old) (with_own stack.old own.now)
+        x M.follows memory.old memory.new) }
+    ensures of { OnOk result (M.program memory.new ≡ M.program memory.old) }
+{
+    match receiver {
+        Value::Obj(object) => {
+            let cost = text.as_slice().len() as u64;
+            if *left <= cost {
+                return Ok(Next::Over);
+            }
+            memory.put_text(object, text)?;
+            stack.set_pc(next);
+            *left -= cost + 1;
+            Ok(Next::Go)
+        }
+        Value::Null => Ok(Next::Fault {
+            class: NULL_POINTER_EXCEPTION,
+        }),
+        Value::Int(_) => unreachable!(),
+        Value::Long(_) => unreachable!(),
+        Value::Lit(_) => unreachable!(),
+    }
+}
+
+/// `append(String)`: the text of a String, or `null`. It reads the text and then the builder's, and counts 1 and the
+/// text's length.
+#[tactic(auto, unfolding(jvm_model::specs::NativesString::native_builder))]
+pub fn append_string<M: Memory>(
+    alloc: Global,
+    stack: &mut FrameStack,
+    memory: &mut M,
+    p: &Program,
+    own: &Own,
+    next: u32,
+    left: &mut u64,
+) -> Result<Next, NoMemory>
+    requires program { p.now ≡ M.program memory.old }
+    requires place { IsNext p.now stack.old next }
+    requires row { IsReady (builder_row Native.BuilderAppendString)
+        (M.program memory.old) (M.world memory.old) (with_own stack.old own.now) }
+    ensures meets { IfOk result (λ x. Meets (builder_row Native.BuilderAppendString)
+        (M.program memory.old) (M.world memory.old) (with_own stack.old own.now) left.old
+        x (with_own stack.new own.now) (M.world memory.new) left.new) }
+    ensures told { IfOk result (λ x. Tells (builder_row Native.BuilderAppendString)
+        (M.program memory.old) (M.world memory.old) (with_own stack.old own.now)
+        x M.follows memory.old memory.new) }
+    ensures of { OnOk result (M.program memory.new ≡ M.program memory.old) }
+{
+    let argument = stack.pop_value();
+    let receiver = stack.pop_value();
+    match argument {
+        Value::Null => {
+            let more = Units::from_ascii(alloc, b"null")?;
+            append(
+                alloc,
+                stack,
+                memory,
+                p,
+                own,
+                receiver,
+                more.as_slice(),
+                next,
+                left,
+            )
+        }
+        Value::Lit(n) => append(
+            alloc,
+            stack,
+            memory,
+            p,
+            own,
+            receiver,
+            p.literal(n),
+            next,
+            left,
+        ),
+        Value::Obj(object) => {
+            let more = Units::from_slice(alloc, memory.get_text(object)?.as_slice())?;
+            append(
+                alloc,
+                stack,
+                memory,
+                p,
+                own,
+                receiver,
+                more.as_slice(),
+                next,
+                left,
+            )
+        }
+        Value::Int(_) => unreachable!(),
+        Value::Long(_) => unreachable!(),
+    }
+}
+
+/// These units are appended to a builder, which is answered. It reads the builder's text, and counts 1 and a unit for
+/// each that is appended.
+fn append<M: Memory>(
+    alloc: Global,
+    stack: &mut FrameStack,
+    memory: &mut M,
+    p: &Program,
+    own: &Own,
+    receiver: Value,
+    more: &[u16],
+    next: u32,
+    left: &mut u64,
+) -> Result<Next, NoMemory>
+    requires program { p.now ≡ M.program memory.old }
+    requires place { IsNext p.now stack.old next }
+    requires room { HasRoom 1 stack.old }
+    requires row { IsReady (appended_row receiver more.now)
+        (M.program memory.old) (M.world memory.old) (with_own stack.old own.now) }
+    ensures meets { IfOk result (λ x. Meets (appended_row receiver more.now)
+        (M.program memory.old) (M.world memory.old) (with_own stack.old own.now) left.old
+        x (with_own stack.new own.now) (M.world memory.new) left.new) }
+    ensures told { IfOk result (λ x. Tells (appended_row receiver more.now)
+        (M.program memory.old) (M.world memory.old) (with_own stack.old own.now)
+        x M.follows memory.old memory.new) }
+    ensures of { OnOk result (M.program memory.new ≡ M.program memory.old) }
+{
+    match receiver {
+        Value::Obj(object) => {
+            let mut text = Units::from_slice(alloc, memory.get_text(object)?.as_slice())?;
+            let cost = more.len() as u64;
+            if *left <= cost {
+                return Ok(Next::Over);
+            }
+            text.extend_from_slice(more)?;
+            memory.put_text(object, text)?;
+            stack.push_value(receiver);
+            stack.set_pc(next);
+            *left -= cost + 1;
+            Ok(Next::Go)
+        }
+        Value::Null => Ok(Next::Fault {
+            class: NULL_POINTER_EXCEPTION,
+        }),
+        Value::Int(_) => unreachable!(),
+        Value::Long(_) => unreachable!(),
+        Value::Lit(_) => unreachable!(),
+    }
+}
+
+/// `append(int)`: the decimal digits. It reads the builder's text, and counts 1 and a unit for each that is appended.
+#[tactic(auto, unfolding(jvm_model::specs::NativesString::native_builder))]
+pub fn append_int<M: Memory>(
+    alloc: Global,
+    stack: &mut FrameStack,
+    memory: &mut M,
+    p: &Program,
+    own: &Own,
+    next: u32,
+    left: &mut u64,
+) -> Result<Next, NoMemory>
+    requires program { p.now ≡ M.program memory.old }
+    requires place { IsNext p.now stack.old next }
+    requires row { IsReady (builder_row Native.BuilderAppendInt)
+        (M.program memory.old) (M.world memory.old) (with_own stack.old own.now) }
+    ensures meets { IfOk result (λ x. Meets (builder_row Native.BuilderAppendInt)
+        (M.program memory.old) (M.world memory.old) (with_own stack.old own.now) left.old
+        x (with_own stack.new own.now) (M.world memory.new) left.new) }
+    ensures told { IfOk result (λ x. Tells (builder_row Native.BuilderAppendInt)
+        (M.program memory.old) (M.world memory.old) (with_own stack.old own.now)
+        x M.follows memory.old memory.new) }
+    ensures of { OnOk result (M.program memory.new ≡ M.program memory.old) }
+{
+    let more = int_text(alloc, stack.pop_int())?;
+    let receiver = stack.pop_value();
+    append(
+        alloc,
+        stack,
+        memory,
+        p,
+        own,
+        receiver,
+        more.as_slice(),
+        next,
+        left,
+    )
+}
+
+/// `append(long)`: the decimal digits. It reads the builder's text, and counts 1 and a unit for each that is appended.
+#[tactic(auto, unfolding(jvm_model::specs::NativesString::native_builder))]
+pub fn append_long<M: Memory>(
+    alloc: Global,
+    stack: &mut FrameStack,
+    memory: &mut M,
+    p: &Program,
+    own: &Own,
+    next: u32,
+    left: &mut u64,
+) -> Result<Next, NoMemory>
+    requires program { p.now ≡ M.program memory.old }
+    requires place { IsNext p.now stack.old next }
+    requires row { IsReady (builder_row Native.BuilderAppendLong)
+        (M.program memory.old) (M.world memory.old) (with_own stack.old own.now) }
+    ensures meets { IfOk result (λ x. Meets (builder_row Native.BuilderAppendLong)
+        (M.program memory.old) (M.world memory.old) (with_own stack.old own.now) left.old
+        x (with_own stack.new own.now) (M.world memory.new) left.new) }
+    ensures told { IfOk result (λ x. Tells (builder_row Native.BuilderAppendLong)
+        (M.program memory.old) (M.world memory.old) (with_own stack.old own.now)
+        x M.follows memory.old memory.new) }
+    ensures of { OnOk result (M.program memory.new ≡ M.program memory.old) }
+{
+    let more = long_text(alloc, stack.pop_long())?;
+    let receiver = stack.pop_value();
+    append(
+        alloc,
+        stack,
+        memory,
+        p,
+        own,
+        receiver,
+        more.as_slice(),
+        next,
+        left,
+    )
+}
+
+/// `append(boolean)`: `true` or `false`. It reads the builder's text, and counts 1 and a unit for each that is
+/// appended.
+#[tactic(auto, unfolding(jvm_model::specs::NativesString::native_builder))]
+pub fn append_boolean<M: Memory>(
+    alloc: Global,
+    stack: &mut FrameStack,
+    memory: &mut M,
+    p: &Program,
+    own: &Own,
+    next: u32,
+    left: &mut u64,
+) -> Result<Next, NoMemory>
+    requires program { p.now ≡ M.program memory.old }
+    requires place { IsNext p.now stack.old next }
+    requires row { IsReady (builder_row Native.BuilderAppendBoolean)
+        (M.program memory.old) (M.world memory.old) (with_own stack.old own.now) }
+    ensures meets { IfOk result (λ x. Meets (builder_row Native.BuilderAppendBoolean)
+        (M.program memory.old) (M.world memory.old) (with_own stack.old own.now) left.old
+        x (with_own stack.new own.now) (M.world memory.new) left.new) }
+    ensures told { IfOk result (λ x. Tells (builder_row Native.BuilderAppendBoolean)
+        (M.program memory.old) (M.world memory.old) (with_own stack.old own.now)
+        x M.follows memory.old memory.new) }
+    ensures of { OnOk result (M.program memory.new ≡ M.program memory.old) }
+{
+    let more = Units::from_ascii(alloc, boolean_text(stack.pop_int()))?;
+    let receiver = stack.pop_value();
+    append(
+        alloc,
+        stack,
+        memory,
+        p,
+        own,
+        receiver,
+        more.as_slice(),
+        next,
+        left,
+    )
+}
+
+/// `append(char)`: the one unit. It reads the builder's text, and counts 2.
+#[tactic(auto, unfolding(jvm_model::specs::NativesString::native_builder))]
+pub fn append_char<M: Memory>(
+    alloc: Global,
+    stack: &mut FrameStack,
+    memory: &mut M,
+    p: &Program,
+    own: &Own,
+    next: u32,
+    left: &mut u64,
+) -> Result<Next, NoMemory>
+    requires program { p.now ≡ M.program memory.old }
+    requires place { IsNext p.now stack.old next }
+    requires row { IsReady (builder_row Native.BuilderAppendChar)
+        (M.program memory.old) (M.world memory.old) (with_own stack.old own.now) }
+    ensures meets { IfOk result (λ x. Meets (builder_row Native.BuilderAppendChar)
+        (M.program memory.old) (M.world memory.old) (with_own stack.old own.now) left.old
+        x (with_own stack.new own.now) (M.world memory.new) left.new) }
+    ensures told { IfOk result (λ x. Tells (builder_row Native.BuilderAppendChar)
+        (M.program memory.old) (M.world memory.old) (with_own stack.old own.now)
+        x M.follows memory.old memory.new) }
+    ensures of { OnOk result (M.program memory.new ≡ M.program memory.old) }
+{
+    let unit = char_unit(stack.pop_int());
+    let receiver = stack.pop_value();
+    append(alloc, stack, memory, p, own, receiver, &[unit], next, left)
+}
+
+/// `length()`: the number of units. It reads the text and counts 1.
+#[tactic(auto, unfolding(jvm_model::specs::NativesString::native_builder))]
+pub fn length<M: Memory>(
+    stack: &mut FrameStack,
+    memory: &mut M,
+    p: &Program,
+    own: &Own,
+    next: u32,
+    left: &mut u64,
+) -> Result<Next, NoMemory>
+    requires program { p.now ≡ M.program memory.old }
+    requires place { IsNext p.now stack.old next }
+    requires row { IsReady (builder_row Native.BuilderLength)
+        (M.program memory.old) (M.world memory.old) (with_own stack.old own.now) }
+    ensures meets { IfOk result (λ x. Meets (builder_row Native.BuilderLength)
+        (M.program memory.old) (M.world memory.old) (with_own stack.old own.now) left.old
+        x (with_own stack.new own.now) (M.world memory.new) left.new) }
+    ensures told { IfOk result (λ x. Tells (builder_row Native.BuilderLength)
+        (M.program memory.old) (M.world memory.old) (with_own stack.old own.now)
+        x M.follows memory.old memory.new) }
+    ensures of { OnOk result (M.program memory.new ≡ M.program memory.old) }
+{
+    match stack.pop_value() {
+        Value::Obj(object) => {
+            let length = length_of(memory.get_text(object)?.as_slice());
+            Ok(answer(stack, p, Value::Int(length), next, left))
+        }
+        Value::Null => Ok(Next::Fault {
+            class: NULL_POINTER_EXCEPTION,
+        }),
+        Value::Int(_) => unreachable!(),
+        Value::Long(_) => unreachable!(),
+        Value::Lit(_) => unreachable!(),
+    }
+}
+
+/// `toString()`: the text. It reads it; a new String counts its length and 2.
+#[tactic(auto, unfolding(jvm_model::specs::NativesString::native_builder))]
+pub fn to_string<M: Memory>(
+    alloc: Global,
+    stack: &mut FrameStack,
+    memory: &mut M,
+    p: &Program,
+    own: &Own,
+    next: u32,
+    left: &mut u64,
+) -> Result<Next, NoMemory>
+    requires program { p.now ≡ M.program memory.old }
+    requires place { IsNext p.now stack.old next }
+    requires row { IsReady (builder_row Native.BuilderToString)
+        (M.program memory.old) (M.world memory.old) (with_own stack.old own.now) }
+    ensures meets { IfOk result (λ x. Meets (builder_row Native.BuilderToString)
+        (M.program memory.old) (M.world memory.old) (with_own stack.old own.now) left.old
+        x (with_own stack.new own.now) (M.world memory.new) left.new) }
+    ensures told { IfOk result (λ x. Tells (builder_row Native.BuilderToString)
+        (M.program memory.old) (M.world memory.old) (with_own stack.old own.now)
+        x M.follows memory.old memory.new) }
+    ensures of { OnOk result (M.program memory.new ≡ M.program memory.old) }
+{
+    match stack.pop_value() {
+        Value::Obj(object) => {
+            let text = Units::from_slice(alloc, memory.get_text(object)?.as_slice())?;
+            answer_text(stack, memory, p, own, text, 0, next, left)
+        }
+        Value::Null => Ok(Next::Fault {
+            class: NULL_POINTER_EXCEPTION,
+        }),
+        Value::Int(_) => unreachable!(),
+        Value::Long(_) => unreachable!(),
+        Value::Lit(_) => unreachable!(),
+    }
+}

@@ -1,0 +1,77 @@
+//! The methods of electric.Env.
+
+ghost use Rattle.std.specs.Prelude.{◌≡◌, IfOk, OnOk};
+ghost use Rattle.jvm_model.specs.declared.library.Native.{Native};
+ghost use Rattle.jvm_model.specs.NativesOutside as natives;
+ghost use Rattle.jvm_model.specs.World.{World};
+ghost use Rattle.vm_frames.specs.Stack.{HasRoom};
+ghost use Rattle.vm_mem.specs.Meets.{IsReady, IsNext, Meets, Tells};
+ghost use Rattle.vm_natives.specs.Rows.{with_own, env_row};
+
+use crate::stream::print as print_bytes;
+use crate::working::answer;
+use et_base::{NoMemory, decimal32};
+use jvm_model::{Next, Own, Program, Value};
+use std::alloc::Global;
+use vm_frames::FrameStack;
+use vm_mem::Memory;
+
+/// `print(int)`: the decimal digits and a line feed. It counts 1 and a unit for each byte.
+#[tactic(auto, unfolding(jvm_model::specs::NativesOutside::native_env))]
+pub fn print<M: Memory>(
+    alloc: Global,
+    stack: &mut FrameStack,
+    memory: &mut M,
+    p: &Program,
+    own: &mut Own,
+    next: u32,
+    left: &mut u64,
+) -> Result<Next, NoMemory>
+    requires program { p.now ≡ M.program memory.old }
+    requires place { IsNext p.now stack.old next }
+    requires row { IsReady (env_row Native.EnvPrint)
+        (M.program memory.old) (M.world memory.old) (with_own stack.old own.old) }
+    ensures meets { IfOk result (λ x. Meets (env_row Native.EnvPrint)
+        (M.program memory.old) (M.world memory.old) (with_own stack.old own.old) left.old
+        x (with_own stack.new own.new) (M.world memory.new) left.new) }
+    ensures told { IfOk result (λ x. Tells (env_row Native.EnvPrint)
+        (M.program memory.old) (M.world memory.old) (with_own stack.old own.old)
+        x M.follows memory.old memory.new) }
+    ensures of { OnOk result (M.program memory.new ≡ M.program memory.old) }
+{
+    let number = stack.pop_int();
+    let mut bytes = decimal32(alloc, number)?;
+    bytes.push(b'\n')?;
+    print_bytes(stack, p, own, bytes.as_slice(), next, left)
+}
+
+/// `random()`: the random word steps, and its upper half is answered. It counts 1. Over, with nothing done, where no unit
+/// is left.
+#[tactic(auto, unfolding(jvm_model::specs::NativesOutside::native_env))]
+pub fn random(stack: &mut FrameStack, p: &Program, own: &mut Own, next: u32, left: &mut u64) -> Next
+    requires place { IsNext p.now stack.old next }
+    requires room { HasRoom 1 stack.old }
+    ensures { (w : World) → Meets (env_row Native.EnvRandom)
+        p.now w (with_own stack.old own.old) left.old result (with_own stack.new own.new) w left.new }
+{
+    if *left == 0 {
+        return Next::Over;
+    }
+    own.random = stepped(own.random);
+    answer(stack, p, upper_int(own.random), next, left)
+}
+
+/// The random word after this one.
+fn stepped(word: u64) -> u64
+    ensures { result ≡ natives.stepped word }
+{
+    word.wrapping_mul(6_364_136_223_846_793_005)
+        .wrapping_add(1_442_695_040_888_963_407)
+}
+
+/// The upper 32 bits of a word as an int.
+fn upper_int(word: u64) -> Value
+    ensures { result ≡ natives.upper_int word }
+{
+    Value::Int(((word / (1 << 32)) as u32).cast_signed())
+}

@@ -1,0 +1,155 @@
+//! The methods of System, PrintStream, Files and Env by groups.
+
+ghost use Rattle.std.specs.Prelude.{◌≡◌, IfOk, OnOk};
+ghost use Rattle.vm_frames.specs.Stack.{HasRoom};
+ghost use Rattle.vm_mem.specs.Meets.{IsReady, IsNext, Meets, Tells};
+ghost use Rattle.vm_natives.specs.Rows.{growth, with_own, system_row, print_row, files_row, env_row};
+
+use crate::{env, files, stream, system};
+use et_base::NoMemory;
+use jvm_model::{Native, Next, Own, Program};
+use std::alloc::Global;
+use vm_frames::FrameStack;
+use vm_mem::Memory;
+
+/// A method of java.lang.System.
+#[tactic(auto, unfolding(jvm_model::specs::NativesOutside::native_system))]
+pub fn of_system<M: Memory>(
+    alloc: Global,
+    stack: &mut FrameStack,
+    memory: &mut M,
+    p: &Program,
+    own: &mut Own,
+    which: Native,
+    next: u32,
+    left: &mut u64,
+) -> Result<Next, NoMemory>
+    requires program { p.now ≡ M.program memory.old }
+    requires place { IsNext p.now stack.old next }
+    requires room { HasRoom (growth which) stack.old }
+    requires row { IsReady (system_row which)
+        (M.program memory.old) (M.world memory.old) (with_own stack.old own.old) }
+    ensures meets { IfOk result (λ x. Meets (system_row which)
+        (M.program memory.old) (M.world memory.old) (with_own stack.old own.old) left.old
+        x (with_own stack.new own.new) (M.world memory.new) left.new) }
+    ensures told { IfOk result (λ x. Tells (system_row which)
+        (M.program memory.old) (M.world memory.old) (with_own stack.old own.old)
+        x M.follows memory.old memory.new) }
+    ensures of { OnOk result (M.program memory.new ≡ M.program memory.old) }
+{
+    match which {
+        Native::SystemClock => Ok(system::clock(stack, p, own, next, left)),
+        Native::SystemGetProperty => system::get_property(alloc, stack, memory, p, own, next, left),
+        Native::SystemSetProperty => system::set_property(alloc, stack, memory, p, own, next, left),
+        Native::SystemClearProperty => system::clear_property(
+            alloc, stack, memory, p, own, next, left,
+        ),
+        _ => unreachable!(),
+    }
+}
+
+/// A method of java.io.PrintStream.
+#[tactic(auto, unfolding(jvm_model::specs::NativesOutside::native_print))]
+pub fn of_stream<M: Memory>(
+    alloc: Global,
+    stack: &mut FrameStack,
+    memory: &mut M,
+    p: &Program,
+    own: &mut Own,
+    which: Native,
+    next: u32,
+    left: &mut u64,
+) -> Result<Next, NoMemory>
+    requires program { p.now ≡ M.program memory.old }
+    requires place { IsNext p.now stack.old next }
+    requires row { IsReady (print_row which)
+        (M.program memory.old) (M.world memory.old) (with_own stack.old own.old) }
+    ensures meets { IfOk result (λ x. Meets (print_row which)
+        (M.program memory.old) (M.world memory.old) (with_own stack.old own.old) left.old
+        x (with_own stack.new own.new) (M.world memory.new) left.new) }
+    ensures told { IfOk result (λ x. Tells (print_row which)
+        (M.program memory.old) (M.world memory.old) (with_own stack.old own.old)
+        x M.follows memory.old memory.new) }
+    ensures of { OnOk result (M.program memory.new ≡ M.program memory.old) }
+{
+    match which {
+        Native::PrintString => stream::print_string(alloc, stack, memory, p, own, next, left),
+        Native::PrintInt => stream::print_int(alloc, stack, memory, p, own, next, left),
+        Native::PrintLong => stream::print_long(alloc, stack, memory, p, own, next, left),
+        Native::PrintBoolean => stream::print_boolean(stack, memory, p, own, next, left),
+        Native::PrintChar => stream::print_char(alloc, stack, memory, p, own, next, left),
+        Native::PrintlnString => stream::println_string(alloc, stack, memory, p, own, next, left),
+        Native::PrintlnInt => stream::println_int(alloc, stack, memory, p, own, next, left),
+        Native::PrintlnLong => stream::println_long(alloc, stack, memory, p, own, next, left),
+        Native::PrintlnBoolean => stream::println_boolean(alloc, stack, memory, p, own, next, left),
+        Native::PrintlnChar => stream::println_char(alloc, stack, memory, p, own, next, left),
+        Native::Println => stream::println(stack, memory, p, own, next, left),
+        _ => unreachable!(),
+    }
+}
+
+/// A method of electric.Files.
+#[tactic(auto, unfolding(jvm_model::specs::NativesOutside::native_files))]
+pub fn of_files<M: Memory>(
+    alloc: Global,
+    stack: &mut FrameStack,
+    memory: &mut M,
+    p: &Program,
+    own: &Own,
+    which: Native,
+    next: u32,
+    left: &mut u64,
+) -> Result<Next, NoMemory>
+    requires program { p.now ≡ M.program memory.old }
+    requires place { IsNext p.now stack.old next }
+    requires row { IsReady (files_row which)
+        (M.program memory.old) (M.world memory.old) (with_own stack.old own.now) }
+    ensures meets { IfOk result (λ x. Meets (files_row which)
+        (M.program memory.old) (M.world memory.old) (with_own stack.old own.now) left.old
+        x (with_own stack.new own.now) (M.world memory.new) left.new) }
+    ensures told { IfOk result (λ x. Tells (files_row which)
+        (M.program memory.old) (M.world memory.old) (with_own stack.old own.now)
+        x M.follows memory.old memory.new) }
+    ensures of { OnOk result (M.program memory.new ≡ M.program memory.old) }
+{
+    match which {
+        Native::FilesRead => files::read(alloc, stack, memory, p, own, next, left),
+        Native::FilesWrite => files::write(alloc, stack, memory, p, own, next, left),
+        Native::FilesAppend => files::append(alloc, stack, memory, p, own, next, left),
+        Native::FilesDelete => files::delete(alloc, stack, memory, p, own, next, left),
+        Native::FilesExists => files::exists(alloc, stack, memory, p, own, next, left),
+        _ => unreachable!(),
+    }
+}
+
+/// A method of electric.Env.
+#[tactic(auto, unfolding(jvm_model::specs::NativesOutside::native_env))]
+pub fn of_env<M: Memory>(
+    alloc: Global,
+    stack: &mut FrameStack,
+    memory: &mut M,
+    p: &Program,
+    own: &mut Own,
+    which: Native,
+    next: u32,
+    left: &mut u64,
+) -> Result<Next, NoMemory>
+    requires program { p.now ≡ M.program memory.old }
+    requires place { IsNext p.now stack.old next }
+    requires room { HasRoom (growth which) stack.old }
+    requires row { IsReady (env_row which)
+        (M.program memory.old) (M.world memory.old) (with_own stack.old own.old) }
+    ensures meets { IfOk result (λ x. Meets (env_row which)
+        (M.program memory.old) (M.world memory.old) (with_own stack.old own.old) left.old
+        x (with_own stack.new own.new) (M.world memory.new) left.new) }
+    ensures told { IfOk result (λ x. Tells (env_row which)
+        (M.program memory.old) (M.world memory.old) (with_own stack.old own.old)
+        x M.follows memory.old memory.new) }
+    ensures of { OnOk result (M.program memory.new ≡ M.program memory.old) }
+{
+    match which {
+        Native::EnvPrint => env::print(alloc, stack, memory, p, own, next, left),
+        Native::EnvRandom => Ok(env::random(stack, p, own, next, left)),
+        _ => unreachable!(),
+    }
+}

@@ -1,0 +1,271 @@
+//! Methods that are given a name, and perhaps a text.
+
+ghost use Rattle.std.specs.Prelude.{◌≡◌, IfOk, OnOk};
+ghost use Rattle.vm_frames.specs.Stack.{HasRoom};
+ghost use Rattle.vm_mem.specs.Meets.{IsReady, IsNext, Meets, Tells};
+ghost use Rattle.vm_natives.specs.Rows.{with_own};
+ghost use Rattle.vm_natives.specs.Named.{name_row, named_row, given_row, texts_row, change_row, priced_row};
+ghost use Rattle.jvm_model.specs.declared.outcome.Own.{Own};
+ghost use Rattle.jvm_model.specs.World.{World};
+
+use crate::files::{append_to, delete_at, exists_at, read_at, write_at};
+use crate::system::{change_property, property_at};
+use crate::working::answer;
+use et_base::{NoMemory, Units};
+use jvm_model::{NULL_POINTER_EXCEPTION, Next, Own, Program, Value};
+use std::alloc::Global;
+use vm_frames::FrameStack;
+use vm_mem::Memory;
+
+/// What a method does with a name and a text.
+#[derive(Clone, Copy, Debug, PartialEq, Eq)]
+pub enum Change {
+    SetProperty,
+    WriteFile,
+    AppendFile,
+}
+
+/// What a method does with a name. `Given` says that it is given this String besides.
+#[derive(Clone, Copy, Debug, PartialEq, Eq)]
+pub enum Named {
+    GetProperty,
+    ClearProperty,
+    ReadFile,
+    DeleteFile,
+    FileExists,
+    Given { change: Change, text: Value },
+}
+
+/// A method that is given two Strings: a null one throws before a text is read, first the second one.
+#[tactic(auto, unfolding(crate::specs::Named::name_row))]
+pub fn with_texts<M: Memory>(
+    alloc: Global,
+    stack: &mut FrameStack,
+    memory: &mut M,
+    p: &Program,
+    own: &Own,
+    change: Change,
+    name: Value,
+    text: Value,
+    next: u32,
+    left: &mut u64,
+) -> Result<Next, NoMemory>
+    requires program { p.now ≡ M.program memory.old }
+    requires place { IsNext p.now stack.old next }
+    requires room { HasRoom 1 stack.old }
+    requires row { IsReady (texts_row change name text)
+        (M.program memory.old) (M.world memory.old) (with_own stack.old own.now) }
+    ensures meets { IfOk result (λ x. Meets (texts_row change name text)
+        (M.program memory.old) (M.world memory.old) (with_own stack.old own.now) left.old
+        x (with_own stack.new own.now) (M.world memory.new) left.new) }
+    ensures told { IfOk result (λ x. Tells (texts_row change name text)
+        (M.program memory.old) (M.world memory.old) (with_own stack.old own.now)
+        x M.follows memory.old memory.new) }
+    ensures of { OnOk result (M.program memory.new ≡ M.program memory.old) }
+{
+    let named = Named::Given { change, text };
+    match text {
+        Value::Lit(_) => with_name(alloc, stack, memory, p, own, named, name, next, left),
+        Value::Obj(_) => with_name(alloc, stack, memory, p, own, named, name, next, left),
+        Value::Null => Ok(Next::Fault {
+            class: NULL_POINTER_EXCEPTION,
+        }),
+        Value::Int(_) => unreachable!(),
+        Value::Long(_) => unreachable!(),
+    }
+}
+
+/// A method that is given a String as a name: a constant's text is the program's, without a touch, another's is read.
+pub fn with_name<M: Memory>(
+    alloc: Global,
+    stack: &mut FrameStack,
+    memory: &mut M,
+    p: &Program,
+    own: &Own,
+    named: Named,
+    name: Value,
+    next: u32,
+    left: &mut u64,
+) -> Result<Next, NoMemory>
+    requires program { p.now ≡ M.program memory.old }
+    requires place { IsNext p.now stack.old next }
+    requires room { HasRoom 1 stack.old }
+    requires row { IsReady (named_row named name)
+        (M.program memory.old) (M.world memory.old) (with_own stack.old own.now) }
+    ensures meets { IfOk result (λ x. Meets (named_row named name)
+        (M.program memory.old) (M.world memory.old) (with_own stack.old own.now) left.old
+        x (with_own stack.new own.now) (M.world memory.new) left.new) }
+    ensures told { IfOk result (λ x. Tells (named_row named name)
+        (M.program memory.old) (M.world memory.old) (with_own stack.old own.now)
+        x M.follows memory.old memory.new) }
+    ensures of { OnOk result (M.program memory.new ≡ M.program memory.old) }
+{
+    match name {
+        Value::Lit(n) => {
+            let name = Units::from_slice(alloc, p.literal(n))?;
+            on_name(alloc, stack, memory, p, own, named, name, next, left)
+        }
+        Value::Obj(object) => {
+            let name = Units::from_slice(alloc, memory.get_text(object)?.as_slice())?;
+            on_name(alloc, stack, memory, p, own, named, name, next, left)
+        }
+        Value::Null => Ok(Next::Fault {
+            class: NULL_POINTER_EXCEPTION,
+        }),
+        Value::Int(_) => unreachable!(),
+        Value::Long(_) => unreachable!(),
+    }
+}
+
+/// What it does with the name.
+#[tactic(auto, unfolding(crate::specs::Named::name_row))]
+fn on_name<M: Memory>(
+    alloc: Global,
+    stack: &mut FrameStack,
+    memory: &mut M,
+    p: &Program,
+    own: &Own,
+    named: Named,
+    name: Units,
+    next: u32,
+    left: &mut u64,
+) -> Result<Next, NoMemory>
+    requires program { p.now ≡ M.program memory.old }
+    requires place { IsNext p.now stack.old next }
+    requires room { HasRoom 1 stack.old }
+    requires row { IsReady (name_row named name)
+        (M.program memory.old) (M.world memory.old) (with_own stack.old own.now) }
+    ensures meets { IfOk result (λ x. Meets (name_row named name)
+        (M.program memory.old) (M.world memory.old) (with_own stack.old own.now) left.old
+        x (with_own stack.new own.now) (M.world memory.new) left.new) }
+    ensures told { IfOk result (λ x. Tells (name_row named name)
+        (M.program memory.old) (M.world memory.old) (with_own stack.old own.now)
+        x M.follows memory.old memory.new) }
+    ensures of { OnOk result (M.program memory.new ≡ M.program memory.old) }
+{
+    match named {
+        Named::GetProperty => property_at(alloc, stack, memory, p, own, &name, next, left),
+        Named::ClearProperty => {
+            change_property(alloc, stack, memory, p, own, name, None, 0, next, left)
+        }
+        Named::ReadFile => read_at(alloc, stack, memory, p, own, &name, next, left),
+        Named::DeleteFile => delete_at(stack, memory, p, own, name, next, left),
+        Named::FileExists => exists_at(stack, memory, p, own, &name, next, left),
+        Named::Given { change, text } => {
+            with_text(alloc, stack, memory, p, own, change, name, text, next, left)
+        }
+    }
+}
+
+/// The text of the second String.
+fn with_text<M: Memory>(
+    alloc: Global,
+    stack: &mut FrameStack,
+    memory: &mut M,
+    p: &Program,
+    own: &Own,
+    change: Change,
+    name: Units,
+    text: Value,
+    next: u32,
+    left: &mut u64,
+) -> Result<Next, NoMemory>
+    requires program { p.now ≡ M.program memory.old }
+    requires place { IsNext p.now stack.old next }
+    requires room { HasRoom 1 stack.old }
+    requires row { IsReady (given_row change name text)
+        (M.program memory.old) (M.world memory.old) (with_own stack.old own.now) }
+    ensures meets { IfOk result (λ x. Meets (given_row change name text)
+        (M.program memory.old) (M.world memory.old) (with_own stack.old own.now) left.old
+        x (with_own stack.new own.now) (M.world memory.new) left.new) }
+    ensures told { IfOk result (λ x. Tells (given_row change name text)
+        (M.program memory.old) (M.world memory.old) (with_own stack.old own.now)
+        x M.follows memory.old memory.new) }
+    ensures of { OnOk result (M.program memory.new ≡ M.program memory.old) }
+{
+    match text {
+        Value::Lit(n) => {
+            let text = Units::from_slice(alloc, p.literal(n))?;
+            on_texts(alloc, stack, memory, p, own, change, name, text, next, left)
+        }
+        Value::Obj(object) => {
+            let text = Units::from_slice(alloc, memory.get_text(object)?.as_slice())?;
+            on_texts(alloc, stack, memory, p, own, change, name, text, next, left)
+        }
+        Value::Null => Ok(Next::Fault {
+            class: NULL_POINTER_EXCEPTION,
+        }),
+        Value::Int(_) => unreachable!(),
+        Value::Long(_) => unreachable!(),
+    }
+}
+
+/// What it does with the name and the text.
+#[tactic(auto, unfolding(crate::specs::Named::change_row))]
+fn on_texts<M: Memory>(
+    alloc: Global,
+    stack: &mut FrameStack,
+    memory: &mut M,
+    p: &Program,
+    own: &Own,
+    change: Change,
+    name: Units,
+    text: Units,
+    next: u32,
+    left: &mut u64,
+) -> Result<Next, NoMemory>
+    requires program { p.now ≡ M.program memory.old }
+    requires place { IsNext p.now stack.old next }
+    requires room { HasRoom 1 stack.old }
+    requires row { IsReady (change_row change name text)
+        (M.program memory.old) (M.world memory.old) (with_own stack.old own.now) }
+    ensures meets { IfOk result (λ x. Meets (change_row change name text)
+        (M.program memory.old) (M.world memory.old) (with_own stack.old own.now) left.old
+        x (with_own stack.new own.now) (M.world memory.new) left.new) }
+    ensures told { IfOk result (λ x. Tells (change_row change name text)
+        (M.program memory.old) (M.world memory.old) (with_own stack.old own.now)
+        x M.follows memory.old memory.new) }
+    ensures of { OnOk result (M.program memory.new ≡ M.program memory.old) }
+{
+    match change {
+        Change::SetProperty => {
+            let units = text.as_slice().len() as u64;
+            change_property(
+                alloc,
+                stack,
+                memory,
+                p,
+                own,
+                name,
+                Some(text),
+                units,
+                next,
+                left,
+            )
+        }
+        Change::WriteFile => write_at(stack, memory, p, own, name, text, next, left),
+        Change::AppendFile => append_to(alloc, stack, memory, p, own, name, text, next, left),
+    }
+}
+
+/// The call answers a value, and counts this besides the 1 of the step. Over, with nothing done, where fewer units are
+/// left.
+pub fn answer_for(
+    stack: &mut FrameStack,
+    p: &Program,
+    value: Value,
+    cost: u64,
+    next: u32,
+    left: &mut u64,
+) -> Next
+    requires place { IsNext p.now stack.old next }
+    requires room { HasRoom 1 stack.old }
+    ensures { (w : World) (o : Own) → Meets (priced_row cost value)
+        p.now w (with_own stack.old o) left.old result (with_own stack.new o) w left.new }
+{
+    if *left <= cost {
+        return Next::Over;
+    }
+    *left -= cost;
+    answer(stack, p, value, next, left)
+}

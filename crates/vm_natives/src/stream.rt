@@ -1,0 +1,420 @@
+//! The methods of java.io.PrintStream, on the stream of `System.out`. Each is over once its bytes are printed; where fewer
+//! units are left than it counts it answers Over, with nothing printed.
+
+ghost use Rattle.std.specs.Prelude.{◌≡◌, ◌++◌, IfOk, OnOk};
+ghost use Rattle.et_base.specs.Quotes.{utf8_of};
+ghost use Rattle.jvm_model.specs.declared.library.Native.{Native};
+ghost use Rattle.jvm_model.specs.World.{World};
+ghost use Rattle.vm_mem.specs.Meets.{IsReady, IsNext, Meets, Tells};
+ghost use Rattle.vm_natives.specs.Rows.{with_own, print_row};
+ghost use Rattle.vm_natives.specs.Outside.{bytes_row, string_print_row};
+
+use crate::texts::{boolean_text, char_unit};
+use et_base::{NoMemory, Text, Units, bytes_of_units, decimal32, decimal64};
+use jvm_model::{Next, Own, Program, Value};
+use std::alloc::Global;
+use vm_frames::FrameStack;
+use vm_mem::Memory;
+
+/// The call prints these bytes and is over. It counts the 1 of the step and a unit for each byte. Over, with nothing
+/// printed, where fewer are left.
+pub fn print(
+    stack: &mut FrameStack,
+    p: &Program,
+    own: &mut Own,
+    bytes: &[u8],
+    next: u32,
+    left: &mut u64,
+) -> Result<Next, NoMemory>
+    requires place { IsNext p.now stack.old next }
+    ensures { IfOk result (λ x. (w : World) → Meets (bytes_row bytes.now)
+        p.now w (with_own stack.old own.old) left.old x (with_own stack.new own.new) w left.new) }
+{
+    let cost = bytes.len() as u64;
+    if *left <= cost {
+        return Ok(Next::Over);
+    }
+    own.output.extend_from_slice(bytes)?;
+    stack.set_pc(next);
+    *left = *left - cost - 1;
+    Ok(Next::Go)
+}
+
+/// Prints units in UTF-8, and then these bytes.
+fn print_units(
+    alloc: Global,
+    stack: &mut FrameStack,
+    p: &Program,
+    own: &mut Own,
+    units: &Units,
+    end: &[u8],
+    next: u32,
+    left: &mut u64,
+) -> Result<Next, NoMemory>
+    requires place { IsNext p.now stack.old next }
+    ensures { IfOk result (λ x. (w : World) → Meets (bytes_row (utf8_of units.now ++ end.now))
+        p.now w (with_own stack.old own.old) left.old x (with_own stack.new own.new) w left.new) }
+{
+    let mut bytes = bytes_of_units(alloc, units)?;
+    bytes.extend_from_slice(end)?;
+    print(stack, p, own, bytes.as_slice(), next, left)
+}
+
+/// Prints a String in UTF-8, or `null`, and then these bytes.
+fn print_text<M: Memory>(
+    alloc: Global,
+    stack: &mut FrameStack,
+    memory: &mut M,
+    p: &Program,
+    own: &mut Own,
+    end: &[u8],
+    next: u32,
+    left: &mut u64,
+) -> Result<Next, NoMemory>
+    requires program { p.now ≡ M.program memory.old }
+    requires place { IsNext p.now stack.old next }
+    requires row { IsReady (string_print_row end.now)
+        (M.program memory.old) (M.world memory.old) (with_own stack.old own.old) }
+    ensures meets { IfOk result (λ x. Meets (string_print_row end.now)
+        (M.program memory.old) (M.world memory.old) (with_own stack.old own.old) left.old
+        x (with_own stack.new own.new) (M.world memory.new) left.new) }
+    ensures told { IfOk result (λ x. Tells (string_print_row end.now)
+        (M.program memory.old) (M.world memory.old) (with_own stack.old own.old)
+        x M.follows memory.old memory.new) }
+    ensures of { OnOk result (M.program memory.new ≡ M.program memory.old) }
+{
+    let text = stack.pop_value();
+    stack.pop_value();
+    match text {
+        Value::Null => {
+            let mut bytes = Text::from_slice(alloc, b"null")?;
+            bytes.extend_from_slice(end)?;
+            print(stack, p, own, bytes.as_slice(), next, left)
+        }
+        Value::Lit(n) => {
+            let units = Units::from_slice(alloc, p.literal(n))?;
+            print_units(alloc, stack, p, own, &units, end, next, left)
+        }
+        Value::Obj(object) => {
+            let units = memory.get_text(object)?;
+            print_units(alloc, stack, p, own, units, end, next, left)
+        }
+        Value::Int(_) => unreachable!(),
+        Value::Long(_) => unreachable!(),
+    }
+}
+
+/// `print(String)`: the text in UTF-8, or `null`. It reads the text of a String that is no constant, and counts 1 and a
+/// unit for each byte.
+#[tactic(auto, unfolding(jvm_model::specs::NativesOutside::native_print))]
+pub fn print_string<M: Memory>(
+    alloc: Global,
+    stack: &mut FrameStack,
+    memory: &mut M,
+    p: &Program,
+    own: &mut Own,
+    next: u32,
+    left: &mut u64,
+) -> Result<Next, NoMemory>
+    requires program { p.now ≡ M.program memory.old }
+    requires place { IsNext p.now stack.old next }
+    requires row { IsReady (print_row Native.PrintString)
+        (M.program memory.old) (M.world memory.old) (with_own stack.old own.old) }
+    ensures meets { IfOk result (λ x. Meets (print_row Native.PrintString)
+        (M.program memory.old) (M.world memory.old) (with_own stack.old own.old) left.old
+        x (with_own stack.new own.new) (M.world memory.new) left.new) }
+    ensures told { IfOk result (λ x. Tells (print_row Native.PrintString)
+        (M.program memory.old) (M.world memory.old) (with_own stack.old own.old)
+        x M.follows memory.old memory.new) }
+    ensures of { OnOk result (M.program memory.new ≡ M.program memory.old) }
+{
+    print_text(alloc, stack, memory, p, own, &[], next, left)
+}
+
+/// `print(int)`: the decimal digits. It counts 1 and a unit for each byte.
+#[tactic(auto, unfolding(jvm_model::specs::NativesOutside::native_print))]
+pub fn print_int<M: Memory>(
+    alloc: Global,
+    stack: &mut FrameStack,
+    memory: &mut M,
+    p: &Program,
+    own: &mut Own,
+    next: u32,
+    left: &mut u64,
+) -> Result<Next, NoMemory>
+    requires program { p.now ≡ M.program memory.old }
+    requires place { IsNext p.now stack.old next }
+    requires row { IsReady (print_row Native.PrintInt)
+        (M.program memory.old) (M.world memory.old) (with_own stack.old own.old) }
+    ensures meets { IfOk result (λ x. Meets (print_row Native.PrintInt)
+        (M.program memory.old) (M.world memory.old) (with_own stack.old own.old) left.old
+        x (with_own stack.new own.new) (M.world memory.new) left.new) }
+    ensures told { IfOk result (λ x. Tells (print_row Native.PrintInt)
+        (M.program memory.old) (M.world memory.old) (with_own stack.old own.old)
+        x M.follows memory.old memory.new) }
+    ensures of { OnOk result (M.program memory.new ≡ M.program memory.old) }
+{
+    let number = stack.pop_int();
+    stack.pop_value();
+    let bytes = decimal32(alloc, number)?;
+    print(stack, p, own, bytes.as_slice(), next, left)
+}
+
+/// `print(long)`: the decimal digits. It counts 1 and a unit for each byte.
+#[tactic(auto, unfolding(jvm_model::specs::NativesOutside::native_print))]
+pub fn print_long<M: Memory>(
+    alloc: Global,
+    stack: &mut FrameStack,
+    memory: &mut M,
+    p: &Program,
+    own: &mut Own,
+    next: u32,
+    left: &mut u64,
+) -> Result<Next, NoMemory>
+    requires program { p.now ≡ M.program memory.old }
+    requires place { IsNext p.now stack.old next }
+    requires row { IsReady (print_row Native.PrintLong)
+        (M.program memory.old) (M.world memory.old) (with_own stack.old own.old) }
+    ensures meets { IfOk result (λ x. Meets (print_row Native.PrintLong)
+        (M.program memory.old) (M.world memory.old) (with_own stack.old own.old) left.old
+        x (with_own stack.new own.new) (M.world memory.new) left.new) }
+    ensures told { IfOk result (λ x. Tells (print_row Native.PrintLong)
+        (M.program memory.old) (M.world memory.old) (with_own stack.old own.old)
+        x M.follows memory.old memory.new) }
+    ensures of { OnOk result (M.program memory.new ≡ M.program memory.old) }
+{
+    let number = stack.pop_long();
+    stack.pop_value();
+    let bytes = decimal64(alloc, number)?;
+    print(stack, p, own, bytes.as_slice(), next, left)
+}
+
+/// `print(boolean)`: `true` or `false`. It counts 1 and a unit for each byte.
+#[tactic(auto, unfolding(jvm_model::specs::NativesOutside::native_print))]
+pub fn print_boolean<M: Memory>(
+    stack: &mut FrameStack,
+    memory: &mut M,
+    p: &Program,
+    own: &mut Own,
+    next: u32,
+    left: &mut u64,
+) -> Result<Next, NoMemory>
+    requires program { p.now ≡ M.program memory.old }
+    requires place { IsNext p.now stack.old next }
+    requires row { IsReady (print_row Native.PrintBoolean)
+        (M.program memory.old) (M.world memory.old) (with_own stack.old own.old) }
+    ensures meets { IfOk result (λ x. Meets (print_row Native.PrintBoolean)
+        (M.program memory.old) (M.world memory.old) (with_own stack.old own.old) left.old
+        x (with_own stack.new own.new) (M.world memory.new) left.new) }
+    ensures told { IfOk result (λ x. Tells (print_row Native.PrintBoolean)
+        (M.program memory.old) (M.world memory.old) (with_own stack.old own.old)
+        x M.follows memory.old memory.new) }
+    ensures of { OnOk result (M.program memory.new ≡ M.program memory.old) }
+{
+    let truth = stack.pop_int();
+    stack.pop_value();
+    print(stack, p, own, boolean_text(truth), next, left)
+}
+
+/// `print(char)`: the char in UTF-8, or `?` where it is a surrogate. It counts 1 and a unit for each byte.
+#[tactic(auto, unfolding(jvm_model::specs::NativesOutside::native_print))]
+pub fn print_char<M: Memory>(
+    alloc: Global,
+    stack: &mut FrameStack,
+    memory: &mut M,
+    p: &Program,
+    own: &mut Own,
+    next: u32,
+    left: &mut u64,
+) -> Result<Next, NoMemory>
+    requires program { p.now ≡ M.program memory.old }
+    requires place { IsNext p.now stack.old next }
+    requires row { IsReady (print_row Native.PrintChar)
+        (M.program memory.old) (M.world memory.old) (with_own stack.old own.old) }
+    ensures meets { IfOk result (λ x. Meets (print_row Native.PrintChar)
+        (M.program memory.old) (M.world memory.old) (with_own stack.old own.old) left.old
+        x (with_own stack.new own.new) (M.world memory.new) left.new) }
+    ensures told { IfOk result (λ x. Tells (print_row Native.PrintChar)
+        (M.program memory.old) (M.world memory.old) (with_own stack.old own.old)
+        x M.follows memory.old memory.new) }
+    ensures of { OnOk result (M.program memory.new ≡ M.program memory.old) }
+{
+    let char = stack.pop_int();
+    stack.pop_value();
+    let units = Units::from_slice(alloc, &[char_unit(char)])?;
+    let bytes = bytes_of_units(alloc, &units)?;
+    print(stack, p, own, bytes.as_slice(), next, left)
+}
+
+/// `println(String)`: as `print(String)`, and a line feed.
+#[tactic(auto, unfolding(jvm_model::specs::NativesOutside::native_print))]
+pub fn println_string<M: Memory>(
+    alloc: Global,
+    stack: &mut FrameStack,
+    memory: &mut M,
+    p: &Program,
+    own: &mut Own,
+    next: u32,
+    left: &mut u64,
+) -> Result<Next, NoMemory>
+    requires program { p.now ≡ M.program memory.old }
+    requires place { IsNext p.now stack.old next }
+    requires row { IsReady (print_row Native.PrintlnString)
+        (M.program memory.old) (M.world memory.old) (with_own stack.old own.old) }
+    ensures meets { IfOk result (λ x. Meets (print_row Native.PrintlnString)
+        (M.program memory.old) (M.world memory.old) (with_own stack.old own.old) left.old
+        x (with_own stack.new own.new) (M.world memory.new) left.new) }
+    ensures told { IfOk result (λ x. Tells (print_row Native.PrintlnString)
+        (M.program memory.old) (M.world memory.old) (with_own stack.old own.old)
+        x M.follows memory.old memory.new) }
+    ensures of { OnOk result (M.program memory.new ≡ M.program memory.old) }
+{
+    print_text(alloc, stack, memory, p, own, b"\n", next, left)
+}
+
+/// `println(int)`: as `print(int)`, and a line feed.
+#[tactic(auto, unfolding(jvm_model::specs::NativesOutside::native_print))]
+pub fn println_int<M: Memory>(
+    alloc: Global,
+    stack: &mut FrameStack,
+    memory: &mut M,
+    p: &Program,
+    own: &mut Own,
+    next: u32,
+    left: &mut u64,
+) -> Result<Next, NoMemory>
+    requires program { p.now ≡ M.program memory.old }
+    requires place { IsNext p.now stack.old next }
+    requires row { IsReady (print_row Native.PrintlnInt)
+        (M.program memory.old) (M.world memory.old) (with_own stack.old own.old) }
+    ensures meets { IfOk result (λ x. Meets (print_row Native.PrintlnInt)
+        (M.program memory.old) (M.world memory.old) (with_own stack.old own.old) left.old
+        x (with_own stack.new own.new) (M.world memory.new) left.new) }
+    ensures told { IfOk result (λ x. Tells (print_row Native.PrintlnInt)
+        (M.program memory.old) (M.world memory.old) (with_own stack.old own.old)
+        x M.follows memory.old memory.new) }
+    ensures of { OnOk result (M.program memory.new ≡ M.program memory.old) }
+{
+    let number = stack.pop_int();
+    stack.pop_value();
+    let mut bytes = decimal32(alloc, number)?;
+    bytes.push(b'\n')?;
+    print(stack, p, own, bytes.as_slice(), next, left)
+}
+
+/// `println(long)`: as `print(long)`, and a line feed.
+#[tactic(auto, unfolding(jvm_model::specs::NativesOutside::native_print))]
+pub fn println_long<M: Memory>(
+    alloc: Global,
+    stack: &mut FrameStack,
+    memory: &mut M,
+    p: &Program,
+    own: &mut Own,
+    next: u32,
+    left: &mut u64,
+) -> Result<Next, NoMemory>
+    requires program { p.now ≡ M.program memory.old }
+    requires place { IsNext p.now stack.old next }
+    requires row { IsReady (print_row Native.PrintlnLong)
+        (M.program memory.old) (M.world memory.old) (with_own stack.old own.old) }
+    ensures meets { IfOk result (λ x. Meets (print_row Native.PrintlnLong)
+        (M.program memory.old) (M.world memory.old) (with_own stack.old own.old) left.old
+        x (with_own stack.new own.new) (M.world memory.new) left.new) }
+    ensures told { IfOk result (λ x. Tells (print_row Native.PrintlnLong)
+        (M.program memory.old) (M.world memory.old) (with_own stack.old own.old)
+        x M.follows memory.old memory.new) }
+    ensures of { OnOk result (M.program memory.new ≡ M.program memory.old) }
+{
+    let number = stack.pop_long();
+    stack.pop_value();
+    let mut bytes = decimal64(alloc, number)?;
+    bytes.push(b'\n')?;
+    print(stack, p, own, bytes.as_slice(), next, left)
+}
+
+/// `println(boolean)`: as `print(boolean)`, and a line feed.
+#[tactic(auto, unfolding(jvm_model::specs::NativesOutside::native_print))]
+pub fn println_boolean<M: Memory>(
+    alloc: Global,
+    stack: &mut FrameStack,
+    memory: &mut M,
+    p: &Program,
+    own: &mut Own,
+    next: u32,
+    left: &mut u64,
+) -> Result<Next, NoMemory>
+    requires program { p.now ≡ M.program memory.old }
+    requires place { IsNext p.now stack.old next }
+    requires row { IsReady (print_row Native.PrintlnBoolean)
+        (M.program memory.old) (M.world memory.old) (with_own stack.old own.old) }
+    ensures meets { IfOk result (λ x. Meets (print_row Native.PrintlnBoolean)
+        (M.program memory.old) (M.world memory.old) (with_own stack.old own.old) left.old
+        x (with_own stack.new own.new) (M.world memory.new) left.new) }
+    ensures told { IfOk result (λ x. Tells (print_row Native.PrintlnBoolean)
+        (M.program memory.old) (M.world memory.old) (with_own stack.old own.old)
+        x M.follows memory.old memory.new) }
+    ensures of { OnOk result (M.program memory.new ≡ M.program memory.old) }
+{
+    let truth = stack.pop_int();
+    stack.pop_value();
+    let mut bytes = Text::from_slice(alloc, boolean_text(truth))?;
+    bytes.push(b'\n')?;
+    print(stack, p, own, bytes.as_slice(), next, left)
+}
+
+/// `println(char)`: as `print(char)`, and a line feed.
+#[tactic(auto, unfolding(jvm_model::specs::NativesOutside::native_print))]
+pub fn println_char<M: Memory>(
+    alloc: Global,
+    stack: &mut FrameStack,
+    memory: &mut M,
+    p: &Program,
+    own: &mut Own,
+    next: u32,
+    left: &mut u64,
+) -> Result<Next, NoMemory>
+    requires program { p.now ≡ M.program memory.old }
+    requires place { IsNext p.now stack.old next }
+    requires row { IsReady (print_row Native.PrintlnChar)
+        (M.program memory.old) (M.world memory.old) (with_own stack.old own.old) }
+    ensures meets { IfOk result (λ x. Meets (print_row Native.PrintlnChar)
+        (M.program memory.old) (M.world memory.old) (with_own stack.old own.old) left.old
+        x (with_own stack.new own.new) (M.world memory.new) left.new) }
+    ensures told { IfOk result (λ x. Tells (print_row Native.PrintlnChar)
+        (M.program memory.old) (M.world memory.old) (with_own stack.old own.old)
+        x M.follows memory.old memory.new) }
+    ensures of { OnOk result (M.program memory.new ≡ M.program memory.old) }
+{
+    let char = stack.pop_int();
+    stack.pop_value();
+    let units = Units::from_slice(alloc, &[char_unit(char)])?;
+    let mut bytes = bytes_of_units(alloc, &units)?;
+    bytes.push(b'\n')?;
+    print(stack, p, own, bytes.as_slice(), next, left)
+}
+
+/// `println()`: a line feed. It counts 2.
+#[tactic(auto, unfolding(jvm_model::specs::NativesOutside::native_print))]
+pub fn println<M: Memory>(
+    stack: &mut FrameStack,
+    memory: &mut M,
+    p: &Program,
+    own: &mut Own,
+    next: u32,
+    left: &mut u64,
+) -> Result<Next, NoMemory>
+    requires program { p.now ≡ M.program memory.old }
+    requires place { IsNext p.now stack.old next }
+    requires row { IsReady (print_row Native.Println)
+        (M.program memory.old) (M.world memory.old) (with_own stack.old own.old) }
+    ensures meets { IfOk result (λ x. Meets (print_row Native.Println)
+        (M.program memory.old) (M.world memory.old) (with_own stack.old own.old) left.old
+        x (with_own stack.new own.new) (M.world memory.new) left.new) }
+    ensures told { IfOk result (λ x. Tells (print_row Native.Println)
+        (M.program memory.old) (M.world memory.old) (with_own stack.old own.old)
+        x M.follows memory.old memory.new) }
+    ensures of { OnOk result (M.program memory.new ≡ M.program memory.old) }
+{
+    stack.pop_value();
+    print(stack, p, own, b"\n", next, left)
+}

@@ -1,0 +1,667 @@
+//! The methods of java.lang.String.
+
+ghost use Rattle.std.specs.Prelude.{◌≡◌, ◌≢◌, IfOk, OnOk};
+ghost use Rattle.jvm_model.specs.declared.library.Native.{Native};
+ghost use Rattle.jvm_model.specs.declared.outcome.Own.{Own};
+ghost use Rattle.jvm_model.specs.World.{World};
+ghost use Rattle.vm_frames.specs.Stack.{HasRoom};
+ghost use Rattle.vm_mem.specs.Meets.{IsReady, IsNext, Meets, Tells};
+ghost use Rattle.vm_natives.specs.Rows.{with_own, string_row, unit_row, compared_row, same_row, part_row, joined_row};
+
+use crate::texts::{
+    boolean_text, char_unit, hash_of, int_text, length_of, long_text, part_from, part_of, same_text,
+};
+use crate::working::{answer, answer_costly, answer_text, truth};
+use et_base::{NoMemory, Units};
+use jvm_model::{
+    Kind, NULL_POINTER_EXCEPTION, Next, Own, Program, STRING, STRING_INDEX_EXCEPTION, Value,
+};
+use std::alloc::Global;
+use vm_frames::FrameStack;
+use vm_mem::Memory;
+
+/// `length()`: the number of units. It reads the text and counts 1.
+#[tactic(auto, unfolding(jvm_model::specs::NativesString::native_string))]
+pub fn length<M: Memory>(
+    stack: &mut FrameStack,
+    memory: &mut M,
+    p: &Program,
+    own: &Own,
+    next: u32,
+    left: &mut u64,
+) -> Result<Next, NoMemory>
+    requires program { p.now ≡ M.program memory.old }
+    requires place { IsNext p.now stack.old next }
+    requires row { IsReady (string_row Native.StringLength)
+        (M.program memory.old) (M.world memory.old) (with_own stack.old own.now) }
+    ensures meets { IfOk result (λ x. Meets (string_row Native.StringLength)
+        (M.program memory.old) (M.world memory.old) (with_own stack.old own.now) left.old
+        x (with_own stack.new own.now) (M.world memory.new) left.new) }
+    ensures told { IfOk result (λ x. Tells (string_row Native.StringLength)
+        (M.program memory.old) (M.world memory.old) (with_own stack.old own.now)
+        x M.follows memory.old memory.new) }
+    ensures of { OnOk result (M.program memory.new ≡ M.program memory.old) }
+{
+    match stack.pop_value() {
+        Value::Lit(n) => {
+            let length = length_of(p.literal(n));
+            Ok(answer(stack, p, Value::Int(length), next, left))
+        }
+        Value::Obj(object) => {
+            let length = length_of(memory.get_text(object)?.as_slice());
+            Ok(answer(stack, p, Value::Int(length), next, left))
+        }
+        Value::Null => Ok(Next::Fault {
+            class: NULL_POINTER_EXCEPTION,
+        }),
+        Value::Int(_) => unreachable!(),
+        Value::Long(_) => unreachable!(),
+    }
+}
+
+/// `isEmpty()`: whether there are no units. It reads the text and counts 1.
+#[tactic(auto, unfolding(jvm_model::specs::NativesString::native_string))]
+pub fn is_empty<M: Memory>(
+    stack: &mut FrameStack,
+    memory: &mut M,
+    p: &Program,
+    own: &Own,
+    next: u32,
+    left: &mut u64,
+) -> Result<Next, NoMemory>
+    requires program { p.now ≡ M.program memory.old }
+    requires place { IsNext p.now stack.old next }
+    requires row { IsReady (string_row Native.StringIsEmpty)
+        (M.program memory.old) (M.world memory.old) (with_own stack.old own.now) }
+    ensures meets { IfOk result (λ x. Meets (string_row Native.StringIsEmpty)
+        (M.program memory.old) (M.world memory.old) (with_own stack.old own.now) left.old
+        x (with_own stack.new own.now) (M.world memory.new) left.new) }
+    ensures told { IfOk result (λ x. Tells (string_row Native.StringIsEmpty)
+        (M.program memory.old) (M.world memory.old) (with_own stack.old own.now)
+        x M.follows memory.old memory.new) }
+    ensures of { OnOk result (M.program memory.new ≡ M.program memory.old) }
+{
+    match stack.pop_value() {
+        Value::Lit(n) => {
+            let empty = p.literal(n).is_empty();
+            Ok(answer(stack, p, truth(empty), next, left))
+        }
+        Value::Obj(object) => {
+            let empty = memory.get_text(object)?.as_slice().is_empty();
+            Ok(answer(stack, p, truth(empty), next, left))
+        }
+        Value::Null => Ok(Next::Fault {
+            class: NULL_POINTER_EXCEPTION,
+        }),
+        Value::Int(_) => unreachable!(),
+        Value::Long(_) => unreachable!(),
+    }
+}
+
+/// `charAt(int)`: the unit at a place from 0. It reads the text and counts 1; a place out of range throws
+/// StringIndexOutOfBoundsException after that.
+#[tactic(auto, unfolding(jvm_model::specs::NativesString::native_string))]
+pub fn char_at<M: Memory>(
+    stack: &mut FrameStack,
+    memory: &mut M,
+    p: &Program,
+    own: &Own,
+    next: u32,
+    left: &mut u64,
+) -> Result<Next, NoMemory>
+    requires program { p.now ≡ M.program memory.old }
+    requires place { IsNext p.now stack.old next }
+    requires row { IsReady (string_row Native.StringCharAt)
+        (M.program memory.old) (M.world memory.old) (with_own stack.old own.now) }
+    ensures meets { IfOk result (λ x. Meets (string_row Native.StringCharAt)
+        (M.program memory.old) (M.world memory.old) (with_own stack.old own.now) left.old
+        x (with_own stack.new own.now) (M.world memory.new) left.new) }
+    ensures told { IfOk result (λ x. Tells (string_row Native.StringCharAt)
+        (M.program memory.old) (M.world memory.old) (with_own stack.old own.now)
+        x M.follows memory.old memory.new) }
+    ensures of { OnOk result (M.program memory.new ≡ M.program memory.old) }
+{
+    let place = stack.pop_int();
+    match stack.pop_value() {
+        Value::Lit(n) => Ok(answer_unit(stack, p, p.literal(n), place, next, left)),
+        Value::Obj(object) => {
+            let text = memory.get_text(object)?.as_slice();
+            Ok(answer_unit(stack, p, text, place, next, left))
+        }
+        Value::Null => Ok(Next::Fault {
+            class: NULL_POINTER_EXCEPTION,
+        }),
+        Value::Int(_) => unreachable!(),
+        Value::Long(_) => unreachable!(),
+    }
+}
+
+/// The call answers the unit of a text at a place.
+fn answer_unit(
+    stack: &mut FrameStack,
+    p: &Program,
+    text: &[u16],
+    place: i32,
+    next: u32,
+    left: &mut u64,
+) -> Next
+    requires place { IsNext p.now stack.old next }
+    requires room { HasRoom 1 stack.old }
+    ensures { (w : World) (o : Own) → Meets (unit_row text.now place)
+        p.now w (with_own stack.old o) left.old result (with_own stack.new o) w left.new }
+{
+    if place < 0 {
+        return Next::Fault {
+            class: STRING_INDEX_EXCEPTION,
+        };
+    }
+    match text.get(place as usize) {
+        None => Next::Fault {
+            class: STRING_INDEX_EXCEPTION,
+        },
+        Some(unit) => answer(stack, p, Value::Int(i32::from(*unit)), next, left),
+    }
+}
+
+/// `equals(Object)`: whether the argument is a String of the same text. It reads the head of an argument that isn't
+/// null, and where that is a String both texts, the receiver's first; the comparison counts the receiver's length
+/// besides 1.
+#[tactic(auto, unfolding(jvm_model::specs::NativesString::native_string))]
+pub fn equals<M: Memory>(
+    alloc: Global,
+    stack: &mut FrameStack,
+    memory: &mut M,
+    p: &Program,
+    own: &Own,
+    next: u32,
+    left: &mut u64,
+) -> Result<Next, NoMemory>
+    requires program { p.now ≡ M.program memory.old }
+    requires place { IsNext p.now stack.old next }
+    requires row { IsReady (string_row Native.StringEquals)
+        (M.program memory.old) (M.world memory.old) (with_own stack.old own.now) }
+    ensures meets { IfOk result (λ x. Meets (string_row Native.StringEquals)
+        (M.program memory.old) (M.world memory.old) (with_own stack.old own.now) left.old
+        x (with_own stack.new own.now) (M.world memory.new) left.new) }
+    ensures told { IfOk result (λ x. Tells (string_row Native.StringEquals)
+        (M.program memory.old) (M.world memory.old) (with_own stack.old own.now)
+        x M.follows memory.old memory.new) }
+    ensures of { OnOk result (M.program memory.new ≡ M.program memory.old) }
+{
+    let argument = stack.pop_value();
+    let receiver = stack.pop_value();
+    match argument {
+        Value::Null => Ok(answer(stack, p, truth(false), next, left)),
+        Value::Lit(n) => {
+            if Kind::of_constant(n).class() != STRING {
+                return Ok(answer(stack, p, truth(false), next, left));
+            }
+            compare(alloc, stack, memory, p, own, receiver, argument, next, left)
+        }
+        Value::Obj(object) => {
+            let head = memory.head(object)?;
+            if head.kind.class() != STRING {
+                return Ok(answer(stack, p, truth(false), next, left));
+            }
+            compare(alloc, stack, memory, p, own, receiver, argument, next, left)
+        }
+        Value::Int(_) => unreachable!(),
+        Value::Long(_) => unreachable!(),
+    }
+}
+
+/// The call answers whether two Strings have the same text. A receiver that is null throws, with both operands as they
+/// were.
+fn compare<M: Memory>(
+    alloc: Global,
+    stack: &mut FrameStack,
+    memory: &mut M,
+    p: &Program,
+    own: &Own,
+    receiver: Value,
+    argument: Value,
+    next: u32,
+    left: &mut u64,
+) -> Result<Next, NoMemory>
+    requires program { p.now ≡ M.program memory.old }
+    requires place { IsNext p.now stack.old next }
+    requires room { HasRoom 2 stack.old }
+    requires argument { argument ≢ Value.Null }
+    requires row { IsReady (compared_row receiver argument)
+        (M.program memory.old) (M.world memory.old) (with_own stack.old own.now) }
+    ensures meets { IfOk result (λ x. Meets (compared_row receiver argument)
+        (M.program memory.old) (M.world memory.old) (with_own stack.old own.now) left.old
+        x (with_own stack.new own.now) (M.world memory.new) left.new) }
+    ensures told { IfOk result (λ x. Tells (compared_row receiver argument)
+        (M.program memory.old) (M.world memory.old) (with_own stack.old own.now)
+        x M.follows memory.old memory.new) }
+    ensures of { OnOk result (M.program memory.new ≡ M.program memory.old) }
+{
+    match (receiver, argument) {
+        (Value::Null, _) => {
+            stack.push_value(receiver);
+            stack.push_value(argument);
+            Ok(Next::Fault {
+                class: NULL_POINTER_EXCEPTION,
+            })
+        }
+        (Value::Lit(a), Value::Lit(b)) => {
+            Ok(answer_same(stack, p, p.literal(a), p.literal(b), next, left))
+        }
+        (Value::Lit(a), Value::Obj(b)) => {
+            let other = memory.get_text(b)?.as_slice();
+            Ok(answer_same(stack, p, p.literal(a), other, next, left))
+        }
+        (Value::Obj(a), Value::Lit(b)) => {
+            let text = memory.get_text(a)?.as_slice();
+            Ok(answer_same(stack, p, text, p.literal(b), next, left))
+        }
+        (Value::Obj(a), Value::Obj(b)) => {
+            let text = Units::from_slice(alloc, memory.get_text(a)?.as_slice())?;
+            let other = memory.get_text(b)?.as_slice();
+            Ok(answer_same(stack, p, text.as_slice(), other, next, left))
+        }
+        _ => unreachable!(),
+    }
+}
+
+/// The call answers whether two texts are the same, at the cost of the first one's length.
+fn answer_same(
+    stack: &mut FrameStack,
+    p: &Program,
+    text: &[u16],
+    other: &[u16],
+    next: u32,
+    left: &mut u64,
+) -> Next
+    requires place { IsNext p.now stack.old next }
+    requires room { HasRoom 1 stack.old }
+    ensures { (w : World) (o : Own) → Meets (same_row text.now other.now)
+        p.now w (with_own stack.old o) left.old result (with_own stack.new o) w left.new }
+{
+    let cost = text.len() as u64;
+    answer_costly(stack, p, truth(same_text(text, other)), cost, next, left)
+}
+
+/// `hashCode()`: the sum of the units, each times 31 to the power of the number of those after it, wrapped. It reads
+/// the text, and counts 1 and its length.
+#[tactic(auto, unfolding(jvm_model::specs::NativesString::native_string))]
+pub fn hash_code<M: Memory>(
+    stack: &mut FrameStack,
+    memory: &mut M,
+    p: &Program,
+    own: &Own,
+    next: u32,
+    left: &mut u64,
+) -> Result<Next, NoMemory>
+    requires program { p.now ≡ M.program memory.old }
+    requires place { IsNext p.now stack.old next }
+    requires row { IsReady (string_row Native.StringHashCode)
+        (M.program memory.old) (M.world memory.old) (with_own stack.old own.now) }
+    ensures meets { IfOk result (λ x. Meets (string_row Native.StringHashCode)
+        (M.program memory.old) (M.world memory.old) (with_own stack.old own.now) left.old
+        x (with_own stack.new own.now) (M.world memory.new) left.new) }
+    ensures told { IfOk result (λ x. Tells (string_row Native.StringHashCode)
+        (M.program memory.old) (M.world memory.old) (with_own stack.old own.now)
+        x M.follows memory.old memory.new) }
+    ensures of { OnOk result (M.program memory.new ≡ M.program memory.old) }
+{
+    match stack.pop_value() {
+        Value::Lit(n) => {
+            let text = p.literal(n);
+            let hash = Value::Int(hash_of(text));
+            Ok(answer_costly(stack, p, hash, text.len() as u64, next, left))
+        }
+        Value::Obj(object) => {
+            let text = memory.get_text(object)?.as_slice();
+            let hash = Value::Int(hash_of(text));
+            Ok(answer_costly(stack, p, hash, text.len() as u64, next, left))
+        }
+        Value::Null => Ok(Next::Fault {
+            class: NULL_POINTER_EXCEPTION,
+        }),
+        Value::Int(_) => unreachable!(),
+        Value::Long(_) => unreachable!(),
+    }
+}
+
+/// `substring(int)`: the units from a place on. It reads the text; a new String counts its length and 2. A place out of
+/// range throws StringIndexOutOfBoundsException.
+#[tactic(auto, unfolding(jvm_model::specs::NativesString::native_string))]
+pub fn substring_from<M: Memory>(
+    alloc: Global,
+    stack: &mut FrameStack,
+    memory: &mut M,
+    p: &Program,
+    own: &Own,
+    next: u32,
+    left: &mut u64,
+) -> Result<Next, NoMemory>
+    requires program { p.now ≡ M.program memory.old }
+    requires place { IsNext p.now stack.old next }
+    requires row { IsReady (string_row Native.StringSubstringFrom)
+        (M.program memory.old) (M.world memory.old) (with_own stack.old own.now) }
+    ensures meets { IfOk result (λ x. Meets (string_row Native.StringSubstringFrom)
+        (M.program memory.old) (M.world memory.old) (with_own stack.old own.now) left.old
+        x (with_own stack.new own.now) (M.world memory.new) left.new) }
+    ensures told { IfOk result (λ x. Tells (string_row Native.StringSubstringFrom)
+        (M.program memory.old) (M.world memory.old) (with_own stack.old own.now)
+        x M.follows memory.old memory.new) }
+    ensures of { OnOk result (M.program memory.new ≡ M.program memory.old) }
+{
+    let from = stack.pop_int();
+    match stack.pop_value() {
+        Value::Lit(n) => {
+            let part = part_from(alloc, p.literal(n), from)?;
+            answer_part(stack, memory, p, own, part, next, left)
+        }
+        Value::Obj(object) => {
+            let part = part_from(alloc, memory.get_text(object)?.as_slice(), from)?;
+            answer_part(stack, memory, p, own, part, next, left)
+        }
+        Value::Null => Ok(Next::Fault {
+            class: NULL_POINTER_EXCEPTION,
+        }),
+        Value::Int(_) => unreachable!(),
+        Value::Long(_) => unreachable!(),
+    }
+}
+
+/// `substring(int, int)`: the units from the first place up to but not the second. It reads the text; a new String
+/// counts its length and 2. Places out of range or in the wrong order throw StringIndexOutOfBoundsException.
+#[tactic(auto, using(crate::proofs::Parts::part_answers), unfolding(jvm_model::specs::NativesString::native_string))]
+pub fn substring<M: Memory>(
+    alloc: Global,
+    stack: &mut FrameStack,
+    memory: &mut M,
+    p: &Program,
+    own: &Own,
+    next: u32,
+    left: &mut u64,
+) -> Result<Next, NoMemory>
+    requires program { p.now ≡ M.program memory.old }
+    requires place { IsNext p.now stack.old next }
+    requires row { IsReady (string_row Native.StringSubstring)
+        (M.program memory.old) (M.world memory.old) (with_own stack.old own.now) }
+    ensures meets { IfOk result (λ x. Meets (string_row Native.StringSubstring)
+        (M.program memory.old) (M.world memory.old) (with_own stack.old own.now) left.old
+        x (with_own stack.new own.now) (M.world memory.new) left.new) }
+    ensures told { IfOk result (λ x. Tells (string_row Native.StringSubstring)
+        (M.program memory.old) (M.world memory.old) (with_own stack.old own.now)
+        x M.follows memory.old memory.new) }
+    ensures of { OnOk result (M.program memory.new ≡ M.program memory.old) }
+{
+    let to = stack.pop_int();
+    let from = stack.pop_int();
+    match stack.pop_value() {
+        Value::Lit(n) => {
+            let part = part_of(alloc, p.literal(n), from, to)?;
+            answer_part(stack, memory, p, own, part, next, left)
+        }
+        Value::Obj(object) => {
+            let part = part_of(alloc, memory.get_text(object)?.as_slice(), from, to)?;
+            answer_part(stack, memory, p, own, part, next, left)
+        }
+        Value::Null => Ok(Next::Fault {
+            class: NULL_POINTER_EXCEPTION,
+        }),
+        Value::Int(_) => unreachable!(),
+        Value::Long(_) => unreachable!(),
+    }
+}
+
+/// The call answers a part of a text as a new String; where there is no such part it throws.
+fn answer_part<M: Memory>(
+    stack: &mut FrameStack,
+    memory: &mut M,
+    p: &Program,
+    own: &Own,
+    part: Option<Units>,
+    next: u32,
+    left: &mut u64,
+) -> Result<Next, NoMemory>
+    requires program { p.now ≡ M.program memory.old }
+    requires place { IsNext p.now stack.old next }
+    requires room { HasRoom 1 stack.old }
+    ensures meets { IfOk result (λ x. Meets (part_row part)
+        (M.program memory.old) (M.world memory.old) (with_own stack.old own.now) left.old
+        x (with_own stack.new own.now) (M.world memory.new) left.new) }
+    ensures told { IfOk result (λ x. Tells (part_row part)
+        (M.program memory.old) (M.world memory.old) (with_own stack.old own.now)
+        x M.follows memory.old memory.new) }
+    ensures of { OnOk result (M.program memory.new ≡ M.program memory.old) }
+{
+    match part {
+        None => Ok(Next::Fault {
+            class: STRING_INDEX_EXCEPTION,
+        }),
+        Some(text) => answer_text(stack, memory, p, own, text, 0, next, left),
+    }
+}
+
+/// `concat(String)`: the texts of both, or the String itself where the argument is empty. It reads both texts; a new String
+/// counts its length and 2.
+#[tactic(auto, unfolding(jvm_model::specs::NativesString::native_string))]
+pub fn concat<M: Memory>(
+    alloc: Global,
+    stack: &mut FrameStack,
+    memory: &mut M,
+    p: &Program,
+    own: &Own,
+    next: u32,
+    left: &mut u64,
+) -> Result<Next, NoMemory>
+    requires program { p.now ≡ M.program memory.old }
+    requires place { IsNext p.now stack.old next }
+    requires row { IsReady (string_row Native.StringConcat)
+        (M.program memory.old) (M.world memory.old) (with_own stack.old own.now) }
+    ensures meets { IfOk result (λ x. Meets (string_row Native.StringConcat)
+        (M.program memory.old) (M.world memory.old) (with_own stack.old own.now) left.old
+        x (with_own stack.new own.now) (M.world memory.new) left.new) }
+    ensures told { IfOk result (λ x. Tells (string_row Native.StringConcat)
+        (M.program memory.old) (M.world memory.old) (with_own stack.old own.now)
+        x M.follows memory.old memory.new) }
+    ensures of { OnOk result (M.program memory.new ≡ M.program memory.old) }
+{
+    let argument = stack.pop_value();
+    let receiver = stack.pop_value();
+    match (argument, receiver) {
+        (Value::Null, _) => Ok(Next::Fault {
+            class: NULL_POINTER_EXCEPTION,
+        }),
+        (Value::Lit(_), Value::Null) => Ok(Next::Fault {
+            class: NULL_POINTER_EXCEPTION,
+        }),
+        (Value::Obj(_), Value::Null) => Ok(Next::Fault {
+            class: NULL_POINTER_EXCEPTION,
+        }),
+        (Value::Lit(b), Value::Lit(a)) => {
+            let text = Units::from_slice(alloc, p.literal(a))?;
+            let more = Units::from_slice(alloc, p.literal(b))?;
+            join(stack, memory, p, own, receiver, text, more, next, left)
+        }
+        (Value::Lit(b), Value::Obj(a)) => {
+            let text = Units::from_slice(alloc, memory.get_text(a)?.as_slice())?;
+            let more = Units::from_slice(alloc, p.literal(b))?;
+            join(stack, memory, p, own, receiver, text, more, next, left)
+        }
+        (Value::Obj(b), Value::Lit(a)) => {
+            let text = Units::from_slice(alloc, p.literal(a))?;
+            let more = Units::from_slice(alloc, memory.get_text(b)?.as_slice())?;
+            join(stack, memory, p, own, receiver, text, more, next, left)
+        }
+        (Value::Obj(b), Value::Obj(a)) => {
+            let text = Units::from_slice(alloc, memory.get_text(a)?.as_slice())?;
+            let more = Units::from_slice(alloc, memory.get_text(b)?.as_slice())?;
+            join(stack, memory, p, own, receiver, text, more, next, left)
+        }
+        _ => unreachable!(),
+    }
+}
+
+/// The texts of a String and of its argument, joined; the String itself where the latter is empty.
+fn join<M: Memory>(
+    stack: &mut FrameStack,
+    memory: &mut M,
+    p: &Program,
+    own: &Own,
+    receiver: Value,
+    text: Units,
+    more: Units,
+    next: u32,
+    left: &mut u64,
+) -> Result<Next, NoMemory>
+    requires program { p.now ≡ M.program memory.old }
+    requires place { IsNext p.now stack.old next }
+    requires room { HasRoom 1 stack.old }
+    ensures meets { IfOk result (λ x. Meets (joined_row receiver text more)
+        (M.program memory.old) (M.world memory.old) (with_own stack.old own.now) left.old
+        x (with_own stack.new own.now) (M.world memory.new) left.new) }
+    ensures told { IfOk result (λ x. Tells (joined_row receiver text more)
+        (M.program memory.old) (M.world memory.old) (with_own stack.old own.now)
+        x M.follows memory.old memory.new) }
+    ensures of { OnOk result (M.program memory.new ≡ M.program memory.old) }
+{
+    match more.as_slice() {
+        [] => Ok(answer(stack, p, receiver, next, left)),
+        [_, ..] => {
+            let mut text = text;
+            text.extend_from_slice(more.as_slice())?;
+            answer_text(stack, memory, p, own, text, 0, next, left)
+        }
+    }
+}
+
+/// `toString()`: the String itself. It counts 1.
+#[tactic(auto, unfolding(jvm_model::specs::NativesString::native_string))]
+pub fn to_string<M: Memory>(
+    stack: &mut FrameStack,
+    memory: &mut M,
+    p: &Program,
+    own: &Own,
+    next: u32,
+    left: &mut u64,
+) -> Result<Next, NoMemory>
+    requires program { p.now ≡ M.program memory.old }
+    requires place { IsNext p.now stack.old next }
+    requires row { IsReady (string_row Native.StringToString)
+        (M.program memory.old) (M.world memory.old) (with_own stack.old own.now) }
+    ensures meets { IfOk result (λ x. Meets (string_row Native.StringToString)
+        (M.program memory.old) (M.world memory.old) (with_own stack.old own.now) left.old
+        x (with_own stack.new own.now) (M.world memory.new) left.new) }
+    ensures told { IfOk result (λ x. Tells (string_row Native.StringToString)
+        (M.program memory.old) (M.world memory.old) (with_own stack.old own.now)
+        x M.follows memory.old memory.new) }
+    ensures of { OnOk result (M.program memory.new ≡ M.program memory.old) }
+{
+    let receiver = stack.pop_value();
+    Ok(answer(stack, p, receiver, next, left))
+}
+
+/// `valueOf(int)`: the decimal digits. A new String counts its length and 2.
+#[tactic(auto, unfolding(jvm_model::specs::NativesString::native_string))]
+pub fn of_int<M: Memory>(
+    alloc: Global,
+    stack: &mut FrameStack,
+    memory: &mut M,
+    p: &Program,
+    own: &Own,
+    next: u32,
+    left: &mut u64,
+) -> Result<Next, NoMemory>
+    requires program { p.now ≡ M.program memory.old }
+    requires place { IsNext p.now stack.old next }
+    requires row { IsReady (string_row Native.StringOfInt)
+        (M.program memory.old) (M.world memory.old) (with_own stack.old own.now) }
+    ensures meets { IfOk result (λ x. Meets (string_row Native.StringOfInt)
+        (M.program memory.old) (M.world memory.old) (with_own stack.old own.now) left.old
+        x (with_own stack.new own.now) (M.world memory.new) left.new) }
+    ensures told { IfOk result (λ x. Tells (string_row Native.StringOfInt)
+        (M.program memory.old) (M.world memory.old) (with_own stack.old own.now)
+        x M.follows memory.old memory.new) }
+    ensures of { OnOk result (M.program memory.new ≡ M.program memory.old) }
+{
+    let text = int_text(alloc, stack.pop_int())?;
+    answer_text(stack, memory, p, own, text, 0, next, left)
+}
+
+/// `valueOf(long)`: the decimal digits. A new String counts its length and 2.
+#[tactic(auto, unfolding(jvm_model::specs::NativesString::native_string))]
+pub fn of_long<M: Memory>(
+    alloc: Global,
+    stack: &mut FrameStack,
+    memory: &mut M,
+    p: &Program,
+    own: &Own,
+    next: u32,
+    left: &mut u64,
+) -> Result<Next, NoMemory>
+    requires program { p.now ≡ M.program memory.old }
+    requires place { IsNext p.now stack.old next }
+    requires row { IsReady (string_row Native.StringOfLong)
+        (M.program memory.old) (M.world memory.old) (with_own stack.old own.now) }
+    ensures meets { IfOk result (λ x. Meets (string_row Native.StringOfLong)
+        (M.program memory.old) (M.world memory.old) (with_own stack.old own.now) left.old
+        x (with_own stack.new own.now) (M.world memory.new) left.new) }
+    ensures told { IfOk result (λ x. Tells (string_row Native.StringOfLong)
+        (M.program memory.old) (M.world memory.old) (with_own stack.old own.now)
+        x M.follows memory.old memory.new) }
+    ensures of { OnOk result (M.program memory.new ≡ M.program memory.old) }
+{
+    let text = long_text(alloc, stack.pop_long())?;
+    answer_text(stack, memory, p, own, text, 0, next, left)
+}
+
+/// `valueOf(boolean)`: `true` or `false`. A new String counts its length and 2.
+#[tactic(auto, unfolding(jvm_model::specs::NativesString::native_string))]
+pub fn of_boolean<M: Memory>(
+    alloc: Global,
+    stack: &mut FrameStack,
+    memory: &mut M,
+    p: &Program,
+    own: &Own,
+    next: u32,
+    left: &mut u64,
+) -> Result<Next, NoMemory>
+    requires program { p.now ≡ M.program memory.old }
+    requires place { IsNext p.now stack.old next }
+    requires row { IsReady (string_row Native.StringOfBoolean)
+        (M.program memory.old) (M.world memory.old) (with_own stack.old own.now) }
+    ensures meets { IfOk result (λ x. Meets (string_row Native.StringOfBoolean)
+        (M.program memory.old) (M.world memory.old) (with_own stack.old own.now) left.old
+        x (with_own stack.new own.now) (M.world memory.new) left.new) }
+    ensures told { IfOk result (λ x. Tells (string_row Native.StringOfBoolean)
+        (M.program memory.old) (M.world memory.old) (with_own stack.old own.now)
+        x M.follows memory.old memory.new) }
+    ensures of { OnOk result (M.program memory.new ≡ M.program memory.old) }
+{
+    let text = Units::from_ascii(alloc, boolean_text(stack.pop_int()))?;
+    answer_text(stack, memory, p, own, text, 0, next, left)
+}
+
+/// `valueOf(char)`: the one unit. A new String counts its length and 2.
+#[tactic(auto, unfolding(jvm_model::specs::NativesString::native_string))]
+pub fn of_char<M: Memory>(
+    alloc: Global,
+    stack: &mut FrameStack,
+    memory: &mut M,
+    p: &Program,
+    own: &Own,
+    next: u32,
+    left: &mut u64,
+) -> Result<Next, NoMemory>
+    requires program { p.now ≡ M.program memory.old }
+    requires place { IsNext p.now stack.old next }
+    requires row { IsReady (string_row Native.StringOfChar)
+        (M.program memory.old) (M.world memory.old) (with_own stack.old own.now) }
+    ensures meets { IfOk result (λ x. Meets (string_row Native.StringOfChar)
+        (M.program memory.old) (M.world memory.old) (with_own stack.old own.now) left.old
+        x (with_own stack.new own.now) (M.world memory.new) left.new) }
+    ensures told { IfOk result (λ x. Tells (string_row Native.StringOfChar)
+        (M.program memory.old) (M.world memory.old) (with_own stack.old own.now)
+        x M.follows memory.old memory.new) }
+    ensures of { OnOk result (M.program memory.new ≡ M.program memory.old) }
+{
+    let text = Units::from_slice(alloc, &[char_unit(stack.pop_int())])?;
+    answer_text(stack, memory, p, own, text, 0, next, left)
+}

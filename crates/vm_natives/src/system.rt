@@ -1,0 +1,242 @@
+//! The methods of java.lang.System.
+
+ghost use Rattle.std.specs.Prelude.{◌≡◌, IfOk, OnOk};
+ghost use Rattle.jvm_model.specs.declared.library.Native.{Native};
+ghost use Rattle.jvm_model.specs.World.{World};
+ghost use Rattle.vm_frames.specs.Stack.{HasRoom};
+ghost use Rattle.vm_mem.specs.Meets.{IsReady, IsNext, Meets, Tells};
+ghost use Rattle.vm_natives.specs.Rows.{with_own, system_row};
+ghost use Rattle.vm_natives.specs.Named.{property_row, property_change_row};
+
+use crate::named::{Change, Named, answer_for, with_name, with_texts};
+use crate::working::{answer, answer_text};
+use et_base::{NoMemory, Units, add64};
+use jvm_model::{Head, Kind, Next, Own, Program, STRING, Value};
+use sim_store::Part;
+use std::alloc::Global;
+use vm_frames::FrameStack;
+use vm_mem::Memory;
+
+/// `currentTimeMillis()` and `nanoTime()`: the clock's next answer, after which it is one more, wrapped. It counts 1. Over,
+/// with nothing done, where no unit is left.
+#[tactic(auto, unfolding(jvm_model::specs::NativesOutside::native_system))]
+pub fn clock(stack: &mut FrameStack, p: &Program, own: &mut Own, next: u32, left: &mut u64) -> Next
+    requires place { IsNext p.now stack.old next }
+    requires room { HasRoom 1 stack.old }
+    ensures { (w : World) → Meets (system_row Native.SystemClock)
+        p.now w (with_own stack.old own.old) left.old result (with_own stack.new own.new) w left.new }
+{
+    if *left == 0 {
+        return Next::Over;
+    }
+    let time = own.clock;
+    own.clock = add64(time, 1);
+    answer(stack, p, Value::Long(time), next, left)
+}
+
+/// `getProperty(String)`: a new String of the property's text, or null where it isn't set. It counts 1, a unit for each of
+/// the name, and for a new String 1 and a unit for each of its text. A null name throws NullPointerException. Over, with
+/// nothing made, where fewer units are left.
+#[tactic(auto, unfolding(jvm_model::specs::NativesOutside::native_system, crate::specs::Named::name_row))]
+pub fn get_property<M: Memory>(
+    alloc: Global,
+    stack: &mut FrameStack,
+    memory: &mut M,
+    p: &Program,
+    own: &Own,
+    next: u32,
+    left: &mut u64,
+) -> Result<Next, NoMemory>
+    requires program { p.now ≡ M.program memory.old }
+    requires place { IsNext p.now stack.old next }
+    requires row { IsReady (system_row Native.SystemGetProperty)
+        (M.program memory.old) (M.world memory.old) (with_own stack.old own.now) }
+    ensures meets { IfOk result (λ x. Meets (system_row Native.SystemGetProperty)
+        (M.program memory.old) (M.world memory.old) (with_own stack.old own.now) left.old
+        x (with_own stack.new own.now) (M.world memory.new) left.new) }
+    ensures told { IfOk result (λ x. Tells (system_row Native.SystemGetProperty)
+        (M.program memory.old) (M.world memory.old) (with_own stack.old own.now)
+        x M.follows memory.old memory.new) }
+    ensures of { OnOk result (M.program memory.new ≡ M.program memory.old) }
+{
+    let name = stack.pop_value();
+    with_name(
+        alloc,
+        stack,
+        memory,
+        p,
+        own,
+        Named::GetProperty,
+        name,
+        next,
+        left,
+    )
+}
+
+/// `setProperty(String, String)`: the property has this text, and its old one is answered as `getProperty` does. It counts
+/// a unit for each of the new text besides. A null name or text throws NullPointerException. Over, with nothing written,
+/// where fewer units are left.
+#[tactic(auto, unfolding(jvm_model::specs::NativesOutside::native_system, crate::specs::Named::change_row))]
+pub fn set_property<M: Memory>(
+    alloc: Global,
+    stack: &mut FrameStack,
+    memory: &mut M,
+    p: &Program,
+    own: &Own,
+    next: u32,
+    left: &mut u64,
+) -> Result<Next, NoMemory>
+    requires program { p.now ≡ M.program memory.old }
+    requires place { IsNext p.now stack.old next }
+    requires row { IsReady (system_row Native.SystemSetProperty)
+        (M.program memory.old) (M.world memory.old) (with_own stack.old own.now) }
+    ensures meets { IfOk result (λ x. Meets (system_row Native.SystemSetProperty)
+        (M.program memory.old) (M.world memory.old) (with_own stack.old own.now) left.old
+        x (with_own stack.new own.now) (M.world memory.new) left.new) }
+    ensures told { IfOk result (λ x. Tells (system_row Native.SystemSetProperty)
+        (M.program memory.old) (M.world memory.old) (with_own stack.old own.now)
+        x M.follows memory.old memory.new) }
+    ensures of { OnOk result (M.program memory.new ≡ M.program memory.old) }
+{
+    let text = stack.pop_value();
+    let name = stack.pop_value();
+    with_texts(
+        alloc,
+        stack,
+        memory,
+        p,
+        own,
+        Change::SetProperty,
+        name,
+        text,
+        next,
+        left,
+    )
+}
+
+/// `clearProperty(String)`: the property is taken away, and its old text is answered. It counts and throws as `getProperty`
+/// does. Over, with nothing taken away, where fewer units are left.
+#[tactic(auto, unfolding(jvm_model::specs::NativesOutside::native_system, crate::specs::Named::name_row))]
+pub fn clear_property<M: Memory>(
+    alloc: Global,
+    stack: &mut FrameStack,
+    memory: &mut M,
+    p: &Program,
+    own: &Own,
+    next: u32,
+    left: &mut u64,
+) -> Result<Next, NoMemory>
+    requires program { p.now ≡ M.program memory.old }
+    requires place { IsNext p.now stack.old next }
+    requires row { IsReady (system_row Native.SystemClearProperty)
+        (M.program memory.old) (M.world memory.old) (with_own stack.old own.now) }
+    ensures meets { IfOk result (λ x. Meets (system_row Native.SystemClearProperty)
+        (M.program memory.old) (M.world memory.old) (with_own stack.old own.now) left.old
+        x (with_own stack.new own.now) (M.world memory.new) left.new) }
+    ensures told { IfOk result (λ x. Tells (system_row Native.SystemClearProperty)
+        (M.program memory.old) (M.world memory.old) (with_own stack.old own.now)
+        x M.follows memory.old memory.new) }
+    ensures of { OnOk result (M.program memory.new ≡ M.program memory.old) }
+{
+    let name = stack.pop_value();
+    with_name(
+        alloc,
+        stack,
+        memory,
+        p,
+        own,
+        Named::ClearProperty,
+        name,
+        next,
+        left,
+    )
+}
+
+/// The text of a property is answered, or null.
+pub fn property_at<M: Memory>(
+    alloc: Global,
+    stack: &mut FrameStack,
+    memory: &mut M,
+    p: &Program,
+    own: &Own,
+    name: &Units,
+    next: u32,
+    left: &mut u64,
+) -> Result<Next, NoMemory>
+    requires program { p.now ≡ M.program memory.old }
+    requires place { IsNext p.now stack.old next }
+    requires room { HasRoom 1 stack.old }
+    requires row { IsReady (property_row name.now)
+        (M.program memory.old) (M.world memory.old) (with_own stack.old own.now) }
+    ensures meets { IfOk result (λ x. Meets (property_row name.now)
+        (M.program memory.old) (M.world memory.old) (with_own stack.old own.now) left.old
+        x (with_own stack.new own.now) (M.world memory.new) left.new) }
+    ensures told { IfOk result (λ x. Tells (property_row name.now)
+        (M.program memory.old) (M.world memory.old) (with_own stack.old own.now)
+        x M.follows memory.old memory.new) }
+    ensures of { OnOk result (M.program memory.new ≡ M.program memory.old) }
+{
+    let cost = name.as_slice().len() as u64;
+    match memory.get_store(Part::Prop, name)? {
+        None => Ok(answer_for(stack, p, Value::Null, cost, next, left)),
+        Some(text) => {
+            let text = Units::from_slice(alloc, text.as_slice())?;
+            answer_text(stack, memory, p, own, text, cost, next, left)
+        }
+    }
+}
+
+/// A property is set, or taken away where there is no text, and its old text is answered, or null. It counts so many units
+/// for what is written.
+pub fn change_property<M: Memory>(
+    alloc: Global,
+    stack: &mut FrameStack,
+    memory: &mut M,
+    p: &Program,
+    own: &Own,
+    name: Units,
+    text: Option<Units>,
+    units: u64,
+    next: u32,
+    left: &mut u64,
+) -> Result<Next, NoMemory>
+    requires program { p.now ≡ M.program memory.old }
+    requires place { IsNext p.now stack.old next }
+    requires room { HasRoom 1 stack.old }
+    requires row { IsReady (property_change_row name text units)
+        (M.program memory.old) (M.world memory.old) (with_own stack.old own.now) }
+    ensures meets { IfOk result (λ x. Meets (property_change_row name text units)
+        (M.program memory.old) (M.world memory.old) (with_own stack.old own.now) left.old
+        x (with_own stack.new own.now) (M.world memory.new) left.new) }
+    ensures told { IfOk result (λ x. Tells (property_change_row name text units)
+        (M.program memory.old) (M.world memory.old) (with_own stack.old own.now)
+        x M.follows memory.old memory.new) }
+    ensures of { OnOk result (M.program memory.new ≡ M.program memory.old) }
+{
+    let cost = name.as_slice().len() as u64;
+    match memory.get_store(Part::Prop, &name)? {
+        None => {
+            if *left <= cost || *left - cost <= units {
+                return Ok(Next::Over);
+            }
+            memory.put_store(Part::Prop, name, text)?;
+            *left = *left - cost - units;
+            Ok(answer(stack, p, Value::Null, next, left))
+        }
+        Some(old) => {
+            let old = Units::from_slice(alloc, old.as_slice())?;
+            let made = old.as_slice().len() as u64 + 1;
+            if *left <= cost || *left - cost <= units || *left - cost - units <= made {
+                return Ok(Next::Over);
+            }
+            memory.put_store(Part::Prop, name, text)?;
+            let object = memory.make(Head {
+                kind: Kind::Class(STRING),
+                length: 0,
+            })?;
+            memory.put_text(object, old)?;
+            *left = *left - cost - units - made;
+            Ok(answer(stack, p, Value::Obj(object), next, left))
+        }
+    }
+}

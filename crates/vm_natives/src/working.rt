@@ -1,0 +1,115 @@
+//! How the calls of built-in methods end.
+
+ghost use Rattle.std.specs.Prelude.{◌≡◌, IfOk, OnOk};
+ghost use Rattle.jvm_model.specs.declared.outcome.Own.{Own};
+ghost use Rattle.jvm_model.specs.declared.program.Program.{Program};
+ghost use Rattle.jvm_model.specs.Working as working;
+ghost use Rattle.jvm_model.specs.World.{World};
+ghost use Rattle.vm_frames.specs.Stack.{HasRoom};
+ghost use Rattle.vm_mem.specs.Meets.{IsReady, IsNext, Meets, Tells};
+ghost use Rattle.vm_natives.specs.Rows.{with_own, end_row, value_row, costly_row, text_row};
+
+use et_base::{NoMemory, Units};
+use jvm_model::{Head, Kind, Next, Own, Program, STRING, Value};
+use vm_frames::FrameStack;
+use vm_mem::Memory;
+
+/// The call is over without an answer. It counts the 1 of the step. Over, with nothing done, where no unit is left.
+pub fn end(stack: &mut FrameStack, p: &Program, next: u32, left: &mut u64) -> Next
+    requires place { IsNext p.now stack.old next }
+    ensures { (w : World) (o : Own) → Meets end_row
+        p.now w (with_own stack.old o) left.old result (with_own stack.new o) w left.new }
+{
+    if *left == 0 {
+        return Next::Over;
+    }
+    stack.set_pc(next);
+    *left -= 1;
+    Next::Go
+}
+
+/// The call is over and answers a value. It counts the 1 of the step. Over, with nothing done, where no unit is left.
+pub fn answer(stack: &mut FrameStack, p: &Program, value: Value, next: u32, left: &mut u64) -> Next
+    requires place { IsNext p.now stack.old next }
+    requires room { HasRoom 1 stack.old }
+    ensures { (w : World) (o : Own) → Meets (value_row value)
+        p.now w (with_own stack.old o) left.old result (with_own stack.new o) w left.new }
+{
+    if *left == 0 {
+        return Next::Over;
+    }
+    stack.push_value(value);
+    stack.set_pc(next);
+    *left -= 1;
+    Next::Go
+}
+
+/// The call is over and answers a value. It counts the 1 of the step and a cost besides. Over, with nothing done, where
+/// fewer units are left.
+pub fn answer_costly(
+    stack: &mut FrameStack,
+    p: &Program,
+    value: Value,
+    cost: u64,
+    next: u32,
+    left: &mut u64,
+) -> Next
+    requires place { IsNext p.now stack.old next }
+    requires room { HasRoom 1 stack.old }
+    ensures { (w : World) (o : Own) → Meets (costly_row cost value)
+        p.now w (with_own stack.old o) left.old result (with_own stack.new o) w left.new }
+{
+    if *left <= cost {
+        return Next::Over;
+    }
+    stack.push_value(value);
+    stack.set_pc(next);
+    *left -= cost + 1;
+    Next::Go
+}
+
+/// A boolean as a value: 1 or 0.
+pub fn truth(holds: bool) -> Value
+    ensures { result ≡ working.truth holds }
+{
+    if holds { Value::Int(1) } else { Value::Int(0) }
+}
+
+/// The call is over and answers a new String of a text. It counts the 1 of the step, 1 for the object, a unit for each of
+/// the text, and a cost besides. Over, with nothing done, where fewer are left.
+pub fn answer_text<M: Memory>(
+    stack: &mut FrameStack,
+    memory: &mut M,
+    p: &Program,
+    own: &Own,
+    text: Units,
+    besides: u64,
+    next: u32,
+    left: &mut u64,
+) -> Result<Next, NoMemory>
+    requires program { p.now ≡ M.program memory.old }
+    requires place { IsNext p.now stack.old next }
+    requires room { HasRoom 1 stack.old }
+    ensures meets { IfOk result (λ x. Meets (text_row besides text)
+        (M.program memory.old) (M.world memory.old) (with_own stack.old own.now) left.old
+        x (with_own stack.new own.now) (M.world memory.new) left.new) }
+    ensures told { IfOk result (λ x. Tells (text_row besides text)
+        (M.program memory.old) (M.world memory.old) (with_own stack.old own.now)
+        x M.follows memory.old memory.new) }
+    ensures of { OnOk result (M.program memory.new ≡ M.program memory.old) }
+{
+    let length = text.as_slice().len() as u64;
+    if *left < length + 2 || *left - (length + 2) < besides {
+        return Ok(Next::Over);
+    }
+    *left -= length + 2;
+    *left -= besides;
+    let object = memory.make(Head {
+        kind: Kind::Class(STRING),
+        length: 0,
+    })?;
+    memory.put_text(object, text)?;
+    stack.push_value(Value::Obj(object));
+    stack.set_pc(next);
+    Ok(Next::Go)
+}
