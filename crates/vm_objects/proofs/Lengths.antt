@@ -1,5 +1,5 @@
 -- The lengths of an array of arrays as they're taken off the operands.
-use Rattle.std.proofs.Common.{◌≡◌, ◌≢◌, ◌<◌, ◌≤◌, ◌+◌, ◌-◌, ℕ, ℤ, zero, suc, pos, negsuc, List, [], ◌∷◌, Bool, true, false, Option, Some, None, Result, IfOk, refl, sym, ap, ◌∙◌, subst, arith}
+use Rattle.std.proofs.Common.{◌≡◌, ◌<◌, ◌≤◌, ◌+◌, ◌-◌, ℕ, ℤ, zero, suc, pos, negsuc, List, [], ◌∷◌, Bool, true, false, Option, Some, Result, IfOk, refl, sym, ap, ◌∙◌, subst, arith}
 use Rattle.std.specs.Prelude.{take, drop, length, slice_set}
 use Rattle.std.proofs.lemmas.Result.{IfOk-weaker}
 use Rattle.std.proofs.lemmas.List.{drop-set, take_all, length-drop}
@@ -11,11 +11,9 @@ use Rattle.jvm_model.specs.declared.instr.Instr.TheVariants as form
 use Rattle.jvm_model.specs.declared.outcome.Next.{Next}
 use Rattle.jvm_model.specs.declared.program.Program.{Program}
 use Rattle.jvm_model.specs.World.{World}
-use Rattle.jvm_model.specs.Access.{Access}
 use Rattle.jvm_model.specs.Entries.{Entries, with_stack}
-use Rattle.jvm_model.specs.Rows.{Answer}
 use Rattle.jvm_model.specs.RowsCreate.{row_create, sized, nested}
-use Rattle.jvm_model.specs.View.{IsSafe, IsRow, counted, paid, counts_one, outcome, touched}
+use Rattle.jvm_model.specs.View.{IsSafe, IsRow, counted, paid, counts_one, touched}
 use Rattle.vm_mem.specs.Story.{Story}
 use Rattle.vm_mem.specs.Meets.{Row, IsReady, Meets, Tells}
 use Rattle.vm_objects.specs.Forms.{create_row, count_of}

@@ -1,5 +1,5 @@
 -- A row that uses a class, by how the use went: what the parts of a step say of the whole.
-use Rattle.std.proofs.Common.{◌≡◌, ℕ, List, Bool, true, false, Result, Ok, Err, IfOk, refl, sym, ap, ◌∙◌, subst}
+use Rattle.std.proofs.Common.{◌≡◌, ℕ, List, Bool, false, Result, IfOk, sym, ap, ◌∙◌, subst}
 use Rattle.std.specs.Prelude.{◌≢◌}
 use Rattle.std.proofs.lemmas.Result.{IfOk-weaker}
 use Rattle.jvm_model.specs.declared.values.Touch.{Touch}
@@ -8,13 +8,13 @@ use Rattle.jvm_model.specs.declared.outcome.Next.TheVariants as next
 use Rattle.jvm_model.specs.declared.instr.Instr.TheVariants as form
 use Rattle.jvm_model.specs.declared.program.Program.{Program}
 use Rattle.jvm_model.specs.World.{World}
-use Rattle.jvm_model.specs.Access.{Access, spend, bind}
+use Rattle.jvm_model.specs.Access.{spend}
 use Rattle.jvm_model.specs.Classes.{field_at}
 use Rattle.jvm_model.specs.Entries.{Entries}
-use Rattle.jvm_model.specs.Rows.{Answer, answer, ready, begun, refused, begin, once, using}
+use Rattle.jvm_model.specs.Rows.{answer, ready, begun, refused, begin, once, using}
 use Rattle.jvm_model.specs.RowsStatics.{row_statics, read_static, write_static}
 use Rattle.jvm_model.specs.RowsCreate.{row_create, new_object, is_bare}
-use Rattle.jvm_model.specs.View.{over, ended, counted, counts_one, and_then, touched, paid, IsSafe, IsRow, Any}
+use Rattle.jvm_model.specs.View.{over, ended, counted, counts_one, and_then, touched, paid, IsSafe, IsRow}
 use Rattle.jvm_model.proofs.Binds.{counted_bind, touched_bind, safe_begins}
 use Rattle.jvm_model.proofs.Uses.{used_ready, used_begun, used_refused, used_safe, used_touches}
 use Rattle.vm_mem.specs.Story.{Story}

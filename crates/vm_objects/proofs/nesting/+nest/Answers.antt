@@ -1,4 +1,4 @@
-use Rattle.std.proofs.Common.{◌≡◌, ℕ, ◌-◌, ◌+◌, sym, ap, ◌∙◌, subst, rules}
+use Rattle.std.proofs.Common.{sym, ap, ◌∙◌, subst, rules}
 use Rattle.jvm_model.specs.RowsCreate as create
 use Rattle.jvm_model.specs.View.{IsSafe, Any, counted, touched}
 use Rattle.vm_objects.proofs.Elements.{child_counted, child_touched, child_safe, one_safe, none_left, ends_in, tells_in}

@@ -1,4 +1,4 @@
-use Rattle.std.proofs.Common.{◌≡◌, [], false, subst}
+use Rattle.std.proofs.Common.{[], false, subst}
 use Rattle.std.specs.Prelude.{take, drop, ◌-◌}
 use Rattle.jvm_model.specs.declared.instr.Instr.TheVariants as form
 use Rattle.jvm_model.specs.View.{IsSafe, IsRow}
@@ -10,7 +10,7 @@ use Rattle.vm_objects.proofs.nesting.multi_new_array.Goals as goal
 pub take_lengths-requires-clause-operands : goal.take_lengths-requires-clause-operands
 take_lengths-requires-clause-operands g c =
     ints_there (g.M.Memory.program c.args.memory.now) c.args.kind c.args.stack.now (g.M.Memory.world c.args.memory.now) c.args.dims c.args.stack.now.top.stack false []
-        (subst (λ r. IsSafe IsRow r (g.M.Memory.world c.args.memory.now)) (row_multi (g.M.Memory.program c.args.memory.now) c.args.kind c.args.dims c.args.stack.now) c.requires.row)
+    (subst (λ r. IsSafe IsRow r (g.M.Memory.world c.args.memory.now)) (row_multi (g.M.Memory.program c.args.memory.now) c.args.kind c.args.dims c.args.stack.now) c.requires.row)
 
 pub returns-in-Some-clause-meets : goal.returns-in-Some-clause-meets
 returns-in-Some-clause-meets g c =
