@@ -3,3 +3,4 @@ pub mod Stepped
 pub mod Whole
 pub mod NoEntry
 pub mod Quiet
+pub mod Builtin

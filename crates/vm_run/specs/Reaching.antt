@@ -5,7 +5,6 @@ use Rattle.jvm_model.specs.declared.outcome.Verdict.{Verdict}
 use Rattle.jvm_model.specs.declared.instr.Instr.{Instr}
 use Rattle.jvm_model.specs.declared.instr.Instr.TheVariants as form
 use Rattle.jvm_model.specs.declared.library.Native.{Native}
-use Rattle.jvm_model.specs.declared.library.Native.TheVariants as native
 use Rattle.jvm_model.specs.declared.outcome.Next.{Next}
 use Rattle.jvm_model.specs.declared.outcome.Next.TheVariants.{Go, Fault, Raise, Enter, Leave, Over}
 use Rattle.jvm_model.specs.declared.state.EntryKind.TheVariants.{Absent}
@@ -24,6 +23,7 @@ use Rattle.vm_frames.specs.Stack.{HasRoom}
 use Rattle.vm_mem.specs.Meets.{Row}
 use Rattle.vm_mem.specs.Story.{Story}
 use Rattle.vm_arith.specs.Pure.{growth}
+use Rattle.vm_natives.specs.Rows.{growth as native_growth}
 use Rattle.vm_run.specs.declared.state.State.{State as Kept}
 
 -- how many operands a form puts beyond those that it takes
@@ -35,19 +35,14 @@ more _ = 0
 abbrev pub puts : Instr → ℕ
 puts i = growth i + more i
 
--- and a built-in method
-abbrev pub puts_native : Native → ℕ
-puts_native native.SystemClock = 1
-puts_native native.EnvRandom = 1
-puts_native _ = 0
-
 -- there is room for what the instruction at the top puts
 abbrev pub HasSpace : Program → Entries → Type 0
 HasSpace p s = (i : Instr) → form_at p s.top.number s.top.pc ≡ Some i → HasRoom (puts i) s
 
+-- there is room for what a built-in method puts beyond what it takes
 abbrev pub HasRoomFor : Option Native → Entries → Type 0
 HasRoomFor None s = Unit {0}
-HasRoomFor (Some x) s = HasRoom (puts_native x) s
+HasRoomFor (Some x) s = HasRoom (native_growth x) s
 
 abbrev pub HasRoomAfter : Next → Program → Entries → Type 0
 HasRoomAfter Go p s = Unit {0}

@@ -11,7 +11,10 @@ use Rattle.jvm_model.specs.Rows.{answer}
 use Rattle.jvm_model.specs.State.{State, Turn, next, ended as judged}
 use Rattle.vm_run.specs.Seen.{seen}
 use Rattle.vm_run.specs.declared.state.State.{State as Kept}
-use Rattle.jvm_model.specs.Step.{after_row}
+use Rattle.jvm_model.specs.Natives.{row_native}
+use Rattle.jvm_model.specs.Step.{after_native, after_row}
+use Rattle.jvm_model.specs.declared.library.Native.{Native}
+use Rattle.vm_natives.specs.Rows.{with_own}
 use Rattle.jvm_model.specs.View.{Counted, over, ended, counted, paid, counts_one, touched, IsSafe, IsTurn}
 use Rattle.vm_mem.specs.Meets.{Row}
 use Rattle.vm_mem.specs.Story.{Story}
@@ -53,3 +56,7 @@ by_row r p s = spend 1 (bind (r p s.entries) (after_row p s))
 -- what is left of a step whose row answered this, with the step's 1 where the row left it
 abbrev pub after : Next → Part
 after x p s = paid (not (counts_one p x)) (after_row p s (answer x s.entries))
+
+-- a built-in method runs, with the 1 of the step
+abbrev pub builtin_part : Native → Part
+builtin_part x p s = spend 1 (bind (row_native p x (with_own s.entries s.own)) (after_native p s))

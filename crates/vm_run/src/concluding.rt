@@ -4,7 +4,9 @@ ghost use Rattle.std.specs.Prelude.{◌≡◌, IfOk, OnOk};
 ghost use Rattle.jvm_model.specs.declared.outcome.Next.TheVariants.{Enter};
 ghost use Rattle.jvm_model.specs.Classes.{method_at};
 ghost use Rattle.vm_run.specs.Reaching.{HasRoomAfter};
-ghost use Rattle.vm_run.specs.Turns.{IsFit, MeetsPart, TellsPart, after};
+ghost use Rattle.vm_natives.specs.Rows.{growth};
+ghost use Rattle.vm_frames.specs.Stack.{HasRoom};
+ghost use Rattle.vm_run.specs.Turns.{IsFit, MeetsPart, TellsPart, after, builtin_part};
 
 use crate::raising::{raise_into, throw_new};
 use crate::state::State;
@@ -13,6 +15,7 @@ use et_base::NoMemory;
 use jvm_model::{Native, Next, Program};
 use std::alloc::Global;
 use vm_mem::Memory;
+use vm_natives::run_native;
 use vm_tables::Tables;
 
 /// Ends a step whose row answered this: the test goes on over the row's entries, a new throwable of a class or a given one
@@ -83,7 +86,43 @@ fn enter<M: Memory>(
             state.raised = None;
             Ok(Turned::Goes)
         }
-        Some(_which) => unreachable!(),
+        Some(which) => run_builtin(alloc, state, memory, p, tables, which, left),
+    }
+}
+
+/// A built-in method runs, over the calling frame.
+fn run_builtin<M: Memory>(
+    alloc: Global,
+    state: &mut State,
+    memory: &mut M,
+    p: &Program,
+    tables: &Tables,
+    which: Native,
+    left: &mut u64,
+) -> Result<Turned, NoMemory>
+    requires program { p.now ≡ M.program memory.old }
+    requires tables { tables.now ≡ M.program memory.old }
+    requires room { HasRoom (growth which) state.old.frames }
+    requires fit { IsFit (builtin_part which)
+        (M.program memory.old) (M.world memory.old) state.old }
+    ensures meets { IfOk result (λ x. MeetsPart (builtin_part which)
+        (M.program memory.old) (M.world memory.old) state.old left.old
+        x state.new (M.world memory.new) left.new) }
+    ensures told { IfOk result (λ x. TellsPart (builtin_part which)
+        (M.program memory.old) (M.world memory.old) state.old
+        x M.follows memory.old memory.new) }
+    ensures of { OnOk result (M.program memory.new ≡ M.program memory.old) }
+{
+    let place = tables.next_place(state.frames.number(), state.frames.pc());
+    let frames = &mut state.frames;
+    let next = run_native(alloc, frames, memory, p, &mut state.own, which, place, left)?;
+    match next {
+        Next::Go => Ok(Turned::Goes),
+        Next::Fault { class } => throw_new(state, memory, class, left),
+        Next::Over => Ok(Turned::Over),
+        Next::Raise(_) => unreachable!(),
+        Next::Enter { .. } => unreachable!(),
+        Next::Leave => unreachable!(),
     }
 }
 
