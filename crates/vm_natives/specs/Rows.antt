@@ -10,10 +10,10 @@ use Rattle.jvm_model.specs.declared.values.Value.TheVariants.{Int}
 use Rattle.jvm_model.specs.declared.values.Location.TheVariants as place
 use Rattle.jvm_model.specs.Access.{write, spend}
 use Rattle.jvm_model.specs.Builtin.{string_class, string_index_exception}
-use Rattle.jvm_model.specs.Rows.{faults, on_object}
+use Rattle.jvm_model.specs.Rows.{faults, on_object, on_text}
 use Rattle.jvm_model.specs.Natives.{row_native}
 use Rattle.jvm_model.specs.NativesObject.{native_object, native_throwable, sets_message, makes_message}
-use Rattle.jvm_model.specs.NativesString.{native_string, native_builder, text_index, compares, joined, appends}
+use Rattle.jvm_model.specs.NativesString.{native_string, native_builder, text_index, answers_part, compares, joined, appends}
 use Rattle.jvm_model.specs.NativesOutside.{native_system, native_print, native_files, native_env}
 use Rattle.jvm_model.specs.Working.{Working, operands, with_operands, answers, answers_text, truth}
 use Rattle.vm_mem.specs.Meets.{Row}
@@ -81,6 +81,10 @@ compared_row r v p s = compares p (with_operands s (v ∷ (r ∷ operands s))) (
 -- equals of two texts
 abbrev pub same_row : List ℕ → List ℕ → Row Working
 same_row t u p s = spend (length t) (answers p s (truth (bytes_eq t u) ∷ operands s))
+
+-- substring of a String
+abbrev pub cut_row : Value → ℤ → ℤ → Row Working
+cut_row r a b p s = on_text p s r (λ t. answers_part p s (operands s) t a b)
 
 -- a part of a text is answered, if there is one
 abbrev pub part_row : Option (List ℕ) → Row Working

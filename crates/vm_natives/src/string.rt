@@ -3,10 +3,11 @@
 ghost use Rattle.std.specs.Prelude.{◌≡◌, ◌≢◌, IfOk, OnOk};
 ghost use Rattle.jvm_model.specs.declared.library.Native.{Native};
 ghost use Rattle.jvm_model.specs.declared.outcome.Own.{Own};
+ghost use Rattle.jvm_model.specs.declared.values.Value.TheVariants.{Obj};
 ghost use Rattle.jvm_model.specs.World.{World};
 ghost use Rattle.vm_frames.specs.Stack.{HasRoom};
 ghost use Rattle.vm_mem.specs.Meets.{IsReady, IsNext, Meets, Tells};
-ghost use Rattle.vm_natives.specs.Rows.{with_own, string_row, unit_row, compared_row, same_row, part_row, joined_row};
+ghost use Rattle.vm_natives.specs.Rows.{with_own, string_row, unit_row, compared_row, same_row, cut_row, part_row, joined_row};
 
 use crate::texts::{
     boolean_text, char_unit, hash_of, int_text, length_of, long_text, part_from, part_of, same_text,
@@ -369,7 +370,7 @@ pub fn substring_from<M: Memory>(
 
 /// `substring(int, int)`: the units from the first place up to but not the second. It reads the text; a new String
 /// counts its length and 2. Places out of range or in the wrong order throw StringIndexOutOfBoundsException.
-#[tactic(auto, using(crate::proofs::Parts::part_answers), unfolding(jvm_model::specs::NativesString::native_string))]
+#[tactic(auto, unfolding(jvm_model::specs::NativesString::native_string))]
 pub fn substring<M: Memory>(
     alloc: Global,
     stack: &mut FrameStack,
@@ -393,21 +394,78 @@ pub fn substring<M: Memory>(
 {
     let to = stack.pop_int();
     let from = stack.pop_int();
-    match stack.pop_value() {
+    let receiver = stack.pop_value();
+    cut(alloc, stack, memory, p, own, receiver, from, to, next, left)
+}
+
+/// The call answers the part of a String between two places.
+fn cut<M: Memory>(
+    alloc: Global,
+    stack: &mut FrameStack,
+    memory: &mut M,
+    p: &Program,
+    own: &Own,
+    receiver: Value,
+    from: i32,
+    to: i32,
+    next: u32,
+    left: &mut u64,
+) -> Result<Next, NoMemory>
+    requires program { p.now ≡ M.program memory.old }
+    requires place { IsNext p.now stack.old next }
+    requires room { HasRoom 1 stack.old }
+    requires row { IsReady (cut_row receiver from to)
+        (M.program memory.old) (M.world memory.old) (with_own stack.old own.now) }
+    ensures meets { IfOk result (λ x. Meets (cut_row receiver from to)
+        (M.program memory.old) (M.world memory.old) (with_own stack.old own.now) left.old
+        x (with_own stack.new own.now) (M.world memory.new) left.new) }
+    ensures told { IfOk result (λ x. Tells (cut_row receiver from to)
+        (M.program memory.old) (M.world memory.old) (with_own stack.old own.now)
+        x M.follows memory.old memory.new) }
+    ensures of { OnOk result (M.program memory.new ≡ M.program memory.old) }
+{
+    match receiver {
         Value::Lit(n) => {
             let part = part_of(alloc, p.literal(n), from, to)?;
             answer_part(stack, memory, p, own, part, next, left)
         }
-        Value::Obj(object) => {
-            let part = part_of(alloc, memory.get_text(object)?.as_slice(), from, to)?;
-            answer_part(stack, memory, p, own, part, next, left)
-        }
+        Value::Obj(object) => cut_text(alloc, stack, memory, p, own, object, from, to, next, left),
         Value::Null => Ok(Next::Fault {
             class: NULL_POINTER_EXCEPTION,
         }),
         Value::Int(_) => unreachable!(),
         Value::Long(_) => unreachable!(),
     }
+}
+
+/// The same of a String that is no constant.
+fn cut_text<M: Memory>(
+    alloc: Global,
+    stack: &mut FrameStack,
+    memory: &mut M,
+    p: &Program,
+    own: &Own,
+    object: u64,
+    from: i32,
+    to: i32,
+    next: u32,
+    left: &mut u64,
+) -> Result<Next, NoMemory>
+    requires program { p.now ≡ M.program memory.old }
+    requires place { IsNext p.now stack.old next }
+    requires room { HasRoom 1 stack.old }
+    requires row { IsReady (cut_row (Obj object) from to)
+        (M.program memory.old) (M.world memory.old) (with_own stack.old own.now) }
+    ensures meets { IfOk result (λ x. Meets (cut_row (Obj object) from to)
+        (M.program memory.old) (M.world memory.old) (with_own stack.old own.now) left.old
+        x (with_own stack.new own.now) (M.world memory.new) left.new) }
+    ensures told { IfOk result (λ x. Tells (cut_row (Obj object) from to)
+        (M.program memory.old) (M.world memory.old) (with_own stack.old own.now)
+        x M.follows memory.old memory.new) }
+    ensures of { OnOk result (M.program memory.new ≡ M.program memory.old) }
+{
+    let part = part_of(alloc, memory.get_text(object)?.as_slice(), from, to)?;
+    answer_part(stack, memory, p, own, part, next, left)
 }
 
 /// The call answers a part of a text as a new String; where there is no such part it throws.
