@@ -29,7 +29,6 @@ native_ready x p w s h = safe_native p s (row_native p x (with_own s.entries s.o
 module _ {M : Type 0} (program : M → Program) (world : M → World) (follows : M → Story → List Touch → Type 0)
     (x : Native) (m0 m1 m2 : M) (s : State) (t : Working) (left left1 : ℕ) (y : Next)
     (of : program m1 ≡ program m0) (meets : Meets (native_row x) (program m0) (world m0) (with_own s.entries s.own) left y t (world m1) left1) where
-
   abbrev method : Access (Answer Working)
   method = row_native (program m0) x (with_own s.entries s.own)
 
@@ -59,7 +58,7 @@ module _ {M : Type 0} (program : M → Program) (world : M → World) (follows :
       (h : Story) (ts : List Touch) → follows m0 h ts → follows m2 h (touched (builtin_part x (program m0) s) (world m0) ts)
   fault_tells c e told f h ts k = subst (λ (us : List Touch). follows m2 h us)
       (ap (λ (p : Program). touched (throws p c then) (world m1) (touched method (world m0) ts)) of
-        ∙ sym (touched_bind method (after_native (program m0) s) (world m0) left (answer (Fault c) t) (world m1) left1 (met (Fault c) e) ts))
+      ∙ sym (touched_bind method (after_native (program m0) s) (world m0) left (answer (Fault c) t) (world m1) left1 (met (Fault c) e) ts))
       (f h (touched method (world m0) ts) (told (λ q. let z : Fault c ≡ Over = sym e ∙ q in cc) h ts k))
 
   -- a built-in method ends in no other way

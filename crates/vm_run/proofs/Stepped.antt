@@ -86,7 +86,6 @@ module _ (r : Row Entries) (p : Program) (w : World) (s : State) where
 module _ {M : Type 0} (program : M → Program) (world : M → World) (follows : M → Story → List Touch → Type 0)
     (r : Row Entries) (m0 m1 m2 : M) (s : State) (t : Entries) (left left1 : ℕ) (x : Next)
     (of : program m1 ≡ program m0) (meets : Meets r (program m0) (world m0) s.entries left x t (world m1) left1) where
-
   pub over_row : x ≡ Over → counted (by_row r (program m0) s) (world m0) left ≡ over
   over_row e = row_over r (program m0) (world m0) s left t (world m1) left1 (subst (λ (y : Next). Meets r (program m0) (world m0) s.entries left y t (world m1) left1) e meets)
 

@@ -54,7 +54,6 @@ module _ {M : Type 0} (program : M → Program) (world : M → World) (follows :
     (k : Program → State → Access Turn) (c : ℕ) (m0 m1 m2 : M) (s : State) (t : Entries) (left left1 : ℕ) (u : Use)
     (of : program m1 ≡ program m0) (meets : MeetsUse c (program m0) (world m0) s.entries left u t (world m1) left1)
     (told : TellsUse c (program m0) (world m0) s.entries u follows m0 m1) (same : u ≢ Begun → t ≡ s.entries) where
-
   abbrev part : Access Turn
   part = spend 1 (bind (begin (program m0) c s.entries) (once_driven (program m0) s (k (program m0) s)))
 
@@ -78,7 +77,7 @@ module _ {M : Type 0} (program : M → Program) (world : M → World) (follows :
       (h : Story) (ts : List Touch) → follows m0 h ts → follows m2 h (touched part (world m0) ts)
   ready_tells e f h ts q = subst (λ (us : List Touch). follows m2 h us)
       (ap (λ (a : Access Turn). touched a (world m1) (touched (begin (program m0) c s.entries) (world m0) ts)) (moved (ready_not e) k)
-        ∙ sym (ready_touches (program m0) c s (k (program m0) s) (world m0) left (world m1) left1 (at Ready e) ts))
+      ∙ sym (ready_touches (program m0) c s (k (program m0) s) (world m0) left (world m1) left1 (at Ready e) ts))
       (f h (touched (begin (program m0) c s.entries) (world m0) ts) (told (λ x. absurd (cc)) h ts q))
 
   pub begun_counts : u ≡ Begun → counted part (world m0) left ≡ ended (next (with_entries s t)) (world m1) left1
@@ -96,7 +95,7 @@ module _ {M : Type 0} (program : M → Program) (world : M → World) (follows :
       (h : Story) (ts : List Touch) → follows m0 h ts → follows m2 h (touched part (world m0) ts)
   refused_tells d e f h ts q = subst (λ (us : List Touch). follows m2 h us)
       (ap (λ (a : Access Turn). touched a (world m1) (touched (begin (program m0) c s.entries) (world m0) ts)) (moved (refused_not d e) (λ p v. throws p d v))
-        ∙ sym (refused_touches (program m0) c s (k (program m0) s) (world m0) left (world m1) left1 d (at (Fault d) e) ts))
+      ∙ sym (refused_touches (program m0) c s (k (program m0) s) (world m0) left (world m1) left1 d (at (Fault d) e) ts))
       (f h (touched (begin (program m0) c s.entries) (world m0) ts) (told (λ x. absurd (cc)) h ts q))
 
   pub over_counts : u ≡ Over → counted part (world m0) left ≡ over

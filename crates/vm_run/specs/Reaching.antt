@@ -23,6 +23,7 @@ use Rattle.vm_frames.specs.Stack.{HasRoom}
 use Rattle.vm_mem.specs.Meets.{Row}
 use Rattle.vm_mem.specs.Story.{Story}
 use Rattle.vm_arith.specs.Pure.{growth}
+use Rattle.vm_calls.specs.Calls.{HasRoomBelow}
 use Rattle.vm_natives.specs.Rows.{growth as native_growth}
 use Rattle.vm_run.specs.declared.state.State.{State as Kept}
 
@@ -35,9 +36,15 @@ more _ = 0
 abbrev pub puts : Instr → ℕ
 puts i = growth i + more i
 
+-- where the form is a return, there is room for its value in the frame below
+abbrev pub HasPlaceBelow : Instr → Entries → Type 0
+HasPlaceBelow (form.Return x) s = HasRoomBelow s
+HasPlaceBelow _ s = Unit {0}
+
 -- there is room for what the instruction at the top puts
-abbrev pub HasSpace : Program → Entries → Type 0
-HasSpace p s = (i : Instr) → form_at p s.top.number s.top.pc ≡ Some i → HasRoom (puts i) s
+pub record HasSpace (p : Program) (s : Entries) : Type 0 where
+  pub room : (i : Instr) → form_at p s.top.number s.top.pc ≡ Some i → HasRoom (puts i) s
+  pub below : (i : Instr) → form_at p s.top.number s.top.pc ≡ Some i → HasPlaceBelow i s
 
 -- there is room for what a built-in method puts beyond what it takes
 abbrev pub HasRoomFor : Option Native → Entries → Type 0

@@ -215,7 +215,15 @@ fn drive_init<M: Memory>(
         None => unreachable!(),
         Some(method) => {
             let after = Stage::Built { object };
-            call_method(state, memory, p, method, Some(Value::Obj(object)), after, left)
+            call_method(
+                state,
+                memory,
+                p,
+                method,
+                Some(Value::Obj(object)),
+                after,
+                left,
+            )
         }
     }
 }
@@ -244,7 +252,15 @@ fn drive_method<M: Memory>(
         object,
         thrown: None,
     };
-    call_method(state, memory, p, method, Some(Value::Obj(object)), after, left)
+    call_method(
+        state,
+        memory,
+        p,
+        method,
+        Some(Value::Obj(object)),
+        after,
+        left,
+    )
 }
 
 /// Calls `setUp`, or the test's method where there is none.
@@ -271,7 +287,15 @@ fn drive_set_up<M: Memory>(
         None => drive_method(state, memory, p, object, left),
         Some(method) => {
             let after = Stage::SetUp { object };
-            call_method(state, memory, p, method, Some(Value::Obj(object)), after, left)
+            call_method(
+                state,
+                memory,
+                p,
+                method,
+                Some(Value::Obj(object)),
+                after,
+                left,
+            )
         }
     }
 }
@@ -303,7 +327,15 @@ fn drive_tear_down<M: Memory>(
         None => judge(alloc, state, memory, p, thrown, left),
         Some(method) => {
             let after = Stage::Last { thrown };
-            call_method(state, memory, p, method, Some(Value::Obj(object)), after, left)
+            call_method(
+                state,
+                memory,
+                p,
+                method,
+                Some(Value::Obj(object)),
+                after,
+                left,
+            )
         }
     }
 }

@@ -104,7 +104,7 @@ fn judge_value<M: Memory>(
 fn judge_text(p: &Program, class: u32, text: Units, left: &mut u64) -> Turned
     ensures { (s : State) (w : World) →
         counted (spend 1 (driver.judged_text p.now s.own.output class text)) w left.old
-            ≡ turned result s w left.new }
+        ≡ turned result s w left.new }
 {
     let cost = text.len() as u64;
     if *left == 0 || *left - 1 < cost {

@@ -5,12 +5,14 @@ ghost use Rattle.jvm_model.specs.Step as steps;
 ghost use Rattle.vm_frames.specs.Stack.{HasRoom};
 ghost use Rattle.vm_arith.specs.Pure.{TouchesNothing};
 ghost use Rattle.vm_mem.specs.Meets.{IsReady, IsNext, Meets, Tells};
-ghost use Rattle.vm_run.specs.Reaching.{HasSpace, puts};
+ghost use Rattle.vm_run.specs.Reaching.{HasPlaceBelow, HasSpace, puts};
 ghost use Rattle.vm_run.specs.Rows.{form_row, throw_row};
 
 use et_base::NoMemory;
 use jvm_model::{Instr, NULL_POINTER_EXCEPTION, Next, Program, Value};
+use std::alloc::Global;
 use vm_arith::arith;
+use vm_calls::{Selections, call, give_back};
 use vm_frames::FrameStack;
 use vm_mem::Memory;
 use vm_objects::{
@@ -21,14 +23,17 @@ use vm_tables::Tables;
 /// Makes the row of the instruction at the place of the frame at the top.
 #[tactic(auto, unfolding(jvm_model::specs::Step::row_here))]
 pub fn row_here<M: Memory>(
+    alloc: Global,
     stack: &mut FrameStack,
     memory: &mut M,
     p: &Program,
     tables: &Tables,
+    selections: &mut Selections,
     left: &mut u64,
 ) -> Result<Next, NoMemory>
     requires program { p.now ≡ M.program memory.old }
     requires tables { tables.now ≡ M.program memory.old }
+    requires selections { selections.old ≡ M.program memory.old }
     requires space { HasSpace (M.program memory.old) stack.old }
     requires row { IsReady steps.row_here (M.program memory.old) (M.world memory.old) stack.old }
     ensures meets { IfOk result (λ x. Meets steps.row_here
@@ -38,6 +43,7 @@ pub fn row_here<M: Memory>(
         (M.program memory.old) (M.world memory.old) stack.old
         x M.follows memory.old memory.new) }
     ensures of { OnOk result (M.program memory.new ≡ M.program memory.old) }
+    ensures kept { selections.new ≡ selections.old }
 {
     let number = stack.number();
     let pc = stack.pc();
@@ -45,24 +51,30 @@ pub fn row_here<M: Memory>(
         unreachable!()
     };
     let next = tables.next_place(number, pc);
-    row_of(stack, memory, p, tables, form, next, left)
+    row_of(
+        alloc, stack, memory, p, tables, selections, form, next, left,
+    )
 }
 
 /// Makes the row of an instruction, with the byte place of the next one.
 #[tactic(auto, unfolding(jvm_model::specs::Step::row))]
 fn row_of<M: Memory>(
+    alloc: Global,
     stack: &mut FrameStack,
     memory: &mut M,
     p: &Program,
     tables: &Tables,
+    selections: &mut Selections,
     form: &Instr,
     next: u32,
     left: &mut u64,
 ) -> Result<Next, NoMemory>
     requires program { p.now ≡ M.program memory.old }
     requires tables { tables.now ≡ M.program memory.old }
+    requires selections { selections.old ≡ M.program memory.old }
     requires place { IsNext (M.program memory.old) stack.old next }
     requires room { HasRoom (puts form.now) stack.old }
+    requires below { HasPlaceBelow form.now stack.old }
     requires row { IsReady (form_row form.now)
         (M.program memory.old) (M.world memory.old) stack.old }
     ensures meets { IfOk result (λ x. Meets (form_row form.now)
@@ -72,6 +84,7 @@ fn row_of<M: Memory>(
         (M.program memory.old) (M.world memory.old) stack.old
         x M.follows memory.old memory.new) }
     ensures of { OnOk result (M.program memory.new ≡ M.program memory.old) }
+    ensures kept { selections.new ≡ selections.old }
 {
     match form {
         Instr::GetStatic { field } => get_static(stack, memory, p, tables, *field, next, left),
@@ -89,11 +102,19 @@ fn row_of<M: Memory>(
         Instr::CheckCast { .. } => casts(stack, memory, p, form, next, left),
         Instr::InstanceOf { .. } => casts(stack, memory, p, form, next, left),
         Instr::Throw => throw_top(stack, memory, left),
-        Instr::InvokeVirtual { .. } => unreachable!(),
-        Instr::InvokeSpecial { .. } => unreachable!(),
-        Instr::InvokeStatic { .. } => unreachable!(),
-        Instr::InvokeInterface { .. } => unreachable!(),
-        Instr::Return { .. } => unreachable!(),
+        Instr::InvokeVirtual { .. } => {
+            call(alloc, stack, memory, p, tables, selections, form, left)
+        }
+        Instr::InvokeSpecial { .. } => {
+            call(alloc, stack, memory, p, tables, selections, form, left)
+        }
+        Instr::InvokeStatic { .. } => {
+            call(alloc, stack, memory, p, tables, selections, form, left)
+        }
+        Instr::InvokeInterface { .. } => {
+            call(alloc, stack, memory, p, tables, selections, form, left)
+        }
+        Instr::Return { of } => give_back(stack, memory, tables, *of, left),
         _ => quiet_row(stack, memory, form, next, left),
     }
 }

@@ -11,6 +11,7 @@ use crate::stepping::turn;
 use et_base::NoMemory;
 use jvm_model::{Program, Verdict};
 use std::alloc::Global;
+use vm_calls::Selections;
 use vm_mem::Memory;
 use vm_tables::Tables;
 
@@ -22,23 +23,26 @@ pub fn run<M: Memory>(
     memory: &mut M,
     p: &Program,
     tables: &Tables,
+    selections: &mut Selections,
     left: &mut u64,
 ) -> Result<Option<Verdict>, NoMemory>
     requires program { p.now ≡ M.program memory.old }
     requires tables { tables.now ≡ M.program memory.old }
+    requires selections { selections.old ≡ M.program memory.old }
     requires start { seen state.old ≡ started (M.program memory.old) state.old.test }
     requires safe { AllSafe (M.program memory.old) state.old.test (M.world memory.old) }
     ensures gives { IfOk result (λ v. one_test
         (M.program memory.old) (M.world memory.old) state.old.test left.old
         ≡ given_by (M.program memory.old) state.old.test (M.world memory.old) left.old
-            v state.new (M.world memory.new) left.new) }
+        v state.new (M.world memory.new) left.new) }
     ensures told { IfOk result (λ v. TellsTest
         (M.program memory.old) state.old.test (M.world memory.old) left.old
         v M.follows memory.old memory.new) }
     ensures of { OnOk result (M.program memory.new ≡ M.program memory.old) }
+    ensures kept { selections.new ≡ selections.old }
 {
     while *left > 0 {
-        if let Some(end) = turn(alloc, state, memory, p, tables, left)? {
+        if let Some(end) = turn(alloc, state, memory, p, tables, selections, left)? {
             return Ok(end);
         }
     }

@@ -20,6 +20,7 @@ use et_base::NoMemory;
 use exception_flow::raise;
 use jvm_model::{EntryKind, Next, Program, Value, Verdict};
 use std::alloc::Global;
+use vm_calls::Selections;
 use vm_mem::Memory;
 use vm_tables::Tables;
 
@@ -30,10 +31,12 @@ fn run_step<M: Memory>(
     memory: &mut M,
     p: &Program,
     tables: &Tables,
+    selections: &mut Selections,
     left: &mut u64,
 ) -> Result<Turned, NoMemory>
     requires program { p.now ≡ M.program memory.old }
     requires tables { tables.now ≡ M.program memory.old }
+    requires selections { selections.old ≡ M.program memory.old }
     requires space { HasSpace (M.program memory.old) state.old.frames }
     requires native_space { HasNativeSpace steps.row_here
         (M.program memory.old) (M.world memory.old) state.old.frames }
@@ -45,8 +48,17 @@ fn run_step<M: Memory>(
         (M.program memory.old) (M.world memory.old) state.old
         x M.follows memory.old memory.new) }
     ensures of { OnOk result (M.program memory.new ≡ M.program memory.old) }
+    ensures kept { selections.new ≡ selections.old }
 {
-    let next = row_here(&mut state.frames, memory, p, tables, left)?;
+    let next = row_here(
+        alloc,
+        &mut state.frames,
+        memory,
+        p,
+        tables,
+        selections,
+        left,
+    )?;
     if let Next::Over = next {
         return Ok(Turned::Over);
     }
@@ -147,10 +159,12 @@ pub fn step<M: Memory>(
     memory: &mut M,
     p: &Program,
     tables: &Tables,
+    selections: &mut Selections,
     left: &mut u64,
 ) -> Result<Turned, NoMemory>
     requires program { p.now ≡ M.program memory.old }
     requires tables { tables.now ≡ M.program memory.old }
+    requires selections { selections.old ≡ M.program memory.old }
     requires can { CanStep (M.program memory.old) (M.world memory.old) (seen state.old) }
     ensures meets { IfOk result (λ x. MeetsPart steps.step
         (M.program memory.old) (M.world memory.old) state.old left.old
@@ -159,11 +173,12 @@ pub fn step<M: Memory>(
         (M.program memory.old) (M.world memory.old) state.old
         x M.follows memory.old memory.new) }
     ensures of { OnOk result (M.program memory.new ≡ M.program memory.old) }
+    ensures kept { selections.new ≡ selections.old }
 {
     match state.frames.kind() {
         EntryKind::Absent => drive(alloc, state, memory, p, tables, left),
         EntryKind::InMethod => match state.raised {
-            None => run_step(alloc, state, memory, p, tables, left),
+            None => run_step(alloc, state, memory, p, tables, selections, left),
             Some(thrown) => raise_step(alloc, state, memory, p, tables, thrown, left),
         },
         EntryKind::InClass { .. } => match state.raised {
@@ -180,10 +195,12 @@ pub fn turn<M: Memory>(
     memory: &mut M,
     p: &Program,
     tables: &Tables,
+    selections: &mut Selections,
     left: &mut u64,
 ) -> Result<Option<Option<Verdict>>, NoMemory>
     requires program { p.now ≡ M.program memory.old }
     requires tables { tables.now ≡ M.program memory.old }
+    requires selections { selections.old ≡ M.program memory.old }
     requires can { CanStep (M.program memory.old) (M.world memory.old) (seen state.old) }
     ensures meets { IfOk result (λ x. MeetsPart steps.step
         (M.program memory.old) (M.world memory.old) state.old left.old
@@ -192,8 +209,9 @@ pub fn turn<M: Memory>(
         (M.program memory.old) (M.world memory.old) state.old
         (as_turned x) M.follows memory.old memory.new) }
     ensures of { OnOk result (M.program memory.new ≡ M.program memory.old) }
+    ensures kept { selections.new ≡ selections.old }
 {
-    match step(alloc, state, memory, p, tables, left)? {
+    match step(alloc, state, memory, p, tables, selections, left)? {
         Turned::Goes => Ok(None),
         Turned::Ends(verdict) => Ok(Some(Some(verdict))),
         Turned::Over => Ok(Some(None)),

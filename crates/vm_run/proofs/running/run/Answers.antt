@@ -9,6 +9,7 @@ use Rattle.vm_run.proofs.running.run.Goals as goal
 pub loop-left-init : goal.loop-left-init
 loop-left-init g c = record {
   of = refl;
+  kept = refl;
   so_far = λ ts. ts;
   rest = rest_at_first (g.M.Memory.program c.args.memory.now) c.args.state.now.test (g.M.Memory.world c.args.memory.now) c.args.left.now (seen c.args.state.now) c.requires.start;
   told = λ h ts k. k;
@@ -17,6 +18,7 @@ loop-left-init g c = record {
 pub loop-left-preserved : goal.loop-left-preserved
 loop-left-preserved g c = record {
   of = c.in_ok-end.ensures.of ∙ c.loop-left.invariant.of;
+  kept = c.turn.ensures.kept ∙ c.loop-left.invariant.kept;
   so_far = λ ts. touched (step (g.M.Memory.program c.loop-left.memory) (seen c.loop-left.state)) (g.M.Memory.world c.loop-left.memory) (c.loop-left.invariant.so_far ts);
   rest = goes_on_rest (g.M.Memory.program c.args.memory.now) (g.M.Memory.program c.loop-left.memory) c.loop-left.invariant.of c.args.state.now.test (g.M.Memory.world c.args.memory.now) c.args.left.now c.loop-left.state (g.M.Memory.world c.loop-left.memory) c.loop-left.left c.loop-left.invariant.so_far c.loop-left.invariant.rest c.in_ok-end.field-0 c.turn.new.state (g.M.Memory.world c.turn.new.memory) c.turn.new.left c.in_ok-end.ensures.meets c.in_default.is;
   told = λ h ts k. c.in_ok-end.ensures.told (goes_not_over c.in_ok-end.field-0 c.in_default.is) h (c.loop-left.invariant.so_far ts) (c.loop-left.invariant.told h ts k);

@@ -27,4 +27,5 @@ returns g c = record {
   meets = IfOk-weaker c.conclude.result _ _ (λ x m. counts_row g.M.Memory.program g.M.Memory.world g.M.Memory.follows row_here c.args.memory.now c.row_here.new.memory c.row_here.new.memory (seen c.args.state.now) c.row_here.new.stack c.args.left.now c.row_here.new.left c.in_ok-next.next c.in_ok-next.ensures.of c.in_ok-next.ensures.meets c.in_default.not-Over ∙ m) c.conclude.ensures.meets;
   told = IfOk-weaker c.conclude.result _ _ (λ x m n h ts k. tells_row g.M.Memory.program g.M.Memory.world g.M.Memory.follows row_here c.args.memory.now c.row_here.new.memory c.conclude.new.memory (seen c.args.state.now) c.row_here.new.stack c.args.left.now c.row_here.new.left c.in_ok-next.next c.in_ok-next.ensures.of c.in_ok-next.ensures.meets c.in_default.not-Over c.in_ok-next.ensures.told (m n) h ts k) c.conclude.ensures.told;
   of = on_ok_weaker c.conclude.result (λ q. q ∙ c.in_ok-next.ensures.of) c.conclude.ensures.of;
+  kept = c.row_here.ensures.kept;
 }
