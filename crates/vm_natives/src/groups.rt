@@ -1,16 +1,133 @@
-//! The methods of System, PrintStream, Files and Env by groups.
+//! The built-in methods by groups.
 
 ghost use Rattle.std.specs.Prelude.{◌≡◌, IfOk, OnOk};
 ghost use Rattle.vm_frames.specs.Stack.{HasRoom};
 ghost use Rattle.vm_mem.specs.Meets.{IsReady, IsNext, Meets, Tells};
-ghost use Rattle.vm_natives.specs.Rows.{growth, with_own, system_row, print_row, files_row, env_row};
+ghost use Rattle.vm_natives.specs.Rows.{growth, with_own, object_row, string_row, builder_row, system_row, print_row, files_row, env_row, throwable_row};
 
-use crate::{env, files, stream, system};
+use crate::{builder, env, files, object, stream, string, system, throwable};
 use et_base::NoMemory;
 use jvm_model::{Native, Next, Own, Program};
 use std::alloc::Global;
 use vm_frames::FrameStack;
 use vm_mem::Memory;
+
+/// A method of java.lang.Object.
+#[tactic(auto, unfolding(jvm_model::specs::NativesObject::native_object))]
+pub fn of_object<M: Memory>(
+    stack: &mut FrameStack,
+    memory: &mut M,
+    p: &Program,
+    own: &Own,
+    which: Native,
+    next: u32,
+    left: &mut u64,
+) -> Result<Next, NoMemory>
+    requires program { p.now ≡ M.program memory.old }
+    requires place { IsNext p.now stack.old next }
+    requires row { IsReady (object_row which)
+        (M.program memory.old) (M.world memory.old) (with_own stack.old own.now) }
+    ensures meets { IfOk result (λ x. Meets (object_row which)
+        (M.program memory.old) (M.world memory.old) (with_own stack.old own.now) left.old
+        x (with_own stack.new own.now) (M.world memory.new) left.new) }
+    ensures told { IfOk result (λ x. Tells (object_row which)
+        (M.program memory.old) (M.world memory.old) (with_own stack.old own.now)
+        x M.follows memory.old memory.new) }
+    ensures of { OnOk result (M.program memory.new ≡ M.program memory.old) }
+{
+    match which {
+        Native::ObjectInit => object::init(stack, memory, p, own, next, left),
+        Native::ObjectEquals => object::equals(stack, memory, p, own, next, left),
+        Native::ObjectHashCode => object::hash_code(stack, memory, p, own, next, left),
+        _ => unreachable!(),
+    }
+}
+
+/// A method of java.lang.String.
+#[tactic(auto, unfolding(jvm_model::specs::NativesString::native_string))]
+pub fn of_string<M: Memory>(
+    alloc: Global,
+    stack: &mut FrameStack,
+    memory: &mut M,
+    p: &Program,
+    own: &Own,
+    which: Native,
+    next: u32,
+    left: &mut u64,
+) -> Result<Next, NoMemory>
+    requires program { p.now ≡ M.program memory.old }
+    requires place { IsNext p.now stack.old next }
+    requires row { IsReady (string_row which)
+        (M.program memory.old) (M.world memory.old) (with_own stack.old own.now) }
+    ensures meets { IfOk result (λ x. Meets (string_row which)
+        (M.program memory.old) (M.world memory.old) (with_own stack.old own.now) left.old
+        x (with_own stack.new own.now) (M.world memory.new) left.new) }
+    ensures told { IfOk result (λ x. Tells (string_row which)
+        (M.program memory.old) (M.world memory.old) (with_own stack.old own.now)
+        x M.follows memory.old memory.new) }
+    ensures of { OnOk result (M.program memory.new ≡ M.program memory.old) }
+{
+    match which {
+        Native::StringLength => string::length(stack, memory, p, own, next, left),
+        Native::StringIsEmpty => string::is_empty(stack, memory, p, own, next, left),
+        Native::StringCharAt => string::char_at(stack, memory, p, own, next, left),
+        Native::StringEquals => string::equals(alloc, stack, memory, p, own, next, left),
+        Native::StringHashCode => string::hash_code(stack, memory, p, own, next, left),
+        Native::StringSubstringFrom => string::substring_from(
+            alloc, stack, memory, p, own, next, left,
+        ),
+        Native::StringSubstring => string::substring(alloc, stack, memory, p, own, next, left),
+        Native::StringConcat => string::concat(alloc, stack, memory, p, own, next, left),
+        Native::StringToString => string::to_string(stack, memory, p, own, next, left),
+        Native::StringOfInt => string::of_int(alloc, stack, memory, p, own, next, left),
+        Native::StringOfLong => string::of_long(alloc, stack, memory, p, own, next, left),
+        Native::StringOfBoolean => string::of_boolean(alloc, stack, memory, p, own, next, left),
+        Native::StringOfChar => string::of_char(alloc, stack, memory, p, own, next, left),
+        _ => unreachable!(),
+    }
+}
+
+/// A method of java.lang.StringBuilder.
+#[tactic(auto, unfolding(jvm_model::specs::NativesString::native_builder))]
+pub fn of_builder<M: Memory>(
+    alloc: Global,
+    stack: &mut FrameStack,
+    memory: &mut M,
+    p: &Program,
+    own: &Own,
+    which: Native,
+    next: u32,
+    left: &mut u64,
+) -> Result<Next, NoMemory>
+    requires program { p.now ≡ M.program memory.old }
+    requires place { IsNext p.now stack.old next }
+    requires row { IsReady (builder_row which)
+        (M.program memory.old) (M.world memory.old) (with_own stack.old own.now) }
+    ensures meets { IfOk result (λ x. Meets (builder_row which)
+        (M.program memory.old) (M.world memory.old) (with_own stack.old own.now) left.old
+        x (with_own stack.new own.now) (M.world memory.new) left.new) }
+    ensures told { IfOk result (λ x. Tells (builder_row which)
+        (M.program memory.old) (M.world memory.old) (with_own stack.old own.now)
+        x M.follows memory.old memory.new) }
+    ensures of { OnOk result (M.program memory.new ≡ M.program memory.old) }
+{
+    match which {
+        Native::BuilderInit => builder::init(alloc, stack, memory, p, own, next, left),
+        Native::BuilderInitString => builder::init_string(alloc, stack, memory, p, own, next, left),
+        Native::BuilderAppendString => builder::append_string(
+            alloc, stack, memory, p, own, next, left,
+        ),
+        Native::BuilderAppendInt => builder::append_int(alloc, stack, memory, p, own, next, left),
+        Native::BuilderAppendLong => builder::append_long(alloc, stack, memory, p, own, next, left),
+        Native::BuilderAppendBoolean => builder::append_boolean(
+            alloc, stack, memory, p, own, next, left,
+        ),
+        Native::BuilderAppendChar => builder::append_char(alloc, stack, memory, p, own, next, left),
+        Native::BuilderLength => builder::length(stack, memory, p, own, next, left),
+        Native::BuilderToString => builder::to_string(alloc, stack, memory, p, own, next, left),
+        _ => unreachable!(),
+    }
+}
 
 /// A method of java.lang.System.
 #[tactic(auto, unfolding(jvm_model::specs::NativesOutside::native_system))]
@@ -150,6 +267,53 @@ pub fn of_env<M: Memory>(
     match which {
         Native::EnvPrint => env::print(alloc, stack, memory, p, own, next, left),
         Native::EnvRandom => Ok(env::random(stack, p, own, next, left)),
+        _ => unreachable!(),
+    }
+}
+
+/// A method of java.lang.Throwable or of AssertionError.
+#[tactic(auto, unfolding(jvm_model::specs::NativesObject::native_throwable))]
+pub fn of_throwable<M: Memory>(
+    alloc: Global,
+    stack: &mut FrameStack,
+    memory: &mut M,
+    p: &Program,
+    own: &Own,
+    which: Native,
+    next: u32,
+    left: &mut u64,
+) -> Result<Next, NoMemory>
+    requires program { p.now ≡ M.program memory.old }
+    requires place { IsNext p.now stack.old next }
+    requires row { IsReady (throwable_row which)
+        (M.program memory.old) (M.world memory.old) (with_own stack.old own.now) }
+    ensures meets { IfOk result (λ x. Meets (throwable_row which)
+        (M.program memory.old) (M.world memory.old) (with_own stack.old own.now) left.old
+        x (with_own stack.new own.now) (M.world memory.new) left.new) }
+    ensures told { IfOk result (λ x. Tells (throwable_row which)
+        (M.program memory.old) (M.world memory.old) (with_own stack.old own.now)
+        x M.follows memory.old memory.new) }
+    ensures of { OnOk result (M.program memory.new ≡ M.program memory.old) }
+{
+    match which {
+        Native::ThrowableInit => throwable::init(stack, memory, p, own, next, left),
+        Native::ThrowableInitString => throwable::init_string(stack, memory, p, own, next, left),
+        Native::ThrowableGetMessage => throwable::get_message(stack, memory, p, own, next, left),
+        Native::AssertionInitObject => throwable::assertion_object(
+            alloc, stack, memory, p, own, next, left,
+        ),
+        Native::AssertionInitInt => throwable::assertion_int(
+            alloc, stack, memory, p, own, next, left,
+        ),
+        Native::AssertionInitLong => throwable::assertion_long(
+            alloc, stack, memory, p, own, next, left,
+        ),
+        Native::AssertionInitBoolean => throwable::assertion_boolean(
+            alloc, stack, memory, p, own, next, left,
+        ),
+        Native::AssertionInitChar => throwable::assertion_char(
+            alloc, stack, memory, p, own, next, left,
+        ),
         _ => unreachable!(),
     }
 }

@@ -6,14 +6,13 @@ mod env;
 mod files;
 mod groups;
 mod named;
-mod native;
 mod object;
+mod running;
 mod stream;
 mod string;
 mod system;
-mod text_groups;
 mod texts;
 mod throwable;
 mod working;
 
-pub use native::native as run_native;
+pub use running::native;

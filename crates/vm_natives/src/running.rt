@@ -5,8 +5,9 @@ ghost use Rattle.vm_frames.specs.Stack.{HasRoom};
 ghost use Rattle.vm_mem.specs.Meets.{IsReady, IsNext, Meets, Tells};
 ghost use Rattle.vm_natives.specs.Rows.{with_own, native_row, growth};
 
-use crate::groups::{of_env, of_files, of_stream, of_system};
-use crate::text_groups::{of_builder, of_object, of_string, of_throwable};
+use crate::groups::{
+    of_builder, of_env, of_files, of_object, of_stream, of_string, of_system, of_throwable,
+};
 use et_base::NoMemory;
 use jvm_model::{Native, Next, Own, Program};
 use std::alloc::Global;
