@@ -15,7 +15,7 @@ use et_base::NoMemory;
 use jvm_model::{Native, Next, Program};
 use std::alloc::Global;
 use vm_mem::Memory;
-use vm_natives::run_native;
+use vm_natives::native;
 use vm_tables::Tables;
 
 /// Ends a step whose row answered this: the test goes on over the row's entries, a new throwable of a class or a given one
@@ -115,7 +115,7 @@ fn run_builtin<M: Memory>(
 {
     let place = tables.next_place(state.frames.number(), state.frames.pc());
     let frames = &mut state.frames;
-    let next = run_native(alloc, frames, memory, p, &mut state.own, which, place, left)?;
+    let next = native(alloc, frames, memory, p, &mut state.own, which, place, left)?;
     match next {
         Next::Go => Ok(Turned::Goes),
         Next::Fault { class } => throw_new(state, memory, class, left),
