@@ -1,0 +1,4 @@
+pub mod Choosing
+pub mod Entered
+pub mod Kept
+pub mod Returned
