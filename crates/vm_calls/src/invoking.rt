@@ -62,7 +62,7 @@ pub fn call<M: Memory>(
 }
 
 /// Uses the class that declares a static method and enters the method.
-#[tactic(auto, using(crate::proofs::Entered::calls_touches, crate::proofs::Entered::calls_there, jvm_model::proofs::Uses::used_safe))]
+#[tactic(auto, using(crate::proofs::Entered::calls_touches, crate::proofs::Entered::calls_there), unfolding(jvm_model::specs::RowsCalls::row_calls))]
 pub fn invoke_static<M: Memory>(
     stack: &mut FrameStack,
     memory: &mut M,
@@ -231,7 +231,7 @@ pub fn invoke_interface<M: Memory>(
 /// Calls a method without regard to the object's class: `<init>` is the one that is named; another is looked for from the
 /// named class upwards, or from the direct superclass of the current class where the named one is an ancestor of it. Null
 /// throws. It touches nothing.
-#[tactic(auto, using(crate::proofs::Entered::selected_touches, crate::proofs::Entered::reference_there))]
+#[tactic(auto, using(crate::proofs::Entered::selected_touches, crate::proofs::Entered::reference_there), unfolding(jvm_model::specs::RowsCalls::row_calls))]
 pub fn invoke_special<M: Memory>(
     alloc: Global,
     stack: &mut FrameStack,

@@ -128,7 +128,7 @@ fn above_methods(
 
 /// Whether a method has code and none of these interfaces declares it.
 fn is_kept(p: &Program, above: &IndexSet<u32>, method: u32) -> bool
-    ensures { result ≡ is_kept p.now above.keys method }
+    ensures { result ≡ is_kept p.now above.now.keys method }
 {
     !above.contains(&p.method_class(method)) && p.has_code(method)
 }
@@ -140,7 +140,7 @@ fn kept_among(
     above: &IndexSet<u32>,
     methods: &[u32],
 ) -> Result<Items<u32>, NoMemory>
-    ensures { IfOk result (λ kept. kept ≡ filter (λ n. is_kept p.now above.keys n) methods.now) }
+    ensures { IfOk result (λ kept. kept ≡ filter (λ n. is_kept p.now above.now.keys n) methods.now) }
 {
     let mut kept = Items::new(alloc);
     for method in methods {
