@@ -16,7 +16,7 @@ use Rattle.vm_calls.specs.Choices.{above_of}
 -- ---- a walk upwards
 
 module _ (p : Program) (f : ℕ → Bool) where
-  declared_above : ℕ → Option ℕ → Option ℕ
+  abbrev declared_above : ℕ → Option ℕ → Option ℕ
   declared_above k None = None
   declared_above k (Some d) = declared_in p f (upwards_in p k d)
 

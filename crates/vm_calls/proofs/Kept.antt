@@ -6,13 +6,13 @@ use Rattle.jvm_model.specs.declared.program.Program.{Program}
 use Rattle.vm_calls.specs.declared.selections.Known.{Known}
 use Rattle.vm_calls.specs.Choices.{IsKnown, AreKnown}
 
-none_at : (n i : ℕ) → get_or (replicate n None) i None ≡ None {A = Known}
-none_at zero i = refl
-none_at (suc n) zero = refl
-none_at (suc n) (suc i) = none_at n i
+same_at : {A : Type 0} (n i : ℕ) (a : A) → get_or (replicate n a) i a ≡ a
+same_at zero i a = refl
+same_at (suc n) zero a = refl
+same_at (suc n) (suc i) a = same_at n i a
 
 pub none_known : (p : Program) (n : ℕ) → AreKnown p (replicate n None)
-none_known p n i = subst (λ (o : Option Known). IfSome o (λ k. IsKnown p k)) (sym (none_at n i)) tt
+none_known p n i = subst (λ (o : Option Known). IfSome o (λ k. IsKnown p k)) (sym (same_at n i None)) tt
 
 -- one more answer is kept
 pub known_more : (p : Program) (places : List (Option Known)) (i : ℕ) (k : Known) → i < length places → IsKnown p k → AreKnown p places → AreKnown p (set places i (Some k))

@@ -2,3 +2,4 @@ pub mod Choosing
 pub mod Entered
 pub mod Kept
 pub mod Returned
+pub mod Using

@@ -82,6 +82,7 @@ pub(crate) fn receiver(stack: &mut FrameStack, arguments: usize) -> Value
     requires { arguments < length stack.old.top.stack }
     ensures same { stack.new ≡ stack.old }
     ensures found { slice_get stack.old.top.stack arguments ≡ Some result }
+    ensures few { arguments < 65535 }
 {
     let top = stack.pop_value();
     stack.push_value(top);

@@ -106,6 +106,7 @@ fn enter_selected(
     requires tables { tables.now ≡ p.now }
     requires selections { selections.old ≡ p.now }
     requires arguments { argument_count p.now method < length stack.old.top.stack }
+    requires few { argument_count p.now method < 65535 }
     ensures meets { IfOk result (λ x. (w : World) → Meets (kind_row interface method kind)
         p.now w stack.old left.old x stack.new w left.new) }
     ensures kept { selections.new ≡ selections.old }
@@ -261,8 +262,7 @@ pub fn invoke_special<M: Memory>(
     match receiver(stack, arguments) {
         Value::Obj(_) | Value::Lit(_) => {
             let current = p.method_class(stack.number());
-            let choice =
-                selections.dispatch_special(alloc, p, tables, current, named, method)?;
+            let choice = selections.dispatch_special(alloc, p, tables, current, named, method)?;
             enter_choice(stack, p, choice, arguments + 1, left)
         }
         Value::Null => Ok(Next::Fault {

@@ -67,12 +67,7 @@ fn declared_special(p: &Program, method: u32, class: u32) -> Option<u32>
 }
 
 /// Appends the methods of another's name and descriptor that a class declares, neither static nor private.
-fn push_open(
-    p: &Program,
-    method: u32,
-    class: u32,
-    found: &mut Items<u32>,
-) -> Result<(), NoMemory>
+fn push_open(p: &Program, method: u32, class: u32, found: &mut Items<u32>) -> Result<(), NoMemory>
     ensures { OnOk result (found.new ≡ found.old ++ filter (λ n. is_open_like p.now method n) (class_at p.now class).methods) }
 {
     for other in p.class_methods(class) {

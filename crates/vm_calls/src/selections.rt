@@ -46,7 +46,9 @@ impl Model for Selections {
 
 /// The place at which the answer of a call is kept.
 fn place_of(special: bool, method: u32, class: u32) -> usize {
-    let place = (method as usize).wrapping_mul(31).wrapping_add(class as usize);
+    let place = (method as usize)
+        .wrapping_mul(31)
+        .wrapping_add(class as usize);
     if special {
         place.wrapping_add(PLACES / 2) % PLACES
     } else {
