@@ -47,7 +47,7 @@ member_filter q n [] m = m
 member_filter q n (x ∷ xs) m = member_cond (q x) n x (filter q xs) xs (λ r. member_filter q n xs r) m
 
 -- what holds of each entry holds of each member
-all_member : (P : ℕ → Type 0) (xs : List ℕ) → All P xs → (d : ℕ) → member d xs ≡ true → P d
+pub all_member : (P : ℕ → Type 0) (xs : List ℕ) → All P xs → (d : ℕ) → member d xs ≡ true → P d
 all_member P [] h d m = absurd (cc)
 all_member P (x ∷ xs) h d m = elim (or_cases (nat_eq d x) (member d xs) m) [
   | inl q ↦ subst P (sym (eqb-true d x q)) (h 0 0 (omega arith))

@@ -1,3 +1,4 @@
+pub mod Ancestors
 pub mod Gathering
 pub mod Laid
 pub mod Places

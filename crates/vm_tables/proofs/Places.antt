@@ -9,11 +9,11 @@ use Rattle.jvm_model.specs.declared.program.Placed.{Placed}
 use Rattle.jvm_model.specs.declared.program.Body.{Body}
 use Rattle.jvm_model.specs.declared.program.MethodRec.{MethodRec}
 use Rattle.jvm_model.specs.declared.program.Program.{Program}
-use Rattle.jvm_model.specs.Descriptors.{parameters}
+use Rattle.jvm_model.specs.Descriptors.{parameters, return_type}
 use Rattle.jvm_model.specs.RowsCalls.{argument_count}
 use Rattle.jvm_model.specs.Classes.{layout, no_method, method_at, Found, found_in, found_of, form_at, next_place, place_after}
 use Rattle.jvm_model.specs.Linked.{Ascends, IsBody}
-use Rattle.vm_tables.specs.Numbers.{AreCells, code_of, one_later, number_in, number_of, ArePlaces, AreArguments, AreNexts, AllNexts, after_or, next_of, no_placed, instruction, instruction_of, less_one}
+use Rattle.vm_tables.specs.Numbers.{AreReturns, return_unit, AreCells, code_of, one_later, number_in, number_of, ArePlaces, AreArguments, AreNexts, AllNexts, after_or, next_of, no_placed, instruction, instruction_of, less_one}
 
 -- what stands at a number of a table
 abbrev by_number : List Placed → ℕ → ℕ → Option Found
@@ -269,3 +269,17 @@ tables_more P old new x i e l h q m g =
 
 pub length_more : (old new : List (List ℕ)) (x : List ℕ) (i : ℕ) → new ≡ old ++ x ∷ [] → length old ≡ i → length new ≡ i + 1
 length_more old new x i e l = ap (length {A = List ℕ}) e ∙ (length_push old x ∙ ap (λ n. n + 1) l)
+
+-- a method that the program lacks returns nothing
+pub returns_all : (p : Program) (units : List ℕ) → length p.methods ≤ length units → length units ≤ length p.methods → ((m : ℕ) → m < length units → get_or units m 0 ≡ return_unit p m) → (m : ℕ) → get_or units m 0 ≡ return_unit p m
+unfolding return_type
+returns_all p units l g h m =
+    elim (cases_lt m (length units)) [
+      | inl low ↦ h m low
+      | inr high ↦
+          let past : get_or p.methods m no_method ≡ no_method = get_or_past p.methods m no_method (omega arith) in
+          rw (past, get_or_past units m 0 high) refl
+    ]
+
+pub return_found : (p q : Program) (m : ℕ) (units : List ℕ) → AreReturns p units → p ≡ q → get_or units m 0 ≡ return_unit q m
+return_found p q m units h e = subst (λ (w : Program). get_or units m 0 ≡ return_unit w m) e (h m)

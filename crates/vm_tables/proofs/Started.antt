@@ -30,7 +30,7 @@ module _ (p : Program) (c : ℕ) (h : length p.classes ≤ c) where
 
 -- ---- whole tables
 
-table_all : {A B : Type 0} (view : A → B) (f : ℕ → B) (d : A) (xs : List A) (m n : ℕ) → length xs ≡ n → m ≤ n → ((c : ℕ) → c < n → view (get_or xs c d) ≡ f c) → ((c : ℕ) → m ≤ c → f c ≡ view d) → (c : ℕ) → view (get_or xs c d) ≡ f c
+pub table_all : {A B : Type 0} (view : A → B) (f : ℕ → B) (d : A) (xs : List A) (m n : ℕ) → length xs ≡ n → m ≤ n → ((c : ℕ) → c < n → view (get_or xs c d) ≡ f c) → ((c : ℕ) → m ≤ c → f c ≡ view d) → (c : ℕ) → view (get_or xs c d) ≡ f c
 table_all view f d xs m n l k g h c = elim (cases_lt c n) [
   | inl i ↦ g c i
   | inr i ↦ ap view (get_or_past xs c d (omega arith)) ∙ sym (h c (omega arith))

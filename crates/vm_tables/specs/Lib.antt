@@ -1,3 +1,4 @@
+pub mod Above
 pub mod FieldPlaces
 pub mod Interfaces
 pub mod Numbers

@@ -90,7 +90,11 @@ fn gather(p: &Program, interface: u32, noted: &mut IndexSet<u32>) -> Result<(), 
 }
 
 /// The interfaces that a class or interface reaches by its own entries.
-fn own_interfaces(alloc: Global, p: &Program, class: u32) -> Result<IndexSet<u32>, NoMemory>
+pub(crate) fn own_interfaces(
+    alloc: Global,
+    p: &Program,
+    class: u32,
+) -> Result<IndexSet<u32>, NoMemory>
     requires linked { Linked p.now }
     requires there { IsClass p.now class }
     ensures { IfOk result (λ found. found.keys ≡ classes.own_interfaces p.now class) }

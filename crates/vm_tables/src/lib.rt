@@ -1,6 +1,7 @@
 //! What a step asks of a program, one index away.
 #![tactic(auto)]
 
+mod above;
 mod field_places;
 mod interfaces;
 mod numbers;

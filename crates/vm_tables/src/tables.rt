@@ -5,16 +5,19 @@ ghost use Rattle.jvm_model.specs.Classes as classes;
 ghost use Rattle.jvm_model.specs.Classes.{found_of, method_at, layout};
 ghost use Rattle.jvm_model.specs.Initialise.{parts_of};
 ghost use Rattle.jvm_model.specs.RowsCalls.{argument_count};
-ghost use Rattle.jvm_model.specs.Linked.{IsBody, Linked};
-ghost use Rattle.vm_tables.specs.Numbers.{code_of, instruction_of, AllNexts, AreArguments, AreCells, AreNexts, AreNumbers, ArePlaces};
+ghost use Rattle.jvm_model.specs.Linked.{IsBody, Linked, first_or};
+ghost use Rattle.jvm_model.specs.Kinds as kinds;
+ghost use Rattle.jvm_model.specs.Selection.{all_interfaces};
+ghost use Rattle.vm_tables.specs.Numbers.{code_of, instruction_of, AllNexts, AreArguments, AreCells, AreNexts, AreNumbers, ArePlaces, AreReturns, return_unit};
 ghost use Rattle.vm_tables.specs.Starts.{part_of};
 
+use crate::above::Above;
 use crate::interfaces::DefaultInterfaces;
 use crate::numbers::{nexts_of, numbers_of};
 use crate::parts::{Part, Parts};
 use crate::trivial::TrivialClasses;
 use et_base::{Items, NoMemory};
-use jvm_model::{Instr, MethodRec, Program, parameter_count};
+use jvm_model::{Instr, Kind, MethodRec, Program, parameter_count, return_type};
 use std::alloc::Global;
 use std::marker::Model;
 use std::snapshot::Snapshot;
@@ -26,10 +29,12 @@ pub struct Tables {
     numbers: Items<Items<u16>>,
     nexts: Items<Items<u16>>,
     arguments: Items<usize>,
+    returns: Items<u16>,
     cells: Items<usize>,
     defaults: DefaultInterfaces,
     trivial: TrivialClasses,
     parts: Parts,
+    above: Above,
     program: Snapshot<Program>,
 }
 
@@ -41,7 +46,7 @@ impl Model for Tables {
 
     ghost view = { λ t. t.program.value };
 
-    ghost invariant = { λ t. AreTables t.program.value t.numbers t.nexts t.arguments t.cells t.defaults t.trivial t.parts };
+    ghost invariant = { λ t. AreTables t.program.value t.numbers t.nexts t.arguments t.returns t.cells t.defaults t.trivial t.parts t.above };
 }
 
 impl Tables {
@@ -53,15 +58,18 @@ impl Tables {
         let defaults = DefaultInterfaces::of(alloc, p)?;
         let trivial = TrivialClasses::of(alloc, p, &defaults)?;
         let parts = Parts::of(alloc, p, &defaults, &trivial)?;
+        let above = Above::of(alloc, p)?;
         let (numbers, nexts) = all_places(alloc, p)?;
         Ok(Tables {
             numbers,
             nexts,
             arguments: all_arguments(alloc, p)?,
+            returns: all_returns(alloc, p)?,
             cells: all_cells(alloc, p)?,
             defaults,
             trivial,
             parts,
+            above,
             program: Snapshot::of(p),
         })
     }
@@ -74,6 +82,18 @@ impl Tables {
         match self.arguments.get(method as usize) {
             None => 0,
             Some(count) => *count,
+        }
+    }
+
+    /// The first unit of the type that a method returns (JVMS 4.3.3), to which a returned value is narrowed; 0 where its
+    /// descriptor lacks one.
+    #[tactic(auto, using(crate::proofs::Places::return_found))]
+    pub fn return_unit(&self, method: u32) -> u16
+        ensures { result ≡ return_unit self.now method }
+    {
+        match self.returns.get(method as usize) {
+            None => 0,
+            Some(unit) => *unit,
         }
     }
 
@@ -108,6 +128,51 @@ impl Tables {
         ensures { map part_of result.now ≡ parts_of self.now class }
     {
         self.parts.get(class)
+    }
+
+    /// The interfaces that a class or interface reaches by its own entries, each behind its own superinterfaces (this
+    /// project's order).
+    pub fn own_interfaces(&self, class: u32) -> &[u32]
+        ensures { result.now ≡ classes.own_interfaces self.now class }
+    {
+        self.above.own_interfaces(class)
+    }
+
+    /// The superinterfaces of a class or interface, those of its superclasses among them, each once.
+    pub fn interfaces(&self, class: u32) -> &[u32]
+        ensures { result.now ≡ all_interfaces self.now class }
+    {
+        self.above.interfaces(class)
+    }
+
+    /// Whether a class is another one or below it (JVMS 4.10.1.2).
+    pub fn is_below(&self, class: u32, above: u32) -> bool
+        ensures { result ≡ classes.is_below self.now class above }
+    {
+        self.above.is_below(class, above)
+    }
+
+    /// Whether a class or one above it implements an interface (JVMS 6.5, instanceof).
+    pub fn implements(&self, class: u32, interface: u32) -> bool
+        ensures { result ≡ classes.implements self.now class interface }
+    {
+        self.above.implements(class, interface)
+    }
+
+    /// Whether an instance of a class or interface is one of another: that is the same, above it, or implemented by it
+    /// (JVMS 6.5, checkcast).
+    pub fn class_fits(&self, class: u32, other: u32) -> bool
+        ensures { result ≡ kinds.class_fits self.now class other }
+    {
+        self.above.class_fits(class, other)
+    }
+
+    /// Whether an object of one kind is an instance of another (JVMS 6.5, instanceof and aastore). At run time an array
+    /// implements no interface.
+    pub fn kind_fits(&self, kind: Kind, other: Kind) -> bool
+        ensures { result ≡ kinds.kind_fits self.now kind other }
+    {
+        self.above.kind_fits(kind, other)
     }
 
     /// The number of the instruction at a byte place of a method's code, from 0. With `instruction_of` of the program's
@@ -217,6 +282,28 @@ fn all_arguments(alloc: Global, p: &Program) -> Result<Items<usize>, NoMemory>
         arguments.push(parameter_count(method.descriptor.as_slice()))?;
     }
     Ok(arguments)
+}
+
+/// The first unit of a descriptor, 0 of none.
+fn first_unit(descriptor: &[u16]) -> u16
+    ensures { result ≡ first_or 0 descriptor.now }
+{
+    match descriptor {
+        [] => 0,
+        [unit, ..] => *unit,
+    }
+}
+
+/// The first unit of the type that each method returns.
+#[tactic(auto, using(crate::proofs::Places::returns_all))]
+fn all_returns(alloc: Global, p: &Program) -> Result<Items<u16>, NoMemory>
+    ensures { IfOk result (λ units. AreReturns p.now units) }
+{
+    let mut units = Items::new(alloc);
+    for method in p.methods.as_slice() {
+        units.push(first_unit(return_type(method.descriptor.as_slice())))?;
+    }
+    Ok(units)
 }
 
 /// Each class's number of cells.
