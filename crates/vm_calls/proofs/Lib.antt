@@ -1,0 +1,5 @@
+pub mod Choosing
+pub mod Entered
+pub mod Kept
+pub mod Returned
+pub mod Using

@@ -1,0 +1,73 @@
+-- Returns touch nothing, and take the value on top.
+use Rattle.std.proofs.Common.{◌≡◌, ℕ, List, [], ◌∷◌, ◌<◌, length, slice_get, Option, Some, None, refl, sym, ◌∙◌, ap, arith}
+use Rattle.jvm_model.specs.declared.values.Value.{Value}
+use Rattle.jvm_model.specs.declared.values.Value.TheVariants.{Int, Long, Null, Lit, Obj}
+use Rattle.jvm_model.specs.declared.values.Touch.{Touch}
+use Rattle.jvm_model.specs.declared.instr.Sort.{Sort}
+use Rattle.jvm_model.specs.declared.instr.Instr.TheVariants as form
+use Rattle.jvm_model.specs.declared.state.EntryKind.{EntryKind}
+use Rattle.jvm_model.specs.declared.state.EntryKind.TheVariants.{Absent, InMethod, InClass}
+use Rattle.jvm_model.specs.declared.program.Program.{Program}
+use Rattle.jvm_model.specs.World.{World}
+use Rattle.jvm_model.specs.Access.{Access}
+use Rattle.jvm_model.specs.Classes.{method_at}
+use Rattle.jvm_model.specs.Descriptors.{return_type}
+use Rattle.jvm_model.specs.Entries.{Entries, popped_entry}
+use Rattle.jvm_model.specs.Linked.{first_or}
+use Rattle.jvm_model.specs.Narrow.{narrow, narrowed}
+use Rattle.jvm_model.specs.Rows.{Answer, popping}
+use Rattle.jvm_model.specs.RowsReturn.{row_return, hands_on, handed_on}
+use Rattle.jvm_model.specs.View.{touched, IsSafe, IsRow}
+use Rattle.vm_tables.specs.Numbers.{return_unit}
+
+handed_touches : (k : EntryKind) (p : Program) (vs : List Value) (s : Entries) (w : World) (ts : List Touch) → touched (handed_on k p vs s) w ts ≡ ts
+handed_touches Absent p vs s w ts = refl
+handed_touches InMethod p [] s w ts = refl
+handed_touches InMethod p (v ∷ vs) s w ts = refl
+handed_touches (InClass b) p vs s w ts = refl
+
+hands_touches : (p : Program) (vs : List Value) (s : Entries) (w : World) (ts : List Touch) → touched (hands_on p vs s) w ts ≡ ts
+unfolding hands_on
+hands_touches p vs s w ts = handed_touches (popped_entry s).top.kind p vs (popped_entry s) w ts
+
+popping_touches : (vs : List Value) (k : Value → List Value → Access (Answer Entries)) (w : World) (ts : List Touch) → ((v : Value) (us : List Value) → touched (k v us) w ts ≡ ts) → touched (popping vs k) w ts ≡ ts
+popping_touches [] k w ts f = refl
+popping_touches (v ∷ vs) k w ts f = f v vs
+
+pub return_touches : (p : Program) (o : Option Sort) (s : Entries) (w : World) (ts : List Touch) → touched (row_return p (form.Return o) s) w ts ≡ ts
+unfolding row_return
+return_touches p None s w ts = hands_touches p [] s w ts
+return_touches p (Some x) s w ts = popping_touches s.top.stack _ w ts (λ v us. hands_touches p _ s w ts)
+
+there : (vs : List Value) (k : Value → List Value → Access (Answer Entries)) (w : World) → IsSafe IsRow (popping vs k) w → 0 < length vs
+there [] k w h = absurd h
+there (v ∷ vs) k w h = omega arith
+
+-- where a value is returned there is one
+pub value_there : (p : Program) (x : Sort) (s : Entries) (w : World) → IsSafe IsRow (row_return p (form.Return (Some x)) s) w → 0 < length s.top.stack
+unfolding row_return
+value_there p x s w h = there s.top.stack _ w h
+
+narrow_first : (d : List ℕ) (v : Value) → narrow (first_or 0 d) v ≡ narrowed d v
+unfolding narrow
+narrow_first [] (Int n) = refl
+narrow_first [] (Long n) = refl
+narrow_first [] Null = refl
+narrow_first [] (Lit n) = refl
+narrow_first [] (Obj o) = refl
+narrow_first (u ∷ us) v = refl
+
+taken : (vs : List Value) (v : Value) (k : Value → Access (Answer Entries)) → slice_get vs 0 ≡ Some v → popping vs (λ u us. k u) ≡ k v
+taken [] v k e = absurd (cc)
+taken (u ∷ us) v k e = let same : u ≡ v = cc in ap k same
+
+-- the value on top is narrowed and handed on
+pub value_handed : (p : Program) (x : Sort) (s : Entries) (v : Value) → slice_get s.top.stack 0 ≡ Some v → row_return p (form.Return (Some x)) s ≡ hands_on p (narrow (return_unit p s.top.number) v ∷ []) s
+unfolding row_return
+value_handed p x s v e =
+    taken s.top.stack v (λ u. hands_on p (narrowed (return_type (method_at p s.top.number).descriptor) u ∷ []) s) e
+    ∙ ap (λ u. hands_on p (u ∷ []) s) (sym (narrow_first (return_type (method_at p s.top.number).descriptor) v))
+
+pub none_handed : (p : Program) (s : Entries) → row_return p (form.Return None) s ≡ hands_on p [] s
+unfolding row_return
+none_handed p s = refl

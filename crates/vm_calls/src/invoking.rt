@@ -1,0 +1,274 @@
+//! The four invoke forms (JVMS 6.5).
+#![tactic(auto, unfolding(jvm_model::specs::RowsCalls::row_calls))]
+
+ghost use Rattle.std.specs.Prelude.{◌≡◌, ◌<◌, IfOk, OnOk, length};
+ghost use Rattle.jvm_model.specs.World.{World};
+ghost use Rattle.jvm_model.specs.RowsCalls.{argument_count};
+ghost use Rattle.jvm_model.specs.declared.instr.Instr.TheVariants as form;
+ghost use Rattle.vm_mem.specs.Meets.{IsReady, Meets, Tells};
+ghost use Rattle.vm_calls.specs.Calls.{call_row, kind_row, object_row};
+
+use crate::entering::{enter_choice, enter_method, receiver};
+use crate::selections::Selections;
+use class_init::{Use, begin_use};
+use et_base::NoMemory;
+use jvm_model::{Instr, Kind, NULL_POINTER_EXCEPTION, Next, Program, Value};
+use std::alloc::Global;
+use vm_frames::FrameStack;
+use vm_mem::Memory;
+use vm_tables::Tables;
+
+/// Makes the step of an invoke form. A method with code gets its frame, which costs its greatest depth and its locals
+/// besides the 1 of the step; a built-in method is still to run, over the operands as they are, and nothing is counted.
+/// Both answer Enter. Where the step throws it counts nothing, and it answers Over where its cost is above the units left.
+/// The only error is want of memory.
+pub fn call<M: Memory>(
+    alloc: Global,
+    stack: &mut FrameStack,
+    memory: &mut M,
+    p: &Program,
+    tables: &Tables,
+    selections: &mut Selections,
+    form: &Instr,
+    left: &mut u64,
+) -> Result<Next, NoMemory>
+    requires program { p.now ≡ M.program memory.old }
+    requires tables { tables.now ≡ M.program memory.old }
+    requires selections { selections.old ≡ M.program memory.old }
+    requires row { IsReady (call_row form.now)
+        (M.program memory.old) (M.world memory.old) stack.old }
+    ensures meets { IfOk result (λ x. Meets (call_row form.now)
+        (M.program memory.old) (M.world memory.old) stack.old left.old
+        x stack.new (M.world memory.new) left.new) }
+    ensures told { IfOk result (λ x. Tells (call_row form.now)
+        (M.program memory.old) (M.world memory.old) stack.old
+        x M.follows memory.old memory.new) }
+    ensures of { OnOk result (M.program memory.new ≡ M.program memory.old) }
+    ensures kept { selections.new ≡ selections.old }
+{
+    match form {
+        Instr::InvokeStatic { method } => invoke_static(stack, memory, p, tables, *method, left),
+        Instr::InvokeVirtual { named, method } => invoke_virtual(
+            alloc, stack, memory, p, tables, selections, *named, *method, left,
+        ),
+        Instr::InvokeInterface { named, method } => invoke_interface(
+            alloc, stack, memory, p, tables, selections, *named, *method, left,
+        ),
+        Instr::InvokeSpecial { named, method } => invoke_special(
+            alloc, stack, memory, p, tables, selections, *named, *method, left,
+        ),
+        _ => unreachable!(),
+    }
+}
+
+/// Uses the class that declares a static method and enters the method.
+#[tactic(auto, using(crate::proofs::Entered::calls_touches, crate::proofs::Entered::calls_there), unfolding(jvm_model::specs::RowsCalls::row_calls))]
+pub fn invoke_static<M: Memory>(
+    stack: &mut FrameStack,
+    memory: &mut M,
+    p: &Program,
+    tables: &Tables,
+    method: u32,
+    left: &mut u64,
+) -> Result<Next, NoMemory>
+    requires program { p.now ≡ M.program memory.old }
+    requires tables { tables.now ≡ M.program memory.old }
+    requires row { IsReady (call_row (form.InvokeStatic method))
+        (M.program memory.old) (M.world memory.old) stack.old }
+    ensures meets { IfOk result (λ x. Meets (call_row (form.InvokeStatic method))
+        (M.program memory.old) (M.world memory.old) stack.old left.old
+        x stack.new (M.world memory.new) left.new) }
+    ensures told { IfOk result (λ x. Tells (call_row (form.InvokeStatic method))
+        (M.program memory.old) (M.world memory.old) stack.old
+        x M.follows memory.old memory.new) }
+    ensures of { OnOk result (M.program memory.new ≡ M.program memory.old) }
+{
+    match begin_use(stack, memory, tables, p.method_class(method), left)? {
+        Use::Ready => enter_method(stack, p, method, tables.arguments(method), left),
+        Use::Begun => Ok(Next::Go),
+        Use::Fault { class } => Ok(Next::Fault { class }),
+        Use::Over => Ok(Next::Over),
+    }
+}
+
+/// Enters the method that is selected on an instance of a kind.
+fn enter_selected(
+    alloc: Global,
+    stack: &mut FrameStack,
+    p: &Program,
+    tables: &Tables,
+    selections: &mut Selections,
+    interface: Option<u32>,
+    method: u32,
+    kind: Kind,
+    left: &mut u64,
+) -> Result<Next, NoMemory>
+    requires tables { tables.now ≡ p.now }
+    requires selections { selections.old ≡ p.now }
+    requires arguments { argument_count p.now method < length stack.old.top.stack }
+    requires few { argument_count p.now method < 65535 }
+    ensures meets { IfOk result (λ x. (w : World) → Meets (kind_row interface method kind)
+        p.now w stack.old left.old x stack.new w left.new) }
+    ensures kept { selections.new ≡ selections.old }
+{
+    let choice = selections.dispatch(alloc, p, tables, interface, method, kind.class())?;
+    enter_choice(stack, p, choice, tables.arguments(method) + 1, left)
+}
+
+/// Calls a method on the object below the arguments; an interface is named by invokeinterface.
+#[tactic(auto, using(crate::proofs::Entered::selected_touches, crate::proofs::Entered::object_there))]
+fn invoke_on_object<M: Memory>(
+    alloc: Global,
+    stack: &mut FrameStack,
+    memory: &mut M,
+    p: &Program,
+    tables: &Tables,
+    selections: &mut Selections,
+    interface: Option<u32>,
+    method: u32,
+    left: &mut u64,
+) -> Result<Next, NoMemory>
+    requires program { p.now ≡ M.program memory.old }
+    requires tables { tables.now ≡ M.program memory.old }
+    requires selections { selections.old ≡ M.program memory.old }
+    requires row { IsReady (object_row interface method)
+        (M.program memory.old) (M.world memory.old) stack.old }
+    ensures meets { IfOk result (λ x. Meets (object_row interface method)
+        (M.program memory.old) (M.world memory.old) stack.old left.old
+        x stack.new (M.world memory.new) left.new) }
+    ensures told { IfOk result (λ x. Tells (object_row interface method)
+        (M.program memory.old) (M.world memory.old) stack.old
+        x M.follows memory.old memory.new) }
+    ensures of { OnOk result (M.program memory.new ≡ M.program memory.old) }
+    ensures kept { selections.new ≡ selections.old }
+{
+    match receiver(stack, tables.arguments(method)) {
+        Value::Obj(object) => {
+            let head = memory.head(object)?;
+            enter_selected(
+                alloc, stack, p, tables, selections, interface, method, head.kind, left,
+            )
+        }
+        Value::Lit(literal) => {
+            let kind = Kind::of_constant(literal);
+            enter_selected(
+                alloc, stack, p, tables, selections, interface, method, kind, left,
+            )
+        }
+        Value::Null => Ok(Next::Fault {
+            class: NULL_POINTER_EXCEPTION,
+        }),
+        Value::Int(_) => unreachable!(),
+        Value::Long(_) => unreachable!(),
+    }
+}
+
+/// Calls the method that is selected by the class of the object below the arguments: a private method is the one that is
+/// named; another is the first of its name and descriptor upwards, or a default method. Null throws. It reads the
+/// object's head.
+pub fn invoke_virtual<M: Memory>(
+    alloc: Global,
+    stack: &mut FrameStack,
+    memory: &mut M,
+    p: &Program,
+    tables: &Tables,
+    selections: &mut Selections,
+    named: Kind,
+    method: u32,
+    left: &mut u64,
+) -> Result<Next, NoMemory>
+    requires program { p.now ≡ M.program memory.old }
+    requires tables { tables.now ≡ M.program memory.old }
+    requires selections { selections.old ≡ M.program memory.old }
+    requires row { IsReady (call_row (form.InvokeVirtual named method))
+        (M.program memory.old) (M.world memory.old) stack.old }
+    ensures meets { IfOk result (λ x. Meets (call_row (form.InvokeVirtual named method))
+        (M.program memory.old) (M.world memory.old) stack.old left.old
+        x stack.new (M.world memory.new) left.new) }
+    ensures told { IfOk result (λ x. Tells (call_row (form.InvokeVirtual named method))
+        (M.program memory.old) (M.world memory.old) stack.old
+        x M.follows memory.old memory.new) }
+    ensures of { OnOk result (M.program memory.new ≡ M.program memory.old) }
+    ensures kept { selections.new ≡ selections.old }
+{
+    invoke_on_object(
+        alloc, stack, memory, p, tables, selections, None, method, left,
+    )
+}
+
+/// The same of a method of an interface: an object whose class doesn't implement the interface that is named throws
+/// IncompatibleClassChangeError, unless the method is private.
+pub fn invoke_interface<M: Memory>(
+    alloc: Global,
+    stack: &mut FrameStack,
+    memory: &mut M,
+    p: &Program,
+    tables: &Tables,
+    selections: &mut Selections,
+    named: u32,
+    method: u32,
+    left: &mut u64,
+) -> Result<Next, NoMemory>
+    requires program { p.now ≡ M.program memory.old }
+    requires tables { tables.now ≡ M.program memory.old }
+    requires selections { selections.old ≡ M.program memory.old }
+    requires row { IsReady (call_row (form.InvokeInterface named method))
+        (M.program memory.old) (M.world memory.old) stack.old }
+    ensures meets { IfOk result (λ x. Meets (call_row (form.InvokeInterface named method))
+        (M.program memory.old) (M.world memory.old) stack.old left.old
+        x stack.new (M.world memory.new) left.new) }
+    ensures told { IfOk result (λ x. Tells (call_row (form.InvokeInterface named method))
+        (M.program memory.old) (M.world memory.old) stack.old
+        x M.follows memory.old memory.new) }
+    ensures of { OnOk result (M.program memory.new ≡ M.program memory.old) }
+    ensures kept { selections.new ≡ selections.old }
+{
+    let interface = Some(named);
+    invoke_on_object(
+        alloc, stack, memory, p, tables, selections, interface, method, left,
+    )
+}
+
+/// Calls a method without regard to the object's class: `<init>` is the one that is named; another is looked for from the
+/// named class upwards, or from the direct superclass of the current class where the named one is an ancestor of it. Null
+/// throws. It touches nothing.
+#[tactic(auto, using(crate::proofs::Entered::selected_touches, crate::proofs::Entered::reference_there), unfolding(jvm_model::specs::RowsCalls::row_calls))]
+pub fn invoke_special<M: Memory>(
+    alloc: Global,
+    stack: &mut FrameStack,
+    memory: &mut M,
+    p: &Program,
+    tables: &Tables,
+    selections: &mut Selections,
+    named: Kind,
+    method: u32,
+    left: &mut u64,
+) -> Result<Next, NoMemory>
+    requires program { p.now ≡ M.program memory.old }
+    requires tables { tables.now ≡ M.program memory.old }
+    requires selections { selections.old ≡ M.program memory.old }
+    requires row { IsReady (call_row (form.InvokeSpecial named method))
+        (M.program memory.old) (M.world memory.old) stack.old }
+    ensures meets { IfOk result (λ x. Meets (call_row (form.InvokeSpecial named method))
+        (M.program memory.old) (M.world memory.old) stack.old left.old
+        x stack.new (M.world memory.new) left.new) }
+    ensures told { IfOk result (λ x. Tells (call_row (form.InvokeSpecial named method))
+        (M.program memory.old) (M.world memory.old) stack.old
+        x M.follows memory.old memory.new) }
+    ensures of { OnOk result (M.program memory.new ≡ M.program memory.old) }
+    ensures kept { selections.new ≡ selections.old }
+{
+    let arguments = tables.arguments(method);
+    match receiver(stack, arguments) {
+        Value::Obj(_) | Value::Lit(_) => {
+            let current = p.method_class(stack.number());
+            let choice = selections.dispatch_special(alloc, p, tables, current, named, method)?;
+            enter_choice(stack, p, choice, arguments + 1, left)
+        }
+        Value::Null => Ok(Next::Fault {
+            class: NULL_POINTER_EXCEPTION,
+        }),
+        Value::Int(_) => unreachable!(),
+        Value::Long(_) => unreachable!(),
+    }
+}

@@ -1,0 +1,5 @@
+pub mod Seen
+pub mod Turns
+pub mod Driving
+pub mod Rows
+pub mod Reaching

@@ -1,0 +1,18 @@
+//! The machine: the state of a test beside the world, its step, and the steps of a whole test.
+#![tactic(auto)]
+
+mod concluding;
+mod driving;
+mod judging;
+mod lookup;
+mod raising;
+mod rows;
+mod running;
+mod state;
+mod stepping;
+mod turned;
+
+pub use running::run;
+pub use state::State;
+pub use stepping::step;
+pub use turned::Turned;

@@ -1,0 +1,64 @@
+//! The state of a test beside the world.
+
+ghost use Rattle.std.specs.Prelude.{◌≡◌, IfOk};
+ghost use Rattle.jvm_model.specs.State as states;
+ghost use Rattle.vm_run.specs.Seen.{seen};
+
+use et_base::{NoMemory, Text};
+use jvm_model::{Own, Program, Stage, TestEntry, Value};
+use std::alloc::Global;
+use vm_frames::FrameStack;
+
+/// The state of a running test beside the world: its number, its entries, where its driver is, the throwable that is
+/// being raised, and what it has of its own.
+#[derive(Drop)]
+pub struct State {
+    pub test: u32,
+    pub frames: FrameStack,
+    pub stage: Stage,
+    pub raised: Option<Value>,
+    pub own: Own,
+}
+
+impl State {
+    /// The state in which a test starts: no entries, and nothing printed.
+    pub fn start(alloc: Global, p: &Program, test: u32) -> Result<State, NoMemory>
+        ensures { IfOk result (λ s. seen s ≡ states.started p.now test) }
+    {
+        let entry = test_entry(p, test);
+        Ok(State {
+            test,
+            frames: FrameStack::new(alloc),
+            stage: Stage::First,
+            raised: None,
+            own: Own {
+                output: Text::new(alloc),
+                clock: entry.clock,
+                random: entry.seed,
+            },
+        })
+    }
+}
+
+/// The test of a number from 1.
+pub fn test_entry(p: &Program, test: u32) -> TestEntry
+    ensures { result ≡ states.test_at p.now test }
+{
+    let none = TestEntry {
+        class: 0,
+        method: 0,
+        clock: 0,
+        seed: 0,
+        budget: 0,
+    };
+    if test == 0 {
+        return match p.tests.get(0) {
+            None => none,
+            Some(entry) => *entry,
+        };
+    }
+    match p.tests.get((test - 1) as usize) {
+        None => none,
+        Some(entry) => *entry,
+    }
+}
