@@ -1,10 +1,18 @@
-pub mod Worlds
-pub mod Runs
-pub mod Combinators
-pub mod Rows
-pub mod Driver
-pub mod PlainRows
-pub mod ObjectRows
-pub mod Natives
-pub mod Nested
-pub mod Initialise
+mod Worlds
+mod Runs
+mod Combinators
+mod Rows
+mod PlainRows
+mod ObjectRows
+mod Nested
+mod Initialise
+mod Driver
+mod Natives
+pub mod Tree
+pub mod Grow
+pub mod WorldKept
+pub mod TreeRuns
+pub mod Held
+pub mod Arrive
+pub mod Operands
+pub mod Ready
