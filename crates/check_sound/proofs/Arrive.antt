@@ -80,14 +80,14 @@ own_methods : list_all (λ c. list_all (λ x. nat_lt x 102) c.methods) builtin_c
 unfolding builtin_classes builtin_defs
 own_methods = refl
 
-counted_at : (n : ℕ) (xs : List ℕ) → count n xs ≡ 1 → (k : ℕ) × (slice_get xs k ≡ Some n)
+pub counted_at : (n : ℕ) (xs : List ℕ) → count n xs ≡ 1 → (k : ℕ) × (slice_get xs k ≡ Some n)
 counted_at n [] e = absurd (cc)
 counted_at n (x ∷ xs) e = elim (cases_Bool (nat_eq n x)) [
   | inl q ↦ (0, ap {B = Option ℕ} (λ y. Some y) (sym (eqb-true n x q)))
   | inr q ↦ let r = counted_at n xs (rw q at e) in (suc r.0, r.1)
 ]
 
-slice_get_drop : {X : Type 0} (xs : List X) (n k : ℕ) → slice_get (drop n xs) k ≡ slice_get xs (n + k)
+pub slice_get_drop : {X : Type 0} (xs : List X) (n k : ℕ) → slice_get (drop n xs) k ≡ slice_get xs (n + k)
 slice_get_drop xs zero k = let z : 0 + k ≡ k = omega arith in ap (slice_get xs) (sym z)
 slice_get_drop [] (suc n) k = refl
 slice_get_drop (x ∷ xs) (suc n) k = let z : suc n + k ≡ suc (n + k) = omega arith in slice_get_drop xs n k ∙ ap (slice_get (x ∷ xs)) (sym z)
@@ -96,7 +96,7 @@ no_body : {A : Type 0} {b : A} (o : Option A) → is_none o ≡ true → o ≡ S
 no_body None e q = cc
 no_body (Some x) e q = cc
 
-all_at_index : (f : ℕ → Bool) (xs : List ℕ) (k n : ℕ) → list_all f xs ≡ true → slice_get xs k ≡ Some n → f n ≡ true
+pub all_at_index : (f : ℕ → Bool) (xs : List ℕ) (k n : ℕ) → list_all f xs ≡ true → slice_get xs k ≡ Some n → f n ≡ true
 all_at_index f [] k n e q = absurd (cc)
 all_at_index f (x ∷ xs) zero n e q = let z : x ≡ n = cc in subst (λ (y : ℕ). f y ≡ true) z (and_parts _ _ e).0
 all_at_index f (x ∷ xs) (suc k) n e q = all_at_index f xs k n (and_parts _ _ e).1 q

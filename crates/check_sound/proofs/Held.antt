@@ -67,6 +67,13 @@ module _ {p : Program} {w : World} {e : Environment} where
   pub long_on : {n : ℤ} {ts : List VType} {vs : List Value} → Held p w e ts vs → Held p w e (Top ∷ Long ∷ ts) (value.Long n ∷ vs)
   long_on h = record { types = (tt, h.types); range = (tt, h.range) }
 
+  pub long_top : {ts : List VType} {v : Value} {vs : List Value} → Is p w e Long v → Held p w e ts vs → Held p w e (Top ∷ Long ∷ ts) (v ∷ vs)
+  long_top {v = value.Long n} i h = record { types = (tt, h.types); range = (tt, h.range) }
+  long_top {v = value.Int n} i h = absurd i.type
+  long_top {v = value.Null} i h = absurd i.type
+  long_top {v = value.Lit n} i h = absurd i.type
+  long_top {v = value.Obj n} i h = absurd i.type
+
   pub nothing_held : Held p w e [] []
   nothing_held = record { types = refl; range = tt }
 

@@ -16,3 +16,10 @@ pub mod Held
 pub mod Arrive
 pub mod Operands
 pub mod Ready
+pub mod Onward
+pub mod Thrown
+pub mod Blank
+pub mod Ends
+pub mod MoveRows
+pub mod ArithRows
+pub mod BranchRows

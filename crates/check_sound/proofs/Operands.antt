@@ -43,9 +43,10 @@ pub rest_of : {p : Program} {w : World} {e : Environment} {ts rest : List VType}
 rest_of {p = p} {w = w} {e = e} {vs = vs} o = subst (λ (ts : List VType). Held p w e ts vs) o.left o.held
 
 -- the top operand, of one place
-record Popped (p : Program) (w : World) (e : Environment) (ns : List Need) (n : Need) (rest : List VType) (v : Value) (vs : List Value) : Type 0 where
+record Popped (p : Program) (w : World) (e : Environment) (ns : List Need) (n : Need) (ts rest : List VType) (v : Value) (vs : List Value) : Type 0 where
   type : VType
   below : List VType
+  seen : ts ≡ type ∷ below
   is : Is p w e type v
   met : meets p n type ≡ true
   short : IsShort v
@@ -72,13 +73,13 @@ module _ (p : Program) (w : World) (e : Environment) where
   not_long Top n ts i vs q m h = no_top n q m
   not_long _ n ts i vs q m h = h
 
-  one_popped : (n : Need) (ns : List Need) (t : VType) (ts rest : List VType) (v : Value) (vs : List Value) → IsShort v → Is p w e t v → Held p w e ts vs → Operands p w e (n ∷ ns) (t ∷ ts) rest (v ∷ vs) → Popped p w e ns n rest v vs
+  one_popped : (n : Need) (ns : List Need) (t : VType) (ts rest : List VType) (v : Value) (vs : List Value) → IsShort v → Is p w e t v → Held p w e ts vs → Operands p w e (n ∷ ns) (t ∷ ts) rest (v ∷ vs) → Popped p w e ns n (t ∷ ts) rest v vs
   one_popped n ns t ts rest v vs s i h o =
       let q : suc (length ns) ≤ suc (length ts) = o.enough in
       let m = and_parts _ _ o.met in
-      record { type = t; below = ts; is = i; met = m.0; short = s; operands = record { enough = omega arith; met = m.1; left = o.left; held = h } }
+      record { type = t; below = ts; seen = refl; is = i; met = m.0; short = s; operands = record { enough = omega arith; met = m.1; left = o.left; held = h } }
 
-  popped : (n : Need) (ns : List Need) (ts rest : List VType) (v : Value) (vs : List Value) → IsPop n → Operands p w e (n ∷ ns) ts rest (v ∷ vs) → Popped p w e ns n rest v vs
+  popped : (n : Need) (ns : List Need) (ts rest : List VType) (v : Value) (vs : List Value) → IsPop n → Operands p w e (n ∷ ns) ts rest (v ∷ vs) → Popped p w e ns n ts rest v vs
   popped n ns (t ∷ ts) rest (value.Int a) vs i o = one_popped n ns t ts rest (value.Int a) vs tt (record { type = o.held.types.0; range = o.held.range.0 }) (record { types = o.held.types.1; range = o.held.range.1 }) o
   popped n ns (t ∷ ts) rest value.Null vs i o = one_popped n ns t ts rest value.Null vs tt (record { type = o.held.types.0; range = o.held.range.0 }) (record { types = o.held.types.1; range = o.held.range.1 }) o
   popped n ns (t ∷ ts) rest (value.Lit a) vs i o = one_popped n ns t ts rest (value.Lit a) vs tt (record { type = o.held.types.0; range = o.held.range.0 }) (record { types = o.held.types.1; range = o.held.range.1 }) o
@@ -100,16 +101,26 @@ module _ (p : Program) (w : World) (e : Environment) where
   lower UninitThis us vs m h = cc
   lower (Uninit a) us vs m h = cc
 
+  is_long_type : (u : VType) → meets p (Fits Long) u ≡ true → u ≡ Long
+  is_long_type Long m = refl
+  is_long_type Top m = absurd (cc)
+  is_long_type Int m = absurd (cc)
+  is_long_type Null m = absurd (cc)
+  is_long_type (Object a) m = absurd (cc)
+  is_long_type UninitThis m = absurd (cc)
+  is_long_type (Uninit a) m = absurd (cc)
+
   -- a long on top, which takes two places
-  record LongPopped (ns : List Need) (rest : List VType) (v : Value) (vs : List Value) : Type 0 where
+  record LongPopped (ns : List Need) (ts rest : List VType) (v : Value) (vs : List Value) : Type 0 where
     below : List VType
+    seen : ts ≡ Top ∷ Long ∷ below
     is : Is p w e Long v
     operands : Operands p w e ns below rest vs
 
-  long_popped : (ns : List Need) (ts rest : List VType) (v : Value) (vs : List Value) → Operands p w e (Half ∷ Fits Long ∷ ns) ts rest (v ∷ vs) → LongPopped ns rest v vs
+  long_popped : (ns : List Need) (ts rest : List VType) (v : Value) (vs : List Value) → Operands p w e (Half ∷ Fits Long ∷ ns) ts rest (v ∷ vs) → LongPopped ns ts rest v vs
   long_popped ns (Top ∷ u ∷ ts) rest (value.Long a) vs o =
       let q : suc (suc (length ns)) ≤ suc (suc (length ts)) = o.enough in
-      record { below = ts; is = record { type = tt; range = tt };
+      record { below = ts; seen = ap {B = List VType} (λ x. Top ∷ x ∷ ts) (is_long_type u (and_parts (meets p (Fits Long) u) (meet_all p ns ts) (and_parts (meets p Half Top) (meets p (Fits Long) u && meet_all p ns ts) o.met).1).0); is = record { type = tt; range = tt };
         operands = record { enough = omega arith; met = (and_parts (meets p (Fits Long) u) (meet_all p ns ts) (and_parts (meets p Half Top) (meets p (Fits Long) u && meet_all p ns ts) o.met).1).1; left = o.left; held = record { types = o.held.types.1; range = o.held.range.1 } } }
   long_popped ns (t ∷ u ∷ ts) rest (value.Int a) vs o = absurd (lower u ts vs (and_parts _ _ (and_parts _ _ o.met).1).0 o.held.types.1)
   long_popped ns (t ∷ u ∷ ts) rest value.Null vs o = absurd (lower u ts vs (and_parts _ _ (and_parts _ _ o.met).1).0 o.held.types.1)
@@ -145,6 +156,17 @@ refers_nullable p w a (value.Obj o) h = tt
 
 -- what comes after an operand, for answers of any sort
 module _ (p : Program) {S : Type 0} (P : World → Answer S → Type 0) (w : World) where
+  -- an operand of one place, and the types with it on top
+  pub popping-seen : {e : Environment} (n : Need) {ns : List Need} {ts rest : List VType} {vs : List Value} {k : Value → List Value → Access (Answer S)} → IsPop n → Operands p w e (n ∷ ns) ts rest vs
+      → ((v : Value) (ws : List Value) (t : VType) (us : List VType) → ts ≡ t ∷ us → Is p w e t v → IsShort v → meets p n t ≡ true → Operands p w e ns us rest ws → Tree p P w (k v ws)) → Tree p P w (popping vs k)
+  popping-seen {e = e} n {ns = ns} {ts = ts} {rest = rest} {vs = []} i o r = absurd (none_there p w e n ns ts rest o)
+  popping-seen {e = e} n {ns = ns} {ts = ts} {rest = rest} {vs = v ∷ ws} i o r = let x = popped p w e n ns ts rest v ws i o in r v ws x.type x.below x.seen x.is x.short x.met x.operands
+
+  pub popping-long-seen : {e : Environment} {ns : List Need} {ts rest : List VType} {vs : List Value} {k : Value → List Value → Access (Answer S)} → Operands p w e (Half ∷ Fits Long ∷ ns) ts rest vs
+      → ((v : Value) (ws : List Value) (us : List VType) → ts ≡ Top ∷ Long ∷ us → Is p w e Long v → Operands p w e ns us rest ws → Tree p P w (k v ws)) → Tree p P w (popping vs k)
+  popping-long-seen {e = e} {ns = ns} {ts = ts} {rest = rest} {vs = []} o r = absurd (none_there p w e Half (Fits Long ∷ ns) ts rest o)
+  popping-long-seen {e = e} {ns = ns} {ts = ts} {rest = rest} {vs = v ∷ ws} o r = let x = long_popped p w e ns ts rest v ws o in r v ws x.below x.seen x.is x.operands
+
   -- an operand of one place
   pub popping-typed : {e : Environment} (n : Need) {ns : List Need} {ts rest : List VType} {vs : List Value} {k : Value → List Value → Access (Answer S)} → IsPop n → Operands p w e (n ∷ ns) ts rest vs
       → ((v : Value) (ws : List Value) (t : VType) (us : List VType) → Is p w e t v → IsShort v → meets p n t ≡ true → Operands p w e ns us rest ws → Tree p P w (k v ws)) → Tree p P w (popping vs k)

@@ -285,8 +285,12 @@ sides_at {p} {w} {s} {i} r = sides p (here r) s.top.pc r.types i
 abbrev pub then : {p : Program} {w : World} {s : Entries} {i : Instr} → Ready p w s i → Slots
 then r = after r.types (sides_at r)
 
+-- the types below what the instruction takes
+abbrev pub rest : {p : Program} {w : World} {s : Entries} {i : Instr} → Ready p w s i → List VType
+rest r = drop (length (sides_at r).takes) r.types.stack
+
 -- the operands that the instruction takes
-pub operands : {p : Program} {w : World} {s : Entries} {i : Instr} (r : Ready p w s i) → Operands p w (here r) (sides_at r).takes r.types.stack (drop (length (sides_at r).takes) r.types.stack) s.top.stack
+pub operands : {p : Program} {w : World} {s : Entries} {i : Instr} (r : Ready p w s i) → Operands p w (here r) (sides_at r).takes r.types.stack (rest r) s.top.stack
 operands r = record { enough = leb-true _ _ (and_parts _ _ r.kept.one).0; met = r.kept.two; left = refl; held = r.stack }
 
 module _ (p : Program) (ty : IsTyped p) where
@@ -317,7 +321,7 @@ module _ (p : Program) (ty : IsTyped p) where
 
 module _ (p : Program) (ty : IsTyped p) {w : World} {s : Entries} {i : Instr} (r : Ready p w s i) where
   -- entries with another top frame of the same method over the same rest
-  frame : (raised : Option Value) (pc : ℕ) (vs ls : List Value) → IsTop p w raised InMethod (record { kind = InMethod; number = s.top.number; pc = pc; stack = vs; locals = ls }) → Ranged p w vs → Ranged p w ls
+  pub frame : (raised : Option Value) (pc : ℕ) (vs ls : List Value) → IsTop p w raised InMethod (record { kind = InMethod; number = s.top.number; pc = pc; stack = vs; locals = ls }) → Ranged p w vs → Ranged p w ls
       → TypedEntries p w raised (record { top = record { kind = s.top.kind; number = s.top.number; pc = pc; stack = vs; locals = ls }; below = s.below })
   frame raised pc vs ls t v l = subst (λ (k : EntryKind). TypedEntries p w raised (record { top = record { kind = k; number = s.top.number; pc = pc; stack = vs; locals = ls }; below = s.below })) (sym r.kind)
       (closed raised (record { kind = InMethod; number = s.top.number; pc = pc; stack = vs; locals = ls }) tt t v l r.rest)
@@ -353,6 +357,11 @@ module _ (p : Program) (ty : IsTyped p) {w : World} {s : Entries} {i : Instr} (r
   -- the frame stands, whatever its operands
   pub standing : (vs : List Value) → Stands p w (record { kind = InMethod; number = s.top.number; pc = s.top.pc; stack = vs; locals = s.top.locals })
   standing vs = record { body = r.body; given = r.given; index = r.index; instruction = record { pc = s.top.pc; form = i }; types = r.types; has_code = r.has_code; has_frames = r.has_frames; there = r.there; place = refl; known = r.known; locals = r.locals.types }
+
+  -- the frame may be tried again
+  pub again_typed : TypedEntries p w None s
+  unfolding standing
+  again_typed = frame None s.top.pc s.top.stack s.top.locals (record { stands = standing s.top.stack; operands = r.stack.types }) r.stack.range r.locals.range
 
   -- something is raised in the frame
   pub raised_typed : (v : Value) (vs : List Value) → Ranged p w vs → TypedEntries p w (Some v) (with_stack s vs)

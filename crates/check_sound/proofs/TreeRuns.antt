@@ -24,7 +24,7 @@ alike_itself w = record { sizes = refl; heads = λ o. refl; states = λ c. refl 
 alike_then : (u v w : World) → Alike u v → Alike v w → Alike u w
 alike_then u v w a b = record { sizes = a.sizes ∙ b.sizes; heads = λ o. a.heads o ∙ b.heads o; states = λ c. a.states c ∙ b.states c }
 
-state_same : (w : World) (c d : ℕ) (s : InitState) → has w (place.Init c) ≡ true → same (place.Init d) (place.Init c) ≡ true → at (put w (place.Init c) s) (place.Init d) ≡ s
+pub state_same : (w : World) (c d : ℕ) (s : InitState) → has w (place.Init c) ≡ true → same (place.Init d) (place.Init c) ≡ true → at (put w (place.Init c) s) (place.Init d) ≡ s
 state_same w c d s h e = by d (same_true (place.Init d) (place.Init c) e)
   where
     number : {a b : ℕ} → place.Init a ≡ place.Init b → a ≡ b

@@ -1,0 +1,108 @@
+-- The rows of whole-number arithmetic.
+use Rattle.std.proofs.Common.{◌≡◌, ℕ, ℤ, zero, suc, ◌+◌, ◌<◌, ◌≤◌, List, [], ◌∷◌, ◌++◌, length, drop, Bool, true, false, cond, pos, Option, Some, None, slice_get, refl, sym, ◌∙◌, ap, subst}
+use Rattle.std.specs.Ordering.{int_eq}
+use Rattle.jvm_model.specs.declared.values.Value.{Value}
+use Rattle.jvm_model.specs.declared.values.Value.TheVariants as value
+use Rattle.jvm_model.specs.declared.instr.Instr.{Instr}
+use Rattle.jvm_model.specs.declared.instr.Instr.TheVariants as form
+use Rattle.jvm_model.specs.declared.instr.Op.{Op}
+use Rattle.jvm_model.specs.declared.instr.Op.TheVariants as op
+use Rattle.jvm_model.specs.declared.instr.Conv.{Conv}
+use Rattle.jvm_model.specs.declared.instr.Conv.TheVariants as conv
+use Rattle.jvm_model.specs.declared.program.Program.{Program}
+use Rattle.jvm_model.specs.World.{World}
+use Rattle.jvm_model.specs.Access.{Access}
+use Rattle.jvm_model.specs.Builtin.{arithmetic_exception}
+use Rattle.jvm_model.specs.Entries.{Entries, with_stack}
+use Rattle.jvm_model.specs.Rows.{Answer}
+use Rattle.jvm_model.specs.RowsArith.{divides, shifts, of_ints, of_longs, unless_zero, two_ints, two_longs, long_by_int, row_arith}
+use Rattle.type_frames.specs.declared.sides.Need.{Need}
+use Rattle.type_frames.specs.declared.sides.Need.TheVariants.{Fits, Half}
+use Rattle.type_frames.specs.declared.vtype.VType.TheVariants.{Top, Int, Long}
+use Rattle.type_frames.specs.Sides.{sides, second_need, int_need, long_need}
+use Rattle.type_frames.specs.Typing.{IsTyped}
+use Rattle.check_sound.proofs.Tree.{Tree, typed_done}
+use Rattle.check_sound.proofs.Held.{Is, Held, int_on, long_on}
+use Rattle.check_sound.proofs.Operands.{Operands, rest_of, popping-fits, popping-long, on_int-typed, on_long-typed, choose-typed}
+use Rattle.check_sound.proofs.Ready.{Ends, Row, Ready, here, rest, operands, on}
+use Rattle.check_sound.proofs.Ends.{fault_typed}
+use Rattle.check_sound.proofs.Thrown.{arithmetic_thrown}
+
+module _ (p : Program) {w : World} where
+  -- division by 0 throws
+  by_zero : (x : Op) (b : ℤ) {t u : Access (Answer Entries)} → Row p w t → Row p w u → Row p w (cond (divides x) (cond (int_eq b (pos 0)) t u) u)
+  by_zero x b f g = choose-typed p (Ends p) w (divides x) (λ e. choose-typed p (Ends p) w (int_eq b (pos 0)) (λ e. f) (λ e. g)) (λ e. g)
+
+-- the upper operand's needs
+ints_needed : (x : Op) → second_need x false ≡ int_need
+ints_needed op.Shl = refl
+ints_needed op.Shr = refl
+ints_needed op.Ushr = refl
+ints_needed op.Add = refl
+ints_needed op.Sub = refl
+ints_needed op.Mul = refl
+ints_needed op.Div = refl
+ints_needed op.Rem = refl
+ints_needed op.And = refl
+ints_needed op.Or = refl
+ints_needed op.Xor = refl
+
+long_needed : (x : Op) → second_need x true ≡ cond (shifts x) int_need long_need
+long_needed op.Shl = refl
+long_needed op.Shr = refl
+long_needed op.Ushr = refl
+long_needed op.Add = refl
+long_needed op.Sub = refl
+long_needed op.Mul = refl
+long_needed op.Div = refl
+long_needed op.Rem = refl
+long_needed op.And = refl
+long_needed op.Or = refl
+long_needed op.Xor = refl
+
+module _ (p : Program) (ty : IsTyped p) {w : World} {s : Entries} where
+  two_ints-typed : (x : Op) (r : Ready p w s (form.Binary x false)) → Operands p w (here r) (Fits Int ∷ Fits Int ∷ []) r.types.stack (rest r) s.top.stack → Row p w (two_ints p x s)
+  unfolding sides
+  two_ints-typed x r q = popping-fits p (Ends p) w ty.linked Int tt q (λ v vs us h sv o. popping-fits p (Ends p) w ty.linked Int tt o (λ u ws ts g su n.
+      on_int-typed p (Ends p) w v h (λ b. on_int-typed p (Ends p) w u g (λ a.
+      by_zero p x b (typed_done (fault_typed p ty r arithmetic_exception ws (arithmetic_thrown p ty.linked) (rest_of n).range))
+        (on p ty r refl r.locals (int_on (rest_of n)))))))
+
+  two_longs-typed : (x : Op) (r : Ready p w s (form.Binary x true)) → Operands p w (here r) (Half ∷ Fits Long ∷ Half ∷ Fits Long ∷ []) r.types.stack (rest r) s.top.stack → Row p w (two_longs p x s)
+  unfolding sides
+  two_longs-typed x r q = popping-long p (Ends p) w q (λ v vs us h o. popping-long p (Ends p) w o (λ u ws ts g n.
+      on_long-typed p (Ends p) w v h (λ b. on_long-typed p (Ends p) w u g (λ a.
+      by_zero p x b (typed_done (fault_typed p ty r arithmetic_exception ws (arithmetic_thrown p ty.linked) (rest_of n).range))
+        (on p ty r refl r.locals (long_on (rest_of n)))))))
+
+  long_by_int-typed : (x : Op) (r : Ready p w s (form.Binary x true)) → Operands p w (here r) (Fits Int ∷ Half ∷ Fits Long ∷ []) r.types.stack (rest r) s.top.stack → Row p w (long_by_int p x s)
+  unfolding sides
+  long_by_int-typed x r q = popping-fits p (Ends p) w ty.linked Int tt q (λ v vs us h sv o. popping-long p (Ends p) w o (λ u ws ts g n.
+      on_int-typed p (Ends p) w v h (λ b. on_long-typed p (Ends p) w u g (λ a. on p ty r refl r.locals (long_on (rest_of n))))))
+
+  pub binary : (x : Op) (wide : Bool) → Ready p w s (form.Binary x wide) → Row p w (row_arith p (form.Binary x wide) s)
+  unfolding row_arith sides
+  binary x false r = two_ints-typed x r (subst (λ (ns : List Need). Operands p w (here r) (ns ++ int_need) r.types.stack (rest r) s.top.stack) (ints_needed x) (operands r))
+  binary x true r =
+      let o = subst (λ (ns : List Need). Operands p w (here r) (ns ++ long_need) r.types.stack (rest r) s.top.stack) (long_needed x) (operands r) in
+      choose-typed p (Ends p) w (shifts x)
+        (λ e. long_by_int-typed x r (subst (λ (b : Bool). Operands p w (here r) (cond b int_need long_need ++ long_need) r.types.stack (rest r) s.top.stack) e o))
+        (λ e. two_longs-typed x r (subst (λ (b : Bool). Operands p w (here r) (cond b int_need long_need ++ long_need) r.types.stack (rest r) s.top.stack) e o))
+
+  pub neg : (wide : Bool) → Ready p w s (form.Neg wide) → Row p w (row_arith p (form.Neg wide) s)
+  unfolding row_arith sides
+  neg false r = popping-fits p (Ends p) w ty.linked Int tt (operands r) (λ v vs us h sv o. on_int-typed p (Ends p) w v h (λ a. on p ty r refl r.locals (int_on (rest_of o))))
+  neg true r = popping-long p (Ends p) w (operands r) (λ v vs us h o. on_long-typed p (Ends p) w v h (λ a. on p ty r refl r.locals (long_on (rest_of o))))
+
+  pub compare : Ready p w s form.Compare → Row p w (row_arith p form.Compare s)
+  unfolding row_arith sides
+  compare r = popping-long p (Ends p) w (operands r) (λ v vs us h o. popping-long p (Ends p) w o (λ u ws ts g n.
+      on_long-typed p (Ends p) w v h (λ b. on_long-typed p (Ends p) w u g (λ a. on p ty r refl r.locals (int_on (rest_of n))))))
+
+  pub convert : (x : Conv) → Ready p w s (form.Convert x) → Row p w (row_arith p (form.Convert x) s)
+  unfolding row_arith sides
+  convert conv.I2l r = popping-fits p (Ends p) w ty.linked Int tt (operands r) (λ v vs us h sv o. on_int-typed p (Ends p) w v h (λ a. on p ty r refl r.locals (long_on (rest_of o))))
+  convert conv.L2i r = popping-long p (Ends p) w (operands r) (λ v vs us h o. on_long-typed p (Ends p) w v h (λ a. on p ty r refl r.locals (int_on (rest_of o))))
+  convert conv.I2b r = popping-fits p (Ends p) w ty.linked Int tt (operands r) (λ v vs us h sv o. on_int-typed p (Ends p) w v h (λ a. on p ty r refl r.locals (int_on (rest_of o))))
+  convert conv.I2c r = popping-fits p (Ends p) w ty.linked Int tt (operands r) (λ v vs us h sv o. on_int-typed p (Ends p) w v h (λ a. on p ty r refl r.locals (int_on (rest_of o))))
+  convert conv.I2s r = popping-fits p (Ends p) w ty.linked Int tt (operands r) (λ v vs us h sv o. on_int-typed p (Ends p) w v h (λ a. on p ty r refl r.locals (int_on (rest_of o))))
