@@ -20,6 +20,7 @@ pub mod Onward
 pub mod Thrown
 pub mod Blank
 pub mod Ends
+pub mod Instances
 pub mod MoveRows
 pub mod ArithRows
 pub mod BranchRows
