@@ -15,6 +15,7 @@ use Rattle.jvm_model.specs.Access.{Access}
 use Rattle.jvm_model.specs.Entries.{Entries}
 use Rattle.jvm_model.specs.Linked.{IsPlace}
 use Rattle.jvm_model.specs.Rows.{Answer, goes_to}
+use Rattle.jvm_model.specs.Step.{group_of, branches}
 use Rattle.jvm_model.specs.RowsBranches.{row_branches, holds, goes_if, table_target, lookup_target, flag_is, same_reference, is_null}
 use Rattle.type_frames.specs.declared.sides.Need.TheVariants.{Fits, Ref}
 use Rattle.type_frames.specs.declared.vtype.VType.TheVariants.{Int}
@@ -95,3 +96,13 @@ module _ (p : Program) (ty : IsTyped p) {w : World} {s : Entries} where
       popping-fits p (Ends p) w ty.linked Int tt (operands r) (λ v vs us h sv o. on_int-typed p (Ends p) w v h (λ n.
       let x = found ps other n in
       to p ty r (lookup_target ps other n) x.0 (x.1 (λ to. IsPlace r.body to) f.1 f.2) r.locals (rest_of o)))
+
+  pub branches-typed : (i : Instr) → group_of i ≡ branches → Ready p w s i → Row p w (row_branches p i s)
+  branches-typed (form.IfZero x at) g r = if_zero x at r
+  branches-typed (form.IfInts x at) g r = if_ints x at r
+  branches-typed (form.IfRefs x at) g r = if_refs x at r
+  branches-typed (form.IfNull x at) g r = if_null x at r
+  branches-typed (form.Goto at) g r = goto at r
+  branches-typed (form.Table low ts other) g r = table low ts other r
+  branches-typed (form.Lookup ps other) g r = lookup ps other r
+  branches-typed _ g r = absurd (cc)

@@ -21,6 +21,7 @@ pub mod Thrown
 pub mod Blank
 pub mod Ends
 pub mod Instances
+pub mod Wide
 pub mod MoveRows
 pub mod ArithRows
 pub mod BranchRows

@@ -27,7 +27,7 @@ use Rattle.jvm_model.specs.declared.program.MethodRec.{MethodRec}
 use Rattle.jvm_model.specs.Classes.{method_at, is_below, is_static, form_at, next_place}
 use Rattle.jvm_model.specs.Descriptors.{parameters, return_type}
 use Rattle.jvm_model.specs.Entries.{Entry, Entries, all_entries, entry_limit, with_stack, with_place}
-use Rattle.jvm_model.specs.Linked.{Linked, IsPlace, IsForm}
+use Rattle.jvm_model.specs.Linked.{Linked, IsPlace, IsForm, NamesForm, NamesBody, IsFormKind, IsBodyKind, IsFormFound}
 use Rattle.jvm_model.specs.Rows.{Answer, answer, no_row, goes_on, goes_to}
 use Rattle.type_frames.specs.declared.vtype.VType.{VType}
 use Rattle.type_frames.specs.declared.vtype.VType.TheVariants.{Top, Int, Long, Object}
@@ -38,13 +38,13 @@ use Rattle.type_frames.specs.Given.{given_frames}
 use Rattle.type_frames.specs.Descriptors.{types_of, name_of}
 use Rattle.type_frames.specs.Environment.{Environment, environment_of, is_target, leads}
 use Rattle.type_frames.specs.Sides.{sides}
-use Rattle.type_frames.specs.Rules.{after, fits_at}
+use Rattle.type_frames.specs.Rules.{after, fits_at, all_read, can_set}
 use Rattle.type_frames.specs.Typing.{before, IsTyped}
 use Rattle.type_frames.specs.TypedState.{IsInRange, RefersTo, HasType, Stands, Goes, Waits, Initialises, IsPushedBy, IsTop, IsBelow, AllBelow, class_begun, values_of, IsThrowable}
 use Rattle.check_sound.proofs.Tree.{Tree, typed_done, Over}
 use Rattle.check_sound.proofs.Grow.{Ranged, ranged_over, types_over, stack_over}
 use Rattle.check_sound.proofs.Held.{Is, Locals, Held, locals_over, held_over}
-use Rattle.check_sound.proofs.Arrive.{Kept, kept_at, is_body, form_here, arrived_at, arrived_next, placed_at, leads_target}
+use Rattle.check_sound.proofs.Arrive.{Kept, has_number, kept_at, is_body, form_here, arrived_at, arrived_next, placed_at, leads_target}
 use Rattle.check_sound.proofs.Operands.{Operands}
 
 -- ---- entries
@@ -293,6 +293,13 @@ rest r = drop (length (sides_at r).takes) r.types.stack
 pub operands : {p : Program} {w : World} {s : Entries} {i : Instr} (r : Ready p w s i) → Operands p w (here r) (sides_at r).takes r.types.stack (rest r) s.top.stack
 operands r = record { enough = leb-true _ _ (and_parts _ _ r.kept.one).0; met = r.kept.two; left = refl; held = r.stack }
 
+-- the locals that the instruction reads and sets
+pub reads_kept : {p : Program} {w : World} {s : Entries} {i : Instr} (r : Ready p w s i) → all_read p r.body.max_locals r.types.locals (sides_at r).reads ≡ true
+reads_kept {p = p} r = (and_parts (all_read p r.body.max_locals r.types.locals (sides_at r).reads) (can_set r.body.max_locals (sides_at r).sets) r.kept.three).0
+
+pub sets_kept : {p : Program} {w : World} {s : Entries} {i : Instr} (r : Ready p w s i) → can_set r.body.max_locals (sides_at r).sets ≡ true
+sets_kept {p = p} r = (and_parts (all_read p r.body.max_locals r.types.locals (sides_at r).reads) (can_set r.body.max_locals (sides_at r).sets) r.kept.three).1
+
 module _ (p : Program) (ty : IsTyped p) where
   -- a frame that goes on is ready, at the instruction of its place
   pub ready : {w : World} (s : Entries) → s.top.kind ≡ InMethod → TypedEntries p w None s → (i : Instr) × (form_at p s.top.number s.top.pc ≡ Some i) × Ready p w s i
@@ -337,6 +344,16 @@ module _ (p : Program) (ty : IsTyped p) {w : World} {s : Entries} {i : Instr} (r
 
   pub is_form : IsForm r.body i
   is_form = all_placed (λ x. IsForm r.body x.form) r.body.code r.index (record { pc = s.top.pc; form = i }) (is_body p ty s.top.number r.body r.given r.has_code r.has_frames).forms r.there
+
+  -- what the program says of the instruction: the numbers in it, their kinds, and what the look-up finds
+  pub names_form : NamesForm p i
+  names_form = all_placed (λ x. NamesForm p x.form) r.body.code r.index (record { pc = s.top.pc; form = i }) (subst (λ (o : Option Body). IfSome o (λ b. NamesBody p b)) r.has_code (ty.linked.numbers.bodies s.top.number (has_number p ty s.top.number r.body r.has_code))).forms r.there
+
+  pub form_kind : IsFormKind p (method_at p s.top.number).class i
+  form_kind = all_placed (λ x. IsFormKind p (method_at p s.top.number).class x.form) r.body.code r.index (record { pc = s.top.pc; form = i }) (subst (λ (o : Option Body). IfSome o (λ b. IsBodyKind p (method_at p s.top.number).class b)) r.has_code (ty.linked.kinds.bodies s.top.number (has_number p ty s.top.number r.body r.has_code))).forms r.there
+
+  pub form_found : IsFormFound p i
+  form_found = all_placed (λ x. IsFormFound p x.form) r.body.code r.index (record { pc = s.top.pc; form = i }) (subst (λ (o : Option Body). IfSome o (λ b. All (λ x. IsFormFound p x.form) b.code)) r.has_code (ty.linked.members.bodies s.top.number (has_number p ty s.top.number r.body r.has_code))) r.there
 
   -- the frame goes on at a place that the instruction leads to
   pub at_typed : {vs : List Value} (to : ℕ) → list_any (λ m. nat_eq m to) (leads i) ≡ true → IsPlace r.body to → Locals p w (here r) (then r).locals s.top.locals → Held p w (here r) (then r).stack vs
