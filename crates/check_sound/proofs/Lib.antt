@@ -25,3 +25,4 @@ pub mod Wide
 pub mod MoveRows
 pub mod ArithRows
 pub mod BranchRows
+pub mod RaiseRows

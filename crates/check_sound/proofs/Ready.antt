@@ -72,7 +72,7 @@ pub record Rest (p : Program) (w : World) (k : EntryKind) (n : ℕ) (fs : List E
   pub few : length fs < entry_limit
   pub apart : IsDistinct nat_eq (class_begun (stub k n) ++ flat_map class_begun fs)
 
-below_same : (p : Program) (w : World) (a b : Entry) → a.number ≡ b.number → a.kind ≡ b.kind → (fs : List Entry) → AllBelow p w a fs → AllBelow p w b fs
+pub below_same : (p : Program) (w : World) (a b : Entry) → a.number ≡ b.number → a.kind ≡ b.kind → (fs : List Entry) → AllBelow p w a fs → AllBelow p w b fs
 below_same p w a b e k [] h = tt
 below_same p w a b e k (f ∷ fs) h = (subst (λ (j : EntryKind). IsBelow p w f f.kind b j) k (by f.kind a.kind h.0), h.1)
   where
