@@ -1,15 +1,16 @@
 -- What an instance of a class is, by name and by number.
-use Rattle.std.proofs.Common.{◌≡◌, ◌⊎◌, ℕ, zero, suc, ◌<◌, ◌≤◌, List, [], ◌∷◌, ◌++◌, drop, replicate, Bool, true, false, not, ◌&&◌, ◌||◌, cond, nat_eq, Option, Some, None, refl, sym, ◌∙◌, ap, subst, arith, inl, inr}
+use Rattle.std.proofs.Common.{◌≡◌, ◌⊎◌, ℕ, zero, suc, ◌<◌, ◌≤◌, List, [], ◌∷◌, ◌++◌, length, get_or, drop, replicate, Bool, true, false, not, ◌&&◌, ◌||◌, cond, nat_eq, Option, Some, None, refl, sym, ◌∙◌, ap, subst, arith, inl, inr}
 use Rattle.std.specs.Str.{bytes_eq}
-use Rattle.std.proofs.lemmas.Bool.{cases_Bool, and_parts, or_cases, or_left, or_right, eqb-true, eq-eqb}
+use Rattle.std.proofs.lemmas.Bool.{cases_Bool, cases_lt, and_parts, or_cases, or_left, or_right, eqb-true, eq-eqb}
 use Rattle.jvm_model.specs.declared.values.Kind.{Kind}
 use Rattle.jvm_model.specs.declared.values.Kind.TheVariants as kind
 use Rattle.jvm_model.specs.declared.values.Base.{Base}
 use Rattle.jvm_model.specs.declared.program.Program.{Program}
 use Rattle.jvm_model.specs.Builtin.{object_class}
-use Rattle.jvm_model.specs.Classes.{class_at, is_below, is_interface}
+use Rattle.jvm_model.specs.Classes.{class_at, is_below, is_interface, member, no_class}
+use Rattle.jvm_model.specs.declared.program.ClassRec.{ClassRec}
 use Rattle.jvm_model.specs.Linked.{Linked, IsClass, IsKind, is_interface_at}
-use Rattle.jvm_model.proofs.Upwards.{below_same}
+use Rattle.jvm_model.proofs.Upwards.{below_same, upwards_root}
 use Rattle.et_base.specs.Names.{is_class_name, is_class_entry_name, starts_array, is_field_descriptor}
 use Rattle.type_frames.specs.declared.vtype.VType.TheVariants.{Object}
 use Rattle.type_frames.specs.Descriptors.{name_of, kind_name, base_text}
@@ -66,6 +67,24 @@ module _ (p : Program) (lk : Linked p) where
   unfolding class_fits
   below_instance c d h g b = plain_fits (name_of p c) (name_of p d) (plain_name c h) (plain_name d g)
       ∙ or_right (bytes_eq (name_of p c) (name_of p d)) (takes_any p (name_of p d) || extends p (name_of p c) (name_of p d)) (or_right (takes_any p (name_of p d)) (extends p (name_of p c) (name_of p d)) (named_below c d h g ∙ b))
+
+  -- a number that names no class is below itself alone
+  below_class : (c d : ℕ) → IsClass p d → is_below p c d ≡ true → IsClass p c
+  unfolding is_below
+  below_class c d g b = elim (cases_lt c (length p.classes)) [
+    | inl l ↦ l
+    | inr n ↦ absurd (
+        let q : member d (c ∷ []) ≡ true = sym (ap (member d) (upwards_root p lk c (no_superclass p.classes c n))) ∙ b in
+        elim (or_cases (nat_eq d c) false q) as (λ x. ⊥) [ | inl e ↦ (let z = eqb-true d c e in let h : d < length p.classes = g in omega arith) | inr e ↦ absurd (cc) ])
+  ]
+    where
+      no_superclass : (cs : List ClassRec) (c : ℕ) → length cs ≤ c → (get_or cs c no_class).superclass ≡ None
+      no_superclass [] c h = refl
+      no_superclass (x ∷ cs) zero h = absurd (omega arith)
+      no_superclass (x ∷ cs) (suc c) h = no_superclass cs c (omega arith)
+
+  pub below_is : (c d : ℕ) → IsClass p d → is_below p c d ≡ true → IsInstance p (kind.Class c) (name_of p d)
+  below_is c d g b = below_instance c d (below_class c d g b) g b
 
   of_class : (c d : ℕ) → IsClass p c → IsClass p d → takes_every p d ≡ false → class_fits p (name_of p c) (name_of p d) ≡ true → is_below p c d ≡ true
   unfolding class_fits

@@ -26,3 +26,5 @@ pub mod MoveRows
 pub mod ArithRows
 pub mod BranchRows
 pub mod RaiseRows
+pub mod CallSides
+pub mod ReturnRows
