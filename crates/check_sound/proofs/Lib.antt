@@ -28,3 +28,5 @@ pub mod BranchRows
 pub mod RaiseRows
 pub mod CallSides
 pub mod ReturnRows
+pub mod Arguments
+pub mod CallRows
