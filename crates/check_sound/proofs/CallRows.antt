@@ -24,7 +24,7 @@ use Rattle.jvm_model.specs.Access.{Access}
 use Rattle.jvm_model.specs.Builtin.{abstract_method_error, stack_overflow_error, null_pointer_exception}
 use Rattle.jvm_model.specs.Classes.{method_at, class_at, is_static, is_below, init_name, clinit_name}
 use Rattle.jvm_model.specs.Descriptors.{parameters, return_type}
-use Rattle.jvm_model.specs.Entries.{Entry, Entries, all_entries, is_full, entry_limit, with_stack, with_entry, frame_of, frame_cost, called}
+use Rattle.jvm_model.specs.Entries.{Entry, Entries, all_entries, is_full, entry_limit, with_stack, with_entry, frame_of, frame_cost, called, slots_of}
 use Rattle.jvm_model.specs.Linked.{Linked, IsClass, IsMethod, IsKind}
 use Rattle.jvm_model.specs.Rows.{Answer, answer, constant_kind}
 use Rattle.jvm_model.specs.RowsCalls.{enters_body, enters_native, calls, calls_selected, argument_count, on_receiver, receiver, call_virtual, call_interface, call_special, row_calls}
@@ -149,3 +149,104 @@ module _ (p : Program) (ty : IsTyped p) {w : World} {s : Entries} {i : Instr} (r
       by None None hx hb = typed_done (fault_typed p ty r abstract_method_error s.top.stack (abstract_thrown p ty.linked) r.stack.range)
       by None (Some b) hx hb = choose-typed p (Ends p) w (is_full s) (λ e. typed_done (fault_typed p ty r stack_overflow_error s.top.stack (overflow_thrown p ty.linked) r.stack.range))
           (λ e. typed_spend (typed_done (subst (λ (y : Option Native). Enters p w m y (called b m n s)) (sym hx) (called_typed named m n b c q a hb e))))
+
+-- ---- the receiver
+
+short_slots : (w : World) (e : Environment) (p : Program) (x : VType) (ts : List VType) (v : Value) (vs : List Value) → places_of x ≡ x ∷ [] → IsShort v → HasType p w e x v → HaveTypes p w e (spread ts) (slots_of vs) → HaveTypes p w e (spread (x ∷ ts)) (slots_of (v ∷ vs))
+short_slots w e p x ts v vs q s h g = subst (λ (xs : List VType). HaveTypes p w e (xs ++ spread ts) (slots_of (v ∷ vs))) (sym q) (by v s h)
+  where
+    by : (v : Value) → IsShort v → HasType p w e x v → HaveTypes p w e (x ∷ spread ts) (slots_of (v ∷ vs))
+    by (value.Int n) s h = (h, g)
+    by value.Null s h = (h, g)
+    by (value.Lit n) s h = (h, g)
+    by (value.Obj n) s h = (h, g)
+    by (value.Long n) s h = absurd s
+
+-- the type of `this` in a method that isn't static
+abbrev pub this_type : Program → MethodRec → VType
+this_type p m = cond (is_constructor m) UninitThis (Object (name_of p m.class))
+
+this_is : (p : Program) (m : MethodRec) → is_static m.flags ≡ false → this_types p m ≡ this_type p m ∷ []
+this_is p m f = ap (λ (b : Bool). elim b as (λ z. List VType) [ true ↦ [] | false ↦ elim (is_constructor m) as (λ z. List VType) [ true ↦ UninitThis ∷ [] | false ↦ Object (name_of p m.class) ∷ [] ] ]) f ∙ by (is_constructor m)
+  where
+    by : (b : Bool) → elim b as (λ z. List VType) [ true ↦ UninitThis ∷ [] | false ↦ Object (name_of p m.class) ∷ [] ] ≡ cond b UninitThis (Object (name_of p m.class)) ∷ []
+    by true = refl
+    by false = refl
+
+this_place : (p : Program) (m : MethodRec) → places_of (this_type p m) ≡ this_type p m ∷ []
+this_place p m = by (is_constructor m)
+  where
+    by : (b : Bool) → places_of (cond b UninitThis (Object (name_of p m.class))) ≡ cond b UninitThis (Object (name_of p m.class)) ∷ []
+    by true = refl
+    by false = refl
+
+-- the arguments of a call and the receiver below them
+record Received (p : Program) (w : World) {s : Entries} {i : Instr} (r : Ready p w s i) (d : List ℕ) (n : Need) : Type 0 where
+  args : List Value
+  receiver : Value
+  below : List Value
+  type : VType
+  split : s.top.stack ≡ args ++ receiver ∷ below
+  count : length args ≡ length (parameters d)
+  typed : Arguments p w (reverse (parameters d)) args
+  is : Is p w (here r) type receiver
+  met : meets p n type ≡ true
+  short : IsShort receiver
+  held : Held p w (here r) (rest r) below
+
+module _ (p : Program) (ty : IsTyped p) {w : World} {s : Entries} {i : Instr} (r : Ready p w s i) where
+  -- the operands of a call, the arguments of a method of this descriptor first
+  received : (d : List ℕ) (n : Need) → IsPop n → AreTexts (reverse (parameters d)) → Operands p w (here r) (argument_needs d ++ n ∷ []) r.types.stack (rest r) s.top.stack → Received p w r d n
+  received d n k t o =
+      let a = take_args p ty w (here r) (reverse (parameters d)) t (n ∷ []) r.types.stack (rest r) s.top.stack o in
+      by a a.below a.split a.operands
+    where
+      by : (a : Taken p w (here r) (n ∷ []) (rest r) (reverse (parameters d)) s.top.stack) (below : List Value) → s.top.stack ≡ a.args ++ below → Operands p w (here r) (n ∷ []) a.types (rest r) below → Received p w r d n
+      by a [] q o = absurd (none_there p w (here r) n [] a.types (rest r) o)
+      by a (v ∷ vs) q o =
+          let x = popped p w (here r) n [] a.types (rest r) v vs k o in
+          record { args = a.args; receiver = v; below = vs; type = x.type; split = q; count = a.count ∙ length-reverse (parameters d); typed = a.typed; is = x.is; met = x.met; short = x.short; held = rest_of x.operands }
+
+  -- with a receiver for the method m they are those of m
+  passed_to : (d : List ℕ) (n : Need) (m : ℕ) (a : Received p w r d n) → (method_at p m).descriptor ≡ d → is_static (method_at p m).flags ≡ false
+      → ((e : Environment) → e.class ≡ (method_at p m).class → HasType p w e (this_type p (method_at p m)) a.receiver) → RefersTo p w (name_of p (method_at p m).class) a.receiver → Passed p w r m (length (parameters d) + 1)
+  passed_to d n m a q f this refers =
+      let texts = parameters d in
+      let back : Arguments p w texts (reverse a.args) = subst (λ (xs : List (List ℕ)). Arguments p w xs (reverse a.args)) (reverse-reverse texts) (arguments_reverse p w (reverse texts) a.args a.typed) in
+      let turned_args : reverse (a.args ++ a.receiver ∷ []) ≡ a.receiver ∷ reverse a.args = reverse-append a.args (a.receiver ∷ []) in
+      let flat = flat_map types_of texts in
+      let order : flat_map types_of (reverse texts) ≡ reverse flat = one_each_reverse p w texts (reverse a.args) back in
+      let types : operand_types p (method_at p m) ≡ reverse flat ++ Object (name_of p (method_at p m).class) ∷ [] =
+          ap (λ (b : Bool). reverse (cond b [] (Object (name_of p (method_at p m).class) ∷ []) ++ flat_map types_of (parameters (method_at p m).descriptor))) f
+            ∙ (ap (λ (x : List ℕ). reverse (Object (name_of p (method_at p m).class) ∷ flat_map types_of (parameters x))) q ∙ reverse-append (Object (name_of p (method_at p m).class) ∷ []) flat) in
+      let below : Takes p w (Object (name_of p (method_at p m).class) ∷ []) (a.receiver ∷ a.below) a.below = (refers, receiver_range a, refl) in
+      record {
+        args = a.args ++ a.receiver ∷ [];
+        below = a.below;
+        split = a.split ∙ sym (append_assoc a.args (a.receiver ∷ []) a.below);
+        count = (let l = length-append a.args (a.receiver ∷ []) in let c = a.count in omega arith);
+        held = a.held;
+        slots = λ e c. subst (λ (xs : List Value). HaveTypes p w e (spread (entry_types p (method_at p m))) (slots_of xs)) (sym turned_args)
+          (subst (λ (ts : List VType). HaveTypes p w e (spread ts) (slots_of (a.receiver ∷ reverse a.args))) (sym (ap (λ (ts : List VType). ts ++ flat_map types_of (parameters (method_at p m).descriptor)) (this_is p (method_at p m) f) ∙ ap (λ (x : List ℕ). this_type p (method_at p m) ∷ flat_map types_of (parameters x)) q))
+            (short_slots w e p (this_type p (method_at p m)) flat a.receiver (reverse a.args) (this_place p (method_at p m)) a.short (this e c) (text_slots p w e texts (reverse a.args) back)));
+        takes = subst (λ (xs : List Value). Takes p w (operand_types p (method_at p m)) xs a.below) (sym a.split)
+          (subst (λ (ts : List VType). Takes p w ts (a.args ++ a.receiver ∷ a.below) a.below) (sym types)
+            (takes_append p w (reverse flat) (Object (name_of p (method_at p m).class) ∷ []) (a.args ++ a.receiver ∷ a.below) (a.receiver ∷ a.below) a.below
+              (subst (λ (ts : List VType). Takes p w ts (a.args ++ a.receiver ∷ a.below) (a.receiver ∷ a.below)) order (takes_args p w (reverse texts) a.args (a.receiver ∷ a.below) a.typed)) below));
+      }
+    where
+      receiver_range : (a : Received p w r d n) → IsInRange p w a.receiver
+      receiver_range a = a.is.range
+
+  -- the row finds the receiver
+  receiver_is : (d : List ℕ) (n : Need) (m : ℕ) (a : Received p w r d n) → (method_at p m).descriptor ≡ d → receiver p m s ≡ Some a.receiver
+  unfolding argument_count
+  receiver_is d n m a q = ap (λ (x : List ℕ). slice_get s.top.stack (length (parameters x))) q ∙ (ap (λ (xs : List Value). slice_get xs (length (parameters d))) a.split ∙ (ap (slice_get (a.args ++ a.receiver ∷ a.below)) (sym a.count) ∙ at_seam a.args a.receiver a.below))
+    where
+      at_seam : (xs : List Value) (v : Value) (ys : List Value) → slice_get (xs ++ v ∷ ys) (length xs) ≡ Some v
+      at_seam [] v ys = refl
+      at_seam (x ∷ xs) v ys = at_seam xs v ys
+
+  count_is : (m : ℕ) → argument_count p m ≡ length (parameters (method_at p m).descriptor)
+  unfolding argument_count
+  count_is m = refl
