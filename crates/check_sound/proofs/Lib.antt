@@ -8,6 +8,7 @@ mod Nested
 mod Initialise
 mod Driver
 mod Natives
+pub mod SelectLaws
 pub mod Tree
 pub mod Grow
 pub mod WorldKept
