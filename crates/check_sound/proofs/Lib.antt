@@ -31,3 +31,5 @@ pub mod CallSides
 pub mod ReturnRows
 pub mod Arguments
 pub mod CallRows
+pub mod KindNames
+pub mod CastRows
