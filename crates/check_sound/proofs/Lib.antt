@@ -33,3 +33,4 @@ pub mod Arguments
 pub mod CallRows
 pub mod KindNames
 pub mod CastRows
+pub mod CreateRows
