@@ -29,3 +29,5 @@ pub mod BranchRows
 pub mod RaiseRows
 pub mod CallSides
 pub mod ReturnRows
+pub mod Arguments
+pub mod CallRows

@@ -104,7 +104,7 @@ module _ (p : Program) (u w : World) (g : Over u w) where
 pub rest_grows : {p : Program} {u w : World} {k : EntryKind} {n : ℕ} (fs : List Entry) → Grows u w → Rest p u k n fs → Rest p w k n fs
 rest_grows {p = p} {u = u} {w = w} fs g h = rest_kept p u w g.over fs (all_stay u w g.running (flat_map class_begun fs)) h
 
-pub ready_grows : {p : Program} {u w : World} {s : Entries} {i : Instr} → Grows u w → Ready p u s i → Ready p w s i
+unfoldable pub ready_grows : {p : Program} {u w : World} {s : Entries} {i : Instr} → Grows u w → Ready p u s i → Ready p w s i
 ready_grows {s = s} g r = record { body = r.body; given = r.given; index = r.index; types = r.types; has_code = r.has_code; has_frames = r.has_frames; there = r.there; known = r.known; kept = r.kept; kind = r.kind; locals = locals_over g.over r.locals; stack = held_over g.over r.stack; rest = rest_grows s.below g r.rest }
 
 -- entries in a world that goes on

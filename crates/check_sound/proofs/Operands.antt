@@ -43,14 +43,14 @@ pub rest_of : {p : Program} {w : World} {e : Environment} {ts rest : List VType}
 rest_of {p = p} {w = w} {e = e} {vs = vs} o = subst (λ (ts : List VType). Held p w e ts vs) o.left o.held
 
 -- the top operand, of one place
-record Popped (p : Program) (w : World) (e : Environment) (ns : List Need) (n : Need) (ts rest : List VType) (v : Value) (vs : List Value) : Type 0 where
-  type : VType
-  below : List VType
-  seen : ts ≡ type ∷ below
-  is : Is p w e type v
-  met : meets p n type ≡ true
-  short : IsShort v
-  operands : Operands p w e ns below rest vs
+pub record Popped (p : Program) (w : World) (e : Environment) (ns : List Need) (n : Need) (ts rest : List VType) (v : Value) (vs : List Value) : Type 0 where
+  pub type : VType
+  pub below : List VType
+  pub seen : ts ≡ type ∷ below
+  pub is : Is p w e type v
+  pub met : meets p n type ≡ true
+  pub short : IsShort v
+  pub operands : Operands p w e ns below rest vs
 
 module _ (p : Program) (w : World) (e : Environment) where
   no_top : (n : Need) → IsPop n → meets p n Top ≡ true → ⊥
@@ -65,7 +65,7 @@ module _ (p : Program) (w : World) (e : Environment) where
   no_top (Fits Long) i m = i
   no_top (Fits _) i m = cc
 
-  none_there : (n : Need) (ns : List Need) (ts rest : List VType) → Operands p w e (n ∷ ns) ts rest [] → ⊥
+  pub none_there : (n : Need) (ns : List Need) (ts rest : List VType) → Operands p w e (n ∷ ns) ts rest [] → ⊥
   none_there n ns [] rest o = let q : suc (length ns) ≤ 0 = o.enough in omega arith
   none_there n ns (t ∷ ts) rest o = let q : t ∷ ts ≡ [] = o.held.types in absurd (cc)
 
@@ -79,7 +79,7 @@ module _ (p : Program) (w : World) (e : Environment) where
       let m = and_parts _ _ o.met in
       record { type = t; below = ts; seen = refl; is = i; met = m.0; short = s; operands = record { enough = omega arith; met = m.1; left = o.left; held = h } }
 
-  popped : (n : Need) (ns : List Need) (ts rest : List VType) (v : Value) (vs : List Value) → IsPop n → Operands p w e (n ∷ ns) ts rest (v ∷ vs) → Popped p w e ns n ts rest v vs
+  pub popped : (n : Need) (ns : List Need) (ts rest : List VType) (v : Value) (vs : List Value) → IsPop n → Operands p w e (n ∷ ns) ts rest (v ∷ vs) → Popped p w e ns n ts rest v vs
   popped n ns (t ∷ ts) rest (value.Int a) vs i o = one_popped n ns t ts rest (value.Int a) vs tt (record { type = o.held.types.0; range = o.held.range.0 }) (record { types = o.held.types.1; range = o.held.range.1 }) o
   popped n ns (t ∷ ts) rest value.Null vs i o = one_popped n ns t ts rest value.Null vs tt (record { type = o.held.types.0; range = o.held.range.0 }) (record { types = o.held.types.1; range = o.held.range.1 }) o
   popped n ns (t ∷ ts) rest (value.Lit a) vs i o = one_popped n ns t ts rest (value.Lit a) vs tt (record { type = o.held.types.0; range = o.held.range.0 }) (record { types = o.held.types.1; range = o.held.range.1 }) o
@@ -111,13 +111,13 @@ module _ (p : Program) (w : World) (e : Environment) where
   is_long_type (Uninit a) m = absurd (cc)
 
   -- a long on top, which takes two places
-  record LongPopped (ns : List Need) (ts rest : List VType) (v : Value) (vs : List Value) : Type 0 where
-    below : List VType
-    seen : ts ≡ Top ∷ Long ∷ below
-    is : Is p w e Long v
-    operands : Operands p w e ns below rest vs
+  pub record LongPopped (ns : List Need) (ts rest : List VType) (v : Value) (vs : List Value) : Type 0 where
+    pub below : List VType
+    pub seen : ts ≡ Top ∷ Long ∷ below
+    pub is : Is p w e Long v
+    pub operands : Operands p w e ns below rest vs
 
-  long_popped : (ns : List Need) (ts rest : List VType) (v : Value) (vs : List Value) → Operands p w e (Half ∷ Fits Long ∷ ns) ts rest (v ∷ vs) → LongPopped ns ts rest v vs
+  pub long_popped : (ns : List Need) (ts rest : List VType) (v : Value) (vs : List Value) → Operands p w e (Half ∷ Fits Long ∷ ns) ts rest (v ∷ vs) → LongPopped ns ts rest v vs
   long_popped ns (Top ∷ u ∷ ts) rest (value.Long a) vs o =
       let q : suc (suc (length ns)) ≤ suc (suc (length ts)) = o.enough in
       record { below = ts; seen = ap {B = List VType} (λ x. Top ∷ x ∷ ts) (is_long_type u (and_parts (meets p (Fits Long) u) (meet_all p ns ts) (and_parts (meets p Half Top) (meets p (Fits Long) u && meet_all p ns ts) o.met).1).0); is = record { type = tt; range = tt };

@@ -40,7 +40,7 @@ use Rattle.type_frames.specs.Environment.{Environment, environment_of, is_target
 use Rattle.type_frames.specs.Sides.{sides}
 use Rattle.type_frames.specs.Rules.{after, fits_at, all_read, can_set}
 use Rattle.type_frames.specs.Typing.{before, IsTyped}
-use Rattle.type_frames.specs.TypedState.{IsInRange, RefersTo, HasType, Stands, Goes, Waits, Initialises, IsPushedBy, IsTop, IsBelow, AllBelow, class_begun, values_of, IsThrowable}
+use Rattle.type_frames.specs.TypedState.{IsInRange, RefersTo, HasType, Stands, Goes, Waits, Initialises, IsPushedBy, IsTop, IsBelow, AllBelow, called_by, class_begun, values_of, IsThrowable}
 use Rattle.check_sound.proofs.Tree.{Tree, typed_done, Over}
 use Rattle.check_sound.proofs.Grow.{Ranged, ranged_over, types_over, stack_over}
 use Rattle.check_sound.proofs.Held.{Is, Locals, Held, locals_over, held_over}
@@ -374,6 +374,13 @@ module _ (p : Program) (ty : IsTyped p) {w : World} {s : Entries} {i : Instr} (r
   -- the frame stands, whatever its operands
   pub standing : (vs : List Value) → Stands p w (record { kind = InMethod; number = s.top.number; pc = s.top.pc; stack = vs; locals = s.top.locals })
   standing vs = record { body = r.body; given = r.given; index = r.index; instruction = record { pc = s.top.pc; form = i }; types = r.types; has_code = r.has_code; has_frames = r.has_frames; there = r.there; place = refl; known = r.known; locals = r.locals.types }
+
+  -- the frame waits at its call for the method m
+  pub waits_typed : (named m : ℕ) → called_by i ≡ Some named → (method_at p m).name ≡ (method_at p named).name → (method_at p m).descriptor ≡ (method_at p named).descriptor → {vs : List Value} → Held p w (here r) (rest r) vs → Waits p w m (record s.top { stack = vs })
+  waits_typed named m c a d h = record {
+    stands = record { body = r.body; given = r.given; index = r.index; instruction = record { pc = s.top.pc; form = i }; types = r.types; has_code = r.has_code; has_frames = r.has_frames; there = r.there; place = refl; known = r.known; locals = r.locals.types };
+    named = named; call = c; same_name = a; same_descriptor = d; operands = h.types;
+  }
 
   -- the frame may be tried again
   pub again_typed : TypedEntries p w None s

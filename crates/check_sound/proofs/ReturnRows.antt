@@ -64,14 +64,14 @@ no_more p w v u vs [] q = cc
 no_more p w v u vs (t ∷ []) q = q
 no_more p w v u vs (t ∷ x ∷ ts) q = q
 
-plain_int : {p : Program} {w : World} {e : Environment} (v : Value) → Is p w e Int v → HasPlain p w Int v
+pub plain_int : {p : Program} {w : World} {e : Environment} (v : Value) → Is p w e Int v → HasPlain p w Int v
 plain_int (value.Int n) h = tt
 plain_int (value.Long n) h = absurd h.type
 plain_int value.Null h = absurd h.type
 plain_int (value.Lit n) h = absurd h.type
 plain_int (value.Obj n) h = absurd h.type
 
-plain_long : {p : Program} {w : World} {e : Environment} (v : Value) → Is p w e Long v → HasPlain p w Long v
+pub plain_long : {p : Program} {w : World} {e : Environment} (v : Value) → Is p w e Long v → HasPlain p w Long v
 plain_long (value.Long n) h = tt
 plain_long (value.Int n) h = absurd h.type
 plain_long value.Null h = absurd h.type
@@ -83,7 +83,7 @@ module _ (p : Program) (ty : IsTyped p) where
   pub home : (n : ℕ) → IsMethod p n → IsClass p (method_at p n).class
   home n h = ty.linked.numbers.methods n h
 
-  named_class : (i : Instr) (m : ℕ) → called_by i ≡ Some m → NamesForm p i → IsClass p (method_at p m).class
+  pub named_class : (i : Instr) (m : ℕ) → called_by i ≡ Some m → NamesForm p i → IsClass p (method_at p m).class
   named_class (form.InvokeVirtual t n) m c h = subst (λ (y : ℕ). IsClass p (method_at p y).class) (some_is c) (home n h.1)
   named_class (form.InvokeSpecial t n) m c h = subst (λ (y : ℕ). IsClass p (method_at p y).class) (some_is c) (home n h.1)
   named_class (form.InvokeInterface t n) m c h = subst (λ (y : ℕ). IsClass p (method_at p y).class) (some_is c) (home n h.1)
