@@ -8,7 +8,7 @@ mod Nested
 mod Initialise
 mod Driver
 mod Natives
-pub mod SelectLaws
+pub mod ParameterTexts
 pub mod Tree
 pub mod Grow
 pub mod WorldKept
@@ -26,8 +26,3 @@ pub mod Wide
 pub mod MoveRows
 pub mod ArithRows
 pub mod BranchRows
-pub mod RaiseRows
-pub mod CallSides
-pub mod ReturnRows
-pub mod Arguments
-pub mod CallRows
