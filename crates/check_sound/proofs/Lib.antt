@@ -9,6 +9,8 @@ mod Initialise
 mod Driver
 mod Natives
 pub mod ParameterTexts
+pub mod SelectLaws
+pub mod DeclaredValues
 pub mod Tree
 pub mod Grow
 pub mod WorldKept
@@ -26,3 +28,8 @@ pub mod Wide
 pub mod MoveRows
 pub mod ArithRows
 pub mod BranchRows
+pub mod RaiseRows
+pub mod CallSides
+pub mod ReturnRows
+pub mod Arguments
+pub mod CallRows
