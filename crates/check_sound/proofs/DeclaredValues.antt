@@ -20,7 +20,7 @@ use Rattle.type_frames.specs.declared.vtype.VType.TheVariants.{Top, Int, Long, N
 use Rattle.type_frames.specs.declared.sides.Need.{Need}
 use Rattle.type_frames.specs.declared.sides.Need.TheVariants.{Fits, Half, Never}
 use Rattle.type_frames.specs.Environment.{Environment}
-use Rattle.type_frames.specs.Descriptors.{types_of}
+use Rattle.type_frames.specs.Descriptors.{types_of, class_name}
 use Rattle.type_frames.specs.Sides.{needs_of}
 use Rattle.type_frames.specs.Typing.{IsTyped}
 use Rattle.type_frames.specs.TypedState.{IsInRange, RefersTo, IsReferenceOf, IsDeclared}
@@ -155,27 +155,35 @@ declared_result p w d (value.Obj o) h = reference_result p w (types_of d) (value
 
 -- ---- what is stored of an operand
 
-long_unit : (u : ℕ) (us : List ℕ) → IsText (u ∷ us) → types_of (u ∷ us) ≡ Long ∷ [] → u ≡ 74
-long_unit u us h e = elim (cases_Bool (nat_eq u 74)) [
-  | inl a ↦ eqb-true u 74 a
-  | inr a ↦ absurd (no_long u us a e)
+-- what the types of a text are, by the tests on its first unit
+abbrev types_by : Bool → Bool → Bool → Bool → Bool → Bool → ℕ → List ℕ → List VType
+types_by a b c d f g u us = elim a [
+  | true ↦ Long ∷ []
+  | false ↦ elim b [
+    | true ↦ Object (class_name us) ∷ []
+    | false ↦ elim c [ true ↦ Object (u ∷ us) ∷ [] | false ↦ elim d [ true ↦ [] | false ↦ elim f [ true ↦ Top ∷ [] | false ↦ elim g [ true ↦ Top ∷ Top ∷ [] | false ↦ Int ∷ [] ] ] ] ]
+  ]
 ]
-  where
-    no_long : (u : ℕ) (us : List ℕ) → nat_eq u 74 ≡ false → types_of (u ∷ us) ≡ Long ∷ [] → ⊥
-    no_long u us a e = by (nat_eq u 76) (nat_eq u 91) (nat_eq u 86) (nat_eq u 70) (nat_eq u 68) (sym (rw a refl) ∙ e)
-      where
-        by : (b c d f g : Bool) → (elim b [ true ↦ types_of (76 ∷ us) | false ↦ elim c [ true ↦ Object (u ∷ us) ∷ [] | false ↦ elim d [ true ↦ [] | false ↦ elim f [ true ↦ Top ∷ [] | false ↦ elim g [ true ↦ Top ∷ Top ∷ [] | false ↦ Int ∷ [] ] ] ] ] ]) ≡ Long ∷ [] → ⊥
-        by true c d f g q = cc
-        by false true d f g q = cc
-        by false false true f g q = cc
-        by false false false true g q = cc
-        by false false false false true q = cc
-        by false false false false false q = cc
+
+no_long : (b c d f g : Bool) (u : ℕ) (us : List ℕ) → types_by false b c d f g u us ≡ Long ∷ [] → ⊥
+no_long true c d f g u us q = cc
+no_long false true d f g u us q = cc
+no_long false false true f g u us q = cc
+no_long false false false true g u us q = cc
+no_long false false false false true u us q = cc
+no_long false false false false false u us q = cc
+
+long_by : (a : Bool) (u : ℕ) (us : List ℕ) → nat_eq u 74 ≡ a → types_by a (nat_eq u 76) (nat_eq u 91) (nat_eq u 86) (nat_eq u 70) (nat_eq u 68) u us ≡ Long ∷ [] → u ≡ 74
+long_by true u us q e = eqb-true u 74 q
+long_by false u us q e = absurd (no_long (nat_eq u 76) (nat_eq u 91) (nat_eq u 86) (nat_eq u 70) (nat_eq u 68) u us e)
+
+long_unit : (u : ℕ) (us : List ℕ) → types_of (u ∷ us) ≡ Long ∷ [] → u ≡ 74
+long_unit u us e = long_by (nat_eq u 74) u us refl e
 
 stored_plain : (p : Program) (w : World) (u : ℕ) (us : List ℕ) (t : VType) (v : Value) → IsText (u ∷ us) → types_of (u ∷ us) ≡ t ∷ [] → HasPlain p w t v → IsDeclared p w (u ∷ us) (narrow u v)
 unfolding narrow
 stored_plain p w u us Int (value.Int n) h e q = narrowed_fits u n (int_unit u us h e)
-stored_plain p w u us Long (value.Long n) h e q = long_unit u us h e
+stored_plain p w u us Long (value.Long n) h e q = long_unit u us e
 stored_plain p w u us (Object a) value.Null h e q = subst (λ (ts : List VType). IsReferenceOf p w ts value.Null) (sym e) q
 stored_plain p w u us (Object a) (value.Lit n) h e q = subst (λ (ts : List VType). IsReferenceOf p w ts (value.Lit n)) (sym e) q
 stored_plain p w u us (Object a) (value.Obj o) h e q = subst (λ (ts : List VType). IsReferenceOf p w ts (value.Obj o)) (sym e) q

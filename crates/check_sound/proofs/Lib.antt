@@ -11,6 +11,8 @@ mod Natives
 pub mod ParameterTexts
 pub mod SelectLaws
 pub mod DeclaredValues
+pub mod StaticRows
+pub mod FieldRows
 pub mod Tree
 pub mod Grow
 pub mod WorldKept
