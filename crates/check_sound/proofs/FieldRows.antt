@@ -18,9 +18,13 @@ use Rattle.jvm_model.specs.Builtin.{object_class, string_class, stream_class, bu
 use Rattle.jvm_model.specs.Library.{builtin_defs, builtin_classes}
 use Rattle.jvm_model.specs.Classes.{no_class, class_at, field_at, member, is_static, is_interface, is_below, upwards, upwards_in, class_bound, plain_fields, layout_in, layout}
 use Rattle.jvm_model.specs.Lookup.{is_field, field_path_in, field_path, find_field}
-use Rattle.jvm_model.specs.Rows.{constant_kind, on_object, goes_on}
+use Rattle.jvm_model.specs.Rows.{Answer, constant_kind, on_object, goes_on, popping, answer}
 use Rattle.jvm_model.specs.RowsFields.{row_fields}
-use Rattle.jvm_model.specs.Linked.{Linked, IsClass, IsField, IsKind, IsPlainField, IsFoundField, is_interface_at}
+use Rattle.jvm_model.specs.Narrow.{narrowed}
+use Rattle.jvm_model.specs.Access.{Access, write}
+use Rattle.jvm_model.specs.declared.outcome.Next.TheVariants.{Fault}
+use Rattle.check_sound.proofs.Arguments.{Argument}
+use Rattle.jvm_model.specs.Linked.{Linked, IsClass, count, IsField, IsKind, IsPlainField, IsFoundField, is_interface_at}
 use Rattle.jvm_model.proofs.Interfaces.{member-flat_map}
 use Rattle.jvm_model.proofs.BuiltinRules.{builtin_class, enough_classes}
 use Rattle.jvm_model.proofs.Upwards.{below_same, below_trans, upwards_step, upwards_root}
@@ -35,7 +39,7 @@ use Rattle.type_frames.specs.Sides.{sides, needs_of, owner_need, object_of, plac
 use Rattle.type_frames.specs.Typing.{IsTyped}
 use Rattle.type_frames.specs.TypedState.{kind_at, IsInstance, RefersTo, HasType, is_class_with}
 use Rattle.type_frames.proofs.AssignLaws.{object_below, interface_root}
-use Rattle.check_sound.proofs.Tree.{Tree, IsSpot, typed_read, typed_write}
+use Rattle.check_sound.proofs.Tree.{Tree, IsSpot, typed_read, typed_write, typed_known}
 use Rattle.check_sound.proofs.Held.{Is}
 use Rattle.check_sound.proofs.Operands.{Operands, rest_of, popping-fits, on_object-typed}
 use Rattle.check_sound.proofs.Ready.{Ends, Row, Ready, here, rest, operands, on, names_form, form_kind, form_found, sides_at}
@@ -179,6 +183,18 @@ module _ (p : Program) (lk : Linked p) where
   unfolding layout is_below
   in_layout k f n m b = laid f (field_at p f).class (upwards p k) b (kept f (class_at p (field_at p f).class).fields n m)
 
+  counted_member : (f : ℕ) (xs : List ℕ) → count f xs ≡ 1 → member f xs ≡ true
+  counted_member f [] e = absurd (let z : 0 ≡ 1 = e in omega arith)
+  counted_member f (x ∷ xs) e = by (nat_eq f x) (count f xs) e (counted_member f xs)
+    where
+      by : (b : Bool) (n : ℕ) → cond b (suc n) n ≡ 1 → (n ≡ 1 → member f xs ≡ true) → (b || member f xs) ≡ true
+      by true n e g = refl
+      by false n e g = g e
+
+  -- a field is listed by its class
+  pub own_listed : (f : ℕ) → IsField p f → member f (class_at p (field_at p f).class).fields ≡ true
+  own_listed f h = counted_member f (class_at p (field_at p f).class).fields (lk.listed.fields f h)
+
   module _ (named f : ℕ) (h : IsClass p named) (k : IsField p f) (n : IsPlainField p f) (e : IsFoundField p named f) where
     own : Owned named f
     own = owned named f h k n e
@@ -212,3 +228,69 @@ module _ (p : Program) (lk : Linked p) where
         by : (b : Bool) → IsInstance p (kind.Class (cond b stream_class string_class)) (name_of p named) → ⊥
         by true j = let b = lower (kind.Class stream_class) (builtin_is p lk 4 (omega arith)) j in no_stream (field_at p f).class refl (subst (λ (x : ℕ). is_below p x (field_at p f).class ≡ true) (sym (class_eq b.is)) b.below)
         by false j = let b = lower (kind.Class string_class) (builtin_is p lk 1 (omega arith)) j in no_string (field_at p f).class refl (subst (λ (x : ℕ). is_below p x (field_at p f).class ≡ true) (sym (class_eq b.is)) b.below)
+
+-- ---- the rows
+
+module _ (p : Program) (ty : IsTyped p) {w : World} where
+  -- the object that an `<init>` begins is of the current class or below it
+  started_in : (f : ℕ) (e : Environment) (t : Entries) (x : Value) {k : ℕ → Access (Answer Entries)} → IsClass p e.class → IsField p f → IsPlainField p f → (field_at p f).class ≡ e.class → HasType p w e UninitThis x
+      → ((o : ℕ) → IsSpot p w (place.Field o f) → Row p w (k o)) → Row p w (on_object t x k)
+  started_in f e t (value.Obj o) g h n c (l, b) q = q o (by (kind_at w o) refl b)
+    where
+      by : (k : Kind) → kind_at w o ≡ k → is_class_with (λ d. is_below p d e.class) k ≡ true → IsSpot p w (place.Field o f)
+      by (kind.Class d) z y = (d, l, z, in_layout p ty.linked d f n.0 (own_listed p ty.linked f h) (subst (λ (a : ℕ). is_below p d a ≡ true) (sym c) y))
+      by (kind.Array d b) z y = absurd cc
+  started_in f e t value.Null g h n c q r = absurd q
+  started_in f e t (value.Int i) g h n c q r = absurd q
+  started_in f e t (value.Long i) g h n c q r = absurd q
+  started_in f e t (value.Lit i) g h n c q r = absurd q
+
+module _ (p : Program) (ty : IsTyped p) {w : World} {s : Entries} where
+  pub get_field : (c f : ℕ) → Ready p w s (form.GetField c f) → Row p w (row_fields p (form.GetField c f) s)
+  unfolding row_fields sides
+  get_field c f r =
+      let lk = ty.linked in
+      let n = names_form p ty r in
+      let k = form_kind p ty r in
+      let e = form_found p ty r in
+      let d = (field_at p f).descriptor in
+      popping-fits p (Ends p) w lk (Object (name_of p c)) tt (operands r) (λ v vs us h sv o.
+      on_object-typed p (Ends p) w (with_stack s vs) (name_of p c) v h.type (no_constant p lk c f n.0 n.1 k e) (fault_typed p ty r null_pointer_exception vs (null_pointer_thrown p lk) (rest_of o).range) (λ x l i.
+      typed_known x l (λ j. typed_read (spot p lk c f n.0 n.1 k e w x l j i) (λ u q.
+      on p ty r refl r.locals (push p w (here r) (types_of d) (rest r) (u ∷ []) vs (declared_result p w d u q) (rest_of o))))))
+
+  -- an instance of the named class
+  stored_in : (c f : ℕ) (r : Ready p w s (form.PutField c f)) (t : Entries) (x : Value) {k : ℕ → Access (Answer Entries)} → Ends p w (answer (Fault null_pointer_exception) t) → RefersTo p w (name_of p c) x
+      → ((o : ℕ) → IsSpot p w (place.Field o f) → Row p w (k o)) → Row p w (on_object t x k)
+  stored_in c f r t x g h q =
+      let lk = ty.linked in
+      let n = names_form p ty r in
+      let k = form_kind p ty r in
+      let e = form_found p ty r in
+      on_object-typed p (Ends p) w t (name_of p c) x h (no_constant p lk c f n.0 n.1 k e) g (λ o l i. typed_known o l (λ j. q o (spot p lk c f n.0 n.1 k e w o l j i)))
+
+  pub put_field : (c f : ℕ) → Ready p w s (form.PutField c f) → Row p w (row_fields p (form.PutField c f) s)
+  unfolding row_fields sides
+  put_field c f r =
+      let lk = ty.linked in
+      let n = names_form p ty r in
+      let k = form_kind p ty r in
+      let d = (field_at p f).descriptor in
+      let text = text_of_field d (lk.listed.field_names f n.1).1 in
+      let e = here r in
+      let u = place_of r.types (length (needs_of d)) in
+      popping-declared p ty (Ends p) d text (operands r) (λ v ws us a o.
+      by v ws us a (same u UninitThis && (nat_eq c e.class && nat_eq (field_at p f).class e.class)) refl o)
+    where
+      writes : (v : Value) (left : List Value) → Argument p w (field_at p f).descriptor v → Row p w (goes_on p s left) → (o : ℕ) → IsSpot p w (place.Field o f) → Row p w (write (place.Field o f) (narrowed (field_at p f).descriptor v) (goes_on p s left))
+      writes v left a g o i = typed_write tt i (argument_stored p w (field_at p f).descriptor v (text_of_field (field_at p f).descriptor (ty.linked.listed.field_names f (names_form p ty r).1).1) a) g
+      by : (v : Value) (ws : List Value) (us : List VType) → Argument p w (field_at p f).descriptor v
+          → (b : Bool) → (same (place_of r.types (length (needs_of (field_at p f).descriptor))) UninitThis && (nat_eq c (here r).class && nat_eq (field_at p f).class (here r).class)) ≡ b
+          → Operands p w (here r) (cond b (Fits UninitThis) (Fits (object_of p c)) ∷ []) us (rest r) ws
+          → Row p w (popping ws (λ x left. on_object (with_stack s left) x (λ o. write (place.Field o f) (narrowed (field_at p f).descriptor v) (goes_on p s left))))
+      by v ws us a false q o = popping-fits p (Ends p) w ty.linked (Object (name_of p c)) tt o (λ x xs ts h sv m.
+          stored_in c f r (with_stack s xs) x (fault_typed p ty r null_pointer_exception xs (null_pointer_thrown p ty.linked) (rest_of m).range) h.type (writes v xs a (on p ty r refl r.locals (rest_of m))))
+      by v ws us a true q o =
+          let z = eqb-true (field_at p f).class (here r).class (and_parts (nat_eq c (here r).class) _ (and_parts (same (place_of r.types (length (needs_of (field_at p f).descriptor))) UninitThis) _ q).1).1 in
+          popping-fits p (Ends p) w ty.linked UninitThis tt o (λ x xs ts h sv m.
+          started_in p ty f (here r) (with_stack s xs) x (subst (λ (y : ℕ). IsClass p y) z (ty.linked.numbers.fields f (names_form p ty r).1)) (names_form p ty r).1 (form_kind p ty r) z h.type (writes v xs a (on p ty r refl r.locals (rest_of m))))
