@@ -8,7 +8,11 @@ mod Nested
 mod Initialise
 mod Driver
 mod Natives
+pub mod ParameterTexts
 pub mod SelectLaws
+pub mod DeclaredValues
+pub mod StaticRows
+pub mod FieldRows
 pub mod Tree
 pub mod Grow
 pub mod WorldKept
