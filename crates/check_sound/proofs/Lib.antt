@@ -38,3 +38,5 @@ pub mod CallRows
 pub mod KindNames
 pub mod CastRows
 pub mod CreateRows
+pub mod ArrayKinds
+pub mod NestedRow
