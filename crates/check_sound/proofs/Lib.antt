@@ -40,3 +40,4 @@ pub mod CastRows
 pub mod CreateRows
 pub mod ArrayKinds
 pub mod NestedRow
+pub mod ArrayRows
