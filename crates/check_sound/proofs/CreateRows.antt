@@ -63,7 +63,7 @@ first_place n i (y ∷ ys) (suc k) x a e =
     rw ne (first_place (y.pc + 1) (i + 1) ys k x a.1 e ∙ ap {B = Option ℕ} (λ j. Some j) (omega arith))
   where
     differ : (a b : ℕ) → a + 1 ≤ b → nat_eq a b ≡ false
-    differ a b h = elim (cases_Bool (nat_eq a b)) [ | inl q ↦ absurd (let z = eqb-true a b q in omega arith) | inr q ↦ q ]
+    differ a b h = elim (cases_Bool (nat_eq a b)) [ inl q ↦ absurd (let z = eqb-true a b q in omega arith) | inr q ↦ q ]
 
 module _ (p : Program) (ty : IsTyped p) where
   -- a new object of a kind
@@ -85,9 +85,9 @@ module _ (p : Program) (ty : IsTyped p) {w : World} {s : Entries} where
   -- what was made, uninitialised
   new_type : (c : ℕ) (r : Ready p w s (form.New c)) (x : Made) → x.head.kind ≡ kind.Class c → HasType p (make_object w x) (here r) (Uninit s.top.pc) (value.Obj (size w))
   new_type c r x e = (
-      (let z = size_make w x in omega arith),
-      subst (λ (k : Kind). is_class_with (λ d. is_that d (made_at (here r) s.top.pc)) k ≡ true) (sym (new_kind p w c x e))
-          (subst (λ (o : Option ℕ). is_that c o ≡ true) (sym (made_here c r)) (eq-eqb c c refl)),
+    (let z = size_make w x in omega arith),
+    subst (λ (k : Kind). is_class_with (λ d. is_that d (made_at (here r) s.top.pc)) k ≡ true) (sym (new_kind p w c x e))
+        (subst (λ (o : Option ℕ). is_that c o ≡ true) (sym (made_here c r)) (eq-eqb c c refl)),
   )
 
   new_object-typed : (c : ℕ) → Ready p w s (form.New c) → Row p w (new_object p c s)
@@ -98,8 +98,8 @@ module _ (p : Program) (ty : IsTyped p) {w : World} {s : Entries} where
       let g = ready_grows (grows_make p w x) r in
       let i = new_type c r x refl in
       typed_spend (typed_make (blank_new p ty w (instance_head c) (names_form p ty r)) (on p ty g refl
-        (locals_turned p v (here r) (Uninit s.top.pc) Top (λ v h. tt) g.locals)
-        (on_top tt (record { type = i; range = i.0 }) (held_turned p v (here r) (Uninit s.top.pc) Top (λ v h. tt) refl g.stack))))
+      (locals_turned p v (here r) (Uninit s.top.pc) Top (λ v h. tt) g.locals)
+      (on_top tt (record { type = i; range = i.0 }) (held_turned p v (here r) (Uninit s.top.pc) Top (λ v h. tt) refl g.stack))))
 
   pub new : (c : ℕ) → Ready p w s (form.New c) → Row p w (row_create p (form.New c) s)
   unfolding row_create
@@ -115,7 +115,7 @@ module _ (p : Program) (ty : IsTyped p) {w : World} {s : Entries} where
       let x = blank p (array_head k n) in
       let g = grows_make p w x in
       typed_spend (typed_make (blank_new p ty w (array_head k n) h) (on p ty (ready_grows g r) refl (locals_over g.over r.locals)
-        (on_top tt (made_type p ty w k x (here r) h refl) (held_over g.over i))))
+      (on_top tt (made_type p ty w k x (here r) h refl) (held_over g.over i))))
   sized_array k r vs h i (negsuc n) = typed_done (fault_typed p ty r negative_size_exception vs (negative_size_thrown p ty.linked) i.range)
 
   pub new_array-typed : (k : Kind) → Ready p w s (form.NewArray k) → Row p w (row_create p (form.NewArray k) s)
@@ -126,4 +126,3 @@ module _ (p : Program) (ty : IsTyped p) {w : World} {s : Entries} where
       array_kind : (k : Kind) → IsArray p k → IsKind p k
       array_kind (kind.Array d b) h = h
       array_kind (kind.Class c) h = absurd h
-
