@@ -8,6 +8,7 @@ mod Nested
 mod Initialise
 mod Driver
 mod Natives
+pub mod ParameterTexts
 pub mod Tree
 pub mod Grow
 pub mod WorldKept
