@@ -9,6 +9,7 @@ mod Initialise
 mod Driver
 mod Natives
 pub mod ParameterTexts
+pub mod SelectLaws
 pub mod Tree
 pub mod Grow
 pub mod WorldKept
