@@ -62,6 +62,8 @@ pub data Tree (p : Program) {A : Type 0} (P : World → A → Type 0) : World �
   typed_mark : {w : World} {c : ℕ} {s : InitState} {t : Access A} → c < length p.classes → Tree p P (put w (place.Init c) s) t → Tree p P w (write (place.Init c) s t)
   typed_make : {w : World} {x : Object} {k : ℕ → Access A} → IsNew p w x → Tree p P (make_object w x) (k (size w)) → Tree p P w (make x k)
   typed_spend : {w : World} {n : ℕ} {t : Access A} → Tree p P w t → Tree p P w (spend n t)
+  -- an object that stands is of a kind of the program
+  typed_known : {w : World} {t : Access A} (o : ℕ) → o < size w → (IsKind p (kind_at w o) → Tree p P w t) → Tree p P w t
 
 -- the second world has the objects of the first, and maybe more
 pub record Over (u w : World) : Type 0 where

@@ -13,8 +13,10 @@ use Rattle.jvm_model.specs.Access.{Access, done, read, write, make, spend, bind,
 use Rattle.jvm_model.specs.View.{Exists, IsSafe}
 use Rattle.jvm_model.proofs.Bridges.{exists_has}
 use Rattle.jvm_model.proofs.Locations.{same_true, same_false, at_put_same, at_put_other, at_make_new, at_make_other, size_put, size_make, IsOf, is_of_cases}
-use Rattle.type_frames.specs.TypedState.{TypedWorld, element_text}
-use Rattle.check_sound.proofs.Tree.{head_at, IsSpot, FitsSpot, IsPlainSpot, IsNew, Tree, typed_done, typed_read, typed_write, typed_mark, typed_make, typed_spend, Over, Alike, Leaves}
+use Rattle.jvm_model.specs.declared.values.Kind.{Kind}
+use Rattle.jvm_model.specs.Linked.{IsKind}
+use Rattle.type_frames.specs.TypedState.{TypedWorld, element_text, kind_at}
+use Rattle.check_sound.proofs.Tree.{head_at, IsSpot, FitsSpot, IsPlainSpot, IsNew, Tree, typed_done, typed_read, typed_write, typed_mark, typed_make, typed_spend, typed_known, Over, Alike, Leaves}
 use Rattle.check_sound.proofs.Grow.{alike_over, alike_back, declared_over}
 use Rattle.check_sound.proofs.WorldKept.{whole, spot_over, fits_alike, put_alike, world_put, world_mark, world_make}
 
@@ -64,6 +66,9 @@ new_alike p u w x a d = record {
 }
 
 module _ (p : Program) where
+  known : (u w : World) → Alike u w → TypedWorld p w → (o : ℕ) → o < size u → IsKind p (kind_at u o)
+  known u w i t o h = subst (λ (z : Head). IsKind p z.kind) (sym (i.heads o)) (t.kinds o (let e = i.sizes in omega arith))
+
   pub tree_safe : {A : Type 0} (P : World → A → Type 0) (G : A → Type 0) → ((v : World) (a : A) → P v a → G a) → (t : Access A) (u w : World) → Alike u w → TypedWorld p w → Tree p P u t → IsSafe G t w
   tree_safe P G good (done a) u w i t (typed_done q) = good u a q
   tree_safe P G good (read l k) u w i t (typed_read q r) =
@@ -77,6 +82,7 @@ module _ (p : Program) where
   tree_safe P G good (make x k) u w i t (typed_make d r) =
       tree_safe P G good (k (size w)) (make_object u x) (make_object w x) (make_alike u w x i) (world_make p w x t (new_alike p u w x i d)) (subst (λ (n : ℕ). Tree p P (make_object u x) (k n)) i.sizes r)
   tree_safe P G good (spend n b) u w i t (typed_spend r) = tree_safe P G good b u w i t r
+  tree_safe P G good a u w i t (typed_known o h r) = tree_safe P G good a u w i t (r (known u w i t o h))
 
   pub tree_leaves : {A : Type 0} (P : World → A → Type 0) (t : Access A) (u w : World) → Alike u w → TypedWorld p w → Tree p P u t → Leaves p P (run t w)
   tree_leaves P (done a) u w i t (typed_done q) = record { sound = refl; seen = u; alike = i; world = t; answer = q }
@@ -95,6 +101,7 @@ module _ (p : Program) where
       let y = tree_leaves P (k (size w)) (make_object u x) (make_object w x) (make_alike u w x i) (world_make p w x t (new_alike p u w x i d)) (subst (λ (n : ℕ). Tree p P (make_object u x) (k n)) i.sizes r) in
       record { sound = y.sound; seen = y.seen; alike = y.alike; world = y.world; answer = y.answer }
   tree_leaves P (spend n b) u w i t (typed_spend r) = let x = tree_leaves P b u w i t r in record { sound = x.sound; seen = x.seen; alike = x.alike; world = x.world; answer = x.answer }
+  tree_leaves P a u w i t (typed_known o h r) = tree_leaves P a u w i t (r (known u w i t o h))
 
   -- parts put together
   pub tree_bind : {A B : Type 0} (Q : World → A → Type 0) (P : World → B → Type 0) (t : Access A) (k : A → Access B) (u : World) → Tree p Q u t → ((v : World) (a : A) → Q v a → Tree p P v (k a)) → Tree p P u (bind t k)
@@ -104,3 +111,4 @@ module _ (p : Program) where
   tree_bind Q P (write (place.Init c) s t) k u (typed_mark h f) r = typed_mark h (tree_bind Q P t k (put u (place.Init c) s) f r)
   tree_bind Q P (make x n) k u (typed_make d f) r = typed_make d (tree_bind Q P (n (size u)) k (make_object u x) f r)
   tree_bind Q P (spend n t) k u (typed_spend f) r = typed_spend (tree_bind Q P t k u f r)
+  tree_bind Q P t k u (typed_known o h f) r = typed_known o h (λ i. tree_bind Q P t k u (f i) r)
