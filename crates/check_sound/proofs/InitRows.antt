@@ -18,7 +18,7 @@ use Rattle.jvm_model.specs.declared.outcome.Next.TheVariants as step
 use Rattle.jvm_model.specs.declared.program.Program.{Program}
 use Rattle.jvm_model.specs.declared.program.ClassRec.{ClassRec}
 use Rattle.jvm_model.specs.declared.program.Body.{Body}
-use Rattle.jvm_model.specs.World.{Object, World, size, at, put, make_object, same}
+use Rattle.jvm_model.specs.World.{World, size, at, put, make_object, same}
 use Rattle.jvm_model.specs.Access.{Access}
 use Rattle.jvm_model.specs.Builtin.{throwable_class, stack_overflow_error, no_class_error, initializer_error, error_class}
 use Rattle.jvm_model.specs.Classes.{no_class, class_at, method_at, is_static, is_interface, is_below, is_trivial, declares_start, default_interfaces, own_interfaces, first_mentions, is_default_method, lineage_in, class_bound, upwards, member, blank, instance_head}
@@ -230,7 +230,7 @@ module _ (p : Program) (ty : IsTyped p) {w : World} {s : Entries} (k : s.top.kin
       by (method_at p m).body refl i.code i
     where
       by : (b : Option Body) → (method_at p m).body ≡ b → IsSome b → IsInitialiser p s.top.number m → Row p w (starts_body b m n s)
-      by None hb c i = absurd c
+      by None hb c i = absurd (let z : false ≡ true = c in cc)
       by (Some b) hb c i = choose-typed p (Ends p) w (is_full s) (λ e. typed_spend (typed_done (overflow_thrown p ty.linked, faulted p ty false k t value.Null)))
           (λ e. typed_spend (typed_done (clinit_typed m b q i hb e)))
 

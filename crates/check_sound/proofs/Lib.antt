@@ -33,3 +33,4 @@ pub mod ReturnRows
 pub mod Arguments
 pub mod CallRows
 pub mod InitRows
+pub mod WholeStep
