@@ -35,7 +35,7 @@ unfolding is_below
 step_below p lk c d e h s b = subst (λ (xs : List ℕ). member e xs ≡ true) (sym (upwards_step p lk c d h s)) (or_right (nat_eq e c) (member e (upwards p d)) b)
 
 module _ (p : Program) (lk : Linked p) where
-  plain_name : (c : ℕ) → IsClass p c → is_array (name_of p c) ≡ false
+  pub plain_name : (c : ℕ) → IsClass p c → is_array (name_of p c) ≡ false
   plain_name c h = class_name_plain (name_of p c) (lk.listed.class_names c h)
 
   pub takes_all : (c : ℕ) → IsClass p c → takes_every p c ≡ true → (k : Kind) → IsInstance p k (name_of p c)
@@ -45,7 +45,7 @@ module _ (p : Program) (lk : Linked p) where
   unfolding is_class_entry_name
   instance_itself c h = assignable_itself p (Object (name_of p c)) (or_left (is_class_name (name_of p c)) (starts_array (name_of p c) && is_field_descriptor (name_of p c)) (lk.listed.class_names c h))
 
-  named_any : (c : ℕ) → IsClass p c → takes_any p (name_of p c) ≡ takes_every p c
+  pub named_any : (c : ℕ) → IsClass p c → takes_any p (name_of p c) ≡ takes_every p c
   unfolding takes_any
   named_any c h = ap (λ (o : Option ℕ). elim o as (λ x. Bool) [ None ↦ false | Some d ↦ nat_eq d object_class || is_interface (class_at p d).flags ]) (first_named p lk c h)
 
@@ -55,13 +55,13 @@ module _ (p : Program) (lk : Linked p) where
       ap (λ (o : Option ℕ). elim o as (λ x. Bool) [ None ↦ false | Some a ↦ elim (class_named p (name_of p d)) as (λ x. Bool) [ None ↦ false | Some b ↦ is_below p a b ] ]) (first_named p lk c h)
       ∙ ap (λ (o : Option ℕ). elim o as (λ x. Bool) [ None ↦ false | Some b ↦ is_below p c b ]) (first_named p lk d g)
 
-  plain_fits : (a b : List ℕ) → is_array a ≡ false → is_array b ≡ false → object_fits p a b ≡ class_fits p a b
+  pub plain_fits : (a b : List ℕ) → is_array a ≡ false → is_array b ≡ false → object_fits p a b ≡ class_fits p a b
   unfolding object_fits
   plain_fits a b e f =
       ap (λ (x : Bool). elim x as (λ z. Bool) [ true ↦ elim (is_array b) as (λ z. Bool) [ true ↦ element_fits p (drop 1 a) (drop 1 b) | false ↦ takes_any p b ] | false ↦ not (is_array b) && class_fits p a b ]) e
       ∙ ap (λ (x : Bool). not x && class_fits p a b) f
 
-  array_fits : (a b : List ℕ) → is_array a ≡ true → is_array b ≡ false → object_fits p a b ≡ takes_any p b
+  pub array_fits : (a b : List ℕ) → is_array a ≡ true → is_array b ≡ false → object_fits p a b ≡ takes_any p b
   unfolding object_fits
   array_fits a b e f =
       ap (λ (x : Bool). elim x as (λ z. Bool) [ true ↦ elim (is_array b) as (λ z. Bool) [ true ↦ element_fits p (drop 1 a) (drop 1 b) | false ↦ takes_any p b ] | false ↦ not (is_array b) && class_fits p a b ]) e

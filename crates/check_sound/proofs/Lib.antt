@@ -34,3 +34,5 @@ pub mod Arguments
 pub mod CallRows
 pub mod InitRows
 pub mod WholeStep
+pub mod KindNames
+pub mod CastRows

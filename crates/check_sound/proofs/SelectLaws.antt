@@ -164,7 +164,7 @@ module _ (p : Program) (lk : Linked p) where
       split : (xs : List ℕ) → member i (xs ++ (j ∷ [])) ≡ (member i xs || member i (j ∷ []))
       split xs = list_any-append (nat_eq i) xs (j ∷ [])
 
-  own : (c i : ℕ) → member i (own_interfaces p c) ≡ true → IsInterface i
+  pub own : (c i : ℕ) → member i (own_interfaces p c) ≡ true → IsInterface i
   own c i m = let q = any_some (λ j. member i (lineage_in p class_bound j)) (class_at p c).interfaces (sym (reached p i c) ∙ m) in lineage class_bound q.0 i (direct c q.0 q.1) q.2
 
   of_all : (c i : ℕ) → member i (all_interfaces p c) ≡ true → IsInterface i
