@@ -103,7 +103,7 @@ all_at_index f (x ∷ xs) (suc k) n e q = all_at_index f xs k n (and_parts _ _ e
 
 module _ (p : Program) (ty : IsTyped p) where
   pub has_number : (n : ℕ) (b : Body) → (method_at p n).body ≡ Some b → n < length p.methods
-  has_number n b e = elim (cases_lt n (length p.methods)) [ inl l ↦ l | inr g ↦ absurd (past p.methods n g e) ]
+  has_number n b e = elim (cases_lt n (length p.methods)) [ | inl l ↦ l | inr g ↦ absurd (past p.methods n g e) ]
     where
       past : (ms : List MethodRec) (n : ℕ) → length ms ≤ n → (get_or ms n no_method).body ≡ Some b → ⊥
       past [] n g e = let z : no_method.body ≡ Some b = e in absurd (cc)
@@ -202,7 +202,7 @@ module _ (p : Program) (ty : IsTyped p) (n : ℕ) (b : Body) (gs : List Frame) (
       let g = get_or_from_slice_get b.code k x x s in
       let h = get_or_from_slice_get b.code (k + 1) y x t in
       subst (λ (z : Placed). next_place p n z.pc ≡ y.pc) g (places.next_place_index p n b k x hc is_body.ascending (slice_get_within b.code k x s)
-      ∙ (places.place_beyond_next b.code b.length k x (slice_get_within b.code (k + 1) y t) ∙ ap (λ (z : Placed). z.pc) h))
+        ∙ (places.place_beyond_next b.code b.length k x (slice_get_within b.code (k + 1) y t) ∙ ap (λ (z : Placed). z.pc) h))
 
   module _ (w : World) where
     -- values that have the types that come to a place have those of the frame there
@@ -212,7 +212,6 @@ module _ (p : Program) (ty : IsTyped p) (n : ℕ) (b : Body) (gs : List Frame) (
       where
         given_there : (g : Frame) → given_at env x.pc ≡ Some g → before p env k x.pc ≡ Some (slots_of g)
         given_there g q = ap (λ (o : Option Frame). elim o [ Some g ↦ Some (slots_of g) | None ↦ cond (is_target env x.pc) None (incoming p env k) ]) q
-
         by : (o : Option Frame) → given_at env x.pc ≡ o → Goes p w (record { kind = InMethod; number = n; pc = x.pc; stack = vs; locals = ls })
         by None q = record { stands = record { body = b; given = gs; index = k; instruction = x; types = f; has_code = hc; has_frames = hf; there = s; place = refl; known = none q; locals = hl.types }; operands = hv.types }
         by (Some g) q =
@@ -251,7 +250,7 @@ module _ (p : Program) (ty : IsTyped p) (n : ℕ) (b : Body) (gs : List Frame) (
         let t = slice_get-get_or b.code (k + 1) x lt in
         let g = subst (λ (o : Option Placed). fits_next p env (after f (sides p env x.pc f x.form)) o ≡ true) t (or_second _ _ fl (and_parts _ _ (and_parts _ _ q.four).1).1) in
         subst (λ (pc : ℕ). Goes p w (record { kind = InMethod; number = n; pc = pc; stack = vs; locals = ls })) (sym (next_here k x y s t))
-        (arrived (k + 1) y (after f (sides p env x.pc f x.form)) ls vs t g (λ z. on (is_target env y.pc) refl z) hl hv)
+          (arrived (k + 1) y (after f (sides p env x.pc f x.form)) ls vs t g (λ z. on (is_target env y.pc) refl z) hl hv)
       where
         on : (c : Bool) → is_target env (get_or b.code (k + 1) x).pc ≡ c → given_at env (get_or b.code (k + 1) x).pc ≡ None → before p env (k + 1) (get_or b.code (k + 1) x).pc ≡ Some (after f (sides p env x.pc f x.form))
         on true t z = absurd (
@@ -271,12 +270,11 @@ module _ (p : Program) (ty : IsTyped p) (n : ℕ) (b : Body) (gs : List Frame) (
         let x = get_or b.code 0 d in
         let s = slice_get-get_or b.code 0 d is_body.some in
         subst (λ (pc : ℕ). Goes p w (record { kind = InMethod; number = n; pc = pc; stack = []; locals = ls })) is_body.first
-        (arrived 0 x (opening env) ls [] s (enters x s (before p env 0 x.pc) refl) (λ z. on x s (is_target env x.pc) refl z) hl hv)
+          (arrived 0 x (opening env) ls [] s (enters x s (before p env 0 x.pc) refl) (λ z. on x s (is_target env x.pc) refl z) hl hv)
       where
         enters : (x : Placed) → slice_get b.code 0 ≡ Some x → (o : Option Slots) → before p env 0 x.pc ≡ o → fits_given p env (opening env) (given_at env x.pc) ≡ true
         enters x s None q = absurd (some_frame 0 x s q)
         enters x s (Some f) q = (and_parts _ _ (kept_at 0 x f s q).four).0
-
         on : (x : Placed) → slice_get b.code 0 ≡ Some x → (c : Bool) → is_target env x.pc ≡ c → given_at env x.pc ≡ None → before p env 0 x.pc ≡ Some (opening env)
         on x s true t z = absurd (some_frame 0 x s (none_given 0 x.pc z ∙ ap (λ (c : Bool). cond c None (incoming p env 0)) t))
         on x s false t z = none_given 0 x.pc z ∙ (ap (λ (c : Bool). cond c None (incoming p env 0)) t ∙ first_in)

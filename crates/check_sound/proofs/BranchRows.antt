@@ -44,7 +44,6 @@ found (x ∷ ps) other n = by (int_eq x.0 n) (found ps other n)
     later true b c e = refl
     later false true c e = refl
     later false false c e = e
-
     by : (b : Bool) → (list_any (λ m. nat_eq m (lookup_target ps other n)) (other ∷ map (λ x. x.1) ps) ≡ true) × ((P : ℕ → Type 0) → All (λ x. P x.1) ps → P other → P (lookup_target ps other n))
         → (list_any (λ m. nat_eq m (cond b x.1 (lookup_target ps other n))) (other ∷ x.1 ∷ map (λ x. x.1) ps) ≡ true) × ((P : ℕ → Type 0) → All (λ x. P x.1) (x ∷ ps) → P other → P (cond b x.1 (lookup_target ps other n)))
     by true r = (or_right (nat_eq other x.1) (nat_eq x.1 x.1 || list_any (λ m. nat_eq m x.1) (map (λ x. x.1) ps)) (or_left (nat_eq x.1 x.1) (list_any (λ m. nat_eq m x.1) (map (λ x. x.1) ps)) (eq-eqb x.1 x.1 refl)), λ P a o. a 0 x (omega arith))

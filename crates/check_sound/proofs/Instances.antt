@@ -39,7 +39,7 @@ module _ (p : Program) (lk : Linked p) where
   plain_name c h = class_name_plain (name_of p c) (lk.listed.class_names c h)
 
   pub takes_all : (c : ℕ) → IsClass p c → takes_every p c ≡ true → (k : Kind) → IsInstance p k (name_of p c)
-  takes_all c h t k = interface_takes p lk c h (elim (or_cases (nat_eq c object_class) (is_interface_at p c) t) [ inl q ↦ inl (eqb-true c object_class q) | inr q ↦ inr q ]) (Object (kind_name p k)) tt
+  takes_all c h t k = interface_takes p lk c h (elim (or_cases (nat_eq c object_class) (is_interface_at p c) t) [ | inl q ↦ inl (eqb-true c object_class q) | inr q ↦ inr q ]) (Object (kind_name p k)) tt
 
   pub instance_itself : (c : ℕ) → IsClass p c → IsInstance p (kind.Class c) (name_of p c)
   unfolding is_class_entry_name
@@ -53,19 +53,19 @@ module _ (p : Program) (lk : Linked p) where
   unfolding extends
   named_below c d h g =
       ap (λ (o : Option ℕ). elim o as (λ x. Bool) [ None ↦ false | Some a ↦ elim (class_named p (name_of p d)) as (λ x. Bool) [ None ↦ false | Some b ↦ is_below p a b ] ]) (first_named p lk c h)
-      ∙ ap (λ (o : Option ℕ). elim o as (λ x. Bool) [ None ↦ false | Some b ↦ is_below p c b ]) (first_named p lk d g)
+        ∙ ap (λ (o : Option ℕ). elim o as (λ x. Bool) [ None ↦ false | Some b ↦ is_below p c b ]) (first_named p lk d g)
 
   pub plain_fits : (a b : List ℕ) → is_array a ≡ false → is_array b ≡ false → object_fits p a b ≡ class_fits p a b
   unfolding object_fits
   plain_fits a b e f =
       ap (λ (x : Bool). elim x as (λ z. Bool) [ true ↦ elim (is_array b) as (λ z. Bool) [ true ↦ element_fits p (drop 1 a) (drop 1 b) | false ↦ takes_any p b ] | false ↦ not (is_array b) && class_fits p a b ]) e
-      ∙ ap (λ (x : Bool). not x && class_fits p a b) f
+        ∙ ap (λ (x : Bool). not x && class_fits p a b) f
 
   pub array_fits : (a b : List ℕ) → is_array a ≡ true → is_array b ≡ false → object_fits p a b ≡ takes_any p b
   unfolding object_fits
   array_fits a b e f =
       ap (λ (x : Bool). elim x as (λ z. Bool) [ true ↦ elim (is_array b) as (λ z. Bool) [ true ↦ element_fits p (drop 1 a) (drop 1 b) | false ↦ takes_any p b ] | false ↦ not (is_array b) && class_fits p a b ]) e
-      ∙ ap (λ (x : Bool). elim x as (λ z. Bool) [ true ↦ element_fits p (drop 1 a) (drop 1 b) | false ↦ takes_any p b ]) f
+        ∙ ap (λ (x : Bool). elim x as (λ z. Bool) [ true ↦ element_fits p (drop 1 a) (drop 1 b) | false ↦ takes_any p b ]) f
 
   -- an instance of a class below c is one of c
   pub below_instance : (c d : ℕ) → IsClass p c → IsClass p d → is_below p c d ≡ true → IsInstance p (kind.Class c) (name_of p d)

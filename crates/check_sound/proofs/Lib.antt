@@ -10,6 +10,9 @@ mod Driver
 mod Natives
 pub mod ParameterTexts
 pub mod SelectLaws
+pub mod DeclaredValues
+pub mod StaticRows
+pub mod FieldRows
 pub mod Tree
 pub mod Grow
 pub mod WorldKept

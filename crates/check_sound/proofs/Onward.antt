@@ -53,19 +53,8 @@ grows_begin p w c = record {
 
 module _ (p : Program) (u w : World) (g : Over u w) where
   pub stands_over : (f : Entry) → Stands p u f → Stands p w f
-  stands_over f s = record {
-    body = s.body;
-    given = s.given;
-    index = s.index;
-    instruction = s.instruction;
-    types = s.types;
-    has_code = s.has_code;
-    has_frames = s.has_frames;
-    there = s.there;
-    place = s.place;
-    known = s.known;
-    locals = types_over p u w g (environment_of p (method_at p f.number) s.body s.given) s.types.locals f.locals s.locals;
-  }
+  stands_over f s = record { body = s.body; given = s.given; index = s.index; instruction = s.instruction; types = s.types; has_code = s.has_code; has_frames = s.has_frames; there = s.there; place = s.place; known = s.known;
+    locals = types_over p u w g (environment_of p (method_at p f.number) s.body s.given) s.types.locals f.locals s.locals }
 
   pub goes_over : (f : Entry) → Goes p u f → Goes p w f
   unfolding stands_over
@@ -73,14 +62,8 @@ module _ (p : Program) (u w : World) (g : Over u w) where
 
   pub waits_over : (n : ℕ) (f : Entry) → Waits p u n f → Waits p w n f
   unfolding stands_over
-  waits_over n f h = let s = h.stands in record {
-    stands = stands_over f s;
-    named = h.named;
-    call = h.call;
-    same_name = h.same_name;
-    same_descriptor = h.same_descriptor;
-    operands = stack_over p u w g (environment_of p (method_at p f.number) s.body s.given) (drop (length (sides p (environment_of p (method_at p f.number) s.body s.given) f.pc s.types s.instruction.form).takes) s.types.stack) f.stack h.operands;
-  }
+  waits_over n f h = let s = h.stands in record { stands = stands_over f s; named = h.named; call = h.call; same_name = h.same_name; same_descriptor = h.same_descriptor;
+    operands = stack_over p u w g (environment_of p (method_at p f.number) s.body s.given) (drop (length (sides p (environment_of p (method_at p f.number) s.body s.given) f.pc s.types s.instruction.form).takes) s.types.stack) f.stack h.operands }
 
   pub all_ranged_over : (fs : List Entry) → AllRanged p u fs → AllRanged p w fs
   all_ranged_over [] h = tt
@@ -176,12 +159,12 @@ begun_typed {p = p} {w = w} {s = s} ty r c t f n q i =
     let o = opened None s (subst (λ (x : EntryKind). IsEntry x) (sym r.kind) tt) e in
     let here : at v (place.Init c) ≡ Running = at_put_same w (place.Init c) Running refl in
     subst (λ (fs : List Entry). TypedEntries p v None (record { top = class_entry c; below = fs })) (sym (whole s r.kind))
-    (closed None (class_entry c) tt (record { not_trivial = n; running = here }) tt tt (record {
-      each = (subst (λ (k : EntryKind). IsBelow p v s.top k (stub (InClass false) c) (InClass false)) (sym r.kind) (subst (λ (k : EntryKind). IsTop p v None k s.top) r.kind e.top), e.below);
-      range = (o.stack, o.locals, o.rest.range);
-      few = not_full s f (whole s r.kind);
-      apart = IsDistinct-cons nat_eq c (flat_map class_begun (s.top ∷ s.below)) (no_class (running_in p w s.top s.below t.below c q)) (subst (λ (es : List Entry). IsDistinct nat_eq (flat_map class_begun es)) (whole s r.kind) t.one_each);
-    }))
+      (closed None (class_entry c) tt (record { not_trivial = n; running = here }) tt tt (record {
+        each = (subst (λ (k : EntryKind). IsBelow p v s.top k (stub (InClass false) c) (InClass false)) (sym r.kind) (subst (λ (k : EntryKind). IsTop p v None k s.top) r.kind e.top), e.below);
+        range = (o.stack, o.locals, o.rest.range);
+        few = not_full s f (whole s r.kind);
+        apart = IsDistinct-cons nat_eq c (flat_map class_begun (s.top ∷ s.below)) (no_class (running_in p w s.top s.below t.below c q)) (subst (λ (es : List Entry). IsDistinct nat_eq (flat_map class_begun es)) (whole s r.kind) t.one_each);
+      }))
   where
     no_class : AllByRecursion (λ d. nat_eq c d ≡ false) (flat_map class_begun s.below) → AllByRecursion (λ d. nat_eq c d ≡ false) (flat_map class_begun (s.top ∷ s.below))
     no_class h = subst (λ (k : EntryKind). AllByRecursion (λ d. nat_eq c d ≡ false) (elim k as (λ x. List ℕ) [ Absent ↦ [] | InMethod ↦ [] | InClass b ↦ s.top.number ∷ [] ] ++ flat_map class_begun s.below)) (sym r.kind) h

@@ -120,12 +120,8 @@ module _ (p : Program) (w : World) (e : Environment) where
   pub long_popped : (ns : List Need) (ts rest : List VType) (v : Value) (vs : List Value) → Operands p w e (Half ∷ Fits Long ∷ ns) ts rest (v ∷ vs) → LongPopped ns ts rest v vs
   long_popped ns (Top ∷ u ∷ ts) rest (value.Long a) vs o =
       let q : suc (suc (length ns)) ≤ suc (suc (length ts)) = o.enough in
-      record {
-        below = ts;
-        seen = ap {B = List VType} (λ x. Top ∷ x ∷ ts) (is_long_type u (and_parts (meets p (Fits Long) u) (meet_all p ns ts) (and_parts (meets p Half Top) (meets p (Fits Long) u && meet_all p ns ts) o.met).1).0);
-        is = record { type = tt; range = tt };
-        operands = record { enough = omega arith; met = (and_parts (meets p (Fits Long) u) (meet_all p ns ts) (and_parts (meets p Half Top) (meets p (Fits Long) u && meet_all p ns ts) o.met).1).1; left = o.left; held = record { types = o.held.types.1; range = o.held.range.1 } };
-      }
+      record { below = ts; seen = ap {B = List VType} (λ x. Top ∷ x ∷ ts) (is_long_type u (and_parts (meets p (Fits Long) u) (meet_all p ns ts) (and_parts (meets p Half Top) (meets p (Fits Long) u && meet_all p ns ts) o.met).1).0); is = record { type = tt; range = tt };
+        operands = record { enough = omega arith; met = (and_parts (meets p (Fits Long) u) (meet_all p ns ts) (and_parts (meets p Half Top) (meets p (Fits Long) u && meet_all p ns ts) o.met).1).1; left = o.left; held = record { types = o.held.types.1; range = o.held.range.1 } } }
   long_popped ns (t ∷ u ∷ ts) rest (value.Int a) vs o = absurd (lower u ts vs (and_parts _ _ (and_parts _ _ o.met).1).0 o.held.types.1)
   long_popped ns (t ∷ u ∷ ts) rest value.Null vs o = absurd (lower u ts vs (and_parts _ _ (and_parts _ _ o.met).1).0 o.held.types.1)
   long_popped ns (t ∷ u ∷ ts) rest (value.Lit a) vs o = absurd (lower u ts vs (and_parts _ _ (and_parts _ _ o.met).1).0 o.held.types.1)

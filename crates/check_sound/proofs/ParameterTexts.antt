@@ -113,7 +113,7 @@ within_255 : (b : Bool) (o : Option (List ℕ)) (rest : List ℕ) → (if b then
 within_255 true o rest e = e
 within_255 false o rest e = absurd cc
 
-one_type : (us rest : List ℕ) → after_type us ≡ Some rest → OneType us rest
+pub one_type : (us rest : List ℕ) → after_type us ≡ Some rest → OneType us rest
 unfolding after_type
 one_type us rest e = by (position (λ u. not (nat_eq u 91)) us) refl e
   where

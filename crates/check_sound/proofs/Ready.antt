@@ -309,25 +309,22 @@ module _ (p : Program) (ty : IsTyped p) where
       let st = g.stands in
       let e = environment_of p (method_at p s.top.number) st.body st.given in
       let x : Placed = record { pc = s.top.pc; form = st.instruction.form } in
-      let th : slice_get st.body.code st.index ≡ Some x = st.there ∙ ap {B = Option Placed} (λ q. Some (record { pc = q; form = st.instruction.form })) st.place in (
-        st.instruction.form,
-        form_here p ty s.top.number st.body st.given st.has_code st.has_frames st.index x th,
-        record {
-          body = st.body;
-          given = st.given;
-          index = st.index;
-          types = st.types;
-          has_code = st.has_code;
-          has_frames = st.has_frames;
-          there = th;
-          known = st.known;
-          kept = kept_at p ty s.top.number st.body st.given st.has_code st.has_frames st.index x st.types th st.known;
-          kind = k;
-          locals = record { types = st.locals; range = o.locals };
-          stack = record { types = g.operands; range = o.stack };
-          rest = subst (λ (x : EntryKind). Rest p w x s.top.number s.below) k o.rest;
-        },
-      )
+      let th : slice_get st.body.code st.index ≡ Some x = st.there ∙ ap {B = Option Placed} (λ q. Some (record { pc = q; form = st.instruction.form })) st.place in
+      (st.instruction.form, form_here p ty s.top.number st.body st.given st.has_code st.has_frames st.index x th, record {
+        body = st.body;
+        given = st.given;
+        index = st.index;
+        types = st.types;
+        has_code = st.has_code;
+        has_frames = st.has_frames;
+        there = th;
+        known = st.known;
+        kept = kept_at p ty s.top.number st.body st.given st.has_code st.has_frames st.index x st.types th st.known;
+        kind = k;
+        locals = record { types = st.locals; range = o.locals };
+        stack = record { types = g.operands; range = o.stack };
+        rest = subst (λ (x : EntryKind). Rest p w x s.top.number s.below) k o.rest;
+      })
 
 module _ (p : Program) (ty : IsTyped p) {w : World} {s : Entries} {i : Instr} (r : Ready p w s i) where
   -- entries with another top frame of the same method over the same rest
@@ -367,9 +364,9 @@ module _ (p : Program) (ty : IsTyped p) {w : World} {s : Entries} {i : Instr} (r
       let t = leads_target (here r) to r.index x r.there l in
       let f = any_all to (leads i) (λ k. fits_at p (here r) (then r) k) l (and_parts _ _ (and_parts _ _ r.kept.four).1).0 in
       frame None to vs s.top.locals
-      (subst (λ (pc : ℕ). Goes p w (record { kind = InMethod; number = s.top.number; pc = pc; stack = vs; locals = s.top.locals })) y.3
-      (arrived_at p ty s.top.number r.body r.given r.has_code r.has_frames w y.0 y.1 (then r) s.top.locals vs y.2
-      (subst (λ (pc : ℕ). is_target (here r) pc ≡ true) (sym y.3) t) (subst (λ (pc : ℕ). fits_at p (here r) (then r) pc ≡ true) (sym y.3) f) hl hv)) hv.range hl.range
+        (subst (λ (pc : ℕ). Goes p w (record { kind = InMethod; number = s.top.number; pc = pc; stack = vs; locals = s.top.locals })) y.3
+          (arrived_at p ty s.top.number r.body r.given r.has_code r.has_frames w y.0 y.1 (then r) s.top.locals vs y.2
+            (subst (λ (pc : ℕ). is_target (here r) pc ≡ true) (sym y.3) t) (subst (λ (pc : ℕ). fits_at p (here r) (then r) pc ≡ true) (sym y.3) f) hl hv)) hv.range hl.range
 
   pub to : {vs : List Value} (at : ℕ) → list_any (λ m. nat_eq m at) (leads i) ≡ true → IsPlace r.body at → Locals p w (here r) (then r).locals s.top.locals → Held p w (here r) (then r).stack vs → Row p w (goes_to at s vs)
   to at l pl hl hv = typed_done (at_typed at l pl hl hv)

@@ -142,7 +142,7 @@ module _ (p : Program) (lk : Linked p) where
     pub interface : is_interface_at p i ≡ true
 
   -- what stands among a class's interfaces is one
-  direct : (c i : ℕ) → member i (class_at p c).interfaces ≡ true → IsInterface i
+  pub direct : (c i : ℕ) → member i (class_at p c).interfaces ≡ true → IsInterface i
   direct c i m = elim (cases_lt c (length p.classes)) [
     | inl h ↦ elim (cases_lt c builtin_count) [
       | inl b ↦ absurd (none_listed i (class_at p c).interfaces (class_keeps p lk.builtins (λ x. nat_eq (length x.interfaces) 0) no_interfaces c b) m)

@@ -31,7 +31,6 @@ state_same w c d s h e = by d (same_true (place.Init d) (place.Init c) e)
   where
     number : {a b : ℕ} → place.Init a ≡ place.Init b → a ≡ b
     number q = cc
-
     by : (d : ℕ) → place.Init d ≡ place.Init c → at (put w (place.Init c) s) (place.Init d) ≡ s
     by d q = subst (λ (k : ℕ). at (put w (place.Init c) s) (place.Init k) ≡ s) (sym (number q)) (at_put_same w (place.Init c) s h)
 

@@ -38,7 +38,6 @@ then_wide b pc locals (Some stack) rest gs f e = by (is_place b.code pc) e
     at_rest : (rest : Option (List Frame)) → ((hs : List Frame) → rest ≡ Some hs → AllWide b.max_locals hs) → joined (Some (frame_at b.max_locals pc locals stack)) rest ≡ Some gs → AllWide b.max_locals gs
     at_rest None f e = absurd (cc)
     at_rest (Some hs) f e = let q : frame_at b.max_locals pc locals stack ∷ hs ≡ gs = cc in subst (λ (xs : List Frame). AllWide b.max_locals xs) q (padded_wide b.max_locals (spread locals), f hs refl)
-
     by : (x : Bool) → elim x as (λ z. Option (List Frame)) [ true ↦ joined (Some (frame_at b.max_locals pc locals stack)) rest | false ↦ None ] ≡ Some gs → AllWide b.max_locals gs
     by true e = at_rest rest f e
     by false e = absurd (cc)
