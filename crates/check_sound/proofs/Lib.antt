@@ -39,3 +39,4 @@ pub mod InitRows
 pub mod WholeStep
 pub mod KindNames
 pub mod CastRows
+pub mod CreateRows
