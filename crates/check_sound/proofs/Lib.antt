@@ -30,3 +30,4 @@ pub mod CallSides
 pub mod ReturnRows
 pub mod Arguments
 pub mod CallRows
+pub mod LibraryTypes
