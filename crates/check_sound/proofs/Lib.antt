@@ -40,3 +40,4 @@ pub mod WholeStep
 pub mod KindNames
 pub mod CastRows
 pub mod CreateRows
+pub mod LibraryTypes
