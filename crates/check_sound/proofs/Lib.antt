@@ -41,3 +41,4 @@ pub mod KindNames
 pub mod CastRows
 pub mod CreateRows
 pub mod LibraryTypes
+pub mod DriverRows
