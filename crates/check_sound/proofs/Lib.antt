@@ -31,3 +31,4 @@ pub mod ReturnRows
 pub mod Arguments
 pub mod CallRows
 pub mod LibraryTypes
+pub mod NativeRows
