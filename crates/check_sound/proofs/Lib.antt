@@ -8,6 +8,11 @@ mod Nested
 mod Initialise
 mod Driver
 mod Natives
+pub mod ParameterTexts
+pub mod SelectLaws
+pub mod DeclaredValues
+pub mod StaticRows
+pub mod FieldRows
 pub mod Tree
 pub mod Grow
 pub mod WorldKept
@@ -32,3 +37,7 @@ pub mod Arguments
 pub mod CallRows
 pub mod LibraryTypes
 pub mod NativeRows
+pub mod InitRows
+pub mod WholeStep
+pub mod KindNames
+pub mod CastRows
