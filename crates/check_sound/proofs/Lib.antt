@@ -35,6 +35,8 @@ pub mod CallSides
 pub mod ReturnRows
 pub mod Arguments
 pub mod CallRows
+pub mod LibraryTypes
+pub mod NativeRows
 pub mod InitRows
 pub mod WholeStep
 pub mod KindNames
