@@ -42,5 +42,4 @@ pub mod WholeStep
 pub mod KindNames
 pub mod CastRows
 pub mod CreateRows
-pub mod LibraryTypes
 pub mod DriverRows
