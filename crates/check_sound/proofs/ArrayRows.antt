@@ -1,5 +1,5 @@
 -- The rows of array loads, array stores and arraylength.
-use Rattle.std.proofs.Common.{◌≡◌, ◌⊎◌, ℕ, ℤ, zero, suc, ◌+◌, ◌<◌, ◌≤◌, List, [], ◌∷◌, ◌++◌, length, drop, Bool, true, false, not, ◌&&◌, ◌||◌, cond, pos, negsuc, nat_eq, nat_lt, Option, Some, None, refl, sym, ◌∙◌, ap, subst, arith, inl, inr}
+use Rattle.std.proofs.Common.{◌≡◌, ℕ, ℤ, ◌+◌, ◌<◌, List, [], ◌∷◌, ◌++◌, length, true, ◌||◌, cond, pos, negsuc, nat_eq, nat_lt, refl, sym, ◌∙◌, ap, subst, inl, inr}
 use Rattle.std.specs.Prelude.{slice_index_or}
 use Rattle.std.proofs.lemmas.Bool.{and_parts, or_cases, eqb-true, ltb-true}
 use Rattle.jvm_model.specs.declared.values.Value.{Value}
@@ -21,28 +21,27 @@ use Rattle.jvm_model.specs.Builtin.{object_class, null_pointer_exception, array_
 use Rattle.jvm_model.specs.Classes.{member}
 use Rattle.jvm_model.specs.Entries.{Entries, with_stack}
 use Rattle.jvm_model.specs.Kinds.{element_kind, kind_fits}
-use Rattle.jvm_model.specs.Linked.{Linked, IsKind, first_or, fits_int}
+use Rattle.jvm_model.specs.Linked.{Linked, IsKind}
 use Rattle.et_base.specs.Numbers.{l2i}
 use Rattle.jvm_model.specs.Narrow.{narrow}
 use Rattle.jvm_model.specs.Rows.{Answer, answer, popping, on_int, on_object, goes_on, constant_kind}
 use Rattle.jvm_model.specs.RowsArrays.{on_array, in_range, element_letter, holds_references, checked, stored_in, loaded_from, row_arrays}
 use Rattle.jvm_model.specs.Step.{group_of, arrays}
-use Rattle.type_frames.specs.declared.sides.Need.{Need}
-use Rattle.type_frames.specs.declared.sides.Need.TheVariants.{Fits, Half, Small, Array}
+use Rattle.type_frames.specs.declared.sides.Need.TheVariants.{Fits, Array}
 use Rattle.type_frames.specs.declared.vtype.VType.{VType}
-use Rattle.type_frames.specs.declared.vtype.VType.TheVariants.{Top, Int, Long, Null, Object, UninitThis, Uninit}
+use Rattle.type_frames.specs.declared.vtype.VType.TheVariants.{Top, Int, Long, Null, Object}
 use Rattle.type_frames.specs.Frames.{Slots}
 use Rattle.type_frames.specs.Environment.{Environment}
-use Rattle.type_frames.specs.Assign.{is_array, object_fits, assignable}
-use Rattle.type_frames.specs.Descriptors.{types_of, name_of, kind_name, base_text}
-use Rattle.type_frames.specs.Sides.{sides, array_need, element_type, loaded, stored, place_of, objects_text, object_of}
+use Rattle.type_frames.specs.Assign.{is_array, assignable}
+use Rattle.type_frames.specs.Descriptors.{types_of, name_of, kind_name}
+use Rattle.type_frames.specs.Sides.{sides, array_need, element_type, loaded, place_of, objects_text}
 use Rattle.type_frames.specs.Rules.{meets, is_any_array, is_small}
 use Rattle.type_frames.specs.Typing.{IsTyped}
-use Rattle.type_frames.specs.TypedState.{kind_at, IsInRange, IsInstance, RefersTo, HasType, IsDeclared, IsReferenceOf, element_text}
+use Rattle.type_frames.specs.TypedState.{kind_at, IsInstance, RefersTo, HasType, IsDeclared, IsReferenceOf, element_text}
 use Rattle.type_frames.proofs.AssignLaws.{assignable_trans}
-use Rattle.check_sound.proofs.Tree.{head_at, Tree, typed_done, typed_read, typed_write}
-use Rattle.check_sound.proofs.Held.{Is, Held, IsShort, on_top, int_on, is_fits, refers_fits}
-use Rattle.check_sound.proofs.Operands.{Operands, IsPop, rest_of, popping-seen, popping-typed, popping-fits, popping-long, popping-long-seen, on_int-typed, on_object-typed, head-typed, choose-typed}
+use Rattle.check_sound.proofs.Tree.{head_at, typed_done, typed_read, typed_write}
+use Rattle.check_sound.proofs.Held.{Is, Held, int_on, is_fits, refers_fits}
+use Rattle.check_sound.proofs.Operands.{Operands, IsPop, rest_of, popping-seen, popping-typed, popping-fits, popping-long, on_int-typed, on_object-typed, head-typed, choose-typed}
 use Rattle.check_sound.proofs.Ready.{Ends, Row, Ready, here, rest, operands, on}
 use Rattle.check_sound.proofs.Ends.{fault_typed}
 use Rattle.check_sound.proofs.Thrown.{null_pointer_thrown, array_index_thrown, array_store_thrown}
@@ -50,7 +49,7 @@ use Rattle.check_sound.proofs.CallSides.{Result, push}
 use Rattle.check_sound.proofs.DeclaredValues.{smalls, narrowed_fits, declared_result}
 use Rattle.check_sound.proofs.CastRows.{constant_is_kind}
 use Rattle.check_sound.proofs.KindNames.{kind_instance}
-use Rattle.check_sound.proofs.ArrayKinds.{References, Plain, Refs, array_below, array_kind, plain_cells, ref_cells}
+use Rattle.check_sound.proofs.ArrayKinds.{Plain, Refs, array_below, array_kind, plain_cells, ref_cells}
 
 -- ---- arrays on the stack
 

@@ -50,7 +50,7 @@ module _ (p : Program) (lk : Linked p) where
   start_of w c (Some d) (kind.Array n b) h a q = absurd (cc)
   start_of w c (Some d) (kind.Class k) h a b = subst (λ (x : ℕ). IsInstance p (kind.Class x) (name_of p c)) (eqb-true c d a ∙ sym (eqb-true k d b)) (instance_itself p lk c h)
 
-  this_of : (c : ℕ) (k : Kind) → IsClass p c → is_class_with (λ d. is_below p d c) k ≡ true → IsInstance p k (name_of p c)
+  pub this_of : (c : ℕ) (k : Kind) → IsClass p c → is_class_with (λ d. is_below p d c) k ≡ true → IsInstance p k (name_of p c)
   this_of c (kind.Class d) h b = below_is p lk d c h b
   this_of c (kind.Array n b) h q = absurd (cc)
 

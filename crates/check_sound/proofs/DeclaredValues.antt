@@ -29,7 +29,8 @@ use Rattle.check_sound.proofs.ParameterTexts.{one_type}
 use Rattle.check_sound.proofs.Operands.{Operands, none_there}
 use Rattle.check_sound.proofs.Ready.{HasPlain}
 use Rattle.check_sound.proofs.CallSides.{Result}
-use Rattle.check_sound.proofs.Arguments.{IsText, Argument, Arguments, take_args}
+use Rattle.check_sound.proofs.ParameterTexts.{IsText}
+use Rattle.check_sound.proofs.Arguments.{Argument, Arguments, take_args}
 
 -- ---- narrowed ints
 

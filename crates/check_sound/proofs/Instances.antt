@@ -7,15 +7,16 @@ use Rattle.jvm_model.specs.declared.values.Kind.TheVariants as kind
 use Rattle.jvm_model.specs.declared.values.Base.{Base}
 use Rattle.jvm_model.specs.declared.program.Program.{Program}
 use Rattle.jvm_model.specs.Builtin.{object_class}
-use Rattle.jvm_model.specs.Classes.{class_at, is_below, is_interface, member, no_class}
+use Rattle.jvm_model.specs.Classes.{class_at, is_below, is_interface, member, no_class, upwards}
 use Rattle.jvm_model.specs.declared.program.ClassRec.{ClassRec}
 use Rattle.jvm_model.specs.Linked.{Linked, IsClass, IsKind, is_interface_at}
-use Rattle.jvm_model.proofs.Upwards.{below_same, upwards_root}
+use Rattle.jvm_model.proofs.Upwards.{below_same, upwards_root, upwards_step}
 use Rattle.et_base.specs.Names.{is_class_name, is_class_entry_name, starts_array, is_field_descriptor}
 use Rattle.type_frames.specs.declared.vtype.VType.TheVariants.{Object}
 use Rattle.type_frames.specs.Descriptors.{name_of, kind_name, base_text}
 use Rattle.type_frames.specs.Assign.{class_named, takes_any, extends, class_fits, element_fits, is_array, object_fits, assignable}
 use Rattle.type_frames.specs.TypedState.{IsInstance}
+use Rattle.type_frames.specs.Sides.{is_that}
 use Rattle.type_frames.proofs.Units.{units_true, units_refl}
 use Rattle.type_frames.proofs.AssignLaws.{class_name_plain, first_named, interface_takes, assignable_itself}
 
@@ -28,6 +29,10 @@ pub record Below (p : Program) (k : Kind) (c : ℕ) : Type 0 where
   pub class : ℕ
   pub is : k ≡ kind.Class class
   pub below : is_below p class c ≡ true
+
+step_below : (p : Program) (lk : Linked p) (c d e : ℕ) → IsClass p c → (class_at p c).superclass ≡ Some d → is_below p d e ≡ true → is_below p c e ≡ true
+unfolding is_below
+step_below p lk c d e h s b = subst (λ (xs : List ℕ). member e xs ≡ true) (sym (upwards_step p lk c d h s)) (or_right (nat_eq e c) (member e (upwards p d)) b)
 
 module _ (p : Program) (lk : Linked p) where
   pub plain_name : (c : ℕ) → IsClass p c → is_array (name_of p c) ≡ false
@@ -69,7 +74,7 @@ module _ (p : Program) (lk : Linked p) where
       ∙ or_right (bytes_eq (name_of p c) (name_of p d)) (takes_any p (name_of p d) || extends p (name_of p c) (name_of p d)) (or_right (takes_any p (name_of p d)) (extends p (name_of p c) (name_of p d)) (named_below c d h g ∙ b))
 
   -- a number that names no class is below itself alone
-  below_class : (c d : ℕ) → IsClass p d → is_below p c d ≡ true → IsClass p c
+  pub below_class : (c d : ℕ) → IsClass p d → is_below p c d ≡ true → IsClass p c
   unfolding is_below
   below_class c d g b = elim (cases_lt c (length p.classes)) [
     | inl l ↦ l
@@ -82,6 +87,14 @@ module _ (p : Program) (lk : Linked p) where
       no_superclass [] c h = refl
       no_superclass (x ∷ cs) zero h = absurd (omega arith)
       no_superclass (x ∷ cs) (suc c) h = no_superclass cs c (omega arith)
+
+  -- the superclass is above its class
+  pub super_below : (c d : ℕ) → IsClass p c → is_that d (class_at p c).superclass ≡ true → is_below p c d ≡ true
+  super_below c d h z = by (class_at p c).superclass refl z
+    where
+      by : (o : Option ℕ) → (class_at p c).superclass ≡ o → is_that d o ≡ true → is_below p c d ≡ true
+      by None q z = absurd (cc)
+      by (Some x) q z = step_below p lk c x d h q (subst (λ (y : ℕ). is_below p y d ≡ true) (eqb-true d x z) (below_same p d))
 
   pub below_is : (c d : ℕ) → IsClass p d → is_below p c d ≡ true → IsInstance p (kind.Class c) (name_of p d)
   below_is c d g b = below_instance c d (below_class c d g b) g b

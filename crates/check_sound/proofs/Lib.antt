@@ -35,9 +35,14 @@ pub mod CallSides
 pub mod ReturnRows
 pub mod Arguments
 pub mod CallRows
+pub mod LibraryTypes
+pub mod NativeRows
+pub mod InitRows
+pub mod WholeStep
 pub mod KindNames
 pub mod CastRows
 pub mod CreateRows
 pub mod ArrayKinds
 pub mod NestedRow
 pub mod ArrayRows
+pub mod DriverRows

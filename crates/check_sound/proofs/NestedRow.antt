@@ -1,5 +1,5 @@
 -- The row of multianewarray: arrays of arrays, from the outermost in.
-use Rattle.std.proofs.Common.{◌≡◌, ℕ, ℤ, zero, suc, ◌+◌, ◌-◌, ◌<◌, ◌≤◌, List, [], ◌∷◌, ◌++◌, length, drop, replicate, Bool, true, false, cond, pos, negsuc, Option, Some, None, refl, sym, ◌∙◌, ap, subst, arith}
+use Rattle.std.proofs.Common.{◌≡◌, ℕ, ℤ, zero, suc, ◌+◌, ◌-◌, ◌<◌, ◌≤◌, List, [], ◌∷◌, length, replicate, Bool, true, false, pos, negsuc, refl, sym, ◌∙◌, ap, subst, arith}
 use Rattle.jvm_model.specs.declared.values.Value.{Value}
 use Rattle.jvm_model.specs.declared.values.Value.TheVariants as value
 use Rattle.jvm_model.specs.declared.values.Kind.{Kind}
@@ -17,23 +17,22 @@ use Rattle.jvm_model.specs.Builtin.{negative_size_exception}
 use Rattle.jvm_model.specs.Classes.{blank}
 use Rattle.jvm_model.specs.Entries.{Entries}
 use Rattle.jvm_model.specs.Kinds.{element_kind}
-use Rattle.jvm_model.specs.Linked.{Linked, IsKind, IsArray, dims_of}
+use Rattle.jvm_model.specs.Linked.{IsKind, IsArray, dims_of}
 use Rattle.jvm_model.specs.Rows.{Answer}
 use Rattle.jvm_model.specs.RowsCreate.{array_head, children, nest, nested, sized, row_create}
 use Rattle.jvm_model.specs.Step.{group_of, create as of_create}
 use Rattle.jvm_model.proofs.Locations.{at_make_new, size_make}
-use Rattle.type_frames.specs.declared.sides.Need.{Need}
 use Rattle.type_frames.specs.declared.sides.Need.TheVariants.{Fits}
 use Rattle.type_frames.specs.declared.vtype.VType.{VType}
-use Rattle.type_frames.specs.declared.vtype.VType.TheVariants.{Int, Object}
-use Rattle.type_frames.specs.Descriptors.{types_of, kind_name}
+use Rattle.type_frames.specs.declared.vtype.VType.TheVariants.{Int}
+use Rattle.type_frames.specs.Descriptors.{kind_name}
 use Rattle.type_frames.specs.Sides.{sides}
 use Rattle.type_frames.specs.Typing.{IsTyped}
 use Rattle.type_frames.specs.TypedState.{kind_at, IsInstance, IsReferenceOf, IsDeclared, element_text}
 use Rattle.check_sound.proofs.Tree.{head_at, Tree, typed_done, typed_write, typed_make, typed_spend, Over}
 use Rattle.check_sound.proofs.TreeRuns.{tree_bind}
 use Rattle.check_sound.proofs.Grow.{kind_over}
-use Rattle.check_sound.proofs.Held.{Is, Held, on_top, locals_over, held_over}
+use Rattle.check_sound.proofs.Held.{Held, on_top, locals_over, held_over}
 use Rattle.check_sound.proofs.Operands.{Operands, rest_of, popping-fits, on_int-typed, choose-typed}
 use Rattle.check_sound.proofs.Ready.{Grows, Ends, Row, Ready, here, rest, operands, on, is_form, names_form}
 use Rattle.check_sound.proofs.Onward.{grows_make, ready_grows}

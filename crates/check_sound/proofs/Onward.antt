@@ -125,14 +125,14 @@ entries_grow {p = p} {u = u} {w = w} raised s g t = record {
 
 -- ---- a class is begun
 
-differs : (p : Program) (w : World) (f : Entry) (c : ℕ) → Initialises p w f → at w (place.Init c) ≡ Idle → nat_eq c f.number ≡ false
+pub differs : (p : Program) (w : World) (f : Entry) (c : ℕ) → Initialises p w f → at w (place.Init c) ≡ Idle → nat_eq c f.number ≡ false
 differs p w f c h q = elim (cases_Bool (nat_eq c f.number)) [
   | inr e ↦ e
   | inl e ↦ absurd (let z : at w (place.Init c) ≡ Running = subst (λ (d : ℕ). at w (place.Init d) ≡ Running) (sym (eqb-true c f.number e)) h.running in let y : Idle ≡ Running = sym q ∙ z in cc)
 ]
 
 -- each class that is being initialised is Running
-running_in : (p : Program) (w : World) (a : Entry) (fs : List Entry) → AllBelow p w a fs → (c : ℕ) → at w (place.Init c) ≡ Idle → AllByRecursion (λ d. nat_eq c d ≡ false) (flat_map class_begun fs)
+pub running_in : (p : Program) (w : World) (a : Entry) (fs : List Entry) → AllBelow p w a fs → (c : ℕ) → at w (place.Init c) ≡ Idle → AllByRecursion (λ d. nat_eq c d ≡ false) (flat_map class_begun fs)
 running_in p w a [] h c q = tt
 running_in p w a (f ∷ fs) h c q = by f.kind a.kind h.0 (running_in p w f fs h.1 c q)
   where

@@ -15,7 +15,7 @@ module _ (p : Program) (lk : Linked p) where
   pub builtin_is : (c : ℕ) → c < builtin_count → c < length p.classes
   builtin_is c h = let b = enough_classes p lk.builtins in omega arith
 
-  above : (c d : ℕ) → c < builtin_count → (get_or builtin_classes c no_class).superclass ≡ Some d → is_below p d throwable_class ≡ true → is_below p c throwable_class ≡ true
+  pub above : (c d : ℕ) → c < builtin_count → (get_or builtin_classes c no_class).superclass ≡ Some d → is_below p d throwable_class ≡ true → is_below p c throwable_class ≡ true
   unfolding is_below
   above c d h e b =
       let s : (class_at p c).superclass ≡ Some d = ap (λ (x : ClassRec). x.superclass) (builtin_class p lk.builtins c h) ∙ e in

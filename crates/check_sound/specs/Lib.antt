@@ -3,3 +3,4 @@ pub mod Typed
 pub mod WorldLaw
 pub mod Slots
 pub mod NativeTypes
+pub mod StepLaw
