@@ -173,7 +173,7 @@ short_slots w e p x ts v vs q s h g = subst (λ (xs : List VType). HaveTypes p w
 abbrev pub this_type : Program → MethodRec → VType
 this_type p m = cond (is_constructor m) UninitThis (Object (name_of p m.class))
 
-this_is : (p : Program) (m : MethodRec) → is_static m.flags ≡ false → this_types p m ≡ this_type p m ∷ []
+pub this_is : (p : Program) (m : MethodRec) → is_static m.flags ≡ false → this_types p m ≡ this_type p m ∷ []
 this_is p m f = ap (λ (b : Bool). elim b as (λ z. List VType) [ true ↦ [] | false ↦ elim (is_constructor m) as (λ z. List VType) [ true ↦ UninitThis ∷ [] | false ↦ Object (name_of p m.class) ∷ [] ] ]) f ∙ by (is_constructor m)
   where
     by : (b : Bool) → elim b as (λ z. List VType) [ true ↦ UninitThis ∷ [] | false ↦ Object (name_of p m.class) ∷ [] ] ≡ cond b UninitThis (Object (name_of p m.class)) ∷ []

@@ -32,7 +32,7 @@ use Rattle.type_frames.specs.Descriptors.{name_of, kind_name}
 use Rattle.type_frames.specs.Sides.{sides}
 use Rattle.type_frames.specs.Typing.{IsTyped}
 use Rattle.type_frames.specs.TypedState.{kind_at, IsInstance, RefersTo}
-use Rattle.check_sound.proofs.Tree.{Tree, typed_done}
+use Rattle.check_sound.proofs.Tree.{Tree, typed_done, typed_known}
 use Rattle.check_sound.proofs.Held.{Is, Held, on_top, int_on}
 use Rattle.check_sound.proofs.Operands.{Operands, rest_of, popping-fits, on_object-typed, head-typed, choose-typed}
 use Rattle.check_sound.proofs.Ready.{Ends, Row, Ready, here, rest, operands, on, raised_typed}
@@ -118,14 +118,14 @@ module _ (p : Program) (ty : IsTyped p) {w : World} {s : Entries} where
   casts-typed (form.InstanceOf k) g r = instance_of k r
   casts-typed _ g r = absurd (cc)
 
-  -- athrow, where the kind of each object is one of the program
-  raises : (r : Ready p w s form.Throw) → ((o : ℕ) → o < size w → IsKind p (kind_at w o)) → (v : Value) → RefersTo p w (name_of p throwable_class) v → Row p w (on_object s v (λ o. done (answer (Raise v) s)))
-  raises r kinds (value.Int n) h = absurd h
-  raises r kinds (value.Long n) h = absurd h
-  raises r kinds value.Null h = typed_done (fault_typed p ty r null_pointer_exception s.top.stack (null_pointer_thrown p ty.linked) r.stack.range)
-  raises r kinds (value.Lit n) h = absurd (no_constant p ty.linked n h.1)
-  raises r kinds (value.Obj o) h = typed_done ((h.0, throwable_below p ty.linked (kind_at w o) (kinds o h.0) h.1), raised_typed p ty r (value.Obj o) s.top.stack r.stack.range)
+  -- athrow
+  raises : (r : Ready p w s form.Throw) → (v : Value) → RefersTo p w (name_of p throwable_class) v → Row p w (on_object s v (λ o. done (answer (Raise v) s)))
+  raises r (value.Int n) h = absurd h
+  raises r (value.Long n) h = absurd h
+  raises r value.Null h = typed_done (fault_typed p ty r null_pointer_exception s.top.stack (null_pointer_thrown p ty.linked) r.stack.range)
+  raises r (value.Lit n) h = absurd (no_constant p ty.linked n h.1)
+  raises r (value.Obj o) h = typed_known o h.0 (λ k. typed_done ((h.0, throwable_below p ty.linked (kind_at w o) k h.1), raised_typed p ty r (value.Obj o) s.top.stack r.stack.range))
 
-  pub throw-typed : ((o : ℕ) → o < size w → IsKind p (kind_at w o)) → Ready p w s form.Throw → Row p w (row_throw s)
+  pub throw-typed : Ready p w s form.Throw → Row p w (row_throw s)
   unfolding row_throw sides
-  throw-typed kinds r = popping-fits p (Ends p) w ty.linked (Object (name_of p throwable_class)) tt (operands r) (λ v vs us h sv o. raises r kinds v h.type)
+  throw-typed r = popping-fits p (Ends p) w ty.linked (Object (name_of p throwable_class)) tt (operands r) (λ v vs us h sv o. raises r v h.type)

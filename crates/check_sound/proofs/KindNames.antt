@@ -2,7 +2,7 @@
 use Rattle.std.proofs.Common.{◌≡◌, ◌⊎◌, ℕ, zero, suc, ◌+◌, ◌-◌, ◌<◌, ◌≤◌, List, [], ◌∷◌, ◌++◌, length, drop, take, replicate, Bool, true, false, not, ◌&&◌, ◌||◌, cond, nat_eq, nat_lt, Option, Some, None, refl, sym, ◌∙◌, ap, subst, arith, inl, inr}
 use Rattle.std.specs.Prelude.{flat_map}
 use Rattle.std.specs.Str.{bytes_eq}
-use Rattle.std.proofs.lemmas.Bool.{cases_Bool, and_parts, or_cases, or_right, eqb-true, ltb-true}
+use Rattle.std.proofs.lemmas.Bool.{cases_Bool, and_parts, or_cases, or_left, or_right, eqb-true, eq-eqb, ltb-true}
 use Rattle.std.proofs.lemmas.List.{length-append}
 use Rattle.std.proofs.Math.Seq.{take-append_seam}
 use Rattle.jvm_model.specs.declared.values.Base.{Base}
@@ -14,6 +14,7 @@ use Rattle.jvm_model.specs.Builtin.{object_class}
 use Rattle.jvm_model.specs.Classes.{is_below, implements, upwards, own_interfaces, member}
 use Rattle.jvm_model.specs.Kinds.{class_fits, base_fits, is_object, kind_fits}
 use Rattle.jvm_model.specs.Linked.{Linked, IsClass, IsKind, IsBase, is_interface_at}
+use Rattle.jvm_model.proofs.Upwards.{below_same}
 use Rattle.jvm_model.proofs.Interfaces.{member-flat_map}
 use Rattle.type_frames.specs.Descriptors.{class_name, name_of, kind_name, base_text}
 use Rattle.type_frames.specs.Assign.{takes_any, element_fits, object_fits}
@@ -93,3 +94,19 @@ module _ (p : Program) (lk : Linked p) where
         let j = and_parts (nat_lt (suc m) (suc n)) (is_object e) i in
         object_element n m b e (let z = ltb-true (suc m) (suc n) j.0 in omega arith) g.2 j.1
   ]
+
+  bases_itself : (b : Base) → base_fits p b b ≡ true
+  unfolding class_fits
+  bases_itself (base.Class c) = or_left (is_below p c c) (implements p c c) (below_same p c)
+  bases_itself base.Boolean = refl
+  bases_itself base.Byte = refl
+  bases_itself base.Char = refl
+  bases_itself base.Short = refl
+  bases_itself base.Int = refl
+  bases_itself base.Long = refl
+
+  -- an object of a kind is an instance of it
+  pub kind_itself : (k : Kind) → IsKind p k → IsInstance p k (kind_name p k)
+  unfolding kind_fits class_fits
+  kind_itself (kind.Class c) h = kind_instance (kind.Class c) (kind.Class c) h h (or_left (is_below p c c) (implements p c c) (below_same p c))
+  kind_itself (kind.Array n b) h = kind_instance (kind.Array n b) (kind.Array n b) h h (rw (eq-eqb n n refl) (bases_itself b))

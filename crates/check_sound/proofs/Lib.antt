@@ -41,3 +41,5 @@ pub mod InitRows
 pub mod WholeStep
 pub mod KindNames
 pub mod CastRows
+pub mod CreateRows
+pub mod DriverRows

@@ -131,6 +131,11 @@ catching p b e f c pc to (h ∷ hs) ih ic a q =
         let z : handler_in p hs pc c ≡ Some to = sym (ap (λ (k : Bool). cond k (Some h.at) (handler_in p hs pc c)) (joined (covers h pc) (nat_le h.from pc) (nat_lt pc h.to) refl (catches p h.catches c) ∙ ap (λ (k : Bool). k && catches p h.catches c) ex)) ∙ q in
         later (r z)
 
+-- a throwable, by the name of its class
+pub throwable_instance : (p : Program) (ty : IsTyped p) (x : Kind) → IsKind p x → is_below p (class_of x) throwable_class ≡ true → IsInstance p x (name_of p throwable_class)
+throwable_instance p ty (kind.Class c) i b = below_instance p ty.linked c throwable_class i (builtin_is p ty.linked throwable_class (omega arith)) b
+throwable_instance p ty (kind.Array d x) i b = absurd (let z : throwable_class ≡ object_class = object_below p ty.linked throwable_class b in cc)
+
 module _ (p : Program) (ty : IsTyped p) (w : World) where
   -- what is caught is an instance of what the handler names
   caught_type : (o : ℕ) (h : Handler) → o < size w → IsKind p (kind_at w o) → is_below p (class_of (kind_at w o)) throwable_class ≡ true → catches p h.catches (class_of (kind_at w o)) ≡ true → IfSome h.catches (λ d. IsClass p d) → IsInstance p (kind_at w o) (name_of p (caught h))

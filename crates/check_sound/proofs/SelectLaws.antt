@@ -83,7 +83,7 @@ pub filtered : (f : ℕ → Bool) (xs : List ℕ) (n : ℕ) → member n (filter
 filtered f [] n e = absurd cc
 filtered f (x ∷ xs) n e = filtered_by f x n xs (f x) refl (filtered f xs n) e
 
-first_of : (n : ℕ) (xs : List ℕ) → member n (n ∷ xs) ≡ true
+pub first_of : (n : ℕ) (xs : List ℕ) → member n (n ∷ xs) ≡ true
 first_of n xs = or_left (nat_eq n n) (member n xs) (eq-eqb n n refl)
 
 module _ (p : Program) (lk : Linked p) where
@@ -100,7 +100,7 @@ module _ (p : Program) (lk : Linked p) where
     pub method : IsMethod p n
     pub own : (method_at p n).class ≡ c
 
-  declares : (c n : ℕ) → member n (class_at p c).methods ≡ true → Declares c n
+  pub declares : (c n : ℕ) → member n (class_at p c).methods ≡ true → Declares c n
   declares c n m = elim (cases_lt c (length p.classes)) [
     | inl h ↦ record {
       is_class = h;
@@ -116,7 +116,7 @@ module _ (p : Program) (lk : Linked p) where
     pub listed : member class cs ≡ true
     pub declared : Declares class n
 
-  of_classes : (cs : List ℕ) (n : ℕ) → member n (flat_map (λ c. (class_at p c).methods) cs) ≡ true → OfClasses cs n
+  pub of_classes : (cs : List ℕ) (n : ℕ) → member n (flat_map (λ c. (class_at p c).methods) cs) ≡ true → OfClasses cs n
   of_classes cs n m =
       let q = any_some (λ c. member n (class_at p c).methods) cs (sym (member-flat_map n (λ c. (class_at p c).methods) cs) ∙ m) in
       record { class = q.0; listed = q.1; declared = declares q.0 n q.2 }
