@@ -43,3 +43,5 @@ pub mod KindNames
 pub mod CastRows
 pub mod CreateRows
 pub mod DriverRows
+pub mod ArrayKinds
+pub mod NestedRow
