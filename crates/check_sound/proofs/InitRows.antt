@@ -43,7 +43,7 @@ use Rattle.check_sound.proofs.Tree.{Tree, typed_done, typed_read, typed_mark, ty
 use Rattle.check_sound.proofs.Grow.{Ranged, throwable_over}
 use Rattle.check_sound.proofs.WorldKept.{mark_over}
 use Rattle.check_sound.proofs.Operands.{choose-typed, head-typed}
-use Rattle.check_sound.proofs.Ready.{TypedEntries, stub, Rest, IsEntry, Opened, opened, closed, below_same, IsThrown, Ends, Row, any_raised}
+use Rattle.check_sound.proofs.Ready.{TypedEntries, stub, Rest, IsEntry, Opened, opened, closed, below_same, IsThrown, Ends, Quiet, Row, any_raised}
 use Rattle.check_sound.proofs.Onward.{StayRunning, rest_kept, rest_grows, grows_begin, grows_make, entries_grow, running_in, differs, not_full}
 use Rattle.check_sound.proofs.Thrown.{overflow_thrown, no_class_thrown, initializer_thrown}
 use Rattle.check_sound.proofs.Blank.{blank_new}
@@ -256,11 +256,11 @@ module _ (p : Program) (ty : IsTyped p) {w : World} {s : Entries} where
   quiet : (b : Bool) (v : Value) → s.top.kind ≡ InClass b → TypedEntries p w (Some v) s → TypedEntries p w None s
   quiet b v k t = record { references = t.references; few = t.few; top = subst (λ (x : EntryKind). IsTop p w None x s.top) (sym k) (subst (λ (x : EntryKind). IsTop p w (Some v) x s.top) k t.top); below = t.below; one_each = t.one_each }
 
-  fails-typed : (b : Bool) (v : Value) → s.top.kind ≡ InClass b → TypedEntries p w None s → IsThrowable p w v → Row p w (fails v s)
+  fails-typed : (b : Bool) (v : Value) → s.top.kind ≡ InClass b → TypedEntries p w None s → IsThrowable p w v → Tree p (Quiet p) w (fails v s)
   fails-typed b v k t h = typed_mark (own_class p ty b k t) (typed_done (throwable_over p w (put w (place.Init s.top.number) Erroneous) (mark_over p w s.top.number Erroneous) v h,
       raised_below v s.below (written_rest Erroneous s.below (rest_below p ty b k t))))
 
-  fails_anew-typed : (b : Bool) → s.top.kind ≡ InClass b → TypedEntries p w None s → Row p w (fails_anew p s)
+  fails_anew-typed : (b : Bool) → s.top.kind ≡ InClass b → TypedEntries p w None s → Tree p (Quiet p) w (fails_anew p s)
   unfolding blank
   fails_anew-typed b k t =
       let u = put w (place.Init s.top.number) Erroneous in
@@ -273,11 +273,11 @@ module _ (p : Program) (ty : IsTyped p) {w : World} {s : Entries} where
         ((let z = size_make u x in omega arith), subst (λ (y : Kind). is_below p (class_of y) throwable_class ≡ true) (sym (new_kind p u initializer_error x refl)) i.1),
         entries_grow (Some o) (entries_of s.below) (grows_make p u x) e))))
 
-  pub fail-typed : (b : Bool) (v : Value) → s.top.kind ≡ InClass b → IsThrowable p w v → TypedEntries p w (Some v) s → Row p w (row_fail p v s)
+  pub fail-typed : (b : Bool) (v : Value) → s.top.kind ≡ InClass b → IsThrowable p w v → TypedEntries p w (Some v) s → Tree p (Quiet p) w (row_fail p v s)
   unfolding row_fail
   fail-typed b (value.Obj o) k h t =
       let q = quiet b (value.Obj o) k t in
-      head-typed p (Ends p) w o h.0 (λ i. choose-typed p (Ends p) w (was_entered s.top.kind && not (is_below p (class_of (kind_at w o)) error_class)) (λ e. fails_anew-typed b k q) (λ e. fails-typed b (value.Obj o) k q h))
+      head-typed p (Quiet p) w o h.0 (λ i. choose-typed p (Quiet p) w (was_entered s.top.kind && not (is_below p (class_of (kind_at w o)) error_class)) (λ e. fails_anew-typed b k q) (λ e. fails-typed b (value.Obj o) k q h))
   fail-typed b (value.Int n) k h t = absurd h
   fail-typed b (value.Long n) k h t = absurd h
   fail-typed b value.Null k h t = absurd h

@@ -42,7 +42,7 @@ use Rattle.check_sound.proofs.Arrive.{Kept, has_number, kept_at, is_body, arrive
 use Rattle.check_sound.proofs.Operands.{head-typed}
 use Rattle.check_sound.proofs.Instances.{below_instance}
 use Rattle.check_sound.proofs.Thrown.{builtin_is}
-use Rattle.check_sound.proofs.Ready.{TypedEntries, stub, AllRanged, Rest, IsEntry, Opened, opened, closed, below_same, Ends, Row}
+use Rattle.check_sound.proofs.Ready.{TypedEntries, stub, AllRanged, Rest, IsEntry, Opened, opened, closed, below_same, Ends, Quiet, Row}
 
 -- ---- the entry below one
 
@@ -147,7 +147,7 @@ module _ (p : Program) (ty : IsTyped p) (w : World) where
       by (kind.Class a) (Some d) i t c k = below_instance p ty.linked a d i k c
 
 module _ (p : Program) (ty : IsTyped p) {w : World} {s : Entries} where
-  handled-typed : (o : ℕ) (x : Option ℕ) → handler_for p s.top.number s.top.pc (class_of (kind_at w o)) ≡ x → s.top.kind ≡ InMethod → o < size w → IsKind p (kind_at w o) → is_below p (class_of (kind_at w o)) throwable_class ≡ true → TypedEntries p w (Some (value.Obj o)) s → Row p w (handled (value.Obj o) s x)
+  handled-typed : (o : ℕ) (x : Option ℕ) → handler_for p s.top.number s.top.pc (class_of (kind_at w o)) ≡ x → s.top.kind ≡ InMethod → o < size w → IsKind p (kind_at w o) → is_below p (class_of (kind_at w o)) throwable_class ≡ true → TypedEntries p w (Some (value.Obj o)) s → Tree p (Quiet p) w (handled (value.Obj o) s x)
   unfolding handler_for
   handled-typed o None q k lt i t e =
       let c = opened (Some (value.Obj o)) s (subst (λ (x : EntryKind). IsEntry x) (sym k) tt) e in
@@ -173,9 +173,9 @@ module _ (p : Program) (ty : IsTyped p) {w : World} {s : Entries} where
       typed_done (subst (λ (z : EntryKind). TypedEntries p w None (record { top = record { kind = z; number = s.top.number; pc = to; stack = value.Obj o ∷ []; locals = s.top.locals }; below = s.below })) (sym k)
         (closed None (record { kind = InMethod; number = s.top.number; pc = to; stack = value.Obj o ∷ []; locals = s.top.locals }) tt go vs.range c.locals (subst (λ (z : EntryKind). Rest p w z s.top.number s.below) k c.rest)))
 
-  pub raise-typed : (v : Value) → s.top.kind ≡ InMethod → IsThrowable p w v → TypedEntries p w (Some v) s → Row p w (row_raise p v s)
+  pub raise-typed : (v : Value) → s.top.kind ≡ InMethod → IsThrowable p w v → TypedEntries p w (Some v) s → Tree p (Quiet p) w (row_raise p v s)
   unfolding row_raise
-  raise-typed (value.Obj o) k t e = head-typed p (Ends p) w o t.0 (λ i. handled-typed o (handler_for p s.top.number s.top.pc (class_of (kind_at w o))) refl k t.0 i t.1 e)
+  raise-typed (value.Obj o) k t e = head-typed p (Quiet p) w o t.0 (λ i. handled-typed o (handler_for p s.top.number s.top.pc (class_of (kind_at w o))) refl k t.0 i t.1 e)
   raise-typed (value.Int n) k t e = absurd t
   raise-typed (value.Long n) k t e = absurd t
   raise-typed value.Null k t e = absurd t

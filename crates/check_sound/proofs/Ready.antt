@@ -237,6 +237,19 @@ EndsBy p w (Enter m) s = Enters p w m (method_at p m).native s
 EndsBy p w Leave s = TypedEntries p w None s
 EndsBy p w next.Over s = ⊥
 
+-- how a row may end that enters no method
+abbrev pub QuietBy : Program → World → Next → Entries → Type 0
+QuietBy p w Go s = TypedEntries p w None s
+QuietBy p w (Fault c) s = IsThrown p c × TypedEntries p w (Some value.Null) s
+QuietBy p w (Raise v) s = IsThrowable p w v × TypedEntries p w (Some v) s
+QuietBy p w (Enter m) s = ⊥
+QuietBy p w Leave s = TypedEntries p w None s
+QuietBy p w next.Over s = ⊥
+
+abbrev pub Quiet : Program → World → Answer Entries → Type 0
+Quiet p w (answer x s) = QuietBy p w x s
+Quiet p w no_row = ⊥
+
 -- how a row may end
 abbrev pub Ends : Program → World → Answer Entries → Type 0
 Ends p w (answer x s) = EndsBy p w x s

@@ -36,7 +36,7 @@ use Rattle.check_sound.proofs.Tree.{Tree, typed_done, typed_read, typed_write, t
 use Rattle.check_sound.proofs.Grow.{over_itself, alike_over, throwable_over}
 use Rattle.check_sound.proofs.WorldKept.{mark_over, make_over}
 use Rattle.check_sound.proofs.TreeRuns.{alike_itself, tree_safe, tree_leaves}
-use Rattle.check_sound.proofs.Ready.{TypedEntries, NativeCall, Enters, Ends, Row, Ready, ready}
+use Rattle.check_sound.proofs.Ready.{TypedEntries, NativeCall, Enters, Ends, Quiet, Row, Ready, ready}
 use Rattle.check_sound.proofs.Onward.{grows_alike, entries_grow}
 use Rattle.check_sound.proofs.Ends.{Local, TurnsTo, Step, Tested, tested, tested_over, stage_over, raise_typed, goes_typed, throws-typed}
 use Rattle.check_sound.proofs.MoveRows.{moves-typed}
@@ -55,7 +55,7 @@ pub record Groups (p : Program) : Type 0 where
   pub arrays-row : (w : World) (s : Entries) (i : Instr) → group_of i ≡ arrays → Ready p w s i → Row p w (row_arrays p i s)
   pub casts-row : (w : World) (s : Entries) (i : Instr) → group_of i ≡ casts → Ready p w s i → Row p w (row_casts p i s)
   pub throw-row : (w : World) (s : Entries) → Ready p w s form.Throw → Row p w (row_throw s)
-  pub native-step : (w : World) (x : Native) (m : ℕ) (s : State) (t : Entries) → (method_at p m).native ≡ Some x → NativeCall p w m t → Tested p w s → Step p w (bind (row_native p x (record { entries = t; own = s.own })) (after_native p s))
+  pub native-step : (w : World) (x : Native) (m : ℕ) (s : State) (t : Entries) → (method_at p m).native ≡ Some x → s.raised ≡ None → NativeCall p w m t → Tested p w s → Step p w (bind (row_native p x (record { entries = t; own = s.own })) (after_native p s))
   pub drive-step : (w : World) (s : State) → Local p w s → s.entries.top.kind ≡ Absent → Step p w (drive p s)
 
 over_then : (u v w : World) → Over u v → Over v w → Over u w
@@ -97,31 +97,43 @@ module _ (p : Program) (ty : IsTyped p) (gs : Groups p) where
   unfolding row_here
   here-typed w s k t = let r = ready p ty s k t in subst (λ (o : Option Instr). Row p w (row_or_none p o s)) (sym r.1) (row-typed w s r.0 r.2)
 
-  after-typed : (w : World) (s : State) (a : Answer Entries) → Tested p w s → Ends p w a → Step p w (after_row p s a)
-  after-typed w s no_row q h = absurd h
-  after-typed w s (answer after.Go t) q h = typed_done (goes_typed p w s t h q)
-  after-typed w s (answer (after.Fault c) t) q h = throws-typed p ty c (with_entries s t) h.0 h.1 (record { test = q.test; stage = q.stage })
-  after-typed w s (answer (after.Raise v) t) q h = typed_done (raise_typed p w v (with_entries s t) h.0 h.1 (record { test = q.test; stage = q.stage }))
-  after-typed w s (answer (after.Enter m) t) q h = by (method_at p m).native refl h
+  quiet-typed : (w : World) (s : State) (a : Answer Entries) → Tested p w s → Quiet p w a → Step p w (after_row p s a)
+  quiet-typed w s no_row q h = absurd h
+  quiet-typed w s (answer after.Go t) q h = typed_done (goes_typed p w s t h q)
+  quiet-typed w s (answer (after.Fault c) t) q h = throws-typed p ty c (with_entries s t) h.0 h.1 (record { test = q.test; stage = q.stage })
+  quiet-typed w s (answer (after.Raise v) t) q h = typed_done (raise_typed p w v (with_entries s t) h.0 h.1 (record { test = q.test; stage = q.stage }))
+  quiet-typed w s (answer (after.Enter m) t) q h = absurd h
+  quiet-typed w s (answer after.Leave t) q h = typed_done (goes_typed p w s t h q)
+  quiet-typed w s (answer after.Over t) q h = absurd h
+
+  after-typed : (w : World) (s : State) (a : Answer Entries) → s.raised ≡ None → Tested p w s → Ends p w a → Step p w (after_row p s a)
+  after-typed w s no_row n q h = absurd h
+  after-typed w s (answer after.Go t) n q h = typed_done (goes_typed p w s t h q)
+  after-typed w s (answer (after.Fault c) t) n q h = throws-typed p ty c (with_entries s t) h.0 h.1 (record { test = q.test; stage = q.stage })
+  after-typed w s (answer (after.Raise v) t) n q h = typed_done (raise_typed p w v (with_entries s t) h.0 h.1 (record { test = q.test; stage = q.stage }))
+  after-typed w s (answer (after.Enter m) t) n q h = by (method_at p m).native refl h
     where
       by : (x : Option Native) → (method_at p m).native ≡ x → Enters p w m x t → Step p w (entered p s x t)
       by None e h = typed_done (goes_typed p w s t h q)
-      by (Some x) e h = gs.native-step w x m s t e h q
-  after-typed w s (answer after.Leave t) q h = typed_done (goes_typed p w s t h q)
-  after-typed w s (answer after.Over t) q h = absurd h
+      by (Some x) e h = gs.native-step w x m s t e n h q
+  after-typed w s (answer after.Leave t) n q h = typed_done (goes_typed p w s t h q)
+  after-typed w s (answer after.Over t) n q h = absurd h
 
-  then-typed : (w : World) (s : State) (t : Access (Answer Entries)) → Local p w s → Row p w t → Step p w (bind t (after_row p s))
-  then-typed w s t h r = bind_over p (Ends p) (TurnsTo p) t (after_row p s) w r (λ v a g e. after-typed v s a (tested_over p w v g s (tested h)) e)
+  then-typed : (w : World) (s : State) (t : Access (Answer Entries)) → s.raised ≡ None → Local p w s → Row p w t → Step p w (bind t (after_row p s))
+  then-typed w s t n h r = bind_over p (Ends p) (TurnsTo p) t (after_row p s) w r (λ v a g e. after-typed v s a n (tested_over p w v g s (tested h)) e)
+
+  then-quiet : (w : World) (s : State) (t : Access (Answer Entries)) → Local p w s → Tree p (Quiet p) w t → Step p w (bind t (after_row p s))
+  then-quiet w s t h r = bind_over p (Quiet p) (TurnsTo p) t (after_row p s) w r (λ v a g e. quiet-typed v s a (tested_over p w v g s (tested h)) e)
 
   acts-typed : (w : World) (s : State) → Local p w s → Step p w (acts p s.entries.top.kind s.raised s)
-  acts-typed w s h = by s.entries.top.kind s.raised refl h.entries h.raised
+  acts-typed w s h = by s.entries.top.kind s.raised refl refl h.entries h.raised
     where
-      by : (k : EntryKind) (x : Option Value) → s.entries.top.kind ≡ k → TypedEntries p w x s.entries → IfSome x (IsThrowable p w) → Step p w (acts p k x s)
-      by Absent x q t i = gs.drive-step w s h q
-      by InMethod None q t i = then-typed w s (row_here p s.entries) h (here-typed w s.entries q t)
-      by InMethod (Some v) q t i = then-typed w s (row_raise p v s.entries) h (raise-typed p ty v q i t)
-      by (InClass b) None q t i = then-typed w s (row_finish p s.entries) h (finish-typed p ty b q t)
-      by (InClass b) (Some v) q t i = then-typed w s (row_fail p v s.entries) h (fail-typed p ty b v q i t)
+      by : (k : EntryKind) (x : Option Value) → s.entries.top.kind ≡ k → s.raised ≡ x → TypedEntries p w x s.entries → IfSome x (IsThrowable p w) → Step p w (acts p k x s)
+      by Absent x q n t i = gs.drive-step w s h q
+      by InMethod None q n t i = then-typed w s (row_here p s.entries) n h (here-typed w s.entries q t)
+      by InMethod (Some v) q n t i = then-quiet w s (row_raise p v s.entries) h (raise-typed p ty v q i t)
+      by (InClass b) None q n t i = then-typed w s (row_finish p s.entries) n h (finish-typed p ty b q t)
+      by (InClass b) (Some v) q n t i = then-quiet w s (row_fail p v s.entries) h (fail-typed p ty b v q i t)
 
   step-typed : (w : World) (s : State) → Local p w s → Step p w (step p s)
   unfolding step
