@@ -36,3 +36,4 @@ pub mod DriverRows
 pub mod ArrayKinds
 pub mod NestedRow
 pub mod AllGroups
+pub mod HeadsStay
