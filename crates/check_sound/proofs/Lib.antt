@@ -37,3 +37,4 @@ pub mod ArrayKinds
 pub mod NestedRow
 pub mod AllGroups
 pub mod HeadsStay
+pub mod ArrayRows
