@@ -1,5 +1,2 @@
-pub mod Types
-pub mod Typed
-pub mod WorldLaw
 pub mod Slots
-pub mod NativeTypes
+pub mod StepLaw

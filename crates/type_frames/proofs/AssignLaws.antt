@@ -54,7 +54,7 @@ descriptor_letter a e = go (position (λ u. not (is_bracket u)) a) refl e
     go (Some n) q e = let f = position-Some (λ u. not (is_bracket u)) a n 0 q in list_any_at (λ u. not (is_bracket u)) a n 0 f.0 f.1
 
 -- a class's name is no array's
-class_name_plain : (a : List ℕ) → is_class_name a ≡ true → is_array a ≡ false
+pub class_name_plain : (a : List ℕ) → is_class_name a ≡ true → is_array a ≡ false
 unfolding is_class_name
 class_name_plain [] e = refl
 class_name_plain (u ∷ us) e = false_from_ne_true (nat_eq u 91) (λ t. let q = subst (λ k. is_class_name (k ∷ us) ≡ true) (eqb-true u 91 t) e in front (parts_of us) q)
@@ -94,7 +94,7 @@ module _ (p : Program) (l : Linked p) where
       (position-Some test p.classes c no_class (position_from-zero test p.classes ∙ e)).0
 
   -- what stands above Object and above an interface
-  object_below : (d : ℕ) → is_below p object_class d ≡ true → d ≡ object_class
+  pub object_below : (d : ℕ) → is_below p object_class d ≡ true → d ≡ object_class
   unfolding is_below
   object_below d e = elim (or_cases (nat_eq d object_class) false (sym (ap (member d) (upwards_root p l object_class l.listed.top)) ∙ e)) [
     | inl q ↦ eqb-true d object_class q
@@ -102,11 +102,11 @@ module _ (p : Program) (l : Linked p) where
   ]
 
   -- no built-in class is an interface
-  builtin_plain : list_all (λ (x : ClassRec). not (is_interface x.flags)) builtin_classes ≡ true
+  pub builtin_plain : list_all (λ (x : ClassRec). not (is_interface x.flags)) builtin_classes ≡ true
   unfolding builtin_classes builtin_defs
   builtin_plain = refl
 
-  interface_root : (c : ℕ) → IsClass p c → is_interface_at p c ≡ true → (class_at p c).superclass ≡ Some object_class
+  pub interface_root : (c : ℕ) → IsClass p c → is_interface_at p c ≡ true → (class_at p c).superclass ≡ Some object_class
   interface_root c h e = elim (cases_lt c builtin_count) [
     | inl g ↦ let q = class_keeps p l.builtins (λ (x : ClassRec). not (is_interface x.flags)) builtin_plain c g in absurd (cc)
     | inr g ↦ (l.kinds.classes c (g, h)).interface e
@@ -171,7 +171,7 @@ module _ (p : Program) (l : Linked p) where
     ]
   ]
 
-  takes_class : (a c : List ℕ) → takes_any p c ≡ true → class_fits p a c ≡ true
+  pub takes_class : (a c : List ℕ) → takes_any p c ≡ true → class_fits p a c ≡ true
   unfolding class_fits
   takes_class a c t = or_right (bytes_eq a c) (takes_any p c || extends p a c) (or_left (takes_any p c) (extends p a c) t)
 
@@ -275,7 +275,7 @@ module _ (p : Program) (l : Linked p) where
 
   -- ---- Object and interfaces take every reference
 
-  first_named : (c : ℕ) → IsClass p c → class_named p (name_of p c) ≡ Some c
+  pub first_named : (c : ℕ) → IsClass p c → class_named p (name_of p c) ≡ Some c
   first_named c h =
       let test : ClassRec → Bool = λ x. bytes_eq x.name (name_of p c) in
       let before : (k : ℕ) → k < c → test (class_at p k) ≡ false =

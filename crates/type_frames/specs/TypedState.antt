@@ -18,10 +18,11 @@ use Rattle.jvm_model.specs.declared.instr.Instr.TheVariants as form
 use Rattle.jvm_model.specs.declared.program.Program.{Program}
 use Rattle.jvm_model.specs.declared.program.Body.{Body}
 use Rattle.jvm_model.specs.declared.program.Placed.{Placed}
+use Rattle.jvm_model.specs.declared.program.TestEntry.{TestEntry}
 use Rattle.jvm_model.specs.World.{World, size, at, object_at}
 use Rattle.jvm_model.specs.View.{Exists}
 use Rattle.jvm_model.specs.Builtin.{throwable_class}
-use Rattle.jvm_model.specs.Classes.{class_at, field_at, method_at, is_below, is_trivial, layout, member}
+use Rattle.jvm_model.specs.Classes.{class_at, field_at, method_at, is_below, is_static, is_trivial, layout, member}
 use Rattle.jvm_model.specs.Entries.{Entry, all_entries, entry_limit}
 use Rattle.jvm_model.specs.Initialise.{parts_of}
 use Rattle.jvm_model.specs.Kinds.{class_of}
@@ -221,14 +222,18 @@ IsThrowable p w v = ⊥
 abbrev pub IsOfClass : World → ℕ → ℕ → Type 0
 IsOfClass w c o = (o < size w) × (kind_at w o ≡ kind.Class c)
 
--- the stage's object is one of the test's class c, and what came out of what was called is a throwable
-abbrev pub HasStage : Program → World → ℕ → Stage → Type 0
-HasStage p w c First = Unit {0}
-HasStage p w c (Made o) = IsOfClass w c o
-HasStage p w c (Built o) = IsOfClass w c o
-HasStage p w c (SetUp o) = IsOfClass w c o
-HasStage p w c (Called o v) = IsOfClass w c o × IfSome v (IsThrowable p w)
-HasStage p w c (Last v) = IfSome v (IsThrowable p w)
+-- The stage's object is one of the test's class, which a test of a static method doesn't have; and what came out of what
+-- was called is a throwable.
+abbrev pub HasObject : Program → World → TestEntry → ℕ → Type 0
+HasObject p w t o = IsOfClass w t.class o × (is_static (method_at p t.method).flags ≡ false)
+
+abbrev pub HasStage : Program → World → TestEntry → Stage → Type 0
+HasStage p w t First = Unit {0}
+HasStage p w t (Made o) = HasObject p w t o
+HasStage p w t (Built o) = HasObject p w t o
+HasStage p w t (SetUp o) = HasObject p w t o
+HasStage p w t (Called o v) = HasObject p w t o × IfSome v (IsThrowable p w)
+HasStage p w t (Last v) = IfSome v (IsThrowable p w)
 
 -- the values of an entry
 abbrev pub values_of : Entry → List Value
@@ -252,7 +257,7 @@ pub record TypedState (p : Program) (w : World) (s : State) : Type 0 where
   -- what is raised is a Throwable
   pub raised : IfSome s.raised (IsThrowable p w)
   -- the driver's stage has the test's object
-  pub stage : HasStage p w (test_at p s.test).class s.stage
+  pub stage : HasStage p w (test_at p s.test) s.stage
 
 -- the start state of each test is typed, in each typed world
 abbrev pub StartedLaw : Type 0

@@ -1,0 +1,129 @@
+-- The rows of checkcast and instanceof, and athrow's.
+use Rattle.std.proofs.Common.{◌≡◌, ℕ, ◌<◌, List, [], ◌∷◌, get_or, Bool, true, false, not, cond, nat_eq, Some, refl, sym, ◌∙◌, ap, subst, arith}
+use Rattle.jvm_model.specs.declared.values.Value.{Value}
+use Rattle.jvm_model.specs.declared.values.Value.TheVariants as value
+use Rattle.jvm_model.specs.declared.values.Kind.{Kind}
+use Rattle.jvm_model.specs.declared.values.Kind.TheVariants as kind
+use Rattle.jvm_model.specs.declared.instr.Instr.{Instr}
+use Rattle.jvm_model.specs.declared.instr.Instr.TheVariants as form
+use Rattle.jvm_model.specs.declared.program.Program.{Program}
+use Rattle.jvm_model.specs.World.{World}
+use Rattle.jvm_model.specs.Builtin.{builtin_count, object_class, throwable_class, string_class, stream_class, class_cast_exception, null_pointer_exception}
+use Rattle.jvm_model.specs.declared.program.ClassRec.{ClassRec}
+use Rattle.jvm_model.specs.Library.{builtin_defs, builtin_classes}
+use Rattle.jvm_model.specs.Classes.{is_below, is_interface, no_class, upwards, member}
+use Rattle.jvm_model.proofs.BuiltinRules.{builtin_class, class_keeps}
+use Rattle.jvm_model.proofs.Upwards.{upwards_step, upwards_root}
+use Rattle.type_frames.proofs.AssignLaws.{builtin_plain}
+use Rattle.check_sound.proofs.Instances.{takes_every, instance_below}
+use Rattle.std.proofs.lemmas.Bool.{not-true}
+use Rattle.jvm_model.specs.Entries.{Entries}
+use Rattle.jvm_model.specs.Kinds.{kind_fits, class_of}
+use Rattle.jvm_model.specs.Linked.{Linked, IsKind}
+use Rattle.jvm_model.specs.declared.outcome.Next.TheVariants.{Raise}
+use Rattle.jvm_model.specs.Access.{done}
+use Rattle.jvm_model.specs.Rows.{constant_kind, answer, on_object}
+use Rattle.jvm_model.specs.RowsCasts.{cast_to, cast, tested, row_casts}
+use Rattle.jvm_model.specs.Step.{group_of, casts, row_throw}
+use Rattle.type_frames.specs.declared.vtype.VType.TheVariants.{Int, Long, Null, Object}
+use Rattle.type_frames.specs.Descriptors.{name_of, kind_name}
+use Rattle.type_frames.specs.Sides.{sides}
+use Rattle.type_frames.specs.Typing.{IsTyped}
+use Rattle.type_frames.specs.TypedState.{kind_at, IsInstance, RefersTo}
+use Rattle.check_sound.proofs.Tree.{typed_done, typed_known}
+use Rattle.check_sound.proofs.Held.{Is, Held, on_top, int_on}
+use Rattle.check_sound.proofs.Operands.{rest_of, popping-fits, head-typed, choose-typed}
+use Rattle.check_sound.proofs.Ready.{Ends, Row, Ready, here, rest, operands, on, raised_typed}
+use Rattle.check_sound.proofs.Ends.{fault_typed}
+use Rattle.check_sound.proofs.Thrown.{builtin_is, class_cast_thrown, null_pointer_thrown}
+use Rattle.check_sound.proofs.KindNames.{kind_instance}
+use Rattle.check_sound.proofs.Ready.{names_form}
+
+-- what a constant object is an instance of is a class of the program
+pub constant_is_kind : (p : Program) (lk : Linked p) (n : ℕ) → IsKind p (constant_kind n)
+constant_is_kind p lk n = by (nat_eq n 0)
+  where
+    by : (b : Bool) → IsKind p (kind.Class (cond b stream_class string_class))
+    by true = builtin_is p lk stream_class (omega arith)
+    by false = builtin_is p lk string_class (omega arith)
+
+module _ (p : Program) (lk : Linked p) where
+  -- Throwable is no interface, and neither Strings nor the stream are throwables
+  not_every : takes_every p throwable_class ≡ false
+  unfolding builtin_classes builtin_defs
+  not_every = not-true _ (class_keeps p lk.builtins (λ x. not (is_interface x.flags)) (builtin_plain p lk) throwable_class (omega arith))
+
+  throwable_below : (x : Kind) → IsKind p x → IsInstance p x (name_of p throwable_class) → is_below p (class_of x) throwable_class ≡ true
+  throwable_below x h i =
+      let b = instance_below p lk x throwable_class h (builtin_is p lk throwable_class (omega arith)) not_every i in
+      subst (λ (k : Kind). is_below p (class_of k) throwable_class ≡ true) (sym b.is) b.below
+
+  under_object : (c : ℕ) → c < builtin_count → (get_or builtin_classes c no_class).superclass ≡ Some object_class → upwards p c ≡ c ∷ object_class ∷ []
+  under_object c h e =
+      upwards_step p lk c object_class (builtin_is p lk c h) (ap (λ (x : ClassRec). x.superclass) (builtin_class p lk.builtins c h) ∙ e)
+      ∙ ap {B = List ℕ} (λ xs. c ∷ xs) (upwards_root p lk object_class lk.listed.top)
+
+  string_apart : is_below p string_class throwable_class ≡ true → ⊥
+  unfolding is_below builtin_classes builtin_defs
+  string_apart e = let q : member throwable_class (string_class ∷ object_class ∷ []) ≡ true = subst (λ (xs : List ℕ). member throwable_class xs ≡ true) (under_object string_class (omega arith) refl) e in cc
+
+  stream_apart : is_below p stream_class throwable_class ≡ true → ⊥
+  unfolding is_below builtin_classes builtin_defs
+  stream_apart e = let q : member throwable_class (stream_class ∷ object_class ∷ []) ≡ true = subst (λ (xs : List ℕ). member throwable_class xs ≡ true) (under_object stream_class (omega arith) refl) e in cc
+
+  no_constant : (n : ℕ) → IsInstance p (constant_kind n) (name_of p throwable_class) → ⊥
+  no_constant n i = by (nat_eq n 0) (throwable_below (constant_kind n) (constant_is_kind p lk n) i)
+    where
+      by : (b : Bool) → is_below p (class_of (kind.Class (cond b stream_class string_class))) throwable_class ≡ true → ⊥
+      by true e = stream_apart e
+      by false e = string_apart e
+
+module _ (p : Program) (ty : IsTyped p) {w : World} {s : Entries} where
+  -- an object that the class or array takes goes on; another throws
+  cast_to-typed : (k : Kind) (r : Ready p w s (form.CheckCast k)) (v : Value) (vs : List Value) (x : Kind) → Held p w (here r) (rest r) vs → IsKind p x → (IsInstance p x (kind_name p k) → Held p w (here r) (Object (kind_name p k) ∷ rest r) (v ∷ vs)) → Row p w (cast_to p k s v vs x)
+  unfolding sides
+  cast_to-typed k r v vs x h i f = choose-typed p (Ends p) w (kind_fits p x k)
+      (λ q. on p ty r refl r.locals (f (kind_instance p ty.linked x k i (names_form p ty r) q)))
+      (λ q. typed_done (fault_typed p ty r class_cast_exception vs (class_cast_thrown p ty.linked) h.range))
+
+  cast-typed : (k : Kind) (r : Ready p w s (form.CheckCast k)) (a : List ℕ) (v : Value) (vs : List Value) → Is p w (here r) (Object a) v → Held p w (here r) (rest r) vs → Row p w (cast p k s v vs)
+  unfolding sides
+  cast-typed k r a (value.Int n) vs i h = absurd i.type
+  cast-typed k r a (value.Long n) vs i h = absurd i.type
+  cast-typed k r a value.Null vs i h = on p ty r refl r.locals (on_top tt (record { type = tt; range = tt }) h)
+  cast-typed k r a (value.Lit n) vs i h = cast_to-typed k r (value.Lit n) vs (constant_kind n) h (constant_is_kind p ty.linked n) (λ q. on_top tt (record { type = (i.range, q); range = i.range }) h)
+  cast-typed k r a (value.Obj o) vs i h = head-typed p (Ends p) w o i.range (λ x.
+      cast_to-typed k r (value.Obj o) vs (kind_at w o) h x (λ q. on_top tt (record { type = (i.range, q); range = i.range }) h))
+
+  pub check_cast : (k : Kind) → Ready p w s (form.CheckCast k) → Row p w (row_casts p (form.CheckCast k) s)
+  unfolding row_casts sides
+  check_cast k r = popping-fits p (Ends p) w ty.linked (Object (name_of p object_class)) tt (operands r) (λ v vs us h sv o. cast-typed k r (name_of p object_class) v vs h (rest_of o))
+
+  tested-typed : (k : Kind) (r : Ready p w s (form.InstanceOf k)) (a : List ℕ) (v : Value) (vs : List Value) → Is p w (here r) (Object a) v → Held p w (here r) (rest r) vs → Row p w (tested p k s v vs)
+  unfolding sides
+  tested-typed k r a (value.Int n) vs i h = absurd i.type
+  tested-typed k r a (value.Long n) vs i h = absurd i.type
+  tested-typed k r a value.Null vs i h = on p ty r refl r.locals (int_on h)
+  tested-typed k r a (value.Lit n) vs i h = on p ty r refl r.locals (int_on h)
+  tested-typed k r a (value.Obj o) vs i h = head-typed p (Ends p) w o i.range (λ x. on p ty r refl r.locals (int_on h))
+
+  pub instance_of : (k : Kind) → Ready p w s (form.InstanceOf k) → Row p w (row_casts p (form.InstanceOf k) s)
+  unfolding row_casts sides
+  instance_of k r = popping-fits p (Ends p) w ty.linked (Object (name_of p object_class)) tt (operands r) (λ v vs us h sv o. tested-typed k r (name_of p object_class) v vs h (rest_of o))
+
+  pub casts-typed : (i : Instr) → group_of i ≡ casts → Ready p w s i → Row p w (row_casts p i s)
+  casts-typed (form.CheckCast k) g r = check_cast k r
+  casts-typed (form.InstanceOf k) g r = instance_of k r
+  casts-typed _ g r = absurd (cc)
+
+  -- athrow
+  raises : (r : Ready p w s form.Throw) → (v : Value) → RefersTo p w (name_of p throwable_class) v → Row p w (on_object s v (λ o. done (answer (Raise v) s)))
+  raises r (value.Int n) h = absurd h
+  raises r (value.Long n) h = absurd h
+  raises r value.Null h = typed_done (fault_typed p ty r null_pointer_exception s.top.stack (null_pointer_thrown p ty.linked) r.stack.range)
+  raises r (value.Lit n) h = absurd (no_constant p ty.linked n h.1)
+  raises r (value.Obj o) h = typed_known o h.0 (λ k. typed_done ((h.0, throwable_below p ty.linked (kind_at w o) k h.1), raised_typed p ty r (value.Obj o) s.top.stack r.stack.range))
+
+  pub throw-typed : Ready p w s form.Throw → Row p w (row_throw s)
+  unfolding row_throw sides
+  throw-typed r = popping-fits p (Ends p) w ty.linked (Object (name_of p throwable_class)) tt (operands r) (λ v vs us h sv o. raises r v h.type)

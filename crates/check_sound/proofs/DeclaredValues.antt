@@ -1,0 +1,220 @@
+-- Values of a declared type: as operands, and as what is stored of an operand.
+use Rattle.std.proofs.Common.{◌≡◌, ℕ, ℤ, pos, negsuc, suc, ◌<◌, ◌≤◌, ◌-◌, ◌%◌, List, [], ◌∷◌, ◌++◌, Bool, true, false, ◌&&◌, ◌||◌, cond, nat_eq, Option, Some, None, refl, sym, ◌∙◌, ap, subst, arith, inl, inr, append-nil}
+use Rattle.std.specs.Prelude.{FitsSigned, int_le, int_lt, flat_map}
+use Rattle.std.proofs.lemmas.Bool.{cases_Bool, or_cases, and_from, eqb-true, lt-ltb, le-leb}
+use Rattle.std.specs.Int.{w8, w16, int_wrap, int_rem_euclid}
+use Rattle.std.proofs.lemmas.Int.{ints, SFits-int_wrap}
+use Rattle.et_base.specs.Numbers.{i2b, i2s, i2c}
+use Rattle.et_base.specs.Names.{after_type, ends, is_field_descriptor}
+use Rattle.jvm_model.specs.declared.values.Value.{Value}
+use Rattle.jvm_model.specs.declared.values.Value.TheVariants as value
+use Rattle.jvm_model.specs.declared.program.Program.{Program}
+use Rattle.jvm_model.specs.World.{World}
+use Rattle.jvm_model.specs.Access.{Access}
+use Rattle.jvm_model.specs.Classes.{field_at, member}
+use Rattle.jvm_model.specs.Narrow.{narrow_int, narrow, narrowed}
+use Rattle.jvm_model.specs.Rows.{Answer, popping}
+use Rattle.jvm_model.specs.Linked.{Linked, IsField, first_or, fits_int}
+use Rattle.type_frames.specs.declared.vtype.VType.{VType}
+use Rattle.type_frames.specs.declared.vtype.VType.TheVariants.{Top, Int, Long, Null, Object, UninitThis, Uninit}
+use Rattle.type_frames.specs.declared.sides.Need.{Need}
+use Rattle.type_frames.specs.declared.sides.Need.TheVariants.{Fits, Half, Never}
+use Rattle.type_frames.specs.Environment.{Environment}
+use Rattle.type_frames.specs.Descriptors.{types_of, class_name}
+use Rattle.type_frames.specs.Sides.{needs_of}
+use Rattle.type_frames.specs.Typing.{IsTyped}
+use Rattle.type_frames.specs.TypedState.{IsInRange, RefersTo, IsReferenceOf, IsDeclared}
+use Rattle.check_sound.proofs.Tree.{Tree}
+use Rattle.check_sound.proofs.ParameterTexts.{one_type}
+use Rattle.check_sound.proofs.Operands.{Operands, none_there}
+use Rattle.check_sound.proofs.Ready.{HasPlain}
+use Rattle.check_sound.proofs.CallSides.{Result}
+use Rattle.check_sound.proofs.ParameterTexts.{IsText}
+use Rattle.check_sound.proofs.Arguments.{Argument, Arguments, take_args}
+
+-- ---- narrowed ints
+
+byte_fits : (n : ℤ) → FitsSigned w8 n → (int_le (negsuc 127) n && int_lt n (pos 128)) ≡ true
+byte_fits (pos a) h = let q : a < 128 = omega (arith, ints) in lt-ltb a 128 q
+byte_fits (negsuc a) h = let q : a ≤ 127 = omega (arith, ints) in let e = le-leb a 127 q in rw e refl
+
+short_fits : (n : ℤ) → FitsSigned w16 n → (int_le (negsuc 32767) n && int_lt n (pos 32768)) ≡ true
+short_fits (pos a) h = let q : a < 32768 = omega (arith, ints) in lt-ltb a 32768 q
+short_fits (negsuc a) h = let q : a ≤ 32767 = omega (arith, ints) in let e = le-leb a 32767 q in rw e refl
+
+remainder_fits : (n : ℤ) (d : ℕ) → 0 < d → (int_le (pos 0) (int_rem_euclid n (pos d)) && int_lt (int_rem_euclid n (pos d)) (pos d)) ≡ true
+remainder_fits (pos a) d h = let q : a % d < d = omega arith in and_from _ _ (le-leb 0 (a % d) (omega arith)) (lt-ltb (a % d) d q)
+remainder_fits (negsuc a) d h = let q : d - 1 - a % d < d = omega arith in and_from _ _ (le-leb 0 (d - 1 - a % d) (omega arith)) (lt-ltb (d - 1 - a % d) d q)
+
+abbrev pub smalls : List ℕ
+smalls = 66 ∷ 67 ∷ 73 ∷ 83 ∷ 90 ∷ []
+
+pub narrowed_fits : (u : ℕ) (n : ℤ) → member u smalls ≡ true → fits_int u (narrow_int u n) ≡ true
+unfolding i2b i2s i2c
+narrowed_fits u n h = elim (or_cases (nat_eq u 66) _ h) [
+  | inl e ↦ let q = eqb-true u 66 e in rw q (byte_fits (int_wrap w8 n) (SFits-int_wrap w8 n))
+  | inr h ↦ elim (or_cases (nat_eq u 67) _ h) [
+    | inl e ↦ let q = eqb-true u 67 e in rw q (remainder_fits n 65536 (omega arith))
+    | inr h ↦ elim (or_cases (nat_eq u 73) _ h) [
+      | inl e ↦ let q = eqb-true u 73 e in rw q refl
+      | inr h ↦ elim (or_cases (nat_eq u 83) _ h) [
+        | inl e ↦ let q = eqb-true u 83 e in rw q (short_fits (int_wrap w16 n) (SFits-int_wrap w16 n))
+        | inr h ↦ elim (or_cases (nat_eq u 90) false h) [
+          | inl e ↦ let q = eqb-true u 90 e in rw q (remainder_fits n 2 (omega arith))
+          | inr e ↦ absurd (cc)
+        ]
+      ]
+    ]
+  ]
+]
+
+-- ---- texts of fields
+
+ends_some : (o : Option (List ℕ)) → ends o ≡ true → o ≡ Some []
+ends_some None h = absurd cc
+ends_some (Some []) h = refl
+ends_some (Some (u ∷ us)) h = absurd cc
+
+pub text_of_field : (d : List ℕ) → is_field_descriptor d ≡ true → IsText d
+unfolding is_field_descriptor
+text_of_field d h = (one_type d [] (ends_some (after_type d) h)).begins
+
+-- the first unit of an int's text
+int_unit : (u : ℕ) (us : List ℕ) → IsText (u ∷ us) → types_of (u ∷ us) ≡ Int ∷ [] → member u smalls ≡ true
+int_unit u us h e = elim (or_cases (nat_eq u 66) _ h) [
+  | inl a ↦ rw (eqb-true u 66 a) refl
+  | inr h ↦ elim (or_cases (nat_eq u 67) _ h) [
+    | inl a ↦ rw (eqb-true u 67 a) refl
+    | inr h ↦ elim (or_cases (nat_eq u 68) _ h) [
+      | inl a ↦ absurd (let z : types_of (68 ∷ us) ≡ Int ∷ [] = subst (λ (k : ℕ). types_of (k ∷ us) ≡ Int ∷ []) (eqb-true u 68 a) e in cc)
+      | inr h ↦ elim (or_cases (nat_eq u 70) _ h) [
+        | inl a ↦ absurd (let z : types_of (70 ∷ us) ≡ Int ∷ [] = subst (λ (k : ℕ). types_of (k ∷ us) ≡ Int ∷ []) (eqb-true u 70 a) e in cc)
+        | inr h ↦ elim (or_cases (nat_eq u 73) _ h) [
+          | inl a ↦ rw (eqb-true u 73 a) refl
+          | inr h ↦ elim (or_cases (nat_eq u 74) _ h) [
+            | inl a ↦ absurd (let z : types_of (74 ∷ us) ≡ Int ∷ [] = subst (λ (k : ℕ). types_of (k ∷ us) ≡ Int ∷ []) (eqb-true u 74 a) e in cc)
+            | inr h ↦ elim (or_cases (nat_eq u 76) _ h) [
+              | inl a ↦ absurd (let z : types_of (76 ∷ us) ≡ Int ∷ [] = subst (λ (k : ℕ). types_of (k ∷ us) ≡ Int ∷ []) (eqb-true u 76 a) e in cc)
+              | inr h ↦ elim (or_cases (nat_eq u 83) _ h) [
+                | inl a ↦ rw (eqb-true u 83 a) refl
+                | inr h ↦ elim (or_cases (nat_eq u 90) _ h) [
+                  | inl a ↦ rw (eqb-true u 90 a) refl
+                  | inr h ↦ elim (or_cases (nat_eq u 91) false h) [
+                    | inl a ↦ absurd (let z : types_of (91 ∷ us) ≡ Int ∷ [] = subst (λ (k : ℕ). types_of (k ∷ us) ≡ Int ∷ []) (eqb-true u 91 a) e in cc)
+                    | inr a ↦ absurd cc
+                  ]
+                ]
+              ]
+            ]
+          ]
+        ]
+      ]
+    ]
+  ]
+]
+
+-- ---- a declared value as an operand
+
+refers_range : (p : Program) (w : World) (a : List ℕ) (v : Value) → RefersTo p w a v → IsInRange p w v
+refers_range p w a value.Null h = tt
+refers_range p w a (value.Lit n) h = h.0
+refers_range p w a (value.Obj o) h = h.0
+refers_range p w a (value.Int n) h = tt
+refers_range p w a (value.Long n) h = tt
+
+reference_result : (p : Program) (w : World) (ts : List VType) (v : Value) → IsReferenceOf p w ts v → Result p w ts (v ∷ [])
+reference_result p w (Object a ∷ []) v h = (h, refers_range p w a v h)
+reference_result p w [] v h = absurd h
+reference_result p w (t ∷ ts) v h = absurd h
+
+int_result : (p : Program) (w : World) (u : ℕ) (us : List ℕ) (n : ℤ) → fits_int u n ≡ true → Result p w (types_of (u ∷ us)) (value.Int n ∷ [])
+int_result p w u us n h = elim (cases_Bool (nat_eq u 90)) [
+  | inl a ↦ is 90 a (tt, tt)
+  | inr a ↦ elim (cases_Bool (nat_eq u 66)) [
+    | inl b ↦ is 66 b (tt, tt)
+    | inr b ↦ elim (cases_Bool (nat_eq u 67)) [
+      | inl c ↦ is 67 c (tt, tt)
+      | inr c ↦ elim (cases_Bool (nat_eq u 83)) [
+        | inl d ↦ is 83 d (tt, tt)
+        | inr d ↦ is 73 (let z = rw (a, b, c, d) at h in z) (tt, tt)
+      ]
+    ]
+  ]
+]
+  where
+    is : (k : ℕ) → nat_eq u k ≡ true → Result p w (types_of (k ∷ us)) (value.Int n ∷ []) → Result p w (types_of (u ∷ us)) (value.Int n ∷ [])
+    is k e r = subst (λ (x : ℕ). Result p w (types_of (x ∷ us)) (value.Int n ∷ [])) (sym (eqb-true u k e)) r
+
+pub declared_result : (p : Program) (w : World) (d : List ℕ) (v : Value) → IsDeclared p w d v → Result p w (types_of d) (v ∷ [])
+declared_result p w [] (value.Int n) h = absurd cc
+declared_result p w (u ∷ us) (value.Int n) h = int_result p w u us n h
+declared_result p w [] (value.Long n) h = absurd (let z : 0 ≡ 74 = h in omega arith)
+declared_result p w (u ∷ us) (value.Long n) h = subst (λ (x : ℕ). Result p w (types_of (x ∷ us)) (value.Long n ∷ [])) (sym h) (tt, tt)
+declared_result p w d value.Null h = reference_result p w (types_of d) value.Null h
+declared_result p w d (value.Lit n) h = reference_result p w (types_of d) (value.Lit n) h
+declared_result p w d (value.Obj o) h = reference_result p w (types_of d) (value.Obj o) h
+
+-- ---- what is stored of an operand
+
+-- what the types of a text are, by the tests on its first unit
+abbrev types_by : Bool → Bool → Bool → Bool → Bool → Bool → ℕ → List ℕ → List VType
+types_by a b c d f g u us = elim a [
+  | true ↦ Long ∷ []
+  | false ↦ elim b [
+    | true ↦ Object (class_name us) ∷ []
+    | false ↦ elim c [ true ↦ Object (u ∷ us) ∷ [] | false ↦ elim d [ true ↦ [] | false ↦ elim f [ true ↦ Top ∷ [] | false ↦ elim g [ true ↦ Top ∷ Top ∷ [] | false ↦ Int ∷ [] ] ] ] ]
+  ]
+]
+
+no_long : (b c d f g : Bool) (u : ℕ) (us : List ℕ) → types_by false b c d f g u us ≡ Long ∷ [] → ⊥
+no_long true c d f g u us q = cc
+no_long false true d f g u us q = cc
+no_long false false true f g u us q = cc
+no_long false false false true g u us q = cc
+no_long false false false false true u us q = cc
+no_long false false false false false u us q = cc
+
+long_by : (a : Bool) (u : ℕ) (us : List ℕ) → nat_eq u 74 ≡ a → types_by a (nat_eq u 76) (nat_eq u 91) (nat_eq u 86) (nat_eq u 70) (nat_eq u 68) u us ≡ Long ∷ [] → u ≡ 74
+long_by true u us q e = eqb-true u 74 q
+long_by false u us q e = absurd (no_long (nat_eq u 76) (nat_eq u 91) (nat_eq u 86) (nat_eq u 70) (nat_eq u 68) u us e)
+
+long_unit : (u : ℕ) (us : List ℕ) → types_of (u ∷ us) ≡ Long ∷ [] → u ≡ 74
+long_unit u us e = long_by (nat_eq u 74) u us refl e
+
+stored_plain : (p : Program) (w : World) (u : ℕ) (us : List ℕ) (t : VType) (v : Value) → IsText (u ∷ us) → types_of (u ∷ us) ≡ t ∷ [] → HasPlain p w t v → IsDeclared p w (u ∷ us) (narrow u v)
+unfolding narrow
+stored_plain p w u us Int (value.Int n) h e q = narrowed_fits u n (int_unit u us h e)
+stored_plain p w u us Long (value.Long n) h e q = long_unit u us e
+stored_plain p w u us (Object a) value.Null h e q = subst (λ (ts : List VType). IsReferenceOf p w ts value.Null) (sym e) q
+stored_plain p w u us (Object a) (value.Lit n) h e q = subst (λ (ts : List VType). IsReferenceOf p w ts (value.Lit n)) (sym e) q
+stored_plain p w u us (Object a) (value.Obj o) h e q = subst (λ (ts : List VType). IsReferenceOf p w ts (value.Obj o)) (sym e) q
+stored_plain p w u us (Object a) (value.Int n) h e q = absurd q
+stored_plain p w u us (Object a) (value.Long n) h e q = absurd q
+stored_plain p w u us Int (value.Long n) h e q = absurd q
+stored_plain p w u us Int value.Null h e q = absurd q
+stored_plain p w u us Int (value.Lit n) h e q = absurd q
+stored_plain p w u us Int (value.Obj n) h e q = absurd q
+stored_plain p w u us Long (value.Int n) h e q = absurd q
+stored_plain p w u us Long value.Null h e q = absurd q
+stored_plain p w u us Long (value.Lit n) h e q = absurd q
+stored_plain p w u us Long (value.Obj n) h e q = absurd q
+stored_plain p w u us Top v h e q = absurd q
+stored_plain p w u us Null v h e q = absurd q
+stored_plain p w u us UninitThis v h e q = absurd q
+stored_plain p w u us (Uninit k) v h e q = absurd q
+
+pub argument_stored : (p : Program) (w : World) (d : List ℕ) (v : Value) → IsText d → Argument p w d v → IsDeclared p w d (narrowed d v)
+argument_stored p w [] v h a = absurd cc
+argument_stored p w (u ∷ us) v h a = stored_plain p w u us a.type v h a.is_type a.plain
+
+-- a value of a text's type is popped
+pub popping-declared : (p : Program) (ty : IsTyped p) {w : World} {e : Environment} {S : Type 0} (P : World → Answer S → Type 0) (d : List ℕ) → IsText d → {ns : List Need} {ts rest : List VType} {vs : List Value} {k : Value → List Value → Access (Answer S)}
+    → Operands p w e (needs_of d ++ ns) ts rest vs → ((v : Value) (ws : List Value) (us : List VType) → Argument p w d v → Operands p w e ns us rest ws → Tree p P w (k v ws)) → Tree p P w (popping vs k)
+popping-declared p ty {w = w} {e = e} P d h {ns = ns} {ts = ts} {rest = rest} {vs = vs} {k = k} o f =
+    let t = take_args p ty w e (d ∷ []) (h, tt) ns ts rest vs (subst (λ (xs : List Need). Operands p w e (xs ++ ns) ts rest vs) (sym (append-nil (needs_of d))) o) in
+    by t.args t.below t.split t.typed t.types t.operands
+  where
+    by : (args below : List Value) → vs ≡ args ++ below → Arguments p w (d ∷ []) args → (us : List VType) → Operands p w e ns us rest below → Tree p P w (popping vs k)
+    by (v ∷ []) below q a us o = subst (λ (xs : List Value). Tree p P w (popping xs k)) (sym q) (f v below us a.0 o)
+    by (v ∷ x ∷ xs) below q a us o = absurd a.1
+    by [] below q a us o = absurd a

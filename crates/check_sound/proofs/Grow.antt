@@ -1,0 +1,105 @@
+-- What has a type keeps it where there are more objects.
+use Rattle.std.proofs.Common.{◌≡◌, ℕ, zero, suc, ◌<◌, ◌≤◌, List, [], ◌∷◌, length, true, refl, sym, ◌∙◌, ap, subst, arith}
+use Rattle.jvm_model.specs.declared.values.Value.{Value}
+use Rattle.jvm_model.specs.declared.values.Value.TheVariants as value
+use Rattle.jvm_model.specs.declared.values.Kind.{Kind}
+use Rattle.jvm_model.specs.declared.values.Head.{Head}
+use Rattle.jvm_model.specs.declared.values.Location.TheVariants as place
+use Rattle.jvm_model.specs.declared.program.Program.{Program}
+use Rattle.jvm_model.specs.World.{World, size, at}
+use Rattle.jvm_model.specs.Builtin.{throwable_class}
+use Rattle.jvm_model.specs.Classes.{is_below}
+use Rattle.jvm_model.specs.Kinds.{class_of}
+use Rattle.jvm_model.specs.Linked.{fits_int, first_or}
+use Rattle.type_frames.specs.declared.vtype.VType.{VType}
+use Rattle.type_frames.specs.declared.vtype.VType.TheVariants.{Top, Int, Long, Null, Object, UninitThis, Uninit}
+use Rattle.type_frames.specs.Environment.{Environment, made_at}
+use Rattle.type_frames.specs.Descriptors.{types_of}
+use Rattle.type_frames.specs.Sides.{is_that}
+use Rattle.type_frames.specs.TypedState.{kind_at, IsInRange, IsInstance, RefersTo, is_class_with, HasType, HaveTypes, HaveStackTypes, IsReferenceOf, IsDeclared, IsThrowable}
+use Rattle.check_sound.proofs.Tree.{head_at, Over, Alike}
+
+-- the references are in range
+abbrev pub Ranged : Program → World → List Value → Type 0
+Ranged p w [] = Unit {0}
+Ranged p w (v ∷ vs) = IsInRange p w v × Ranged p w vs
+
+pub over_itself : (w : World) → Over w w
+over_itself w = record { sizes = omega arith; heads = λ o h. refl }
+
+pub alike_over : (u w : World) → Alike u w → Over u w
+alike_over u w a = record { sizes = (let e = a.sizes in omega arith); heads = λ o h. sym (a.heads o) }
+
+pub alike_back : (u w : World) → Alike u w → Alike w u
+alike_back u w a = record { sizes = sym a.sizes; heads = λ o. sym (a.heads o); states = λ c. sym (a.states c) }
+
+module _ (p : Program) (u w : World) (g : Over u w) where
+  pub kind_over : (o : ℕ) → o < size u → kind_at u o ≡ kind_at w o
+  kind_over o h = ap (λ (z : Head). z.kind) (sym (g.heads o h))
+
+  within : (o : ℕ) → o < size u → o < size w
+  within o h = let s = g.sizes in omega arith
+
+  pub refers_over : (a : List ℕ) (v : Value) → RefersTo p u a v → RefersTo p w a v
+  refers_over a value.Null h = tt
+  refers_over a (value.Lit n) h = h
+  refers_over a (value.Obj o) h = (within o h.0, subst (λ (k : Kind). IsInstance p k a) (kind_over o h.0) h.1)
+  refers_over a (value.Int n) h = absurd h
+  refers_over a (value.Long n) h = absurd h
+
+  pub range_over : (v : Value) → IsInRange p u v → IsInRange p w v
+  range_over (value.Obj o) h = within o h
+  range_over (value.Lit n) h = h
+  range_over value.Null h = tt
+  range_over (value.Int n) h = tt
+  range_over (value.Long n) h = tt
+
+  pub ranged_over : (vs : List Value) → Ranged p u vs → Ranged p w vs
+  ranged_over [] h = tt
+  ranged_over (v ∷ vs) h = (range_over v h.0, ranged_over vs h.1)
+
+  pub type_over : (e : Environment) (t : VType) (v : Value) → HasType p u e t v → HasType p w e t v
+  type_over e Top v h = tt
+  type_over e (Object a) v h = refers_over a v h
+  type_over e Int (value.Int n) h = tt
+  type_over e Long (value.Long n) h = tt
+  type_over e Null value.Null h = tt
+  type_over e UninitThis (value.Obj o) h = (within o h.0, subst (λ (k : Kind). is_class_with (λ c. is_below p c e.class) k ≡ true) (kind_over o h.0) h.1)
+  type_over e (Uninit pc) (value.Obj o) h = (within o h.0, subst (λ (k : Kind). is_class_with (λ c. is_that c (made_at e pc)) k ≡ true) (kind_over o h.0) h.1)
+  type_over e _ _ h = absurd h
+
+  pub types_over : (e : Environment) (ts : List VType) (vs : List Value) → HaveTypes p u e ts vs → HaveTypes p w e ts vs
+  types_over e [] [] h = tt
+  types_over e (t ∷ ts) (v ∷ vs) h = (type_over e t v h.0, types_over e ts vs h.1)
+  types_over e [] (v ∷ vs) h = absurd h
+  types_over e (t ∷ ts) [] h = absurd h
+
+  pub stack_over : (e : Environment) (ts : List VType) (vs : List Value) → HaveStackTypes p u e ts vs → HaveStackTypes p w e ts vs
+  stack_over e ts [] h = h
+  stack_over e (t ∷ ts) (value.Int n ∷ vs) h = (type_over e t (value.Int n) h.0, stack_over e ts vs h.1)
+  stack_over e (t ∷ ts) (value.Null ∷ vs) h = (type_over e t value.Null h.0, stack_over e ts vs h.1)
+  stack_over e (t ∷ ts) (value.Lit n ∷ vs) h = (type_over e t (value.Lit n) h.0, stack_over e ts vs h.1)
+  stack_over e (t ∷ ts) (value.Obj o ∷ vs) h = (type_over e t (value.Obj o) h.0, stack_over e ts vs h.1)
+  stack_over e (Top ∷ t ∷ ts) (value.Long n ∷ vs) h = (type_over e t (value.Long n) h.0, stack_over e ts vs h.1)
+  stack_over e (Top ∷ []) (value.Long n ∷ vs) h = absurd h
+  stack_over e (t ∷ ts) (value.Long n ∷ vs) h = absurd h
+  stack_over e [] (value.Long n ∷ vs) h = absurd h
+  stack_over e [] (value.Int n ∷ vs) h = absurd h
+  stack_over e [] (value.Null ∷ vs) h = absurd h
+  stack_over e [] (value.Lit n ∷ vs) h = absurd h
+  stack_over e [] (value.Obj o ∷ vs) h = absurd h
+
+  reference_over : (ts : List VType) (v : Value) → IsReferenceOf p u ts v → IsReferenceOf p w ts v
+  reference_over (Object a ∷ []) v h = refers_over a v h
+  reference_over _ v h = absurd h
+
+  pub declared_over : (d : List ℕ) (v : Value) → IsDeclared p u d v → IsDeclared p w d v
+  declared_over d (value.Int n) h = h
+  declared_over d (value.Long n) h = h
+  declared_over d value.Null h = reference_over (types_of d) value.Null h
+  declared_over d (value.Lit n) h = reference_over (types_of d) (value.Lit n) h
+  declared_over d (value.Obj o) h = reference_over (types_of d) (value.Obj o) h
+
+  pub throwable_over : (v : Value) → IsThrowable p u v → IsThrowable p w v
+  throwable_over (value.Obj o) h = (within o h.0, subst (λ (k : Kind). is_below p (class_of k) throwable_class ≡ true) (kind_over o h.0) h.1)
+  throwable_over _ h = absurd h
