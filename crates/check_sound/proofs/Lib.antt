@@ -43,3 +43,4 @@ pub mod KindNames
 pub mod CastRows
 pub mod CreateRows
 pub mod DriverRows
+pub mod Reaching

@@ -4,3 +4,4 @@ pub mod WorldLaw
 pub mod Slots
 pub mod NativeTypes
 pub mod StepLaw
+pub mod ReachLaw
