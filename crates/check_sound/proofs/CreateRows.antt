@@ -127,5 +127,3 @@ module _ (p : Program) (ty : IsTyped p) {w : World} {s : Entries} where
       array_kind (kind.Array d b) h = h
       array_kind (kind.Class c) h = absurd h
 
-  -- ---- arrays of arrays
-

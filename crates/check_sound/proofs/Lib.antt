@@ -1,13 +1,3 @@
-mod Worlds
-mod Runs
-mod Combinators
-mod Rows
-mod PlainRows
-mod ObjectRows
-mod Nested
-mod Initialise
-mod Driver
-mod Natives
 pub mod ParameterTexts
 pub mod SelectLaws
 pub mod DeclaredValues
@@ -44,3 +34,8 @@ pub mod CastRows
 pub mod CreateRows
 pub mod DriverRows
 pub mod Reaching
+pub mod ArrayKinds
+pub mod NestedRow
+pub mod AllGroups
+pub mod HeadsStay
+pub mod ArrayRows

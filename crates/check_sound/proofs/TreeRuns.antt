@@ -23,7 +23,7 @@ use Rattle.check_sound.proofs.WorldKept.{whole, spot_over, fits_alike, put_alike
 pub alike_itself : (w : World) → Alike w w
 alike_itself w = record { sizes = refl; heads = λ o. refl; states = λ c. refl }
 
-alike_then : (u v w : World) → Alike u v → Alike v w → Alike u w
+pub alike_then : (u v w : World) → Alike u v → Alike v w → Alike u w
 alike_then u v w a b = record { sizes = a.sizes ∙ b.sizes; heads = λ o. a.heads o ∙ b.heads o; states = λ c. a.states c ∙ b.states c }
 
 pub state_same : (w : World) (c d : ℕ) (s : InitState) → has w (place.Init c) ≡ true → same (place.Init d) (place.Init c) ≡ true → at (put w (place.Init c) s) (place.Init d) ≡ s
@@ -35,7 +35,7 @@ state_same w c d s h e = by d (same_true (place.Init d) (place.Init c) e)
     by d q = subst (λ (k : ℕ). at (put w (place.Init c) s) (place.Init k) ≡ s) (sym (number q)) (at_put_same w (place.Init c) s h)
 
 -- the same state is written in both
-mark_alike : (u w : World) (c : ℕ) (s : InitState) → Alike u w → Alike (put u (place.Init c) s) (put w (place.Init c) s)
+pub mark_alike : (u w : World) (c : ℕ) (s : InitState) → Alike u w → Alike (put u (place.Init c) s) (put w (place.Init c) s)
 mark_alike u w c s a = record {
   sizes = size_put u (place.Init c) s ∙ (a.sizes ∙ sym (size_put w (place.Init c) s));
   heads = λ o. a.heads o;
@@ -46,7 +46,7 @@ mark_alike u w c s a = record {
 }
 
 -- the same object is made in both
-make_alike : (u w : World) (x : Object) → Alike u w → Alike (make_object u x) (make_object w x)
+pub make_alike : (u w : World) (x : Object) → Alike u w → Alike (make_object u x) (make_object w x)
 make_alike u w x a = record {
   sizes = size_make u x ∙ (ap suc a.sizes ∙ sym (size_make w x));
   heads = λ o. elim (is_of_cases (place.Head o) (size u)) [
@@ -57,7 +57,7 @@ make_alike u w x a = record {
 }
 
 -- a new object is one of an alike world too
-new_alike : (p : Program) (u w : World) (x : Object) → Alike u w → IsNew p u x → IsNew p w x
+pub new_alike : (p : Program) (u w : World) (x : Object) → Alike u w → IsNew p u x → IsNew p w x
 new_alike p u w x a d = record {
   is_kind = d.is_kind;
   fields = λ c f e m. ((d.fields c f e m).0, declared_over p u w (alike_over u w a) (field_at p f).descriptor (look nat_eq Null x.fields f) (d.fields c f e m).1);
@@ -65,7 +65,7 @@ new_alike p u w x a d = record {
 }
 
 module _ (p : Program) where
-  known : (u w : World) → Alike u w → TypedWorld p w → (o : ℕ) → o < size u → IsKind p (kind_at u o)
+  pub known : (u w : World) → Alike u w → TypedWorld p w → (o : ℕ) → o < size u → IsKind p (kind_at u o)
   known u w i t o h = subst (λ (z : Head). IsKind p z.kind) (sym (i.heads o)) (t.kinds o (let e = i.sizes in omega arith))
 
   pub tree_safe : {A : Type 0} (P : World → A → Type 0) (G : A → Type 0) → ((v : World) (a : A) → P v a → G a) → (t : Access A) (u w : World) → Alike u w → TypedWorld p w → Tree p P u t → IsSafe G t w

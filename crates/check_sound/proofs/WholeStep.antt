@@ -58,7 +58,7 @@ pub record Groups (p : Program) : Type 0 where
   pub native-step : (w : World) (x : Native) (m : ℕ) (s : State) (t : Entries) → (method_at p m).native ≡ Some x → s.raised ≡ None → NativeCall p w m t → Tested p w s → Step p w (bind (row_native p x (record { entries = t; own = s.own })) (after_native p s))
   pub drive-step : (w : World) (s : State) → Local p w s → s.entries.top.kind ≡ Absent → Step p w (drive p s)
 
-over_then : (u v w : World) → Over u v → Over v w → Over u w
+pub over_then : (u v w : World) → Over u v → Over v w → Over u w
 over_then u v w a b = record { sizes = (let x = a.sizes in let y = b.sizes in omega arith); heads = λ o h. b.heads o (let x = a.sizes in omega arith) ∙ a.heads o h }
 
 -- parts put together, the second in a world over the first's
@@ -135,13 +135,13 @@ module _ (p : Program) (ty : IsTyped p) (gs : Groups p) where
       by (InClass b) None q n t i = then-typed w s (row_finish p s.entries) n h (finish-typed p ty b q t)
       by (InClass b) (Some v) q n t i = then-quiet w s (row_fail p v s.entries) h (fail-typed p ty b v q i t)
 
-  step-typed : (w : World) (s : State) → Local p w s → Step p w (step p s)
+  pub step-typed : (w : World) (s : State) → Local p w s → Step p w (step p s)
   unfolding step
   step-typed w s h = typed_spend (acts-typed w s h)
 
   -- ---- typed states
 
-  local_of : (w : World) (s : State) → TypedState p w s → Local p w s
+  pub local_of : (w : World) (s : State) → TypedState p w s → Local p w s
   local_of w s t = record { test = t.test; entries = record { references = t.references; few = t.few; alone = t.alone; top = t.top; below = t.below; one_each = t.one_each }; raised = t.raised; stage = t.stage }
 
   some_over : (u w : World) → Over u w → (x : Option Value) → IfSome x (IsThrowable p u) → IfSome x (IsThrowable p w)

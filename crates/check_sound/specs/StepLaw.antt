@@ -1,7 +1,7 @@
 -- Checked code never gets stuck.
-use Rattle.std.specs.Prelude.{ℕ}
+use Rattle.std.specs.Prelude.{◌≡◌, ℕ, ◌<◌}
 use Rattle.jvm_model.specs.declared.program.Program.{Program}
-use Rattle.jvm_model.specs.World.{World}
+use Rattle.jvm_model.specs.World.{World, size, object_at}
 use Rattle.jvm_model.specs.Access.{run}
 use Rattle.jvm_model.specs.State.{State, Turn, next, ended, no_turn}
 use Rattle.jvm_model.specs.Step.{step}
@@ -19,3 +19,7 @@ StaysTyped p w no_turn = ⊥
 -- state is typed again, or the test ended over a typed world.
 abbrev pub StepLaw : Type 0
 StepLaw = (p : Program) (w : World) (s : State) → IsTyped p → TypedState p w s → IsSafe IsTurn (step p s) w × StaysTyped p (run (step p s) w).world (run (step p s) w).value
+
+-- No step takes an object away, or writes the head of one that stands: what it is an instance of, and its length.
+abbrev pub HeadsLaw : Type 0
+HeadsLaw = (p : Program) (w : World) (s : State) (o : ℕ) → IsTyped p → TypedState p w s → o < size w → (o < size (run (step p s) w).world) × ((object_at (run (step p s) w).world o).head ≡ (object_at w o).head)

@@ -1,0 +1,43 @@
+-- All groups of rows, the built-in methods and the driver are typed.
+use Rattle.std.proofs.Common.{◌≡◌, ℕ}
+use Rattle.jvm_model.specs.declared.instr.Instr.{Instr}
+use Rattle.jvm_model.specs.declared.instr.Instr.TheVariants as form
+use Rattle.jvm_model.specs.declared.program.Program.{Program}
+use Rattle.jvm_model.specs.World.{World}
+use Rattle.jvm_model.specs.Entries.{Entries}
+use Rattle.jvm_model.specs.RowsStatics.{row_statics}
+use Rattle.jvm_model.specs.RowsFields.{row_fields}
+use Rattle.jvm_model.specs.Step.{statics, fields, group_of}
+use Rattle.type_frames.specs.Typing.{IsTyped}
+use Rattle.check_sound.proofs.Ready.{Row, Ready}
+use Rattle.check_sound.proofs.StaticRows.{get_static, put_static}
+use Rattle.check_sound.proofs.FieldRows.{get_field, put_field}
+use Rattle.check_sound.proofs.NestedRow.{create-typed}
+use Rattle.check_sound.proofs.ArrayRows.{arrays-typed}
+use Rattle.check_sound.proofs.CastRows.{casts-typed, throw-typed}
+use Rattle.check_sound.proofs.NativeRows.{native-typed}
+use Rattle.check_sound.proofs.DriverRows.{drive-typed}
+use Rattle.check_sound.proofs.WholeStep.{Groups}
+
+module _ (p : Program) (ty : IsTyped p) where
+  statics-typed : (w : World) (s : Entries) (i : Instr) → group_of i ≡ statics → Ready p w s i → Row p w (row_statics p i s)
+  statics-typed w s (form.GetStatic f) q r = get_static p ty f r
+  statics-typed w s (form.PutStatic f) q r = put_static p ty f r
+  statics-typed w s _ q r = absurd (cc)
+
+  fields-typed : (w : World) (s : Entries) (i : Instr) → group_of i ≡ fields → Ready p w s i → Row p w (row_fields p i s)
+  fields-typed w s (form.GetField c f) q r = get_field p ty c f r
+  fields-typed w s (form.PutField c f) q r = put_field p ty c f r
+  fields-typed w s _ q r = absurd (cc)
+
+  pub groups : Groups p
+  groups = record {
+    statics-row = λ w s i q r. statics-typed w s i q r;
+    fields-row = λ w s i q r. fields-typed w s i q r;
+    create-row = λ w s i q r. create-typed p ty i q r;
+    arrays-row = λ w s i q r. arrays-typed p ty i q r;
+    casts-row = λ w s i q r. casts-typed p ty i q r;
+    throw-row = λ w s r. throw-typed p ty r;
+    native-step = λ w x m s t e n call q. native-typed p ty x m s t e n call q;
+    drive-step = λ w s h k. drive-typed p ty s h k;
+  }
