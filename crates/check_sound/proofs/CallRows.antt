@@ -1,10 +1,10 @@
 -- The rows of calls: a method is entered with its arguments, and the calling frame waits.
-use Rattle.std.proofs.Common.{◌≡◌, ℕ, zero, suc, ◌+◌, ◌<◌, ◌≤◌, List, [], ◌∷◌, ◌++◌, length, take, drop, map, reverse, Bool, true, false, not, ◌&&◌, ◌||◌, cond, nat_eq, nat_le, Option, Some, None, IfSome, slice_get, refl, sym, ◌∙◌, ap, subst, arith, inl, inr, length-append, append-nil}
+use Rattle.std.proofs.Common.{◌≡◌, ℕ, zero, suc, ◌+◌, ◌-◌, ◌<◌, ◌≤◌, List, [], ◌∷◌, ◌++◌, length, take, drop, map, reverse, Bool, true, false, not, ◌&&◌, ◌||◌, cond, nat_eq, nat_le, Option, Some, None, IfSome, slice_get, refl, sym, ◌∙◌, ap, subst, arith, inl, inr, length-append, append-nil}
 use Rattle.std.specs.Prelude.{flat_map, slice_index_or}
 use Rattle.std.specs.List.{IsDistinct}
 use Rattle.std.specs.Str.{bytes_eq}
 use Rattle.std.proofs.lemmas.Bool.{cases_Bool, or_cases, and_parts, leb-true, leb-false, eqb-true}
-use Rattle.std.proofs.lemmas.List.{reverse-append, reverse-reverse, length-reverse, append_assoc}
+use Rattle.std.proofs.lemmas.List.{length-drop, reverse-append, reverse-reverse, length-reverse, append_assoc}
 use Rattle.std.proofs.Math.Seq.{take-append_seam, drop-append_seam}
 use Rattle.jvm_model.specs.declared.values.Value.{Value}
 use Rattle.jvm_model.specs.declared.values.Value.TheVariants as value
@@ -47,7 +47,7 @@ use Rattle.check_sound.proofs.Instances.{below_class, super_below, instance_itse
 use Rattle.type_frames.specs.Sides.{sides, argument_needs, result_types, on_stack, call_sides, needs_of, is_that, is_start, init_sides, special_need, object_of, place_of}
 use Rattle.type_frames.specs.Rules.{meets, turned}
 use Rattle.type_frames.specs.Typing.{IsTyped}
-use Rattle.type_frames.specs.TypedState.{is_class_with, kind_at, IsInRange, IsInstance, RefersTo, HasType, HaveTypes, Waits, IsBelow, AllBelow, class_begun, called_by}
+use Rattle.type_frames.specs.TypedState.{is_class_with, kind_at, IsInRange, IsInstance, RefersTo, HasType, HaveTypes, HaveStackTypes, Waits, IsBelow, AllBelow, class_begun, called_by}
 use Rattle.check_sound.proofs.Tree.{Tree, typed_done, typed_spend}
 use Rattle.check_sound.proofs.Grow.{Ranged}
 use Rattle.check_sound.proofs.Held.{refers_fits, Is, Held, Locals, IsShort, held_over, locals_over, is_fits}
@@ -57,7 +57,7 @@ use Rattle.check_sound.proofs.Ready.{TypedEntries, stub, Rest, closed, below_sam
 use Rattle.check_sound.proofs.Onward.{whole, not_full, ready_grows}
 use Rattle.check_sound.proofs.Thrown.{builtin_is, abstract_thrown, overflow_thrown, null_pointer_thrown}
 use Rattle.check_sound.proofs.Ends.{fault_typed, using-typed}
-use Rattle.check_sound.proofs.CallSides.{this_of, CallSides, call_of, Result, push}
+use Rattle.check_sound.proofs.CallSides.{values_few, on_stack_length, this_of, CallSides, call_of, Result, push}
 use Rattle.check_sound.proofs.ReturnRows.{home, named_class}
 use Rattle.check_sound.proofs.ParameterTexts.{AreTexts}
 use Rattle.check_sound.proofs.Arguments.{method_texts, Argument, Arguments, arguments_reverse, arguments_range, Taken, take_args, text_slots, EntersWith, EnteredFrame, entered_frame, takes_args, takes_append, one_each_reverse}
@@ -84,6 +84,9 @@ given_of p w [] vs rest h = record { results = []; split = h; result = refl }
 given_of p w (t ∷ []) (v ∷ vs) rest h = record { results = v ∷ []; split = ap {B = List Value} (λ xs. v ∷ xs) h.2; result = (h.0, h.1) }
 given_of p w (t ∷ []) [] rest h = absurd h
 given_of p w (t ∷ u ∷ ts) vs rest h = absurd h
+
+same_body : {a b : Body} → Some a ≡ Some b → a ≡ b
+same_body e = cc
 
 reverse_range : (p : Program) (w : World) (vs us : List Value) → Ranged p w (vs ++ us) → Ranged p w (reverse vs)
 reverse_range p w vs us h = back vs (first vs h)
@@ -125,12 +128,26 @@ module _ (p : Program) (ty : IsTyped p) {w : World} {s : Entries} {i : Instr} (r
   sides_of : (named : ℕ) → called_by i ≡ Some named → CallSides p (here r) r.types (sides_at r) (method_at p named)
   sides_of named c = call_of p ty.linked (here r) r.index (record { pc = s.top.pc; form = i }) r.types named c (named_class p ty i named c (names_form p ty r)) (home p ty s.top.number (has_number p ty s.top.number r.body r.has_code)) r.kept
 
+  -- there is room for the result of the call
+  native_space : (named m n : ℕ) → called_by i ≡ Some named → SameAs m named → (a : Passed p w r m n) → (b : Body) → (method_at p s.top.number).body ≡ Some b → length a.below + length (types_of (return_type (method_at p m).descriptor)) ≤ b.max_stack
+  native_space named m n c q a b hb =
+      let z : r.body ≡ b = same_body (sym r.has_code ∙ hb) in
+      let o = sides_at r in
+      let k = sides_of named c in
+      let h = leb-true _ _ (and_parts (nat_le (length o.takes) (length r.types.stack)) (nat_le (length o.gives + (length r.types.stack - length o.takes)) r.body.max_stack) r.kept.one).1 in
+      let d = length-drop (length o.takes) r.types.stack in
+      let v = values_few p w (here r) (rest r) a.below a.held.types in
+      let g : length o.gives ≡ length (on_stack (types_of (return_type (method_at p m).descriptor))) = ap length k.gives ∙ ap (λ (x : List ℕ). length (on_stack (types_of (return_type x)))) (sym q.1) in
+      let l = on_stack_length (types_of (return_type (method_at p m).descriptor)) in
+      subst (λ (x : Body). length a.below + length (types_of (return_type (method_at p m).descriptor)) ≤ x.max_stack) z (omega arith)
+
   native_typed : (named m n : ℕ) → called_by i ≡ Some named → SameAs m named → Passed p w r m n → NativeCall p w m s
   unfolding ready_grows
-  native_typed named m n c q a = record {
+  native_typed named m n c q a = let few : length s.top.stack ≤ r.body.max_stack = (let v = values_few p w (here r) r.types.stack s.top.stack r.stack.types in let f = r.fits in omega arith) in record {
     rest = a.below;
     takes = a.takes;
     range = r.stack.range;
+    space = (r.body, r.has_code, native_space named m n c q a r.body r.has_code, few);
     answered = λ v g vs h.
       let x = given_of p v (types_of (return_type (method_at p m).descriptor)) vs a.below h in
       let k = sides_of named c in

@@ -1,6 +1,7 @@
 -- What a call leaves of the frame of types, and the values that it gives.
 use Rattle.std.proofs.Common.{◌≡◌, ℕ, zero, suc, ◌<◌, ◌≤◌, List, [], ◌∷◌, ◌++◌, length, drop, map, reverse, Bool, true, false, not, ◌&&◌, ◌||◌, nat_eq, Option, Some, None, refl, sym, ◌∙◌, ap, subst, arith, inl, inr}
 use Rattle.std.specs.Prelude.{slice_index_or}
+use Rattle.std.proofs.lemmas.List.{length-append, length-reverse}
 use Rattle.std.specs.Str.{bytes_eq}
 use Rattle.std.proofs.lemmas.Bool.{cases_Bool, and_parts, eqb-true, leb-true}
 use Rattle.jvm_model.specs.declared.values.Value.{Value}
@@ -22,12 +23,12 @@ use Rattle.type_frames.specs.declared.vtype.VType.TheVariants.{Top, Int, Long, N
 use Rattle.type_frames.specs.declared.sides.Need.{Need}
 use Rattle.type_frames.specs.declared.sides.Need.TheVariants.{Raw}
 use Rattle.type_frames.specs.declared.sides.Sides.{Sides}
-use Rattle.type_frames.specs.Frames.{Slots, same}
+use Rattle.type_frames.specs.Frames.{Slots, same, places_of, spread}
 use Rattle.type_frames.specs.Descriptors.{types_of, name_of}
 use Rattle.type_frames.specs.Environment.{Environment, made_at}
 use Rattle.type_frames.specs.Sides.{sides, place_of, on_stack, argument_needs, result_types, call_sides, is_that, is_start, started, init_sides, special_sides, special_need, is_raw}
 use Rattle.type_frames.specs.Rules.{meets, meet_all, turned, after}
-use Rattle.type_frames.specs.TypedState.{kind_at, IsInRange, IsInstance, is_class_with, HasType, RefersTo, called_by}
+use Rattle.type_frames.specs.TypedState.{HaveStackTypes, kind_at, IsInRange, IsInstance, is_class_with, HasType, RefersTo, called_by}
 use Rattle.check_sound.proofs.Held.{Is, Locals, Held, on_top, int_on, long_on, locals_turned, held_turned}
 use Rattle.check_sound.proofs.Arrive.{Kept}
 use Rattle.check_sound.proofs.Instances.{instance_itself, below_is}
@@ -192,3 +193,34 @@ push p w e (Uninit k ∷ []) us (v ∷ []) ws r h = absurd r.0
 push p w e (t ∷ []) us [] ws r h = absurd r
 push p w e (t ∷ []) us (v ∷ x ∷ vs) ws r h = absurd r
 push p w e (t ∷ u ∷ ts) us vs ws r h = absurd r
+
+-- there are no more values than places
+pub values_few : (p : Program) (w : World) (e : Environment) (ts : List VType) (vs : List Value) → HaveStackTypes p w e ts vs → length vs ≤ length ts
+values_few p w e ts [] h = omega arith
+values_few p w e (t ∷ ts) (value.Int n ∷ vs) h = let q = values_few p w e ts vs h.1 in omega arith
+values_few p w e (t ∷ ts) (value.Null ∷ vs) h = let q = values_few p w e ts vs h.1 in omega arith
+values_few p w e (t ∷ ts) (value.Lit n ∷ vs) h = let q = values_few p w e ts vs h.1 in omega arith
+values_few p w e (t ∷ ts) (value.Obj n ∷ vs) h = let q = values_few p w e ts vs h.1 in omega arith
+values_few p w e (Top ∷ t ∷ ts) (value.Long n ∷ vs) h = let q = values_few p w e ts vs h.1 in omega arith
+values_few p w e (Top ∷ []) (value.Long n ∷ vs) h = absurd h
+values_few p w e (t ∷ ts) (value.Long n ∷ vs) h = absurd h
+values_few p w e [] (value.Long n ∷ vs) h = absurd h
+values_few p w e [] (value.Int n ∷ vs) h = absurd h
+values_few p w e [] (value.Null ∷ vs) h = absurd h
+values_few p w e [] (value.Lit n ∷ vs) h = absurd h
+values_few p w e [] (value.Obj n ∷ vs) h = absurd h
+
+pub on_stack_length : (ts : List VType) → length ts ≤ length (on_stack ts)
+on_stack_length ts = let a = length-reverse (spread ts) in let b = spread_length ts in omega arith
+  where
+    one : (t : VType) → 1 ≤ length (places_of t)
+    one Long = omega arith
+    one Top = omega arith
+    one Int = omega arith
+    one Null = omega arith
+    one (Object a) = omega arith
+    one UninitThis = omega arith
+    one (Uninit k) = omega arith
+    spread_length : (ts : List VType) → length ts ≤ length (spread ts)
+    spread_length [] = omega arith
+    spread_length (t ∷ ts) = let a = one t in let b = spread_length ts in let c = length-append (places_of t) (spread ts) in omega arith

@@ -151,7 +151,7 @@ module _ (p : Program) (ty : IsTyped p) {w : World} (s : State) (h : Local p w s
 
   -- the entries, whatever is raised
   whatever : (x : Option Value) → TypedEntries p w x s.entries
-  whatever x = record { references = h.entries.references; few = h.entries.few; top = subst (λ (y : EntryKind). IsTop p w x y s.entries.top) (sym k) tt; below = h.entries.below; one_each = h.entries.one_each }
+  whatever x = record { references = h.entries.references; few = h.entries.few; alone = h.entries.alone; top = subst (λ (y : EntryKind). IsTop p w x y s.entries.top) (sym k) tt; below = h.entries.below; one_each = h.entries.one_each }
 
   -- a method is called
   frame_typed : (m : ℕ) (b : Body) (vs : List Value) → (method_at p m).body ≡ Some b → EntersWith p w m vs → Ranged p w vs → TypedEntries p w s.raised (with_entry (frame_of b m vs) s.entries)

@@ -98,7 +98,7 @@ module _ (p : Program) (w : World) where
     where
       by : (k : EntryKind) → s.entries.top.kind ≡ k → Local p w (raised_in k v s)
       by Absent e = record { test = q.test; raised = tt; stage = thrown_stage (test_at p s.test) s.stage v q.stage h;
-        entries = record { references = t.references; few = t.few; top = subst (λ (k : EntryKind). IsTop p w None k s.entries.top) (sym e) tt; below = t.below; one_each = t.one_each } }
+        entries = record { references = t.references; few = t.few; alone = t.alone; top = subst (λ (k : EntryKind). IsTop p w None k s.entries.top) (sym e) tt; below = t.below; one_each = t.one_each } }
       by InMethod e = record { test = q.test; raised = h; stage = q.stage; entries = t }
       by (InClass b) e = record { test = q.test; raised = h; stage = q.stage; entries = t }
 

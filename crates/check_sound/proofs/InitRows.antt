@@ -161,7 +161,7 @@ module _ (p : Program) (ty : IsTyped p) {w : World} {s : Entries} (b : Bool) (k 
 
   -- something may be raised into the entry
   faulted : (v : Value) → TypedEntries p w (Some v) s
-  faulted v = record { references = t.references; few = t.few; top = subst (λ (x : EntryKind). IsTop p w (Some v) x s.top) (sym k) initialises; below = t.below; one_each = t.one_each }
+  faulted v = record { references = t.references; few = t.few; alone = t.alone; top = subst (λ (x : EntryKind). IsTop p w (Some v) x s.top) (sym k) initialises; below = t.below; one_each = t.one_each }
 
   finished-typed : Row p w (finished s)
   finished-typed = typed_mark own_class (typed_done (by (popped_entry s).top.kind))
@@ -254,7 +254,7 @@ module _ (p : Program) (ty : IsTyped p) {w : World} {s : Entries} where
 
   -- the entry as it stands where nothing is raised
   quiet : (b : Bool) (v : Value) → s.top.kind ≡ InClass b → TypedEntries p w (Some v) s → TypedEntries p w None s
-  quiet b v k t = record { references = t.references; few = t.few; top = subst (λ (x : EntryKind). IsTop p w None x s.top) (sym k) (subst (λ (x : EntryKind). IsTop p w (Some v) x s.top) k t.top); below = t.below; one_each = t.one_each }
+  quiet b v k t = record { references = t.references; few = t.few; alone = t.alone; top = subst (λ (x : EntryKind). IsTop p w None x s.top) (sym k) (subst (λ (x : EntryKind). IsTop p w (Some v) x s.top) k t.top); below = t.below; one_each = t.one_each }
 
   fails-typed : (b : Bool) (v : Value) → s.top.kind ≡ InClass b → TypedEntries p w None s → IsThrowable p w v → Tree p (Quiet p) w (fails v s)
   fails-typed b v k t h = typed_mark (own_class p ty b k t) (typed_done (throwable_over p w (put w (place.Init s.top.number) Erroneous) (mark_over p w s.top.number Erroneous) v h,

@@ -53,7 +53,7 @@ grows_begin p w c = record {
 
 module _ (p : Program) (u w : World) (g : Over u w) where
   pub stands_over : (f : Entry) → Stands p u f → Stands p w f
-  stands_over f s = record { body = s.body; given = s.given; index = s.index; instruction = s.instruction; types = s.types; has_code = s.has_code; has_frames = s.has_frames; there = s.there; place = s.place; known = s.known;
+  stands_over f s = record { body = s.body; given = s.given; index = s.index; instruction = s.instruction; types = s.types; fits = s.fits; has_code = s.has_code; has_frames = s.has_frames; there = s.there; place = s.place; known = s.known;
     locals = types_over p u w g (environment_of p (method_at p f.number) s.body s.given) s.types.locals f.locals s.locals }
 
   pub goes_over : (f : Entry) → Goes p u f → Goes p w f
@@ -105,7 +105,7 @@ pub rest_grows : {p : Program} {u w : World} {k : EntryKind} {n : ℕ} (fs : Lis
 rest_grows {p = p} {u = u} {w = w} fs g h = rest_kept p u w g.over fs (all_stay u w g.running (flat_map class_begun fs)) h
 
 unfoldable pub ready_grows : {p : Program} {u w : World} {s : Entries} {i : Instr} → Grows u w → Ready p u s i → Ready p w s i
-ready_grows {s = s} g r = record { body = r.body; given = r.given; index = r.index; types = r.types; has_code = r.has_code; has_frames = r.has_frames; there = r.there; known = r.known; kept = r.kept; kind = r.kind; locals = locals_over g.over r.locals; stack = held_over g.over r.stack; rest = rest_grows s.below g r.rest }
+ready_grows {s = s} g r = record { body = r.body; given = r.given; index = r.index; types = r.types; fits = r.fits; has_code = r.has_code; has_frames = r.has_frames; there = r.there; known = r.known; kept = r.kept; kind = r.kind; locals = locals_over g.over r.locals; stack = held_over g.over r.stack; rest = rest_grows s.below g r.rest }
 
 -- entries in a world that goes on
 top_over : (p : Program) (u w : World) → Grows u w → (raised : Option Value) (k : EntryKind) (e : Entry) → IsTop p u raised k e → IsTop p w raised k e
@@ -118,6 +118,7 @@ pub entries_grow : {p : Program} {u w : World} (raised : Option Value) (s : Entr
 entries_grow {p = p} {u = u} {w = w} raised s g t = record {
   references = λ k d h. range_over p u w g.over (get_or (flat_map values_of (all_entries s)) k d) (t.references k d h);
   few = t.few;
+  alone = t.alone;
   top = top_over p u w g raised s.top.kind s.top t.top;
   below = all_below_over p u w g.over s.top s.below (all_stay u w g.running (flat_map class_begun s.below)) t.below;
   one_each = t.one_each;

@@ -74,7 +74,7 @@ beneath {p = p} {w = w} {k = k} {n = n} {f = f} {fs = fs} r = record {
 -- no entry at all
 pub none_typed : {p : Program} {w : World} (raised : Option Value) → TypedEntries p w raised no_entries
 unfolding IsDistinct
-none_typed raised = record { references = All-nil _; few = omega arith; top = tt; below = tt; one_each = tt }
+none_typed raised = record { references = All-nil _; few = omega arith; alone = λ q. refl; top = tt; below = tt; one_each = tt }
 
 -- something is raised into the entries below one
 pub raised_below : {p : Program} {w : World} {k : EntryKind} {n : ℕ} (v : Value) (fs : List Entry) → Rest p w k n fs → TypedEntries p w (Some v) (entries_of fs)

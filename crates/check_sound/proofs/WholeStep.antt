@@ -93,7 +93,7 @@ module _ (p : Program) (ty : IsTyped p) (gs : Groups p) where
       by returns q = returns-typed p ty i q r
       by throw q = thrown-typed w s i q r
 
-  here-typed : (w : World) (s : Entries) → s.top.kind ≡ InMethod → TypedEntries p w None s → Row p w (row_here p s)
+  pub here-typed : (w : World) (s : Entries) → s.top.kind ≡ InMethod → TypedEntries p w None s → Row p w (row_here p s)
   unfolding row_here
   here-typed w s k t = let r = ready p ty s k t in subst (λ (o : Option Instr). Row p w (row_or_none p o s)) (sym r.1) (row-typed w s r.0 r.2)
 
@@ -142,7 +142,7 @@ module _ (p : Program) (ty : IsTyped p) (gs : Groups p) where
   -- ---- typed states
 
   pub local_of : (w : World) (s : State) → TypedState p w s → Local p w s
-  local_of w s t = record { test = t.test; entries = record { references = t.references; few = t.few; top = t.top; below = t.below; one_each = t.one_each }; raised = t.raised; stage = t.stage }
+  local_of w s t = record { test = t.test; entries = record { references = t.references; few = t.few; alone = t.alone; top = t.top; below = t.below; one_each = t.one_each }; raised = t.raised; stage = t.stage }
 
   some_over : (u w : World) → Over u w → (x : Option Value) → IfSome x (IsThrowable p u) → IfSome x (IsThrowable p w)
   some_over u w g None h = tt
@@ -151,7 +151,7 @@ module _ (p : Program) (ty : IsTyped p) (gs : Groups p) where
   typed_of : (u w : World) (s : State) → Alike u w → TypedWorld p w → Local p u s → TypedState p w s
   typed_of u w s a t h =
       let e = entries_grow s.raised s.entries (grows_alike u w a) h.entries in
-      record { test = h.test; world = t; references = e.references; few = e.few; top = e.top; below = e.below; one_each = e.one_each; raised = some_over u w (alike_over u w a) s.raised h.raised; stage = stage_over p u w (alike_over u w a) (test_at p s.test) s.stage h.stage }
+      record { test = h.test; world = t; references = e.references; few = e.few; alone = e.alone; top = e.top; below = e.below; one_each = e.one_each; raised = some_over u w (alike_over u w a) s.raised h.raised; stage = stage_over p u w (alike_over u w a) (test_at p s.test) s.stage h.stage }
 
   left : (u w : World) (x : Turn) → Alike u w → TypedWorld p w → TurnsTo p u x → StaysTyped p w x
   left u w (next s) a t h = typed_of u w s a t h

@@ -91,7 +91,7 @@ map_length : (a b : VType) (ts : List VType) → length (map (turned_one a b) ts
 map_length a b [] = refl
 map_length a b (t ∷ ts) = ap suc (map_length a b ts)
 
-turned_length : (x : Turn) (ts : List VType) → length (turned x ts) ≡ length ts
+pub turned_length : (x : Turn) (ts : List VType) → length (turned x ts) ≡ length ts
 turned_length Keep ts = refl
 turned_length (All a b) ts = map_length a b ts
 
