@@ -1,5 +1,5 @@
 -- Kinds of arrays, and what their elements are.
-use Rattle.std.proofs.Common.{◌≡◌, ◌⊎◌, ℕ, zero, suc, ◌+◌, ◌-◌, List, [], ◌∷◌, ◌++◌, drop, replicate, Bool, true, false, not, ◌&&◌, ◌||◌, nat_eq, Option, Some, None, refl, sym, ◌∙◌, ap, subst, arith, inl, inr}
+use Rattle.std.proofs.Common.{◌≡◌, ◌⊎◌, ℕ, zero, suc, ◌-◌, List, [], ◌∷◌, ◌++◌, drop, replicate, Bool, true, false, not, ◌&&◌, ◌||◌, nat_eq, Option, Some, None, refl, sym, ◌∙◌, ap, subst, arith, inl, inr}
 use Rattle.std.specs.Str.{bytes_eq}
 use Rattle.std.proofs.lemmas.Bool.{cases_Bool, and_parts, or_cases, eqb-true}
 use Rattle.std.proofs.lemmas.Iterator.Adapters.{position_from-zero}
@@ -130,7 +130,7 @@ module _ (p : Program) (lk : Linked p) where
 
   -- ---- references
 
-  -- a name of a class of the program is no array's
+  -- the number of a name names a class
   named_plain : (a : List ℕ) (o : Option ℕ) → class_named p a ≡ o → elim o as (λ z. Bool) [ None ↦ false | Some d ↦ true ] ≡ true → is_array a ≡ false
   named_plain a None e h = absurd (cc)
   named_plain a (Some c) e h =

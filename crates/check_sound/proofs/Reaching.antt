@@ -1,10 +1,10 @@
 -- What the states have that a test comes to.
-use Rattle.std.proofs.Common.{◌≡◌, ◌⊎◌, ℕ, zero, suc, ◌+◌, ◌-◌, ◌<◌, ◌≤◌, List, [], ◌∷◌, ◌++◌, length, drop, Bool, true, false, ◌&&◌, cond, nat_eq, nat_le, Option, Some, None, IfSome, refl, sym, ◌∙◌, ap, subst, arith, inl, inr}
+use Rattle.std.proofs.Common.{◌≡◌, ◌⊎◌, ℕ, ◌+◌, ◌-◌, ◌<◌, ◌≤◌, List, [], ◌∷◌, length, Bool, true, false, ◌&&◌, cond, nat_eq, nat_le, Option, Some, None, IfSome, refl, sym, ◌∙◌, ap, subst, arith, inl, inr}
 use Rattle.std.proofs.lemmas.Bool.{cases_Bool, and_parts, leb-true, eqb-true}
 use Rattle.jvm_model.specs.declared.values.Value.{Value}
 use Rattle.jvm_model.specs.declared.values.Value.TheVariants as value
 use Rattle.jvm_model.specs.declared.state.EntryKind.{EntryKind}
-use Rattle.jvm_model.specs.declared.state.EntryKind.TheVariants.{Absent, InMethod, InClass}
+use Rattle.jvm_model.specs.declared.state.EntryKind.TheVariants.{InMethod}
 use Rattle.jvm_model.specs.declared.instr.Instr.{Instr}
 use Rattle.jvm_model.specs.declared.instr.Instr.TheVariants as form
 use Rattle.jvm_model.specs.declared.instr.Sort.{Sort}
@@ -18,12 +18,11 @@ use Rattle.jvm_model.specs.World.{World}
 use Rattle.jvm_model.specs.Access.{run}
 use Rattle.jvm_model.specs.Classes.{method_at, field_at, form_at}
 use Rattle.jvm_model.specs.Descriptors.{return_type}
-use Rattle.jvm_model.specs.Entries.{Entry, Entries, no_entries, popped_entry, entries_of}
-use Rattle.jvm_model.specs.Linked.{IsField}
+use Rattle.jvm_model.specs.Entries.{Entry, Entries, popped_entry, entries_of}
 use Rattle.jvm_model.specs.Reached.{Reaches, begins, steps}
 use Rattle.jvm_model.specs.Rows.{Answer, answer}
-use Rattle.jvm_model.specs.State.{State, Turn, next, ended, no_turn, started}
-use Rattle.jvm_model.specs.Step.{row_here, step, turn}
+use Rattle.jvm_model.specs.State.{State, Turn, next}
+use Rattle.jvm_model.specs.Step.{row_here, turn}
 use Rattle.type_frames.specs.declared.vtype.VType.{VType}
 use Rattle.type_frames.specs.declared.vtype.VType.TheVariants.{Top, Int, Long, Object}
 use Rattle.type_frames.specs.declared.sides.Sides.{Sides}
@@ -33,18 +32,17 @@ use Rattle.std.proofs.lemmas.List.{length-append}
 use Rattle.type_frames.specs.Frames.{Slots, same}
 use Rattle.type_frames.specs.Environment.{Environment}
 use Rattle.type_frames.specs.Descriptors.{types_of, class_name}
-use Rattle.type_frames.specs.Sides.{sides, two, long_need, on_stack, const_type, load_sides, return_typed}
+use Rattle.type_frames.specs.Sides.{sides, two, long_need, const_type}
 use Rattle.type_frames.specs.Typing.{IsTyped}
 use Rattle.type_frames.specs.TypedState.{TypedWorld, TypedState, IsBelow}
 use Rattle.type_frames.proofs.Started.{started_law}
 use Rattle.check_sound.specs.StepLaw.{StaysTyped}
 use Rattle.check_sound.specs.ReachLaw.{most_operands, HasStackLimits, puts, native_puts}
-use Rattle.check_sound.proofs.Tree.{Leaves}
 use Rattle.check_sound.proofs.TreeRuns.{alike_itself, tree_leaves}
-use Rattle.check_sound.proofs.Ready.{TypedEntries, stub, Rest, Takes, operand_types, NativeCall, Enters, Ends, Ready, ready, here, sides_at, names_form}
+use Rattle.check_sound.proofs.Ready.{TypedEntries, stub, Rest, Takes, NativeCall, Enters, Ends, Ready, ready, here, sides_at, names_form}
 use Rattle.check_sound.proofs.CallSides.{values_few, on_stack_length}
 use Rattle.check_sound.proofs.ReturnRows.{SortOf, sort_of, back_room}
-use Rattle.check_sound.proofs.RaiseRows.{Beneath, beneath}
+use Rattle.check_sound.proofs.RaiseRows.{beneath}
 use Rattle.check_sound.proofs.ParameterTexts.{IsText}
 use Rattle.check_sound.proofs.DeclaredValues.{text_of_field}
 use Rattle.check_sound.proofs.LibraryTypes.{takes_of, result_of, native_takes, native_gives}
@@ -83,6 +81,7 @@ some_types (u ∷ us) h = elim (cases_Bool (nat_eq u 74)) [
   where
     is_one : (ts : List VType) (t : VType) → ts ≡ t ∷ [] → 1 ≤ length ts
     is_one ts t e = subst (λ (xs : List VType). 1 ≤ length xs) (sym e) (omega arith)
+
     doubles : nat_eq u 74 ≡ false → nat_eq u 76 ≡ false → nat_eq u 91 ≡ false → nat_eq u 86 ≡ false → nat_eq u 70 ≡ false → nat_eq u 68 ≡ true → types_of (u ∷ us) ≡ Top ∷ Top ∷ []
     doubles a b c d e f = rw (types_of, a, b, c, d, e, f) refl
 
@@ -169,6 +168,7 @@ module _ (p : Program) (ty : IsTyped p) (limits : HasStackLimits p) where
     where
       result : 1 ≤ length (types_of (return_type (method_at p s.top.number).descriptor))
       result = some_result _ x (sort_of (here r).result ((here r).starts && r.types.flag) (Some x) r.kept.six)
+
       by : (fs : List Entry) → Rest p w InMethod s.top.number fs → (entries_of fs).top.kind ≡ InMethod → length (entries_of fs).top.stack + 1 ≤ most_operands
       by [] t k = absurd (cc)
       by (f ∷ fs) t k =

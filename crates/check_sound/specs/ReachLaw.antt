@@ -1,5 +1,5 @@
 -- What the states have that a test comes to: they are typed, and there is room for what a step puts on the operands.
-use Rattle.std.specs.Prelude.{◌≡◌, ℕ, ◌+◌, ◌<◌, ◌≤◌, length, Option, Some, None, IfSome}
+use Rattle.std.specs.Prelude.{◌≡◌, ℕ, ◌+◌, ◌<◌, ◌≤◌, length, Some, None, IfSome}
 use Rattle.jvm_model.specs.declared.state.EntryKind.TheVariants.{Absent, InMethod}
 use Rattle.jvm_model.specs.declared.instr.Instr.{Instr}
 use Rattle.jvm_model.specs.declared.instr.Instr.TheVariants as form
