@@ -25,7 +25,7 @@ use Rattle.jvm_model.specs.Access.{done}
 use Rattle.jvm_model.specs.Rows.{constant_kind, answer, on_object}
 use Rattle.jvm_model.specs.RowsCasts.{cast_to, cast, tested, row_casts}
 use Rattle.jvm_model.specs.Step.{group_of, casts, row_throw}
-use Rattle.type_frames.specs.declared.vtype.VType.TheVariants.{Int, Long, Null, Object}
+use Rattle.type_frames.specs.declared.vtype.VType.TheVariants.{Object}
 use Rattle.type_frames.specs.Descriptors.{name_of, kind_name}
 use Rattle.type_frames.specs.Sides.{sides}
 use Rattle.type_frames.specs.Typing.{IsTyped}

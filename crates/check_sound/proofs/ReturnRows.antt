@@ -1,5 +1,5 @@
 -- The rows of returns: the entry is popped, and a value goes to the frame below.
-use Rattle.std.proofs.Common.{◌≡◌, ℕ, zero, suc, ◌<◌, ◌≤◌, List, [], ◌∷◌, ◌++◌, length, drop, Bool, true, false, not, ◌&&◌, nat_eq, Option, Some, None, IfSome, slice_get, refl, sym, ◌∙◌, ap, subst, arith}
+use Rattle.std.proofs.Common.{◌≡◌, ℕ, List, [], ◌∷◌, ◌++◌, length, drop, Bool, true, ◌&&◌, Option, Some, None, IfSome, slice_get, refl, sym, ◌∙◌, ap, subst}
 use Rattle.jvm_model.specs.declared.values.Value.{Value}
 use Rattle.jvm_model.specs.declared.values.Value.TheVariants as value
 use Rattle.jvm_model.specs.declared.program.Body.{Body}
@@ -10,33 +10,30 @@ use Rattle.jvm_model.specs.declared.instr.Instr.TheVariants as form
 use Rattle.jvm_model.specs.declared.instr.Sort.{Sort}
 use Rattle.jvm_model.specs.declared.instr.Sort.TheVariants as sort
 use Rattle.jvm_model.specs.declared.program.Program.{Program}
-use Rattle.jvm_model.specs.declared.program.MethodRec.{MethodRec}
 use Rattle.jvm_model.specs.declared.program.Placed.{Placed}
 use Rattle.jvm_model.specs.World.{World}
 use Rattle.jvm_model.specs.Classes.{method_at, next_place}
 use Rattle.jvm_model.specs.Descriptors.{return_type}
-use Rattle.jvm_model.specs.Entries.{Entry, Entries, entries_of, popped_entry}
+use Rattle.jvm_model.specs.Entries.{Entry, Entries, entries_of}
 use Rattle.jvm_model.specs.Linked.{IsClass, IsMethod, NamesForm, NamesBody}
 use Rattle.jvm_model.specs.Narrow.{narrowed}
-use Rattle.jvm_model.specs.Rows.{Answer, answer, goes_on}
+use Rattle.jvm_model.specs.Rows.{goes_on}
 use Rattle.jvm_model.specs.RowsReturn.{handed_on, hands_on, row_return}
 use Rattle.jvm_model.specs.Step.{group_of, returns}
 use Rattle.type_frames.specs.declared.vtype.VType.{VType}
-use Rattle.type_frames.specs.declared.vtype.VType.TheVariants.{Top, Int, Long, Null, Object, UninitThis, Uninit}
-use Rattle.type_frames.specs.declared.sides.Need.{Need}
-use Rattle.type_frames.specs.declared.sides.Need.TheVariants.{Fits, Half}
+use Rattle.type_frames.specs.declared.vtype.VType.TheVariants.{Int, Long, Object}
 use Rattle.type_frames.specs.Descriptors.{types_of}
 use Rattle.type_frames.specs.Environment.{Environment, environment_of}
-use Rattle.type_frames.specs.Sides.{sides, on_stack, result_types, return_typed, return_sides}
-use Rattle.type_frames.specs.Rules.{turned, after}
+use Rattle.type_frames.specs.Sides.{sides, result_types, return_typed}
+use Rattle.type_frames.specs.Rules.{turned}
 use Rattle.type_frames.specs.Typing.{IsTyped}
-use Rattle.type_frames.specs.TypedState.{IsInRange, Waits, Goes, IsTop, IsBelow, Initialises, called_by, HasType}
-use Rattle.check_sound.proofs.Tree.{Tree, typed_done}
+use Rattle.type_frames.specs.TypedState.{IsInRange, Waits, IsTop, IsBelow, called_by}
+use Rattle.check_sound.proofs.Tree.{typed_done}
 use Rattle.check_sound.proofs.Held.{Is, Locals, Held}
-use Rattle.check_sound.proofs.Operands.{Operands, rest_of, popping-fits, popping-long}
-use Rattle.check_sound.proofs.Arrive.{Kept, has_number, kept_at, arrived_next}
+use Rattle.check_sound.proofs.Operands.{Operands, popping-fits, popping-long}
+use Rattle.check_sound.proofs.Arrive.{has_number, kept_at, arrived_next}
 use Rattle.check_sound.proofs.Ready.{TypedEntries, stub, Rest, IsEntry, closed, all_placed, HasPlain, Ends, Row, Ready, here, rest, operands}
-use Rattle.check_sound.proofs.CallSides.{CallSides, call_of, Result, narrowed_plain, narrowed_range, push}
+use Rattle.check_sound.proofs.CallSides.{call_of, Result, narrowed_plain, narrowed_range, push}
 use Rattle.check_sound.proofs.RaiseRows.{Beneath, beneath, none_typed}
 
 -- what a return of this sort says of the result
@@ -108,7 +105,7 @@ module _ (p : Program) (ty : IsTyped p) where
       let l = c.locals w f.locals ls in
       let go = arrived_next p ty f.number st.body st.given st.has_code st.has_frames w st.index x st.types f.locals (vs ++ f.stack) th st.known c.falls l held in
       typed_done (subst (λ (z : EntryKind). TypedEntries p w None (record { top = record { kind = z; number = f.number; pc = next_place p f.number f.pc; stack = vs ++ f.stack; locals = f.locals }; below = fs })) (sym k)
-        (closed None (record { kind = InMethod; number = f.number; pc = next_place p f.number f.pc; stack = vs ++ f.stack; locals = f.locals }) tt go held.range l.range (subst (λ (z : EntryKind). Rest p w z f.number fs) k b.rest)))
+      (closed None (record { kind = InMethod; number = f.number; pc = next_place p f.number f.pc; stack = vs ++ f.stack; locals = f.locals }) tt go held.range l.range (subst (λ (z : EntryKind). Rest p w z f.number fs) k b.rest)))
 
   -- these values go to the entry below
   hands : {w : World} (n : ℕ) (vs : List Value) (fs : List Entry) → Rest p w InMethod n fs → Result p w (types_of (return_type (method_at p n).descriptor)) vs → Row p w (handed_on (entries_of fs).top.kind p vs (entries_of fs))
@@ -119,6 +116,7 @@ module _ (p : Program) (ty : IsTyped p) where
       given [] t k q = t
       given (v ∷ []) t k q = t
       given (v ∷ u ∷ vs) t k q = absurd (no_more p w v u vs (types_of (return_type (method_at p n).descriptor)) q)
+
       by : (k : EntryKind) → f.kind ≡ k → IsBelow p w f k (stub InMethod n) InMethod → Row p w (handed_on k p vs (record { top = f; below = fs }))
       by InMethod k h = given vs (back n f fs vs k h (beneath r) q) k q
       by (InClass b) k h = typed_done (closed None f (subst (λ (z : EntryKind). IsEntry z) (sym k) tt) (subst (λ (z : EntryKind). IsTop p w None z f) (sym k) h.0) (beneath r).stack (beneath r).locals (beneath r).rest)

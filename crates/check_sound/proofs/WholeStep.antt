@@ -1,8 +1,6 @@
 -- The whole step of a typed state: its row, what comes after it, and what the run leaves.
-use Rattle.std.proofs.Common.{◌≡◌, ℕ, ◌<◌, ◌≤◌, List, [], ◌∷◌, Bool, true, false, Option, Some, None, IfSome, refl, sym, ◌∙◌, ap, subst, arith}
+use Rattle.std.proofs.Common.{◌≡◌, ℕ, Option, Some, None, IfSome, refl, sym, ◌∙◌, subst, arith}
 use Rattle.jvm_model.specs.declared.values.Value.{Value}
-use Rattle.jvm_model.specs.declared.values.Value.TheVariants as value
-use Rattle.jvm_model.specs.declared.values.InitState.{InitState}
 use Rattle.jvm_model.specs.declared.values.Location.TheVariants as place
 use Rattle.jvm_model.specs.declared.state.EntryKind.{EntryKind}
 use Rattle.jvm_model.specs.declared.state.EntryKind.TheVariants.{Absent, InMethod, InClass}
@@ -13,11 +11,10 @@ use Rattle.jvm_model.specs.declared.outcome.Next.TheVariants as after
 use Rattle.jvm_model.specs.declared.program.Program.{Program}
 use Rattle.jvm_model.specs.World.{World, size, put, make_object}
 use Rattle.jvm_model.specs.Access.{Access, done, read, write, make, spend, bind, run}
-use Rattle.jvm_model.specs.Classes.{method_at, form_at}
+use Rattle.jvm_model.specs.Classes.{method_at}
 use Rattle.jvm_model.specs.Entries.{Entries}
 use Rattle.jvm_model.specs.Natives.{row_native}
 use Rattle.jvm_model.specs.Driver.{drive}
-use Rattle.jvm_model.specs.Working.{Working}
 use Rattle.jvm_model.specs.Rows.{Answer, answer, no_row}
 use Rattle.jvm_model.specs.RowsStatics.{row_statics}
 use Rattle.jvm_model.specs.RowsFields.{row_fields}
@@ -30,9 +27,9 @@ use Rattle.jvm_model.specs.Raising.{row_raise}
 use Rattle.jvm_model.specs.Initialise.{row_finish, row_fail}
 use Rattle.jvm_model.specs.View.{IsSafe, IsTurn}
 use Rattle.type_frames.specs.Typing.{IsTyped}
-use Rattle.type_frames.specs.TypedState.{TypedWorld, TypedState, IsThrowable, HasStage}
+use Rattle.type_frames.specs.TypedState.{TypedWorld, TypedState, IsThrowable}
 use Rattle.check_sound.specs.StepLaw.{StaysTyped}
-use Rattle.check_sound.proofs.Tree.{Tree, typed_done, typed_read, typed_write, typed_mark, typed_make, typed_spend, typed_known, Over, Alike, Leaves}
+use Rattle.check_sound.proofs.Tree.{Tree, typed_done, typed_read, typed_write, typed_mark, typed_make, typed_spend, typed_known, Over, Alike}
 use Rattle.check_sound.proofs.Grow.{over_itself, alike_over, throwable_over}
 use Rattle.check_sound.proofs.WorldKept.{mark_over, make_over}
 use Rattle.check_sound.proofs.TreeRuns.{alike_itself, tree_safe, tree_leaves}
