@@ -1,36 +1,39 @@
 -- The arguments of a call: what is taken of the operands, and the locals with which a method is entered.
-use Rattle.std.proofs.Common.{◌≡◌, ℕ, zero, suc, ◌-◌, ◌≤◌, List, [], ◌∷◌, ◌++◌, length, drop, reverse, replicate, true, false, nat_eq, Option, Some, None, is_some, refl, sym, ◌∙◌, ap, subst, arith, inl, inr}
+use Rattle.std.proofs.Common.{◌≡◌, ◌⊎◌, ℕ, zero, suc, ◌+◌, ◌-◌, ◌<◌, ◌≤◌, List, [], ◌∷◌, ◌++◌, length, drop, map, reverse, replicate, Bool, true, false, not, ◌&&◌, ◌||◌, cond, nat_eq, Option, Some, None, IfSome, is_some, refl, sym, ◌∙◌, ap, subst, arith, inl, inr, length-append, append-nil}
 use Rattle.std.specs.Prelude.{flat_map}
-use Rattle.std.proofs.lemmas.Bool.{cases_Bool, and_parts, eqb-true}
-use Rattle.std.proofs.lemmas.List.{reverse-append, append_assoc}
+use Rattle.std.proofs.lemmas.Bool.{cases_Bool, and_parts, or_cases, eqb-true}
+use Rattle.std.proofs.lemmas.List.{reverse-append, append_assoc, length-replicate}
 use Rattle.jvm_model.specs.declared.values.Value.{Value}
 use Rattle.jvm_model.specs.declared.values.Value.TheVariants as value
+use Rattle.jvm_model.specs.declared.state.EntryKind.TheVariants.{InMethod}
 use Rattle.jvm_model.specs.declared.program.Program.{Program}
+use Rattle.jvm_model.specs.declared.program.MethodRec.{MethodRec}
 use Rattle.jvm_model.specs.declared.program.Body.{Body}
 use Rattle.jvm_model.specs.World.{World}
-use Rattle.jvm_model.specs.Classes.{method_at}
+use Rattle.jvm_model.specs.Classes.{method_at, member, is_static}
 use Rattle.jvm_model.specs.Descriptors.{parameters}
-use Rattle.jvm_model.specs.Entries.{slots_of, filled, frame_of}
-use Rattle.jvm_model.specs.Linked.{IsMethod}
+use Rattle.jvm_model.specs.Entries.{Entry, slots_of, filled, frame_of}
+use Rattle.jvm_model.specs.Linked.{first_or, IsMethod}
 use Rattle.type_frames.specs.declared.vtype.VType.{VType}
 use Rattle.type_frames.specs.declared.vtype.VType.TheVariants.{Top, Int, Long, Null, Object, UninitThis, Uninit}
+use Rattle.type_frames.specs.declared.vtype.Frame.{Frame}
 use Rattle.type_frames.specs.declared.sides.Need.{Need}
 use Rattle.type_frames.specs.declared.sides.Need.TheVariants.{Fits, Half, Never}
-use Rattle.type_frames.specs.Frames.{spread, padded}
+use Rattle.type_frames.specs.Frames.{places_of, spread, padded}
 use Rattle.type_frames.specs.Descriptors.{types_of, class_name}
 use Rattle.type_frames.specs.Given.{entry_types, given_frames}
 use Rattle.type_frames.specs.Environment.{Environment, environment_of}
 use Rattle.type_frames.specs.Sides.{needs_of}
-use Rattle.type_frames.specs.Rules.{opening, meet_all}
+use Rattle.type_frames.specs.Rules.{opening, meets, meet_all}
 use Rattle.type_frames.specs.Typing.{IsTyped}
-use Rattle.type_frames.specs.TypedState.{IsInRange, HaveTypes, Goes}
+use Rattle.type_frames.specs.TypedState.{IsInRange, HasType, HaveTypes, HaveStackTypes, RefersTo, Goes}
 use Rattle.check_sound.proofs.Grow.{Ranged}
-use Rattle.check_sound.proofs.Held.{Is, Locals, is_fits, nothing_held}
+use Rattle.check_sound.proofs.Held.{Is, Held, Locals, is_fits, nothing_held}
 use Rattle.check_sound.proofs.Arrive.{typed_method, arrived_first}
-use Rattle.check_sound.proofs.Operands.{Operands, IsPop, popped, long_popped, none_there}
+use Rattle.check_sound.proofs.Operands.{Operands, IsPop, Popped, popped, LongPopped, long_popped, none_there}
 use Rattle.check_sound.proofs.Ready.{HasPlain, Takes}
 use Rattle.check_sound.proofs.ReturnRows.{plain_int, plain_long}
-use Rattle.check_sound.proofs.ParameterTexts.{IsText, AreTexts, parameters_formed}
+use Rattle.check_sound.proofs.ParameterTexts.{IsText, AreTexts, first_units, parameters_formed}
 
 -- ---- texts of parameters
 
@@ -97,8 +100,8 @@ pub arguments_reverse : (p : Program) (w : World) (ts : List (List ℕ)) (vs : L
 arguments_reverse p w [] [] h = tt
 arguments_reverse p w (t ∷ ts) (v ∷ vs) h =
     subst (λ (xs : List (List ℕ)). Arguments p w xs (reverse (v ∷ vs))) (sym (reverse-append (t ∷ []) ts))
-    (subst (λ (xs : List Value). Arguments p w (reverse ts ++ t ∷ []) xs) (sym (reverse-append (v ∷ []) vs))
-    (arguments_append p w (reverse ts) (t ∷ []) (reverse vs) (v ∷ []) (arguments_reverse p w ts vs h.1) (h.0, tt)))
+      (subst (λ (xs : List Value). Arguments p w (reverse ts ++ t ∷ []) xs) (sym (reverse-append (v ∷ []) vs))
+        (arguments_append p w (reverse ts) (t ∷ []) (reverse vs) (v ∷ []) (arguments_reverse p w ts vs h.1) (h.0, tt)))
 arguments_reverse p w [] (v ∷ vs) h = absurd h
 arguments_reverse p w (t ∷ ts) [] h = absurd h
 
@@ -126,7 +129,7 @@ drop_sum (n ∷ ns) ms (t ∷ ts) = drop_sum ns ms ts
 
 module _ (p : Program) (ty : IsTyped p) (w : World) (e : Environment) where
   more_taken : (ns : List Need) (rest : List VType) (t : List ℕ) (texts : List (List ℕ)) (v : Value) (vs : List Value) (ts us : List VType) → Argument p w t v → drop (length (needs_of t)) ts ≡ us → Taken p w e ns us rest texts vs → Taken p w e ns ts rest (t ∷ texts) (v ∷ vs)
-  more_taken ns rest t texts v vs ts us a d k = record { dropped = drop_sum (needs_of t) (flat_map needs_of texts) ts ∙ (ap (drop (length (flat_map needs_of texts))) d ∙ k.dropped); args = v ∷ k.args; below = k.below; types = k.types; split = ap {B = List Value} (λ xs. v ∷ xs) k.split; count = ap suc k.count; typed = (a, k.typed); operands = k.operands }
+  more_taken ns rest t texts v vs ts us a d k = record { dropped = drop_sum (needs_of t) (flat_map needs_of texts) ts ∙ (ap (drop (length (flat_map needs_of texts))) d ∙ k.dropped);  args = v ∷ k.args; below = k.below; types = k.types; split = ap {B = List Value} (λ xs. v ∷ xs) k.split; count = ap suc k.count; typed = (a, k.typed); operands = k.operands }
 
   one_fits : (u : VType) (ns : List Need) (ts rest : List VType) (v : Value) (vs : List Value) → IsPop (Fits u) → Operands p w e (Fits u ∷ ns) ts rest (v ∷ vs) → (us : List VType) × Is p w e u v × Operands p w e ns us rest vs × (drop 1 ts ≡ us)
   one_fits u ns ts rest v vs i o = let x = popped p w e (Fits u) ns ts rest v vs i o in (x.below, is_fits p ty.linked w e x.type u v x.met x.is, x.operands, ap (drop 1) x.seen)
@@ -141,7 +144,6 @@ module _ (p : Program) (ty : IsTyped p) (w : World) (e : Environment) where
     where
       as_needs : (xs : List Need) (vs : List Value) → needs_of t ≡ xs → Operands p w e (flat_map needs_of (t ∷ texts) ++ ns) ts rest vs → Operands p w e ((xs ++ flat_map needs_of texts) ++ ns) ts rest vs
       as_needs xs vs q o = subst (λ (ys : List Need). Operands p w e ((ys ++ flat_map needs_of texts) ++ ns) ts rest vs) q o
-
       by : SortOfText t → (vs : List Value) → Operands p w e (flat_map needs_of (t ∷ texts) ++ ns) ts rest vs
           → ((us : List VType) (ws : List Value) → Operands p w e (flat_map needs_of texts ++ ns) us rest ws → Taken p w e ns us rest texts ws) → Taken p w e ns ts rest (t ∷ texts) vs
       by (int_text q g) [] o f = absurd (none_there p w e (Fits Int) (flat_map needs_of texts ++ ns) ts rest (as_needs (Fits Int ∷ []) [] q o))
@@ -262,7 +264,7 @@ pub one_each_reverse : (p : Program) (w : World) (ts : List (List ℕ)) (vs : Li
 one_each_reverse p w [] [] h = refl
 one_each_reverse p w (t ∷ ts) (v ∷ vs) h =
     ap (flat_map types_of) (reverse-append (t ∷ []) ts) ∙ (flat_append (reverse ts) (t ∷ []) ∙ (ap (λ (xs : List VType). xs ++ (types_of t ++ [])) (one_each_reverse p w ts vs h.1)
-    ∙ (ap (λ (xs : List VType). reverse (flat_map types_of ts) ++ (xs ++ [])) h.0.is_type ∙ (sym (reverse-append (h.0.type ∷ []) (flat_map types_of ts)) ∙ ap (λ (xs : List VType). reverse (xs ++ flat_map types_of ts)) (sym h.0.is_type)))))
+      ∙ (ap (λ (xs : List VType). reverse (flat_map types_of ts) ++ (xs ++ [])) h.0.is_type ∙ (sym (reverse-append (h.0.type ∷ []) (flat_map types_of ts)) ∙ ap (λ (xs : List VType). reverse (xs ++ flat_map types_of ts)) (sym h.0.is_type)))))
   where
     flat_append : (xs ys : List (List ℕ)) → flat_map types_of (xs ++ ys) ≡ flat_map types_of xs ++ flat_map types_of ys
     flat_append [] ys = refl

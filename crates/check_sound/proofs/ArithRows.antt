@@ -1,5 +1,5 @@
 -- The rows of whole-number arithmetic.
-use Rattle.std.proofs.Common.{◌≡◌, ℕ, ℤ, zero, suc, List, [], ◌∷◌, ◌++◌, Bool, true, false, cond, pos, Option, set, refl, sym, subst}
+use Rattle.std.proofs.Common.{◌≡◌, ℕ, ℤ, zero, suc, ◌+◌, ◌<◌, ◌≤◌, List, [], ◌∷◌, ◌++◌, length, drop, Bool, true, false, cond, pos, Option, Some, None, slice_get, set, refl, sym, ◌∙◌, ap, subst}
 use Rattle.std.specs.Ordering.{int_eq}
 use Rattle.jvm_model.specs.declared.values.Value.{Value}
 use Rattle.jvm_model.specs.declared.values.Value.TheVariants as value
@@ -13,7 +13,7 @@ use Rattle.jvm_model.specs.declared.program.Program.{Program}
 use Rattle.jvm_model.specs.World.{World}
 use Rattle.jvm_model.specs.Access.{Access}
 use Rattle.jvm_model.specs.Builtin.{arithmetic_exception}
-use Rattle.jvm_model.specs.Entries.{Entries}
+use Rattle.jvm_model.specs.Entries.{Entries, with_stack}
 use Rattle.jvm_model.specs.Rows.{Answer}
 use Rattle.jvm_model.specs.Step.{group_of, arith}
 use Rattle.et_base.specs.Numbers.{add32}
@@ -24,14 +24,14 @@ use Rattle.type_frames.specs.Environment.{Environment}
 use Rattle.type_frames.specs.Rules.{meets}
 use Rattle.type_frames.specs.TypedState.{HasType, HaveTypes}
 use Rattle.check_sound.proofs.MoveRows.{read_local, kept_local, set_range}
-use Rattle.jvm_model.specs.RowsArith.{increased, divides, shifts, two_ints, two_longs, long_by_int, row_arith}
+use Rattle.jvm_model.specs.RowsArith.{increased, divides, shifts, of_ints, of_longs, unless_zero, two_ints, two_longs, long_by_int, row_arith}
 use Rattle.type_frames.specs.declared.sides.Need.{Need}
 use Rattle.type_frames.specs.declared.sides.Need.TheVariants.{Fits, Half}
 use Rattle.type_frames.specs.declared.vtype.VType.TheVariants.{Top, Int, Long, Null, Object, UninitThis, Uninit}
 use Rattle.type_frames.specs.Sides.{sides, second_need, int_need, long_need}
 use Rattle.type_frames.specs.Typing.{IsTyped}
-use Rattle.check_sound.proofs.Tree.{typed_done}
-use Rattle.check_sound.proofs.Held.{is_fits, Locals, int_on, long_on}
+use Rattle.check_sound.proofs.Tree.{Tree, typed_done}
+use Rattle.check_sound.proofs.Held.{Is, is_fits, Held, Locals, int_on, long_on}
 use Rattle.check_sound.proofs.Operands.{Operands, rest_of, popping-fits, popping-long, on_int-typed, on_long-typed, choose-typed}
 use Rattle.check_sound.proofs.Ready.{Ends, Row, Ready, here, rest, operands, on}
 use Rattle.check_sound.proofs.Ends.{fault_typed}
@@ -95,14 +95,14 @@ module _ (p : Program) (ty : IsTyped p) {w : World} {s : Entries} where
   two_ints-typed x r q = popping-fits p (Ends p) w ty.linked Int tt q (λ v vs us h sv o. popping-fits p (Ends p) w ty.linked Int tt o (λ u ws ts g su n.
       on_int-typed p (Ends p) w v h (λ b. on_int-typed p (Ends p) w u g (λ a.
       by_zero p x b (typed_done (fault_typed p ty r arithmetic_exception ws (arithmetic_thrown p ty.linked) (rest_of n).range))
-      (on p ty r refl r.locals (int_on (rest_of n)))))))
+        (on p ty r refl r.locals (int_on (rest_of n)))))))
 
   two_longs-typed : (x : Op) (r : Ready p w s (form.Binary x true)) → Operands p w (here r) (Half ∷ Fits Long ∷ Half ∷ Fits Long ∷ []) r.types.stack (rest r) s.top.stack → Row p w (two_longs p x s)
   unfolding sides
   two_longs-typed x r q = popping-long p (Ends p) w q (λ v vs us h o. popping-long p (Ends p) w o (λ u ws ts g n.
       on_long-typed p (Ends p) w v h (λ b. on_long-typed p (Ends p) w u g (λ a.
       by_zero p x b (typed_done (fault_typed p ty r arithmetic_exception ws (arithmetic_thrown p ty.linked) (rest_of n).range))
-      (on p ty r refl r.locals (long_on (rest_of n)))))))
+        (on p ty r refl r.locals (long_on (rest_of n)))))))
 
   long_by_int-typed : (x : Op) (r : Ready p w s (form.Binary x true)) → Operands p w (here r) (Fits Int ∷ Half ∷ Fits Long ∷ []) r.types.stack (rest r) s.top.stack → Row p w (long_by_int p x s)
   unfolding sides
@@ -115,8 +115,8 @@ module _ (p : Program) (ty : IsTyped p) {w : World} {s : Entries} where
   binary x true r =
       let o = subst (λ (ns : List Need). Operands p w (here r) (ns ++ long_need) r.types.stack (rest r) s.top.stack) (long_needed x) (operands r) in
       choose-typed p (Ends p) w (shifts x)
-      (λ e. long_by_int-typed x r (subst (λ (b : Bool). Operands p w (here r) (cond b int_need long_need ++ long_need) r.types.stack (rest r) s.top.stack) e o))
-      (λ e. two_longs-typed x r (subst (λ (b : Bool). Operands p w (here r) (cond b int_need long_need ++ long_need) r.types.stack (rest r) s.top.stack) e o))
+        (λ e. long_by_int-typed x r (subst (λ (b : Bool). Operands p w (here r) (cond b int_need long_need ++ long_need) r.types.stack (rest r) s.top.stack) e o))
+        (λ e. two_longs-typed x r (subst (λ (b : Bool). Operands p w (here r) (cond b int_need long_need ++ long_need) r.types.stack (rest r) s.top.stack) e o))
 
   pub neg : (wide : Bool) → Ready p w s (form.Neg wide) → Row p w (row_arith p (form.Neg wide) s)
   unfolding row_arith sides
@@ -142,7 +142,7 @@ module _ (p : Program) (ty : IsTyped p) {w : World} {s : Entries} where
       let f = read_local p ty r n (Fits Int) [] refl (λ (e : false ≡ true). cc) in
       let i = is_fits p ty.linked w (here r) (slice_index_or r.types.locals n Top) Int f.0 f.2 f.3 in
       subst (λ (x : Option Value). Row p w (increased p n by s x)) (sym f.1) (on_int-typed p (Ends p) w f.0 i (λ a.
-      kept_local p ty r n (value.Int (add32 a by)) s.top.stack (slice_get_within s.top.locals n f.0 f.1) refl (same_local p w (here r) r.types.locals s.top.locals n (add32 a by) (int_there p (slice_index_or r.types.locals n Top) f.2) r.locals) r.stack))
+        kept_local p ty r n (value.Int (add32 a by)) s.top.stack (slice_get_within s.top.locals n f.0 f.1) refl (same_local p w (here r) r.types.locals s.top.locals n (add32 a by) (int_there p (slice_index_or r.types.locals n Top) f.2) r.locals) r.stack))
 
   pub arith-typed : (i : Instr) → group_of i ≡ arith → Ready p w s i → Row p w (row_arith p i s)
   arith-typed (form.Binary x wide) g r = binary x wide r

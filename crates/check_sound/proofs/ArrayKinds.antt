@@ -1,5 +1,5 @@
 -- Kinds of arrays, and what their elements are.
-use Rattle.std.proofs.Common.{◌≡◌, ◌⊎◌, ℕ, zero, suc, ◌-◌, List, [], ◌∷◌, ◌++◌, drop, replicate, Bool, true, false, not, ◌&&◌, ◌||◌, nat_eq, Option, Some, None, refl, sym, ◌∙◌, ap, subst, arith, inl, inr}
+use Rattle.std.proofs.Common.{◌≡◌, ◌⊎◌, ℕ, zero, suc, ◌+◌, ◌-◌, ◌<◌, ◌≤◌, List, [], ◌∷◌, ◌++◌, length, drop, replicate, Bool, true, false, not, ◌&&◌, ◌||◌, cond, nat_eq, Option, Some, None, refl, sym, ◌∙◌, ap, subst, arith, inl, inr}
 use Rattle.std.specs.Str.{bytes_eq}
 use Rattle.std.proofs.lemmas.Bool.{cases_Bool, and_parts, or_cases, eqb-true}
 use Rattle.std.proofs.lemmas.Iterator.Adapters.{position_from-zero}
@@ -34,7 +34,7 @@ pub record References (p : Program) (k e : Kind) : Type 0 where
 element_array : (d : ℕ) (b : Base) → element_kind (kind.Array (suc (suc d)) b) ≡ kind.Array (suc d) b
 element_array d (base.Class c) =
     let q : suc (suc d) - 1 ≡ suc d = omega arith in
-    let e : nat_eq (suc (suc d)) 1 ≡ false = elim (cases_Bool (nat_eq (suc (suc d)) 1)) [ inl z ↦ absurd (let y = eqb-true (suc (suc d)) 1 z in omega arith) | inr z ↦ z ] in
+    let e : nat_eq (suc (suc d)) 1 ≡ false = elim (cases_Bool (nat_eq (suc (suc d)) 1)) [ | inl z ↦ absurd (let y = eqb-true (suc (suc d)) 1 z in omega arith) | inr z ↦ z ] in
     rw e (ap (λ (n : ℕ). kind.Array n (base.Class c)) q)
 element_array d base.Boolean = ap (λ (n : ℕ). kind.Array n base.Boolean) (omega arith)
 element_array d base.Byte = ap (λ (n : ℕ). kind.Array n base.Byte) (omega arith)
@@ -81,17 +81,17 @@ module _ (p : Program) (lk : Linked p) where
   unfolding object_fits
   plain_array a b e f =
       ap (λ (x : Bool). elim x as (λ z. Bool) [ true ↦ elim (is_array b) as (λ z. Bool) [ true ↦ element_fits p (drop 1 a) (drop 1 b) | false ↦ takes_any p b ] | false ↦ not (is_array b) && class_fits p a b ]) e
-      ∙ ap (λ (x : Bool). not x && class_fits p a b) f
+        ∙ ap (λ (x : Bool). not x && class_fits p a b) f
 
   both_arrays : (a b : List ℕ) → is_array a ≡ true → is_array b ≡ true → object_fits p a b ≡ element_fits p (drop 1 a) (drop 1 b)
   unfolding object_fits
   both_arrays a b e f =
       ap (λ (x : Bool). elim x as (λ z. Bool) [ true ↦ elim (is_array b) as (λ z. Bool) [ true ↦ element_fits p (drop 1 a) (drop 1 b) | false ↦ takes_any p b ] | false ↦ not (is_array b) && class_fits p a b ]) e
-      ∙ ap (λ (x : Bool). elim x as (λ z. Bool) [ true ↦ element_fits p (drop 1 a) (drop 1 b) | false ↦ takes_any p b ]) f
+        ∙ ap (λ (x : Bool). elim x as (λ z. Bool) [ true ↦ element_fits p (drop 1 a) (drop 1 b) | false ↦ takes_any p b ]) f
 
   -- what fits an array type is one
   pub array_below : (a b : List ℕ) → is_array b ≡ true → object_fits p a b ≡ true → is_array a ≡ true
-  array_below a b f e = elim (cases_Bool (is_array a)) [ inl q ↦ q | inr q ↦ absurd (let z : true ≡ false = sym e ∙ plain_array a b q f in cc) ]
+  array_below a b f e = elim (cases_Bool (is_array a)) [ | inl q ↦ q | inr q ↦ absurd (let z : true ≡ false = sym e ∙ plain_array a b q f in cc) ]
 
   elements : (x : Kind) (a : List ℕ) → IsKind p x → is_array a ≡ true → IsInstance p x a → Elements p a x
   elements (kind.Class c) a h e i = absurd (let z : true ≡ false = sym i ∙ plain_array (name_of p c) a (plain_name p lk c h) e in cc)
@@ -130,7 +130,7 @@ module _ (p : Program) (lk : Linked p) where
 
   -- ---- references
 
-  -- a name of a class of the program is no array's
+  -- the number of a name names a class
   named_plain : (a : List ℕ) (o : Option ℕ) → class_named p a ≡ o → elim o as (λ z. Bool) [ None ↦ false | Some d ↦ true ] ≡ true → is_array a ≡ false
   named_plain a None e h = absurd (cc)
   named_plain a (Some c) e h =
@@ -159,7 +159,7 @@ module _ (p : Program) (lk : Linked p) where
   unfolding class_fits
   fits_plain a b e h = elim (or_cases (bytes_eq a b) (takes_any p b || extends p a b) h) [
     | inl q ↦ subst (λ (x : List ℕ). is_array x ≡ false) (units_true a b q) e
-    | inr q ↦ elim (or_cases (takes_any p b) (extends p a b) q) [ inl r ↦ taken_plain b r | inr r ↦ extended_plain a b r ]
+    | inr q ↦ elim (or_cases (takes_any p b) (extends p a b) q) [ | inl r ↦ taken_plain b r | inr r ↦ extended_plain a b r ]
   ]
 
   -- arrays of classes, and of what any class takes
@@ -168,25 +168,17 @@ module _ (p : Program) (lk : Linked p) where
       let e : class_fits p (name_of p c) (class_name ws) ≡ true = subst (λ (n : List ℕ). class_fits p n (class_name ws) ≡ true) (class_within (name_of p c)) i in
       let n = plain_name p lk c h.2 in
       record {
-        dims = 1;
-        base = base.Class c;
-        is = q;
-        element = kind.Class c;
+        dims = 1; base = base.Class c; is = q; element = kind.Class c;
         references = subst (λ (y : Kind). References p y (kind.Class c)) (sym q) (of_objects p c h);
-        named = class_name ws;
-        type = refl;
+        named = class_name ws; type = refl;
         fits = plain_fits p lk (name_of p c) (class_name ws) n (fits_plain (name_of p c) (class_name ws) n e) ∙ e;
       }
   class_elements x (suc d) b ws h q i =
       let t : takes_any p (class_name ws) ≡ true = i in
       record {
-        dims = suc (suc d);
-        base = b;
-        is = q;
-        element = kind.Array (suc d) b;
+        dims = suc (suc d); base = b; is = q; element = kind.Array (suc d) b;
         references = subst (λ (y : Kind). References p y (kind.Array (suc d) b)) (sym q) (of_arrays p d b h);
-        named = class_name ws;
-        type = refl;
+        named = class_name ws; type = refl;
         fits = array_fits p lk (kind_name p (kind.Array (suc d) b)) (class_name ws) refl (taken_plain (class_name ws) t) ∙ t;
       }
   class_elements x zero base.Boolean ws h q i = absurd (cc)
@@ -199,13 +191,9 @@ module _ (p : Program) (lk : Linked p) where
   -- arrays of arrays
   array_elements : (x : Kind) (d : ℕ) (b : Base) (ws : List ℕ) → IsKind p (kind.Array (suc d) b) → x ≡ kind.Array (suc d) b → element_fits p (replicate d 91 ++ base_text p b) (91 ∷ ws) ≡ true → Refs p (91 ∷ 91 ∷ ws) x
   array_elements x (suc d) b ws h q i = record {
-    dims = suc (suc d);
-    base = b;
-    is = q;
-    element = kind.Array (suc d) b;
+    dims = suc (suc d); base = b; is = q; element = kind.Array (suc d) b;
     references = subst (λ (y : Kind). References p y (kind.Array (suc d) b)) (sym q) (of_arrays p d b h);
-    named = 91 ∷ ws;
-    type = refl;
+    named = 91 ∷ ws; type = refl;
     fits = both_arrays (kind_name p (kind.Array (suc d) b)) (91 ∷ ws) refl refl ∙ i;
   }
   array_elements x zero (base.Class c) ws h q i = absurd (cc)

@@ -1,5 +1,5 @@
 -- The rows of array loads, array stores and arraylength.
-use Rattle.std.proofs.Common.{◌≡◌, ℕ, ℤ, ◌<◌, List, [], ◌∷◌, ◌++◌, true, ◌||◌, cond, pos, negsuc, nat_eq, nat_lt, refl, sym, ◌∙◌, ap, subst, inl, inr}
+use Rattle.std.proofs.Common.{◌≡◌, ◌⊎◌, ℕ, ℤ, zero, suc, ◌+◌, ◌<◌, ◌≤◌, List, [], ◌∷◌, ◌++◌, length, drop, Bool, true, false, not, ◌&&◌, ◌||◌, cond, pos, negsuc, nat_eq, nat_lt, Option, Some, None, refl, sym, ◌∙◌, ap, subst, arith, inl, inr}
 use Rattle.std.specs.Prelude.{slice_index_or}
 use Rattle.std.proofs.lemmas.Bool.{and_parts, or_cases, eqb-true, ltb-true}
 use Rattle.jvm_model.specs.declared.values.Value.{Value}
@@ -21,27 +21,28 @@ use Rattle.jvm_model.specs.Builtin.{object_class, null_pointer_exception, array_
 use Rattle.jvm_model.specs.Classes.{member}
 use Rattle.jvm_model.specs.Entries.{Entries, with_stack}
 use Rattle.jvm_model.specs.Kinds.{element_kind, kind_fits}
-use Rattle.jvm_model.specs.Linked.{Linked, IsKind}
+use Rattle.jvm_model.specs.Linked.{Linked, IsKind, first_or, fits_int}
 use Rattle.et_base.specs.Numbers.{l2i}
 use Rattle.jvm_model.specs.Narrow.{narrow}
 use Rattle.jvm_model.specs.Rows.{Answer, answer, popping, on_int, on_object, goes_on, constant_kind}
 use Rattle.jvm_model.specs.RowsArrays.{on_array, in_range, element_letter, holds_references, checked, stored_in, loaded_from, row_arrays}
 use Rattle.jvm_model.specs.Step.{group_of, arrays}
-use Rattle.type_frames.specs.declared.sides.Need.TheVariants.{Fits, Array}
+use Rattle.type_frames.specs.declared.sides.Need.{Need}
+use Rattle.type_frames.specs.declared.sides.Need.TheVariants.{Fits, Half, Small, Array}
 use Rattle.type_frames.specs.declared.vtype.VType.{VType}
-use Rattle.type_frames.specs.declared.vtype.VType.TheVariants.{Top, Int, Long, Null, Object}
+use Rattle.type_frames.specs.declared.vtype.VType.TheVariants.{Top, Int, Long, Null, Object, UninitThis, Uninit}
 use Rattle.type_frames.specs.Frames.{Slots}
 use Rattle.type_frames.specs.Environment.{Environment}
-use Rattle.type_frames.specs.Assign.{is_array, assignable}
-use Rattle.type_frames.specs.Descriptors.{types_of, name_of, kind_name}
-use Rattle.type_frames.specs.Sides.{sides, array_need, element_type, loaded, place_of, objects_text}
+use Rattle.type_frames.specs.Assign.{is_array, object_fits, assignable}
+use Rattle.type_frames.specs.Descriptors.{types_of, name_of, kind_name, base_text}
+use Rattle.type_frames.specs.Sides.{sides, array_need, element_type, loaded, stored, place_of, objects_text, object_of}
 use Rattle.type_frames.specs.Rules.{meets, is_any_array, is_small}
 use Rattle.type_frames.specs.Typing.{IsTyped}
-use Rattle.type_frames.specs.TypedState.{kind_at, IsInstance, RefersTo, HasType, IsDeclared, IsReferenceOf, element_text}
+use Rattle.type_frames.specs.TypedState.{kind_at, IsInRange, IsInstance, RefersTo, HasType, IsDeclared, IsReferenceOf, element_text}
 use Rattle.type_frames.proofs.AssignLaws.{assignable_trans}
-use Rattle.check_sound.proofs.Tree.{head_at, typed_done, typed_read, typed_write}
-use Rattle.check_sound.proofs.Held.{Is, Held, int_on, is_fits, refers_fits}
-use Rattle.check_sound.proofs.Operands.{Operands, IsPop, rest_of, popping-seen, popping-typed, popping-fits, popping-long, on_int-typed, on_object-typed, head-typed, choose-typed}
+use Rattle.check_sound.proofs.Tree.{head_at, Tree, typed_done, typed_read, typed_write}
+use Rattle.check_sound.proofs.Held.{Is, Held, IsShort, on_top, int_on, is_fits, refers_fits}
+use Rattle.check_sound.proofs.Operands.{Operands, IsPop, rest_of, popping-seen, popping-typed, popping-fits, popping-long, popping-long-seen, on_int-typed, on_object-typed, head-typed, choose-typed}
 use Rattle.check_sound.proofs.Ready.{Ends, Row, Ready, here, rest, operands, on}
 use Rattle.check_sound.proofs.Ends.{fault_typed}
 use Rattle.check_sound.proofs.Thrown.{null_pointer_thrown, array_index_thrown, array_store_thrown}
@@ -49,7 +50,7 @@ use Rattle.check_sound.proofs.CallSides.{Result, push}
 use Rattle.check_sound.proofs.DeclaredValues.{smalls, narrowed_fits, declared_result}
 use Rattle.check_sound.proofs.CastRows.{constant_is_kind}
 use Rattle.check_sound.proofs.KindNames.{kind_instance}
-use Rattle.check_sound.proofs.ArrayKinds.{Plain, Refs, array_below, array_kind, plain_cells, ref_cells}
+use Rattle.check_sound.proofs.ArrayKinds.{References, Plain, Refs, array_below, array_kind, plain_cells, ref_cells}
 
 -- ---- arrays on the stack
 
@@ -143,7 +144,7 @@ module _ (p : Program) (lk : Linked p) (w : World) (e : Environment) where
   int_loaded : (x : Kind) → Ints p x → (us : List VType) (v : Value) (vs : List Value) → IsDeclared p w (element_text p x) v → Held p w e us vs → Held p w e (Int ∷ us) (v ∷ vs)
   int_loaded x q us v vs d h =
       push p w e (Int ∷ []) us (v ∷ []) vs (subst (λ (ts : List VType). Result p w ts (v ∷ [])) q.types
-      (declared_result p w (q.unit ∷ []) v (subst (λ (t : List ℕ). IsDeclared p w t v) (plain_text p x q.unit q.plain) d))) h
+        (declared_result p w (q.unit ∷ []) v (subst (λ (t : List ℕ). IsDeclared p w t v) (plain_text p x q.unit q.plain) d))) h
 
   long_loaded : (x : Kind) → Plain p x 74 → (us : List VType) (v : Value) (vs : List Value) → IsDeclared p w (element_text p x) v → Held p w e us vs → Held p w e (Top ∷ Long ∷ us) (v ∷ vs)
   long_loaded x q us v vs d h =
@@ -153,7 +154,7 @@ module _ (p : Program) (lk : Linked p) (w : World) (e : Environment) where
   ref_loaded a x q us v vs d h =
       let r : Result p w (Object (kind_name p q.element) ∷ []) (v ∷ []) = subst (λ (ts : List VType). Result p w ts (v ∷ [])) q.references.types (declared_result p w (element_text p x) v d) in
       subst (λ (t : VType). Held p w e (t ∷ us) (v ∷ vs)) (sym q.type)
-      (push p w e (Object q.named ∷ []) us (v ∷ []) vs (refers_fits p lk w e (kind_name p q.element) q.named v q.fits r.0, r.1) h)
+        (push p w e (Object q.named ∷ []) us (v ∷ []) vs (refers_fits p lk w e (kind_name p q.element) q.named v q.fits r.0, r.1) h)
 
   cell_loaded : (c : Cell) (a : List ℕ) (x : Kind) → Cells p c a x → (f : Slots) → place_of f 1 ≡ Object a → (us : List VType) (v : Value) (vs : List Value) → IsDeclared p w (element_text p x) v → Held p w e us vs → Held p w e (loaded f c ++ us) (v ∷ vs)
   cell_loaded cell.Int a x q f g us v vs d h = int_loaded x q us v vs d h
@@ -228,17 +229,17 @@ module _ (p : Program) (ty : IsTyped p) {w : World} {s : Entries} where
   unfolding sides
   element_read c r j vs a o d b q cs e lt h = on_array-typed p ty w (kind_at w o) d b e
       (in_range-typed p ty w (with_stack s vs) j (head_at w o).length (fault_typed p ty r array_index_exception vs (array_index_thrown p ty.linked) h.range)
-      (λ n l. typed_read (d, b, lt, e, l) (λ v f. on p ty r refl r.locals (cell_loaded p ty.linked w (here r) c a (kind_at w o) cs r.types q (rest r) v vs f h))))
+        (λ n l. typed_read (d, b, lt, e, l) (λ v f. on p ty r refl r.locals (cell_loaded p ty.linked w (here r) c a (kind_at w o) cs r.types q (rest r) v vs f h))))
 
   pub load : (c : Cell) → Ready p w s (form.ArrayLoad c) → Row p w (row_arrays p (form.ArrayLoad c) s)
   unfolding row_arrays sides
   load c r = popping-seen p (Ends p) w (Fits Int) tt (operands r) (λ v vs t us q i sv m o. popping-seen p (Ends p) w (array_need p c) (array_pops p c) o (λ b ws u ts z g sb n l.
       on_int-typed p (Ends p) w v (is_fits p ty.linked w (here r) t Int v m i) (λ j.
       on_pointed p ty w (with_stack s ws) u b (λ k h. loaded_from p s k j ws h) (pointed p w (here r) u b (needed p ty.linked c u n) g.type) (fault_typed p ty r null_pointer_exception ws (null_pointer_thrown p ty.linked) (rest_of l).range)
-      (λ a k e x lt h y.
-      let f = array_kind p ty.linked (kind_at w k) a h x y in
-      element_read c r j ws a k f.0 f.1 (ap (λ (xs : List VType). slice_index_or xs 1 Top) (q ∙ ap {B = List VType} (λ xs. t ∷ xs) z) ∙ e)
-      (cells p ty.linked c a (kind_at w k) x (subst (λ (y : VType). meets p (array_need p c) y ≡ true) e n) h y) f.2 lt (rest_of l)))))
+        (λ a k e x lt h y.
+          let f = array_kind p ty.linked (kind_at w k) a h x y in
+          element_read c r j ws a k f.0 f.1 (ap (λ (xs : List VType). slice_index_or xs 1 Top) (q ∙ ap {B = List VType} (λ xs. t ∷ xs) z) ∙ e)
+            (cells p ty.linked c a (kind_at w k) x (subst (λ (y : VType). meets p (array_need p c) y ≡ true) e n) h y) f.2 lt (rest_of l)))))
 
   -- stores
 
@@ -249,13 +250,10 @@ module _ (p : Program) (ty : IsTyped p) {w : World} {s : Entries} where
     where
       puts : (v : Value) → RefersTo p w (kind_name p q.element) v → Row p w (write (place.Elem o n) v (goes_on p s vs))
       puts v j = typed_write tt (d, b, lt, e, l) (ref_stored p ty.linked w (here r) a (kind_at w o) q v j) (on p ty r refl r.locals h)
-
       fits : (y : Kind) → IsKind p y → kind_fits p y (element_kind (kind_at w o)) ≡ true → IsInstance p y (kind_name p q.element)
       fits y k f = kind_instance p ty.linked y q.element k q.references.is_kind (subst (λ (x : Kind). kind_fits p y x ≡ true) q.references.element f)
-
       bad : Ends p w (answer (Fault array_store_exception) (with_stack s vs))
       bad = fault_typed p ty r array_store_exception vs (array_store_thrown p ty.linked) h.range
-
       by : (v : Value) → Is p w (here r) (Object (name_of p object_class)) v → Row p w (checked p (head_at w o).kind (with_stack s vs) v (write (place.Elem o n) v (goes_on p s vs)))
       by (value.Int k) i = absurd i.type
       by (value.Long k) i = absurd i.type
@@ -283,9 +281,9 @@ module _ (p : Program) (ty : IsTyped p) {w : World} {s : Entries} where
   stores c r v vs us i o = popping-fits p (Ends p) w ty.linked Int tt o (λ x ws ts g sx n. popping-typed p (Ends p) w (array_need p c) (array_pops p c) n (λ b xs u zs f sb m l.
       on_int-typed p (Ends p) w x g (λ j.
       on_pointed p ty w (with_stack s xs) u b (λ k h. stored_in p c s k j v xs h) (pointed p w (here r) u b (needed p ty.linked c u m) f.type) (fault_typed p ty r null_pointer_exception xs (null_pointer_thrown p ty.linked) (rest_of l).range)
-      (λ a k e y lt h z.
-      let q = array_kind p ty.linked (kind_at w k) a h y z in
-      element_write c r j v xs a k q.0 q.1 i (cells p ty.linked c a (kind_at w k) y (subst (λ (t : VType). meets p (array_need p c) t ≡ true) e m) h z) q.2 lt (rest_of l)))))
+        (λ a k e y lt h z.
+          let q = array_kind p ty.linked (kind_at w k) a h y z in
+          element_write c r j v xs a k q.0 q.1 i (cells p ty.linked c a (kind_at w k) y (subst (λ (t : VType). meets p (array_need p c) t ≡ true) e m) h z) q.2 lt (rest_of l)))))
 
   pub store : (c : Cell) → Ready p w s (form.ArrayStore c) → Row p w (row_arrays p (form.ArrayStore c) s)
   unfolding row_arrays sides
@@ -302,9 +300,9 @@ module _ (p : Program) (ty : IsTyped p) {w : World} {s : Entries} where
   unfolding row_arrays sides
   array_length r = popping-typed p (Ends p) w Array tt (operands r) (λ v vs t us i sv m o.
       on_pointed p ty w (with_stack s vs) t v (λ k h. on_array h.kind (goes_on p s (value.Int (l2i (pos h.length)) ∷ vs))) (pointed p w (here r) t v m i.type) (fault_typed p ty r null_pointer_exception vs (null_pointer_thrown p ty.linked) (rest_of o).range)
-      (λ a k e x lt h y.
-      let q = array_kind p ty.linked (kind_at w k) a h x y in
-      on_array-typed p ty w (kind_at w k) q.0 q.1 q.2 (on p ty r refl r.locals (int_on (rest_of o)))))
+        (λ a k e x lt h y.
+          let q = array_kind p ty.linked (kind_at w k) a h x y in
+          on_array-typed p ty w (kind_at w k) q.0 q.1 q.2 (on p ty r refl r.locals (int_on (rest_of o)))))
 
   pub arrays-typed : (i : Instr) → group_of i ≡ arrays → Ready p w s i → Row p w (row_arrays p i s)
   arrays-typed (form.ArrayLoad c) g r = load c r

@@ -1,32 +1,40 @@
 -- In a typed program no rule is broken at a frame, and where an instruction leads a frame stands.
-use Rattle.std.proofs.Common.{◌≡◌, ℕ, zero, suc, ◌+◌, ◌-◌, ◌<◌, ◌≤◌, List, [], ◌∷◌, ◌++◌, length, drop, map, Bool, true, false, ◌||◌, not, cond, nat_eq, nat_lt, Option, Some, None, IfSome, slice_get, get_or, refl, sym, ◌∙◌, ap, subst, arith, inl, inr, is_some, is_none, add-one}
+use Rattle.std.proofs.Common.{◌≡◌, ℕ, zero, suc, ◌+◌, ◌-◌, ◌<◌, ◌≤◌, List, [], ◌∷◌, ◌++◌, ◌⊎◌, length, drop, map, Bool, true, false, ◌&&◌, ◌||◌, not, cond, nat_eq, nat_lt, nat_le, Option, Some, None, IfSome, slice_get, get_or, refl, sym, ◌∙◌, ap, subst, arith, inl, inr, is_some, is_none, add-one}
 use Rattle.std.specs.List.{list_any, list_all, position_from}
-use Rattle.std.specs.Prelude.{flat_map}
-use Rattle.std.proofs.lemmas.Bool.{and_parts, cases_Bool, cases_lt, ltb-false, eqb-true, ltb-true, or_left, or_right, or_cases}
+use Rattle.std.specs.Prelude.{flat_map, All}
+use Rattle.std.proofs.lemmas.Bool.{and_parts, cases_Bool, cases_lt, ltb-false, eqb-true, eq-eqb, ltb-true, lt-ltb, leb-true, or_left, or_right, or_cases}
+use Rattle.std.proofs.lemmas.List.{length-append, length-drop, length-reverse}
+use Rattle.std.specs.Prelude.{reverse}
+use Rattle.check_sound.proofs.Wide.{turned_length}
 use Rattle.std.proofs.lemmas.Option.{slice_get-get_or, slice_get_within, get_or_from_slice_get}
 use Rattle.jvm_model.specs.declared.values.Value.{Value}
 use Rattle.jvm_model.specs.declared.state.EntryKind.TheVariants.{InMethod}
+use Rattle.jvm_model.specs.declared.instr.Instr.{Instr}
 use Rattle.jvm_model.specs.declared.instr.Instr.TheVariants as form
 use Rattle.jvm_model.specs.declared.program.Program.{Program}
+use Rattle.jvm_model.specs.declared.program.ClassRec.{ClassRec}
 use Rattle.jvm_model.specs.declared.program.MethodRec.{MethodRec}
 use Rattle.jvm_model.specs.declared.program.Body.{Body}
 use Rattle.jvm_model.specs.declared.program.Placed.{Placed}
+use Rattle.jvm_model.specs.declared.program.Handler.{Handler}
 use Rattle.jvm_model.specs.World.{World}
 use Rattle.jvm_model.specs.Builtin.{builtin_count}
 use Rattle.jvm_model.specs.Library.{builtin_defs, builtin_classes, builtin_methods}
 use Rattle.jvm_model.specs.Classes.{no_class, no_method, class_at, method_at, form_at, next_place}
-use Rattle.jvm_model.specs.Linked.{IsBody, IsPlace, count}
+use Rattle.jvm_model.specs.Entries.{Entry}
+use Rattle.jvm_model.specs.Linked.{Linked, IsMethod, IsBody, IsPlace, place_listed, count}
 use Rattle.jvm_model.proofs.Places as places
-use Rattle.jvm_model.proofs.BuiltinRules.{class_keeps, method_keeps}
+use Rattle.jvm_model.proofs.BuiltinRules.{class_keeps, method_keeps, all_at}
+use Rattle.type_frames.specs.declared.vtype.VType.{VType}
 use Rattle.type_frames.specs.declared.vtype.Frame.{Frame}
 use Rattle.type_frames.specs.declared.sides.Sides.{Sides}
 use Rattle.type_frames.specs.Frames.{Slots, slots_of, index_of}
 use Rattle.type_frames.specs.Given.{given_frames}
 use Rattle.type_frames.specs.Environment.{Environment, environment_of, given_at, is_target, leads, targets}
 use Rattle.type_frames.specs.Sides.{sides}
-use Rattle.type_frames.specs.Rules.{rule_1, rule_2, rule_3, rule_4, rule_5, rule_6, rule_7, rule_9, rule_10, rule_11, Test, first_broken, tests, broken, after, opening, fits_given, fits_at, fits_next}
-use Rattle.type_frames.specs.Typing.{passed_on, taken_by, incoming, before, breach_of, judged, breach_at, IsTypedMethod, IsTyped}
-use Rattle.type_frames.specs.TypedState.{Goes}
+use Rattle.type_frames.specs.Rules.{turned, is_sound, all_made, rule_1, rule_2, rule_3, rule_4, rule_5, rule_6, rule_7, rule_9, rule_10, rule_11, Test, test, first_broken, tests, broken, after, opening, fits_given, fits_at, fits_next, slots_fit, is_entered}
+use Rattle.type_frames.specs.Typing.{passed, passed_on, taken_at, taken_by, incoming, before, Breach, no_frame, rule, breach_of, judged, breach_at, given_classes, IsTypedMethod, IsTyped}
+use Rattle.type_frames.specs.TypedState.{Stands, Goes}
 use Rattle.check_sound.proofs.Held.{Locals, Held, locals_fit, held_fits}
 
 -- ---- all rules are kept
@@ -98,7 +106,7 @@ all_at_index f (x ∷ xs) (suc k) n e q = all_at_index f xs k n (and_parts _ _ e
 
 module _ (p : Program) (ty : IsTyped p) where
   pub has_number : (n : ℕ) (b : Body) → (method_at p n).body ≡ Some b → n < length p.methods
-  has_number n b e = elim (cases_lt n (length p.methods)) [ inl l ↦ l | inr g ↦ absurd (past p.methods n g e) ]
+  has_number n b e = elim (cases_lt n (length p.methods)) [ | inl l ↦ l | inr g ↦ absurd (past p.methods n g e) ]
     where
       past : (ms : List MethodRec) (n : ℕ) → length ms ≤ n → (get_or ms n no_method).body ≡ Some b → ⊥
       past [] n g e = let z : no_method.body ≡ Some b = e in absurd (cc)
@@ -197,25 +205,29 @@ module _ (p : Program) (ty : IsTyped p) (n : ℕ) (b : Body) (gs : List Frame) (
       let g = get_or_from_slice_get b.code k x x s in
       let h = get_or_from_slice_get b.code (k + 1) y x t in
       subst (λ (z : Placed). next_place p n z.pc ≡ y.pc) g (places.next_place_index p n b k x hc is_body.ascending (slice_get_within b.code k x s)
-      ∙ (places.place_beyond_next b.code b.length k x (slice_get_within b.code (k + 1) y t) ∙ ap (λ (z : Placed). z.pc) h))
+        ∙ (places.place_beyond_next b.code b.length k x (slice_get_within b.code (k + 1) y t) ∙ ap (λ (z : Placed). z.pc) h))
 
   module _ (w : World) where
     -- values that have the types that come to a place have those of the frame there
-    arrived : (k : ℕ) (x : Placed) (f : Slots) (ls vs : List Value) → slice_get b.code k ≡ Some x → fits_given p env f (given_at env x.pc) ≡ true → (given_at env x.pc ≡ None → before p env k x.pc ≡ Some f) → Locals p w env f.locals ls → Held p w env f.stack vs
+    arrived : (k : ℕ) (x : Placed) (f : Slots) (ls vs : List Value) → slice_get b.code k ≡ Some x → fits_given p env f (given_at env x.pc) ≡ true → (given_at env x.pc ≡ None → (before p env k x.pc ≡ Some f) × (length f.stack ≤ b.max_stack)) → Locals p w env f.locals ls → Held p w env f.stack vs
         → Goes p w (record { kind = InMethod; number = n; pc = x.pc; stack = vs; locals = ls })
     arrived k x f ls vs s e none hl hv = by (given_at env x.pc) refl
       where
+        given_fits : (g : Frame) → is_sound env g ≡ true → length (reverse g.stack) ≤ b.max_stack
+        given_fits g h =
+            let q = and_parts (nat_le (length g.stack) b.max_stack) (all_made env g.locals && all_made env g.stack) (and_parts (nat_le (length g.locals) b.max_locals) (nat_le (length g.stack) b.max_stack && (all_made env g.locals && all_made env g.stack)) h).1 in
+            let n = leb-true (length g.stack) b.max_stack q.0 in
+            let l = length-reverse g.stack in omega arith
         given_there : (g : Frame) → given_at env x.pc ≡ Some g → before p env k x.pc ≡ Some (slots_of g)
         given_there g q = ap (λ (o : Option Frame). elim o [ Some g ↦ Some (slots_of g) | None ↦ cond (is_target env x.pc) None (incoming p env k) ]) q
-
         by : (o : Option Frame) → given_at env x.pc ≡ o → Goes p w (record { kind = InMethod; number = n; pc = x.pc; stack = vs; locals = ls })
-        by None q = record { stands = record { body = b; given = gs; index = k; instruction = x; types = f; has_code = hc; has_frames = hf; there = s; place = refl; known = none q; locals = hl.types }; operands = hv.types }
+        by None q = record { stands = record { body = b; given = gs; index = k; instruction = x; types = f; fits = (none q).1; has_code = hc; has_frames = hf; there = s; place = refl; known = (none q).0; locals = hl.types }; operands = hv.types }
         by (Some g) q =
             let h : fits_given p env f (Some g) ≡ true = subst (λ (o : Option Frame). fits_given p env f o ≡ true) q e in
             let l = and_parts _ _ (and_parts _ _ h).1 in
             let r = and_parts _ _ l.1 in
             record {
-              stands = record { body = b; given = gs; index = k; instruction = x; types = slots_of g; has_code = hc; has_frames = hf; there = s; place = refl; known = given_there g q; locals = (locals_fit p ty.linked w env f.locals g.locals ls l.0 hl).types };
+              stands = record { body = b; given = gs; index = k; instruction = x; types = slots_of g; fits = given_fits g (and_parts (is_sound env g) (slots_fit p f (slots_of g)) h).0; has_code = hc; has_frames = hf; there = s; place = refl; known = given_there g q; locals = (locals_fit p ty.linked w env f.locals g.locals ls l.0 hl).types };
               operands = (held_fits p ty.linked w env f.stack (slots_of g).stack vs r.0 hv).types;
             }
 
@@ -246,8 +258,15 @@ module _ (p : Program) (ty : IsTyped p) (n : ℕ) (b : Body) (gs : List Frame) (
         let t = slice_get-get_or b.code (k + 1) x lt in
         let g = subst (λ (o : Option Placed). fits_next p env (after f (sides p env x.pc f x.form)) o ≡ true) t (or_second _ _ fl (and_parts _ _ (and_parts _ _ q.four).1).1) in
         subst (λ (pc : ℕ). Goes p w (record { kind = InMethod; number = n; pc = pc; stack = vs; locals = ls })) (sym (next_here k x y s t))
-        (arrived (k + 1) y (after f (sides p env x.pc f x.form)) ls vs t g (λ z. on (is_target env y.pc) refl z) hl hv)
+          (arrived (k + 1) y (after f (sides p env x.pc f x.form)) ls vs t g (λ z. (on (is_target env y.pc) refl z, after_fits)) hl hv)
       where
+        after_fits : length (after f (sides p env x.pc f x.form)).stack ≤ b.max_stack
+        after_fits =
+            let o = sides p env x.pc f x.form in
+            let r = leb-true _ _ (and_parts (nat_le (length o.takes) (length f.stack)) (nat_le (length o.gives + (length f.stack - length o.takes)) b.max_stack) (kept_at k x f s e).one).1 in
+            let l = length-append o.gives (turned o.turn (drop (length o.takes) f.stack)) in
+            let t = turned_length o.turn (drop (length o.takes) f.stack) in
+            let d = length-drop (length o.takes) f.stack in omega arith
         on : (c : Bool) → is_target env (get_or b.code (k + 1) x).pc ≡ c → given_at env (get_or b.code (k + 1) x).pc ≡ None → before p env (k + 1) (get_or b.code (k + 1) x).pc ≡ Some (after f (sides p env x.pc f x.form))
         on true t z = absurd (
             let q = kept_at k x f s e in
@@ -266,12 +285,11 @@ module _ (p : Program) (ty : IsTyped p) (n : ℕ) (b : Body) (gs : List Frame) (
         let x = get_or b.code 0 d in
         let s = slice_get-get_or b.code 0 d is_body.some in
         subst (λ (pc : ℕ). Goes p w (record { kind = InMethod; number = n; pc = pc; stack = []; locals = ls })) is_body.first
-        (arrived 0 x (opening env) ls [] s (enters x s (before p env 0 x.pc) refl) (λ z. on x s (is_target env x.pc) refl z) hl hv)
+          (arrived 0 x (opening env) ls [] s (enters x s (before p env 0 x.pc) refl) (λ z. (on x s (is_target env x.pc) refl z, omega arith)) hl hv)
       where
         enters : (x : Placed) → slice_get b.code 0 ≡ Some x → (o : Option Slots) → before p env 0 x.pc ≡ o → fits_given p env (opening env) (given_at env x.pc) ≡ true
         enters x s None q = absurd (some_frame 0 x s q)
         enters x s (Some f) q = (and_parts _ _ (kept_at 0 x f s q).four).0
-
         on : (x : Placed) → slice_get b.code 0 ≡ Some x → (c : Bool) → is_target env x.pc ≡ c → given_at env x.pc ≡ None → before p env 0 x.pc ≡ Some (opening env)
         on x s true t z = absurd (some_frame 0 x s (none_given 0 x.pc z ∙ ap (λ (c : Bool). cond c None (incoming p env 0)) t))
         on x s false t z = none_given 0 x.pc z ∙ (ap (λ (c : Bool). cond c None (incoming p env 0)) t ∙ first_in)

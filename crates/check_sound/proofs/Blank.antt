@@ -1,10 +1,10 @@
 -- A new object with default cells is typed in a typed program, of which no field is a float or a double.
-use Rattle.std.proofs.Common.{◌≡◌, ℕ, zero, suc, ◌<◌, ◌-◌, ◌+◌, List, [], ◌∷◌, ◌++◌, ◌⊎◌, length, map, get_or, slice_get, Bool, true, false, not, ◌||◌, cond, nat_eq, nat_lt, pos, Some, None, refl, sym, ◌∙◌, ap, subst, arith, inl, inr}
+use Rattle.std.proofs.Common.{◌≡◌, ℕ, zero, suc, ◌<◌, ◌≤◌, ◌-◌, ◌+◌, List, [], ◌∷◌, ◌++◌, ◌⊎◌, length, drop, map, replicate, get_or, slice_get, Bool, true, false, not, ◌&&◌, ◌||◌, cond, nat_eq, nat_lt, pos, Option, Some, None, All, refl, sym, ◌∙◌, ap, subst, arith, inl, inr}
 use Rattle.std.specs.Prelude.{filter}
-use Rattle.std.specs.List.{list_all}
-use Rattle.std.proofs.lemmas.Bool.{cases_Bool, or_cases, eqb-true, eq-eqb, ltb-true, ltb-false}
+use Rattle.std.specs.List.{list_any, list_all}
+use Rattle.std.proofs.lemmas.Bool.{cases_Bool, and_parts, or_cases, eqb-true, eq-eqb, ltb-true, ltb-false}
 use Rattle.std.proofs.lemmas.List.{length-replicate, get_or-replicate}
-use Rattle.std.proofs.lemmas.Option.{slice_get-get_or}
+use Rattle.std.proofs.lemmas.Option.{slice_get-get_or, slice_get_within}
 use Rattle.jvm_model.specs.declared.values.Value.{Value}
 use Rattle.jvm_model.specs.declared.values.Value.TheVariants as value
 use Rattle.jvm_model.specs.declared.values.Base.{Base}
@@ -19,12 +19,13 @@ use Rattle.jvm_model.specs.World.{World, look}
 use Rattle.jvm_model.specs.Builtin.{builtin_count}
 use Rattle.jvm_model.specs.Library.{builtin_defs, builtin_classes, builtin_fields}
 use Rattle.jvm_model.specs.Classes.{no_class, class_at, field_at, is_static, member, plain_fields, layout_in, layout, upwards, default_of, element_default, fields_of, elems_of, blank}
-use Rattle.jvm_model.specs.Linked.{IsClass, IsField, IsKind, first_or, opens}
+use Rattle.jvm_model.specs.Linked.{Linked, IsClass, IsField, IsKind, count, first_or, fits_int, opens}
 use Rattle.jvm_model.specs.View.{keys}
 use Rattle.jvm_model.proofs.BuiltinRules.{class_keeps, field_keeps}
 use Rattle.jvm_model.proofs.Upwards.{member_class}
-use Rattle.type_frames.specs.Descriptors.{types_of, is_float}
-use Rattle.type_frames.specs.Typing.{unsupported_field, IsTyped}
+use Rattle.type_frames.specs.declared.vtype.VType.{VType}
+use Rattle.type_frames.specs.Descriptors.{types_of, is_float, element_letter, kind_name, base_text}
+use Rattle.type_frames.specs.Typing.{given_classes, unsupported_field, IsTyped}
 use Rattle.type_frames.specs.TypedState.{IsDeclared, IsReferenceOf, element_text}
 use Rattle.check_sound.proofs.Tree.{IsNew}
 use Rattle.check_sound.proofs.Arrive.{counted_at, slice_get_drop, all_at_index}
@@ -44,7 +45,7 @@ not_true false e = refl
 not_true true e = absurd (cc)
 
 served : (c : ClassRec) (x : FieldRec) → unsupported_field c x ≡ None → is_float x.descriptor ≡ false
-served c x e = elim (cases_Bool (is_float x.descriptor)) [ inr q ↦ q | inl q ↦ absurd (let z : unsupported_field c x ≡ None = e in let y = rw q at z in cc) ]
+served c x e = elim (cases_Bool (is_float x.descriptor)) [ | inr q ↦ q | inl q ↦ absurd (let z : unsupported_field c x ≡ None = e in let y = rw q at z in cc) ]
 
 module _ (p : Program) (ty : IsTyped p) where
   pub not_float : (f : ℕ) → IsField p f → is_float (field_at p f).descriptor ≡ false
@@ -115,7 +116,7 @@ module _ (p : Program) (ty : IsTyped p) where
   default_declared w f h s =
       let op = ty.linked.openings in
       opened_default w (field_at p f).descriptor (default_of (field_at p f).descriptor) (default_is (field_at p f).descriptor) (not_float f h)
-      (subst (λ (v : Value). opens p (field_at p f).descriptor v ≡ true) (op.defaults f h s) (op.values f h))
+        (subst (λ (v : Value). opens p (field_at p f).descriptor v ≡ true) (op.defaults f h s) (op.values f h))
 
   -- ---- the fields of a layout
 
@@ -126,11 +127,9 @@ module _ (p : Program) (ty : IsTyped p) where
       more : (a b : Bool) → b ≡ true → (a || b) ≡ true
       more true b e = refl
       more false b e = e
-
       front : (a b : Bool) → a ≡ true → (a || b) ≡ true
       front true b e = refl
       front false b e = absurd (cc)
-
       by : (b : Bool) → g x ≡ b → member f (cond b (x ∷ filter g xs) (filter g xs)) ≡ true → (member f (filter g xs) ≡ true → (member f xs ≡ true) × (g f ≡ true)) → (member f (x ∷ xs) ≡ true) × (g f ≡ true)
       by true q m k = elim (or_cases (nat_eq f x) (member f (filter g xs)) m) [
         | inl e ↦ (front (nat_eq f x) (member f xs) e, subst (λ (y : ℕ). g y ≡ true) (sym (eqb-true f x e)) q)
@@ -149,13 +148,12 @@ module _ (p : Program) (ty : IsTyped p) where
   any_parts f [] ys m = inr m
   any_parts f (x ∷ xs) ys m = elim (or_cases (nat_eq f x) (member f (xs ++ ys)) m) [
     | inl e ↦ inl (front (nat_eq f x) (member f xs) e)
-    | inr e ↦ elim (any_parts f xs ys e) [ inl l ↦ inl (more (nat_eq f x) (member f xs) l) | inr r ↦ inr r ]
+    | inr e ↦ elim (any_parts f xs ys e) [ | inl l ↦ inl (more (nat_eq f x) (member f xs) l) | inr r ↦ inr r ]
   ]
     where
       more : (a b : Bool) → b ≡ true → (a || b) ≡ true
       more true b e = refl
       more false b e = e
-
       front : (a b : Bool) → a ≡ true → (a || b) ≡ true
       front true b e = refl
       front false b e = absurd (cc)
@@ -179,7 +177,6 @@ module _ (p : Program) (ty : IsTyped p) where
       more : (a b : Bool) → b ≡ true → (a || b) ≡ true
       more true b e = refl
       more false b e = e
-
       front : (a b : Bool) → a ≡ true → (a || b) ≡ true
       front true b e = refl
       front false b e = absurd (cc)
@@ -230,16 +227,16 @@ module _ (p : Program) (ty : IsTyped p) where
   blank_new w h i = record {
     is_kind = i;
     fields = λ c f e m.
-        let r = celled (layout p c) f m in
-        let g = layout_field c f (subst (λ (k : Kind). IsKind p k) e i) m in (
-          subst (λ (k : Kind). member f (keys (fields_of p k)) ≡ true) (sym e) r.there,
-          subst (λ (k : Kind). IsDeclared p w (field_at p f).descriptor (look nat_eq value.Null (fields_of p k) f)) (sym e)
-              (subst (λ (v : Value). IsDeclared p w (field_at p f).descriptor v) (sym r.holds) (default_declared w f g.is_field g.plain)),
-        );
+      let r = celled (layout p c) f m in
+      let g = layout_field c f (subst (λ (k : Kind). IsKind p k) e i) m in (
+      subst (λ (k : Kind). member f (keys (fields_of p k)) ≡ true) (sym e) r.there,
+      subst (λ (k : Kind). IsDeclared p w (field_at p f).descriptor (look nat_eq value.Null (fields_of p k) f)) (sym e)
+          (subst (λ (v : Value). IsDeclared p w (field_at p f).descriptor v) (sym r.holds) (default_declared w f g.is_field g.plain)),
+    );
     elems = λ d k b e lt.
-        let j : IsKind p (kind.Array d b) = subst (λ (x : Kind). IsKind p x) e i in (
-          subst (λ (x : Kind). k < length (elems_of x h.length)) (sym e) (let n = length-replicate h.length (element_default d b) in omega arith),
-          subst (λ (x : Kind). IsDeclared p w (element_text p x) (get_or (elems_of x h.length) k value.Null)) (sym e)
-              (subst (λ (v : Value). IsDeclared p w (element_text p (kind.Array d b)) v) (sym (get_or-replicate h.length k (element_default d b) value.Null lt)) (element_declared w d b j.0)),
-        );
+      let j : IsKind p (kind.Array d b) = subst (λ (x : Kind). IsKind p x) e i in (
+      subst (λ (x : Kind). k < length (elems_of x h.length)) (sym e) (let n = length-replicate h.length (element_default d b) in omega arith),
+      subst (λ (x : Kind). IsDeclared p w (element_text p x) (get_or (elems_of x h.length) k value.Null)) (sym e)
+          (subst (λ (v : Value). IsDeclared p w (element_text p (kind.Array d b)) v) (sym (get_or-replicate h.length k (element_default d b) value.Null lt)) (element_declared w d b j.0)),
+    );
   }

@@ -1,28 +1,30 @@
 -- The rows of branches and switches.
-use Rattle.std.proofs.Common.{◌≡◌, ℕ, ℤ, suc, ◌<◌, List, [], ◌∷◌, length, map, Bool, true, false, ◌&&◌, ◌||◌, cond, nat_eq, nat_lt, pos, get_or, All, refl, sym, subst, arith}
+use Rattle.std.proofs.Common.{◌≡◌, ℕ, ℤ, zero, suc, ◌+◌, ◌<◌, ◌≤◌, List, [], ◌∷◌, length, map, drop, Bool, true, false, ◌&&◌, ◌||◌, cond, nat_eq, nat_lt, pos, get_or, All, refl, sym, ◌∙◌, ap, subst, arith, inl, inr}
 use Rattle.std.specs.List.{list_any}
-use Rattle.std.specs.Prelude.{int_le, unsigned_abs, ◌-ℤ◌}
+use Rattle.std.specs.Prelude.{int_lt, int_le, unsigned_abs, ◌-ℤ◌}
 use Rattle.std.specs.Ordering.{int_eq}
 use Rattle.std.proofs.lemmas.List.Folds.{list_any_at}
-use Rattle.std.proofs.lemmas.Bool.{and_parts, ltb-true, eq-eqb, or_left, or_right}
+use Rattle.std.proofs.lemmas.Bool.{cases_Bool, and_parts, ltb-true, eq-eqb, or_left, or_right}
 use Rattle.jvm_model.specs.declared.values.Value.{Value}
 use Rattle.jvm_model.specs.declared.instr.Instr.{Instr}
 use Rattle.jvm_model.specs.declared.instr.Instr.TheVariants as form
 use Rattle.jvm_model.specs.declared.instr.IfTest.{IfTest}
 use Rattle.jvm_model.specs.declared.program.Program.{Program}
 use Rattle.jvm_model.specs.World.{World}
+use Rattle.jvm_model.specs.Access.{Access}
 use Rattle.jvm_model.specs.Entries.{Entries}
 use Rattle.jvm_model.specs.Linked.{IsPlace}
-use Rattle.jvm_model.specs.Rows.{goes_to}
+use Rattle.jvm_model.specs.Rows.{Answer, goes_to}
 use Rattle.jvm_model.specs.Step.{group_of, branches}
 use Rattle.jvm_model.specs.RowsBranches.{row_branches, holds, goes_if, table_target, lookup_target, flag_is, same_reference, is_null}
-use Rattle.type_frames.specs.declared.sides.Need.TheVariants.{Ref}
+use Rattle.type_frames.specs.declared.sides.Need.TheVariants.{Fits, Ref}
 use Rattle.type_frames.specs.declared.vtype.VType.TheVariants.{Int}
 use Rattle.type_frames.specs.Environment.{leads}
 use Rattle.type_frames.specs.Sides.{sides}
 use Rattle.type_frames.specs.Typing.{IsTyped}
-use Rattle.check_sound.proofs.Held.{Held, Locals}
-use Rattle.check_sound.proofs.Operands.{rest_of, popping-typed, popping-fits, on_int-typed, choose-typed}
+use Rattle.check_sound.proofs.Tree.{Tree, typed_done}
+use Rattle.check_sound.proofs.Held.{Is, Held, Locals}
+use Rattle.check_sound.proofs.Operands.{Operands, rest_of, popping-typed, popping-fits, on_int-typed, choose-typed}
 use Rattle.check_sound.proofs.Ready.{Ends, Row, Ready, here, then, rest, sides_at, operands, on, to, is_form}
 
 -- the instruction leads to its target
@@ -42,7 +44,6 @@ found (x ∷ ps) other n = by (int_eq x.0 n) (found ps other n)
     later true b c e = refl
     later false true c e = refl
     later false false c e = e
-
     by : (b : Bool) → (list_any (λ m. nat_eq m (lookup_target ps other n)) (other ∷ map (λ x. x.1) ps) ≡ true) × ((P : ℕ → Type 0) → All (λ x. P x.1) ps → P other → P (lookup_target ps other n))
         → (list_any (λ m. nat_eq m (cond b x.1 (lookup_target ps other n))) (other ∷ x.1 ∷ map (λ x. x.1) ps) ≡ true) × ((P : ℕ → Type 0) → All (λ x. P x.1) (x ∷ ps) → P other → P (cond b x.1 (lookup_target ps other n)))
     by true r = (or_right (nat_eq other x.1) (nat_eq x.1 x.1 || list_any (λ m. nat_eq m x.1) (map (λ x. x.1) ps)) (or_left (nat_eq x.1 x.1) (list_any (λ m. nat_eq m x.1) (map (λ x. x.1) ps)) (eq-eqb x.1 x.1 refl)), λ P a o. a 0 x (omega arith))

@@ -1,10 +1,10 @@
 -- The rows of calls: a method is entered with its arguments, and the calling frame waits.
-use Rattle.std.proofs.Common.{◌≡◌, ℕ, zero, suc, ◌+◌, ◌<◌, List, [], ◌∷◌, ◌++◌, length, take, drop, reverse, Bool, true, false, not, ◌&&◌, ◌||◌, cond, nat_eq, nat_le, Option, Some, None, slice_get, refl, sym, ◌∙◌, ap, subst, arith, inl, inr, length-append}
+use Rattle.std.proofs.Common.{◌≡◌, ℕ, zero, suc, ◌+◌, ◌-◌, ◌<◌, ◌≤◌, List, [], ◌∷◌, ◌++◌, length, take, drop, map, reverse, Bool, true, false, not, ◌&&◌, ◌||◌, cond, nat_eq, nat_le, Option, Some, None, IfSome, slice_get, refl, sym, ◌∙◌, ap, subst, arith, inl, inr, length-append, append-nil}
 use Rattle.std.specs.Prelude.{flat_map, slice_index_or}
 use Rattle.std.specs.List.{IsDistinct}
 use Rattle.std.specs.Str.{bytes_eq}
-use Rattle.std.proofs.lemmas.Bool.{or_cases, leb-false, eqb-true}
-use Rattle.std.proofs.lemmas.List.{reverse-append, reverse-reverse, length-reverse, append_assoc}
+use Rattle.std.proofs.lemmas.Bool.{cases_Bool, or_cases, and_parts, leb-true, leb-false, eqb-true}
+use Rattle.std.proofs.lemmas.List.{length-drop, reverse-append, reverse-reverse, length-reverse, append_assoc}
 use Rattle.std.proofs.Math.Seq.{take-append_seam, drop-append_seam}
 use Rattle.jvm_model.specs.declared.values.Value.{Value}
 use Rattle.jvm_model.specs.declared.values.Value.TheVariants as value
@@ -15,21 +15,22 @@ use Rattle.jvm_model.specs.declared.state.EntryKind.TheVariants.{Absent, InMetho
 use Rattle.jvm_model.specs.declared.instr.Instr.{Instr}
 use Rattle.jvm_model.specs.declared.instr.Instr.TheVariants as form
 use Rattle.jvm_model.specs.declared.library.Native.{Native}
+use Rattle.jvm_model.specs.declared.outcome.Next.TheVariants as step
 use Rattle.jvm_model.specs.declared.program.Program.{Program}
 use Rattle.jvm_model.specs.declared.program.MethodRec.{MethodRec}
 use Rattle.jvm_model.specs.declared.program.Body.{Body}
-use Rattle.jvm_model.specs.World.{World}
+use Rattle.jvm_model.specs.World.{World, size}
 use Rattle.jvm_model.specs.Access.{Access}
 use Rattle.jvm_model.specs.Selection.{Selected, chosen, failing, select_virtual, select_interface, select_special, or_kept, special_start, special_path, declared_in, is_like, named_class as class_named_by}
 use Rattle.jvm_model.specs.Kinds.{class_of}
-use Rattle.check_sound.proofs.SelectLaws.{SelectedOf, selected_virtual, selected_interface, selected_special}
+use Rattle.check_sound.proofs.SelectLaws.{IsSelected, SelectedOf, selected_virtual, selected_interface, selected_special}
 use Rattle.jvm_model.specs.Builtin.{stream_class, string_class, abstract_method_error, stack_overflow_error, null_pointer_exception}
 use Rattle.jvm_model.specs.Classes.{method_at, class_at, is_static, is_below, init_name, clinit_name}
 use Rattle.jvm_model.specs.Descriptors.{parameters, return_type}
-use Rattle.jvm_model.specs.Entries.{Entry, Entries, is_full, with_stack, frame_of, called, slots_of}
+use Rattle.jvm_model.specs.Entries.{Entry, Entries, all_entries, is_full, entry_limit, with_stack, with_entry, frame_of, frame_cost, called, slots_of}
 use Rattle.jvm_model.specs.Linked.{Linked, IsClass, IsMethod, IsKind, IsFoundIn}
-use Rattle.jvm_model.specs.Rows.{Answer, with_kind}
-use Rattle.jvm_model.specs.RowsCalls.{enters_native, calls, calls_selected, argument_count, on_receiver, receiver, call_virtual, call_interface, call_special, row_calls}
+use Rattle.jvm_model.specs.Rows.{Answer, answer, constant_kind, with_kind}
+use Rattle.jvm_model.specs.RowsCalls.{enters_body, enters_native, calls, calls_selected, argument_count, on_receiver, receiver, call_virtual, call_interface, call_special, row_calls}
 use Rattle.jvm_model.specs.Step.{group_of, calls as of_calls}
 use Rattle.type_frames.specs.declared.vtype.VType.{VType}
 use Rattle.type_frames.specs.declared.vtype.VType.TheVariants.{Top, Int, Long, Null, Object, UninitThis, Uninit}
@@ -43,23 +44,23 @@ use Rattle.type_frames.specs.Environment.{Environment, made_at}
 use Rattle.type_frames.specs.Assign.{assignable}
 use Rattle.jvm_model.proofs.Upwards.{below_same as itself_below, below_trans}
 use Rattle.check_sound.proofs.Instances.{below_class, super_below, instance_itself}
-use Rattle.type_frames.specs.Sides.{sides, argument_needs, result_types, call_sides, is_that, is_start, init_sides, special_need, object_of, place_of}
+use Rattle.type_frames.specs.Sides.{sides, argument_needs, result_types, on_stack, call_sides, needs_of, is_that, is_start, init_sides, special_need, object_of, place_of}
 use Rattle.type_frames.specs.Rules.{meets, turned}
 use Rattle.type_frames.specs.Typing.{IsTyped}
-use Rattle.type_frames.specs.TypedState.{is_class_with, kind_at, IsInRange, IsInstance, RefersTo, HasType, HaveTypes, IsBelow, class_begun, called_by}
-use Rattle.check_sound.proofs.Tree.{typed_done, typed_spend}
+use Rattle.type_frames.specs.TypedState.{is_class_with, kind_at, IsInRange, IsInstance, RefersTo, HasType, HaveTypes, HaveStackTypes, Waits, IsBelow, AllBelow, class_begun, called_by}
+use Rattle.check_sound.proofs.Tree.{Tree, typed_done, typed_spend}
 use Rattle.check_sound.proofs.Grow.{Ranged}
-use Rattle.check_sound.proofs.Held.{refers_fits, Is, Held, IsShort, held_over, locals_over, is_fits}
+use Rattle.check_sound.proofs.Held.{refers_fits, Is, Held, Locals, IsShort, held_over, locals_over, is_fits}
 use Rattle.check_sound.proofs.Arrive.{has_number}
-use Rattle.check_sound.proofs.Operands.{Operands, IsPop, popped, none_there, rest_of, choose-typed, on_reference-typed, with_kind-typed, refers_nullable, IsNonNull, IsKindOf}
-use Rattle.check_sound.proofs.Ready.{TypedEntries, stub, closed, below_same, Takes, Gives, operand_types, NativeCall, Enters, Ends, Row, Ready, here, sides_at, rest, operands, next_typed, raised_typed, waits_typed, names_form, form_kind, form_found}
+use Rattle.check_sound.proofs.Operands.{Operands, IsPop, Popped, popped, none_there, rest_of, choose-typed, on_reference-typed, with_kind-typed, refers_nullable, IsNonNull, IsKindOf}
+use Rattle.check_sound.proofs.Ready.{TypedEntries, stub, Rest, closed, below_same, Grows, HasPlain, Takes, Gives, operand_types, gone_on, NativeCall, Enters, Ends, Row, Ready, here, sides_at, then, rest, operands, next_typed, raised_typed, waits_typed, names_form, form_kind, form_found, again_typed}
 use Rattle.check_sound.proofs.Onward.{whole, not_full, ready_grows}
 use Rattle.check_sound.proofs.Thrown.{builtin_is, abstract_thrown, overflow_thrown, null_pointer_thrown}
 use Rattle.check_sound.proofs.Ends.{fault_typed, using-typed}
-use Rattle.check_sound.proofs.CallSides.{this_of, CallSides, call_of, Result, push}
+use Rattle.check_sound.proofs.CallSides.{values_few, on_stack_length, this_of, CallSides, call_of, Result, push}
 use Rattle.check_sound.proofs.ReturnRows.{home, named_class}
 use Rattle.check_sound.proofs.ParameterTexts.{AreTexts}
-use Rattle.check_sound.proofs.Arguments.{method_texts, Arguments, arguments_reverse, Taken, take_args, text_slots, EntersWith, entered_frame, takes_args, takes_append, one_each_reverse}
+use Rattle.check_sound.proofs.Arguments.{method_texts, Argument, Arguments, arguments_reverse, arguments_range, Taken, take_args, text_slots, EntersWith, EnteredFrame, entered_frame, takes_args, takes_append, one_each_reverse}
 
 -- The arguments of a call of the method m, the last on top, over the operands that the frame keeps: n values, with which m
 -- may be entered, or which it takes if it is built in.
@@ -84,17 +85,18 @@ given_of p w (t ∷ []) (v ∷ vs) rest h = record { results = v ∷ []; split =
 given_of p w (t ∷ []) [] rest h = absurd h
 given_of p w (t ∷ u ∷ ts) vs rest h = absurd h
 
+same_body : {a b : Body} → Some a ≡ Some b → a ≡ b
+same_body e = cc
+
 reverse_range : (p : Program) (w : World) (vs us : List Value) → Ranged p w (vs ++ us) → Ranged p w (reverse vs)
 reverse_range p w vs us h = back vs (first vs h)
   where
     first : (xs : List Value) → Ranged p w (xs ++ us) → Ranged p w xs
     first [] h = tt
     first (x ∷ xs) h = (h.0, first xs h.1)
-
     join : (xs ys : List Value) → Ranged p w xs → Ranged p w ys → Ranged p w (xs ++ ys)
     join [] ys h g = g
     join (x ∷ xs) ys h g = (h.0, join xs ys h.1 g)
-
     back : (xs : List Value) → Ranged p w xs → Ranged p w (reverse xs)
     back [] h = tt
     back (x ∷ xs) h = subst (λ (zs : List Value). Ranged p w zs) (sym (reverse-append (x ∷ []) xs)) (join (reverse xs) (x ∷ []) (back xs h.1) (h.0, tt))
@@ -115,30 +117,44 @@ module _ (p : Program) (ty : IsTyped p) {w : World} {s : Entries} {i : Instr} (r
       let e = entered_frame p ty w m b args hb enters ranged in
       let t : Entries = with_stack s (drop n s.top.stack) in
       subst (λ (fs : List Entry). TypedEntries p w None (record { top = frame_of b m args; below = fs })) (sym (whole t r.kind))
-      (closed None (frame_of b m args) tt e.goes tt e.range (record {
-        each = (subst (λ (k : EntryKind). IsBelow p w t.top k (stub InMethod m) InMethod) (sym r.kind) (waits_typed p ty r named m c q.0 q.1 held), below_same p w (stub InMethod s.top.number) t.top refl (sym r.kind) s.below r.rest.each);
-        range = (held.range, r.locals.range, r.rest.range);
-        few = not_full s f (whole s r.kind);
-        apart = subst (λ (k : EntryKind). IsDistinct nat_eq (elim k as (λ x. List ℕ) [ Absent ↦ [] | InMethod ↦ [] | InClass b ↦ s.top.number ∷ [] ] ++ flat_map class_begun s.below)) (sym r.kind) r.rest.apart;
-      }))
+        (closed None (frame_of b m args) tt e.goes tt e.range (record {
+          each = (subst (λ (k : EntryKind). IsBelow p w t.top k (stub InMethod m) InMethod) (sym r.kind) (waits_typed p ty r named m c q.0 q.1 held), below_same p w (stub InMethod s.top.number) t.top refl (sym r.kind) s.below r.rest.each);
+          range = (held.range, r.locals.range, r.rest.range);
+          few = not_full s f (whole s r.kind);
+          apart = subst (λ (k : EntryKind). IsDistinct nat_eq (elim k as (λ x. List ℕ) [ Absent ↦ [] | InMethod ↦ [] | InClass b ↦ s.top.number ∷ [] ] ++ flat_map class_begun s.below)) (sym r.kind) r.rest.apart;
+        }))
 
   -- a built-in method
   sides_of : (named : ℕ) → called_by i ≡ Some named → CallSides p (here r) r.types (sides_at r) (method_at p named)
   sides_of named c = call_of p ty.linked (here r) r.index (record { pc = s.top.pc; form = i }) r.types named c (named_class p ty i named c (names_form p ty r)) (home p ty s.top.number (has_number p ty s.top.number r.body r.has_code)) r.kept
 
+  -- there is room for the result of the call
+  native_space : (named m n : ℕ) → called_by i ≡ Some named → SameAs m named → (a : Passed p w r m n) → (b : Body) → (method_at p s.top.number).body ≡ Some b → length a.below + length (types_of (return_type (method_at p m).descriptor)) ≤ b.max_stack
+  native_space named m n c q a b hb =
+      let z : r.body ≡ b = same_body (sym r.has_code ∙ hb) in
+      let o = sides_at r in
+      let k = sides_of named c in
+      let h = leb-true _ _ (and_parts (nat_le (length o.takes) (length r.types.stack)) (nat_le (length o.gives + (length r.types.stack - length o.takes)) r.body.max_stack) r.kept.one).1 in
+      let d = length-drop (length o.takes) r.types.stack in
+      let v = values_few p w (here r) (rest r) a.below a.held.types in
+      let g : length o.gives ≡ length (on_stack (types_of (return_type (method_at p m).descriptor))) = ap length k.gives ∙ ap (λ (x : List ℕ). length (on_stack (types_of (return_type x)))) (sym q.1) in
+      let l = on_stack_length (types_of (return_type (method_at p m).descriptor)) in
+      subst (λ (x : Body). length a.below + length (types_of (return_type (method_at p m).descriptor)) ≤ x.max_stack) z (omega arith)
+
   native_typed : (named m n : ℕ) → called_by i ≡ Some named → SameAs m named → Passed p w r m n → NativeCall p w m s
   unfolding ready_grows
-  native_typed named m n c q a = record {
+  native_typed named m n c q a = let few : length s.top.stack ≤ r.body.max_stack = (let v = values_few p w (here r) r.types.stack s.top.stack r.stack.types in let f = r.fits in omega arith) in record {
     rest = a.below;
     takes = a.takes;
     range = r.stack.range;
+    space = (r.body, r.has_code, native_space named m n c q a r.body r.has_code, few);
     answered = λ v g vs h.
-        let x = given_of p v (types_of (return_type (method_at p m).descriptor)) vs a.below h in
-        let k = sides_of named c in
-        let us = turned (sides_at r).turn (rest r) in
-        let top = push p v (here r) (types_of (return_type (method_at p m).descriptor)) us x.results a.below x.result (k.stack v a.below (held_over g.over a.held)) in
-        let held : Held p v (here r) ((sides_at r).gives ++ us) vs = subst (λ (xs : List Value). Held p v (here r) ((sides_at r).gives ++ us) xs) (sym x.split) (subst (λ (ts : List VType). Held p v (here r) (ts ++ us) (x.results ++ a.below)) (ap result_types q.1 ∙ sym k.gives) top) in
-        next_typed p ty (ready_grows g r) k.falls (k.locals v s.top.locals (locals_over g.over r.locals)) held;
+      let x = given_of p v (types_of (return_type (method_at p m).descriptor)) vs a.below h in
+      let k = sides_of named c in
+      let us = turned (sides_at r).turn (rest r) in
+      let top = push p v (here r) (types_of (return_type (method_at p m).descriptor)) us x.results a.below x.result (k.stack v a.below (held_over g.over a.held)) in
+      let held : Held p v (here r) ((sides_at r).gives ++ us) vs = subst (λ (xs : List Value). Held p v (here r) ((sides_at r).gives ++ us) xs) (sym x.split) (subst (λ (ts : List VType). Held p v (here r) (ts ++ us) (x.results ++ a.below)) (ap result_types q.1 ∙ sym k.gives) top) in
+      next_typed p ty (ready_grows g r) k.falls (k.locals v s.top.locals (locals_over g.over r.locals)) held;
     faulted = λ v g vs h. raised_typed p ty (ready_grows g r) value.Null vs h;
   }
 
@@ -152,7 +168,6 @@ module _ (p : Program) (ty : IsTyped p) {w : World} {s : Entries} {i : Instr} (r
           let z = leb-false n (length s.top.stack) e in
           let l : length s.top.stack ≡ length a.args + length a.below = ap length a.split ∙ length-append a.args a.below in
           let k = a.count in omega arith
-
       by : (x : Option Native) (b : Option Body) → (method_at p m).native ≡ x → (method_at p m).body ≡ b → Row p w (enters_native x b m n s)
       by (Some x) b hx hb = typed_done (subst (λ (y : Option Native). Enters p w m y s) (sym hx) (native_typed named m n c q a))
       by None None hx hb = typed_done (fault_typed p ty r abstract_method_error s.top.stack (abstract_thrown p ty.linked) r.stack.range)
@@ -233,8 +248,8 @@ module _ (p : Program) (ty : IsTyped p) {w : World} {s : Entries} {i : Instr} (r
       let flat = flat_map types_of texts in
       let order : flat_map types_of (reverse texts) ≡ reverse flat = one_each_reverse p w texts (reverse a.args) back in
       let types : operand_types p (method_at p m) ≡ reverse flat ++ Object (name_of p (method_at p m).class) ∷ [] =
-      ap (λ (b : Bool). reverse (cond b [] (Object (name_of p (method_at p m).class) ∷ []) ++ flat_map types_of (parameters (method_at p m).descriptor))) f
-      ∙ (ap (λ (x : List ℕ). reverse (Object (name_of p (method_at p m).class) ∷ flat_map types_of (parameters x))) q ∙ reverse-append (Object (name_of p (method_at p m).class) ∷ []) flat) in
+          ap (λ (b : Bool). reverse (cond b [] (Object (name_of p (method_at p m).class) ∷ []) ++ flat_map types_of (parameters (method_at p m).descriptor))) f
+            ∙ (ap (λ (x : List ℕ). reverse (Object (name_of p (method_at p m).class) ∷ flat_map types_of (parameters x))) q ∙ reverse-append (Object (name_of p (method_at p m).class) ∷ []) flat) in
       let below : Takes p w (Object (name_of p (method_at p m).class) ∷ []) (a.receiver ∷ a.below) a.below = (refers, receiver_range a, refl) in
       record {
         args = a.args ++ a.receiver ∷ [];
@@ -243,12 +258,12 @@ module _ (p : Program) (ty : IsTyped p) {w : World} {s : Entries} {i : Instr} (r
         count = (let l = length-append a.args (a.receiver ∷ []) in let c = a.count in omega arith);
         held = a.held;
         slots = λ e c. subst (λ (xs : List Value). HaveTypes p w e (spread (entry_types p (method_at p m))) (slots_of xs)) (sym turned_args)
-            (subst (λ (ts : List VType). HaveTypes p w e (spread ts) (slots_of (a.receiver ∷ reverse a.args))) (sym (ap (λ (ts : List VType). ts ++ flat_map types_of (parameters (method_at p m).descriptor)) (this_is p (method_at p m) f) ∙ ap (λ (x : List ℕ). this_type p (method_at p m) ∷ flat_map types_of (parameters x)) q))
+          (subst (λ (ts : List VType). HaveTypes p w e (spread ts) (slots_of (a.receiver ∷ reverse a.args))) (sym (ap (λ (ts : List VType). ts ++ flat_map types_of (parameters (method_at p m).descriptor)) (this_is p (method_at p m) f) ∙ ap (λ (x : List ℕ). this_type p (method_at p m) ∷ flat_map types_of (parameters x)) q))
             (short_slots w e p (this_type p (method_at p m)) flat a.receiver (reverse a.args) (this_place p (method_at p m)) a.short (this e c) (text_slots p w e texts (reverse a.args) back)));
         takes = subst (λ (xs : List Value). Takes p w (operand_types p (method_at p m)) xs a.below) (sym a.split)
-            (subst (λ (ts : List VType). Takes p w ts (a.args ++ a.receiver ∷ a.below) a.below) (sym types)
+          (subst (λ (ts : List VType). Takes p w ts (a.args ++ a.receiver ∷ a.below) a.below) (sym types)
             (takes_append p w (reverse flat) (Object (name_of p (method_at p m).class) ∷ []) (a.args ++ a.receiver ∷ a.below) (a.receiver ∷ a.below) a.below
-            (subst (λ (ts : List VType). Takes p w ts (a.args ++ a.receiver ∷ a.below) (a.receiver ∷ a.below)) order (takes_args p w (reverse texts) a.args (a.receiver ∷ a.below) a.typed)) below));
+              (subst (λ (ts : List VType). Takes p w ts (a.args ++ a.receiver ∷ a.below) (a.receiver ∷ a.below)) order (takes_args p w (reverse texts) a.args (a.receiver ∷ a.below) a.typed)) below));
       }
     where
       receiver_range : (a : Received p w r d n) → IsInRange p w a.receiver
@@ -282,9 +297,9 @@ module _ (p : Program) (ty : IsTyped p) {w : World} {s : Entries} where
         count = sym (a.count ∙ length-reverse texts);
         held = rest_of a.operands;
         slots = λ e c. subst (λ (ts : List VType). HaveTypes p w e (spread ts) (slots_of (reverse a.args))) (sym (ap (λ (b : Bool). elim b as (λ z. List VType) [ true ↦ [] | false ↦ elim (is_constructor (method_at p m)) as (λ z. List VType) [ true ↦ UninitThis ∷ [] | false ↦ Object (name_of p (method_at p m).class) ∷ [] ] ] ++ flat_map types_of texts) f))
-            (text_slots p w e texts (reverse a.args) back);
+          (text_slots p w e texts (reverse a.args) back);
         takes = subst (λ (xs : List Value). Takes p w (operand_types p (method_at p m)) xs a.below) (sym a.split)
-            (subst (λ (b : Bool). Takes p w (reverse (cond b [] (Object (name_of p (method_at p m).class) ∷ []) ++ flat_map types_of texts)) (a.args ++ a.below) a.below) (sym f)
+          (subst (λ (b : Bool). Takes p w (reverse (cond b [] (Object (name_of p (method_at p m).class) ∷ []) ++ flat_map types_of texts)) (a.args ++ a.below) a.below) (sym f)
             (subst (λ (ts : List VType). Takes p w ts (a.args ++ a.below) a.below) (one_each_reverse p w texts (reverse a.args) back) (takes_args p w (reverse texts) a.args a.below a.typed)));
       }
 
@@ -302,7 +317,6 @@ not_started p m n e c = by (bytes_eq m.name clinit_name) (bytes_eq m.name init_n
     last : (a b : Bool) → b ≡ false → (a && b) ≡ false
     last true b e = e
     last false b e = refl
-
     by : (a b : Bool) → bytes_eq m.name init_name ≡ b → not (a || b) ≡ true → is_constructor n ≡ false
     by a false q c = last (not (is_static n.flags)) (bytes_eq n.name init_name) (ap (λ (x : List ℕ). bytes_eq x init_name) e ∙ q)
     by true true q c = absurd (cc)
@@ -336,7 +350,7 @@ module _ (p : Program) (ty : IsTyped p) {w : World} {s : Entries} {i : Instr} (r
   selected-typed named n a c q x f (chosen m) h =
       let g = f (name_of p (method_at p m).class) h.1 in
       call-typed p ty r named m (length (parameters (method_at p named).descriptor) + 1) c (h.0.name, h.0.descriptor)
-      (passed_to p ty r (method_at p named).descriptor n m a h.0.descriptor h.0.plain (λ e z. plain_this p w e (method_at p m) a.receiver (not_started p (method_at p named) (method_at p m) h.0.name q) g) g)
+        (passed_to p ty r (method_at p named).descriptor n m a h.0.descriptor h.0.plain (λ e z. plain_this p w e (method_at p m) a.receiver (not_started p (method_at p named) (method_at p m) h.0.name q) g) g)
   selected-typed named n a c q x f (failing d) h = typed_done (fault_typed p ty r d s.top.stack h r.stack.range)
 
   -- the receiver isn't null
@@ -354,7 +368,7 @@ module _ (p : Program) (ty : IsTyped p) {w : World} {s : Entries} where
       on_receiver-typed p ty r m (Fits (Object (kind_name p k))) a (kind_name p k) g (λ v. with_kind v (λ x. call_virtual p m s x)) (λ n.
       with_kind-typed p (Ends p) w (kind_name p k) a.receiver n g (λ x j q.
       selected-typed p ty r m (Fits (Object (kind_name p k))) a refl r.kept.eleven x (λ b e. kind_refers p w a.receiver x b q a.is.range e) (select_virtual p m (class_of x))
-      (selected_virtual p ty.linked k x m (names_form p ty r).0 (known_kind p ty.linked w a.receiver x q) h (form_kind p ty r).0 (form_found p ty r) j)))
+        (selected_virtual p ty.linked k x m (names_form p ty r).0 (known_kind p ty.linked w a.receiver x q) h (form_kind p ty r).0 (form_found p ty r) j)))
 
   pub invoke_interface : (c m : ℕ) → Ready p w s (form.InvokeInterface c m) → Row p w (row_calls p (form.InvokeInterface c m) s)
   unfolding row_calls sides argument_count
@@ -365,7 +379,7 @@ module _ (p : Program) (ty : IsTyped p) {w : World} {s : Entries} where
       on_receiver-typed p ty r m (Fits (Object (name_of p c))) a (name_of p c) g (λ v. with_kind v (λ x. call_interface p c m s x)) (λ n.
       with_kind-typed p (Ends p) w (name_of p c) a.receiver n g (λ x j q.
       selected-typed p ty r m (Fits (Object (name_of p c))) a refl r.kept.eleven x (λ b e. kind_refers p w a.receiver x b q a.is.range e) (select_interface p c m (class_of x))
-      (selected_interface p ty.linked c m x (names_form p ty r).0 (form_kind p ty r).1 (known_kind p ty.linked w a.receiver x q) h (form_kind p ty r).0 (form_found p ty r))))
+        (selected_interface p ty.linked c m x (names_form p ty r).0 (form_kind p ty r).1 (known_kind p ty.linked w a.receiver x q) h (form_kind p ty r).0 (form_found p ty r))))
 
 -- ---- invokespecial
 
@@ -378,7 +392,6 @@ starts_this p lk w e d c UninitThis (value.Obj o) h g q z i = (i.0, subst (λ (x
       | inl n ↦ subst (λ (x : ℕ). is_below p e.class x ≡ true) (sym (eqb-true c e.class n)) (itself_below p e.class)
       | inr n ↦ super_below p lk e.class c g n
     ]
-
     upwards_of : (k : Kind) → is_class_with (λ x. is_below p x e.class) k ≡ true → is_class_with (λ x. is_below p x c) k ≡ true
     upwards_of (kind.Class a) b = below_trans p lk a e.class c (below_class p lk a e.class g b) b current
     upwards_of (kind.Array n b) k = absurd (cc)
@@ -429,9 +442,9 @@ module _ (p : Program) (ty : IsTyped p) {w : World} {s : Entries} where
       let refers = this_refers p ty.linked w e0 a.receiver (home p ty m h) (this e0 refl) in
       let builds : is_constructor (method_at p m) ≡ true = ap (λ (b : Bool). not b && bytes_eq (method_at p m).name init_name) f ∙ q in
       on_receiver-typed p ty r m Raw a (name_of p c) refers (λ v. call_special p k m s) (λ n.
-      subst (λ (b : Bool). Row p w (calls_selected p (cond b (chosen m) (or_kept p m (special_start p (method_at p s.top.number).class (class_named_by k)) (declared_in p (λ n. is_like p m n) (special_path p (special_start p (method_at p s.top.number).class (class_named_by k)))))) (length (parameters d) + 1) s)) (sym q)
-      (call-typed p ty r m m (length (parameters d) + 1) refl (refl, refl)
-      (passed_to p ty r d Raw m a refl f (λ e z. subst (λ (b : Bool). HasType p w e (cond b UninitThis (Object (name_of p c))) a.receiver) (sym builds) (this e z)) refers)))
+        subst (λ (b : Bool). Row p w (calls_selected p (cond b (chosen m) (or_kept p m (special_start p (method_at p s.top.number).class (class_named_by k)) (declared_in p (λ n. is_like p m n) (special_path p (special_start p (method_at p s.top.number).class (class_named_by k)))))) (length (parameters d) + 1) s)) (sym q)
+          (call-typed p ty r m m (length (parameters d) + 1) refl (refl, refl)
+            (passed_to p ty r d Raw m a refl f (λ e z. subst (λ (b : Bool). HasType p w e (cond b UninitThis (Object (name_of p c))) a.receiver) (sym builds) (this e z)) refers)))
 
   -- another method: the first one from the start of the look-up on
   special_plain : (k : Kind) (m : ℕ) (r : Ready p w s (form.InvokeSpecial k m)) → bytes_eq (method_at p m).name init_name ≡ false → IsMethod p m → IsKind p k → is_static (method_at p m).flags ≡ false → IsFoundIn p k m
@@ -451,8 +464,8 @@ module _ (p : Program) (ty : IsTyped p) {w : World} {s : Entries} where
           let a = received p ty r (method_at p m).descriptor need tt (method_texts p ty m h) (subst (λ (b : Bool). Operands p w (here r) (argument_needs (method_at p m).descriptor ++ cond b (Fits (object_of p (here r).class)) Never ∷ []) r.types.stack (rest r) s.top.stack) z o) in
           let refers = (is_fits p ty.linked w (here r) a.type (Object (name_of p c)) a.receiver a.met a.is).type in
           on_receiver-typed p ty r m need a (name_of p c) refers (λ v. call_special p k m s) (λ n.
-          selected-typed p ty r m need a refl e (kind.Class c) (λ b j. refers_fits p ty.linked w (here r) (name_of p c) b a.receiver j refers) (select_special p c (class_named_by k) m)
-          (selected_special p ty.linked c m k (kind.Class c) (current_class r) i (current_class r) h f q g z (instance_itself p ty.linked c (current_class r))))
+            selected-typed p ty r m need a refl e (kind.Class c) (λ b j. refers_fits p ty.linked w (here r) (name_of p c) b a.receiver j refers) (select_special p c (class_named_by k) m)
+              (selected_special p ty.linked c m k (kind.Class c) (current_class r) i (current_class r) h f q g z (instance_itself p ty.linked c (current_class r))))
 
   pub invoke_special : (k : Kind) (m : ℕ) → Ready p w s (form.InvokeSpecial k m) → Row p w (row_calls p (form.InvokeSpecial k m) s)
   unfolding row_calls sides

@@ -1,8 +1,9 @@
 -- What a call leaves of the frame of types, and the values that it gives.
-use Rattle.std.proofs.Common.{◌≡◌, ℕ, ◌≤◌, List, [], ◌∷◌, ◌++◌, length, drop, Bool, true, false, Option, Some, None, refl, sym, ◌∙◌, subst, arith}
+use Rattle.std.proofs.Common.{◌≡◌, ℕ, zero, suc, ◌<◌, ◌≤◌, List, [], ◌∷◌, ◌++◌, length, drop, map, reverse, Bool, true, false, not, ◌&&◌, ◌||◌, nat_eq, Option, Some, None, refl, sym, ◌∙◌, ap, subst, arith, inl, inr}
 use Rattle.std.specs.Prelude.{slice_index_or}
+use Rattle.std.proofs.lemmas.List.{length-append, length-reverse}
 use Rattle.std.specs.Str.{bytes_eq}
-use Rattle.std.proofs.lemmas.Bool.{and_parts, eqb-true, leb-true}
+use Rattle.std.proofs.lemmas.Bool.{cases_Bool, and_parts, eqb-true, leb-true}
 use Rattle.jvm_model.specs.declared.values.Value.{Value}
 use Rattle.jvm_model.specs.declared.values.Value.TheVariants as value
 use Rattle.jvm_model.specs.declared.values.Kind.{Kind}
@@ -13,21 +14,22 @@ use Rattle.jvm_model.specs.declared.program.Program.{Program}
 use Rattle.jvm_model.specs.declared.program.MethodRec.{MethodRec}
 use Rattle.jvm_model.specs.declared.program.Placed.{Placed}
 use Rattle.jvm_model.specs.World.{World}
-use Rattle.jvm_model.specs.Classes.{method_at, init_name, is_below}
+use Rattle.jvm_model.specs.Classes.{method_at, class_at, init_name, is_below}
+use Rattle.jvm_model.specs.Descriptors.{return_type}
 use Rattle.jvm_model.specs.Linked.{Linked, IsClass}
-use Rattle.jvm_model.specs.Narrow.{narrow, narrowed}
+use Rattle.jvm_model.specs.Narrow.{narrow, narrowed, narrow_int}
 use Rattle.type_frames.specs.declared.vtype.VType.{VType}
 use Rattle.type_frames.specs.declared.vtype.VType.TheVariants.{Top, Int, Long, Null, Object, UninitThis, Uninit}
 use Rattle.type_frames.specs.declared.sides.Need.{Need}
 use Rattle.type_frames.specs.declared.sides.Need.TheVariants.{Raw}
 use Rattle.type_frames.specs.declared.sides.Sides.{Sides}
-use Rattle.type_frames.specs.Frames.{Slots, same}
-use Rattle.type_frames.specs.Descriptors.{name_of}
+use Rattle.type_frames.specs.Frames.{Slots, same, places_of, spread}
+use Rattle.type_frames.specs.Descriptors.{types_of, name_of}
 use Rattle.type_frames.specs.Environment.{Environment, made_at}
 use Rattle.type_frames.specs.Sides.{sides, place_of, on_stack, argument_needs, result_types, call_sides, is_that, is_start, started, init_sides, special_sides, special_need, is_raw}
 use Rattle.type_frames.specs.Rules.{meets, meet_all, turned, after}
-use Rattle.type_frames.specs.TypedState.{kind_at, IsInRange, IsInstance, is_class_with, HasType, called_by}
-use Rattle.check_sound.proofs.Held.{Locals, Held, on_top, int_on, long_on, locals_turned, held_turned}
+use Rattle.type_frames.specs.TypedState.{HaveStackTypes, kind_at, IsInRange, IsInstance, is_class_with, HasType, RefersTo, called_by}
+use Rattle.check_sound.proofs.Held.{Is, Locals, Held, on_top, int_on, long_on, locals_turned, held_turned}
 use Rattle.check_sound.proofs.Arrive.{Kept}
 use Rattle.check_sound.proofs.Instances.{instance_itself, below_is}
 use Rattle.check_sound.proofs.Ready.{HasPlain}
@@ -102,7 +104,6 @@ module _ (p : Program) (lk : Linked p) where
     where
       sides_by : Bool → Sides
       sides_by b = elim b as (λ x. Sides) [ true ↦ init_sides p e f m (place_of f (length (argument_needs m.descriptor))) | false ↦ call_sides m (special_need p e k ∷ []) ]
-
       by : (b : Bool) → (elim b as (λ x. Sides) [ true ↦ init_sides p e f m (place_of f (length (argument_needs m.descriptor))) | false ↦ call_sides m (special_need p e k ∷ []) ]).starts_well ≡ true
           → length (elim b as (λ x. Sides) [ true ↦ init_sides p e f m (place_of f (length (argument_needs m.descriptor))) | false ↦ call_sides m (special_need p e k ∷ []) ]).takes ≤ length f.stack
           → meet_all p (elim b as (λ x. Sides) [ true ↦ init_sides p e f m (place_of f (length (argument_needs m.descriptor))) | false ↦ call_sides m (special_need p e k ∷ []) ]).takes f.stack ≡ true
@@ -116,7 +117,6 @@ module _ (p : Program) (lk : Linked p) where
     where
       some_is : {a b : ℕ} → Some a ≡ Some b → a ≡ b
       some_is z = cc
-
       by : (i : Instr) → called_by i ≡ Some m → Kept p e k x f (sides p e x.pc f i) → CallSides p e f (sides p e x.pc f i) (method_at p m)
       by (form.InvokeVirtual t n) c q = subst (λ (y : ℕ). CallSides p e f (sides p e x.pc f (form.InvokeVirtual t n)) (method_at p y)) (some_is c) (plain_call e f (method_at p n) _)
       by (form.InvokeStatic n) c q = subst (λ (y : ℕ). CallSides p e f (sides p e x.pc f (form.InvokeStatic n)) (method_at p y)) (some_is c) (plain_call e f (method_at p n) _)
@@ -124,7 +124,7 @@ module _ (p : Program) (lk : Linked p) where
       by (form.InvokeSpecial t n) c q =
           let z : n ≡ m = some_is c in
           subst (λ (y : ℕ). CallSides p e f (sides p e x.pc f (form.InvokeSpecial t n)) (method_at p y)) z
-          (special_call e f t (method_at p n) (subst (λ (y : ℕ). IsClass p (method_at p y).class) (sym z) h) g q.seven (leb-true _ _ (and_parts _ _ q.one).0) q.two)
+            (special_call e f t (method_at p n) (subst (λ (y : ℕ). IsClass p (method_at p y).class) (sym z) h) g q.seven (leb-true _ _ (and_parts _ _ q.one).0) q.two)
       by _ c q = absurd (cc)
 
 -- ---- results
@@ -193,3 +193,34 @@ push p w e (Uninit k ∷ []) us (v ∷ []) ws r h = absurd r.0
 push p w e (t ∷ []) us [] ws r h = absurd r
 push p w e (t ∷ []) us (v ∷ x ∷ vs) ws r h = absurd r
 push p w e (t ∷ u ∷ ts) us vs ws r h = absurd r
+
+-- there are no more values than places
+pub values_few : (p : Program) (w : World) (e : Environment) (ts : List VType) (vs : List Value) → HaveStackTypes p w e ts vs → length vs ≤ length ts
+values_few p w e ts [] h = omega arith
+values_few p w e (t ∷ ts) (value.Int n ∷ vs) h = let q = values_few p w e ts vs h.1 in omega arith
+values_few p w e (t ∷ ts) (value.Null ∷ vs) h = let q = values_few p w e ts vs h.1 in omega arith
+values_few p w e (t ∷ ts) (value.Lit n ∷ vs) h = let q = values_few p w e ts vs h.1 in omega arith
+values_few p w e (t ∷ ts) (value.Obj n ∷ vs) h = let q = values_few p w e ts vs h.1 in omega arith
+values_few p w e (Top ∷ t ∷ ts) (value.Long n ∷ vs) h = let q = values_few p w e ts vs h.1 in omega arith
+values_few p w e (Top ∷ []) (value.Long n ∷ vs) h = absurd h
+values_few p w e (t ∷ ts) (value.Long n ∷ vs) h = absurd h
+values_few p w e [] (value.Long n ∷ vs) h = absurd h
+values_few p w e [] (value.Int n ∷ vs) h = absurd h
+values_few p w e [] (value.Null ∷ vs) h = absurd h
+values_few p w e [] (value.Lit n ∷ vs) h = absurd h
+values_few p w e [] (value.Obj n ∷ vs) h = absurd h
+
+pub on_stack_length : (ts : List VType) → length ts ≤ length (on_stack ts)
+on_stack_length ts = let a = length-reverse (spread ts) in let b = spread_length ts in omega arith
+  where
+    one : (t : VType) → 1 ≤ length (places_of t)
+    one Long = omega arith
+    one Top = omega arith
+    one Int = omega arith
+    one Null = omega arith
+    one (Object a) = omega arith
+    one UninitThis = omega arith
+    one (Uninit k) = omega arith
+    spread_length : (ts : List VType) → length ts ≤ length (spread ts)
+    spread_length [] = omega arith
+    spread_length (t ∷ ts) = let a = one t in let b = spread_length ts in let c = length-append (places_of t) (spread ts) in omega arith

@@ -1,5 +1,5 @@
 -- The rows of checkcast and instanceof, and athrow's.
-use Rattle.std.proofs.Common.{◌≡◌, ℕ, ◌<◌, List, [], ◌∷◌, get_or, Bool, true, false, not, cond, nat_eq, Some, refl, sym, ◌∙◌, ap, subst, arith}
+use Rattle.std.proofs.Common.{◌≡◌, ℕ, ℤ, ◌<◌, ◌≤◌, List, [], ◌∷◌, get_or, Bool, true, false, not, ◌||◌, cond, nat_eq, pos, Option, Some, None, refl, sym, ◌∙◌, ap, subst, arith}
 use Rattle.jvm_model.specs.declared.values.Value.{Value}
 use Rattle.jvm_model.specs.declared.values.Value.TheVariants as value
 use Rattle.jvm_model.specs.declared.values.Kind.{Kind}
@@ -7,7 +7,7 @@ use Rattle.jvm_model.specs.declared.values.Kind.TheVariants as kind
 use Rattle.jvm_model.specs.declared.instr.Instr.{Instr}
 use Rattle.jvm_model.specs.declared.instr.Instr.TheVariants as form
 use Rattle.jvm_model.specs.declared.program.Program.{Program}
-use Rattle.jvm_model.specs.World.{World}
+use Rattle.jvm_model.specs.World.{World, size}
 use Rattle.jvm_model.specs.Builtin.{builtin_count, object_class, throwable_class, string_class, stream_class, class_cast_exception, null_pointer_exception}
 use Rattle.jvm_model.specs.declared.program.ClassRec.{ClassRec}
 use Rattle.jvm_model.specs.Library.{builtin_defs, builtin_classes}
@@ -17,22 +17,24 @@ use Rattle.jvm_model.proofs.Upwards.{upwards_step, upwards_root}
 use Rattle.type_frames.proofs.AssignLaws.{builtin_plain}
 use Rattle.check_sound.proofs.Instances.{takes_every, instance_below}
 use Rattle.std.proofs.lemmas.Bool.{not-true}
+use Rattle.std.specs.List.{list_all}
 use Rattle.jvm_model.specs.Entries.{Entries}
 use Rattle.jvm_model.specs.Kinds.{kind_fits, class_of}
 use Rattle.jvm_model.specs.Linked.{Linked, IsKind}
 use Rattle.jvm_model.specs.declared.outcome.Next.TheVariants.{Raise}
 use Rattle.jvm_model.specs.Access.{done}
 use Rattle.jvm_model.specs.Rows.{constant_kind, answer, on_object}
-use Rattle.jvm_model.specs.RowsCasts.{cast_to, cast, tested, row_casts}
+use Rattle.jvm_model.specs.RowsCasts.{cast_to, cast, tested_for, tested, row_casts}
 use Rattle.jvm_model.specs.Step.{group_of, casts, row_throw}
-use Rattle.type_frames.specs.declared.vtype.VType.TheVariants.{Object}
+use Rattle.type_frames.specs.declared.vtype.VType.{VType}
+use Rattle.type_frames.specs.declared.vtype.VType.TheVariants.{Top, Int, Long, Null, Object, UninitThis, Uninit}
 use Rattle.type_frames.specs.Descriptors.{name_of, kind_name}
 use Rattle.type_frames.specs.Sides.{sides}
 use Rattle.type_frames.specs.Typing.{IsTyped}
 use Rattle.type_frames.specs.TypedState.{kind_at, IsInstance, RefersTo}
-use Rattle.check_sound.proofs.Tree.{typed_done, typed_known}
+use Rattle.check_sound.proofs.Tree.{Tree, typed_done, typed_known}
 use Rattle.check_sound.proofs.Held.{Is, Held, on_top, int_on}
-use Rattle.check_sound.proofs.Operands.{rest_of, popping-fits, head-typed, choose-typed}
+use Rattle.check_sound.proofs.Operands.{Operands, rest_of, popping-fits, on_object-typed, head-typed, choose-typed}
 use Rattle.check_sound.proofs.Ready.{Ends, Row, Ready, here, rest, operands, on, raised_typed}
 use Rattle.check_sound.proofs.Ends.{fault_typed}
 use Rattle.check_sound.proofs.Thrown.{builtin_is, class_cast_thrown, null_pointer_thrown}

@@ -1,28 +1,36 @@
 -- The rows of new, newarray, anewarray and multianewarray.
-use Rattle.std.proofs.Common.{◌≡◌, ℕ, ℤ, zero, suc, ◌+◌, ◌≤◌, List, [], ◌∷◌, get_or, true, false, pos, negsuc, nat_eq, Option, Some, slice_get, refl, sym, ◌∙◌, ap, subst, arith, inl, inr}
+use Rattle.std.proofs.Common.{◌≡◌, ℕ, ℤ, zero, suc, ◌+◌, ◌-◌, ◌<◌, ◌≤◌, List, [], ◌∷◌, ◌++◌, length, drop, get_or, map, replicate, Bool, true, false, ◌||◌, cond, pos, negsuc, nat_eq, Option, Some, None, slice_get, refl, sym, ◌∙◌, ap, subst, arith, inl, inr}
 use Rattle.std.specs.List.{position_from}
 use Rattle.std.proofs.lemmas.Bool.{cases_Bool, eqb-true, eq-eqb}
 use Rattle.jvm_model.specs.declared.values.Value.{Value}
 use Rattle.jvm_model.specs.declared.values.Value.TheVariants as value
 use Rattle.jvm_model.specs.declared.values.Kind.{Kind}
 use Rattle.jvm_model.specs.declared.values.Kind.TheVariants as kind
+use Rattle.jvm_model.specs.declared.values.Base.{Base}
+use Rattle.jvm_model.specs.declared.values.Base.TheVariants as base
 use Rattle.jvm_model.specs.declared.values.Head.{Head}
 use Rattle.jvm_model.specs.declared.values.Location.TheVariants as place
+use Rattle.jvm_model.specs.declared.instr.Instr.{Instr}
 use Rattle.jvm_model.specs.declared.instr.Instr.TheVariants as form
+use Rattle.jvm_model.specs.declared.outcome.Next.TheVariants.{Fault}
 use Rattle.jvm_model.specs.declared.program.Program.{Program}
 use Rattle.jvm_model.specs.declared.program.Placed.{Placed}
 use Rattle.jvm_model.specs.World.{World, size, make_object}
 use Rattle.jvm_model.specs.World.{Object as Made}
+use Rattle.jvm_model.specs.Access.{Access}
 use Rattle.jvm_model.specs.Builtin.{instantiation_error, negative_size_exception}
-use Rattle.jvm_model.specs.Classes.{blank, instance_head}
+use Rattle.jvm_model.specs.Classes.{blank, instance_head, method_at}
 use Rattle.jvm_model.specs.Entries.{Entries}
-use Rattle.jvm_model.specs.Linked.{IsKind, IsArray, Ascends}
+use Rattle.jvm_model.specs.Linked.{Linked, IsClass, IsKind, IsArray, Ascends, IsBody}
+use Rattle.jvm_model.specs.Rows.{using}
 use Rattle.jvm_model.specs.RowsCreate.{new_object, is_bare, array_head, new_array, row_create}
+use Rattle.jvm_model.specs.Step.{group_of, create}
 use Rattle.std.proofs.lemmas.Option.{slice_get_within, get_or_from_slice_get}
 use Rattle.jvm_model.proofs.Places.{places_from}
 use Rattle.check_sound.proofs.KindNames.{kind_itself}
 use Rattle.jvm_model.proofs.Locations.{at_make_new, size_make}
-use Rattle.type_frames.specs.declared.vtype.VType.TheVariants.{Top, Int, Object, Uninit}
+use Rattle.type_frames.specs.declared.vtype.VType.{VType}
+use Rattle.type_frames.specs.declared.vtype.VType.TheVariants.{Top, Int, Long, Null, Object, UninitThis, Uninit}
 use Rattle.type_frames.specs.Frames.{index_of}
 use Rattle.type_frames.specs.Given.{places}
 use Rattle.type_frames.specs.Environment.{Environment, found_at, class_made, made_at}
@@ -30,11 +38,11 @@ use Rattle.type_frames.specs.Descriptors.{kind_name}
 use Rattle.type_frames.specs.Sides.{sides, is_that}
 use Rattle.type_frames.specs.Typing.{IsTyped}
 use Rattle.type_frames.specs.TypedState.{kind_at, IsInstance, is_class_with, HasType}
-use Rattle.check_sound.proofs.Tree.{typed_done, typed_make, typed_spend}
-use Rattle.check_sound.proofs.Held.{Is, Held, on_top, locals_over, held_over, locals_turned, held_turned}
+use Rattle.check_sound.proofs.Tree.{Tree, typed_done, typed_make, typed_spend}
+use Rattle.check_sound.proofs.Held.{Is, Locals, Held, on_top, locals_over, held_over, locals_turned, held_turned}
 use Rattle.check_sound.proofs.Arrive.{is_body}
-use Rattle.check_sound.proofs.Operands.{rest_of, popping-fits, on_int-typed, choose-typed}
-use Rattle.check_sound.proofs.Ready.{Ends, Row, Ready, here, rest, operands, on, names_form}
+use Rattle.check_sound.proofs.Operands.{Operands, rest_of, popping-fits, on_int-typed, choose-typed}
+use Rattle.check_sound.proofs.Ready.{Ends, Row, Ready, here, then, rest, operands, on, names_form}
 use Rattle.check_sound.proofs.Onward.{grows_make, ready_grows}
 use Rattle.check_sound.proofs.Ends.{fault_typed, using-typed, new_kind}
 use Rattle.check_sound.proofs.Thrown.{instantiation_thrown, negative_size_thrown}
@@ -55,7 +63,7 @@ first_place n i (y ∷ ys) (suc k) x a e =
     rw ne (first_place (y.pc + 1) (i + 1) ys k x a.1 e ∙ ap {B = Option ℕ} (λ j. Some j) (omega arith))
   where
     differ : (a b : ℕ) → a + 1 ≤ b → nat_eq a b ≡ false
-    differ a b h = elim (cases_Bool (nat_eq a b)) [ inl q ↦ absurd (let z = eqb-true a b q in omega arith) | inr q ↦ q ]
+    differ a b h = elim (cases_Bool (nat_eq a b)) [ | inl q ↦ absurd (let z = eqb-true a b q in omega arith) | inr q ↦ q ]
 
 module _ (p : Program) (ty : IsTyped p) where
   -- a new object of a kind
@@ -77,9 +85,9 @@ module _ (p : Program) (ty : IsTyped p) {w : World} {s : Entries} where
   -- what was made, uninitialised
   new_type : (c : ℕ) (r : Ready p w s (form.New c)) (x : Made) → x.head.kind ≡ kind.Class c → HasType p (make_object w x) (here r) (Uninit s.top.pc) (value.Obj (size w))
   new_type c r x e = (
-    (let z = size_make w x in omega arith),
-    subst (λ (k : Kind). is_class_with (λ d. is_that d (made_at (here r) s.top.pc)) k ≡ true) (sym (new_kind p w c x e))
-        (subst (λ (o : Option ℕ). is_that c o ≡ true) (sym (made_here c r)) (eq-eqb c c refl)),
+      (let z = size_make w x in omega arith),
+      subst (λ (k : Kind). is_class_with (λ d. is_that d (made_at (here r) s.top.pc)) k ≡ true) (sym (new_kind p w c x e))
+          (subst (λ (o : Option ℕ). is_that c o ≡ true) (sym (made_here c r)) (eq-eqb c c refl)),
   )
 
   new_object-typed : (c : ℕ) → Ready p w s (form.New c) → Row p w (new_object p c s)
@@ -90,8 +98,8 @@ module _ (p : Program) (ty : IsTyped p) {w : World} {s : Entries} where
       let g = ready_grows (grows_make p w x) r in
       let i = new_type c r x refl in
       typed_spend (typed_make (blank_new p ty w (instance_head c) (names_form p ty r)) (on p ty g refl
-      (locals_turned p v (here r) (Uninit s.top.pc) Top (λ v h. tt) g.locals)
-      (on_top tt (record { type = i; range = i.0 }) (held_turned p v (here r) (Uninit s.top.pc) Top (λ v h. tt) refl g.stack))))
+        (locals_turned p v (here r) (Uninit s.top.pc) Top (λ v h. tt) g.locals)
+        (on_top tt (record { type = i; range = i.0 }) (held_turned p v (here r) (Uninit s.top.pc) Top (λ v h. tt) refl g.stack))))
 
   pub new : (c : ℕ) → Ready p w s (form.New c) → Row p w (row_create p (form.New c) s)
   unfolding row_create
@@ -107,7 +115,7 @@ module _ (p : Program) (ty : IsTyped p) {w : World} {s : Entries} where
       let x = blank p (array_head k n) in
       let g = grows_make p w x in
       typed_spend (typed_make (blank_new p ty w (array_head k n) h) (on p ty (ready_grows g r) refl (locals_over g.over r.locals)
-      (on_top tt (made_type p ty w k x (here r) h refl) (held_over g.over i))))
+        (on_top tt (made_type p ty w k x (here r) h refl) (held_over g.over i))))
   sized_array k r vs h i (negsuc n) = typed_done (fault_typed p ty r negative_size_exception vs (negative_size_thrown p ty.linked) i.range)
 
   pub new_array-typed : (k : Kind) → Ready p w s (form.NewArray k) → Row p w (row_create p (form.NewArray k) s)
@@ -118,3 +126,4 @@ module _ (p : Program) (ty : IsTyped p) {w : World} {s : Entries} where
       array_kind : (k : Kind) → IsArray p k → IsKind p k
       array_kind (kind.Array d b) h = h
       array_kind (kind.Class c) h = absurd h
+

@@ -1,6 +1,6 @@
 -- Values of a declared type: as operands, and as what is stored of an operand.
-use Rattle.std.proofs.Common.{◌≡◌, ℕ, ℤ, pos, negsuc, ◌<◌, ◌≤◌, ◌-◌, ◌%◌, List, [], ◌∷◌, ◌++◌, Bool, true, false, ◌&&◌, nat_eq, Option, Some, None, refl, sym, subst, arith, inl, inr, append-nil}
-use Rattle.std.specs.Prelude.{FitsSigned, int_le, int_lt}
+use Rattle.std.proofs.Common.{◌≡◌, ℕ, ℤ, pos, negsuc, suc, ◌<◌, ◌≤◌, ◌-◌, ◌%◌, List, [], ◌∷◌, ◌++◌, Bool, true, false, ◌&&◌, ◌||◌, cond, nat_eq, Option, Some, None, refl, sym, ◌∙◌, ap, subst, arith, inl, inr, append-nil}
+use Rattle.std.specs.Prelude.{FitsSigned, int_le, int_lt, flat_map}
 use Rattle.std.proofs.lemmas.Bool.{cases_Bool, or_cases, and_from, eqb-true, lt-ltb, le-leb}
 use Rattle.std.specs.Int.{w8, w16, int_wrap, int_rem_euclid}
 use Rattle.std.proofs.lemmas.Int.{ints, SFits-int_wrap}
@@ -11,13 +11,14 @@ use Rattle.jvm_model.specs.declared.values.Value.TheVariants as value
 use Rattle.jvm_model.specs.declared.program.Program.{Program}
 use Rattle.jvm_model.specs.World.{World}
 use Rattle.jvm_model.specs.Access.{Access}
-use Rattle.jvm_model.specs.Classes.{member}
+use Rattle.jvm_model.specs.Classes.{field_at, member}
 use Rattle.jvm_model.specs.Narrow.{narrow_int, narrow, narrowed}
 use Rattle.jvm_model.specs.Rows.{Answer, popping}
-use Rattle.jvm_model.specs.Linked.{fits_int}
+use Rattle.jvm_model.specs.Linked.{Linked, IsField, first_or, fits_int}
 use Rattle.type_frames.specs.declared.vtype.VType.{VType}
 use Rattle.type_frames.specs.declared.vtype.VType.TheVariants.{Top, Int, Long, Null, Object, UninitThis, Uninit}
 use Rattle.type_frames.specs.declared.sides.Need.{Need}
+use Rattle.type_frames.specs.declared.sides.Need.TheVariants.{Fits, Half, Never}
 use Rattle.type_frames.specs.Environment.{Environment}
 use Rattle.type_frames.specs.Descriptors.{types_of, class_name}
 use Rattle.type_frames.specs.Sides.{needs_of}
@@ -25,7 +26,7 @@ use Rattle.type_frames.specs.Typing.{IsTyped}
 use Rattle.type_frames.specs.TypedState.{IsInRange, RefersTo, IsReferenceOf, IsDeclared}
 use Rattle.check_sound.proofs.Tree.{Tree}
 use Rattle.check_sound.proofs.ParameterTexts.{one_type}
-use Rattle.check_sound.proofs.Operands.{Operands}
+use Rattle.check_sound.proofs.Operands.{Operands, none_there}
 use Rattle.check_sound.proofs.Ready.{HasPlain}
 use Rattle.check_sound.proofs.CallSides.{Result}
 use Rattle.check_sound.proofs.ParameterTexts.{IsText}

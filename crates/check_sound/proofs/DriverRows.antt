@@ -1,12 +1,13 @@
 -- Steps of the driver: a class is used, the test's object is made, a method is called, and the test is judged.
-use Rattle.std.proofs.Common.{◌≡◌, ℕ, ◌-◌, ◌<◌, List, [], ◌∷◌, ◌++◌, length, Bool, true, false, not, ◌&&◌, cond, nat_eq, Option, Some, None, IfSome, IsSome, refl, sym, ◌∙◌, ap, subst, arith}
-use Rattle.std.specs.Prelude.{flat_map}
+use Rattle.std.proofs.Common.{◌≡◌, ℕ, zero, suc, ◌+◌, ◌-◌, ◌<◌, ◌≤◌, List, [], ◌∷◌, ◌++◌, length, get_or, reverse, Bool, true, false, not, ◌&&◌, ◌||◌, cond, nat_eq, nat_le, Option, Some, None, IfSome, IsSome, All, refl, sym, ◌∙◌, ap, subst, arith, inl, inr}
+use Rattle.std.specs.Prelude.{flat_map, find}
 use Rattle.std.specs.List.{IsDistinct}
 use Rattle.std.specs.Str.{bytes_eq}
-use Rattle.std.proofs.lemmas.Bool.{or_left, or_right, eq-eqb}
+use Rattle.std.proofs.lemmas.Bool.{cases_Bool, and_parts, or_left, or_right, eq-eqb}
 use Rattle.jvm_model.specs.declared.values.Value.{Value}
 use Rattle.jvm_model.specs.declared.values.Value.TheVariants as value
 use Rattle.jvm_model.specs.declared.values.Kind.{Kind}
+use Rattle.jvm_model.specs.declared.values.Kind.TheVariants as kind
 use Rattle.jvm_model.specs.declared.values.Head.{Head}
 use Rattle.jvm_model.specs.declared.values.InitState.{InitState}
 use Rattle.jvm_model.specs.declared.values.InitState.TheVariants.{Idle, Running, Done, Erroneous}
@@ -17,42 +18,45 @@ use Rattle.jvm_model.specs.declared.state.Stage.{Stage}
 use Rattle.jvm_model.specs.declared.state.Stage.TheVariants.{First, Made, Built, SetUp, Called, Last}
 use Rattle.jvm_model.specs.declared.outcome.Verdict.{Verdict}
 use Rattle.jvm_model.specs.declared.program.Program.{Program}
+use Rattle.jvm_model.specs.declared.program.MethodRec.{MethodRec}
 use Rattle.jvm_model.specs.declared.program.TestEntry.{TestEntry}
 use Rattle.jvm_model.specs.declared.program.Body.{Body}
-use Rattle.jvm_model.specs.World.{World, put, make_object}
-use Rattle.jvm_model.specs.Access.{Access, done, read, write, bind}
+use Rattle.jvm_model.specs.World.{World, size, at, put, make_object}
+use Rattle.jvm_model.specs.Access.{Access, done, read, write, make, spend, bind}
 use Rattle.jvm_model.specs.Builtin.{throwable_class, message_field, assertion_error, stack_overflow_error, no_class_error, abstract_method_error}
-use Rattle.jvm_model.specs.Classes.{class_at, method_at, is_static, is_below, is_trivial, init_name, upwards, member, blank, instance_head, literal_at}
+use Rattle.jvm_model.specs.Classes.{class_at, method_at, field_at, is_static, is_below, is_trivial, init_name, upwards, member, layout, blank, instance_head, literal_at}
 use Rattle.jvm_model.specs.Descriptors.{parameters}
-use Rattle.jvm_model.specs.Driver.{no_arguments, set_up_name, tear_down_name, plain_method_in, plain_method_of, driven, drives, once_driven, makes, drive_first, drive_init, drive_method, drive_set_up, drive_tear_down, judged, judged_message, judge, drive_at, drive}
-use Rattle.jvm_model.specs.Entries.{Entry, all_entries, is_full, class_entry, with_entry, frame_of}
+use Rattle.jvm_model.specs.Driver.{no_arguments, set_up_name, tear_down_name, plain_method_in, plain_method_of, driven, drives, once_driven, makes, drive_first, drive_init, drive_method, drive_set_up, drive_tear_down, judged, judged_text, judged_message, judged_value, judge, drive_at, drive}
+use Rattle.jvm_model.specs.Entries.{Entry, Entries, all_entries, is_full, entry_limit, class_entry, with_entry, frame_of, frame_cost, slots_of}
 use Rattle.jvm_model.specs.Kinds.{class_of}
-use Rattle.jvm_model.specs.Linked.{IsClass, IsMethod, IsKind, IsTest}
-use Rattle.jvm_model.specs.Lookup.{is_method}
-use Rattle.jvm_model.specs.Rows.{ready, begun, refused, begun_at, begin}
-use Rattle.jvm_model.specs.State.{State, Turn, ended, no_turn, no_test, test_at}
+use Rattle.jvm_model.specs.Linked.{Linked, IsClass, IsMethod, IsKind, IsTest, test_method}
+use Rattle.jvm_model.specs.Lookup.{is_method, find_declared}
+use Rattle.jvm_model.specs.Rows.{Used, ready, begun, refused, begun_at, begin}
+use Rattle.jvm_model.specs.State.{State, Turn, next, ended, no_turn, no_test, test_at, with_entries}
+use Rattle.jvm_model.specs.Throwing.{throws}
 use Rattle.jvm_model.proofs.Locations.{at_put_same, size_make}
-use Rattle.jvm_model.proofs.Upwards.{below_same}
+use Rattle.jvm_model.proofs.Upwards.{below_same, member_class}
 use Rattle.type_frames.specs.declared.vtype.VType.{VType}
 use Rattle.type_frames.specs.declared.vtype.VType.TheVariants.{UninitThis, Object}
 use Rattle.type_frames.specs.Frames.{spread}
 use Rattle.type_frames.specs.Descriptors.{types_of, name_of}
-use Rattle.type_frames.specs.Given.{is_constructor}
+use Rattle.type_frames.specs.Given.{is_constructor, this_types, entry_types}
+use Rattle.type_frames.specs.Environment.{Environment}
 use Rattle.type_frames.specs.Typing.{IsTyped}
-use Rattle.type_frames.specs.TypedState.{kind_at, IsInstance, is_class_with, RefersTo, HaveTypes, Goes, IsTop, IsBelow, AllBelow, IsThrowable, IsOfClass, HasObject, HasStage}
+use Rattle.type_frames.specs.TypedState.{kind_at, IsInstance, is_class_with, RefersTo, HasType, HaveTypes, Goes, Initialises, IsTop, IsBelow, AllBelow, class_begun, IsThrowable, IsOfClass, HasObject, HasStage, IsDeclared}
 use Rattle.type_frames.proofs.Units.{units_true}
-use Rattle.check_sound.proofs.Tree.{IsSpot, typed_done, typed_read, typed_mark, typed_make, typed_spend, Over}
+use Rattle.check_sound.proofs.Tree.{IsSpot, head_at, Tree, typed_done, typed_read, typed_mark, typed_make, typed_spend, Over}
 use Rattle.check_sound.proofs.Grow.{Ranged, throwable_over}
-use Rattle.check_sound.proofs.Ready.{TypedEntries, Rest, closed}
+use Rattle.check_sound.proofs.Ready.{TypedEntries, Rest, closed, Grows}
 use Rattle.check_sound.proofs.Onward.{grows_make, grows_begin, entries_grow}
 use Rattle.check_sound.proofs.RaiseRows.{throwable_instance}
-use Rattle.check_sound.proofs.Thrown.{abstract_thrown, overflow_thrown, no_class_thrown}
+use Rattle.check_sound.proofs.Thrown.{builtin_is, abstract_thrown, overflow_thrown, no_class_thrown}
 use Rattle.check_sound.proofs.Blank.{blank_new}
 use Rattle.check_sound.proofs.Instances.{below_is}
-use Rattle.check_sound.proofs.Ends.{Local, TurnsTo, Step, tested, throws-typed, new_kind, stage_over}
-use Rattle.check_sound.proofs.Arguments.{EntersWith, entered_frame}
+use Rattle.check_sound.proofs.Ends.{Local, TurnsTo, Step, Tested, tested, throws-typed, new_kind, stage_over}
+use Rattle.check_sound.proofs.Arguments.{EntersWith, EnteredFrame, entered_frame}
 use Rattle.check_sound.proofs.CallRows.{this_type, this_is}
-use Rattle.check_sound.proofs.SelectLaws.{found, declares, of_classes, first_of}
+use Rattle.check_sound.proofs.SelectLaws.{Found, found, Declares, declares, OfClasses, of_classes, first_of}
 use Rattle.check_sound.proofs.LibraryTypes.{string_name, message_spot, message_got}
 
 -- ---- no entry stands
@@ -91,10 +95,8 @@ plain_in p name (x ∷ ms) m e = by (is_static (method_at p x).flags) (bytes_eq 
   where
     some_is : {a b : ℕ} → Some a ≡ Some b → a ≡ b
     some_is z = cc
-
     more : (plain_method_in p name ms ≡ Some m → (member m ms ≡ true) × PlainMethod p name m) → plain_method_in p name ms ≡ Some m → (member m (x ∷ ms) ≡ true) × PlainMethod p name m
     more k e = let r = k e in (or_right (nat_eq m x) (member m ms) r.0, r.1)
-
     by : (a b c : Bool) → is_static (method_at p x).flags ≡ a → bytes_eq (method_at p x).descriptor no_arguments ≡ c → cond (not a && (b && c)) (Some x) (plain_method_in p name ms) ≡ Some m
         → (plain_method_in p name ms ≡ Some m → (member m ms ≡ true) × PlainMethod p name m) → (member m (x ∷ ms) ≡ true) × PlainMethod p name m
     by false true true q d e k =
@@ -130,7 +132,7 @@ module _ (p : Program) (ty : IsTyped p) (w : World) where
   unfolding parameters
   enters_static m f d e c = subst (λ (ts : List VType). HaveTypes p w e (spread ts) [])
       (sym (ap (λ (x : Bool). elim x as (λ z. List VType) [ true ↦ [] | false ↦ elim (is_constructor (method_at p m)) as (λ z. List VType) [ true ↦ UninitThis ∷ [] | false ↦ Object (name_of p (method_at p m).class) ∷ [] ] ] ++ flat_map types_of (parameters (method_at p m).descriptor)) f
-      ∙ ap (λ (x : List ℕ). flat_map types_of (parameters x)) d)) tt
+        ∙ ap (λ (x : List ℕ). flat_map types_of (parameters x)) d)) tt
 
   -- one of an instance without arguments, on an object of a class below its own
   enters_object : (m o c : ℕ) → is_static (method_at p m).flags ≡ false → (method_at p m).descriptor ≡ no_arguments → IsOfClass w c o → is_below p c (method_at p m).class ≡ true → IsClass p (method_at p m).class → EntersWith p w m (value.Obj o ∷ [])
@@ -149,14 +151,14 @@ module _ (p : Program) (ty : IsTyped p) {w : World} (s : State) (h : Local p w s
 
   -- the entries, whatever is raised
   whatever : (x : Option Value) → TypedEntries p w x s.entries
-  whatever x = record { references = h.entries.references; few = h.entries.few; top = subst (λ (y : EntryKind). IsTop p w x y s.entries.top) (sym k) tt; below = h.entries.below; one_each = h.entries.one_each }
+  whatever x = record { references = h.entries.references; few = h.entries.few; alone = h.entries.alone; top = subst (λ (y : EntryKind). IsTop p w x y s.entries.top) (sym k) tt; below = h.entries.below; one_each = h.entries.one_each }
 
   -- a method is called
   frame_typed : (m : ℕ) (b : Body) (vs : List Value) → (method_at p m).body ≡ Some b → EntersWith p w m vs → Ranged p w vs → TypedEntries p w s.raised (with_entry (frame_of b m vs) s.entries)
   frame_typed m b vs hb e g =
       let f = entered_frame p ty w m b vs hb e g in
       subst (λ (fs : List Entry). TypedEntries p w s.raised (record { top = frame_of b m vs; below = fs })) (sym nothing)
-      (closed s.raised (frame_of b m vs) tt (goes_or_stands p w (frame_of b m vs) f.goes s.raised) tt f.range (empty_rest p w m))
+        (closed s.raised (frame_of b m vs) tt (goes_or_stands p w (frame_of b m vs) f.goes s.raised) tt f.range (empty_rest p w m))
 
   drives-typed : (m : ℕ) (vs : List Value) (after : Stage) → EntersWith p w m vs → Ranged p w vs → HasStage p w (test_at p s.test) after → Step p w (drives p m vs after s)
   unfolding drives
@@ -179,17 +181,15 @@ module _ (p : Program) (ty : IsTyped p) {w : World} (s : State) (h : Local p w s
           typed_mark i (typed_done (record {
             test = h.test;
             entries = subst (λ (fs : List Entry). TypedEntries p v None (record { top = class_entry c; below = fs })) (sym nothing)
-                (closed None (class_entry c) tt (record { not_trivial = n; running = at_put_same w (place.Init c) Running refl }) tt tt (class_rest p v c));
+              (closed None (class_entry c) tt (record { not_trivial = n; running = at_put_same w (place.Init c) Running refl }) tt tt (class_rest p v c));
             raised = tt;
             stage = stage_over p w v g.over (test_at p s.test) s.stage h.stage;
           }))
-
       looks : (x : InitState) → is_trivial p c ≡ false → Step p w (bind (begun_at c s.entries x) (once_driven p s t))
       looks Idle n = full (is_full s.entries) n
       looks Running n = f
       looks Done n = f
       looks Erroneous n = throws-typed p ty no_class_error s (no_class_thrown p ty.linked) (whatever (Some value.Null)) (tested h)
-
       either : (b : Bool) → is_trivial p c ≡ b → Step p w (bind (cond b (done ready) (read (place.Init c) (begun_at c s.entries))) (once_driven p s t))
       either true q = f
       either false q = typed_read i (λ x e. looks x q)
@@ -307,7 +307,6 @@ module _ (p : Program) (ty : IsTyped p) {w : World} (s : State) (h : Local p w s
     where
       instance_of : (x : Kind) → IsKind p x → is_below p (class_of x) throwable_class ≡ true → IsInstance p x (name_of p throwable_class)
       instance_of x j b = throwable_instance p ty x j b
-
       message_at : (o : ℕ) → IsThrowable p w (value.Obj o) → IsKind p (kind_at w o) → IsSpot p w (place.Field o message_field)
       message_at o i j = message_spot p ty.linked w o i.0 j (instance_of (kind_at w o) j i.1)
 

@@ -1,5 +1,5 @@
 -- How a step ends: after its row, after a class is used, and where it throws by itself.
-use Rattle.std.proofs.Common.{◌≡◌, ℕ, ◌<◌, ◌≤◌, List, length, Bool, true, false, cond, Option, Some, None, IfSome, refl, sym, ◌∙◌, ap, subst, arith}
+use Rattle.std.proofs.Common.{◌≡◌, ℕ, ◌<◌, ◌≤◌, List, [], ◌∷◌, length, Bool, true, false, cond, Option, Some, None, IfSome, refl, sym, ◌∙◌, ap, subst, arith}
 use Rattle.jvm_model.specs.declared.values.Value.{Value}
 use Rattle.jvm_model.specs.declared.values.Value.TheVariants as value
 use Rattle.jvm_model.specs.declared.values.Kind.{Kind}
@@ -16,21 +16,21 @@ use Rattle.jvm_model.specs.declared.instr.Instr.{Instr}
 use Rattle.jvm_model.specs.declared.outcome.Next.TheVariants as step
 use Rattle.jvm_model.specs.declared.program.Program.{Program}
 use Rattle.jvm_model.specs.declared.program.TestEntry.{TestEntry}
-use Rattle.jvm_model.specs.World.{Object, World, size, at, make_object}
+use Rattle.jvm_model.specs.World.{Object, World, size, at, put, make_object}
 use Rattle.jvm_model.specs.Access.{Access, done, read, write, bind}
 use Rattle.jvm_model.specs.Builtin.{throwable_class, stack_overflow_error, no_class_error}
 use Rattle.jvm_model.specs.Classes.{blank, instance_head, is_trivial, is_below}
 use Rattle.jvm_model.specs.Kinds.{class_of}
-use Rattle.jvm_model.specs.Entries.{Entries, is_full, with_entry, class_entry, with_stack}
-use Rattle.jvm_model.specs.Rows.{Answer, answer, ready, begun, refused, begun_at, begin, once, using}
+use Rattle.jvm_model.specs.Entries.{Entry, Entries, is_full, with_entry, class_entry, with_stack}
+use Rattle.jvm_model.specs.Rows.{Answer, answer, no_row, Used, ready, begun, refused, begun_at, begin, once, using, faults}
 use Rattle.jvm_model.specs.State.{State, Turn, next, ended, no_turn, test_at, or_first, thrown_at, raise, raised_in, with_entries}
 use Rattle.jvm_model.specs.Throwing.{throws}
 use Rattle.jvm_model.proofs.Locations.{at_make_new, size_make}
 use Rattle.type_frames.specs.Typing.{IsTyped}
-use Rattle.type_frames.specs.TypedState.{kind_at, IsTop, IsThrowable, HasObject, HasStage}
-use Rattle.check_sound.proofs.Tree.{Tree, typed_done, typed_read, typed_mark, typed_make, typed_spend, Over}
+use Rattle.type_frames.specs.TypedState.{kind_at, Goes, IsTop, AllBelow, IsThrowable, HasObject, HasStage, IsOfClass}
+use Rattle.check_sound.proofs.Tree.{head_at, Tree, typed_done, typed_read, typed_write, typed_mark, typed_make, typed_spend, Over}
 use Rattle.check_sound.proofs.Grow.{Ranged, throwable_over, kind_over}
-use Rattle.check_sound.proofs.Ready.{TypedEntries, IsThrown, Ends, Row, Ready, again_typed, raised_typed, any_raised}
+use Rattle.check_sound.proofs.Ready.{TypedEntries, Grows, IsThrown, Ends, Row, Ready, frame, standing, again_typed, raised_typed, any_raised}
 use Rattle.check_sound.proofs.Onward.{grows_make, entries_grow, begun_typed}
 use Rattle.check_sound.proofs.Thrown.{overflow_thrown, no_class_thrown}
 use Rattle.check_sound.proofs.Blank.{blank_new}
@@ -97,12 +97,8 @@ module _ (p : Program) (w : World) where
   raise_typed v s h t q = by s.entries.top.kind refl
     where
       by : (k : EntryKind) → s.entries.top.kind ≡ k → Local p w (raised_in k v s)
-      by Absent e = record {
-        test = q.test;
-        raised = tt;
-        stage = thrown_stage (test_at p s.test) s.stage v q.stage h;
-        entries = record { references = t.references; few = t.few; top = subst (λ (k : EntryKind). IsTop p w None k s.entries.top) (sym e) tt; below = t.below; one_each = t.one_each };
-      }
+      by Absent e = record { test = q.test; raised = tt; stage = thrown_stage (test_at p s.test) s.stage v q.stage h;
+        entries = record { references = t.references; few = t.few; alone = t.alone; top = subst (λ (k : EntryKind). IsTop p w None k s.entries.top) (sym e) tt; below = t.below; one_each = t.one_each } }
       by InMethod e = record { test = q.test; raised = h; stage = q.stage; entries = t }
       by (InClass b) e = record { test = q.test; raised = h; stage = q.stage; entries = t }
 
@@ -123,8 +119,8 @@ module _ (p : Program) (ty : IsTyped p) where
       let g = grows_make p w x in
       let o = value.Obj (size w) in
       typed_spend (typed_make (blank_new p ty w (instance_head c) i.0) (typed_done (raise_typed p v o s
-      ((let e = size_make w x in omega arith), subst (λ (k : Kind). is_below p (class_of k) throwable_class ≡ true) (sym (new_kind p w c x refl)) i.1)
-      (any_raised p v value.Null o s.entries (entries_grow (Some value.Null) s.entries g t)) (tested_over p w v g.over s q))))
+        ((let e = size_make w x in omega arith), subst (λ (k : Kind). is_below p (class_of k) throwable_class ≡ true) (sym (new_kind p w c x refl)) i.1)
+        (any_raised p v value.Null o s.entries (entries_grow (Some value.Null) s.entries g t)) (tested_over p w v g.over s q))))
 
   module _ {w : World} {s : Entries} {i : Instr} (r : Ready p w s i) where
     pub fault_typed : (c : ℕ) (vs : List Value) → IsThrown p c → Ranged p w vs → Ends p w (answer (step.Fault c) (with_stack s vs))
@@ -138,13 +134,11 @@ module _ (p : Program) (ty : IsTyped p) where
         full : (b : Bool) → is_full s ≡ b → is_trivial p c ≡ false → at w (place.Init c) ≡ Idle → Row p w (bind (cond b (done (refused stack_overflow_error)) (write (place.Init c) Running (done (begun (with_entry (class_entry c) s))))) (once s k))
         full true b n q = typed_done (fault_typed stack_overflow_error s.top.stack (overflow_thrown p ty.linked) r.stack.range)
         full false b n q = typed_mark h (typed_done (begun_typed ty r c (again_typed p ty r) b n q h))
-
         looks : (x : InitState) → x ≡ at w (place.Init c) → is_trivial p c ≡ false → Row p w (bind (begun_at c s x) (once s k))
         looks Idle q n = full (is_full s) refl n (sym q)
         looks Running q n = f
         looks Done q n = f
         looks Erroneous q n = typed_done (fault_typed no_class_error s.top.stack (no_class_thrown p ty.linked) r.stack.range)
-
         either : (b : Bool) → is_trivial p c ≡ b → Row p w (bind (cond b (done ready) (read (place.Init c) (begun_at c s))) (once s k))
         either true q = f
         either false q = typed_read h (λ x e. looks x e q)

@@ -1,7 +1,8 @@
 -- The rows of getfield and putfield. An instance of the class that is named has the field, and no constant is one.
-use Rattle.std.proofs.Common.{◌≡◌, ◌≢◌, ◌⊎◌, ℕ, zero, suc, ◌<◌, ◌≤◌, List, [], ◌∷◌, length, filter, get_or, Bool, true, false, not, ◌&&◌, ◌||◌, cond, nat_eq, Option, Some, None, IfSome, refl, sym, ◌∙◌, ap, subst, arith, inl, inr}
+use Rattle.std.proofs.Common.{◌≡◌, ◌≢◌, ◌⊎◌, ℕ, zero, suc, ◌<◌, ◌≤◌, List, [], ◌∷◌, ◌++◌, length, filter, get_or, Bool, true, false, not, ◌&&◌, ◌||◌, cond, nat_eq, Option, Some, None, IfSome, refl, sym, ◌∙◌, ap, subst, arith, inl, inr, append-nil}
 use Rattle.std.specs.Prelude.{flat_map}
-use Rattle.std.proofs.lemmas.Bool.{cases_lt, and_parts, or_cases, or_left, or_right, eqb-true}
+use Rattle.std.specs.List.{find}
+use Rattle.std.proofs.lemmas.Bool.{cases_Bool, cases_lt, and_parts, or_cases, or_left, or_right, eqb-true, eq-eqb}
 use Rattle.std.proofs.lemmas.List.Folds.{list_any-append}
 use Rattle.jvm_model.specs.declared.values.Value.{Value}
 use Rattle.jvm_model.specs.declared.values.Value.TheVariants as value
@@ -15,7 +16,7 @@ use Rattle.jvm_model.specs.World.{World, size}
 use Rattle.jvm_model.specs.Entries.{Entries, with_stack}
 use Rattle.jvm_model.specs.Builtin.{object_class, string_class, stream_class, builtin_count, null_pointer_exception}
 use Rattle.jvm_model.specs.Library.{builtin_defs, builtin_classes}
-use Rattle.jvm_model.specs.Classes.{no_class, class_at, field_at, member, is_static, is_below, upwards, class_bound, plain_fields, layout_in, layout}
+use Rattle.jvm_model.specs.Classes.{no_class, class_at, field_at, member, is_static, is_interface, is_below, upwards, upwards_in, class_bound, plain_fields, layout_in, layout}
 use Rattle.jvm_model.specs.Lookup.{is_field, field_path_in, field_path, find_field}
 use Rattle.jvm_model.specs.Rows.{Answer, constant_kind, on_object, goes_on, popping, answer}
 use Rattle.jvm_model.specs.RowsFields.{row_fields}
@@ -25,21 +26,23 @@ use Rattle.jvm_model.specs.declared.outcome.Next.TheVariants.{Fault}
 use Rattle.check_sound.proofs.Arguments.{Argument}
 use Rattle.jvm_model.specs.Linked.{Linked, IsClass, count, IsField, IsKind, IsPlainField, IsFoundField, is_interface_at}
 use Rattle.jvm_model.proofs.Interfaces.{member-flat_map}
-use Rattle.jvm_model.proofs.BuiltinRules.{builtin_class}
-use Rattle.jvm_model.proofs.Upwards.{below_same, below_trans, upwards_step}
+use Rattle.jvm_model.proofs.BuiltinRules.{builtin_class, enough_classes}
+use Rattle.jvm_model.proofs.Upwards.{below_same, below_trans, upwards_step, upwards_root}
 use Rattle.type_frames.specs.declared.vtype.VType.{VType}
-use Rattle.type_frames.specs.declared.vtype.VType.TheVariants.{Object, UninitThis}
+use Rattle.type_frames.specs.declared.vtype.VType.TheVariants.{Top, Object, UninitThis}
+use Rattle.type_frames.specs.declared.sides.Need.{Need}
 use Rattle.type_frames.specs.declared.sides.Need.TheVariants.{Fits}
 use Rattle.type_frames.specs.Frames.{same}
 use Rattle.type_frames.specs.Environment.{Environment}
-use Rattle.type_frames.specs.Descriptors.{types_of, name_of}
-use Rattle.type_frames.specs.Sides.{sides, needs_of, object_of, place_of}
+use Rattle.type_frames.specs.Descriptors.{types_of, name_of, kind_name}
+use Rattle.type_frames.specs.Sides.{sides, needs_of, owner_need, object_of, place_of}
 use Rattle.type_frames.specs.Typing.{IsTyped}
 use Rattle.type_frames.specs.TypedState.{kind_at, IsInstance, RefersTo, HasType, is_class_with}
 use Rattle.type_frames.proofs.AssignLaws.{object_below, interface_root}
-use Rattle.check_sound.proofs.Tree.{IsSpot, typed_read, typed_write, typed_known}
+use Rattle.check_sound.proofs.Tree.{Tree, IsSpot, typed_read, typed_write, typed_known}
+use Rattle.check_sound.proofs.Held.{Is}
 use Rattle.check_sound.proofs.Operands.{Operands, rest_of, popping-fits, on_object-typed}
-use Rattle.check_sound.proofs.Ready.{Ends, Row, Ready, here, rest, operands, on, names_form, form_kind, form_found}
+use Rattle.check_sound.proofs.Ready.{Ends, Row, Ready, here, rest, operands, on, names_form, form_kind, form_found, sides_at}
 use Rattle.check_sound.proofs.Ends.{fault_typed}
 use Rattle.check_sound.proofs.Thrown.{builtin_is, null_pointer_thrown}
 use Rattle.check_sound.proofs.Instances.{takes_every, Below, instance_below}
@@ -109,7 +112,6 @@ module _ (p : Program) (lk : Linked p) where
       no_interface : (i d : ℕ) → IsClass p i → is_interface_at p i ≡ true → is_interface_at p d ≡ false → d ≢ object_class → (d ≡ i) ⊎ (d ≡ object_class) → ⊥
       no_interface i d h y n o (inl e) = let z : true ≡ false = sym y ∙ (ap (is_interface_at p) (sym e) ∙ n) in cc
       no_interface i d h y n o (inr e) = o e
-
       super : (o : Option ℕ) → (class_at p c).superclass ≡ o → ((e : ℕ) → IsClass p e → member d (field_path_in p k e) ≡ true → is_below p e d ≡ true) → member d (elim o as (λ x. List ℕ) [ None ↦ [] | Some e ↦ field_path_in p k e ]) ≡ true → is_below p c d ≡ true
       super None e f m = absurd cc
       super (Some x) e f m =
@@ -126,7 +128,6 @@ module _ (p : Program) (lk : Linked p) where
     where
       empty : (d : ℕ) → member f (class_at p d).fields ≡ true → d ≢ object_class
       empty d m e = no_fields 0 f (omega arith) object_fields (subst (λ (x : ℕ). member f (class_at p x).fields ≡ true) e m)
-
       wide : (d : ℕ) → is_below p named d ≡ true → is_interface_at p d ≡ false → d ≢ object_class → (b : Bool) → takes_every p named ≡ b → takes_every p named ≡ false
       wide d b i o false q = q
       wide d b i o true q = absurd (elim (or_cases (nat_eq named object_class) (is_interface_at p named) q) as (λ x. ⊥) [
@@ -136,23 +137,21 @@ module _ (p : Program) (lk : Linked p) where
           | inr y ↦ o y
         ]
       ])
-
       past : (cs : List ClassRec) (d : ℕ) → length cs ≤ d → member f (get_or cs d no_class).fields ≡ false
       past [] d g = refl
       past (x ∷ cs) zero g = absurd (omega arith)
       past (x ∷ cs) (suc d) g = past cs d (omega arith)
-
       by : (d : ℕ) → member d (field_path_in p class_bound named) ≡ true → member f (class_at p d).fields ≡ true → Owned named f
       by d m l = elim (cases_lt d (length p.classes)) [
         | inl g ↦ (
-            let own : (field_at p f).class ≡ d = all_member (λ x. (field_at p x).class ≡ d) (class_at p d).fields f (lk.listed.own_fields d g) l in
-            let i : is_interface_at p d ≡ false = subst (λ (x : ℕ). is_interface_at p x ≡ false) own n.1 in
-            let b = path_above class_bound named d h i (empty d l) m in
-            record {
-              listed = subst (λ (x : ℕ). member f (class_at p x).fields ≡ true) (sym own) l;
-              above = subst (λ (x : ℕ). is_below p named x ≡ true) (sym own) b;
-              narrow = wide d b i (empty d l) (takes_every p named) refl;
-            })
+          let own : (field_at p f).class ≡ d = all_member (λ x. (field_at p x).class ≡ d) (class_at p d).fields f (lk.listed.own_fields d g) l in
+          let i : is_interface_at p d ≡ false = subst (λ (x : ℕ). is_interface_at p x ≡ false) own n.1 in
+          let b = path_above class_bound named d h i (empty d l) m in
+          record {
+            listed = subst (λ (x : ℕ). member f (class_at p x).fields ≡ true) (sym own) l;
+            above = subst (λ (x : ℕ). is_below p named x ≡ true) (sym own) b;
+            narrow = wide d b i (empty d l) (takes_every p named) refl;
+          })
         | inr g ↦ absurd (let z : true ≡ false = sym l ∙ past p.classes d g in cc)
       ]
 
@@ -226,7 +225,6 @@ module _ (p : Program) (lk : Linked p) where
       where
         class_eq : {a b : ℕ} → kind.Class a ≡ kind.Class b → a ≡ b
         class_eq z = cc
-
         by : (b : Bool) → IsInstance p (kind.Class (cond b stream_class string_class)) (name_of p named) → ⊥
         by true j = let b = lower (kind.Class stream_class) (builtin_is p lk 4 (omega arith)) j in no_stream (field_at p f).class refl (subst (λ (x : ℕ). is_below p x (field_at p f).class ≡ true) (sym (class_eq b.is)) b.below)
         by false j = let b = lower (kind.Class string_class) (builtin_is p lk 1 (omega arith)) j in no_string (field_at p f).class refl (subst (λ (x : ℕ). is_below p x (field_at p f).class ≡ true) (sym (class_eq b.is)) b.below)
@@ -286,7 +284,6 @@ module _ (p : Program) (ty : IsTyped p) {w : World} {s : Entries} where
     where
       writes : (v : Value) (left : List Value) → Argument p w (field_at p f).descriptor v → Row p w (goes_on p s left) → (o : ℕ) → IsSpot p w (place.Field o f) → Row p w (write (place.Field o f) (narrowed (field_at p f).descriptor v) (goes_on p s left))
       writes v left a g o i = typed_write tt i (argument_stored p w (field_at p f).descriptor v (text_of_field (field_at p f).descriptor (ty.linked.listed.field_names f (names_form p ty r).1).1) a) g
-
       by : (v : Value) (ws : List Value) (us : List VType) → Argument p w (field_at p f).descriptor v
           → (b : Bool) → (same (place_of r.types (length (needs_of (field_at p f).descriptor))) UninitThis && (nat_eq c (here r).class && nat_eq (field_at p f).class (here r).class)) ≡ b
           → Operands p w (here r) (cond b (Fits UninitThis) (Fits (object_of p c)) ∷ []) us (rest r) ws

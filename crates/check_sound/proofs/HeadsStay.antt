@@ -1,5 +1,5 @@
 -- The run of a typed tree takes no object away, and writes the head of none that stands.
-use Rattle.std.proofs.Common.{◌≡◌, ℕ, ◌<◌, subst, arith}
+use Rattle.std.proofs.Common.{◌≡◌, ℕ, ◌<◌, ◌≤◌, ap, subst, refl, sym, arith}
 use Rattle.jvm_model.specs.declared.values.Location.TheVariants as place
 use Rattle.jvm_model.specs.declared.program.Program.{Program}
 use Rattle.jvm_model.specs.World.{World, size, at, put, make_object, object_at}
@@ -24,13 +24,13 @@ module _ (p : Program) where
   tree_over P (write l c b) u w i t (typed_write n q g r) =
       let s = spot_over p u w (alike_over u w i) l q in
       over_then w (put w l c) (run b (put w l c)).world (alike_over w (put w l c) (put_alike p w l c n))
-      (tree_over P b u (put w l c) (alike_then u w (put w l c) i (put_alike p w l c n)) (world_put p w l c n t s (fits_alike p u w i l q c g)) r)
+        (tree_over P b u (put w l c) (alike_then u w (put w l c) i (put_alike p w l c n)) (world_put p w l c n t s (fits_alike p u w i l q c g)) r)
   tree_over P (write (place.Init c) s b) u w i t (typed_mark h r) =
       over_then w (put w (place.Init c) s) (run b (put w (place.Init c) s)).world (mark_over p w c s)
-      (tree_over P b (put u (place.Init c) s) (put w (place.Init c) s) (mark_alike u w c s i) (world_mark p w c s t h) r)
+        (tree_over P b (put u (place.Init c) s) (put w (place.Init c) s) (mark_alike u w c s i) (world_mark p w c s t h) r)
   tree_over P (make x k) u w i t (typed_make d r) =
       over_then w (make_object w x) (run (k (size w)) (make_object w x)).world (make_over p w x)
-      (tree_over P (k (size w)) (make_object u x) (make_object w x) (make_alike u w x i) (world_make p w x t (new_alike p u w x i d)) (subst (λ (n : ℕ). Tree p P (make_object u x) (k n)) i.sizes r))
+        (tree_over P (k (size w)) (make_object u x) (make_object w x) (make_alike u w x i) (world_make p w x t (new_alike p u w x i d)) (subst (λ (n : ℕ). Tree p P (make_object u x) (k n)) i.sizes r))
   tree_over P (spend n b) u w i t (typed_spend r) = tree_over P b u w i t r
   tree_over P a u w i t (typed_known o h r) = tree_over P a u w i t (r (known p u w i t o h))
 

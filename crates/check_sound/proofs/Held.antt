@@ -1,11 +1,13 @@
 -- Values with their types and their references in range: one, the locals of a frame, and operands.
-use Rattle.std.proofs.Common.{◌≡◌, ℕ, ℤ, List, [], ◌∷◌, map, Bool, true, false, cond, refl, sym, ap, subst}
-use Rattle.std.proofs.lemmas.Bool.{and_parts, eqb-true}
+use Rattle.std.proofs.Common.{◌≡◌, ℕ, ℤ, zero, suc, ◌<◌, ◌≤◌, List, [], ◌∷◌, ◌++◌, length, drop, map, Bool, true, false, cond, not, nat_eq, refl, sym, ◌∙◌, ap, subst, arith, inl, inr, get_or, slice_get, slice_set, Option, Some, None, set}
+use Rattle.std.proofs.lemmas.Bool.{and_parts, cases_Bool, eqb-true}
+use Rattle.std.specs.Prelude.{slice_index_or}
+use Rattle.std.specs.Str.{bytes_eq}
 use Rattle.jvm_model.specs.declared.values.Value.{Value}
 use Rattle.jvm_model.specs.declared.values.Value.TheVariants as value
 use Rattle.jvm_model.specs.declared.values.Kind.{Kind}
 use Rattle.jvm_model.specs.declared.program.Program.{Program}
-use Rattle.jvm_model.specs.World.{World}
+use Rattle.jvm_model.specs.World.{World, size}
 use Rattle.jvm_model.specs.Linked.{Linked}
 use Rattle.jvm_model.specs.Rows.{constant_kind}
 use Rattle.type_frames.specs.declared.vtype.VType.{VType}

@@ -1,48 +1,54 @@
 -- Steps on an initialisation entry, and a throwable that is raised into one.
-use Rattle.std.proofs.Common.{◌≡◌, ℕ, zero, suc, ◌+◌, ◌<◌, ◌≤◌, List, [], ◌∷◌, ◌++◌, length, get_or, map, Bool, true, false, not, ◌&&◌, cond, nat_eq, Option, Some, None, IfSome, IsSome, is_some, refl, sym, ◌∙◌, ap, subst, arith, inl, inr}
+use Rattle.std.proofs.Common.{◌≡◌, ℕ, zero, suc, ◌+◌, ◌<◌, ◌≤◌, List, [], ◌∷◌, ◌++◌, length, get_or, map, Bool, true, false, not, ◌&&◌, ◌||◌, cond, nat_eq, Option, Some, None, IfSome, IsSome, is_some, refl, sym, ◌∙◌, ap, subst, arith, inl, inr}
 use Rattle.std.specs.Prelude.{flat_map, filter}
 use Rattle.std.specs.List.{list_all, list_any, IsDistinct, AllByRecursion}
-use Rattle.std.proofs.lemmas.Bool.{cases_Bool, cases_lt, or_left, or_right, eqb-true, eq-eqb}
+use Rattle.std.proofs.lemmas.Bool.{cases_Bool, cases_lt, and_parts, or_cases, or_left, or_right, eqb-true, eq-eqb}
 use Rattle.std.proofs.lemmas.Map.Keys.{IsDistinct-cons}
 use Rattle.jvm_model.specs.declared.values.Value.{Value}
 use Rattle.jvm_model.specs.declared.values.Value.TheVariants as value
 use Rattle.jvm_model.specs.declared.values.Kind.{Kind}
+use Rattle.jvm_model.specs.declared.values.Kind.TheVariants as kind
+use Rattle.jvm_model.specs.declared.values.Head.{Head}
 use Rattle.jvm_model.specs.declared.values.InitState.{InitState}
 use Rattle.jvm_model.specs.declared.values.InitState.TheVariants.{Idle, Running, Done, Erroneous}
 use Rattle.jvm_model.specs.declared.values.Location.TheVariants as place
 use Rattle.jvm_model.specs.declared.state.EntryKind.{EntryKind}
 use Rattle.jvm_model.specs.declared.state.EntryKind.TheVariants.{Absent, InMethod, InClass}
+use Rattle.jvm_model.specs.declared.outcome.Next.TheVariants as step
 use Rattle.jvm_model.specs.declared.program.Program.{Program}
 use Rattle.jvm_model.specs.declared.program.ClassRec.{ClassRec}
 use Rattle.jvm_model.specs.declared.program.Body.{Body}
-use Rattle.jvm_model.specs.World.{World, size, at, put, make_object}
-use Rattle.jvm_model.specs.Builtin.{throwable_class, initializer_error, error_class}
-use Rattle.jvm_model.specs.Classes.{no_class, class_at, method_at, is_interface, is_below, is_trivial, declares_start, default_interfaces, own_interfaces, first_mentions, is_default_method, lineage_in, class_bound, upwards, member, blank, instance_head}
+use Rattle.jvm_model.specs.World.{World, size, at, put, make_object, same}
+use Rattle.jvm_model.specs.Access.{Access}
+use Rattle.jvm_model.specs.Builtin.{throwable_class, stack_overflow_error, no_class_error, initializer_error, error_class}
+use Rattle.jvm_model.specs.Classes.{no_class, class_at, method_at, is_static, is_interface, is_below, is_trivial, declares_start, default_interfaces, own_interfaces, first_mentions, is_default_method, lineage_in, class_bound, upwards, member, blank, instance_head}
 use Rattle.jvm_model.specs.Descriptors.{parameters}
-use Rattle.jvm_model.specs.Entries.{Entry, Entries, all_entries, is_full, entry_limit, popped_entry, entries_of, class_entry, with_entry, frame_of}
+use Rattle.jvm_model.specs.Driver.{no_arguments}
+use Rattle.jvm_model.specs.Entries.{Entry, Entries, all_entries, is_full, entry_limit, popped_entry, entries_of, class_entry, with_entry, frame_of, frame_cost}
 use Rattle.jvm_model.specs.Initialise.{Part, parts_of, superclass_part, with_entered, starts_body, starts, looked_at, looks, left_at, finished, finishing, row_finish, fails, fails_anew, was_entered, row_fail}
 use Rattle.jvm_model.specs.Kinds.{class_of}
 use Rattle.jvm_model.specs.Linked.{Linked, IsClass, IsInitialiser}
-use Rattle.jvm_model.specs.Rows.{answer}
+use Rattle.jvm_model.specs.Rows.{Answer, answer}
 use Rattle.jvm_model.proofs.Locations.{same_false, at_put_same, at_put_other, size_make}
 use Rattle.jvm_model.proofs.Upwards.{upwards_root}
 use Rattle.type_frames.specs.declared.vtype.VType.{VType}
 use Rattle.type_frames.specs.Frames.{spread}
 use Rattle.type_frames.specs.Descriptors.{types_of, name_of}
 use Rattle.type_frames.specs.declared.vtype.VType.TheVariants.{Object, UninitThis}
-use Rattle.type_frames.specs.Given.{is_constructor, entry_types}
+use Rattle.type_frames.specs.Given.{is_constructor, this_types, entry_types}
+use Rattle.type_frames.specs.Environment.{Environment}
 use Rattle.type_frames.specs.Typing.{IsTyped}
-use Rattle.type_frames.specs.TypedState.{kind_at, HaveTypes, Initialises, IsTop, IsBelow, AllBelow, class_begun, IsThrowable}
-use Rattle.check_sound.proofs.Tree.{Tree, typed_done, typed_read, typed_mark, typed_make, typed_spend}
-use Rattle.check_sound.proofs.Grow.{throwable_over}
+use Rattle.type_frames.specs.TypedState.{kind_at, HaveTypes, Goes, Initialises, IsPushedBy, IsTop, IsBelow, AllBelow, class_begun, IsThrowable}
+use Rattle.check_sound.proofs.Tree.{Tree, typed_done, typed_read, typed_mark, typed_make, typed_spend, Over}
+use Rattle.check_sound.proofs.Grow.{Ranged, throwable_over}
 use Rattle.check_sound.proofs.WorldKept.{mark_over}
 use Rattle.check_sound.proofs.Operands.{choose-typed, head-typed}
-use Rattle.check_sound.proofs.Ready.{TypedEntries, stub, Rest, IsEntry, Opened, opened, closed, below_same, Ends, Quiet, Row}
-use Rattle.check_sound.proofs.Onward.{StayRunning, rest_kept, grows_begin, grows_make, entries_grow, running_in, differs, not_full}
+use Rattle.check_sound.proofs.Ready.{TypedEntries, stub, Rest, IsEntry, Opened, opened, closed, below_same, IsThrown, Ends, Quiet, Row, any_raised}
+use Rattle.check_sound.proofs.Onward.{StayRunning, rest_kept, rest_grows, grows_begin, grows_make, entries_grow, running_in, differs, not_full}
 use Rattle.check_sound.proofs.Thrown.{overflow_thrown, no_class_thrown, initializer_thrown}
 use Rattle.check_sound.proofs.Blank.{blank_new}
 use Rattle.check_sound.proofs.Ends.{new_kind}
-use Rattle.check_sound.proofs.RaiseRows.{beneath, none_typed, raised_below}
+use Rattle.check_sound.proofs.RaiseRows.{Beneath, beneath, none_typed, raised_below}
 use Rattle.check_sound.proofs.Arguments.{EntersWith, entered_frame}
 
 -- ---- a class that isn't trivial is one
@@ -61,9 +67,9 @@ module _ (p : Program) (lk : Linked p) where
   unfolding is_trivial
   past_trivial c e =
       ap (λ (x : ClassRec). cond (is_interface x.flags) (not (declares_start p c)) (list_all (λ d. not (declares_start p d) && list_all (λ i. not (declares_start p i)) (default_interfaces p d)) (upwards p c))) e
-      ∙ (ap (λ (cs : List ℕ). list_all (λ d. not (declares_start p d) && list_all (λ i. not (declares_start p i)) (default_interfaces p d)) cs) (upwards_root p lk c (ap (λ (x : ClassRec). x.superclass) e))
-      ∙ (ap (λ (x : ClassRec). (not (is_some x.initialiser) && list_all (λ i. not (declares_start p i)) (default_interfaces p c)) && true) e
-      ∙ ap (λ (ds : List ℕ). list_all (λ i. not (declares_start p i)) ds && true) (no_defaults c e)))
+        ∙ (ap (λ (cs : List ℕ). list_all (λ d. not (declares_start p d) && list_all (λ i. not (declares_start p i)) (default_interfaces p d)) cs) (upwards_root p lk c (ap (λ (x : ClassRec). x.superclass) e))
+        ∙ (ap (λ (x : ClassRec). (not (is_some x.initialiser) && list_all (λ i. not (declares_start p i)) (default_interfaces p c)) && true) e
+        ∙ ap (λ (ds : List ℕ). list_all (λ i. not (declares_start p i)) ds && true) (no_defaults c e)))
 
   pub nontrivial_class : (c : ℕ) → is_trivial p c ≡ false → IsClass p c
   nontrivial_class c n = elim (cases_lt c (length p.classes)) [
@@ -78,7 +84,7 @@ stay_other w n s [] h = tt
 stay_other w n s (c ∷ cs) h = ((λ e. at_put_other w (place.Init n) (place.Init c) s (same_false (place.Init c) (place.Init n) (turn c n h.0)) ∙ e), stay_other w n s cs h.1)
   where
     turn : (a b : ℕ) → nat_eq b a ≡ false → nat_eq a b ≡ false
-    turn a b q = elim (cases_Bool (nat_eq a b)) [ inr e ↦ e | inl e ↦ absurd (let z : nat_eq b a ≡ true = eq-eqb b a (sym (eqb-true a b e)) in let y : true ≡ false = sym z ∙ q in cc) ]
+    turn a b q = elim (cases_Bool (nat_eq a b)) [ | inr e ↦ e | inl e ↦ absurd (let z : nat_eq b a ≡ true = eq-eqb b a (sym (eqb-true a b e)) in let y : true ≡ false = sym z ∙ q in cc) ]
 
 -- its class may be written
 written_rest : {p : Program} {w : World} {b : Bool} {n : ℕ} (s : InitState) (fs : List Entry) → Rest p w (InClass b) n fs → Rest p (put w (place.Init n) s) (InClass b) n fs
@@ -107,7 +113,6 @@ entered_rest {p = p} {w = w} {n = n} fs r = record { each = by fs r.each; range 
     one f (InClass false) h = h
     one f (InClass true) h = absurd h.1
     one f Absent h = absurd h
-
     by : (fs : List Entry) → AllBelow p w (stub (InClass false) n) fs → AllBelow p w (stub (InClass true) n) fs
     by [] h = tt
     by (f ∷ fs) h = (one f f.kind h.0, h.1)
@@ -156,7 +161,7 @@ module _ (p : Program) (ty : IsTyped p) {w : World} {s : Entries} (b : Bool) (k 
 
   -- something may be raised into the entry
   faulted : (v : Value) → TypedEntries p w (Some v) s
-  faulted v = record { references = t.references; few = t.few; top = subst (λ (x : EntryKind). IsTop p w (Some v) x s.top) (sym k) initialises; below = t.below; one_each = t.one_each }
+  faulted v = record { references = t.references; few = t.few; alone = t.alone; top = subst (λ (x : EntryKind). IsTop p w (Some v) x s.top) (sym k) initialises; below = t.below; one_each = t.one_each }
 
   finished-typed : Row p w (finished s)
   finished-typed = typed_mark own_class (typed_done (by (popped_entry s).top.kind))
@@ -183,14 +188,14 @@ module _ (p : Program) (ty : IsTyped p) {w : World} {s : Entries} (k : s.top.kin
       let i : Initialises p v s.top = subst (λ (x : EntryKind). IsTop p v None x s.top) k e.top in
       let first : nat_eq c s.top.number ≡ false = differs p w s.top c (initialises p ty false k t) q in
       subst (λ (fs : List Entry). TypedEntries p v None (record { top = class_entry c; below = fs })) (sym (all_of s false k))
-      (closed None (class_entry c) tt (record { not_trivial = n; running = at_put_same w (place.Init c) Running refl }) tt tt (record {
-        each = (subst (λ (x : EntryKind). IsBelow p v s.top x (stub (InClass false) c) (InClass false)) (sym k) (i, m), e.below);
-        range = (o.stack, o.locals, o.rest.range);
-        few = few_below f;
-        apart = IsDistinct-cons nat_eq c (flat_map class_begun (s.top ∷ s.below))
+        (closed None (class_entry c) tt (record { not_trivial = n; running = at_put_same w (place.Init c) Running refl }) tt tt (record {
+          each = (subst (λ (x : EntryKind). IsBelow p v s.top x (stub (InClass false) c) (InClass false)) (sym k) (i, m), e.below);
+          range = (o.stack, o.locals, o.rest.range);
+          few = few_below f;
+          apart = IsDistinct-cons nat_eq c (flat_map class_begun (s.top ∷ s.below))
             (subst (λ (x : EntryKind). AllByRecursion (λ d. nat_eq c d ≡ false) (elim x as (λ x. List ℕ) [ Absent ↦ [] | InMethod ↦ [] | InClass b ↦ s.top.number ∷ [] ] ++ flat_map class_begun s.below)) (sym k) (first, running_in p w s.top s.below t.below c q))
             (subst (λ (es : List Entry). IsDistinct nat_eq (flat_map class_begun es)) (all_of s false k) t.one_each);
-      }))
+        }))
 
   -- no `<clinit>` is to be entered
   entered_typed : TypedEntries p w None (with_entered s)
@@ -249,13 +254,11 @@ module _ (p : Program) (ty : IsTyped p) {w : World} {s : Entries} where
 
   -- the entry as it stands where nothing is raised
   quiet : (b : Bool) (v : Value) → s.top.kind ≡ InClass b → TypedEntries p w (Some v) s → TypedEntries p w None s
-  quiet b v k t = record { references = t.references; few = t.few; top = subst (λ (x : EntryKind). IsTop p w None x s.top) (sym k) (subst (λ (x : EntryKind). IsTop p w (Some v) x s.top) k t.top); below = t.below; one_each = t.one_each }
+  quiet b v k t = record { references = t.references; few = t.few; alone = t.alone; top = subst (λ (x : EntryKind). IsTop p w None x s.top) (sym k) (subst (λ (x : EntryKind). IsTop p w (Some v) x s.top) k t.top); below = t.below; one_each = t.one_each }
 
   fails-typed : (b : Bool) (v : Value) → s.top.kind ≡ InClass b → TypedEntries p w None s → IsThrowable p w v → Tree p (Quiet p) w (fails v s)
-  fails-typed b v k t h = typed_mark (own_class p ty b k t) (typed_done (
-    throwable_over p w (put w (place.Init s.top.number) Erroneous) (mark_over p w s.top.number Erroneous) v h,
-    raised_below v s.below (written_rest Erroneous s.below (rest_below p ty b k t)),
-  ))
+  fails-typed b v k t h = typed_mark (own_class p ty b k t) (typed_done (throwable_over p w (put w (place.Init s.top.number) Erroneous) (mark_over p w s.top.number Erroneous) v h,
+      raised_below v s.below (written_rest Erroneous s.below (rest_below p ty b k t))))
 
   fails_anew-typed : (b : Bool) → s.top.kind ≡ InClass b → TypedEntries p w None s → Tree p (Quiet p) w (fails_anew p s)
   unfolding blank
@@ -268,8 +271,7 @@ module _ (p : Program) (ty : IsTyped p) {w : World} {s : Entries} where
       let e = raised_below o s.below (written_rest Erroneous s.below (rest_below p ty b k t)) in
       typed_spend (typed_mark (own_class p ty b k t) (typed_make (blank_new p ty u (instance_head initializer_error) i.0) (typed_done (
         ((let z = size_make u x in omega arith), subst (λ (y : Kind). is_below p (class_of y) throwable_class ≡ true) (sym (new_kind p u initializer_error x refl)) i.1),
-        entries_grow (Some o) (entries_of s.below) (grows_make p u x) e,
-      ))))
+        entries_grow (Some o) (entries_of s.below) (grows_make p u x) e))))
 
   pub fail-typed : (b : Bool) (v : Value) → s.top.kind ≡ InClass b → IsThrowable p w v → TypedEntries p w (Some v) s → Tree p (Quiet p) w (row_fail p v s)
   unfolding row_fail

@@ -1,7 +1,7 @@
 -- What an instance of a class is, by name and by number.
-use Rattle.std.proofs.Common.{◌≡◌, ℕ, zero, suc, ◌<◌, ◌≤◌, List, [], ◌∷◌, length, get_or, drop, Bool, true, false, not, ◌&&◌, ◌||◌, nat_eq, Option, Some, None, refl, sym, ◌∙◌, ap, subst, arith, inl, inr}
+use Rattle.std.proofs.Common.{◌≡◌, ◌⊎◌, ℕ, zero, suc, ◌<◌, ◌≤◌, List, [], ◌∷◌, ◌++◌, length, get_or, drop, replicate, Bool, true, false, not, ◌&&◌, ◌||◌, cond, nat_eq, Option, Some, None, refl, sym, ◌∙◌, ap, subst, arith, inl, inr}
 use Rattle.std.specs.Str.{bytes_eq}
-use Rattle.std.proofs.lemmas.Bool.{cases_lt, or_cases, or_left, or_right, eqb-true}
+use Rattle.std.proofs.lemmas.Bool.{cases_Bool, cases_lt, and_parts, or_cases, or_left, or_right, eqb-true, eq-eqb}
 use Rattle.jvm_model.specs.declared.values.Kind.{Kind}
 use Rattle.jvm_model.specs.declared.values.Kind.TheVariants as kind
 use Rattle.jvm_model.specs.declared.values.Base.{Base}
@@ -13,11 +13,11 @@ use Rattle.jvm_model.specs.Linked.{Linked, IsClass, IsKind, is_interface_at}
 use Rattle.jvm_model.proofs.Upwards.{below_same, upwards_root, upwards_step}
 use Rattle.et_base.specs.Names.{is_class_name, is_class_entry_name, starts_array, is_field_descriptor}
 use Rattle.type_frames.specs.declared.vtype.VType.TheVariants.{Object}
-use Rattle.type_frames.specs.Descriptors.{name_of, kind_name}
-use Rattle.type_frames.specs.Assign.{class_named, takes_any, extends, class_fits, element_fits, is_array, object_fits}
+use Rattle.type_frames.specs.Descriptors.{name_of, kind_name, base_text}
+use Rattle.type_frames.specs.Assign.{class_named, takes_any, extends, class_fits, element_fits, is_array, object_fits, assignable}
 use Rattle.type_frames.specs.TypedState.{IsInstance}
 use Rattle.type_frames.specs.Sides.{is_that}
-use Rattle.type_frames.proofs.Units.{units_true}
+use Rattle.type_frames.proofs.Units.{units_true, units_refl}
 use Rattle.type_frames.proofs.AssignLaws.{class_name_plain, first_named, interface_takes, assignable_itself}
 
 -- Object and the interfaces, which take every reference
@@ -39,7 +39,7 @@ module _ (p : Program) (lk : Linked p) where
   plain_name c h = class_name_plain (name_of p c) (lk.listed.class_names c h)
 
   pub takes_all : (c : ℕ) → IsClass p c → takes_every p c ≡ true → (k : Kind) → IsInstance p k (name_of p c)
-  takes_all c h t k = interface_takes p lk c h (elim (or_cases (nat_eq c object_class) (is_interface_at p c) t) [ inl q ↦ inl (eqb-true c object_class q) | inr q ↦ inr q ]) (Object (kind_name p k)) tt
+  takes_all c h t k = interface_takes p lk c h (elim (or_cases (nat_eq c object_class) (is_interface_at p c) t) [ | inl q ↦ inl (eqb-true c object_class q) | inr q ↦ inr q ]) (Object (kind_name p k)) tt
 
   pub instance_itself : (c : ℕ) → IsClass p c → IsInstance p (kind.Class c) (name_of p c)
   unfolding is_class_entry_name
@@ -53,19 +53,19 @@ module _ (p : Program) (lk : Linked p) where
   unfolding extends
   named_below c d h g =
       ap (λ (o : Option ℕ). elim o as (λ x. Bool) [ None ↦ false | Some a ↦ elim (class_named p (name_of p d)) as (λ x. Bool) [ None ↦ false | Some b ↦ is_below p a b ] ]) (first_named p lk c h)
-      ∙ ap (λ (o : Option ℕ). elim o as (λ x. Bool) [ None ↦ false | Some b ↦ is_below p c b ]) (first_named p lk d g)
+        ∙ ap (λ (o : Option ℕ). elim o as (λ x. Bool) [ None ↦ false | Some b ↦ is_below p c b ]) (first_named p lk d g)
 
   pub plain_fits : (a b : List ℕ) → is_array a ≡ false → is_array b ≡ false → object_fits p a b ≡ class_fits p a b
   unfolding object_fits
   plain_fits a b e f =
       ap (λ (x : Bool). elim x as (λ z. Bool) [ true ↦ elim (is_array b) as (λ z. Bool) [ true ↦ element_fits p (drop 1 a) (drop 1 b) | false ↦ takes_any p b ] | false ↦ not (is_array b) && class_fits p a b ]) e
-      ∙ ap (λ (x : Bool). not x && class_fits p a b) f
+        ∙ ap (λ (x : Bool). not x && class_fits p a b) f
 
   pub array_fits : (a b : List ℕ) → is_array a ≡ true → is_array b ≡ false → object_fits p a b ≡ takes_any p b
   unfolding object_fits
   array_fits a b e f =
       ap (λ (x : Bool). elim x as (λ z. Bool) [ true ↦ elim (is_array b) as (λ z. Bool) [ true ↦ element_fits p (drop 1 a) (drop 1 b) | false ↦ takes_any p b ] | false ↦ not (is_array b) && class_fits p a b ]) e
-      ∙ ap (λ (x : Bool). elim x as (λ z. Bool) [ true ↦ element_fits p (drop 1 a) (drop 1 b) | false ↦ takes_any p b ]) f
+        ∙ ap (λ (x : Bool). elim x as (λ z. Bool) [ true ↦ element_fits p (drop 1 a) (drop 1 b) | false ↦ takes_any p b ]) f
 
   -- an instance of a class below c is one of c
   pub below_instance : (c d : ℕ) → IsClass p c → IsClass p d → is_below p c d ≡ true → IsInstance p (kind.Class c) (name_of p d)
@@ -80,7 +80,7 @@ module _ (p : Program) (lk : Linked p) where
     | inl l ↦ l
     | inr n ↦ absurd (
         let q : member d (c ∷ []) ≡ true = sym (ap (member d) (upwards_root p lk c (no_superclass p.classes c n))) ∙ b in
-        elim (or_cases (nat_eq d c) false q) as (λ x. ⊥) [ inl e ↦ (let z = eqb-true d c e in let h : d < length p.classes = g in omega arith) | inr e ↦ absurd (cc) ])
+        elim (or_cases (nat_eq d c) false q) as (λ x. ⊥) [ | inl e ↦ (let z = eqb-true d c e in let h : d < length p.classes = g in omega arith) | inr e ↦ absurd (cc) ])
   ]
     where
       no_superclass : (cs : List ClassRec) (c : ℕ) → length cs ≤ c → (get_or cs c no_class).superclass ≡ None

@@ -1,6 +1,7 @@
 -- What is an instance of a kind by the numbers of classes, as the machine tests it, is one by their names, as the check says it.
-use Rattle.std.proofs.Common.{◌≡◌, ℕ, zero, suc, ◌-◌, ◌<◌, List, [], ◌∷◌, ◌++◌, length, take, replicate, true, ◌&&◌, ◌||◌, nat_eq, nat_lt, refl, sym, ◌∙◌, ap, subst, arith, inl, inr}
+use Rattle.std.proofs.Common.{◌≡◌, ◌⊎◌, ℕ, zero, suc, ◌+◌, ◌-◌, ◌<◌, ◌≤◌, List, [], ◌∷◌, ◌++◌, length, drop, take, replicate, Bool, true, false, not, ◌&&◌, ◌||◌, cond, nat_eq, nat_lt, Option, Some, None, refl, sym, ◌∙◌, ap, subst, arith, inl, inr}
 use Rattle.std.specs.Prelude.{flat_map}
+use Rattle.std.specs.Str.{bytes_eq}
 use Rattle.std.proofs.lemmas.Bool.{cases_Bool, and_parts, or_cases, or_left, or_right, eqb-true, eq-eqb, ltb-true}
 use Rattle.std.proofs.lemmas.List.{length-append}
 use Rattle.std.proofs.Math.Seq.{take-append_seam}
@@ -19,8 +20,9 @@ use Rattle.type_frames.specs.Descriptors.{class_name, name_of, kind_name, base_t
 use Rattle.type_frames.specs.Assign.{takes_any, element_fits, object_fits}
 use Rattle.type_frames.specs.Assign as named
 use Rattle.type_frames.specs.TypedState.{IsInstance}
+use Rattle.check_sound.proofs.Thrown.{builtin_is}
 use Rattle.check_sound.proofs.Instances.{takes_all, below_instance, plain_name, plain_fits, named_any}
-use Rattle.check_sound.proofs.SelectLaws.{any_some, own}
+use Rattle.check_sound.proofs.SelectLaws.{IsInterface, any_some, own}
 
 -- a class's name in the text of a type
 pub class_within : (a : List ℕ) → class_name (a ++ 59 ∷ []) ≡ a

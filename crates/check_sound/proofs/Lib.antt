@@ -33,6 +33,7 @@ pub mod KindNames
 pub mod CastRows
 pub mod CreateRows
 pub mod DriverRows
+pub mod Reaching
 pub mod ArrayKinds
 pub mod NestedRow
 pub mod AllGroups

@@ -1,5 +1,5 @@
 -- What the built-in methods take and give, by the records that every program has of them.
-use Rattle.std.proofs.Common.{◌≡◌, ℕ, zero, suc, ◌<◌, ◌≤◌, List, [], ◌∷◌, ◌++◌, length, get_or, reverse, filter, Bool, true, false, not, ◌&&◌, ◌||◌, cond, nat_eq, nat_lt, Option, Some, None, refl, sym, ◌∙◌, ap, subst, arith, inl, inr}
+use Rattle.std.proofs.Common.{◌≡◌, ℕ, zero, suc, ◌<◌, ◌≤◌, List, [], ◌∷◌, ◌++◌, length, get_or, reverse, filter, Bool, true, false, not, ◌&&◌, ◌||◌, cond, nat_eq, nat_lt, nat_le, Option, Some, None, refl, sym, ◌∙◌, ap, subst, arith, inl, inr}
 use Rattle.std.specs.Prelude.{flat_map, codes}
 use Rattle.std.specs.List.{list_all}
 use Rattle.std.proofs.lemmas.Bool.{cases_Bool, cases_lt, and_parts, or_cases, or_left, or_right, eqb-true, ltb-true, ltb-false}
@@ -20,10 +20,10 @@ use Rattle.jvm_model.specs.Builtin.{object_class, string_class, builder_class, s
 use Rattle.jvm_model.specs.Library.{builtin_defs, builtin_classes, builtin_fields, builtin_methods}
 use Rattle.jvm_model.specs.Classes.{no_class, no_method, class_at, field_at, method_at, is_below, is_static, is_interface, member, upwards, plain_fields, layout_in, layout}
 use Rattle.jvm_model.specs.Descriptors.{parameters, return_type}
-use Rattle.jvm_model.specs.Linked.{Linked, IsClass, IsKind}
+use Rattle.jvm_model.specs.Linked.{Linked, IsClass, IsKind, first_or, fits_int, is_interface_at}
 use Rattle.jvm_model.specs.Natives.{NativeGroup, of_object, of_string, of_builder, of_system, of_stream, of_files, of_env, of_throwable, native_group}
 use Rattle.jvm_model.specs.Rows.{constant_kind}
-use Rattle.jvm_model.proofs.BuiltinRules.{builtin_class, builtin_field, class_keeps, method_keeps}
+use Rattle.jvm_model.proofs.BuiltinRules.{all_at, enough_classes, builtin_class, builtin_field, class_keeps, method_keeps}
 use Rattle.jvm_model.proofs.Upwards.{below_same, upwards_step, upwards_root}
 use Rattle.type_frames.specs.declared.vtype.VType.{VType}
 use Rattle.type_frames.specs.declared.vtype.VType.TheVariants.{Int, Long, Object}
@@ -35,8 +35,8 @@ use Rattle.type_frames.specs.TypedState.{kind_at, IsInstance, RefersTo, IsDeclar
 use Rattle.check_sound.proofs.Tree.{IsSpot}
 use Rattle.check_sound.proofs.Held.{same_is}
 use Rattle.check_sound.proofs.Arrive.{counted_at, all_at_index}
-use Rattle.check_sound.proofs.Instances.{takes_every, instance_below, instance_itself, below_is}
-use Rattle.check_sound.proofs.Ready.{Takes, operand_types}
+use Rattle.check_sound.proofs.Instances.{takes_every, Below, instance_below, instance_itself, below_is}
+use Rattle.check_sound.proofs.Ready.{HasPlain, Takes, operand_types}
 use Rattle.check_sound.proofs.Thrown.{builtin_is, above}
 
 abbrev pub object_name : List ℕ
@@ -289,10 +289,10 @@ module _ (p : Program) (lk : Linked p) where
       let c = and_parts (bool_same (is_static r.flags) (is_fixed g x)) (is_home r.class (home_of g)) b.1 in
       let args = types_same_is (reverse (flat_map types_of (parameters r.descriptor))) (arguments_of x) a.0 in
       let q : Takes p w (arguments_of x ++ reverse (cond (is_static r.flags) [] (Object (name_of p r.class) ∷ []))) vs rest =
-      subst (λ (ts : List VType). Takes p w (ts ++ reverse (cond (is_static r.flags) [] (Object (name_of p r.class) ∷ []))) vs rest) args
-      (subst (λ (ts : List VType). Takes p w ts vs rest) (reverse-append (cond (is_static r.flags) [] (Object (name_of p r.class) ∷ [])) (flat_map types_of (parameters r.descriptor))) h) in
+          subst (λ (ts : List VType). Takes p w (ts ++ reverse (cond (is_static r.flags) [] (Object (name_of p r.class) ∷ []))) vs rest) args
+            (subst (λ (ts : List VType). Takes p w ts vs rest) (reverse-append (cond (is_static r.flags) [] (Object (name_of p r.class) ∷ [])) (flat_map types_of (parameters r.descriptor))) h) in
       by (is_fixed g x) (subst (λ (z : Bool). Takes p w (arguments_of x ++ reverse (cond z [] (Object (name_of p r.class) ∷ []))) vs rest) (bool_same_is (is_static r.flags) (is_fixed g x) c.0) q)
-      (λ v k. refers_below w (name_of p r.class) (name_of p (home_of g)) v (below_is p lk r.class (home_of g) (builtin_is p lk (home_of g) (home_is g)) (home_below r.class (home_of g) c.1)) k)
+        (λ v k. refers_below w (name_of p r.class) (name_of p (home_of g)) v (below_is p lk r.class (home_of g) (builtin_is p lk (home_of g) (home_is g)) (home_below r.class (home_of g) c.1)) k)
     where
       by : (z : Bool) → Takes p w (arguments_of x ++ reverse (cond z [] (Object (name_of p (method_at p m).class) ∷ []))) vs rest
           → ((v : Value) → RefersTo p w (name_of p (method_at p m).class) v → RefersTo p w (name_of p (home_of (native_group x))) v)
@@ -347,11 +347,9 @@ module _ (p : Program) (lk : Linked p) where
     where
       same_class : {a b : ℕ} → kind.Class a ≡ kind.Class b → a ≡ b
       same_class q = cc
-
       one : (a : ℕ) → a < 32 → (get_or builtin_classes a no_class).superclass ≡ Some 0 → nat_eq c a ≡ false → is_below p a c ≡ true → ⊥
       one a l e q b = let z : member c (a ∷ 0 ∷ []) ≡ true = subst (λ (xs : List ℕ). member c xs ≡ true) (chain_of a l e) b in
           let y = rw (q, o) at z in cc
-
       by : (x : Bool) → (d : ℕ) → kind.Class (cond x stream_class string_class) ≡ kind.Class d → is_below p d c ≡ true → ⊥
       by true d q b = one 4 (omega arith) refl f (subst (λ (y : ℕ). is_below p y c ≡ true) (sym (same_class q)) b)
       by false d q b = one 1 (omega arith) refl s (subst (λ (y : ℕ). is_below p y c ≡ true) (sym (same_class q)) b)
@@ -394,7 +392,6 @@ module _ (p : Program) (lk : Linked p) where
         | inl q ↦ or_left (nat_eq message_field x) (member message_field (xs ++ ys)) q
         | inr q ↦ or_right (nat_eq message_field x) (member message_field (xs ++ ys)) (first xs ys q)
       ]
-
       second : (xs ys : List ℕ) → member message_field ys ≡ true → member message_field (xs ++ ys) ≡ true
       second [] ys e = e
       second (x ∷ xs) ys e = or_right (nat_eq message_field x) (member message_field (xs ++ ys)) (second xs ys e)

@@ -1,14 +1,15 @@
 -- The rows of moves: constants, loads, stores, moves of operands and monitors.
-use Rattle.std.proofs.Common.{◌≡◌, ℕ, zero, suc, ◌+◌, ◌<◌, List, [], ◌∷◌, ◌++◌, length, Bool, true, false, ◌&&◌, cond, nat_eq, nat_lt, Option, Some, slice_get, slice_set, set, refl, sym, ◌∙◌, ap, subst, arith, inl, inr, append-nil}
+use Rattle.std.proofs.Common.{◌≡◌, ℕ, zero, suc, ◌+◌, ◌<◌, ◌≤◌, List, [], ◌∷◌, ◌++◌, length, drop, Bool, true, false, not, ◌&&◌, cond, nat_eq, nat_lt, Option, Some, None, slice_get, slice_set, set, refl, sym, ◌∙◌, ap, subst, arith, inl, inr, append-nil}
 use Rattle.std.specs.Prelude.{slice_index_or}
 use Rattle.std.proofs.lemmas.Bool.{and_parts, cases_Bool, eqb-true, ltb-true, lt-ltb}
+use Rattle.jvm_model.specs.Access.{Access}
 use Rattle.jvm_model.specs.Builtin.{null_pointer_exception, string_class, stream_class}
 use Rattle.jvm_model.specs.Classes.{method_at}
 use Rattle.jvm_model.specs.Linked.{Linked, IsLiteral}
 use Rattle.jvm_model.specs.declared.values.Kind.TheVariants as kind
 use Rattle.jvm_model.specs.declared.instr.Sort.{Sort}
 use Rattle.type_frames.specs.Descriptors.{name_of}
-use Rattle.jvm_model.specs.Rows.{goes_on}
+use Rattle.jvm_model.specs.Rows.{Answer, goes_on}
 use Rattle.type_frames.specs.declared.sides.Need.{Need}
 use Rattle.type_frames.specs.Environment.{Environment}
 use Rattle.type_frames.specs.Frames.{same, top_of}
@@ -30,15 +31,15 @@ use Rattle.jvm_model.specs.World.{World}
 use Rattle.jvm_model.specs.Entries.{Entries, with_stack}
 use Rattle.jvm_model.specs.Step.{group_of, moves}
 use Rattle.jvm_model.specs.RowsMoves.{row_moves, is_long, loaded, stored}
-use Rattle.type_frames.specs.declared.sides.Need.TheVariants.{Fits, One, Half, Ref}
+use Rattle.type_frames.specs.declared.sides.Need.TheVariants.{Fits, One, Half, Ref, Raw, Small, Array, Never}
 use Rattle.type_frames.specs.declared.vtype.VType.{VType}
 use Rattle.type_frames.specs.declared.vtype.VType.TheVariants.{Top, Int, Long, Null, Object, UninitThis, Uninit}
 use Rattle.type_frames.specs.Sides.{sides, two, long_need, setting, reading}
 use Rattle.type_frames.specs.Typing.{IsTyped}
-use Rattle.check_sound.proofs.Tree.{typed_done}
+use Rattle.check_sound.proofs.Tree.{Tree, typed_done}
 use Rattle.check_sound.proofs.Held.{Is, is_fits, Held, Locals, IsShort, on_top, int_on, long_on, long_top}
-use Rattle.check_sound.proofs.Operands.{Operands, rest_of, popping-seen, popping-long-seen, popping-typed, popping-fits, popping-long, on_reference-typed, choose-typed, IsNullable}
-use Rattle.check_sound.proofs.Ready.{Ends, Row, Ready, here, sides_at, then, rest, operands, on, next_typed, is_form, names_form, reads_kept, sets_kept}
+use Rattle.check_sound.proofs.Operands.{Operands, rest_of, popping-seen, popping-long-seen, popping-typed, popping-fits, popping-long, on_int-typed, on_long-typed, on_reference-typed, choose-typed, IsNullable}
+use Rattle.check_sound.proofs.Ready.{Ends, Row, Ready, here, sides_at, then, rest, operands, on, to, next_typed, is_form, names_form, reads_kept, sets_kept}
 
 -- ---- locals
 
@@ -111,7 +112,7 @@ ref_nullable p w e Int (value.Long n) m h = absurd (cc)
 ref_nullable p w e Long (value.Long n) m h = absurd (cc)
 
 not_zero : (n : ℕ) → 0 < n → nat_eq n 0 ≡ false
-not_zero n h = elim (cases_Bool (nat_eq n 0)) [ inl q ↦ absurd (let z = eqb-true n 0 q in omega arith) | inr q ↦ q ]
+not_zero n h = elim (cases_Bool (nat_eq n 0)) [ | inl q ↦ absurd (let z = eqb-true n 0 q in omega arith) | inr q ↦ q ]
 
 as_many : (p : Program) (w : World) (e : Environment) (ts : List VType) (vs : List Value) → HaveTypes p w e ts vs → length ts ≡ length vs
 as_many p w e [] [] h = refl
@@ -198,31 +199,31 @@ module _ (p : Program) (ty : IsTyped p) {w : World} {s : Entries} where
   unfolding row_moves sides
   dup_x1 r = popping-seen p (Ends p) w One tt (operands r) (λ v vs t us q h sv m o. popping-seen p (Ends p) w One tt o (λ x ws u ts z g sx n k.
       on p ty r refl r.locals (subst (λ (xs : List VType). Held p w (here r) (top_of xs ∷ slice_index_or xs 1 Top ∷ top_of xs ∷ rest r) (v ∷ x ∷ v ∷ ws)) (sym (q ∙ ap {B = List VType} (λ xs. t ∷ xs) z))
-      (on_top sv h (on_top sx g (on_top sv h (rest_of k)))))))
+        (on_top sv h (on_top sx g (on_top sv h (rest_of k)))))))
 
   pub pop2 : Ready p w s form.Pop2 → Row p w (row_moves p form.Pop2 s)
   unfolding row_moves sides
   pop2 r = two_of p w (here r) (top_of r.types.stack) [] r.types.stack (rest r) s.top.stack (only_two (top_of r.types.stack) (operands r))
       (λ o. popping-long p (Ends p) w o (λ v vs us h k. choose-typed p (Ends p) w (is_long v) (λ q. on p ty r refl r.locals (rest_of k)) (λ q. true_false (long_true h) q)))
       (λ o. popping-typed p (Ends p) w One tt o (λ v vs t us h sv m k. choose-typed p (Ends p) w (is_long v) (λ q. true_false q (short_false v sv))
-      (λ q. popping-typed p (Ends p) w One tt k (λ x ws u ts g sx n l. on p ty r refl r.locals (rest_of l)))))
+        (λ q. popping-typed p (Ends p) w One tt k (λ x ws u ts g sx n l. on p ty r refl r.locals (rest_of l)))))
 
   pub dup2 : Ready p w s form.Dup2 → Row p w (row_moves p form.Dup2 s)
   unfolding row_moves sides
   dup2 r = two_of p w (here r) (top_of r.types.stack) [] r.types.stack (rest r) s.top.stack (only_two (top_of r.types.stack) (operands r))
       (λ o. popping-long-seen p (Ends p) w o (λ v vs us q h k. choose-typed p (Ends p) w (is_long v)
-      (λ e. on p ty r refl r.locals (subst (λ (xs : List VType). Held p w (here r) (top_of xs ∷ slice_index_or xs 1 Top ∷ top_of xs ∷ slice_index_or xs 1 Top ∷ rest r) (v ∷ v ∷ vs)) (sym q) (long_top h (long_top h (rest_of k)))))
-      (λ e. true_false (long_true h) e)))
+        (λ e. on p ty r refl r.locals (subst (λ (xs : List VType). Held p w (here r) (top_of xs ∷ slice_index_or xs 1 Top ∷ top_of xs ∷ slice_index_or xs 1 Top ∷ rest r) (v ∷ v ∷ vs)) (sym q) (long_top h (long_top h (rest_of k)))))
+        (λ e. true_false (long_true h) e)))
       (λ o. popping-seen p (Ends p) w One tt o (λ v vs t us q h sv m k. choose-typed p (Ends p) w (is_long v) (λ e. true_false e (short_false v sv))
-      (λ e. popping-seen p (Ends p) w One tt k (λ x ws u ts z g sx n l. on p ty r refl r.locals
-      (subst (λ (xs : List VType). Held p w (here r) (top_of xs ∷ slice_index_or xs 1 Top ∷ top_of xs ∷ slice_index_or xs 1 Top ∷ rest r) (v ∷ x ∷ v ∷ x ∷ ws)) (sym (q ∙ ap {B = List VType} (λ xs. t ∷ xs) z))
-      (on_top sv h (on_top sx g (on_top sv h (on_top sx g (rest_of l))))))))))
+        (λ e. popping-seen p (Ends p) w One tt k (λ x ws u ts z g sx n l. on p ty r refl r.locals
+          (subst (λ (xs : List VType). Held p w (here r) (top_of xs ∷ slice_index_or xs 1 Top ∷ top_of xs ∷ slice_index_or xs 1 Top ∷ rest r) (v ∷ x ∷ v ∷ x ∷ ws)) (sym (q ∙ ap {B = List VType} (λ xs. t ∷ xs) z))
+            (on_top sv h (on_top sx g (on_top sv h (on_top sx g (rest_of l))))))))))
 
   pub monitor : Ready p w s form.Monitor → Row p w (row_moves p form.Monitor s)
   unfolding row_moves sides
   monitor r = popping-seen p (Ends p) w Ref tt (operands r) (λ v vs t us q h sv m o.
       on_reference-typed p (Ends p) w (with_stack s vs) v (ref_nullable p w (here r) t v m h.type) (fault_typed p ty r null_pointer_exception vs (null_pointer_thrown p ty.linked) (rest_of o).range)
-      (λ n. on p ty r refl r.locals (rest_of o)))
+        (λ n. on p ty r refl r.locals (rest_of o)))
 
   -- ---- constants
 
@@ -279,10 +280,10 @@ module _ (p : Program) (ty : IsTyped p) {w : World} {s : Entries} where
       kept_local r n v vs (within r n (and_parts (nat_lt n r.body.max_locals) true (sets_kept r)).0) refl (set_local p w (here r) r.types.locals s.top.locals n Int v h r.locals) (rest_of o))
   store sort.Long n r = popping-long p (Ends p) w (operands r) (λ v vs us h o.
       kept_local r n v vs (within r n (and_parts (nat_lt n r.body.max_locals) true (and_parts (nat_lt (n + 1) r.body.max_locals) (nat_lt n r.body.max_locals && true) (sets_kept r)).1).0) refl
-      (set_local p w (here r) (set_one r.types.locals (setting (n + 1) Top)) s.top.locals n Long v h (top_local p w (here r) r.types.locals s.top.locals (n + 1) r.locals)) (rest_of o))
+        (set_local p w (here r) (set_one r.types.locals (setting (n + 1) Top)) s.top.locals n Long v h (top_local p w (here r) r.types.locals s.top.locals (n + 1) r.locals)) (rest_of o))
   store sort.Ref n r = popping-seen p (Ends p) w Ref tt (operands r) (λ v vs t us q h sv m o.
       kept_local r n v vs (within r n (and_parts (nat_lt n r.body.max_locals) true (sets_kept r)).0) refl
-      (subst (λ (xs : List VType). Locals p w (here r) (set_one r.types.locals (setting n (top_of xs))) (set s.top.locals n v)) (sym q) (set_local p w (here r) r.types.locals s.top.locals n t v h r.locals)) (rest_of o))
+        (subst (λ (xs : List VType). Locals p w (here r) (set_one r.types.locals (setting n (top_of xs))) (set s.top.locals n v)) (sym q) (set_local p w (here r) r.types.locals s.top.locals n t v h r.locals)) (rest_of o))
 
   -- ---- the other moves of operands
 
@@ -292,49 +293,49 @@ module _ (p : Program) (ty : IsTyped p) {w : World} {s : Entries} where
   unfolding row_moves sides
   dup_x2 r = popping-seen p (Ends p) w One tt (operands r) (λ v vs t us q h sv m o.
       two_of p w (here r) (slice_index_or r.types.stack 1 Top) [] us (rest r) vs (only_two (slice_index_or r.types.stack 1 Top) o)
-      (λ l. popping-long-seen p (Ends p) w l (λ x ws ts z g k. choose-typed p (Ends p) w (is_long x)
-      (λ e. on p ty r refl r.locals (subst (λ (xs : List VType). Held p w (here r) (top_of xs ∷ slice_index_or xs 1 Top ∷ slice_index_or xs 2 Top ∷ top_of xs ∷ rest r) (v ∷ x ∷ v ∷ ws)) (sym (q ∙ ap {B = List VType} (λ xs. t ∷ xs) z))
-      (on_top sv h (long_top g (on_top sv h (rest_of k))))))
-      (λ e. true_false (long_true g) e)))
-      (λ l. popping-seen p (Ends p) w One tt l (λ x ws u ts z g sx n k. choose-typed p (Ends p) w (is_long x) (λ e. true_false e (short_false x sx))
-      (λ e. popping-seen p (Ends p) w One tt k (λ y xs c cs d j sy i b. on p ty r refl r.locals
-      (subst (λ (bs : List VType). Held p w (here r) (top_of bs ∷ slice_index_or bs 1 Top ∷ slice_index_or bs 2 Top ∷ top_of bs ∷ rest r) (v ∷ x ∷ y ∷ v ∷ xs)) (sym (q ∙ ap {B = List VType} (λ bs. t ∷ bs) (z ∙ ap {B = List VType} (λ bs. u ∷ bs) d)))
-      (on_top sv h (on_top sx g (on_top sy j (on_top sv h (rest_of b)))))))))))
+        (λ l. popping-long-seen p (Ends p) w l (λ x ws ts z g k. choose-typed p (Ends p) w (is_long x)
+          (λ e. on p ty r refl r.locals (subst (λ (xs : List VType). Held p w (here r) (top_of xs ∷ slice_index_or xs 1 Top ∷ slice_index_or xs 2 Top ∷ top_of xs ∷ rest r) (v ∷ x ∷ v ∷ ws)) (sym (q ∙ ap {B = List VType} (λ xs. t ∷ xs) z))
+            (on_top sv h (long_top g (on_top sv h (rest_of k))))))
+          (λ e. true_false (long_true g) e)))
+        (λ l. popping-seen p (Ends p) w One tt l (λ x ws u ts z g sx n k. choose-typed p (Ends p) w (is_long x) (λ e. true_false e (short_false x sx))
+          (λ e. popping-seen p (Ends p) w One tt k (λ y xs c cs d j sy i b. on p ty r refl r.locals
+            (subst (λ (bs : List VType). Held p w (here r) (top_of bs ∷ slice_index_or bs 1 Top ∷ slice_index_or bs 2 Top ∷ top_of bs ∷ rest r) (v ∷ x ∷ y ∷ v ∷ xs)) (sym (q ∙ ap {B = List VType} (λ bs. t ∷ bs) (z ∙ ap {B = List VType} (λ bs. u ∷ bs) d)))
+              (on_top sv h (on_top sx g (on_top sy j (on_top sv h (rest_of b)))))))))))
 
   pub dup2_x1 : Ready p w s form.Dup2X1 → Row p w (row_moves p form.Dup2X1 s)
   unfolding row_moves sides
   dup2_x1 r = two_of p w (here r) (top_of r.types.stack) (One ∷ []) r.types.stack (rest r) s.top.stack (operands r)
       (λ l. popping-long-seen p (Ends p) w l (λ v vs us q h o. popping-seen p (Ends p) w One tt o (λ x ws u ts z g sx n k. choose-typed p (Ends p) w (is_long v)
-      (λ e. on p ty r refl r.locals (subst (λ (bs : List VType). Held p w (here r) (top_of bs ∷ slice_index_or bs 1 Top ∷ slice_index_or bs 2 Top ∷ top_of bs ∷ slice_index_or bs 1 Top ∷ rest r) (v ∷ x ∷ v ∷ ws)) (sym (q ∙ ap {B = List VType} (λ bs. Top ∷ Long ∷ bs) z))
-      (long_top h (on_top sx g (long_top h (rest_of k))))))
-      (λ e. true_false (long_true h) e))))
+        (λ e. on p ty r refl r.locals (subst (λ (bs : List VType). Held p w (here r) (top_of bs ∷ slice_index_or bs 1 Top ∷ slice_index_or bs 2 Top ∷ top_of bs ∷ slice_index_or bs 1 Top ∷ rest r) (v ∷ x ∷ v ∷ ws)) (sym (q ∙ ap {B = List VType} (λ bs. Top ∷ Long ∷ bs) z))
+          (long_top h (on_top sx g (long_top h (rest_of k))))))
+        (λ e. true_false (long_true h) e))))
       (λ l. popping-seen p (Ends p) w One tt l (λ v vs t us q h sv m o. popping-seen p (Ends p) w One tt o (λ x ws u ts z g sx n k. choose-typed p (Ends p) w (is_long v) (λ e. true_false e (short_false v sv))
-      (λ e. popping-seen p (Ends p) w One tt k (λ y xs c cs d j sy i b. on p ty r refl r.locals
-      (subst (λ (bs : List VType). Held p w (here r) (top_of bs ∷ slice_index_or bs 1 Top ∷ slice_index_or bs 2 Top ∷ top_of bs ∷ slice_index_or bs 1 Top ∷ rest r) (v ∷ x ∷ y ∷ v ∷ x ∷ xs)) (sym (q ∙ ap {B = List VType} (λ bs. t ∷ bs) (z ∙ ap {B = List VType} (λ bs. u ∷ bs) d)))
-      (on_top sv h (on_top sx g (on_top sy j (on_top sv h (on_top sx g (rest_of b))))))))))))
+        (λ e. popping-seen p (Ends p) w One tt k (λ y xs c cs d j sy i b. on p ty r refl r.locals
+          (subst (λ (bs : List VType). Held p w (here r) (top_of bs ∷ slice_index_or bs 1 Top ∷ slice_index_or bs 2 Top ∷ top_of bs ∷ slice_index_or bs 1 Top ∷ rest r) (v ∷ x ∷ y ∷ v ∷ x ∷ xs)) (sym (q ∙ ap {B = List VType} (λ bs. t ∷ bs) (z ∙ ap {B = List VType} (λ bs. u ∷ bs) d)))
+            (on_top sv h (on_top sx g (on_top sy j (on_top sv h (on_top sx g (rest_of b))))))))))))
 
   pub dup2_x2 : Ready p w s form.Dup2X2 → Row p w (row_moves p form.Dup2X2 s)
   unfolding row_moves sides
   dup2_x2 r = two_of p w (here r) (top_of r.types.stack) (two (slice_index_or r.types.stack 2 Top)) r.types.stack (rest r) s.top.stack (operands r)
       (λ l. popping-long-seen p (Ends p) w l (λ v vs us q h o. two_of p w (here r) (slice_index_or r.types.stack 2 Top) [] us (rest r) vs (only_two (slice_index_or r.types.stack 2 Top) o)
-      (λ l. popping-long-seen p (Ends p) w l (λ x ws ts z g k. choose-typed p (Ends p) w (is_long v) (λ e. choose-typed p (Ends p) w (is_long x)
-      (λ e. on p ty r refl r.locals (subst (λ (bs : List VType). Copied p w (here r) bs (rest r) (v ∷ x ∷ v ∷ ws)) (sym (q ∙ ap {B = List VType} (λ bs. Top ∷ Long ∷ bs) z)) (long_top h (long_top g (long_top h (rest_of k))))))
-      (λ e. true_false (long_true g) e))
-      (λ e. true_false (long_true h) e)))
-      (λ l. popping-seen p (Ends p) w One tt l (λ x ws u ts z g sx n k. choose-typed p (Ends p) w (is_long v) (λ e. choose-typed p (Ends p) w (is_long x) (λ e. true_false e (short_false x sx))
-      (λ e. popping-seen p (Ends p) w One tt k (λ y xs c cs d j sy i b. on p ty r refl r.locals
-      (subst (λ (bs : List VType). Copied p w (here r) bs (rest r) (v ∷ x ∷ y ∷ v ∷ xs)) (sym (q ∙ ap {B = List VType} (λ bs. Top ∷ Long ∷ bs) (z ∙ ap {B = List VType} (λ bs. u ∷ bs) d))) (long_top h (on_top sx g (on_top sy j (long_top h (rest_of b)))))))))
-      (λ e. true_false (long_true h) e)))))
+        (λ l. popping-long-seen p (Ends p) w l (λ x ws ts z g k. choose-typed p (Ends p) w (is_long v) (λ e. choose-typed p (Ends p) w (is_long x)
+            (λ e. on p ty r refl r.locals (subst (λ (bs : List VType). Copied p w (here r) bs (rest r) (v ∷ x ∷ v ∷ ws)) (sym (q ∙ ap {B = List VType} (λ bs. Top ∷ Long ∷ bs) z)) (long_top h (long_top g (long_top h (rest_of k))))))
+            (λ e. true_false (long_true g) e))
+          (λ e. true_false (long_true h) e)))
+        (λ l. popping-seen p (Ends p) w One tt l (λ x ws u ts z g sx n k. choose-typed p (Ends p) w (is_long v) (λ e. choose-typed p (Ends p) w (is_long x) (λ e. true_false e (short_false x sx))
+            (λ e. popping-seen p (Ends p) w One tt k (λ y xs c cs d j sy i b. on p ty r refl r.locals
+              (subst (λ (bs : List VType). Copied p w (here r) bs (rest r) (v ∷ x ∷ y ∷ v ∷ xs)) (sym (q ∙ ap {B = List VType} (λ bs. Top ∷ Long ∷ bs) (z ∙ ap {B = List VType} (λ bs. u ∷ bs) d))) (long_top h (on_top sx g (on_top sy j (long_top h (rest_of b)))))))))
+          (λ e. true_false (long_true h) e)))))
       (λ l. popping-seen p (Ends p) w One tt l (λ v vs t us q h sv m o. popping-seen p (Ends p) w One tt o (λ x ws u ts z g sx n k. choose-typed p (Ends p) w (is_long v) (λ e. true_false e (short_false v sv))
-      (λ e. two_of p w (here r) (slice_index_or r.types.stack 2 Top) [] ts (rest r) ws (only_two (slice_index_or r.types.stack 2 Top) k)
-      (λ l. popping-long-seen p (Ends p) w l (λ y xs cs d j b. choose-typed p (Ends p) w (is_long y)
-      (λ e. on p ty r refl r.locals (subst (λ (bs : List VType). Copied p w (here r) bs (rest r) (v ∷ x ∷ y ∷ v ∷ x ∷ xs)) (sym (q ∙ ap {B = List VType} (λ bs. t ∷ bs) (z ∙ ap {B = List VType} (λ bs. u ∷ bs) d)))
-      (on_top sv h (on_top sx g (long_top j (on_top sv h (on_top sx g (rest_of b))))))))
-      (λ e. true_false (long_true j) e)))
-      (λ l. popping-seen p (Ends p) w One tt l (λ y xs c cs d j sy i b. choose-typed p (Ends p) w (is_long y) (λ e. true_false e (short_false y sy))
-      (λ e. popping-seen p (Ends p) w One tt b (λ a bs1 f fs n1 i1 sa m1 b1. on p ty r refl r.locals
-      (subst (λ (bs : List VType). Copied p w (here r) bs (rest r) (v ∷ x ∷ y ∷ a ∷ v ∷ x ∷ bs1)) (sym (q ∙ ap {B = List VType} (λ bs. t ∷ bs) (z ∙ ap {B = List VType} (λ bs. u ∷ bs) (d ∙ ap {B = List VType} (λ bs. c ∷ bs) n1))))
-      (on_top sv h (on_top sx g (on_top sy j (on_top sa i1 (on_top sv h (on_top sx g (rest_of b1))))))))))))))))
+        (λ e. two_of p w (here r) (slice_index_or r.types.stack 2 Top) [] ts (rest r) ws (only_two (slice_index_or r.types.stack 2 Top) k)
+          (λ l. popping-long-seen p (Ends p) w l (λ y xs cs d j b. choose-typed p (Ends p) w (is_long y)
+            (λ e. on p ty r refl r.locals (subst (λ (bs : List VType). Copied p w (here r) bs (rest r) (v ∷ x ∷ y ∷ v ∷ x ∷ xs)) (sym (q ∙ ap {B = List VType} (λ bs. t ∷ bs) (z ∙ ap {B = List VType} (λ bs. u ∷ bs) d)))
+              (on_top sv h (on_top sx g (long_top j (on_top sv h (on_top sx g (rest_of b))))))))
+            (λ e. true_false (long_true j) e)))
+          (λ l. popping-seen p (Ends p) w One tt l (λ y xs c cs d j sy i b. choose-typed p (Ends p) w (is_long y) (λ e. true_false e (short_false y sy))
+            (λ e. popping-seen p (Ends p) w One tt b (λ a bs1 f fs n1 i1 sa m1 b1. on p ty r refl r.locals
+              (subst (λ (bs : List VType). Copied p w (here r) bs (rest r) (v ∷ x ∷ y ∷ a ∷ v ∷ x ∷ bs1)) (sym (q ∙ ap {B = List VType} (λ bs. t ∷ bs) (z ∙ ap {B = List VType} (λ bs. u ∷ bs) (d ∙ ap {B = List VType} (λ bs. c ∷ bs) n1))))
+                (on_top sv h (on_top sx g (on_top sy j (on_top sa i1 (on_top sv h (on_top sx g (rest_of b1))))))))))))))))
 
   pub moves-typed : (i : Instr) → group_of i ≡ moves → Ready p w s i → Row p w (row_moves p i s)
   moves-typed form.Nop g r = nop r

@@ -1,5 +1,6 @@
 -- Every built-in method over operands of its types is typed, and ends in a typed state.
-use Rattle.std.proofs.Common.{◌≡◌, ℕ, ℤ, ◌-◌, ◌<◌, List, [], ◌∷◌, ◌++◌, length, take, drop, true, ◌&&◌, nat_eq, nat_lt, nat_le, pos, negsuc, refl, sym, ap, subst, Option, Some, None, IfSome, arith}
+use Rattle.std.specs.Str.{bytes_eq}
+use Rattle.std.proofs.Common.{◌≡◌, ℕ, ℤ, ◌-◌, ◌<◌, ◌≤◌, List, [], ◌∷◌, ◌++◌, length, take, drop, Bool, true, false, ◌&&◌, nat_eq, nat_lt, nat_le, cond, pos, negsuc, refl, sym, ◌∙◌, ap, subst, Option, Some, None, IfSome, arith}
 use Rattle.std.specs.Prelude.{codes}
 use Rattle.std.specs.Fmt.{signed_decimal}
 use Rattle.std.proofs.lemmas.Bool.{eqb-true}
@@ -15,29 +16,32 @@ use Rattle.jvm_model.specs.declared.library.Native.TheVariants as native
 use Rattle.jvm_model.specs.declared.outcome.Own.{Own}
 use Rattle.jvm_model.specs.declared.outcome.Next.TheVariants.{Go, Fault}
 use Rattle.jvm_model.specs.declared.program.Program.{Program}
-use Rattle.jvm_model.specs.World.{World, size, make_object}
+use Rattle.jvm_model.specs.World.{Object, World, size, make_object}
 use Rattle.jvm_model.specs.Access.{Access, bind}
 use Rattle.jvm_model.specs.Builtin.{string_class, builder_class, throwable_class, message_field, null_pointer_exception, string_index_exception}
 use Rattle.jvm_model.specs.Classes.{blank, instance_head, method_at}
+use Rattle.jvm_model.specs.Descriptors.{return_type}
 use Rattle.jvm_model.specs.Entries.{Entries, with_stack}
 use Rattle.jvm_model.specs.Kinds.{class_of}
+use Rattle.jvm_model.specs.Linked.{IsKind}
 use Rattle.jvm_model.specs.Rows.{Answer, answer, popping, on_int, on_long, on_object, on_text, constant_kind}
+use Rattle.jvm_model.specs.RowsBranches.{same_reference}
 use Rattle.jvm_model.specs.State.{State}
 use Rattle.jvm_model.specs.Step.{after_native}
-use Rattle.jvm_model.specs.Working.{Working, operands, with_operands, makes_text, answers_text, answers_found, prints, char_of, boolean_text}
+use Rattle.jvm_model.specs.Working.{Working, operands, with_operands, makes_text, answers_text, answers_found, prints, char_of, boolean_text, truth}
 use Rattle.jvm_model.specs.NativesObject.{native_object, sets_message, makes_message, keeps_string, keeps_object, native_throwable}
-use Rattle.jvm_model.specs.NativesString.{hash_of, text_index, answers_part, compares, string_equals, joined, native_string, appends, appends_string, native_builder}
+use Rattle.jvm_model.specs.NativesString.{length_int, hash_of, text_index, answers_part, compares, string_equals, joined, native_string, appends, appends_string, native_builder}
 use Rattle.jvm_model.specs.NativesOutside.{one_text, two_texts, stepped, upper_int, changes_property, native_system, prints_string, on_printed, line_feed, native_print, native_files, native_env}
 use Rattle.jvm_model.specs.Natives.{NativeGroup, of_object, of_string, of_builder, of_system, of_stream, of_files, of_env, of_throwable, native_group, native_of_group, row_native}
 use Rattle.jvm_model.proofs.Locations.{size_make}
 use Rattle.type_frames.specs.declared.vtype.VType.{VType}
 use Rattle.type_frames.specs.declared.vtype.VType.TheVariants as vtype
-use Rattle.type_frames.specs.Descriptors.{name_of}
+use Rattle.type_frames.specs.Descriptors.{name_of, types_of}
 use Rattle.type_frames.specs.Typing.{IsTyped}
 use Rattle.type_frames.specs.TypedState.{kind_at, IsInRange, IsInstance, RefersTo, IsThrowable}
-use Rattle.check_sound.proofs.Tree.{Tree, typed_done, typed_read, typed_write, typed_make, typed_spend, typed_known}
+use Rattle.check_sound.proofs.Tree.{IsSpot, Tree, typed_done, typed_read, typed_write, typed_make, typed_spend, typed_known}
 use Rattle.check_sound.proofs.TreeRuns.{tree_bind}
-use Rattle.check_sound.proofs.Grow.{Ranged}
+use Rattle.check_sound.proofs.Grow.{Ranged, refers_over}
 use Rattle.check_sound.proofs.WorldKept.{spot_over}
 use Rattle.check_sound.proofs.Operands.{on_object-typed, on_reference-typed, head-typed, on_text-typed, choose-typed, refers_nullable}
 use Rattle.check_sound.proofs.Ready.{TypedEntries, Grows, IsThrown, HasPlain, Takes, Gives, gone_on, NativeCall}
@@ -361,16 +365,16 @@ module _ (p : Program) (ty : IsTyped p) {w : World} where
       let start : Working = record { entries = t; own = s.own } in
       let good : World → Answer Working → Type 0 = λ v a. Step p v (after_native p s a) in
       tree_bind p good (TurnsTo p) (row_native p x start) (after_native p s) w
-      (row-typed p ty good w start call.rest x (native_takes p ty.linked w m x t.top.stack call.rest e call.takes, call.range)
-      (λ v g o vs h. typed_done (record {
-        test = q.test;
-        entries = subst (λ (r : Option Value). TypedEntries p v r (gone_on p t vs)) (sym n) (call.answered v g vs (subst (λ (ts : List VType). Gives p v ts vs call.rest) (sym (native_gives p ty.linked m x e)) h));
-        raised = subst (λ (r : Option Value). IfSome r (IsThrowable p v)) (sym n) tt;
-        stage = (tested_over p w v g.over s q).stage;
-      }))
-      (λ c vs i h. fault c vs i h)
-      (fault null_pointer_exception t.top.stack (null_pointer_thrown p ty.linked) call.range))
-      (λ v a k. k)
+        (row-typed p ty good w start call.rest x (native_takes p ty.linked w m x t.top.stack call.rest e call.takes, call.range)
+          (λ v g o vs h. typed_done (record {
+            test = q.test;
+            entries = subst (λ (r : Option Value). TypedEntries p v r (gone_on p t vs)) (sym n) (call.answered v g vs (subst (λ (ts : List VType). Gives p v ts vs call.rest) (sym (native_gives p ty.linked m x e)) h));
+            raised = subst (λ (r : Option Value). IfSome r (IsThrowable p v)) (sym n) tt;
+            stage = (tested_over p w v g.over s q).stage;
+          }))
+          (λ c vs i h. fault c vs i h)
+          (fault null_pointer_exception t.top.stack (null_pointer_thrown p ty.linked) call.range))
+        (λ v a k. k)
     where
       fault : (c : ℕ) (vs : List Value) → IsThrown p c → Ranged p w vs → Step p w (after_native p s (answer (Fault c) (record { entries = with_stack t vs; own = s.own })))
       fault c vs i h = throws-typed p ty c (record s { entries = with_stack t vs; own = s.own }) i (call.faulted w (grows_itself w) vs h) (record { test = q.test; stage = q.stage })

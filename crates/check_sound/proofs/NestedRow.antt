@@ -1,5 +1,5 @@
 -- The row of multianewarray: arrays of arrays, from the outermost in.
-use Rattle.std.proofs.Common.{◌≡◌, ℕ, ℤ, zero, suc, ◌+◌, ◌<◌, ◌≤◌, List, [], ◌∷◌, length, replicate, Bool, true, false, pos, negsuc, refl, sym, ◌∙◌, ap, subst, arith}
+use Rattle.std.proofs.Common.{◌≡◌, ℕ, ℤ, zero, suc, ◌+◌, ◌-◌, ◌<◌, ◌≤◌, List, [], ◌∷◌, ◌++◌, length, drop, replicate, Bool, true, false, cond, pos, negsuc, Option, Some, None, refl, sym, ◌∙◌, ap, subst, arith}
 use Rattle.jvm_model.specs.declared.values.Value.{Value}
 use Rattle.jvm_model.specs.declared.values.Value.TheVariants as value
 use Rattle.jvm_model.specs.declared.values.Kind.{Kind}
@@ -17,22 +17,23 @@ use Rattle.jvm_model.specs.Builtin.{negative_size_exception}
 use Rattle.jvm_model.specs.Classes.{blank}
 use Rattle.jvm_model.specs.Entries.{Entries}
 use Rattle.jvm_model.specs.Kinds.{element_kind}
-use Rattle.jvm_model.specs.Linked.{IsKind, IsArray, dims_of}
+use Rattle.jvm_model.specs.Linked.{Linked, IsKind, IsArray, dims_of}
 use Rattle.jvm_model.specs.Rows.{Answer}
 use Rattle.jvm_model.specs.RowsCreate.{array_head, children, nest, nested, sized, row_create}
 use Rattle.jvm_model.specs.Step.{group_of, create as of_create}
 use Rattle.jvm_model.proofs.Locations.{at_make_new, size_make}
+use Rattle.type_frames.specs.declared.sides.Need.{Need}
 use Rattle.type_frames.specs.declared.sides.Need.TheVariants.{Fits}
 use Rattle.type_frames.specs.declared.vtype.VType.{VType}
-use Rattle.type_frames.specs.declared.vtype.VType.TheVariants.{Int}
-use Rattle.type_frames.specs.Descriptors.{kind_name}
+use Rattle.type_frames.specs.declared.vtype.VType.TheVariants.{Int, Object}
+use Rattle.type_frames.specs.Descriptors.{types_of, kind_name}
 use Rattle.type_frames.specs.Sides.{sides}
 use Rattle.type_frames.specs.Typing.{IsTyped}
 use Rattle.type_frames.specs.TypedState.{kind_at, IsInstance, IsReferenceOf, IsDeclared, element_text}
 use Rattle.check_sound.proofs.Tree.{head_at, Tree, typed_done, typed_write, typed_make, typed_spend, Over}
 use Rattle.check_sound.proofs.TreeRuns.{tree_bind}
 use Rattle.check_sound.proofs.Grow.{kind_over}
-use Rattle.check_sound.proofs.Held.{Held, on_top, locals_over, held_over}
+use Rattle.check_sound.proofs.Held.{Is, Held, on_top, locals_over, held_over}
 use Rattle.check_sound.proofs.Operands.{Operands, rest_of, popping-fits, on_int-typed, choose-typed}
 use Rattle.check_sound.proofs.Ready.{Grows, Ends, Row, Ready, here, rest, operands, on, is_form, names_form}
 use Rattle.check_sound.proofs.Onward.{grows_make, ready_grows}
@@ -78,8 +79,8 @@ module _ (p : Program) (ty : IsTyped p) where
   children-typed d b e r one f u v (suc n) i o len g h le = tree_bind p (Makes v e) (Makes u (kind.Array d b)) one _ v (f v) (λ x q m.
       let t = stood_over p v x o (kind.Array d b) len m.0.over h in
       typed_write tt (d, b, t.0, t.1, (let z = t.2 in omega arith))
-      (subst (λ (k : Kind). IsDeclared p x (element_text p k) (value.Obj q)) (sym t.1) (element_given x (kind.Array d b) e q r m.1 m.2))
-      (children-typed d b e r one f u x n (i + 1) o len (grows_then g m.0) t (omega arith)))
+        (subst (λ (k : Kind). IsDeclared p x (element_text p k) (value.Obj q)) (sym t.1) (element_given x (kind.Array d b) e q r m.1 m.2))
+        (children-typed d b e r one f u x n (i + 1) o len (grows_then g m.0) t (omega arith)))
 
   nest-typed : (ms : List ℕ) (n d : ℕ) (b : Base) → IsKind p (kind.Array d b) → length ms < d → (w : World) → Tree p (Makes w (kind.Array d b)) w (nest p (kind.Array d b) n ms)
   unfolding nest blank
@@ -93,9 +94,9 @@ module _ (p : Program) (ty : IsTyped p) where
       let x = blank p (array_head (kind.Array (suc (suc d)) b) n) in
       let r = of_arrays p d b h in
       typed_make (blank_new p ty w (array_head (kind.Array (suc (suc d)) b) n) h)
-      (children-typed (suc (suc d)) b (kind.Array (suc d) b) r (nest p (element_kind (kind.Array (suc (suc d)) b)) m ms)
-      (λ v. subst (λ (k : Kind). Tree p (Makes v (kind.Array (suc d) b)) v (nest p k m ms)) (sym r.element) (nest-typed ms m (suc d) b r.is_kind (omega arith) v))
-      w (make_object w x) n 0 (size w) n (grows_make p w x) (newest w x) (omega arith))
+        (children-typed (suc (suc d)) b (kind.Array (suc d) b) r (nest p (element_kind (kind.Array (suc (suc d)) b)) m ms)
+          (λ v. subst (λ (k : Kind). Tree p (Makes v (kind.Array (suc d) b)) v (nest p k m ms)) (sym r.element) (nest-typed ms m (suc d) b r.is_kind (omega arith) v))
+          w (make_object w x) n 0 (size w) n (grows_make p w x) (newest w x) (omega arith))
 
 module _ (p : Program) (w : World) where
   at_size : (s : Entries) (k : Kind) (d : ℕ) (vs : List Value) (bad : Bool) (ns : List ℕ) (i : ℤ) → ((b : Bool) (ms : List ℕ) → (b ≡ false → (bad ≡ false) × (length ms ≡ suc (length ns))) → Row p w (sized p k s d vs b ms))
@@ -110,7 +111,7 @@ module _ (p : Program) (ty : IsTyped p) {w : World} {s : Entries} where
   nested-typed (kind.Array m t) d r vs [] e h a b g = absurd (omega arith)
   nested-typed (kind.Array m t) d r vs (n ∷ ms) e h a b g = typed_spend (tree_bind p (Makes w (kind.Array m t)) (Ends p) (nest p (kind.Array m t) n ms) _ w (nest-typed p ty ms n m t h (omega arith) w) (λ v o q.
       on p ty (ready_grows q.0 r) refl (locals_over q.0.over r.locals)
-      (on_top tt (record { type = (q.1, subst (λ (y : Kind). IsInstance p y (kind_name p (kind.Array m t))) (sym q.2) (kind_itself p ty.linked (kind.Array m t) h)); range = q.1 }) (held_over q.0.over g))))
+        (on_top tt (record { type = (q.1, subst (λ (y : Kind). IsInstance p y (kind_name p (kind.Array m t))) (sym q.2) (kind_itself p ty.linked (kind.Array m t) h)); range = q.1 }) (held_over q.0.over g))))
 
   sized-typed : (k : Kind) (dims : ℕ) (r : Ready p w s (form.MultiNewArray k dims)) → IsArray p k → 0 < dims → dims ≤ dims_of k → (d : ℕ) (bad : Bool) (ns : List ℕ) (ts : List VType) (vs : List Value) → (bad ≡ false → d + length ns ≡ dims)
       → Operands p w (here r) (replicate d (Fits Int)) ts (rest r) vs → Row p w (sized p k s d vs bad ns)

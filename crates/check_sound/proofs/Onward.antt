@@ -1,31 +1,36 @@
 -- What is typed of entries stays so in a world that goes on.
-use Rattle.std.proofs.Common.{◌≡◌, ℕ, ◌<◌, List, [], ◌∷◌, ◌++◌, length, drop, false, nat_eq, nat_le, get_or, Option, Some, None, refl, sym, ◌∙◌, ap, subst, arith, inl, inr}
+use Rattle.std.proofs.Common.{◌≡◌, ℕ, zero, suc, ◌<◌, ◌≤◌, List, [], ◌∷◌, ◌++◌, length, drop, Bool, true, false, ◌||◌, nat_eq, nat_le, get_or, Option, Some, None, IfSome, refl, sym, ◌∙◌, ap, subst, arith, inl, inr}
 use Rattle.std.specs.List.{AllByRecursion}
 use Rattle.std.proofs.lemmas.Map.Keys.{IsDistinct-cons}
 use Rattle.std.specs.Prelude.{flat_map}
-use Rattle.std.specs.List.{IsDistinct}
-use Rattle.std.proofs.lemmas.Bool.{cases_Bool, eqb-true, leb-false}
+use Rattle.std.specs.List.{IsDistinct, list_any}
+use Rattle.std.proofs.lemmas.Bool.{cases_Bool, or_cases, eqb-true, eq-eqb, leb-false}
 use Rattle.jvm_model.specs.declared.values.Value.{Value}
+use Rattle.jvm_model.specs.declared.values.Value.TheVariants as value
+use Rattle.jvm_model.specs.declared.values.Head.{Head}
+use Rattle.jvm_model.specs.declared.values.Kind.{Kind}
+use Rattle.jvm_model.specs.declared.values.Kind.TheVariants as kind
+use Rattle.jvm_model.specs.declared.values.InitState.{InitState}
 use Rattle.jvm_model.specs.declared.values.InitState.TheVariants.{Idle, Running}
 use Rattle.jvm_model.specs.declared.values.Location.TheVariants as place
 use Rattle.jvm_model.specs.declared.state.EntryKind.{EntryKind}
 use Rattle.jvm_model.specs.declared.state.EntryKind.TheVariants.{Absent, InMethod, InClass}
 use Rattle.jvm_model.specs.declared.instr.Instr.{Instr}
 use Rattle.jvm_model.specs.declared.program.Program.{Program}
-use Rattle.jvm_model.specs.World.{Object, World, at, put, make_object, same}
-use Rattle.jvm_model.specs.Classes.{method_at, is_trivial}
+use Rattle.jvm_model.specs.World.{Object, World, size, at, put, make_object, same}
+use Rattle.jvm_model.specs.Classes.{method_at, member, is_trivial}
 use Rattle.jvm_model.specs.Entries.{Entry, Entries, entry_limit, class_entry, with_entry, is_full, all_entries}
 use Rattle.jvm_model.proofs.Locations.{same_false, at_put_other, at_put_same}
 use Rattle.type_frames.specs.Environment.{environment_of}
 use Rattle.type_frames.specs.Sides.{sides}
 use Rattle.type_frames.specs.Typing.{IsTyped}
-use Rattle.type_frames.specs.TypedState.{Stands, Goes, Waits, Initialises, IsTop, IsBelow, AllBelow, class_begun, values_of}
+use Rattle.type_frames.specs.TypedState.{Stands, Goes, Waits, Initialises, IsPushedBy, IsTop, IsBelow, AllBelow, class_begun, values_of}
 use Rattle.check_sound.proofs.Tree.{Over, Alike}
-use Rattle.check_sound.proofs.Grow.{over_itself, alike_over, range_over, ranged_over, types_over, stack_over}
+use Rattle.check_sound.proofs.Grow.{Ranged, over_itself, alike_over, range_over, ranged_over, types_over, stack_over}
 use Rattle.check_sound.proofs.Held.{locals_over, held_over}
 use Rattle.check_sound.proofs.WorldKept.{mark_over, make_over}
 use Rattle.check_sound.proofs.TreeRuns.{state_same}
-use Rattle.check_sound.proofs.Ready.{TypedEntries, stub, AllRanged, Rest, IsEntry, opened, closed, Grows, Ready}
+use Rattle.check_sound.proofs.Ready.{TypedEntries, stub, AllRanged, Rest, IsEntry, Opened, opened, closed, Grows, Ready}
 
 pub grows_itself : (w : World) → Grows w w
 grows_itself w = record { over = over_itself w; running = λ c e. e }
@@ -48,19 +53,8 @@ grows_begin p w c = record {
 
 module _ (p : Program) (u w : World) (g : Over u w) where
   pub stands_over : (f : Entry) → Stands p u f → Stands p w f
-  stands_over f s = record {
-    body = s.body;
-    given = s.given;
-    index = s.index;
-    instruction = s.instruction;
-    types = s.types;
-    has_code = s.has_code;
-    has_frames = s.has_frames;
-    there = s.there;
-    place = s.place;
-    known = s.known;
-    locals = types_over p u w g (environment_of p (method_at p f.number) s.body s.given) s.types.locals f.locals s.locals;
-  }
+  stands_over f s = record { body = s.body; given = s.given; index = s.index; instruction = s.instruction; types = s.types; fits = s.fits; has_code = s.has_code; has_frames = s.has_frames; there = s.there; place = s.place; known = s.known;
+    locals = types_over p u w g (environment_of p (method_at p f.number) s.body s.given) s.types.locals f.locals s.locals }
 
   pub goes_over : (f : Entry) → Goes p u f → Goes p w f
   unfolding stands_over
@@ -68,14 +62,8 @@ module _ (p : Program) (u w : World) (g : Over u w) where
 
   pub waits_over : (n : ℕ) (f : Entry) → Waits p u n f → Waits p w n f
   unfolding stands_over
-  waits_over n f h = let s = h.stands in record {
-    stands = stands_over f s;
-    named = h.named;
-    call = h.call;
-    same_name = h.same_name;
-    same_descriptor = h.same_descriptor;
-    operands = stack_over p u w g (environment_of p (method_at p f.number) s.body s.given) (drop (length (sides p (environment_of p (method_at p f.number) s.body s.given) f.pc s.types s.instruction.form).takes) s.types.stack) f.stack h.operands;
-  }
+  waits_over n f h = let s = h.stands in record { stands = stands_over f s; named = h.named; call = h.call; same_name = h.same_name; same_descriptor = h.same_descriptor;
+    operands = stack_over p u w g (environment_of p (method_at p f.number) s.body s.given) (drop (length (sides p (environment_of p (method_at p f.number) s.body s.given) f.pc s.types s.instruction.form).takes) s.types.stack) f.stack h.operands }
 
   pub all_ranged_over : (fs : List Entry) → AllRanged p u fs → AllRanged p w fs
   all_ranged_over [] h = tt
@@ -117,7 +105,7 @@ pub rest_grows : {p : Program} {u w : World} {k : EntryKind} {n : ℕ} (fs : Lis
 rest_grows {p = p} {u = u} {w = w} fs g h = rest_kept p u w g.over fs (all_stay u w g.running (flat_map class_begun fs)) h
 
 unfoldable pub ready_grows : {p : Program} {u w : World} {s : Entries} {i : Instr} → Grows u w → Ready p u s i → Ready p w s i
-ready_grows {s = s} g r = record { body = r.body; given = r.given; index = r.index; types = r.types; has_code = r.has_code; has_frames = r.has_frames; there = r.there; known = r.known; kept = r.kept; kind = r.kind; locals = locals_over g.over r.locals; stack = held_over g.over r.stack; rest = rest_grows s.below g r.rest }
+ready_grows {s = s} g r = record { body = r.body; given = r.given; index = r.index; types = r.types; fits = r.fits; has_code = r.has_code; has_frames = r.has_frames; there = r.there; known = r.known; kept = r.kept; kind = r.kind; locals = locals_over g.over r.locals; stack = held_over g.over r.stack; rest = rest_grows s.below g r.rest }
 
 -- entries in a world that goes on
 top_over : (p : Program) (u w : World) → Grows u w → (raised : Option Value) (k : EntryKind) (e : Entry) → IsTop p u raised k e → IsTop p w raised k e
@@ -130,6 +118,7 @@ pub entries_grow : {p : Program} {u w : World} (raised : Option Value) (s : Entr
 entries_grow {p = p} {u = u} {w = w} raised s g t = record {
   references = λ k d h. range_over p u w g.over (get_or (flat_map values_of (all_entries s)) k d) (t.references k d h);
   few = t.few;
+  alone = t.alone;
   top = top_over p u w g raised s.top.kind s.top t.top;
   below = all_below_over p u w g.over s.top s.below (all_stay u w g.running (flat_map class_begun s.below)) t.below;
   one_each = t.one_each;
@@ -171,12 +160,12 @@ begun_typed {p = p} {w = w} {s = s} ty r c t f n q i =
     let o = opened None s (subst (λ (x : EntryKind). IsEntry x) (sym r.kind) tt) e in
     let here : at v (place.Init c) ≡ Running = at_put_same w (place.Init c) Running refl in
     subst (λ (fs : List Entry). TypedEntries p v None (record { top = class_entry c; below = fs })) (sym (whole s r.kind))
-    (closed None (class_entry c) tt (record { not_trivial = n; running = here }) tt tt (record {
-      each = (subst (λ (k : EntryKind). IsBelow p v s.top k (stub (InClass false) c) (InClass false)) (sym r.kind) (subst (λ (k : EntryKind). IsTop p v None k s.top) r.kind e.top), e.below);
-      range = (o.stack, o.locals, o.rest.range);
-      few = not_full s f (whole s r.kind);
-      apart = IsDistinct-cons nat_eq c (flat_map class_begun (s.top ∷ s.below)) (no_class (running_in p w s.top s.below t.below c q)) (subst (λ (es : List Entry). IsDistinct nat_eq (flat_map class_begun es)) (whole s r.kind) t.one_each);
-    }))
+      (closed None (class_entry c) tt (record { not_trivial = n; running = here }) tt tt (record {
+        each = (subst (λ (k : EntryKind). IsBelow p v s.top k (stub (InClass false) c) (InClass false)) (sym r.kind) (subst (λ (k : EntryKind). IsTop p v None k s.top) r.kind e.top), e.below);
+        range = (o.stack, o.locals, o.rest.range);
+        few = not_full s f (whole s r.kind);
+        apart = IsDistinct-cons nat_eq c (flat_map class_begun (s.top ∷ s.below)) (no_class (running_in p w s.top s.below t.below c q)) (subst (λ (es : List Entry). IsDistinct nat_eq (flat_map class_begun es)) (whole s r.kind) t.one_each);
+      }))
   where
     no_class : AllByRecursion (λ d. nat_eq c d ≡ false) (flat_map class_begun s.below) → AllByRecursion (λ d. nat_eq c d ≡ false) (flat_map class_begun (s.top ∷ s.below))
     no_class h = subst (λ (k : EntryKind). AllByRecursion (λ d. nat_eq c d ≡ false) (elim k as (λ x. List ℕ) [ Absent ↦ [] | InMethod ↦ [] | InClass b ↦ s.top.number ∷ [] ] ++ flat_map class_begun s.below)) (sym r.kind) h

@@ -1,6 +1,6 @@
 -- Operands of which the topmost meet some needs, and one lemma for each combinator of the rows.
-use Rattle.std.proofs.Common.{◌≡◌, ℕ, ℤ, suc, ◌<◌, ◌≤◌, List, [], ◌∷◌, length, drop, Bool, true, false, ◌&&◌, cond, refl, sym, ap, subst, arith}
-use Rattle.std.proofs.lemmas.Bool.{and_parts}
+use Rattle.std.proofs.Common.{◌≡◌, ℕ, ℤ, zero, suc, ◌+◌, ◌<◌, ◌≤◌, List, [], ◌∷◌, ◌++◌, length, drop, Bool, true, false, ◌&&◌, ◌||◌, not, cond, nat_eq, Option, Some, None, refl, sym, ◌∙◌, ap, subst, arith, inl, inr}
+use Rattle.std.proofs.lemmas.Bool.{and_parts, cases_Bool}
 use Rattle.jvm_model.specs.declared.values.Value.{Value}
 use Rattle.jvm_model.specs.declared.values.Value.TheVariants as value
 use Rattle.jvm_model.specs.declared.values.Kind.{Kind}
@@ -20,7 +20,7 @@ use Rattle.type_frames.specs.declared.sides.Need.{Need}
 use Rattle.type_frames.specs.declared.sides.Need.TheVariants.{Fits, One, Half, Ref, Raw, Small, Array, Never}
 use Rattle.type_frames.specs.Environment.{Environment}
 use Rattle.type_frames.specs.Rules.{meets, meet_all}
-use Rattle.type_frames.specs.TypedState.{kind_at, IsInstance, RefersTo, HaveStackTypes}
+use Rattle.type_frames.specs.TypedState.{kind_at, IsInstance, RefersTo, HasType, HaveStackTypes}
 use Rattle.check_sound.proofs.Tree.{head_at, Tree, typed_done, typed_read}
 use Rattle.check_sound.proofs.Held.{Is, Held, IsShort, is_fits}
 
@@ -120,12 +120,8 @@ module _ (p : Program) (w : World) (e : Environment) where
   pub long_popped : (ns : List Need) (ts rest : List VType) (v : Value) (vs : List Value) → Operands p w e (Half ∷ Fits Long ∷ ns) ts rest (v ∷ vs) → LongPopped ns ts rest v vs
   long_popped ns (Top ∷ u ∷ ts) rest (value.Long a) vs o =
       let q : suc (suc (length ns)) ≤ suc (suc (length ts)) = o.enough in
-      record {
-        below = ts;
-        seen = ap {B = List VType} (λ x. Top ∷ x ∷ ts) (is_long_type u (and_parts (meets p (Fits Long) u) (meet_all p ns ts) (and_parts (meets p Half Top) (meets p (Fits Long) u && meet_all p ns ts) o.met).1).0);
-        is = record { type = tt; range = tt };
-        operands = record { enough = omega arith; met = (and_parts (meets p (Fits Long) u) (meet_all p ns ts) (and_parts (meets p Half Top) (meets p (Fits Long) u && meet_all p ns ts) o.met).1).1; left = o.left; held = record { types = o.held.types.1; range = o.held.range.1 } };
-      }
+      record { below = ts; seen = ap {B = List VType} (λ x. Top ∷ x ∷ ts) (is_long_type u (and_parts (meets p (Fits Long) u) (meet_all p ns ts) (and_parts (meets p Half Top) (meets p (Fits Long) u && meet_all p ns ts) o.met).1).0); is = record { type = tt; range = tt };
+        operands = record { enough = omega arith; met = (and_parts (meets p (Fits Long) u) (meet_all p ns ts) (and_parts (meets p Half Top) (meets p (Fits Long) u && meet_all p ns ts) o.met).1).1; left = o.left; held = record { types = o.held.types.1; range = o.held.range.1 } } }
   long_popped ns (t ∷ u ∷ ts) rest (value.Int a) vs o = absurd (lower u ts vs (and_parts _ _ (and_parts _ _ o.met).1).0 o.held.types.1)
   long_popped ns (t ∷ u ∷ ts) rest value.Null vs o = absurd (lower u ts vs (and_parts _ _ (and_parts _ _ o.met).1).0 o.held.types.1)
   long_popped ns (t ∷ u ∷ ts) rest (value.Lit a) vs o = absurd (lower u ts vs (and_parts _ _ (and_parts _ _ o.met).1).0 o.held.types.1)

@@ -1,8 +1,8 @@
 -- A throwable is raised into the method frame at the top: its handler is entered, or the frame is popped.
-use Rattle.std.proofs.Common.{◌≡◌, ℕ, suc, ◌<◌, List, [], ◌∷◌, ◌++◌, length, map, Bool, true, false, not, ◌&&◌, cond, nat_eq, nat_lt, nat_le, Option, Some, None, IfSome, slice_get, All, refl, sym, ◌∙◌, ap, subst, arith}
+use Rattle.std.proofs.Common.{◌≡◌, ℕ, zero, suc, ◌<◌, ◌≤◌, List, [], ◌∷◌, ◌++◌, length, map, Bool, true, false, not, ◌&&◌, ◌||◌, cond, nat_eq, nat_lt, nat_le, Option, Some, None, IfSome, slice_get, All, refl, sym, ◌∙◌, ap, subst, arith, inl, inr}
 use Rattle.std.specs.Prelude.{flat_map}
-use Rattle.std.specs.List.{list_any, IsDistinct}
-use Rattle.std.proofs.lemmas.Bool.{and_parts, or_left, or_right, eq-eqb}
+use Rattle.std.specs.List.{list_any, list_all, IsDistinct}
+use Rattle.std.proofs.lemmas.Bool.{cases_Bool, and_parts, or_left, or_right, eq-eqb}
 use Rattle.std.proofs.lemmas.List.Elements.{All-nil}
 use Rattle.jvm_model.specs.declared.values.Value.{Value}
 use Rattle.jvm_model.specs.declared.values.Value.TheVariants as value
@@ -14,29 +14,35 @@ use Rattle.jvm_model.specs.declared.program.Program.{Program}
 use Rattle.jvm_model.specs.declared.program.Body.{Body}
 use Rattle.jvm_model.specs.declared.program.Placed.{Placed}
 use Rattle.jvm_model.specs.declared.program.Handler.{Handler}
+use Rattle.jvm_model.specs.declared.outcome.Next.TheVariants as step
 use Rattle.jvm_model.specs.World.{World, size}
 use Rattle.jvm_model.specs.Builtin.{object_class, throwable_class}
-use Rattle.jvm_model.specs.Classes.{method_at, is_below}
-use Rattle.jvm_model.specs.Entries.{Entry, Entries, entries_of, no_entries, entry_limit}
+use Rattle.jvm_model.specs.Classes.{method_at, is_below, upwards, member}
+use Rattle.jvm_model.specs.Entries.{Entry, Entries, popped_entry, entries_of, no_entries, entry_limit}
 use Rattle.jvm_model.specs.Kinds.{class_of}
-use Rattle.jvm_model.specs.Linked.{IsClass, IsKind, IsHandler, IsPlace, NamesBody}
+use Rattle.jvm_model.specs.Linked.{Linked, IsClass, IsKind, IsHandler, IsPlace, NamesBody}
+use Rattle.jvm_model.specs.Rows.{Answer, answer}
 use Rattle.jvm_model.specs.Raising.{catches, handler_in, handlers_of, handler_for, handled, row_raise}
+use Rattle.jvm_model.proofs.Upwards.{upwards_root}
+use Rattle.type_frames.specs.declared.vtype.VType.{VType}
+use Rattle.type_frames.specs.declared.vtype.VType.TheVariants.{Object}
+use Rattle.type_frames.specs.declared.vtype.Frame.{Frame}
 use Rattle.type_frames.specs.Frames.{Slots}
 use Rattle.type_frames.specs.Descriptors.{name_of}
 use Rattle.type_frames.specs.Environment.{Environment, environment_of, is_target}
-use Rattle.type_frames.specs.Sides.{object_of}
+use Rattle.type_frames.specs.Sides.{sides, object_of}
 use Rattle.type_frames.specs.Rules.{covers, caught, thrown, handles, all_handle, fits_at}
-use Rattle.type_frames.specs.Typing.{IsTyped}
-use Rattle.type_frames.specs.TypedState.{kind_at, IsInstance, Stands, Goes, IsTop, IsBelow, class_begun, IsThrowable}
+use Rattle.type_frames.specs.Typing.{IsTyped, before}
+use Rattle.type_frames.specs.TypedState.{kind_at, IsInstance, Stands, Goes, IsTop, IsBelow, AllBelow, class_begun, IsThrowable}
 use Rattle.type_frames.proofs.AssignLaws.{object_below}
-use Rattle.check_sound.proofs.Tree.{Tree, typed_done}
+use Rattle.check_sound.proofs.Tree.{head_at, Tree, typed_done}
 use Rattle.check_sound.proofs.Grow.{Ranged}
 use Rattle.check_sound.proofs.Held.{Held, Locals, on_top, nothing_held}
-use Rattle.check_sound.proofs.Arrive.{has_number, kept_at, is_body, arrived_at, placed_at, handler_target, or_second}
+use Rattle.check_sound.proofs.Arrive.{Kept, has_number, kept_at, is_body, arrived_at, placed_at, handler_target, or_second}
 use Rattle.check_sound.proofs.Operands.{head-typed}
 use Rattle.check_sound.proofs.Instances.{below_instance}
 use Rattle.check_sound.proofs.Thrown.{builtin_is}
-use Rattle.check_sound.proofs.Ready.{TypedEntries, stub, Rest, IsEntry, opened, closed, below_same, Quiet}
+use Rattle.check_sound.proofs.Ready.{TypedEntries, stub, AllRanged, Rest, IsEntry, Opened, opened, closed, below_same, Ends, Quiet, Row}
 
 -- ---- the entry below one
 
@@ -68,7 +74,7 @@ beneath {p = p} {w = w} {k = k} {n = n} {f = f} {fs = fs} r = record {
 -- no entry at all
 pub none_typed : {p : Program} {w : World} (raised : Option Value) → TypedEntries p w raised no_entries
 unfolding IsDistinct
-none_typed raised = record { references = All-nil _; few = omega arith; top = tt; below = tt; one_each = tt }
+none_typed raised = record { references = All-nil _; few = omega arith; alone = λ q. refl; top = tt; below = tt; one_each = tt }
 
 -- something is raised into the entries below one
 pub raised_below : {p : Program} {w : World} {k : EntryKind} {n : ℕ} (v : Value) (fs : List Entry) → Rest p w k n fs → TypedEntries p w (Some v) (entries_of fs)
@@ -100,32 +106,24 @@ catching : (p : Program) (b : Body) (e : Environment) (f : Slots) (c pc to : ℕ
 catching p b e f c pc to [] ih ic a q = absurd (cc)
 catching p b e f c pc to (h ∷ hs) ih ic a q =
     by (covers h pc) refl (catches p h.catches c) refl
-    (catching p b e f c pc to hs (λ k d g. ih (suc k) d (omega arith)) (λ k d g. ic (suc k) d (omega arith)) (and_parts (handles p e pc f h) (all_handle p e pc f hs) a).1)
+      (catching p b e f c pc to hs (λ k d g. ih (suc k) d (omega arith)) (λ k d g. ic (suc k) d (omega arith)) (and_parts (handles p e pc f h) (all_handle p e pc f hs) a).1)
   where
     some_is : {x y : ℕ} → Some x ≡ Some y → x ≡ y
     some_is z = cc
-
     joined : (x y z : Bool) → x ≡ (y && z) → (t : Bool) → (y && (z && t)) ≡ (x && t)
     joined x true true g t = ap (λ k. k && t) (sym g)
     joined x true false g t = ap (λ k. k && t) (sym g)
     joined x false z g t = ap (λ k. k && t) (sym g)
-
     later : Catching p b e f c to hs → Catching p b e f c to (h ∷ hs)
     later r = record { handler = r.handler; to_is = r.to_is; catches_it = r.catches_it; fits = r.fits; place = r.place; class = r.class; there = or_right (nat_eq h.at r.handler.at) (list_any (λ m. nat_eq m r.handler.at) (map (λ h. h.at) hs)) r.there }
-
     by : (x : Bool) → covers h pc ≡ x → (y : Bool) → catches p h.catches c ≡ y → (handler_in p hs pc c ≡ Some to → Catching p b e f c to hs) → Catching p b e f c to (h ∷ hs)
     by true ex true ey r =
         let z : Some h.at ≡ Some to = sym (ap (λ (k : Bool). cond k (Some h.at) (handler_in p hs pc c)) (joined (covers h pc) (nat_le h.from pc) (nat_lt pc h.to) refl (catches p h.catches c) ∙ (ap (λ (k : Bool). k && catches p h.catches c) ex ∙ ey))) ∙ q in
         let g = or_second (covers h pc) (nat_lt 0 e.body.max_stack && (not (e.starts && f.flag) && fits_at p e (thrown p f h) h.at)) ex (and_parts (handles p e pc f h) (all_handle p e pc f hs) a).0 in
-        record {
-          handler = h;
-          to_is = some_is z;
-          catches_it = ey;
+        record { handler = h; to_is = some_is z; catches_it = ey;
           fits = (and_parts (not (e.starts && f.flag)) (fits_at p e (thrown p f h) h.at) (and_parts (nat_lt 0 e.body.max_stack) (not (e.starts && f.flag) && fits_at p e (thrown p f h) h.at) g).1).1;
-          place = (ih 0 h (omega arith)).at;
-          class = ic 0 h (omega arith);
-          there = or_left (nat_eq h.at h.at) (list_any (λ m. nat_eq m h.at) (map (λ h. h.at) hs)) (eq-eqb h.at h.at refl);
-        }
+          place = (ih 0 h (omega arith)).at; class = ic 0 h (omega arith);
+          there = or_left (nat_eq h.at h.at) (list_any (λ m. nat_eq m h.at) (map (λ h. h.at) hs)) (eq-eqb h.at h.at refl) }
     by true ex false ey r =
         let z : handler_in p hs pc c ≡ Some to = sym (ap (λ (k : Bool). cond k (Some h.at) (handler_in p hs pc c)) (joined (covers h pc) (nat_le h.from pc) (nat_lt pc h.to) refl (catches p h.catches c) ∙ (ap (λ (k : Bool). k && catches p h.catches c) ex ∙ ey))) ∙ q in
         later (r z)
@@ -170,10 +168,10 @@ module _ (p : Program) (ty : IsTyped p) {w : World} {s : Entries} where
       let ls : Locals p w env st.types.locals s.top.locals = record { types = st.locals; range = c.locals } in
       let vs : Held p w env (object_of p (caught h.handler) ∷ []) (value.Obj o ∷ []) = on_top tt (record { type = (lt, is); range = lt }) nothing_held in
       let g = arrived_at p ty s.top.number st.body st.given st.has_code st.has_frames w y.0 y.1 (thrown p st.types h.handler) s.top.locals (value.Obj o ∷ []) y.2
-      (subst (λ (n : ℕ). is_target env n ≡ true) (sym y.3) (handler_target env h.handler.at h.there)) (subst (λ (n : ℕ). fits_at p env (thrown p st.types h.handler) n ≡ true) (sym y.3) h.fits) ls vs in
+          (subst (λ (n : ℕ). is_target env n ≡ true) (sym y.3) (handler_target env h.handler.at h.there)) (subst (λ (n : ℕ). fits_at p env (thrown p st.types h.handler) n ≡ true) (sym y.3) h.fits) ls vs in
       let go : Goes p w (record { kind = InMethod; number = s.top.number; pc = to; stack = value.Obj o ∷ []; locals = s.top.locals }) = subst (λ (n : ℕ). Goes p w (record { kind = InMethod; number = s.top.number; pc = n; stack = value.Obj o ∷ []; locals = s.top.locals })) (y.3 ∙ h.to_is) g in
       typed_done (subst (λ (z : EntryKind). TypedEntries p w None (record { top = record { kind = z; number = s.top.number; pc = to; stack = value.Obj o ∷ []; locals = s.top.locals }; below = s.below })) (sym k)
-      (closed None (record { kind = InMethod; number = s.top.number; pc = to; stack = value.Obj o ∷ []; locals = s.top.locals }) tt go vs.range c.locals (subst (λ (z : EntryKind). Rest p w z s.top.number s.below) k c.rest)))
+        (closed None (record { kind = InMethod; number = s.top.number; pc = to; stack = value.Obj o ∷ []; locals = s.top.locals }) tt go vs.range c.locals (subst (λ (z : EntryKind). Rest p w z s.top.number s.below) k c.rest)))
 
   pub raise-typed : (v : Value) → s.top.kind ≡ InMethod → IsThrowable p w v → TypedEntries p w (Some v) s → Tree p (Quiet p) w (row_raise p v s)
   unfolding row_raise

@@ -1,11 +1,11 @@
 -- Entries that a typed state may have, how a row may end over them, and what a row starts from: the top frame at its
 -- instruction with all rules kept.
-use Rattle.std.proofs.Common.{◌≡◌, ℕ, suc, ◌<◌, ◌≤◌, List, [], ◌∷◌, ◌++◌, length, drop, Bool, true, false, cond, nat_eq, Option, Some, None, IfSome, slice_get, refl, sym, ◌∙◌, ap, subst, arith, inl, inr, All}
+use Rattle.std.proofs.Common.{◌≡◌, ℕ, zero, suc, ◌+◌, ◌-◌, ◌<◌, ◌≤◌, List, [], ◌∷◌, ◌++◌, length, drop, Bool, true, false, not, ◌&&◌, ◌||◌, cond, nat_eq, nat_le, Option, Some, None, IfSome, slice_get, get_or, refl, sym, ◌∙◌, ap, subst, arith, inl, inr, All, append-nil}
 use Rattle.std.specs.Prelude.{flat_map, reverse}
 use Rattle.std.specs.List.{list_any, list_all, IsDistinct}
-use Rattle.std.proofs.lemmas.Bool.{and_parts, leb-true, or_cases, eqb-true}
+use Rattle.std.proofs.lemmas.Bool.{and_parts, cases_Bool, leb-true, or_left, or_right, or_cases, eq-eqb, eqb-true}
 use Rattle.std.proofs.lemmas.Option.{slice_get_within, get_or_from_slice_get}
-use Rattle.std.proofs.lemmas.List.Elements.{All-nil, All-cons}
+use Rattle.std.proofs.lemmas.List.Elements.{All-nil, All-cons, All-append}
 use Rattle.jvm_model.specs.declared.values.Value.{Value}
 use Rattle.jvm_model.specs.declared.values.Value.TheVariants as value
 use Rattle.jvm_model.specs.declared.values.InitState.TheVariants.{Running}
@@ -20,17 +20,17 @@ use Rattle.jvm_model.specs.declared.instr.Instr.{Instr}
 use Rattle.jvm_model.specs.declared.program.Program.{Program}
 use Rattle.jvm_model.specs.declared.program.Body.{Body}
 use Rattle.jvm_model.specs.declared.program.Placed.{Placed}
-use Rattle.jvm_model.specs.World.{World, at}
-use Rattle.jvm_model.specs.Access.{Access}
+use Rattle.jvm_model.specs.World.{World, size, at}
+use Rattle.jvm_model.specs.Access.{Access, done}
 use Rattle.jvm_model.specs.Builtin.{throwable_class}
 use Rattle.jvm_model.specs.declared.program.MethodRec.{MethodRec}
 use Rattle.jvm_model.specs.Classes.{method_at, is_below, is_static, form_at, next_place}
 use Rattle.jvm_model.specs.Descriptors.{parameters, return_type}
-use Rattle.jvm_model.specs.Entries.{Entry, Entries, all_entries, entry_limit, with_stack, with_place}
-use Rattle.jvm_model.specs.Linked.{IsPlace, IsForm, NamesForm, NamesBody, IsFormKind, IsBodyKind, IsFormFound}
+use Rattle.jvm_model.specs.Entries.{Entry, Entries, all_entries, entry_limit, no_entries, with_stack, with_place}
+use Rattle.jvm_model.specs.Linked.{Linked, IsPlace, IsForm, NamesForm, NamesBody, IsFormKind, IsBodyKind, IsFormFound}
 use Rattle.jvm_model.specs.Rows.{Answer, answer, no_row, goes_on, goes_to}
 use Rattle.type_frames.specs.declared.vtype.VType.{VType}
-use Rattle.type_frames.specs.declared.vtype.VType.TheVariants.{Int, Long, Object}
+use Rattle.type_frames.specs.declared.vtype.VType.TheVariants.{Top, Int, Long, Object}
 use Rattle.type_frames.specs.declared.vtype.Frame.{Frame}
 use Rattle.type_frames.specs.declared.sides.Sides.{Sides}
 use Rattle.type_frames.specs.Frames.{Slots}
@@ -40,10 +40,10 @@ use Rattle.type_frames.specs.Environment.{Environment, environment_of, is_target
 use Rattle.type_frames.specs.Sides.{sides}
 use Rattle.type_frames.specs.Rules.{after, fits_at, all_read, can_set}
 use Rattle.type_frames.specs.Typing.{before, IsTyped}
-use Rattle.type_frames.specs.TypedState.{IsInRange, RefersTo, Stands, Goes, Waits, IsPushedBy, IsTop, IsBelow, AllBelow, called_by, class_begun, values_of, IsThrowable}
+use Rattle.type_frames.specs.TypedState.{IsInRange, RefersTo, HasType, Stands, Goes, Waits, Initialises, IsPushedBy, IsTop, IsBelow, AllBelow, called_by, class_begun, values_of, IsThrowable}
 use Rattle.check_sound.proofs.Tree.{Tree, typed_done, Over}
-use Rattle.check_sound.proofs.Grow.{Ranged}
-use Rattle.check_sound.proofs.Held.{Locals, Held}
+use Rattle.check_sound.proofs.Grow.{Ranged, ranged_over, types_over, stack_over}
+use Rattle.check_sound.proofs.Held.{Is, Locals, Held, locals_over, held_over}
 use Rattle.check_sound.proofs.Arrive.{Kept, has_number, kept_at, is_body, form_here, arrived_at, arrived_next, placed_at, leads_target}
 use Rattle.check_sound.proofs.Operands.{Operands}
 
@@ -53,6 +53,7 @@ use Rattle.check_sound.proofs.Operands.{Operands}
 pub record TypedEntries (p : Program) (w : World) (raised : Option Value) (s : Entries) : Type 0 where
   pub references : All (IsInRange p w) (flat_map values_of (all_entries s))
   pub few : length (all_entries s) ≤ entry_limit
+  pub alone : s.top.kind ≡ Absent → s ≡ no_entries
   pub top : IsTop p w raised s.top.kind s.top
   pub below : AllBelow p w s.top s.below
   pub one_each : IsDistinct nat_eq (flat_map class_begun (all_entries s))
@@ -126,11 +127,14 @@ IsEntry k = Unit {0}
 pub closed : {p : Program} {w : World} {fs : List Entry} (raised : Option Value) (e : Entry) → IsEntry e.kind → IsTop p w raised e.kind e → Ranged p w e.stack → Ranged p w e.locals → Rest p w e.kind e.number fs → TypedEntries p w raised (record { top = e; below = fs })
 closed {p = p} {w = w} {fs = fs} raised e i t vs ls r = by e.kind refl i
   where
+    stood : e.kind ≡ Absent → ⊥
+    stood z = subst (λ (k : EntryKind). IsEntry k) z i
     by : (k : EntryKind) → e.kind ≡ k → IsEntry k → TypedEntries p w raised (record { top = e; below = fs })
     by Absent q i = absurd i
     by InMethod q i = record {
       references = subst (λ (es : List Entry). All (IsInRange p w) (flat_map values_of es)) (sym (ap (λ (k : EntryKind). elim k as (λ x. List Entry) [ Absent ↦ fs | InMethod ↦ e ∷ fs | InClass b ↦ e ∷ fs ]) q)) (all_ranged p w (flat_map values_of (e ∷ fs)) (whole_range p w (e ∷ fs) (vs, ls, r.range)));
       few = subst (λ (es : List Entry). length es ≤ entry_limit) (sym (ap (λ (k : EntryKind). elim k as (λ x. List Entry) [ Absent ↦ fs | InMethod ↦ e ∷ fs | InClass b ↦ e ∷ fs ]) q)) (let f = r.few in omega arith);
+      alone = λ z. absurd (stood z);
       top = t;
       below = below_same p w (stub e.kind e.number) e refl refl fs r.each;
       one_each = subst (λ (es : List Entry). IsDistinct nat_eq (flat_map class_begun es)) (sym (ap (λ (k : EntryKind). elim k as (λ x. List Entry) [ Absent ↦ fs | InMethod ↦ e ∷ fs | InClass b ↦ e ∷ fs ]) q)) r.apart;
@@ -138,6 +142,7 @@ closed {p = p} {w = w} {fs = fs} raised e i t vs ls r = by e.kind refl i
     by (InClass b) q i = record {
       references = subst (λ (es : List Entry). All (IsInRange p w) (flat_map values_of es)) (sym (ap (λ (k : EntryKind). elim k as (λ x. List Entry) [ Absent ↦ fs | InMethod ↦ e ∷ fs | InClass b ↦ e ∷ fs ]) q)) (all_ranged p w (flat_map values_of (e ∷ fs)) (whole_range p w (e ∷ fs) (vs, ls, r.range)));
       few = subst (λ (es : List Entry). length es ≤ entry_limit) (sym (ap (λ (k : EntryKind). elim k as (λ x. List Entry) [ Absent ↦ fs | InMethod ↦ e ∷ fs | InClass b ↦ e ∷ fs ]) q)) (let f = r.few in omega arith);
+      alone = λ z. absurd (stood z);
       top = t;
       below = below_same p w (stub e.kind e.number) e refl refl fs r.each;
       one_each = subst (λ (es : List Entry). IsDistinct nat_eq (flat_map class_begun es)) (sym (ap (λ (k : EntryKind). elim k as (λ x. List Entry) [ Absent ↦ fs | InMethod ↦ e ∷ fs | InClass b ↦ e ∷ fs ]) q)) r.apart;
@@ -171,7 +176,7 @@ opened {p = p} {w = w} raised s i t =
 
 -- which throwable is raised makes no difference
 pub any_raised : (p : Program) (w : World) (a b : Value) (s : Entries) → TypedEntries p w (Some a) s → TypedEntries p w (Some b) s
-any_raised p w a b s t = record { references = t.references; few = t.few; top = by s.top.kind t.top; below = t.below; one_each = t.one_each }
+any_raised p w a b s t = record { references = t.references; few = t.few; alone = t.alone; top = by s.top.kind t.top; below = t.below; one_each = t.one_each }
   where
     by : (k : EntryKind) → IsTop p w (Some a) k s.top → IsTop p w (Some b) k s.top
     by Absent h = h
@@ -222,6 +227,8 @@ pub record NativeCall (p : Program) (w : World) (m : ℕ) (s : Entries) : Type 0
   pub rest : List Value
   pub takes : Takes p w (operand_types p (method_at p m)) s.top.stack rest
   pub range : Ranged p w s.top.stack
+  -- there is room for the operands, and for the result over what is left of them
+  pub space : (b : Body) × ((method_at p s.top.number).body ≡ Some b) × (length rest + length (types_of (return_type (method_at p m).descriptor)) ≤ b.max_stack) × (length s.top.stack ≤ b.max_stack)
   pub answered : (v : World) → Grows w v → (vs : List Value) → Gives p v (types_of (return_type (method_at p m).descriptor)) vs rest → TypedEntries p v None (gone_on p s vs)
   pub faulted : (v : World) → Grows w v → (vs : List Value) → Ranged p v vs → TypedEntries p v (Some value.Null) (with_stack s vs)
 
@@ -278,6 +285,7 @@ pub record Ready (p : Program) (w : World) (s : Entries) (i : Instr) : Type 0 wh
   pub given : List Frame
   pub index : ℕ
   pub types : Slots
+  pub fits : length types.stack ≤ body.max_stack
   pub has_code : (method_at p s.top.number).body ≡ Some body
   pub has_frames : given_frames p (method_at p s.top.number) ≡ Some given
   pub there : slice_get body.code index ≡ Some (record { pc = s.top.pc; form = i })
@@ -322,25 +330,23 @@ module _ (p : Program) (ty : IsTyped p) where
       let st = g.stands in
       let e = environment_of p (method_at p s.top.number) st.body st.given in
       let x : Placed = record { pc = s.top.pc; form = st.instruction.form } in
-      let th : slice_get st.body.code st.index ≡ Some x = st.there ∙ ap {B = Option Placed} (λ q. Some (record { pc = q; form = st.instruction.form })) st.place in (
-        st.instruction.form,
-        form_here p ty s.top.number st.body st.given st.has_code st.has_frames st.index x th,
-        record {
-          body = st.body;
-          given = st.given;
-          index = st.index;
-          types = st.types;
-          has_code = st.has_code;
-          has_frames = st.has_frames;
-          there = th;
-          known = st.known;
-          kept = kept_at p ty s.top.number st.body st.given st.has_code st.has_frames st.index x st.types th st.known;
-          kind = k;
-          locals = record { types = st.locals; range = o.locals };
-          stack = record { types = g.operands; range = o.stack };
-          rest = subst (λ (x : EntryKind). Rest p w x s.top.number s.below) k o.rest;
-        },
-      )
+      let th : slice_get st.body.code st.index ≡ Some x = st.there ∙ ap {B = Option Placed} (λ q. Some (record { pc = q; form = st.instruction.form })) st.place in
+      (st.instruction.form, form_here p ty s.top.number st.body st.given st.has_code st.has_frames st.index x th, record {
+        body = st.body;
+        given = st.given;
+        index = st.index;
+        types = st.types;
+        fits = st.fits;
+        has_code = st.has_code;
+        has_frames = st.has_frames;
+        there = th;
+        known = st.known;
+        kept = kept_at p ty s.top.number st.body st.given st.has_code st.has_frames st.index x st.types th st.known;
+        kind = k;
+        locals = record { types = st.locals; range = o.locals };
+        stack = record { types = g.operands; range = o.stack };
+        rest = subst (λ (x : EntryKind). Rest p w x s.top.number s.below) k o.rest;
+      })
 
 module _ (p : Program) (ty : IsTyped p) {w : World} {s : Entries} {i : Instr} (r : Ready p w s i) where
   -- entries with another top frame of the same method over the same rest
@@ -380,26 +386,22 @@ module _ (p : Program) (ty : IsTyped p) {w : World} {s : Entries} {i : Instr} (r
       let t = leads_target (here r) to r.index x r.there l in
       let f = any_all to (leads i) (λ k. fits_at p (here r) (then r) k) l (and_parts _ _ (and_parts _ _ r.kept.four).1).0 in
       frame None to vs s.top.locals
-      (subst (λ (pc : ℕ). Goes p w (record { kind = InMethod; number = s.top.number; pc = pc; stack = vs; locals = s.top.locals })) y.3
-      (arrived_at p ty s.top.number r.body r.given r.has_code r.has_frames w y.0 y.1 (then r) s.top.locals vs y.2
-      (subst (λ (pc : ℕ). is_target (here r) pc ≡ true) (sym y.3) t) (subst (λ (pc : ℕ). fits_at p (here r) (then r) pc ≡ true) (sym y.3) f) hl hv)) hv.range hl.range
+        (subst (λ (pc : ℕ). Goes p w (record { kind = InMethod; number = s.top.number; pc = pc; stack = vs; locals = s.top.locals })) y.3
+          (arrived_at p ty s.top.number r.body r.given r.has_code r.has_frames w y.0 y.1 (then r) s.top.locals vs y.2
+            (subst (λ (pc : ℕ). is_target (here r) pc ≡ true) (sym y.3) t) (subst (λ (pc : ℕ). fits_at p (here r) (then r) pc ≡ true) (sym y.3) f) hl hv)) hv.range hl.range
 
   pub to : {vs : List Value} (at : ℕ) → list_any (λ m. nat_eq m at) (leads i) ≡ true → IsPlace r.body at → Locals p w (here r) (then r).locals s.top.locals → Held p w (here r) (then r).stack vs → Row p w (goes_to at s vs)
   to at l pl hl hv = typed_done (at_typed at l pl hl hv)
 
   -- the frame stands, whatever its operands
   pub standing : (vs : List Value) → Stands p w (record { kind = InMethod; number = s.top.number; pc = s.top.pc; stack = vs; locals = s.top.locals })
-  standing vs = record { body = r.body; given = r.given; index = r.index; instruction = record { pc = s.top.pc; form = i }; types = r.types; has_code = r.has_code; has_frames = r.has_frames; there = r.there; place = refl; known = r.known; locals = r.locals.types }
+  standing vs = record { body = r.body; given = r.given; index = r.index; instruction = record { pc = s.top.pc; form = i }; types = r.types; fits = r.fits; has_code = r.has_code; has_frames = r.has_frames; there = r.there; place = refl; known = r.known; locals = r.locals.types }
 
   -- the frame waits at its call for the method m
   pub waits_typed : (named m : ℕ) → called_by i ≡ Some named → (method_at p m).name ≡ (method_at p named).name → (method_at p m).descriptor ≡ (method_at p named).descriptor → {vs : List Value} → Held p w (here r) (rest r) vs → Waits p w m (record s.top { stack = vs })
   waits_typed named m c a d h = record {
-    stands = record { body = r.body; given = r.given; index = r.index; instruction = record { pc = s.top.pc; form = i }; types = r.types; has_code = r.has_code; has_frames = r.has_frames; there = r.there; place = refl; known = r.known; locals = r.locals.types };
-    named = named;
-    call = c;
-    same_name = a;
-    same_descriptor = d;
-    operands = h.types;
+    stands = record { body = r.body; given = r.given; index = r.index; instruction = record { pc = s.top.pc; form = i }; types = r.types; fits = r.fits; has_code = r.has_code; has_frames = r.has_frames; there = r.there; place = refl; known = r.known; locals = r.locals.types };
+    named = named; call = c; same_name = a; same_descriptor = d; operands = h.types;
   }
 
   -- the frame may be tried again

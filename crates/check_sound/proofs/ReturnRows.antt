@@ -1,5 +1,8 @@
 -- The rows of returns: the entry is popped, and a value goes to the frame below.
-use Rattle.std.proofs.Common.{◌≡◌, ℕ, List, [], ◌∷◌, ◌++◌, length, drop, Bool, true, ◌&&◌, Option, Some, None, IfSome, slice_get, refl, sym, ◌∙◌, ap, subst}
+use Rattle.std.proofs.Common.{◌≡◌, ℕ, zero, suc, ◌+◌, ◌-◌, ◌<◌, ◌≤◌, List, [], ◌∷◌, ◌++◌, length, drop, Bool, true, false, not, ◌&&◌, nat_eq, nat_le, Option, Some, None, IfSome, slice_get, refl, sym, ◌∙◌, ap, subst, arith}
+use Rattle.std.proofs.lemmas.Bool.{and_parts, leb-true}
+use Rattle.std.proofs.lemmas.List.{length-drop}
+use Rattle.check_sound.proofs.Grow.{Ranged}
 use Rattle.jvm_model.specs.declared.values.Value.{Value}
 use Rattle.jvm_model.specs.declared.values.Value.TheVariants as value
 use Rattle.jvm_model.specs.declared.program.Body.{Body}
@@ -10,40 +13,43 @@ use Rattle.jvm_model.specs.declared.instr.Instr.TheVariants as form
 use Rattle.jvm_model.specs.declared.instr.Sort.{Sort}
 use Rattle.jvm_model.specs.declared.instr.Sort.TheVariants as sort
 use Rattle.jvm_model.specs.declared.program.Program.{Program}
+use Rattle.jvm_model.specs.declared.program.MethodRec.{MethodRec}
 use Rattle.jvm_model.specs.declared.program.Placed.{Placed}
 use Rattle.jvm_model.specs.World.{World}
 use Rattle.jvm_model.specs.Classes.{method_at, next_place}
 use Rattle.jvm_model.specs.Descriptors.{return_type}
-use Rattle.jvm_model.specs.Entries.{Entry, Entries, entries_of}
+use Rattle.jvm_model.specs.Entries.{Entry, Entries, entries_of, popped_entry}
 use Rattle.jvm_model.specs.Linked.{IsClass, IsMethod, NamesForm, NamesBody}
 use Rattle.jvm_model.specs.Narrow.{narrowed}
-use Rattle.jvm_model.specs.Rows.{goes_on}
+use Rattle.jvm_model.specs.Rows.{Answer, answer, goes_on}
 use Rattle.jvm_model.specs.RowsReturn.{handed_on, hands_on, row_return}
 use Rattle.jvm_model.specs.Step.{group_of, returns}
 use Rattle.type_frames.specs.declared.vtype.VType.{VType}
-use Rattle.type_frames.specs.declared.vtype.VType.TheVariants.{Int, Long, Object}
+use Rattle.type_frames.specs.declared.vtype.VType.TheVariants.{Top, Int, Long, Null, Object, UninitThis, Uninit}
+use Rattle.type_frames.specs.declared.sides.Need.{Need}
+use Rattle.type_frames.specs.declared.sides.Need.TheVariants.{Fits, Half}
 use Rattle.type_frames.specs.Descriptors.{types_of}
 use Rattle.type_frames.specs.Environment.{Environment, environment_of}
-use Rattle.type_frames.specs.Sides.{sides, result_types, return_typed}
-use Rattle.type_frames.specs.Rules.{turned}
+use Rattle.type_frames.specs.Sides.{sides, on_stack, result_types, return_typed, return_sides}
+use Rattle.type_frames.specs.Rules.{turned, after}
 use Rattle.type_frames.specs.Typing.{IsTyped}
-use Rattle.type_frames.specs.TypedState.{IsInRange, Waits, IsTop, IsBelow, called_by}
-use Rattle.check_sound.proofs.Tree.{typed_done}
+use Rattle.type_frames.specs.TypedState.{IsInRange, Waits, Goes, IsTop, IsBelow, Initialises, called_by, HasType}
+use Rattle.check_sound.proofs.Tree.{Tree, typed_done}
 use Rattle.check_sound.proofs.Held.{Is, Locals, Held}
-use Rattle.check_sound.proofs.Operands.{Operands, popping-fits, popping-long}
-use Rattle.check_sound.proofs.Arrive.{has_number, kept_at, arrived_next}
+use Rattle.check_sound.proofs.Operands.{Operands, rest_of, popping-fits, popping-long}
+use Rattle.check_sound.proofs.Arrive.{Kept, has_number, kept_at, arrived_next}
 use Rattle.check_sound.proofs.Ready.{TypedEntries, stub, Rest, IsEntry, closed, all_placed, HasPlain, Ends, Row, Ready, here, rest, operands}
-use Rattle.check_sound.proofs.CallSides.{call_of, Result, narrowed_plain, narrowed_range, push}
+use Rattle.check_sound.proofs.CallSides.{values_few, on_stack_length, CallSides, call_of, Result, narrowed_plain, narrowed_range, push}
 use Rattle.check_sound.proofs.RaiseRows.{Beneath, beneath, none_typed}
 
 -- what a return of this sort says of the result
-abbrev SortOf : List VType → Option Sort → Type 0
+abbrev pub SortOf : List VType → Option Sort → Type 0
 SortOf rs None = rs ≡ []
 SortOf rs (Some sort.Int) = rs ≡ Int ∷ []
 SortOf rs (Some sort.Long) = rs ≡ Long ∷ []
 SortOf rs (Some sort.Ref) = (a : List ℕ) × (rs ≡ Object a ∷ [])
 
-sort_of : (rs : List VType) (early : Bool) (x : Option Sort) → (return_typed rs early x).returns_well ≡ true → SortOf rs x
+pub sort_of : (rs : List VType) (early : Bool) (x : Option Sort) → (return_typed rs early x).returns_well ≡ true → SortOf rs x
 sort_of [] early None e = refl
 sort_of (Int ∷ []) early (Some sort.Int) e = refl
 sort_of (Long ∷ []) early (Some sort.Long) e = refl
@@ -105,7 +111,25 @@ module _ (p : Program) (ty : IsTyped p) where
       let l = c.locals w f.locals ls in
       let go = arrived_next p ty f.number st.body st.given st.has_code st.has_frames w st.index x st.types f.locals (vs ++ f.stack) th st.known c.falls l held in
       typed_done (subst (λ (z : EntryKind). TypedEntries p w None (record { top = record { kind = z; number = f.number; pc = next_place p f.number f.pc; stack = vs ++ f.stack; locals = f.locals }; below = fs })) (sym k)
-      (closed None (record { kind = InMethod; number = f.number; pc = next_place p f.number f.pc; stack = vs ++ f.stack; locals = f.locals }) tt go held.range l.range (subst (λ (z : EntryKind). Rest p w z f.number fs) k b.rest)))
+        (closed None (record { kind = InMethod; number = f.number; pc = next_place p f.number f.pc; stack = vs ++ f.stack; locals = f.locals }) tt go held.range l.range (subst (λ (z : EntryKind). Rest p w z f.number fs) k b.rest)))
+
+  -- the frame below has room for the result
+  pub back_room : {w : World} (n : ℕ) (f : Entry) → Waits p w n f → Ranged p w f.locals → (b : Body) × ((method_at p f.number).body ≡ Some b) × (length f.stack + length (types_of (return_type (method_at p n).descriptor)) ≤ b.max_stack)
+  back_room {w = w} n f h g =
+      let st = h.stands in
+      let e = environment_of p (method_at p f.number) st.body st.given in
+      let x : Placed = record { pc = f.pc; form = st.instruction.form } in
+      let th : slice_get st.body.code st.index ≡ Some x = st.there ∙ ap {B = Option Placed} (λ q. Some (record { pc = q; form = st.instruction.form })) st.place in
+      let kept = kept_at p ty f.number st.body st.given st.has_code st.has_frames st.index x st.types th st.known in
+      let names = all_placed (λ y. NamesForm p y.form) st.body.code st.index st.instruction (subst (λ (o : Option Body). IfSome o (λ b. NamesBody p b)) st.has_code (ty.linked.numbers.bodies f.number (has_number p ty f.number st.body st.has_code))).forms st.there in
+      let c = call_of p ty.linked e st.index x st.types h.named h.call (named_class st.instruction.form h.named h.call names) (home f.number (has_number p ty f.number st.body st.has_code)) kept in
+      let o = sides p e f.pc st.types st.instruction.form in
+      let r = leb-true _ _ (and_parts (nat_le (length o.takes) (length st.types.stack)) (nat_le (length o.gives + (length st.types.stack - length o.takes)) st.body.max_stack) kept.one).1 in
+      let d = length-drop (length o.takes) st.types.stack in
+      let v = values_few p w e (drop (length o.takes) st.types.stack) f.stack h.operands in
+      let k : length o.gives ≡ length (on_stack (types_of (return_type (method_at p n).descriptor))) = ap length c.gives ∙ ap (λ (z : List ℕ). length (on_stack (types_of (return_type z)))) (sym h.same_descriptor) in
+      let l = on_stack_length (types_of (return_type (method_at p n).descriptor)) in
+      (st.body, st.has_code, omega arith)
 
   -- these values go to the entry below
   hands : {w : World} (n : ℕ) (vs : List Value) (fs : List Entry) → Rest p w InMethod n fs → Result p w (types_of (return_type (method_at p n).descriptor)) vs → Row p w (handed_on (entries_of fs).top.kind p vs (entries_of fs))
@@ -116,7 +140,6 @@ module _ (p : Program) (ty : IsTyped p) where
       given [] t k q = t
       given (v ∷ []) t k q = t
       given (v ∷ u ∷ vs) t k q = absurd (no_more p w v u vs (types_of (return_type (method_at p n).descriptor)) q)
-
       by : (k : EntryKind) → f.kind ≡ k → IsBelow p w f k (stub InMethod n) InMethod → Row p w (handed_on k p vs (record { top = f; below = fs }))
       by InMethod k h = given vs (back n f fs vs k h (beneath r) q) k q
       by (InClass b) k h = typed_done (closed None f (subst (λ (z : EntryKind). IsEntry z) (sym k) tt) (subst (λ (z : EntryKind). IsTop p w None z f) (sym k) h.0) (beneath r).stack (beneath r).locals (beneath r).rest)

@@ -1,24 +1,24 @@
 -- What a selected method is: it has the name and descriptor of the one that a call names, and the receiver is an instance of
 -- its class. Where none is selected, a throwable is thrown.
-use Rattle.std.proofs.Common.{◌≡◌, ◌⊎◌, ℕ, zero, suc, ◌≤◌, List, [], ◌∷◌, ◌++◌, length, get_or, filter, Bool, true, false, not, ◌&&◌, ◌||◌, cond, nat_eq, Option, Some, None, IfSome, refl, sym, ◌∙◌, subst, arith, inl, inr, All}
+use Rattle.std.proofs.Common.{◌≡◌, ◌⊎◌, ℕ, zero, suc, ◌<◌, ◌≤◌, List, [], ◌∷◌, ◌++◌, length, get_or, filter, Bool, true, false, not, ◌&&◌, ◌||◌, cond, nat_eq, Option, Some, None, IfSome, refl, sym, ◌∙◌, ap, subst, arith, inl, inr, All}
 use Rattle.std.specs.Prelude.{flat_map}
 use Rattle.std.specs.List.{find, list_any, list_all}
 use Rattle.std.specs.Str.{bytes_eq}
-use Rattle.std.proofs.lemmas.Bool.{cases_lt, and_parts, or_cases, or_left, or_right, eqb-true, eq-eqb, not-true}
+use Rattle.std.proofs.lemmas.Bool.{cases_Bool, cases_lt, and_parts, or_cases, or_left, or_right, eqb-true, eq-eqb, not-true}
 use Rattle.jvm_model.specs.declared.values.Kind.{Kind}
 use Rattle.jvm_model.specs.declared.values.Kind.TheVariants as kind
 use Rattle.jvm_model.specs.declared.program.Program.{Program}
 use Rattle.jvm_model.specs.declared.program.ClassRec.{ClassRec}
 use Rattle.jvm_model.specs.Builtin.{object_class, builtin_count}
 use Rattle.jvm_model.specs.Library.{builtin_defs, builtin_classes}
-use Rattle.jvm_model.specs.Classes.{class_at, method_at, no_class, member, is_static, is_private, is_interface, is_below, upwards, class_bound, lineage_in, own_interfaces, implements, init_name}
+use Rattle.jvm_model.specs.Classes.{class_at, method_at, no_class, member, first_mentions, is_static, is_private, is_interface, is_below, upwards, upwards_in, class_bound, lineage_in, own_interfaces, implements, init_name}
 use Rattle.jvm_model.specs.Kinds.{class_of}
-use Rattle.jvm_model.specs.Lookup.{is_method, find_method, find_declared, find_in_object, find_in_interfaces, interface_methods, superinterfaces, pedigree_in, one_or_first, or_else}
-use Rattle.jvm_model.specs.Selection.{Selected, chosen, failing, is_like, is_open_like, declared_in, all_interfaces, candidates, kept_of, has_code, one_with_code, kept_method, or_kept, select, select_virtual, select_interface, named_class, above_or, special_start, special_path, select_special}
-use Rattle.jvm_model.specs.Linked.{Linked, IsClass, IsMethod, IsKind, IsPlainMethod, IsFound, IsFoundIn, is_interface_at}
+use Rattle.jvm_model.specs.Lookup.{is_method, find_method, find_declared, find_in_object, find_in_interfaces, interface_methods, superinterfaces, pedigree_in, one_or_first, or_else, lacks_method}
+use Rattle.jvm_model.specs.Selection.{Selected, chosen, failing, is_like, is_open_like, declared_in, all_interfaces, candidates, kept_of, redeclares, has_code, one_with_code, kept_method, or_kept, select, select_virtual, select_interface, named_class, above_or, special_start, special_path, select_special}
+use Rattle.jvm_model.specs.Linked.{Linked, IsClass, IsMethod, IsKind, IsPlainMethod, IsFound, IsFoundIn, is_interface_at, IsClassKind}
 use Rattle.std.proofs.lemmas.List.Folds.{list_any-append}
 use Rattle.jvm_model.proofs.Interfaces.{member-flat_map, member-first_mentions, reached}
-use Rattle.jvm_model.proofs.BuiltinRules.{class_keeps}
+use Rattle.jvm_model.proofs.BuiltinRules.{class_keeps, enough_classes}
 use Rattle.jvm_model.proofs.Upwards.{member_class, upwards_step, below_same}
 use Rattle.type_frames.specs.declared.vtype.VType.TheVariants.{Object}
 use Rattle.type_frames.specs.Descriptors.{name_of, kind_name}
@@ -158,7 +158,7 @@ module _ (p : Program) (lk : Linked p) where
   lineage zero j i h m = absurd cc
   lineage (suc k) j i h m = elim (or_cases (member i (flat_map (λ c. lineage_in p k c) (class_at p j).interfaces)) (member i (j ∷ [])) (sym (split (flat_map (λ c. lineage_in p k c) (class_at p j).interfaces)) ∙ m)) [
     | inl e ↦ (let q = any_some (λ c. member i (lineage_in p k c)) (class_at p j).interfaces (sym (member-flat_map i (λ c. lineage_in p k c) (class_at p j).interfaces) ∙ e) in lineage k q.0 i (direct j q.0 q.1) q.2)
-    | inr e ↦ elim (or_cases (nat_eq i j) false e) [ inl r ↦ subst IsInterface (sym (eqb-true i j r)) h | inr r ↦ absurd cc ]
+    | inr e ↦ elim (or_cases (nat_eq i j) false e) [ | inl r ↦ subst IsInterface (sym (eqb-true i j r)) h | inr r ↦ absurd cc ]
   ]
     where
       split : (xs : List ℕ) → member i (xs ++ (j ∷ [])) ≡ (member i xs || member i (j ∷ []))
@@ -281,7 +281,7 @@ module _ (p : Program) (lk : Linked p) where
   in_interfaces x m c name descriptor e =
       let ms = interface_methods p c name descriptor in
       let listed = one_or_first_of m _ ms (λ n q.
-      (filtered _ ms n (filtered (λ k. has_code p k) (kept_of p ms) n (sym (member-first_mentions n _) ∙ q)).listed).listed) e in
+        (filtered _ ms n (filtered (λ k. has_code p k) (kept_of p ms) n (sym (member-first_mentions n _) ∙ q)).listed).listed) e in
       let d = filtered _ (flat_map (λ i. (class_at p i).methods) (superinterfaces p c)) m listed in
       owned x (superinterfaces p c) m (of_classes (superinterfaces p c) m d.listed) (λ i r. of_interface i (of_super c i r) x)
 
@@ -291,7 +291,7 @@ module _ (p : Program) (lk : Linked p) where
       subst (λ (c : ℕ). IsInstance p x (name_of p c)) (sym d.own) (of_object x)
 
   only : (x : Kind) (c d : ℕ) → IsInstance p x (name_of p c) → member d (c ∷ []) ≡ true → IsInstance p x (name_of p d)
-  only x c d h m = elim (or_cases (nat_eq d c) false m) [ inl e ↦ subst (λ (k : ℕ). IsInstance p x (name_of p k)) (sym (eqb-true d c e)) h | inr e ↦ absurd cc ]
+  only x c d h m = elim (or_cases (nat_eq d c) false m) [ | inl e ↦ subst (λ (k : ℕ). IsInstance p x (name_of p k)) (sym (eqb-true d c e)) h | inr e ↦ absurd cc ]
 
   -- an instance of the class from which a method is looked up is one of the method's class
   found_owner : (x : Kind) (c m : ℕ) → IsClass p c → IsInstance p x (name_of p c) → IsFound p c m → IsInstance p x (name_of p (method_at p m).class)
@@ -378,4 +378,4 @@ module _ (p : Program) (lk : Linked p) where
       let c = special_start p current (named_class named) in
       let st = start_of x current named h kn a i in
       subst (λ (b : Bool). SelectedOf p m x (cond b (chosen m) (or_kept p m c (declared_in p (λ z. is_like p m z) (special_path p c))))) (sym n)
-      (first_declared x m c (λ z. is_like p m z) (special_path p c) (λ z q. q) (λ d r. path_of x c d st.0 st.1 r))
+        (first_declared x m c (λ z. is_like p m z) (special_path p c) (λ z q. q) (λ d r. path_of x c d st.0 st.1 r))

@@ -1,5 +1,6 @@
 -- The rows of getstatic and putstatic.
-use Rattle.std.proofs.Common.{ℕ, List, [], ◌∷◌, refl, sym, subst, append-nil}
+use Rattle.std.proofs.Common.{◌≡◌, ℕ, ◌<◌, List, [], ◌∷◌, ◌++◌, length, refl, sym, subst, append-nil}
+use Rattle.jvm_model.specs.declared.values.Value.{Value}
 use Rattle.jvm_model.specs.declared.instr.Instr.TheVariants as form
 use Rattle.jvm_model.specs.declared.program.Program.{Program}
 use Rattle.jvm_model.specs.World.{World}
@@ -23,7 +24,7 @@ module _ (p : Program) (ty : IsTyped p) {w : World} {s : Entries} where
   get_static f r =
       let h = names_form p ty r in
       using-typed p ty r (field_at p f).class (ty.linked.numbers.fields f h)
-      (typed_read h (λ v d. on p ty r refl r.locals (push p w (here r) (types_of (field_at p f).descriptor) (rest r) (v ∷ []) s.top.stack (declared_result p w (field_at p f).descriptor v d) (rest_of (operands r)))))
+        (typed_read h (λ v d. on p ty r refl r.locals (push p w (here r) (types_of (field_at p f).descriptor) (rest r) (v ∷ []) s.top.stack (declared_result p w (field_at p f).descriptor v d) (rest_of (operands r)))))
 
   pub put_static : (f : ℕ) → Ready p w s (form.PutStatic f) → Row p w (row_statics p (form.PutStatic f) s)
   unfolding row_statics write_static sides
@@ -32,5 +33,5 @@ module _ (p : Program) (ty : IsTyped p) {w : World} {s : Entries} where
       let d = (field_at p f).descriptor in
       let t = text_of_field d (ty.linked.listed.field_names f h).1 in
       using-typed p ty r (field_at p f).class (ty.linked.numbers.fields f h)
-      (popping-declared p ty (Ends p) d t (subst (λ (ns : List Need). Operands p w (here r) ns r.types.stack (rest r) s.top.stack) (sym (append-nil (needs_of d))) (operands r)) (λ v ws us a o.
-      typed_write tt h (argument_stored p w d v t a) (on p ty r refl r.locals (rest_of o))))
+        (popping-declared p ty (Ends p) d t (subst (λ (ns : List Need). Operands p w (here r) ns r.types.stack (rest r) s.top.stack) (sym (append-nil (needs_of d))) (operands r)) (λ v ws us a o.
+          typed_write tt h (argument_stored p w d v t a) (on p ty r refl r.locals (rest_of o))))

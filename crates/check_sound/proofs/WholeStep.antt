@@ -1,6 +1,8 @@
 -- The whole step of a typed state: its row, what comes after it, and what the run leaves.
-use Rattle.std.proofs.Common.{◌≡◌, ℕ, Option, Some, None, IfSome, refl, sym, ◌∙◌, subst, arith}
+use Rattle.std.proofs.Common.{◌≡◌, ℕ, ◌<◌, ◌≤◌, List, [], ◌∷◌, Bool, true, false, Option, Some, None, IfSome, refl, sym, ◌∙◌, ap, subst, arith}
 use Rattle.jvm_model.specs.declared.values.Value.{Value}
+use Rattle.jvm_model.specs.declared.values.Value.TheVariants as value
+use Rattle.jvm_model.specs.declared.values.InitState.{InitState}
 use Rattle.jvm_model.specs.declared.values.Location.TheVariants as place
 use Rattle.jvm_model.specs.declared.state.EntryKind.{EntryKind}
 use Rattle.jvm_model.specs.declared.state.EntryKind.TheVariants.{Absent, InMethod, InClass}
@@ -11,10 +13,11 @@ use Rattle.jvm_model.specs.declared.outcome.Next.TheVariants as after
 use Rattle.jvm_model.specs.declared.program.Program.{Program}
 use Rattle.jvm_model.specs.World.{World, size, put, make_object}
 use Rattle.jvm_model.specs.Access.{Access, done, read, write, make, spend, bind, run}
-use Rattle.jvm_model.specs.Classes.{method_at}
+use Rattle.jvm_model.specs.Classes.{method_at, form_at}
 use Rattle.jvm_model.specs.Entries.{Entries}
 use Rattle.jvm_model.specs.Natives.{row_native}
 use Rattle.jvm_model.specs.Driver.{drive}
+use Rattle.jvm_model.specs.Working.{Working}
 use Rattle.jvm_model.specs.Rows.{Answer, answer, no_row}
 use Rattle.jvm_model.specs.RowsStatics.{row_statics}
 use Rattle.jvm_model.specs.RowsFields.{row_fields}
@@ -27,9 +30,9 @@ use Rattle.jvm_model.specs.Raising.{row_raise}
 use Rattle.jvm_model.specs.Initialise.{row_finish, row_fail}
 use Rattle.jvm_model.specs.View.{IsSafe, IsTurn}
 use Rattle.type_frames.specs.Typing.{IsTyped}
-use Rattle.type_frames.specs.TypedState.{TypedWorld, TypedState, IsThrowable}
+use Rattle.type_frames.specs.TypedState.{TypedWorld, TypedState, IsThrowable, HasStage}
 use Rattle.check_sound.specs.StepLaw.{StaysTyped}
-use Rattle.check_sound.proofs.Tree.{Tree, typed_done, typed_read, typed_write, typed_mark, typed_make, typed_spend, typed_known, Over, Alike}
+use Rattle.check_sound.proofs.Tree.{Tree, typed_done, typed_read, typed_write, typed_mark, typed_make, typed_spend, typed_known, Over, Alike, Leaves}
 use Rattle.check_sound.proofs.Grow.{over_itself, alike_over, throwable_over}
 use Rattle.check_sound.proofs.WorldKept.{mark_over, make_over}
 use Rattle.check_sound.proofs.TreeRuns.{alike_itself, tree_safe, tree_leaves}
@@ -90,7 +93,7 @@ module _ (p : Program) (ty : IsTyped p) (gs : Groups p) where
       by returns q = returns-typed p ty i q r
       by throw q = thrown-typed w s i q r
 
-  here-typed : (w : World) (s : Entries) → s.top.kind ≡ InMethod → TypedEntries p w None s → Row p w (row_here p s)
+  pub here-typed : (w : World) (s : Entries) → s.top.kind ≡ InMethod → TypedEntries p w None s → Row p w (row_here p s)
   unfolding row_here
   here-typed w s k t = let r = ready p ty s k t in subst (λ (o : Option Instr). Row p w (row_or_none p o s)) (sym r.1) (row-typed w s r.0 r.2)
 
@@ -139,7 +142,7 @@ module _ (p : Program) (ty : IsTyped p) (gs : Groups p) where
   -- ---- typed states
 
   pub local_of : (w : World) (s : State) → TypedState p w s → Local p w s
-  local_of w s t = record { test = t.test; entries = record { references = t.references; few = t.few; top = t.top; below = t.below; one_each = t.one_each }; raised = t.raised; stage = t.stage }
+  local_of w s t = record { test = t.test; entries = record { references = t.references; few = t.few; alone = t.alone; top = t.top; below = t.below; one_each = t.one_each }; raised = t.raised; stage = t.stage }
 
   some_over : (u w : World) → Over u w → (x : Option Value) → IfSome x (IsThrowable p u) → IfSome x (IsThrowable p w)
   some_over u w g None h = tt
@@ -148,7 +151,7 @@ module _ (p : Program) (ty : IsTyped p) (gs : Groups p) where
   typed_of : (u w : World) (s : State) → Alike u w → TypedWorld p w → Local p u s → TypedState p w s
   typed_of u w s a t h =
       let e = entries_grow s.raised s.entries (grows_alike u w a) h.entries in
-      record { test = h.test; world = t; references = e.references; few = e.few; top = e.top; below = e.below; one_each = e.one_each; raised = some_over u w (alike_over u w a) s.raised h.raised; stage = stage_over p u w (alike_over u w a) (test_at p s.test) s.stage h.stage }
+      record { test = h.test; world = t; references = e.references; few = e.few; alone = e.alone; top = e.top; below = e.below; one_each = e.one_each; raised = some_over u w (alike_over u w a) s.raised h.raised; stage = stage_over p u w (alike_over u w a) (test_at p s.test) s.stage h.stage }
 
   left : (u w : World) (x : Turn) → Alike u w → TypedWorld p w → TurnsTo p u x → StaysTyped p w x
   left u w (next s) a t h = typed_of u w s a t h

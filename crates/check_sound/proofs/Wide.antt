@@ -1,5 +1,5 @@
 -- A frame of types has as many locals as the method has at least.
-use Rattle.std.proofs.Common.{◌≡◌, ℕ, zero, suc, ◌+◌, ◌-◌, ◌≤◌, List, [], ◌∷◌, length, map, replicate, slice_get, slice_set, Bool, true, false, cond, Option, Some, None, refl, sym, ◌∙◌, ap, subst, arith, length-append}
+use Rattle.std.proofs.Common.{◌≡◌, ℕ, zero, suc, ◌+◌, ◌-◌, ◌<◌, ◌≤◌, List, [], ◌∷◌, ◌++◌, length, map, replicate, slice_get, slice_set, Bool, true, false, not, ◌&&◌, ◌||◌, cond, nat_eq, nat_lt, Option, Some, None, refl, sym, ◌∙◌, ap, subst, arith, inl, inr, length-append, add-one}
 use Rattle.std.specs.Prelude.{slice_index_or}
 use Rattle.std.proofs.lemmas.List.{length-replicate}
 use Rattle.jvm_model.specs.declared.program.Program.{Program}
@@ -10,6 +10,7 @@ use Rattle.jvm_model.specs.declared.program.Placed.{Placed}
 use Rattle.type_frames.specs.declared.vtype.VType.{VType}
 use Rattle.type_frames.specs.declared.vtype.VType.TheVariants.{Top, Long}
 use Rattle.type_frames.specs.declared.vtype.Frame.{Frame}
+use Rattle.type_frames.specs.declared.sides.Sides.{Sides}
 use Rattle.type_frames.specs.declared.sides.Setting.{Setting}
 use Rattle.type_frames.specs.declared.sides.Turn.{Turn}
 use Rattle.type_frames.specs.declared.sides.Turn.TheVariants.{Keep, All}
@@ -18,7 +19,7 @@ use Rattle.type_frames.specs.Given.{entry_types, all_types, joined, locals_after
 use Rattle.type_frames.specs.Environment.{Environment, environment_of, given_at, is_target, found_at}
 use Rattle.type_frames.specs.Sides.{sides}
 use Rattle.type_frames.specs.Rules.{turned, turned_one, cut_long, set_one, set_all, after, opening}
-use Rattle.type_frames.specs.Typing.{passed_on, taken_at, taken_by, incoming, before}
+use Rattle.type_frames.specs.Typing.{passed, passed_on, taken_at, taken_by, incoming, before}
 
 abbrev IsWide : ℕ → Frame → Type 0
 IsWide n g = n ≤ length g.locals
@@ -37,7 +38,6 @@ then_wide b pc locals (Some stack) rest gs f e = by (is_place b.code pc) e
     at_rest : (rest : Option (List Frame)) → ((hs : List Frame) → rest ≡ Some hs → AllWide b.max_locals hs) → joined (Some (frame_at b.max_locals pc locals stack)) rest ≡ Some gs → AllWide b.max_locals gs
     at_rest None f e = absurd (cc)
     at_rest (Some hs) f e = let q : frame_at b.max_locals pc locals stack ∷ hs ≡ gs = cc in subst (λ (xs : List Frame). AllWide b.max_locals xs) q (padded_wide b.max_locals (spread locals), f hs refl)
-
     by : (x : Bool) → elim x as (λ z. Option (List Frame)) [ true ↦ joined (Some (frame_at b.max_locals pc locals stack)) rest | false ↦ None ] ≡ Some gs → AllWide b.max_locals gs
     by true e = at_rest rest f e
     by false e = absurd (cc)
@@ -91,7 +91,7 @@ map_length : (a b : VType) (ts : List VType) → length (map (turned_one a b) ts
 map_length a b [] = refl
 map_length a b (t ∷ ts) = ap suc (map_length a b ts)
 
-turned_length : (x : Turn) (ts : List VType) → length (turned x ts) ≡ length ts
+pub turned_length : (x : Turn) (ts : List VType) → length (turned x ts) ≡ length ts
 turned_length Keep ts = refl
 turned_length (All a b) ts = map_length a b ts
 

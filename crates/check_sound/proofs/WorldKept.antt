@@ -1,24 +1,27 @@
 -- A typed world stays typed over writes and new objects.
-use Rattle.std.proofs.Common.{◌≡◌, ◌≢◌, ℕ, ◌<◌, [], length, true, refl, sym, ◌∙◌, ap, subst, inl, inr, arith, Some}
+use Rattle.std.proofs.Common.{◌≡◌, ◌≢◌, ℕ, zero, suc, ◌<◌, ◌≤◌, List, [], ◌∷◌, ◌++◌, length, true, refl, sym, ◌∙◌, ap, subst, inl, inr, arith, Some}
 use Rattle.std.proofs.lemmas.Bool.{cases_Bool}
 use Rattle.std.proofs.Math.Seq.{get_or-append_seam}
 use Rattle.jvm_model.specs.declared.values.Value.{Value}
+use Rattle.jvm_model.specs.declared.values.Value.TheVariants as value
 use Rattle.jvm_model.specs.declared.values.Kind.{Kind}
+use Rattle.jvm_model.specs.declared.values.Kind.TheVariants as kind
+use Rattle.jvm_model.specs.declared.values.Base.{Base}
 use Rattle.jvm_model.specs.declared.values.Head.{Head}
 use Rattle.jvm_model.specs.declared.values.InitState.{InitState}
 use Rattle.jvm_model.specs.declared.values.Location.{Location}
 use Rattle.jvm_model.specs.declared.values.Location.TheVariants as place
 use Rattle.jvm_model.specs.declared.program.Program.{Program}
 use Rattle.jvm_model.specs.World.{Content, Object, World, no_object, size, object_at, at, put, make_object, part, same}
-use Rattle.jvm_model.specs.Classes.{field_at, member}
-use Rattle.jvm_model.specs.Linked.{IsKind}
+use Rattle.jvm_model.specs.Classes.{field_at, member, layout}
+use Rattle.jvm_model.specs.Linked.{IsKind, IsField}
 use Rattle.jvm_model.specs.View.{Exists, keys}
 use Rattle.jvm_model.proofs.Locations.{same_true, same_false, at_put_same, at_put_other, at_make_new, at_make_other, size_put, size_make, IsOf, is_of_cases}
 use Rattle.jvm_model.proofs.Bridges.{exists_has}
 use Rattle.jvm_model.proofs.Standing.{exists_put, exists_make}
 use Rattle.type_frames.specs.TypedState.{kind_at, IsDeclared, element_text, TypedWorld}
-use Rattle.check_sound.proofs.Tree.{IsSpot, FitsSpot, IsPlainSpot, IsNew, Over, Alike}
-use Rattle.check_sound.proofs.Grow.{alike_over, alike_back, kind_over, declared_over}
+use Rattle.check_sound.proofs.Tree.{head_at, IsSpot, FitsSpot, IsPlainSpot, IsNew, Over, Alike}
+use Rattle.check_sound.proofs.Grow.{over_itself, alike_over, alike_back, kind_over, declared_over}
 
 -- all locations are there, and each holds what it should
 pub record Whole (p : Program) (w : World) : Type 0 where
@@ -37,7 +40,6 @@ whole p w t = record { there = there; fits = fits }
     there (place.Text o) i = i
     there (place.File n) i = tt
     there (place.Prop n) i = tt
-
     fits : (l : Location) → IsSpot p w l → FitsSpot p w l (at w l)
     fits (place.Static f) i = (t.statics f i).1
     fits (place.Init c) i = refl
@@ -54,10 +56,8 @@ typed_world p w t = record {
   states = λ c i. t.there (place.Init c) i;
   kinds = λ o i. (t.fits (place.Head o) i).1;
   fields = λ o c f i e m. (t.there (place.Field o f) (c, i, e, m), t.fits (place.Field o f) (c, i, e, m));
-  elements = λ o d k b i e h. (
-    t.there (place.Elem o k) (d, b, i, e, h),
-    subst (λ (x : Kind). IsDeclared p w (element_text p x) (at w (place.Elem o k))) e (t.fits (place.Elem o k) (d, b, i, e, h)),
-  );
+  elements = λ o d k b i e h. (t.there (place.Elem o k) (d, b, i, e, h),
+    subst (λ (x : Kind). IsDeclared p w (element_text p x) (at w (place.Elem o k))) e (t.fits (place.Elem o k) (d, b, i, e, h)));
 }
 
 module _ (p : Program) where
@@ -149,7 +149,7 @@ module _ (p : Program) where
     fits = λ m j. elim (cases_Bool (same m l)) [
       | inl e ↦ let s = same_true m l e in
           subst (λ (z : Location). FitsSpot p v z (at v z)) (sym s)
-          (subst (λ (d : Content l). FitsSpot p v l d) (sym (ap (λ (z : World). at z l) q ∙ at_put_same w l c (exists_has w l (t.there l i)))) (f (subst (λ (z : Location). IsSpot p v z) s j)))
+            (subst (λ (d : Content l). FitsSpot p v l d) (sym (ap (λ (z : World). at z l) q ∙ at_put_same w l c (exists_has w l (t.there l i)))) (f (subst (λ (z : Location). IsSpot p v z) s j)))
       | inr e ↦ kept_at w v g m (spot_over v w b m j) (ap (λ (z : World). at z m) q ∙ at_put_other w l m c (same_false m l e)) (t.fits m (spot_over v w b m j))
     ];
   }
@@ -234,7 +234,7 @@ module _ (p : Program) where
         let e = newest a (some_is o) in
         let lt : j < x.head.length = subst (λ (z : Object). j < z.head.length) e i.4 in
         subst (λ (z : Object). IsDeclared p (make_object w x) (element_text p z.head.kind) (part x (place.Elem a j))) (sym e)
-        (declared_over p w (make_object w x) (make_over w x) (element_text p x.head.kind) (part x (place.Elem a j)) (d.elems i.0 j i.1 (sym (ap (λ (z : Object). z.head.kind) e) ∙ i.3) lt).1)
+          (declared_over p w (make_object w x) (make_over w x) (element_text p x.head.kind) (part x (place.Elem a j)) (d.elems i.0 j i.1 (sym (ap (λ (z : Object). z.head.kind) e) ∙ i.3) lt).1)
 
     fits_new : (l : Location) → IsOf l (size w) → IsSpot p (make_object w x) l → FitsSpot p (make_object w x) l (at (make_object w x) l)
     fits_new l o i = subst (λ (c : Content l). FitsSpot p (make_object w x) l c) (sym (at_make_new w x l o)) (new_fits l o i)

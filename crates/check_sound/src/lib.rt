@@ -4,6 +4,7 @@
 
 ghost use Rattle.std.specs.Prelude.{◌≡◌};
 ghost use Rattle.check_sound.specs.Slots as slots;
+ghost use Rattle.check_sound.specs.ReachLaw.{ReachedLaw, AloneLaw, RoomLaw, ReturnLaw, NativeLaw};
 ghost use Rattle.check_sound.specs.StepLaw.{StepLaw, HeadsLaw};
 
 use jvm_model::Value;
@@ -13,6 +14,18 @@ use jvm_model::Value;
 pub fn step_law()
     ensures stays { StepLaw }
     ensures heads { HeadsLaw }
+{}
+
+/// What the states have that a test of a typed program comes to, begun in a typed world: each is typed; where no entry is at the
+/// top there is none at all; and, where no method has more than 65,535 places for its operands (JVMS 4.7.3), there is room for
+/// what the instruction at the top puts there, for a value that it returns and for what a built-in method that it enters
+/// answers.
+pub fn reach_law()
+    ensures reached { ReachedLaw }
+    ensures alone { AloneLaw }
+    ensures room { RoomLaw }
+    ensures returned { ReturnLaw }
+    ensures answered { NativeLaw }
 {}
 
 /// How many slots a value takes in a frame (JVMS 2.6.1): a long takes two.

@@ -3,6 +3,7 @@
 use Rattle.std.proofs.Common.{ℕ, zero, suc, ◌<◌, List, [], ◌∷◌, length, pos, Bool, true, false, Some, None, refl, arith}
 use Rattle.std.specs.Prelude.{codes}
 use Rattle.std.specs.List.{IsDistinct}
+use Rattle.std.proofs.lemmas.Bool.{leb-true}
 use Rattle.std.proofs.lemmas.List.Elements.{All-nil, All-from_recursion}
 use Rattle.jvm_model.specs.declared.values.Value.{Value}
 use Rattle.jvm_model.specs.declared.values.Value.TheVariants as value
@@ -86,14 +87,14 @@ begun entered c = record { kind = InClass entered; number = c; pc = 0; stack = [
 callee_goes : Goes p w (frame 105 0 [] (value.Int (pos 7) ∷ []))
 unfolding builtin_methods builtin_defs given_frames body_frames incoming given_at is_target index_of sides parameters return_type
 callee_goes = record {
-  stands = record { body = _; given = []; index = 0; instruction = _; types = _; has_code = refl; has_frames = refl; there = refl; place = refl; known = refl; locals = (tt, tt) };
+  stands = record { body = _; given = []; index = 0; instruction = _; types = _; fits = leb-true _ _ refl; has_code = refl; has_frames = refl; there = refl; place = refl; known = refl; locals = (tt, tt) };
   operands = refl;
 }
 
 caller_waits : Waits p w 105 (frame 104 4 (value.Int (pos 0) ∷ []) [])
 unfolding builtin_methods builtin_fields builtin_defs given_frames body_frames incoming given_at is_target index_of sides parameters return_type
 caller_waits = record {
-  stands = record { body = _; given = []; index = 2; instruction = _; types = _; has_code = refl; has_frames = refl; there = refl; place = refl; known = refl; locals = tt };
+  stands = record { body = _; given = []; index = 2; instruction = _; types = _; fits = leb-true _ _ refl; has_code = refl; has_frames = refl; there = refl; place = refl; known = refl; locals = tt };
   named = 105;
   call = refl;
   same_name = refl;
@@ -108,6 +109,7 @@ call_typed = record {
   world = world_typed;
   references = All-from_recursion (IsInRange p w) (value.Int (pos 7) ∷ value.Int (pos 0) ∷ []) (tt, (tt, tt));
   few = omega arith;
+  alone = λ q. absurd (cc);
   top = callee_goes;
   below = (caller_waits, tt);
   one_each = tt;
@@ -119,14 +121,14 @@ call_typed = record {
 starter_goes : Goes p w (frame 103 0 [] [])
 unfolding builtin_methods builtin_defs given_frames body_frames incoming given_at is_target index_of sides parameters return_type
 starter_goes = record {
-  stands = record { body = _; given = []; index = 0; instruction = _; types = _; has_code = refl; has_frames = refl; there = refl; place = refl; known = refl; locals = tt };
+  stands = record { body = _; given = []; index = 0; instruction = _; types = _; fits = leb-true _ _ refl; has_code = refl; has_frames = refl; there = refl; place = refl; known = refl; locals = tt };
   operands = refl;
 }
 
 user_goes : Goes p w (frame 104 0 [] [])
 unfolding builtin_methods builtin_defs given_frames body_frames incoming given_at is_target index_of sides parameters return_type
 user_goes = record {
-  stands = record { body = _; given = []; index = 0; instruction = _; types = _; has_code = refl; has_frames = refl; there = refl; place = refl; known = refl; locals = tt };
+  stands = record { body = _; given = []; index = 0; instruction = _; types = _; fits = leb-true _ _ refl; has_code = refl; has_frames = refl; there = refl; place = refl; known = refl; locals = tt };
   operands = refl;
 }
 
@@ -153,6 +155,7 @@ initialisation_typed = record {
   world = world_typed;
   references = All-nil (IsInRange p w);
   few = omega arith;
+  alone = λ q. absurd (cc);
   top = starter_goes;
   below = ((upper_begun, start_pushed), ((lower_begun, upper_pushed), (user_goes, tt)));
   one_each = ((refl, tt), (tt, tt));

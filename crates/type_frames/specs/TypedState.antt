@@ -23,7 +23,7 @@ use Rattle.jvm_model.specs.World.{World, size, at, object_at}
 use Rattle.jvm_model.specs.View.{Exists}
 use Rattle.jvm_model.specs.Builtin.{throwable_class}
 use Rattle.jvm_model.specs.Classes.{class_at, field_at, method_at, is_below, is_static, is_trivial, layout, member}
-use Rattle.jvm_model.specs.Entries.{Entry, all_entries, entry_limit}
+use Rattle.jvm_model.specs.Entries.{Entry, all_entries, entry_limit, no_entries}
 use Rattle.jvm_model.specs.Initialise.{parts_of}
 use Rattle.jvm_model.specs.Kinds.{class_of}
 use Rattle.jvm_model.specs.Linked.{IsField, IsKind, first_or, fits_int}
@@ -132,6 +132,8 @@ pub record Stands (p : Program) (w : World) (f : Entry) : Type 0 where
   pub index : ℕ
   pub instruction : Placed
   pub types : Slots
+  -- the types of the operands are within the method's limit (JVMS 4.7.3)
+  pub fits : length types.stack ≤ body.max_stack
   pub has_code : (method_at p f.number).body ≡ Some body
   pub has_frames : given_frames p (method_at p f.number) ≡ Some given
   pub there : slice_get body.code index ≡ Some instruction
@@ -249,6 +251,8 @@ pub record TypedState (p : Program) (w : World) (s : State) : Type 0 where
   pub references : All (IsInRange p w) (flat_map values_of (all_entries s.entries))
   -- there are at most 1,024 entries
   pub few : length (all_entries s.entries) ≤ entry_limit
+  -- where no entry is at the top, there is none at all
+  pub alone : s.entries.top.kind ≡ Absent → s.entries ≡ no_entries
   -- the top entry, and each other one with the entry directly above it
   pub top : IsTop p w s.raised s.entries.top.kind s.entries.top
   pub below : AllBelow p w s.entries.top s.entries.below
