@@ -73,7 +73,7 @@ module _ (p : Program) (ty : IsTyped p) where
   not_double : (u n : ℕ) (us : List ℕ) → n ≡ 68 → is_float (u ∷ us) ≡ false → nat_eq u n ≡ true → ⊥
   not_double u n us e h q = let z : u ≡ n = eqb-true u n q in let y : is_float (68 ∷ us) ≡ false = subst (λ (k : ℕ). is_float (k ∷ us) ≡ false) (z ∙ e) h in absurd (cc)
 
-  null_at : (w : World) (d : List ℕ) → is_float d ≡ false → member (first_or 0 d) (68 ∷ 70 ∷ 76 ∷ 91 ∷ []) ≡ true → IsReferenceOf p w (types_of d) value.Null
+  pub null_at : (w : World) (d : List ℕ) → is_float d ≡ false → member (first_or 0 d) (68 ∷ 70 ∷ 76 ∷ 91 ∷ []) ≡ true → IsReferenceOf p w (types_of d) value.Null
   null_at w [] h m = absurd (cc)
   null_at w (u ∷ us) h m = elim (or_cases (nat_eq u 68) _ m) [
     | inl q ↦ absurd (not_double u 68 us refl h q)

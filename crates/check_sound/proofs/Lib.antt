@@ -39,3 +39,4 @@ pub mod NestedRow
 pub mod AllGroups
 pub mod HeadsStay
 pub mod ArrayRows
+pub mod WholeTest

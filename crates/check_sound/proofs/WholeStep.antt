@@ -59,7 +59,7 @@ pub over_then : (u v w : World) → Over u v → Over v w → Over u w
 over_then u v w a b = record { sizes = (let x = a.sizes in let y = b.sizes in omega arith); heads = λ o h. b.heads o (let x = a.sizes in omega arith) ∙ a.heads o h }
 
 -- parts put together, the second in a world over the first's
-bind_over : (p : Program) {A B : Type 0} (Q : World → A → Type 0) (P : World → B → Type 0) (t : Access A) (k : A → Access B) (u : World) → Tree p Q u t → ((v : World) (a : A) → Over u v → Q v a → Tree p P v (k a)) → Tree p P u (bind t k)
+pub bind_over : (p : Program) {A B : Type 0} (Q : World → A → Type 0) (P : World → B → Type 0) (t : Access A) (k : A → Access B) (u : World) → Tree p Q u t → ((v : World) (a : A) → Over u v → Q v a → Tree p P v (k a)) → Tree p P u (bind t k)
 bind_over p Q P (done a) k u (typed_done q) r = r u a (over_itself u) q
 bind_over p Q P (read l n) k u (typed_read q f) r = typed_read q (λ c h. bind_over p Q P (n c) k u (f c h) r)
 bind_over p Q P (write l c t) k u (typed_write n q g f) r = typed_write n q g (bind_over p Q P t k u f r)
