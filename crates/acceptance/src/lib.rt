@@ -9,8 +9,6 @@ mod class_tests;
 #[cfg(test)]
 mod files;
 #[cfg(test)]
-mod memory_tests;
-#[cfg(test)]
 mod outsides;
 #[cfg(test)]
 mod tests;

@@ -1,4 +1,0 @@
-use Rattle.vm_run.proofs.lookup.+plain_method_up.Given as goal
-
-abbrev pub decreases-plain_method_up : goal.decreases-plain_method_up
-decreases-plain_method_up l = l.steps

@@ -1,5 +1,0 @@
-pub mod Seen
-pub mod Turns
-pub mod Driving
-pub mod Rows
-pub mod Reaching
