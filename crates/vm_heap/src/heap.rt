@@ -118,6 +118,19 @@ impl Heap {
         self.headers[object as usize].text.set(text);
     }
 
+    /// Writes these units behind the text of an object.
+    pub fn append_text(&mut self, object: u64, more: &[u16]) -> Result<(), NoMemory>
+        requires { object < length self.old.objects }
+        ensures program { self.new.program ≡ self.old.program }
+        ensures appended { OnOk result (let x = get_or self.old.objects object no_object in self.new
+            ≡ record self.old {
+              objects = set self.old.objects object
+                  (record x { text = Some (text_or_empty x.text ++ more.now) });
+            }) }
+    {
+        self.headers[object as usize].text.append(more)
+    }
+
     /// Makes a new object with default cells and no text, and answers its place. After a refusal there are the objects
     /// of before.
     pub fn make(&mut self, head: Head) -> Result<u64, NoMemory>

@@ -12,7 +12,7 @@ use std::marker::Model;
 use vm_mem::{Memory, opening_states, opening_statics, opening_store};
 
 /// The memory of a run that is set back to its opening without taking memory. It follows every list. No call but
-/// `put_text`, `put_store` and `make` takes memory.
+/// `put_text`, `append_text`, `put_store` and `make` takes memory.
 #[derive(Drop)]
 pub struct RegionMemory {
     heap: Heap,
@@ -133,6 +133,10 @@ impl Memory for RegionMemory {
     fn put_text(&mut self, object: u64, u: Units) -> Result<(), NoMemory> {
         self.heap.set_text(object, u);
         Ok(())
+    }
+
+    fn append_text(&mut self, object: u64, more: &[u16]) -> Result<(), NoMemory> {
+        self.heap.append_text(object, more)
     }
 
     fn get_store(&mut self, part: Part, name: &Units) -> Result<Option<&Units>, NoMemory> {

@@ -1,4 +1,4 @@
-ghost use Rattle.std.specs.Prelude.{◌≡◌, List, [], ◌∷◌, None, Some, IfOk, OnOk, MatchOption, false, true, ⊤};
+ghost use Rattle.std.specs.Prelude.{◌≡◌, List, [], ◌∷◌, ◌++◌, None, Some, IfOk, OnOk, MatchOption, false, true, ⊤};
 ghost use Rattle.std.specs.Borrow.{sem};
 ghost use mathlib.Core.Option.{none};
 ghost use denote.Follow.{follows_so};
@@ -115,6 +115,14 @@ pub trait Memory {
         requires { Exists (world self.old) (place.Text object) }
         ensures of { OnOk result (program self.new ≡ program self.old) }
         ensures set { OnOk result (world self.new ≡ put (world self.old) (place.Text object) u) }
+        ensures told { OnOk result (Adds follows self.old self.new (write_of (place.Text object) ∷ [])) };
+
+    /// Writes these units behind the text of a string or string builder.
+    fn append_text(&mut self, object: u64, more: &[u16]) -> Result<(), NoMemory>
+        requires { Exists (world self.old) (place.Text object) }
+        ensures of { OnOk result (program self.new ≡ program self.old) }
+        ensures set { OnOk result (world self.new ≡ put (world self.old) (place.Text object)
+            (at (world self.old) (place.Text object) ++ more.now)) }
         ensures told { OnOk result (Adds follows self.old self.new (write_of (place.Text object) ∷ [])) };
 
     /// The text of a file or property; none where there is none.

@@ -1,11 +1,11 @@
-ghost use Rattle.std.specs.Prelude.{◌≡◌, ◌<◌, [], length, nat_eq, true, false, None, Some, get_or};
+ghost use Rattle.std.specs.Prelude.{◌≡◌, ◌<◌, ◌++◌, [], length, nat_eq, true, false, None, Some, get_or, OnOk};
 ghost use Rattle.jvm_model.specs.declared.values.Value.TheVariants.{Null};
 ghost use Rattle.jvm_model.specs.World.{look, keep, put_at, text_or_empty};
 ghost use Rattle.jvm_model.specs.Classes.{member};
 ghost use Rattle.jvm_model.specs.View.{keys};
 
 use crate::text_cell::TextCell;
-use et_base::Units;
+use et_base::{NoMemory, Units};
 use jvm_model::{Head, Value};
 use std::alloc::Global;
 use std::marker::Model;
@@ -110,6 +110,14 @@ impl Object {
         ensures { self.new ≡ record self.old { text = Some text } }
     {
         self.text.set(text);
+    }
+
+    /// Writes these units behind its text.
+    pub fn append_text(&mut self, more: &[u16]) -> Result<(), NoMemory>
+        ensures { OnOk result (self.new
+            ≡ record self.old { text = Some (text_or_empty self.old.text ++ more.now) }) }
+    {
+        self.text.append(more)
     }
 }
 

@@ -13,8 +13,8 @@ use sim_store::{Part, Store};
 use std::alloc::Global;
 use std::marker::Model;
 
-/// The world as it is, in lists and maps. It follows every list. No call but `put_text`, `put_store` and `make` takes
-/// memory.
+/// The world as it is, in lists and maps. It follows every list. No call but `put_text`, `append_text`, `put_store` and
+/// `make` takes memory.
 #[derive(Drop)]
 pub struct PlainMemory {
     objects: Vec<Object>,
@@ -154,6 +154,10 @@ impl Memory for PlainMemory {
     fn put_text(&mut self, object: u64, u: Units) -> Result<(), NoMemory> {
         self.objects[object as usize].set_text(u);
         Ok(())
+    }
+
+    fn append_text(&mut self, object: u64, more: &[u16]) -> Result<(), NoMemory> {
+        self.objects[object as usize].append_text(more)
     }
 
     fn get_store(&mut self, part: Part, name: &Units) -> Result<Option<&Units>, NoMemory> {

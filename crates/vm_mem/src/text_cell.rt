@@ -1,7 +1,7 @@
-ghost use Rattle.std.specs.Prelude.{◌≡◌, None, Some};
+ghost use Rattle.std.specs.Prelude.{◌≡◌, ◌++◌, None, Some, OnOk};
 ghost use Rattle.jvm_model.specs.World.{text_or_empty};
 
-use et_base::Units;
+use et_base::{NoMemory, Units};
 use std::alloc::Global;
 use std::marker::Model;
 
@@ -47,5 +47,14 @@ impl TextCell {
     {
         self.text = text;
         self.written = true;
+    }
+
+    /// Writes these units behind the text.
+    pub fn append(&mut self, more: &[u16]) -> Result<(), NoMemory>
+        ensures { OnOk result (self.new ≡ Some (text_or_empty self.old ++ more.now)) }
+    {
+        self.text.extend_from_slice(more)?;
+        self.written = true;
+        Ok(())
     }
 }

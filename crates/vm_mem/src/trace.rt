@@ -218,6 +218,11 @@ impl Memory for TraceMemory {
         self.note(true, Location::Text { object }, None)
     }
 
+    fn append_text(&mut self, object: u64, more: &[u16]) -> Result<(), NoMemory> {
+        self.plain.append_text(object, more)?;
+        self.note(true, Location::Text { object }, None)
+    }
+
     fn get_store(&mut self, part: Part, name: &Units) -> Result<Option<&Units>, NoMemory> {
         let location = self.place_in(part, name)?;
         self.note(false, location, None)?;

@@ -170,42 +170,12 @@ pub fn append_string<M: Memory>(
     match argument {
         Value::Null => {
             let more = Units::from_ascii(alloc, b"null")?;
-            append(
-                alloc,
-                stack,
-                memory,
-                p,
-                own,
-                receiver,
-                more.as_slice(),
-                next,
-                left,
-            )
+            append(stack, memory, p, own, receiver, more.as_slice(), next, left)
         }
-        Value::Lit(n) => append(
-            alloc,
-            stack,
-            memory,
-            p,
-            own,
-            receiver,
-            p.literal(n),
-            next,
-            left,
-        ),
+        Value::Lit(n) => append(stack, memory, p, own, receiver, p.literal(n), next, left),
         Value::Obj(object) => {
             let more = Units::from_slice(alloc, memory.get_text(object)?.as_slice())?;
-            append(
-                alloc,
-                stack,
-                memory,
-                p,
-                own,
-                receiver,
-                more.as_slice(),
-                next,
-                left,
-            )
+            append(stack, memory, p, own, receiver, more.as_slice(), next, left)
         }
         Value::Int(_) => unreachable!(),
         Value::Long(_) => unreachable!(),
@@ -215,7 +185,6 @@ pub fn append_string<M: Memory>(
 /// These units are appended to a builder, which is answered. It reads the builder's text, and counts 1 and a unit for
 /// each that is appended.
 fn append<M: Memory>(
-    alloc: Global,
     stack: &mut FrameStack,
     memory: &mut M,
     p: &Program,
@@ -240,13 +209,12 @@ fn append<M: Memory>(
 {
     match receiver {
         Value::Obj(object) => {
-            let mut text = Units::from_slice(alloc, memory.get_text(object)?.as_slice())?;
+            memory.get_text(object)?;
             let cost = more.len() as u64;
             if *left <= cost {
                 return Ok(Next::Over);
             }
-            text.extend_from_slice(more)?;
-            memory.put_text(object, text)?;
+            memory.append_text(object, more)?;
             stack.push_value(receiver);
             stack.set_pc(next);
             *left -= cost + 1;
@@ -286,17 +254,7 @@ pub fn append_int<M: Memory>(
 {
     let more = int_text(alloc, stack.pop_int())?;
     let receiver = stack.pop_value();
-    append(
-        alloc,
-        stack,
-        memory,
-        p,
-        own,
-        receiver,
-        more.as_slice(),
-        next,
-        left,
-    )
+    append(stack, memory, p, own, receiver, more.as_slice(), next, left)
 }
 
 /// `append(long)`: the decimal digits. It reads the builder's text, and counts 1 and a unit for each that is appended.
@@ -324,17 +282,7 @@ pub fn append_long<M: Memory>(
 {
     let more = long_text(alloc, stack.pop_long())?;
     let receiver = stack.pop_value();
-    append(
-        alloc,
-        stack,
-        memory,
-        p,
-        own,
-        receiver,
-        more.as_slice(),
-        next,
-        left,
-    )
+    append(stack, memory, p, own, receiver, more.as_slice(), next, left)
 }
 
 /// `append(boolean)`: `true` or `false`. It reads the builder's text, and counts 1 and a unit for each that is
@@ -363,23 +311,12 @@ pub fn append_boolean<M: Memory>(
 {
     let more = Units::from_ascii(alloc, boolean_text(stack.pop_int()))?;
     let receiver = stack.pop_value();
-    append(
-        alloc,
-        stack,
-        memory,
-        p,
-        own,
-        receiver,
-        more.as_slice(),
-        next,
-        left,
-    )
+    append(stack, memory, p, own, receiver, more.as_slice(), next, left)
 }
 
 /// `append(char)`: the one unit. It reads the builder's text, and counts 2.
 #[tactic(auto, unfolding(jvm_model::specs::NativesString::native_builder))]
 pub fn append_char<M: Memory>(
-    alloc: Global,
     stack: &mut FrameStack,
     memory: &mut M,
     p: &Program,
@@ -401,7 +338,7 @@ pub fn append_char<M: Memory>(
 {
     let unit = char_unit(stack.pop_int());
     let receiver = stack.pop_value();
-    append(alloc, stack, memory, p, own, receiver, &[unit], next, left)
+    append(stack, memory, p, own, receiver, &[unit], next, left)
 }
 
 /// `length()`: the number of units. It reads the text and counts 1.

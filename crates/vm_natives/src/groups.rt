@@ -122,7 +122,7 @@ pub fn of_builder<M: Memory>(
         Native::BuilderAppendBoolean => builder::append_boolean(
             alloc, stack, memory, p, own, next, left,
         ),
-        Native::BuilderAppendChar => builder::append_char(alloc, stack, memory, p, own, next, left),
+        Native::BuilderAppendChar => builder::append_char(stack, memory, p, own, next, left),
         Native::BuilderLength => builder::length(stack, memory, p, own, next, left),
         Native::BuilderToString => builder::to_string(alloc, stack, memory, p, own, next, left),
         _ => unreachable!(),
