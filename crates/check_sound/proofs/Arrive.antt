@@ -99,19 +99,19 @@ all_at_index f [] k n e q = absurd (cc)
 all_at_index f (x ∷ xs) zero n e q = let z : x ≡ n = cc in subst (λ (y : ℕ). f y ≡ true) z (and_parts _ _ e).0
 all_at_index f (x ∷ xs) (suc k) n e q = all_at_index f xs k n (and_parts _ _ e).1 q
 
-module _ (p : Program) (ty : IsTyped p) where
-  pub has_number : (n : ℕ) (b : Body) → (method_at p n).body ≡ Some b → n < length p.methods
-  has_number n b e = elim (cases_lt n (length p.methods)) [ inl l ↦ l | inr g ↦ absurd (past p.methods n g e) ]
-    where
-      past : (ms : List MethodRec) (n : ℕ) → length ms ≤ n → (get_or ms n no_method).body ≡ Some b → ⊥
-      past [] n g e = let z : no_method.body ≡ Some b = e in absurd (cc)
-      past (m ∷ ms) zero g e = absurd (omega arith)
-      past (m ∷ ms) (suc n) g e = past ms n (omega arith) e
+pub has_number : (p : Program) (n : ℕ) (b : Body) → (method_at p n).body ≡ Some b → n < length p.methods
+has_number p n b e = elim (cases_lt n (length p.methods)) [ inl l ↦ l | inr g ↦ absurd (past p.methods n g e) ]
+  where
+    past : (ms : List MethodRec) (n : ℕ) → length ms ≤ n → (get_or ms n no_method).body ≡ Some b → ⊥
+    past [] n g e = let z : no_method.body ≡ Some b = e in absurd (cc)
+    past (m ∷ ms) zero g e = absurd (omega arith)
+    past (m ∷ ms) (suc n) g e = past ms n (omega arith) e
 
+module _ (p : Program) (ty : IsTyped p) where
   pub typed_method : (n : ℕ) (b : Body) → (method_at p n).body ≡ Some b → IsTypedMethod p (method_at p n)
   typed_method n b e =
       let lk = ty.linked in
-      let h = has_number n b e in
+      let h = has_number p n b e in
       let c = (method_at p n).class in
       let i = lk.numbers.methods n h in
       let k = counted_at n (class_at p c).methods (lk.listed.methods n h) in
@@ -187,7 +187,7 @@ module _ (p : Program) (ty : IsTyped p) (n : ℕ) (b : Body) (gs : List Frame) (
   some_frame k x s e = let q : judged p env k x None ≡ None = subst (λ (o : Option Slots). judged p env k x o ≡ None) e (breach_free k x s) in cc
 
   pub is_body : IsBody b
-  is_body = subst (λ (o : Option Body). IfSome o (λ x. IsBody x)) hc (ty.linked.bodies n (has_number p ty n b hc))
+  is_body = subst (λ (o : Option Body). IfSome o (λ x. IsBody x)) hc (ty.linked.bodies n (has_number p n b hc))
 
   -- the instruction, and the place of the next one
   pub form_here : (k : ℕ) (x : Placed) → slice_get b.code k ≡ Some x → form_at p n x.pc ≡ Some x.form

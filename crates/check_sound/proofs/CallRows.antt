@@ -127,7 +127,7 @@ module _ (p : Program) (ty : IsTyped p) {w : World} {s : Entries} {i : Instr} (r
 
   -- a built-in method
   sides_of : (named : ℕ) → called_by i ≡ Some named → CallSides p (here r) r.types (sides_at r) (method_at p named)
-  sides_of named c = call_of p ty.linked (here r) r.index (record { pc = s.top.pc; form = i }) r.types named c (named_class p ty i named c (names_form p ty r)) (home p ty s.top.number (has_number p ty s.top.number r.body r.has_code)) r.kept
+  sides_of named c = call_of p ty.linked (here r) r.index (record { pc = s.top.pc; form = i }) r.types named c (named_class p ty i named c (names_form p ty r)) (home p ty s.top.number (has_number p s.top.number r.body r.has_code)) r.kept
 
   -- there is room for the result of the call
   native_space : (named m n : ℕ) → called_by i ≡ Some named → SameAs m named → (a : Passed p w r m n) → (b : Body) → (method_at p s.top.number).body ≡ Some b → length a.below + length (types_of (return_type (method_at p m).descriptor)) ≤ b.max_stack
@@ -428,7 +428,7 @@ this_refers p lk w e (value.Lit n) h i = absurd i
 
 module _ (p : Program) (ty : IsTyped p) {w : World} {s : Entries} where
   current_class : {i : Instr} (r : Ready p w s i) → IsClass p (method_at p s.top.number).class
-  current_class r = home p ty s.top.number (has_number p ty s.top.number r.body r.has_code)
+  current_class r = home p ty s.top.number (has_number p s.top.number r.body r.has_code)
 
   -- `<init>`: the one that is named
   special_init : (k : Kind) (m : ℕ) (r : Ready p w s (form.InvokeSpecial k m)) → bytes_eq (method_at p m).name init_name ≡ true → IsMethod p m → is_static (method_at p m).flags ≡ false

@@ -40,3 +40,14 @@ pub mod AllGroups
 pub mod HeadsStay
 pub mod ArrayRows
 pub mod WholeTest
+pub mod Paced
+pub mod Light
+pub mod PacedRows
+pub mod PacedCalls
+pub mod PacedCreate
+pub mod PacedInit
+pub mod PacedNatives
+pub mod PacedDriver
+pub mod PacedHere
+pub mod PacedStep
+pub mod PacedTest

@@ -2,7 +2,7 @@
 use Rattle.std.proofs.Common.{◌≡◌, ℕ, zero, suc, ◌<◌, ◌≤◌, List, [], ◌∷◌, ◌++◌, length, get_or, reverse, filter, Bool, true, false, not, ◌&&◌, ◌||◌, cond, nat_eq, nat_lt, Option, Some, None, refl, sym, ◌∙◌, ap, subst, arith, inl, inr}
 use Rattle.std.specs.Prelude.{flat_map, codes}
 use Rattle.std.specs.List.{list_all}
-use Rattle.std.proofs.lemmas.Bool.{cases_Bool, cases_lt, and_parts, or_cases, or_left, or_right, eqb-true, ltb-true, ltb-false}
+use Rattle.std.proofs.lemmas.Bool.{cases_lt, and_parts, or_cases, or_left, or_right, eqb-true, ltb-true}
 use Rattle.std.proofs.lemmas.List.{reverse-append}
 use Rattle.jvm_model.specs.declared.values.Kind.{Kind}
 use Rattle.jvm_model.specs.declared.values.Kind.TheVariants as kind
@@ -212,23 +212,30 @@ unfolding builtin_classes builtin_defs
 own_methods = refl
 
 module _ (p : Program) (lk : Linked p) where
-  -- a built-in method is one of the table
-  is_in_table : (m : ℕ) (x : Native) → (method_at p m).native ≡ Some x → m < 102
-  is_in_table m x e = elim (cases_lt m (length p.methods)) [
+  beyond : (ms : List MethodRec) (m : ℕ) → length ms ≤ m → get_or ms m no_method ≡ no_method
+  beyond [] m h = refl
+  beyond (x ∷ ms) zero h = absurd (omega arith)
+  beyond (x ∷ ms) (suc m) h = beyond ms m (omega arith)
+
+  -- a built-in method is one of a built-in class, and of the table
+  pub native_home : (m : ℕ) (x : Native) → (method_at p m).native ≡ Some x → (m < length p.methods) × ((method_at p m).class < builtin_count)
+  native_home m x e = elim (cases_lt m (length p.methods)) [
     | inr n ↦ absurd (let z : None ≡ Some x = sym (ap (λ (r : MethodRec). r.native) (beyond p.methods m n)) ∙ e in cc)
-    | inl i ↦
-        let c = (method_at p m).class in
-        elim (cases_Bool (nat_lt c builtin_count)) [
-          | inl q ↦ let k = counted_at m (class_at p c).methods (lk.listed.methods m i) in
-              ltb-true m 102 (all_at_index (λ x. nat_lt x 102) (class_at p c).methods k.0 m (class_keeps p lk.builtins (λ c. list_all (λ m. nat_lt m 102) c.methods) own_methods c (ltb-true c builtin_count q)) k.1)
-          | inr q ↦ absurd (let l = ltb-false c builtin_count q in let z : None ≡ Some x = sym (lk.listed.natives m i l) ∙ e in cc)
-        ]
+    | inl i ↦ (
+      i,
+      elim (cases_lt (method_at p m).class builtin_count) [
+        | inl l ↦ l
+        | inr l ↦ absurd (let z : None ≡ Some x = sym (lk.listed.natives m i l) ∙ e in cc)
+      ],
+    )
   ]
-    where
-      beyond : (ms : List MethodRec) (m : ℕ) → length ms ≤ m → get_or ms m no_method ≡ no_method
-      beyond [] m h = refl
-      beyond (x ∷ ms) zero h = absurd (omega arith)
-      beyond (x ∷ ms) (suc m) h = beyond ms m (omega arith)
+
+  pub is_in_table : (m : ℕ) (x : Native) → (method_at p m).native ≡ Some x → m < 102
+  is_in_table m x e =
+      let h = native_home m x e in
+      let c = (method_at p m).class in
+      let k = counted_at m (class_at p c).methods (lk.listed.methods m h.0) in
+      ltb-true m 102 (all_at_index (λ x. nat_lt x 102) (class_at p c).methods k.0 m (class_keeps p lk.builtins (λ c. list_all (λ m. nat_lt m 102) c.methods) own_methods c h.1) k.1)
 
   chain_below : (k c : ℕ) → c < 32 → is_throwable_in k (get_or builtin_classes c no_class) ≡ true → is_below p c throwable_class ≡ true
   chain_below zero c h e = absurd (cc)

@@ -161,7 +161,7 @@ module _ (p : Program) (ty : IsTyped p) {w : World} {s : Entries} where
       let x : Placed = record { pc = s.top.pc; form = st.instruction.form } in
       let th : slice_get st.body.code st.index ≡ Some x = st.there ∙ ap {B = Option Placed} (λ q. Some (record { pc = q; form = st.instruction.form })) st.place in
       let kept = kept_at p ty s.top.number st.body st.given st.has_code st.has_frames st.index x st.types th st.known in
-      let names = subst (λ (z : Option Body). IfSome z (λ b. NamesBody p b)) st.has_code (ty.linked.numbers.bodies s.top.number (has_number p ty s.top.number st.body st.has_code)) in
+      let names = subst (λ (z : Option Body). IfSome z (λ b. NamesBody p b)) st.has_code (ty.linked.numbers.bodies s.top.number (has_number p s.top.number st.body st.has_code)) in
       let body = is_body p ty s.top.number st.body st.given st.has_code st.has_frames in
       let found : handler_in p st.body.handlers s.top.pc (class_of (kind_at w o)) ≡ Some to = sym (ap (λ (z : Option Body). handler_in p (handlers_of z) s.top.pc (class_of (kind_at w o))) st.has_code) ∙ q in
       let h = catching p st.body env st.types (class_of (kind_at w o)) s.top.pc to st.body.handlers body.handlers names.handlers kept.nine found in

@@ -373,13 +373,13 @@ module _ (p : Program) (ty : IsTyped p) {w : World} {s : Entries} {i : Instr} (r
 
   -- what the program says of the instruction: the numbers in it, their kinds, and what the look-up finds
   pub names_form : NamesForm p i
-  names_form = all_placed (λ x. NamesForm p x.form) r.body.code r.index (record { pc = s.top.pc; form = i }) (subst (λ (o : Option Body). IfSome o (λ b. NamesBody p b)) r.has_code (ty.linked.numbers.bodies s.top.number (has_number p ty s.top.number r.body r.has_code))).forms r.there
+  names_form = all_placed (λ x. NamesForm p x.form) r.body.code r.index (record { pc = s.top.pc; form = i }) (subst (λ (o : Option Body). IfSome o (λ b. NamesBody p b)) r.has_code (ty.linked.numbers.bodies s.top.number (has_number p s.top.number r.body r.has_code))).forms r.there
 
   pub form_kind : IsFormKind p (method_at p s.top.number).class i
-  form_kind = all_placed (λ x. IsFormKind p (method_at p s.top.number).class x.form) r.body.code r.index (record { pc = s.top.pc; form = i }) (subst (λ (o : Option Body). IfSome o (λ b. IsBodyKind p (method_at p s.top.number).class b)) r.has_code (ty.linked.kinds.bodies s.top.number (has_number p ty s.top.number r.body r.has_code))).forms r.there
+  form_kind = all_placed (λ x. IsFormKind p (method_at p s.top.number).class x.form) r.body.code r.index (record { pc = s.top.pc; form = i }) (subst (λ (o : Option Body). IfSome o (λ b. IsBodyKind p (method_at p s.top.number).class b)) r.has_code (ty.linked.kinds.bodies s.top.number (has_number p s.top.number r.body r.has_code))).forms r.there
 
   pub form_found : IsFormFound p i
-  form_found = all_placed (λ x. IsFormFound p x.form) r.body.code r.index (record { pc = s.top.pc; form = i }) (subst (λ (o : Option Body). IfSome o (λ b. All (λ x. IsFormFound p x.form) b.code)) r.has_code (ty.linked.members.bodies s.top.number (has_number p ty s.top.number r.body r.has_code))) r.there
+  form_found = all_placed (λ x. IsFormFound p x.form) r.body.code r.index (record { pc = s.top.pc; form = i }) (subst (λ (o : Option Body). IfSome o (λ b. All (λ x. IsFormFound p x.form) b.code)) r.has_code (ty.linked.members.bodies s.top.number (has_number p s.top.number r.body r.has_code))) r.there
 
   -- the frame goes on at a place that the instruction leads to
   pub at_typed : {vs : List Value} (to : ℕ) → list_any (λ m. nat_eq m to) (leads i) ≡ true → IsPlace r.body to → Locals p w (here r) (then r).locals s.top.locals → Held p w (here r) (then r).stack vs

@@ -98,8 +98,8 @@ module _ (p : Program) (ty : IsTyped p) where
       let x : Placed = record { pc = f.pc; form = st.instruction.form } in
       let th : slice_get st.body.code st.index ≡ Some x = st.there ∙ ap {B = Option Placed} (λ q. Some (record { pc = q; form = st.instruction.form })) st.place in
       let kept = kept_at p ty f.number st.body st.given st.has_code st.has_frames st.index x st.types th st.known in
-      let names = all_placed (λ y. NamesForm p y.form) st.body.code st.index st.instruction (subst (λ (o : Option Body). IfSome o (λ b. NamesBody p b)) st.has_code (ty.linked.numbers.bodies f.number (has_number p ty f.number st.body st.has_code))).forms st.there in
-      let c = call_of p ty.linked e st.index x st.types h.named h.call (named_class st.instruction.form h.named h.call names) (home f.number (has_number p ty f.number st.body st.has_code)) kept in
+      let names = all_placed (λ y. NamesForm p y.form) st.body.code st.index st.instruction (subst (λ (o : Option Body). IfSome o (λ b. NamesBody p b)) st.has_code (ty.linked.numbers.bodies f.number (has_number p f.number st.body st.has_code))).forms st.there in
+      let c = call_of p ty.linked e st.index x st.types h.named h.call (named_class st.instruction.form h.named h.call names) (home f.number (has_number p f.number st.body st.has_code)) kept in
       let ls : Locals p w e st.types.locals f.locals = record { types = st.locals; range = b.locals } in
       let ws : Held p w e (drop (length (sides p e f.pc st.types st.instruction.form).takes) st.types.stack) f.stack = record { types = h.operands; range = b.stack } in
       let us = turned (sides p e f.pc st.types st.instruction.form).turn (drop (length (sides p e f.pc st.types st.instruction.form).takes) st.types.stack) in
@@ -118,8 +118,8 @@ module _ (p : Program) (ty : IsTyped p) where
       let x : Placed = record { pc = f.pc; form = st.instruction.form } in
       let th : slice_get st.body.code st.index ≡ Some x = st.there ∙ ap {B = Option Placed} (λ q. Some (record { pc = q; form = st.instruction.form })) st.place in
       let kept = kept_at p ty f.number st.body st.given st.has_code st.has_frames st.index x st.types th st.known in
-      let names = all_placed (λ y. NamesForm p y.form) st.body.code st.index st.instruction (subst (λ (o : Option Body). IfSome o (λ b. NamesBody p b)) st.has_code (ty.linked.numbers.bodies f.number (has_number p ty f.number st.body st.has_code))).forms st.there in
-      let c = call_of p ty.linked e st.index x st.types h.named h.call (named_class st.instruction.form h.named h.call names) (home f.number (has_number p ty f.number st.body st.has_code)) kept in
+      let names = all_placed (λ y. NamesForm p y.form) st.body.code st.index st.instruction (subst (λ (o : Option Body). IfSome o (λ b. NamesBody p b)) st.has_code (ty.linked.numbers.bodies f.number (has_number p f.number st.body st.has_code))).forms st.there in
+      let c = call_of p ty.linked e st.index x st.types h.named h.call (named_class st.instruction.form h.named h.call names) (home f.number (has_number p f.number st.body st.has_code)) kept in
       let o = sides p e f.pc st.types st.instruction.form in
       let r = leb-true _ _ (and_parts (nat_le (length o.takes) (length st.types.stack)) (nat_le (length o.gives + (length st.types.stack - length o.takes)) st.body.max_stack) kept.one).1 in
       let d = length-drop (length o.takes) st.types.stack in

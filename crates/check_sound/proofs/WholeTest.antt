@@ -45,6 +45,24 @@ use Rattle.check_sound.proofs.TreeRuns.{alike_itself, tree_safe, tree_leaves}
 use Rattle.check_sound.proofs.Ends.{Local, TurnsTo}
 use Rattle.check_sound.proofs.WholeStep.{Groups, bind_over, step-typed, local_of}
 
+-- what a test gives is of its run
+pub record IsGivenBy (w : World) (ts : List Touch) (n : ℕ) (g : Given) : Type 0 where
+  pub world : w ≡ g.world
+  pub touches : ts ≡ g.touches
+  pub units : n ≡ g.outcome.units
+
+pub given_by : (b : ℕ) (x : Bool) (e : End) (w : World) (ts : List Touch) (n : ℕ) (g : Given) → given_at b x e w ts n ≡ Some g → IsGivenBy w ts n g
+given_by b true (finished v o) w ts n g q = by (nat_le n b) q
+  where
+    by : (c : Bool) → cond c (Some (record { outcome = record { verdict = v; output = o; units = n }; world = w; touches = ts })) None ≡ Some g → IsGivenBy w ts n g
+    by true q =
+        let z : record { outcome = record { verdict = v; output = o; units = n }; world = w; touches = ts } ≡ g = cc in
+        record { world = ap (λ (y : Given). y.world) z; touches = ap (λ (y : Given). y.touches) z; units = ap (λ (y : Given). y.outcome.units) z }
+    by false q = absurd (cc)
+given_by b true stuck w ts n g q = absurd (cc)
+given_by b true out_of_steps w ts n g q = absurd (cc)
+given_by b false e w ts n g q = absurd (cc)
+
 module _ (p : Program) (ty : IsTyped p) (gs : Groups p) where
   EndsWell : World → End → Type 0
   EndsWell w x = IsEnd x
@@ -65,22 +83,11 @@ module _ (p : Program) (ty : IsTyped p) (gs : Groups p) where
       let x = whole-typed (suc b) w (started p t) (local_of p ty gs w (started p t) (started_law p w t h low high)) in
       (tree_safe p EndsWell IsEnd (λ v a q. q) (whole p (suc b) (started p t)) w w (alike_itself w) h x, (tree_leaves p EndsWell (whole p (suc b) (started p t)) w w (alike_itself w) h x).world)
 
-  -- the world of what a test gives
-  given_world : (b : ℕ) (x : Bool) (e : End) (w : World) (ts : List Touch) (units : ℕ) (g : Given) → given_at b x e w ts units ≡ Some g → w ≡ g.world
-  given_world b true (finished v o) w ts units g q = by (nat_le units b) q
-    where
-      by : (c : Bool) → cond c (Some (record { outcome = record { verdict = v; output = o; units = units }; world = w; touches = ts })) None ≡ Some g → w ≡ g.world
-      by true q = let z : record { outcome = record { verdict = v; output = o; units = units }; world = w; touches = ts } ≡ g = cc in ap (λ (y : Given). y.world) z
-      by false q = absurd (cc)
-  given_world b true stuck w ts units g q = absurd (cc)
-  given_world b true out_of_steps w ts units g q = absurd (cc)
-  given_world b false e w ts units g q = absurd (cc)
-
   pub left_typed : (t b : ℕ) (w : World) (g : Given) → TypedWorld p w → 0 < t → t ≤ length p.tests → one_test p w t b ≡ Some g → TypedWorld p g.world
   unfolding one_test
   left_typed t b w g h low high q =
       let r = run (tree p t b) w in
-      subst (λ (v : World). TypedWorld p v) (given_world b r.sound r.value r.world r.touches r.units g q) (test_typed t b w h low high).1
+      subst (λ (v : World). TypedWorld p v) (given_by b r.sound r.value r.world r.touches r.units g q).world (test_typed t b w h low high).1
 
   pub list_typed : (l : List ℕ) (w : World) (xs : List Given) → TypedWorld p w → All (λ t. (0 < t) × (t ≤ length p.tests)) l → runs_on p w l ≡ Some xs → All (λ g. TypedWorld p g.world) xs
   list_typed [] w xs h a q = let z : [] ≡ xs = cc in subst (λ (ys : List Given). All (λ g. TypedWorld p g.world) ys) z (All-nil _)

@@ -1,4 +1,4 @@
-pub mod Slots
 pub mod StepLaw
 pub mod ReachLaw
 pub mod TestLaw
+pub mod PaceLaw

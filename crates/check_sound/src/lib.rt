@@ -2,13 +2,10 @@
 //! a typed state or the end of the test over a typed world.
 #![tactic(auto)]
 
-ghost use Rattle.std.specs.Prelude.{◌≡◌};
-ghost use Rattle.check_sound.specs.Slots as slots;
+ghost use Rattle.check_sound.specs.PaceLaw.{PaceLaw, StaticsLaw, TestPaceLaw, GivenPaceLaw, TestStaticsLaw};
 ghost use Rattle.check_sound.specs.ReachLaw.{ReachedLaw, AloneLaw, RoomLaw, ReturnLaw, NativeLaw};
 ghost use Rattle.check_sound.specs.StepLaw.{StepLaw, HeadsLaw};
 ghost use Rattle.check_sound.specs.TestLaw.{TestLaw, OpeningLaw, LeftLaw, ListLaw};
-
-use jvm_model::Value;
 
 /// What a step of a typed state of a typed program does: it reads and writes only what is there, it has a row, and
 /// it leaves a typed state, or a typed world where it ends the test; and it writes the head of no object that stands.
@@ -34,12 +31,14 @@ pub fn reach_law()
     ensures each { ListLaw }
 {}
 
-/// How many slots a value takes in a frame (JVMS 2.6.1): a long takes two.
-pub fn slot_count(value: &Value) -> u32
-    ensures { result ≡ slots.slot_count value.now }
-{
-    match value {
-        Value::Long(_) => 2,
-        Value::Int(_) | Value::Null | Value::Lit(_) | Value::Obj(_) => 1,
-    }
-}
+/// What a step touches and writes, in any state of a linked program. It touches at most four locations for each unit of
+/// its cost, where this isn't cut: a multianewarray (JVMS 6.5) whose arrays cost more than a 64-bit number with the 1 of
+/// the step is set apart. And it writes a static only by a putstatic of it. A whole test whose units are a 64-bit number
+/// touches at most four locations for each, and writes only the statics that some code of the program puts.
+pub fn pace_law()
+    ensures paced { PaceLaw }
+    ensures statics { StaticsLaw }
+    ensures whole { TestPaceLaw }
+    ensures given { GivenPaceLaw }
+    ensures put { TestStaticsLaw }
+{}
