@@ -17,6 +17,7 @@ pub mod Leaves
 pub mod Histories
 pub mod OwnRecord
 pub mod OwnForm
+mod PlaceTexts
 pub mod Posts
 pub mod OrderFaults
 pub mod Plans

@@ -1,7 +1,12 @@
 -- What the record of a program keeps of a record's form (this project's).
-use Rattle.std.specs.Prelude.{◌≡◌, ℕ, ◌-◌, ◌<◌, ◌≤◌, map, length, true}
+use Rattle.std.specs.Prelude.{◌≡◌, ℕ, ◌-◌, ◌<◌, ◌≤◌, ◌^◌, List, map, length, Bool, true, nat_lt}
+use Rattle.std.specs.List.{list_all}
 use Rattle.jvm_model.specs.declared.program.Program.{Program}
 use Rattle.jvm_model.specs.declared.values.Kind.{Kind}
+use Rattle.jvm_model.specs.declared.values.Location.{Location}
+use Rattle.jvm_model.specs.declared.values.Location.TheVariants as place
+use Rattle.jvm_model.specs.Classes.{class_at, field_at}
+use Rattle.jvm_model.specs.Texts.{location_text}
 use Rattle.jvm_model.specs.Builtin.{builtin_count}
 use Rattle.jvm_model.specs.Suite.{all_tests, seq, is_detected}
 use Rattle.jvm_model.specs.Linked.{Linked}
@@ -9,8 +14,8 @@ use Rattle.order_law.specs.declared.edges.Edge.{Edge}
 use Rattle.order_law.specs.Conflicts.{Member}
 use Rattle.order_law.specs.declared.records.Reach.{Reach}
 use Rattle.order_law.specs.Histories.{Touches, IsTestNumber}
-use Rattle.order_law.specs.OwnRecord.{edges_in}
-use Rattle.order_law.specs.RecordForm.{are_units, edges_ascend, is_reach}
+use Rattle.order_law.specs.OwnRecord.{edges_in, cut}
+use Rattle.order_law.specs.RecordForm.{are_units, edges_ascend, is_reach, is_place_text}
 use Rattle.order_law.specs.Reach.{units_in, IsReachIn}
 
 -- The units of a detected program's tests are those of a record.
@@ -35,3 +40,30 @@ CountedLaw = (p : Program) (T : Touches) (by : ℕ → ℕ × ℕ) (e : Edge) �
 -- The reach of a test, over the given classes, is in form.
 abbrev pub ReachLaw : Type 0
 ReachLaw = (p : Program) (T : Touches) (kinds : ℕ → ℕ → Kind) (t : ℕ) (r : Reach) → Linked p → IsTestNumber p t → IsReachIn p T kinds t r → is_reach (length p.classes - builtin_count) r ≡ true
+
+-- each is a code unit
+abbrev pub are_code_units : List ℕ → Bool
+are_code_units us = list_all (λ u. nat_lt u (2 ^ 16)) us
+
+-- the names of classes and fields are of code units (JVMS 4.4.7)
+pub record HasCodeUnits (p : Program) : Type 0 where
+  pub classes : (c : ℕ) → are_code_units (class_at p c).name ≡ true
+  pub fields : (f : ℕ) → are_code_units (field_at p f).name ≡ true
+
+abbrev pub IsNumbered : ℕ × ℕ → Type 0
+IsNumbered x = (x.0 < 2 ^ 64) × (x.1 < 2 ^ 64)
+
+-- what a location's text shows beside names: numbers below 2 ^ 64, and code units
+abbrev pub IsShown : (ℕ → ℕ × ℕ) → Location → Type 0
+IsShown by (place.Static f) = Unit {0}
+IsShown by (place.Init c) = Unit {0}
+IsShown by (place.Head o) = IsNumbered (by o)
+IsShown by (place.Field o f) = IsNumbered (by o)
+IsShown by (place.Elem o i) = IsNumbered (by o) × (i < 2 ^ 64)
+IsShown by (place.Text o) = IsNumbered (by o)
+IsShown by (place.File n) = are_code_units n ≡ true
+IsShown by (place.Prop n) = are_code_units n ≡ true
+
+-- The text of a location, cut as in an edge, is in form.
+abbrev pub PlaceLaw : Type 0
+PlaceLaw = (p : Program) (by : ℕ → ℕ × ℕ) (L : Location) → HasCodeUnits p → IsShown by L → is_place_text (cut (location_text p by L)) ≡ true

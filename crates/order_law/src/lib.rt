@@ -6,7 +6,7 @@ ghost use Rattle.order_law.specs.Histories.{LawOfOrder};
 ghost use Rattle.order_law.specs.Plan.{LawOfInterleavings, LawOfHistories, ChainsApart, FormsApart};
 ghost use Rattle.order_law.specs.OwnRecord.{OwnLaw, EdgesLaw};
 ghost use Rattle.order_law.specs.OrderFault.{LawOfFaults};
-ghost use Rattle.order_law.specs.OwnForm.{UnitsLaw, OrderedLaw, CountedLaw, ReachLaw};
+ghost use Rattle.order_law.specs.OwnForm.{UnitsLaw, OrderedLaw, CountedLaw, ReachLaw, PlaceLaw};
 ghost use Rattle.order_law.specs.Walk.{WalkLaw};
 
 mod edges;
@@ -57,12 +57,14 @@ pub fn order_fault_law()
 
 /// What the record of a program keeps of a record's form: the units of a detected program's tests; of the edges of any
 /// touches, their order, the numbers of their tests, and that each counts one location at least and at most as many as the
-/// later test touches; and the reach of a linked program's test.
+/// later test touches; the reach of a linked program's test; and the text of a location, of numbers below 2^64 and names
+/// of 16-bit units.
 pub fn own_form_law()
     ensures units { UnitsLaw }
     ensures ordered { OrderedLaw }
     ensures counted { CountedLaw }
     ensures reach { ReachLaw }
+    ensures place { PlaceLaw }
 {}
 
 /// The walk to an object. To each object that an earlier test made and of which a test touches something, the test came by

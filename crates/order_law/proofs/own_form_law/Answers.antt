@@ -1,4 +1,5 @@
 use Rattle.order_law.proofs.OwnForm.{units_law, ordered_law, counted_law, reach_law}
+use Rattle.order_law.proofs.PlaceTexts.{place_law}
 use Rattle.order_law.proofs.own_form_law.Goals as goal
 
 pub returns-clause-units : goal.returns-clause-units
@@ -12,3 +13,6 @@ returns-clause-counted c = counted_law
 
 pub returns-clause-reach : goal.returns-clause-reach
 returns-clause-reach c = reach_law
+
+pub returns-clause-place : goal.returns-clause-place
+returns-clause-place c = place_law
