@@ -1,6 +1,10 @@
-pub mod Exits
-mod Lists
-mod Given
-mod Forms
-mod Acts
-mod Rests
+pub mod Leaves
+pub mod Used
+pub mod Stepped
+pub mod Whole
+pub mod NoEntry
+pub mod Quiet
+pub mod Framed
+pub mod Builtin
+pub mod Laws
+pub mod Quick

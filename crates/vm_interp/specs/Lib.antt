@@ -1,5 +1,6 @@
-pub mod Served
-pub mod Standing
-pub mod Making
-pub mod Printed
-pub mod Fitting
+pub mod Seen
+pub mod Turns
+pub mod Driving
+pub mod Rows
+pub mod Reaching
+pub mod Gliding

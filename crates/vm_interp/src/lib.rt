@@ -1,14 +1,21 @@
-//! The machine: one step of a test, and steps up to its end or budget.
+//! The machine: the state of a test beside the world, its step, and the steps of a whole test.
 #![tactic(auto)]
 
-mod cells;
-mod fitting;
-mod form;
-mod instructions;
-mod run;
+mod concluding;
+mod driving;
+mod gliding;
+mod judging;
+mod limits;
+mod lookup;
+mod raising;
+mod rows;
+mod running;
 mod state;
+mod stepping;
+mod turned;
 
-pub use fitting::is_served;
-pub use form::{Form, served};
-pub use run::{run_frames, run_test, step};
-pub use state::{Ended, Place, RunFault, State};
+pub use limits::stack_limits;
+pub use running::run;
+pub use state::State;
+pub use stepping::step;
+pub use turned::Turned;

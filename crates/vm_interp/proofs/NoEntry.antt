@@ -1,0 +1,116 @@
+-- Rows that enter no built-in method, and room for one that a row enters.
+use Rattle.std.proofs.Common.{◌≡◌, ◌≢◌, ℕ, List, [], ◌∷◌, ◌+◌, Bool, true, false, not, ◌&&◌, cond, refl, sym, ap, ◌∙◌, Option, Some, None}
+use Rattle.jvm_model.specs.declared.values.Value.{Value}
+use Rattle.jvm_model.specs.declared.values.Value.TheVariants.{Int, Long, Null, Lit, Obj}
+use Rattle.jvm_model.specs.declared.values.InitState.{InitState}
+use Rattle.jvm_model.specs.declared.values.InitState.TheVariants.{Idle, Running, Done, Erroneous}
+use Rattle.jvm_model.specs.declared.outcome.Next.{Next}
+use Rattle.jvm_model.specs.declared.outcome.Next.TheVariants.{Go, Fault, Raise, Enter, Leave, Over}
+use Rattle.jvm_model.specs.declared.program.Body.{Body}
+use Rattle.jvm_model.specs.declared.program.Program.{Program}
+use Rattle.jvm_model.specs.declared.state.EntryKind.{EntryKind}
+use Rattle.jvm_model.specs.declared.state.EntryKind.TheVariants.{Absent, InMethod, InClass}
+use Rattle.jvm_model.specs.World.{World}
+use Rattle.jvm_model.specs.Access.{Access, run}
+use Rattle.jvm_model.specs.Classes.{class_at, method_at, is_below}
+use Rattle.jvm_model.specs.Builtin.{error_class}
+use Rattle.jvm_model.specs.Entries.{Entries, popped_entry, is_full}
+use Rattle.jvm_model.specs.Initialise.{Part, starts_body, starts, looked_at, looks, left_at, parts_of, finishing, row_finish, row_fail, was_entered, fails, fails_anew}
+use Rattle.jvm_model.specs.Kinds.{class_of}
+use Rattle.jvm_model.specs.Raising.{handled, handler_for, row_raise}
+use Rattle.jvm_model.specs.Rows.{Answer, answer}
+use Rattle.jvm_model.specs.View.{paid, counts_one}
+use Rattle.jvm_model.proofs.Bridges.{counted_is}
+use Rattle.vm_mem.specs.Meets.{Row, Meets}
+use Rattle.vm_interp.proofs.Leaves.{Each, each_run, each_either}
+use Rattle.vm_interp.proofs.Whole.{ended_so}
+use Rattle.vm_interp.proofs.Stepped.{answered}
+use Rattle.vm_interp.specs.Reaching.{HasRoomAfter, HasNativeSpace}
+
+abbrev pub enters : Answer Entries → Bool
+enters (answer (Enter m) s) = true
+enters _ = false
+
+abbrev pub NoEntry : Access (Answer Entries) → Type 0
+NoEntry t = Each (λ a. enters a ≡ false) t
+
+either : (b : Bool) (t u : Access (Answer Entries)) → NoEntry t → NoEntry u → NoEntry (cond b t u)
+either b t u g h = each_either (λ a. enters a ≡ false) b t u g h
+
+handled_so : (v : Value) (s : Entries) (o : Option ℕ) → NoEntry (handled v s o)
+handled_so v s None = refl
+handled_so v s (Some n) = refl
+
+pub raise_enters_none : (p : Program) (v : Value) (s : Entries) → NoEntry (row_raise p v s)
+unfolding row_raise
+raise_enters_none p (Int n) s = refl
+raise_enters_none p (Long n) s = refl
+raise_enters_none p Null s = refl
+raise_enters_none p (Lit n) s = refl
+raise_enters_none p (Obj o) s = λ h. handled_so (Obj o) s (handler_for p s.top.number s.top.pc (class_of h.kind))
+
+pub fail_enters_none : (p : Program) (v : Value) (s : Entries) → NoEntry (row_fail p v s)
+unfolding row_fail
+fail_enters_none p (Int n) s = refl
+fail_enters_none p (Long n) s = refl
+fail_enters_none p Null s = refl
+fail_enters_none p (Lit n) s = refl
+fail_enters_none p (Obj o) s = λ h. either (was_entered s.top.kind && not (is_below p (class_of h.kind) error_class)) (fails_anew p s) (fails (Obj o) s) (λ o. refl) refl
+
+body_so : (b : Option Body) (m n : ℕ) (s : Entries) → NoEntry (starts_body b m n s)
+body_so None m n s = refl
+body_so (Some b) m n s = either (is_full s) _ _ refl refl
+
+starts_so : (p : Program) (i : Option ℕ) (n : ℕ) (s : Entries) → NoEntry (starts p i n s)
+starts_so p None n s = refl
+starts_so p (Some m) n s = body_so (method_at p m).body m n s
+
+looked_so : (c n : ℕ) (s : Entries) (rest : Access (Answer Entries)) (st : InitState) → NoEntry rest → NoEntry (looked_at c n s rest st)
+looked_so c n s rest Idle h = either (is_full s) _ _ refl refl
+looked_so c n s rest Running h = h
+looked_so c n s rest Done h = h
+looked_so c n s rest Erroneous h = refl
+
+looks_so : (p : Program) (xs : List Part) (n : ℕ) (s : Entries) → NoEntry (looks p xs n s)
+looks_so p [] n s = starts_so p (class_at p s.top.number).initialiser n s
+looks_so p (x ∷ xs) n s = λ st. looked_so x.class (n + x.price) s (looks p xs (n + x.price) s) st (looks_so p xs (n + x.price) s)
+
+left_so : (k : EntryKind) (t : Entries) → enters (answer (left_at k) t) ≡ false
+left_so Absent t = refl
+left_so InMethod t = refl
+left_so (InClass b) t = refl
+
+finishing_so : (k : EntryKind) (p : Program) (s : Entries) → NoEntry (finishing k p s)
+finishing_so Absent p s = refl
+finishing_so InMethod p s = refl
+finishing_so (InClass false) p s = looks_so p (parts_of p s.top.number) 0 s
+finishing_so (InClass true) p s = left_so (popped_entry s).top.kind (popped_entry s)
+
+pub finish_enters_none : (p : Program) (s : Entries) → NoEntry (row_finish p s)
+unfolding row_finish
+finish_enters_none p s = finishing_so s.top.kind p s
+
+paid_value : (b : Bool) (t : Access (Answer Entries)) (w : World) → (run (paid b t) w).value ≡ (run t w).value
+paid_value true t w = refl
+paid_value false t w = refl
+
+module _ (r : Row Entries) (p : Program) (w : World) (s : Entries) (left : ℕ) (x : Next) (t : Entries) (w' : World) (left' : ℕ) (h : x ≢ Over) (e : Meets r p w s left x t w' left') where
+  row_value : (run (r p s) w).value ≡ answer x t
+  row_value = sym (paid_value (counts_one p x) (r p s) w)
+      ∙ (ended_so (run (paid (counts_one p x) (r p s)) w) left (answer x t) w' left' (sym (counted_is (paid (counts_one p x) (r p s)) w left) ∙ e ∙ answered x t w' left' h)).value
+
+  room_by : (y : Next) → x ≡ y → ((m : ℕ) → (run (r p s) w).value ≡ answer (Enter m) t → HasRoomAfter (Enter m) p t) → HasRoomAfter y p t
+  room_by Go d f = tt
+  room_by (Fault c) d f = tt
+  room_by (Raise v) d f = tt
+  room_by (Enter m) d f = f m (row_value ∙ ap (λ (z : Next). answer z t) d)
+  room_by Leave d f = tt
+  room_by Over d f = tt
+
+  -- there is room for a built-in method that the row enters
+  pub room_then : HasNativeSpace r p w s → HasRoomAfter x p t
+  room_then f = room_by x refl (λ m d. f m t d)
+
+  -- the row enters none
+  pub no_room : NoEntry (r p s) → HasRoomAfter x p t
+  no_room n = room_by x refl (λ m d. absurd (let z : true ≡ false = sym (ap enters d) ∙ each_run (λ a. enters a ≡ false) (r p s) w n in cc))

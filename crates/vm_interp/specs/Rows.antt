@@ -1,0 +1,12 @@
+-- The rows of instructions, as contracts name them.
+use Rattle.jvm_model.specs.declared.instr.Instr.{Instr}
+use Rattle.jvm_model.specs.Entries.{Entries}
+use Rattle.jvm_model.specs.Step as steps
+use Rattle.vm_mem.specs.Meets.{Row}
+
+abbrev pub form_row : Instr → Row Entries
+form_row i p s = steps.row p i s
+
+-- athrow
+abbrev pub throw_row : Row Entries
+throw_row p s = steps.row_throw s

@@ -1,0 +1,62 @@
+-- What contracts say of a step, and of what a part of one makes of a test's state.
+use Rattle.std.specs.Prelude.{◌≡◌, ◌≢◌, ℕ, List, not, Option, Some, None}
+use Rattle.jvm_model.specs.declared.values.Touch.{Touch}
+use Rattle.jvm_model.specs.declared.outcome.Next.{Next}
+use Rattle.jvm_model.specs.declared.outcome.Verdict.{Verdict}
+use Rattle.jvm_model.specs.declared.program.Program.{Program}
+use Rattle.jvm_model.specs.World.{World}
+use Rattle.jvm_model.specs.Access.{Access, spend, bind}
+use Rattle.jvm_model.specs.Entries.{Entries}
+use Rattle.jvm_model.specs.Rows.{answer}
+use Rattle.jvm_model.specs.State.{State, Turn, next, ended as judged}
+use Rattle.vm_interp.specs.Seen.{seen}
+use Rattle.vm_interp.specs.declared.state.State.{State as Kept}
+use Rattle.jvm_model.specs.Natives.{row_native}
+use Rattle.jvm_model.specs.Step.{after_native, after_row}
+use Rattle.jvm_model.specs.declared.library.Native.{Native}
+use Rattle.vm_natives.specs.Rows.{with_own}
+use Rattle.jvm_model.specs.View.{Counted, over, ended, counted, paid, counts_one, touched, IsSafe, IsTurn}
+use Rattle.vm_mem.specs.Meets.{Row}
+use Rattle.vm_mem.specs.Story.{Story}
+use Rattle.vm_interp.specs.declared.turned.Turned.{Turned}
+use Rattle.vm_interp.specs.declared.turned.Turned.TheVariants.{Goes, Ends, Over}
+
+-- a step or a part of one, in a program, from a test's state
+abbrev pub Part : Type 0
+Part = Program → State → Access Turn
+
+-- it comes to an end, and each location that it meets is there
+abbrev pub IsFit : Part → Program → World → Kept → Type 0
+IsFit t p w s = IsSafe IsTurn (t p (seen s)) w
+
+-- how it ended, where the code answered this and left these; a verdict comes with what the test printed
+abbrev pub turned : Turned → Kept → World → ℕ → Counted Turn
+turned Goes s w left = ended (next (seen s)) w left
+turned (Ends v) s w left = ended (judged v s.own.output) w left
+turned Over s w left = over
+
+-- the same where none says that the test goes on, and no verdict that the cost is above the units left
+abbrev pub as_turned : Option (Option Verdict) → Turned
+as_turned None = Goes
+as_turned (Some None) = Over
+as_turned (Some (Some v)) = Ends v
+
+-- the part ends as a call answered, with this state, world and units left
+abbrev pub MeetsPart : Part → Program → World → Kept → ℕ → Turned → Kept → World → ℕ → Type 0
+MeetsPart t p w s left x s' w' left' = counted (t p (seen s)) w left ≡ turned x s' w' left'
+
+-- unless its cost is above the units left, a memory then follows its touches
+abbrev pub TellsPart : {M : Type 0} → Part → Program → World → Kept → Turned → (M → Story → List Touch → Type 0) → M → M → Type 0
+TellsPart t p w s x follows old new = x ≢ Over → (h : Story) (ts : List Touch) → follows old h ts → follows new h (touched (t p (seen s)) w ts)
+
+-- a step that makes this row
+abbrev pub by_row : Row Entries → Part
+by_row r p s = spend 1 (bind (r p s.entries) (after_row p s))
+
+-- what is left of a step whose row answered this, with the step's 1 where the row left it
+abbrev pub after : Next → Part
+after x p s = paid (not (counts_one p x)) (after_row p s (answer x s.entries))
+
+-- a built-in method runs, with the 1 of the step
+abbrev pub builtin_part : Native → Part
+builtin_part x p s = spend 1 (bind (row_native p x (with_own s.entries s.own)) (after_native p s))

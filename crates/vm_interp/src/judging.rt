@@ -1,0 +1,129 @@
+//! How a test is judged.
+
+ghost use Rattle.std.specs.Prelude.{◌≡◌, List, ℕ, IfOk, OnOk};
+ghost use Rattle.jvm_model.specs.Access.{spend};
+ghost use Rattle.jvm_model.specs.Driver as driver;
+ghost use Rattle.jvm_model.specs.State as states;
+ghost use Rattle.jvm_model.specs.View.{counted};
+ghost use Rattle.jvm_model.specs.World.{World};
+ghost use Rattle.vm_interp.specs.declared.state.State.{State};
+ghost use Rattle.vm_interp.specs.Turns.{IsFit, MeetsPart, TellsPart, turned};
+ghost use Rattle.vm_interp.specs.Driving.{judge_part, judge_value_part};
+
+use crate::state::State;
+use crate::turned::Turned;
+use et_base::{NoMemory, Units};
+use jvm_model::{ASSERTION_ERROR, Cause, MESSAGE, Program, Value, Verdict};
+use std::alloc::Global;
+use vm_mem::Memory;
+
+/// Judges a test by the first throwable that came out of what it called: Failed by an AssertionError or a class below it,
+/// Error by any other, Passed where there is none. It reads the throwable's head and message, and counts 1 and the
+/// message's units. Over where fewer are left.
+#[tactic(auto, unfolding(jvm_model::specs::Driver::judge))]
+pub fn judge<M: Memory>(
+    alloc: Global,
+    state: &State,
+    memory: &mut M,
+    p: &Program,
+    thrown: Option<Value>,
+    left: &mut u64,
+) -> Result<Turned, NoMemory>
+    requires program { p.now ≡ M.program memory.old }
+    requires fit { IsFit (judge_part thrown) (M.program memory.old) (M.world memory.old) state.now }
+    ensures meets { IfOk result (λ x. MeetsPart (judge_part thrown)
+        (M.program memory.old) (M.world memory.old) state.now left.old
+        x state.now (M.world memory.new) left.new) }
+    ensures told { IfOk result (λ x. TellsPart (judge_part thrown)
+        (M.program memory.old) (M.world memory.old) state.now
+        x M.follows memory.old memory.new) }
+    ensures of { OnOk result (M.program memory.new ≡ M.program memory.old) }
+{
+    match thrown {
+        Some(value) => judge_value(alloc, state, memory, p, value, left),
+        None => {
+            if *left == 0 {
+                return Ok(Turned::Over);
+            }
+            *left -= 1;
+            Ok(Turned::Ends(Verdict::Passed))
+        }
+    }
+}
+
+/// The same by this throwable.
+fn judge_value<M: Memory>(
+    alloc: Global,
+    state: &State,
+    memory: &mut M,
+    p: &Program,
+    thrown: Value,
+    left: &mut u64,
+) -> Result<Turned, NoMemory>
+    requires program { p.now ≡ M.program memory.old }
+    requires fit { IsFit (judge_value_part thrown)
+        (M.program memory.old) (M.world memory.old) state.now }
+    ensures meets { IfOk result (λ x. MeetsPart (judge_value_part thrown)
+        (M.program memory.old) (M.world memory.old) state.now left.old
+        x state.now (M.world memory.new) left.new) }
+    ensures told { IfOk result (λ x. TellsPart (judge_value_part thrown)
+        (M.program memory.old) (M.world memory.old) state.now
+        x M.follows memory.old memory.new) }
+    ensures of { OnOk result (M.program memory.new ≡ M.program memory.old) }
+{
+    let object = match thrown {
+        Value::Obj(object) => object,
+        Value::Null => unreachable!(),
+        Value::Int(_) => unreachable!(),
+        Value::Long(_) => unreachable!(),
+        Value::Lit(_) => unreachable!(),
+    };
+    let class = memory.head(object)?.kind.class();
+    match memory.get_field(object, MESSAGE)? {
+        Value::Null => {
+            if *left == 0 {
+                return Ok(Turned::Over);
+            }
+            *left -= 1;
+            Ok(Turned::Ends(verdict_of(p, class, None)))
+        }
+        Value::Lit(number) => {
+            let text = Units::from_slice(alloc, p.literal(number))?;
+            Ok(judge_text(p, class, text, left))
+        }
+        Value::Obj(message) => {
+            let text = Units::from_slice(alloc, memory.get_text(message)?.as_slice())?;
+            Ok(judge_text(p, class, text, left))
+        }
+        Value::Int(_) => unreachable!(),
+        Value::Long(_) => unreachable!(),
+    }
+}
+
+/// The same by the class of a throwable and its message.
+fn judge_text(p: &Program, class: u32, text: Units, left: &mut u64) -> Turned
+    ensures { (s : State) (w : World) →
+        counted (spend 1 (driver.judged_text p.now s.own.output class text)) w left.old
+        ≡ turned result s w left.new }
+{
+    let cost = text.len() as u64;
+    if *left == 0 || *left - 1 < cost {
+        return Turned::Over;
+    }
+    *left -= 1;
+    *left -= cost;
+    Turned::Ends(verdict_of(p, class, Some(text)))
+}
+
+/// The verdict by the class of a throwable, with its message where there is one.
+fn verdict_of(p: &Program, class: u32, message: Option<Units>) -> Verdict
+    ensures { (output : List ℕ) →
+        driver.judged p.now output class message ≡ states.ended result output }
+{
+    let cause = Cause { class, message };
+    if p.is_below(class, ASSERTION_ERROR) {
+        Verdict::Failed(cause)
+    } else {
+        Verdict::Error(cause)
+    }
+}

@@ -1,0 +1,10 @@
+use jvm_model::Verdict;
+
+/// How a step ended. `Goes` says that the test goes on, `Ends` that it ended with this verdict and what it printed so
+/// far, and `Over` that the step's cost is above the units left: it isn't made, and the memory isn't used on.
+#[derive(Debug, Drop)]
+pub enum Turned {
+    Goes,
+    Ends(Verdict),
+    Over,
+}
