@@ -1,0 +1,4 @@
+pub mod Joins
+pub mod OneTest
+pub mod After
+pub mod Lists

@@ -1,0 +1,60 @@
+-- What the run of one test gives, from what the machine's steps gave.
+use Rattle.std.proofs.Common.{◌≡◌, ℕ, List, [], ◌-◌, Option, Some, None, IfSome, refl, sym, subst, ap, ◌∙◌}
+use Rattle.std.specs.Option.{option_map}
+use Rattle.jvm_model.specs.declared.outcome.Outcome.{Outcome}
+use Rattle.jvm_model.specs.declared.outcome.Verdict.{Verdict}
+use Rattle.jvm_model.specs.declared.program.Program.{Program}
+use Rattle.jvm_model.specs.declared.values.Touch.{Touch}
+use Rattle.jvm_model.specs.State.{State, started}
+use Rattle.jvm_model.specs.Suite.{one_test, tree}
+use Rattle.jvm_model.specs.World.{World}
+use Rattle.jvm_model.proofs.Bridges.{touched_is}
+use Rattle.type_frames.specs.TypedState.{TypedWorld}
+use Rattle.vm_mem.specs.Story.{Story, next_test}
+use Rattle.vm_interp.specs.declared.state.State.{State as Kept}
+use Rattle.vm_interp.specs.Reaching.{TellsTest, given_by}
+use Rattle.test_run.specs.Outcomes.{given_in, touches_of, TellsOne}
+
+-- the outcome of a test that ended with this verdict
+abbrev pub outcome_with : Kept → ℕ → Option Verdict → Option Outcome
+outcome_with s units v = option_map (λ x. record { verdict = x; output = s.own.output; units = units }) v
+
+given_so : (p : Program) (t : ℕ) (w : World) (b : ℕ) (v : Option Verdict) (s : Kept) (u : World) (left : ℕ) → given_by p t w b v s u left ≡ given_in p t w b (outcome_with s (b - left) v) u
+given_so p t w b None s u left = refl
+given_so p t w b (Some x) s u left = refl
+
+-- The test begins in the same program and world: q, v and n are those after begin_test and of the state.
+pub world_same : (p q : Program) (v w : World) → q ≡ p → v ≡ w → TypedWorld p w → TypedWorld q v
+world_same p q v w e f a = subst (λ (z : Program). TypedWorld z v) (sym e) (subst (λ (z : World). TypedWorld p z) (sym f) a)
+
+pub gives_same : (p q : Program) (v w : World) (t n b : ℕ) (x : Option Verdict) (s : Kept) (u : World) (left : ℕ) (o : Option Outcome) → q ≡ p → v ≡ w → n ≡ t →
+    one_test q v n b ≡ given_by q n v b x s u left → o ≡ outcome_with s (b - left) x → one_test p w t b ≡ given_in p t w b o u
+gives_same p q v w t n b x s u left o e f g k h =
+    subst (λ (z : Program). one_test z w t b ≡ given_in z t w b o u) e
+    (subst (λ (z : World). one_test q z t b ≡ given_in q t z b o u) f
+    (subst (λ (z : ℕ). one_test q v z b ≡ given_in q z v b o u) g
+    (k ∙ given_so q n v b x s u left ∙ ap (λ (z : Option Outcome). given_in q n v b z u) (sym h))))
+
+module _ {M : Type 0} (follows : M → Story → List Touch → Type 0) (m0 m1 m2 : M) (p : Program) (w : World) (t b : ℕ)
+    (begun : (h : Story) (ts : List Touch) → follows m0 h ts → follows m1 (next_test h ts t) []) where
+  tells_by : (s : Kept) (units : ℕ) (x : Option Verdict) → TellsTest p t w b x follows m1 m2 → IfSome (outcome_with s units x) (λ o. TellsOne p t w b follows m0 m2)
+  tells_by s units None tells = tt
+  tells_by s units (Some x) tells = λ h ts k. subst (λ (us : List Touch). follows m2 (next_test h ts t) us) (touched_is (tree p t b) w []) (tells refl (next_test h ts t) [] (begun h ts k))
+
+  pub tells_same : (q : Program) (v : World) (n : ℕ) (s : Kept) (units : ℕ) (x : Option Verdict) (o : Option Outcome) → q ≡ p → v ≡ w → n ≡ t →
+      TellsTest q n v b x follows m1 m2 → o ≡ outcome_with s units x → IfSome o (λ o. TellsOne p t w b follows m0 m2)
+  tells_same q v n s units x o e f g tells h =
+      subst (λ (z : Option Outcome). IfSome z (λ o. TellsOne p t w b follows m0 m2)) (sym h)
+      (tells_by s units x
+      (subst (λ (z : Program). TellsTest z t w b x follows m1 m2) e
+      (subst (λ (z : World). TellsTest q t z b x follows m1 m2) f
+      (subst (λ (z : ℕ). TellsTest q z v b x follows m1 m2) g tells))))
+
+-- the world that it leaves is typed
+pub left_same : (p q : Program) (u : World) (s : Kept) (units : ℕ) (x : Option Verdict) (o : Option Outcome) → q ≡ p → IfSome x (λ y. TypedWorld q u) → o ≡ outcome_with s units x → IfSome o (λ y. TypedWorld p u)
+left_same p q u s units None o e h k = subst (λ (z : Option Outcome). IfSome z (λ y. TypedWorld p u)) (sym k) tt
+left_same p q u s units (Some x) o e h k = subst (λ (z : Option Outcome). IfSome z (λ y. TypedWorld p u)) (sym k) (subst (λ (z : Program). TypedWorld z u) e h)
+
+-- a test's state at its start, in the same program
+pub started_same : (p q : Program) (s : State) (t n : ℕ) → s ≡ started p t → p ≡ q → n ≡ t → s ≡ started q n
+started_same p q s t n e f g = cc
