@@ -20,9 +20,9 @@ const HELP: &[u8] = b"electric runs the tests of a suite of Java class files, in
 
 SUITE is the name of a suite text in the current folder; the class files that it names lie beside it.
 
-The exit status is 0 where the report was written, 2 for words in no form, 3 for a refused suite, class file or
-program, 4 for want of memory, 5 where a file could not be read, 6 where standard output failed, and 7 where a test
-or the suite passed its number of units.
+The exit status is 0 where the report was written and each test passed, 1 where it was written and a test did not
+pass, 2 for words in no form, 3 for a refused suite, class file or program, 4 for want of memory, 5 where a file
+could not be read, 6 where standard output failed, and 7 where a test or the suite passed its number of units.
 ";
 
 const VERSION: &[u8] = b"electric 0.1.0\n";

@@ -1,4 +1,3 @@
-mod Serving
 mod Runs
 mod ForWords
 mod Replying

@@ -1,5 +1,5 @@
 -- What the top call promises: its status, the bytes on the sink and the steps (this project's).
-use Rattle.std.specs.Prelude.{◌≡◌, ◌≢◌, ◌⊎◌, ℕ, ◌+◌, ◌-◌, ◌^◌, ◌≤◌, List, length, true, None, IsSome}
+use Rattle.std.specs.Prelude.{◌≡◌, ◌≢◌, ◌⊎◌, ℕ, ◌+◌, ◌-◌, ◌^◌, ◌≤◌, List, length, Bool, true, false, None, IsSome}
 use Rattle.outside.specs.Counts.{Rose}
 use Rattle.outside.specs.Depot.{Files, DepotView, FailedAt}
 use Rattle.outside.specs.Sink.{SinkView, TookPrefix, appended, HasRoom}
@@ -18,12 +18,6 @@ IsProperInput (input.Link f) = (f ≢ linking.NoMemory) × ((t : ℕ) → f ≢ 
 IsProperInput (input.Check f) = f ≢ checking.NoMemory
 IsProperInput _ = Unit {0}
 
--- the answer to a suite that loads, where the first machine doesn't run it
-abbrev pub IsNotYet : Status → Type 0
-IsNotYet ends.NoMemory = Unit {0}
-IsNotYet (ends.Input (input.NotYet name)) = Unit {0}
-IsNotYet _ = ⊥
-
 -- the words have the form that is served
 abbrev pub HasForm : List (List ℕ) → Type 0
 HasForm words = IsSome (suite_word words)
@@ -40,10 +34,15 @@ ReportEnds words ends.Done old new = ⊥
 ReportEnds words ends.NotPassed old new = ⊥
 ReportEnds words ends.Sink old new = ⊥
 
+-- how a command ends that writes a report: each test passed, or one didn't
+abbrev pub report_status : Bool → Status
+report_status true = ends.Done
+report_status false = ends.NotPassed
+
 -- the steps of a report rise by the units of its tests
-pub record Reported (files : Files) (words : List (List ℕ)) (text : List ℕ) (begun now : ℕ) : Type 0 where
+pub record Reported (files : Files) (words : List (List ℕ)) (passed : Bool) (text : List ℕ) (begun now : ℕ) : Type 0 where
   pub units : ℕ
-  pub report : IsReport files words true text units
+  pub report : IsReport files words passed text units
   pub steps : now ≡ begun + units
 
 -- the text was taken; where a told room holds it, the count of faults stood still

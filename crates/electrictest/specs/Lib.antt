@@ -1,9 +1,6 @@
 pub mod Codes
-pub mod FirstMachine
 pub mod FaultTexts
-pub mod Answers
 pub mod Replies
-pub mod Runnable
 pub mod Running
 pub mod Tests
 pub mod Commands

@@ -1,13 +1,12 @@
 -- What the words ask of a depot's files, and what is answered (this project's).
-use Rattle.std.specs.Prelude.{◌≡◌, ℕ, ◌+◌, ◌-◌, List, [], ◌∷◌, ◌++◌, length, map, get_or, codes, decimal, count_by, Bool, true, false, ◌&&◌, Option, Some, None, option_map, Result, Ok, Err, if◌then◌else◌}
+use Rattle.std.specs.Prelude.{◌≡◌, ℕ, ◌+◌, ◌-◌, List, [], ◌∷◌, ◌++◌, length, map, get_or, codes, decimal, Bool, true, false, ◌&&◌, Option, Some, None, option_map, Result, Ok, Err, if◌then◌else◌}
 use Rattle.std.specs.List.{list_all}
 use Rattle.std.specs.Str.{bytes_eq}
 use Rattle.jvm_model.specs.declared.outcome.Outcome.{Outcome}
-use Rattle.jvm_model.specs.declared.outcome.Verdict.TheVariants as verdict
 use Rattle.jvm_model.specs.declared.program.Names.{Names}
 use Rattle.jvm_model.specs.declared.program.Program.{Program}
 use Rattle.jvm_model.specs.Suite.{SuiteFault, over_budget, over_suite, runs, all_tests, suite_fault}
-use Rattle.jvm_model.specs.Texts.{outcome_lines, count_line}
+use Rattle.jvm_model.specs.Texts.{is_passed, report_on}
 use Rattle.suite_load.specs.declared.load_fault.LoadFault.{LoadFault}
 use Rattle.suite_load.specs.declared.load_fault.LoadFault.TheVariants as fault
 use Rattle.suite_load.specs.declared.loaded.Loaded.{Loaded}
@@ -19,7 +18,6 @@ use Rattle.electrictest.specs.declared.status.Status.TheVariants as ends
 use Rattle.electrictest.specs.declared.status.InputFault.TheVariants as input
 use Rattle.electrictest.specs.declared.status.OverFault.{OverFault}
 use Rattle.electrictest.specs.declared.status.OverFault.TheVariants as over
-use Rattle.electrictest.specs.FirstMachine.{fits_first_machine}
 use Rattle.electrictest.specs.FaultTexts.{why_text, class_text, link_text, check_text}
 
 -- `run SUITE - 1 all`: the suite's name
@@ -38,14 +36,14 @@ status_of (fault.Link f) = ends.Input (input.Link f)
 status_of (fault.Check f) = ends.Input (input.Check f)
 status_of fault.NoMemory = ends.NoMemory
 
--- what loading the suite of this name gives; a program that isn't of the first machine isn't served yet
-abbrev pub served : List ℕ → Result Loaded LoadFault → Result Loaded Status
-served name (Ok l) = if fits_first_machine l.checked then Ok l else Err (ends.Input (input.NotYet name))
-served name (Err f) = Err (status_of f)
+-- how loading is answered
+abbrev pub answered : Result Loaded LoadFault → Result Loaded Status
+answered (Ok l) = Ok l
+answered (Err f) = Err (status_of f)
 
 -- loading the suite of this name answers this
 abbrev pub LoadsNamed : Files → List ℕ → Result Loaded Status → Type 0
-LoadsNamed files name answer = (loading : Result Loaded LoadFault) × Loads files name loading × (answer ≡ served name loading)
+LoadsNamed files name answer = (loading : Result Loaded LoadFault) × Loads files name loading × (answer ≡ answered loading)
 
 abbrev pub LoadsAny : Files → Option (List ℕ) → Result Loaded Status → Type 0
 LoadsAny files None answer = answer ≡ Err ends.Words
@@ -71,24 +69,14 @@ abbrev pub over_fault : Names → SuiteFault → OverFault
 over_fault names (over_budget t budget) = over.OverBudget (test_name names t) budget []
 over_fault names (over_suite t) = over.OverSuite (test_name names t)
 
-abbrev pub is_passed : Outcome → Bool
-is_passed o = elim o.verdict [ verdict.Passed ↦ true | verdict.Failed c ↦ false | verdict.Error c ↦ false ]
-
-abbrev pub is_failed : Outcome → Bool
-is_failed o = elim o.verdict [ verdict.Passed ↦ false | verdict.Failed c ↦ true | verdict.Error c ↦ false ]
-
-abbrev pub is_error : Outcome → Bool
-is_error o = elim o.verdict [ verdict.Passed ↦ false | verdict.Failed c ↦ false | verdict.Error c ↦ true ]
-
--- the lines of the tests from the number t on
-abbrev pub test_lines : Names → ℕ → List Outcome → List ℕ
-test_lines names t [] = []
-test_lines names t (o ∷ os) = outcome_lines names t o ++ test_lines names (t + 1) os
+-- the outcomes by the numbers of their tests, from t on
+abbrev pub numbered : ℕ → List Outcome → List (ℕ × Outcome)
+numbered t [] = []
+numbered t (o ∷ os) = (t, o) ∷ numbered (t + 1) os
 
 -- the report on the whole suite, without a record
-unfoldable pub report : Names → List Outcome → List ℕ
-report names os = codes "electric-run 1" ++ (10 ∷ (codes "selected " ++ (decimal (length os) ++ (codes " executed " ++ (decimal (length os) ++ (codes " chains -" ++ (10 ∷ (test_lines names 1 os
-    ++ count_line (count_by is_passed os) (count_by is_failed os) (count_by is_error os)))))))))
+abbrev pub report : Names → List Outcome → List ℕ
+report names os = report_on names (length os) None (numbered 1 os)
 
 abbrev pub units_in : List Outcome → ℕ
 units_in [] = 0
@@ -102,7 +90,6 @@ input_text (input.Suite line why) = codes "suite " ++ (decimal line ++ (32 ∷ w
 input_text (input.Class name f) = codes "class " ++ (name ++ (32 ∷ class_text f))
 input_text (input.Link f) = codes "link " ++ link_text f
 input_text (input.Check f) = codes "check " ++ check_text f
-input_text (input.NotYet name) = codes "not-yet " ++ name
 
 abbrev pub over_text : OverFault → List ℕ
 over_text (over.OverBudget name budget list) = codes "over-budget " ++ (name ++ (32 ∷ decimal budget))

@@ -2,16 +2,29 @@
 
 ghost use Rattle.std.specs.Prelude.{◌≡◌, ◌≤◌, IfOk, IfErr, IfSome};
 ghost use Rattle.electrictest.specs.Commands.{Asked, HasForm, ReportEnds, Reported, Writes, Refused, Taken, Served, Ends};
+ghost use Rattle.electrictest.specs.Commands as command;
 ghost use Rattle.electrictest.specs.Replies as reply;
 
 use crate::loading::load_for;
+use crate::reports::{Report, report_on};
 use crate::running::run_all;
 use crate::status::Status;
-use crate::texts::{fault_line, report};
+use crate::texts::fault_line;
 use et_base::Text;
 use outside::{Depot, Sink, Steps, write_text};
 use std::alloc::Global;
 use std::sync::ledger::Ledger;
+
+// How a command ends that writes the report.
+fn report_status(report: &Report) -> Status
+    ensures { result ≡ command.report_status report.now.passed }
+{
+    if report.passed {
+        Status::Done
+    } else {
+        Status::NotPassed
+    }
+}
 
 // The report that the words ask for.
 fn reported<D: Depot, L: Ledger>(
@@ -19,11 +32,11 @@ fn reported<D: Depot, L: Ledger>(
     words: &[Text],
     depot: &mut D,
     steps: &mut Steps<L>,
-) -> Result<Text, Status>
+) -> Result<Report, Status>
     ensures told { (D.shown depot.new).told ≡ (D.shown depot.old).told }
     ensures faults { (D.shown depot.old).faults ≤ (D.shown depot.new).faults }
-    ensures reports { IfOk result (λ text. IfSome (D.shown depot.old).told (λ files.
-        Reported files words.now text steps.old steps.new)) }
+    ensures reports { IfOk result (λ r. IfSome (D.shown depot.old).told (λ files.
+        Reported files words.now r.passed r.text steps.old steps.new)) }
     ensures refused { IfErr result (λ s.
         IfSome (D.shown depot.old).told (λ files. reply.Unreported files words.now s)) }
     ensures form { IfOk result (λ _. HasForm words.now) }
@@ -31,8 +44,8 @@ fn reported<D: Depot, L: Ledger>(
 {
     let loaded = load_for(alloc, words, depot)?;
     let outcomes = run_all(alloc, &loaded, steps)?;
-    let text = report(alloc, &loaded.names, outcomes.as_slice())?;
-    Ok(text)
+    let report = report_on(alloc, &loaded.names, outcomes.as_slice())?;
+    Ok(report)
 }
 
 /// Writes a text, and answers this status, or `Sink` where the sink failed: it then took a prefix of the text, and its
@@ -62,11 +75,12 @@ fn refused<S: Sink>(alloc: Global, sink: &mut S, status: Status) -> Status
 }
 
 /// Answers the words of a command line: `run SUITE - 1 all` runs the whole suite in order on one heap and writes the
-/// report, where every test passes; each other answer is a line `electric: ..` that says why.
+/// report; each answer that is no report is a line `electric: ..` that says why.
 ///
+/// - `Done`: the report was written, and each test passed.
+/// - `NotPassed`: the report was written, and a test failed or ended in an error.
 /// - `Words`: the words have no form that is served.
-/// - `Input`: a file is absent, too large or faulty, the class files don't link, the program isn't typed, or the first
-///   machine doesn't run it yet.
+/// - `Input`: a file is absent, too large or faulty, the class files don't link, or the program isn't typed.
 /// - `Over`: a test passed its budget, or the suite its number of units.
 /// - `Depot`: the depot failed, last at the file that is named, and its count of faults rose.
 /// - `Sink`: the sink failed, and its count of faults rose.
@@ -98,7 +112,7 @@ pub fn electric_plain<D: Depot, S: Sink, L: Ledger>(
         Ends words.now result (D.shown depot.old) depot_now (S.shown sink.old) sink_now }
 {
     match reported(alloc, words, depot, steps) {
-        Ok(text) => written(sink, text.as_slice(), Status::Done),
+        Ok(report) => written(sink, report.text.as_slice(), report_status(&report)),
         Err(status) => refused(alloc, sink, status),
     }
 }

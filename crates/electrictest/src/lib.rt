@@ -3,8 +3,8 @@
 
 mod commands;
 mod fault_texts;
-mod first_machine;
 mod loading;
+mod reports;
 mod running;
 mod status;
 mod texts;

@@ -1,14 +1,9 @@
-//! From words and a depot's files to a program that the first machine runs.
+//! From words and a depot's files to a checked program.
 
 ghost use Rattle.std.specs.Prelude.{◌≡◌, ◌≤◌, IfOk, IfErr, IfSome, Ok, option_copied};
-ghost use Rattle.et_base.specs.Answers.{Gives};
-ghost use Rattle.type_frames.specs.Typing.{IsTyped};
-ghost use Rattle.electrictest.specs.Runnable.{IsRunnable};
-ghost use Rattle.electrictest.specs.Answers.{says};
-ghost use Rattle.electrictest.specs.Commands.{HasForm, IsNotYet, ReportEnds};
+ghost use Rattle.electrictest.specs.Commands.{HasForm, ReportEnds};
 ghost use Rattle.electrictest.specs.Replies as reply;
 
-use crate::first_machine::fits_first_machine;
 use crate::status::{InputFault, Status};
 use et_base::Text;
 use outside::Depot;
@@ -31,21 +26,6 @@ fn status_of(fault: LoadFault) -> Status
     }
 }
 
-// The loaded suite of this name, where the first machine runs it.
-fn served(alloc: Global, loaded: Loaded, name: &Text) -> Result<Loaded, Status>
-    requires typed { IsTyped loaded.checked }
-    ensures answers { Gives says (λ l. l) result (reply.served name.now (Ok loaded)) }
-    ensures not_yet { IfErr result IsNotYet }
-    ensures runs { IfOk result (λ l. IsRunnable l.checked) }
-{
-    if fits_first_machine(loaded.checked.program()) {
-        Ok(loaded)
-    } else {
-        let name = Text::from_slice(alloc, name.as_slice())?;
-        Err(Status::Input(InputFault::NotYet { name }))
-    }
-}
-
 // The suite's name in `run SUITE - 1 all`.
 #[tactic(auto, unfolding(crate::specs::Replies::suite_word))]
 fn suite_word(words: &[Text]) -> Option<&Text>
@@ -64,10 +44,10 @@ fn suite_word(words: &[Text]) -> Option<&Text>
     }
 }
 
-/// The suite that the words name: its program, which the first machine runs, and the names that reports print.
+/// The suite that the words name: its checked program, and the names that reports print.
 ///
-/// `Words` comes exactly where the words have no form; `Input` as the first fault of loading does, or as `NotYet` exactly
-/// where the suite loads and its program isn't one that the first machine runs; `Depot` only where the depot failed.
+/// `Words` comes exactly where the words have no form; `Input` as the first fault of loading does; `Depot` only where the
+/// depot failed.
 pub fn load_for<D: Depot>(alloc: Global, words: &[Text], depot: &mut D) -> Result<Loaded, Status>
     ensures told { (D.shown depot.new).told ≡ (D.shown depot.old).told }
     ensures faults { (D.shown depot.old).faults ≤ (D.shown depot.new).faults }
@@ -77,13 +57,9 @@ pub fn load_for<D: Depot>(alloc: Global, words: &[Text], depot: &mut D) -> Resul
         IfSome (D.shown depot.old).told (λ files. reply.Unreported files words.now s)) }
     ensures form { IfOk result (λ _. HasForm words.now) }
     ensures ends { IfErr result (λ s. ReportEnds words.now s (D.shown depot.old) (D.shown depot.new)) }
-    ensures runs { IfOk result (λ l. IsRunnable l.checked) }
 {
     let Some(name) = suite_word(words) else {
         return Err(Status::Words);
     };
-    match load(alloc, depot, name) {
-        Ok(loaded) => served(alloc, loaded, name),
-        Err(fault) => Err(status_of(fault)),
-    }
+    load(alloc, depot, name).map_err(status_of)
 }

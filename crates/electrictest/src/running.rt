@@ -1,25 +1,23 @@
 //! The whole suite, run in order.
 
-ghost use Rattle.std.specs.Prelude.{◌≡◌, ◌+◌, ◌-◌, ◌≤◌, ◌<◌, ◌^◌, ◌∷◌, [], ℤ, ℕ, List, length, IfOk, IfErr, get_or, Some, min, replicate, pos};
-ghost use Rattle.std.specs.List.{range_with_len};
-ghost use Rattle.jvm_model.specs.declared.values.Touch.{Touch};
-ghost use Rattle.jvm_model.specs.Suite.{one_test, fault_of};
-ghost use Rattle.vm_interp.specs.Standing.{world_of};
-ghost use Rattle.vm_interp.specs.Served.{IsServed};
-ghost use Rattle.electrictest.specs.Runnable.{IsRunnable};
-ghost use Rattle.electrictest.specs.Running.{Ran, RunRefused, OneRefused, least};
-ghost use Rattle.jvm_model.specs.declared.outcome.Verdict.TheVariants as verdict;
+ghost use Rattle.std.specs.Prelude.{◌≡◌, ◌+◌, ◌≤◌, false, length, IfOk, IfErr, OnOk, Some};
+ghost use Rattle.jvm_model.specs.Suite as suite;
+ghost use Rattle.test_run.specs.Outcomes.{given_in};
+ghost use Rattle.test_run.specs.Running.{least};
+ghost use Rattle.electrictest.specs.Running.{Ran, RunRefused, OneRefused};
 ghost use Rattle.electrictest.specs.Replies as reply;
 ghost use Rattle.electrictest.specs.Tests as tests;
 
 use crate::status::{OverFault, Status};
 use et_base::{Items, NoMemory, Text};
-use jvm_model::{Names, Outcome, Verdict};
+use jvm_model::{Names, Outcome};
 use outside::Steps;
 use std::alloc::Global;
 use std::sync::ledger::Ledger;
 use suite_load::Loaded;
-use vm_interp::{RunFault, run_test};
+use test_run::{Machine, RunFault};
+use vm_heap::RegionMemory;
+use vm_mem::Memory;
 
 /// The most units of a whole suite's run.
 const SUITE_LIMIT: u64 = 67_108_864;
@@ -52,43 +50,66 @@ fn over(alloc: Global, names: &Names, test: u32, budget: u64, rest: u64) -> Resu
     }
 }
 
-// One test over the statics that earlier tests left, within its budget and the rest of the suite's units.
-fn run_one<L: Ledger>(
+// One test after those before it, within its budget and the rest of the suite's units.
+fn run_one<M: Memory, L: Ledger>(
     alloc: Global,
     loaded: &Loaded,
-    statics: &mut [i32],
+    machine: &mut Machine<'_, M>,
     test: u32,
     rest: u64,
     steps: &mut Steps<L>,
 ) -> Result<Outcome, Status>
-    requires runs { IsRunnable loaded.now.checked }
+    requires program { machine.old.program ≡ loaded.now.checked }
+    requires ready { machine.old.spent ≡ false }
     requires first { 1 ≤ test }
     requires last { test ≤ length loaded.now.checked.tests }
-    requires statics { length statics.old + 2 ≡ length loaded.now.checked.fields }
-    ensures gives { IfOk result (λ o. (ts : List Touch) × one_test loaded.now.checked (world_of loaded.now.checked statics.old) test (least loaded.now.checked test rest)
-        ≡ Some (record { outcome = o; world = world_of loaded.now.checked statics.new; touches = ts })) }
-    ensures passes { IfOk result (λ o. o.verdict ≡ verdict.Passed) }
+    ensures gives { IfOk result (λ o. let w = M.world machine.old.memory in
+        let b = least loaded.now.checked test rest in
+        suite.one_test loaded.now.checked w test b
+        ≡ given_in loaded.now.checked test w b (Some o) (M.world machine.new.memory)) }
     ensures counted { IfOk result (λ o. steps.new ≡ steps.old + o.units) }
-    ensures refused { IfErr result (OneRefused loaded.now (world_of loaded.now.checked statics.old) test rest) }
+    ensures program { OnOk result (machine.new.program ≡ machine.old.program) }
+    ensures ready { OnOk result (machine.new.spent ≡ false) }
+    ensures refused { IfErr result (OneRefused
+        loaded.now (M.world machine.old.memory) test rest) }
 {
-    let program = loaded.checked.program();
-    let budget = program.tests.as_slice()[(test - 1) as usize].budget;
-    match run_test(alloc, program, statics, test, budget.min(rest), steps) {
-        Ok(outcome) => Ok(outcome),
+    match machine.run_within(test, rest, steps) {
+        Ok(piece) => Ok(piece.into_outcome()),
         Err(RunFault::NoMemory) => Err(Status::NoMemory),
         Err(RunFault::OverBudget { .. }) => {
+            let budget = loaded.checked.program().tests.as_slice()[(test - 1) as usize].budget;
             let status = over(alloc, &loaded.names, test, budget, rest)?;
             Err(status)
         }
     }
 }
 
-// So many statics, all 0.
-fn zeros(alloc: Global, count: usize) -> Result<Vec<i32>, NoMemory>
-    ensures { IfOk result (λ made. made.items ≡ replicate count (pos 0)) }
+// The outcomes of a whole suite, run in order on this memory.
+fn run_on<M: Memory, L: Ledger>(
+    alloc: Global,
+    loaded: &Loaded,
+    memory: M,
+    steps: &mut Steps<L>,
+) -> Result<Items<Outcome>, Status>
+where
+    M: Drop,
+    requires program { M.program memory ≡ loaded.now.checked }
+    requires world { M.world memory ≡ suite.opening loaded.now.checked }
+    ensures ran { IfOk result (Ran loaded.now) }
+    ensures counted { IfOk result (λ outcomes. steps.new ≡ steps.old + reply.units_in outcomes) }
+    ensures refused { IfErr result (RunRefused loaded.now) }
 {
-    let made = vec![in alloc; 0; count]?;
-    Ok(made)
+    let mut machine = Machine::new(alloc, &loaded.checked, 0, memory)?;
+    let mut outcomes = Items::new(alloc);
+    let mut rest = SUITE_LIMIT;
+    let count = loaded.checked.program().tests.len();
+    for index in 0..count {
+        let test = (index + 1) as u32;
+        let outcome = run_one(alloc, loaded, &mut machine, test, rest, steps)?;
+        rest -= outcome.units;
+        outcomes.push(outcome)?;
+    }
+    Ok(outcomes)
 }
 
 /// The outcomes of a whole suite, run in order on one heap.
@@ -99,20 +120,10 @@ pub fn run_all<L: Ledger>(
     loaded: &Loaded,
     steps: &mut Steps<L>,
 ) -> Result<Items<Outcome>, Status>
-    requires runs { IsRunnable loaded.now.checked }
     ensures ran { IfOk result (Ran loaded.now) }
     ensures counted { IfOk result (λ outcomes. steps.new ≡ steps.old + reply.units_in outcomes) }
     ensures refused { IfErr result (RunRefused loaded.now) }
 {
-    let program = loaded.checked.program();
-    let mut statics = zeros(alloc, program.fields.len() - 2)?;
-    let mut outcomes = Items::new(alloc);
-    let mut rest = SUITE_LIMIT;
-    for index in 0..program.tests.len() {
-        let test = (index + 1) as u32;
-        let outcome = run_one(alloc, loaded, &mut statics, test, rest, steps)?;
-        rest -= outcome.units;
-        outcomes.push(outcome)?;
-    }
-    Ok(outcomes)
+    let memory = RegionMemory::opening(alloc, loaded.checked.program())?;
+    run_on(alloc, loaded, memory, steps)
 }

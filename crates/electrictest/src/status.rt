@@ -45,8 +45,6 @@ pub enum InputFault {
     Link { fault: LinkFault },
     /// The program isn't typed; the fault is never `NoMemory`.
     Check { fault: CheckFault },
-    /// The suite of this name loads, and its program isn't one that the first machine runs.
-    NotYet { name: Text },
 }
 
 /// Which number of units was passed.

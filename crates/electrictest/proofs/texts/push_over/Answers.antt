@@ -1,5 +1,5 @@
 use Rattle.std.proofs.Common.{◌++◌, ◌∷◌, [], ap, ◌∙◌, codes, decimal}
-use Rattle.electrictest.proofs.TextLaws.{join2, join4}
+use Rattle.test_run.proofs.Joins.{join2, join4}
 use Rattle.electrictest.proofs.texts.push_over.Goals as goal
 
 pub returns-in_ok-push_decimal-in-OverBudget : goal.returns-in_ok-push_decimal-in-OverBudget

@@ -1,6 +1,6 @@
 use Rattle.std.proofs.Common.{◌++◌, ◌∷◌, [], codes, decimal}
-use Rattle.electrictest.proofs.TextLaws.{join5}
-use Rattle.electrictest.proofs.texts.push_head.Goals as goal
+use Rattle.test_run.proofs.Joins.{join5}
+use Rattle.electrictest.proofs.reports.push_head.Goals as goal
 
 pub returns : goal.returns
 returns c =
