@@ -1,0 +1,9 @@
+pub mod Places
+pub mod Joinings
+pub mod Labelled
+pub mod Grouped
+pub mod Formed
+pub mod Totals
+pub mod Inserted
+pub mod Dealing
+pub mod OnePlan

@@ -1,0 +1,4 @@
+pub mod Lists
+pub mod Orders
+pub mod Sets
+pub mod Closings
