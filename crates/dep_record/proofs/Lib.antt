@@ -1,0 +1,15 @@
+mod AppendLaws
+mod CutLaws
+mod DepsLaws
+mod EdgeLaws
+mod FieldLaws
+mod FoundLaws
+mod GivenFields
+mod GivenLaws
+mod HashLaws
+mod JsonLaws
+mod LineLaws
+mod ListedLaws
+mod NumberLaws
+mod SaidLaws
+mod TextLaws

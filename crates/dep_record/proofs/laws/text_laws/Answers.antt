@@ -1,0 +1,9 @@
+use Rattle.dep_record.proofs.FoundLaws.{found_text}
+use Rattle.dep_record.proofs.GivenLaws.{given_text}
+use Rattle.dep_record.proofs.laws.text_laws.Goals as goal
+
+pub returns-clause-found : goal.returns-clause-found
+returns-clause-found c = found_text
+
+pub returns-clause-given : goal.returns-clause-given
+returns-clause-given c = given_text

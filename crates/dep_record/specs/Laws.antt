@@ -1,0 +1,13 @@
+-- The definitions of a record's text and of its reading agree.
+use Rattle.std.specs.Prelude.{◌≡◌, ℕ, List, true, Ok}
+use Rattle.order_law.specs.RecordForm.{is_record_form, is_reach_form}
+use Rattle.dep_record.specs.RecordText.{Said, text_of, lines_of, has_hashes}
+use Rattle.dep_record.specs.RecordReading.{said_in}
+
+-- the text of what is read is what was read
+abbrev pub FoundLaw : Type 0
+FoundLaw = (text : List ℕ) (s : Said) → said_in text ≡ Ok s → text_of (lines_of s) ≡ text
+
+-- the text of what has the form of a record is read as that
+abbrev pub GivenLaw : Type 0
+GivenLaw = (s : Said) → is_record_form s.units s.edges ≡ true → is_reach_form s.units s.more ≡ true → has_hashes s ≡ true → said_in (text_of (lines_of s)) ≡ Ok s

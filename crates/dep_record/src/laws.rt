@@ -1,0 +1,9 @@
+//! Laws of the texts of records.
+
+ghost use Rattle.dep_record.specs.Laws.{FoundLaw, GivenLaw};
+
+/// What is read of a text is what it says and nothing else, and the text of a record in form is read as that record.
+pub fn text_laws()
+    ensures found { FoundLaw }
+    ensures given { GivenLaw }
+{}
