@@ -1,0 +1,6 @@
+public class Outer {
+    int n;
+    class In {
+        int twice() { return n + n; }
+    }
+}
