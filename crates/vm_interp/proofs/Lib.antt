@@ -8,3 +8,4 @@ pub mod Framed
 pub mod Builtin
 pub mod Laws
 pub mod Quick
+pub mod Numbered

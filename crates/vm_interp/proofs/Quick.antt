@@ -30,15 +30,15 @@ use Rattle.vm_interp.proofs.Whole.{IsRest, goes_on_from}
 
 -- a form that goes on at the next instruction
 pub goes : (i : Instr) (n : ℕ) (s u : Entries) → GoesOn i s u → Goes i n s (with_place u n)
-goes i n s u h = record { frame = h.frame.kind; row = λ p e. h.row p s.top.pc ∙ ap (λ m. done (answer Go (with_place u m))) e }
+goes i n s u h = record { frame = h.frame.kind; number = h.frame.number; row = λ p e. h.row p s.top.pc ∙ ap (λ m. done (answer Go (with_place u m))) e }
 
 -- a branch
 pub branches : (i : ℕ → Instr) (b : Bool) (to n : ℕ) (s u : Entries) → Branches i b s u → Goes (i to) n s (with_place u (cond b to n))
-branches i b to n s u h = record { frame = h.frame.kind; row = λ p e. h.row to p s.top.pc ∙ ap (λ m. done (answer Go (with_place u (cond b to m)))) e }
+branches i b to n s u h = record { frame = h.frame.kind; number = h.frame.number; row = λ p e. h.row to p s.top.pc ∙ ap (λ m. done (answer Go (with_place u (cond b to m)))) e }
 
 pub jumps : (to n : ℕ) (s : Entries) → Goes (form.Goto to) n s (with_place s to)
 unfolding row row_branches
-jumps to n s = record { frame = refl; row = λ p e. refl }
+jumps to n s = record { frame = refl; number = refl; row = λ p e. refl }
 
 -- the step of such a form
 pub glided : (p : Program) (i : Instr) (n : ℕ) (s u : Entries) (left left1 : ℕ) → s.top.kind ≡ InMethod → form_at p s.top.number s.top.pc ≡ Some i → next_place p s.top.number s.top.pc ≡ n → Goes i n s u → left ≡ suc left1 → Glide p s left u left1
@@ -106,10 +106,3 @@ goes_at i j n s u v e f h = rw (e, f) (goes j n s u h)
 
 pub jumps_at : (i : Instr) (to n : ℕ) (s v : Entries) → i ≡ form.Goto to → v ≡ with_place s to → Goes i n s v
 jumps_at i to n s v e f = rw (e, f) (jumps to n s)
-
--- what the tables found at the top
-pub found_at : (p : Program) (s : Entries) (n pc : ℕ) (i : Instr) → n ≡ s.top.number → pc ≡ s.top.pc → Some i ≡ form_at p n pc → form_at p s.top.number s.top.pc ≡ Some i
-found_at p s n pc i e f h = rw (← e, ← f) (sym h)
-
-pub next_found : (p q : Program) (s : Entries) (n pc m : ℕ) → q ≡ p → n ≡ s.top.number → pc ≡ s.top.pc → m ≡ next_place q n pc → next_place p s.top.number s.top.pc ≡ m
-next_found p q s n pc m a e f h = rw (← e, ← f, ← a) (sym h)

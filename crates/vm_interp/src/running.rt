@@ -1,6 +1,7 @@
 //! The steps of a test.
 
 ghost use Rattle.std.specs.Prelude.{◌≡◌, ◌<◌, ◌≤◌, length, IfOk, IfSome, OnOk};
+ghost use Rattle.jvm_model.specs.Linked.{Linked};
 ghost use Rattle.jvm_model.specs.State.{started};
 ghost use Rattle.jvm_model.specs.Suite.{one_test};
 ghost use Rattle.type_frames.specs.Typing.{IsTyped};
@@ -71,6 +72,7 @@ fn run_safe<M: Memory>(
     requires program { p.now ≡ M.program memory.old }
     requires tables { tables.now ≡ M.program memory.old }
     requires selections { selections.old ≡ M.program memory.old }
+    requires linked { Linked (M.program memory.old) }
     requires start { seen state.old ≡ started (M.program memory.old) state.old.test }
     requires safe { AllSafe (M.program memory.old) state.old.test (M.world memory.old) }
     ensures gives { IfOk result (λ v. one_test

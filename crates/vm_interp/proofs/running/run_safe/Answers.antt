@@ -1,6 +1,7 @@
 use Rattle.std.proofs.Common.{List, refl, sym, subst, ◌∙◌, arith}
 use Rattle.jvm_model.specs.declared.program.Program.{Program}
 use Rattle.jvm_model.specs.declared.values.Touch.{Touch}
+use Rattle.jvm_model.specs.Linked.{Linked}
 use Rattle.jvm_model.specs.Step.{step}
 use Rattle.jvm_model.specs.View.{touched}
 use Rattle.vm_interp.specs.Gliding.{GlidesOn}
@@ -21,6 +22,7 @@ loop-left-init g c = record {
 pub glide_state-requires : goal.glide_state-requires
 glide_state-requires g c = record {
   tables = c.requires.tables ∙ sym c.requires.program;
+  linked = subst (λ (q : Program). Linked q) (sym c.requires.program) c.requires.linked;
   can = λ n k. subst (λ (q : Program). GlidesOn q c.turn.new.state.frames c.turn.new.left) (sym c.requires.program)
       (can_glide (g.M.Memory.program c.args.memory.now) c.args.state.now.test (g.M.Memory.world c.args.memory.now) c.args.left.now (seen c.turn.new.state) (g.M.Memory.world c.turn.new.memory) c.turn.new.left _ c.requires.safe
       (goes_on_rest (g.M.Memory.program c.args.memory.now) (g.M.Memory.program c.loop-left.memory) c.loop-left.invariant.of c.args.state.now.test (g.M.Memory.world c.args.memory.now) c.args.left.now c.loop-left.state (g.M.Memory.world c.loop-left.memory) c.loop-left.left c.loop-left.invariant.so_far c.loop-left.invariant.rest c.in_ok-end.field-0 c.turn.new.state (g.M.Memory.world c.turn.new.memory) c.turn.new.left c.in_ok-end.ensures.meets c.in_default.is) n k);

@@ -1,0 +1,85 @@
+-- The instructions of a code by number.
+use Rattle.std.proofs.Common.{◌≡◌, ℕ, zero, suc, ◌<◌, ◌+◌, List, [], ◌∷◌, length, get_or, drop, eqb, Bool, true, false, cond, refl, sym, ap, ◌∙◌, subst, arith, Option, Some, None, IfSome, slice_get, ◌≤◌}
+use Rattle.std.proofs.lemmas.Bool.{eq-eqb, ne_eqb}
+use Rattle.jvm_model.specs.declared.program.Placed.{Placed}
+use Rattle.jvm_model.specs.declared.program.Body.{Body}
+use Rattle.jvm_model.specs.declared.program.Program.{Program}
+use Rattle.jvm_model.specs.Classes.{Found, found_in, found_of, form_at, next_place, place_after, method_at}
+use Rattle.jvm_model.specs.Entries.{Entries}
+use Rattle.jvm_model.specs.Linked.{Ascends, IsBody, Linked}
+use Rattle.vm_tables.specs.Numbers.{code_of, instruction, instruction_of, after_or, no_placed}
+use Rattle.vm_tables.proofs.Places.{ascending_number, form_some, get_some, place_at, place_past}
+use Rattle.check_sound.proofs.Arrive.{has_number}
+use Rattle.vm_interp.specs.Gliding.{IsNumber}
+
+chosen : (b c : Bool) (o f : Option Found) → b ≡ c → (elim b as (λ _. Option Found) [ true ↦ o | false ↦ f ]) ≡ cond c o f
+chosen true c o f e = subst (λ (x : Bool). o ≡ cond x o f) e refl
+chosen false c o f e = subst (λ (x : Bool). f ≡ cond x o f) e refl
+
+-- the first instruction of its place is itself
+found_there : (n : ℕ) (code : List Placed) (end i : ℕ) (d : Placed) → Ascends n code → i < length code → found_in code end (get_or code i d).pc ≡ Some (instruction code end i)
+found_there n [] end i d a l = let none : ⊥ = omega arith in absurd none
+found_there n (x ∷ xs) end zero d a l = chosen (eqb x.pc x.pc) true (Some (record { form = x.form; after = place_after xs end })) (found_in xs end x.pc) (eq-eqb x.pc x.pc refl)
+found_there n (x ∷ xs) end (suc i) d a l =
+    let later : x.pc + 1 + i ≤ (get_or xs i d).pc = ascending_number (x.pc + 1) xs i d a.1 (omega arith) in
+    let apart : eqb x.pc (get_or xs i d).pc ≡ false = ne_eqb x.pc (get_or xs i d).pc (λ e. (let none : ⊥ = omega arith in none)) in
+    chosen (eqb x.pc (get_or xs i d).pc) false (Some (record { form = x.form; after = place_after xs end })) (found_in xs end (get_or xs i d).pc) apart
+    ∙ found_there (x.pc + 1) xs end i d a.1 (omega arith)
+
+within : {A : Type 0} (xs : List A) (i : ℕ) (x : A) → slice_get xs i ≡ Some x → i < length xs
+within [] i x e = absurd (cc)
+within (y ∷ ys) zero x e = omega arith
+within (y ∷ ys) (suc i) x e = let h = within ys i x e in omega arith
+
+-- an instruction that stands at the place is the one that is found
+pub number_of_guess : (b : Body) (i pc : ℕ) (x : Placed) → IsBody b → Some x ≡ slice_get b.code i → x.pc ≡ pc → IsNumber b pc i
+number_of_guess b i pc x h e q =
+    let here : get_or b.code i no_placed ≡ x = get_some b.code i x no_placed (sym e) in
+    let there : (get_or b.code i no_placed).pc ≡ pc = ap (λ (y : Placed). y.pc) here ∙ q in
+    record {
+      found = subst (λ (n : ℕ). found_in b.code b.length n ≡ Some (instruction b.code b.length i)) there (found_there 0 b.code b.length i no_placed h.ascending (within b.code i x (sym e)));
+      within = within b.code i x (sym e);
+    }
+
+next_by : (o : Option Found) (pc : ℕ) → (elim o as (λ _. ℕ) [ None ↦ pc | Some x ↦ x.after ]) ≡ after_or pc o
+next_by None pc = refl
+next_by (Some x) pc = refl
+
+next_numbered : (p : Program) (m pc i : ℕ) (b : Body) → (method_at p m).body ≡ Some b → IsNumber b pc i → next_place p m pc ≡ place_after (drop (suc i) b.code) b.length
+unfolding next_place
+next_numbered p m pc i b own h = next_by (found_of (method_at p m).body pc) pc ∙ ap (λ (o : Option Body). after_or pc (found_of o pc)) own ∙ ap (λ (o : Option Found). after_or pc o) h.found
+
+form_numbered : (p : Program) (m pc i : ℕ) (b : Body) → (method_at p m).body ≡ Some b → IsNumber b pc i → form_at p m pc ≡ Some (get_or b.code i no_placed).form
+form_numbered p m pc i b own h = form_some p m pc i b (subst (λ (o : Option Body). found_of o pc ≡ instruction_of o (Some i)) (sym own) h.found) own
+
+-- what stands at the top frame's place
+pub form_there : (p : Program) (s : Entries) (m pc i : ℕ) (b : Body) (x : Placed) → s.top.number ≡ m → pc ≡ s.top.pc → (method_at p m).body ≡ Some b → IsNumber b pc i → Some x ≡ slice_get b.code i → form_at p s.top.number s.top.pc ≡ Some x.form
+form_there p s m pc i b x e f own h g = rw (e, ← f) (form_numbered p m pc i b own h ∙ ap (λ (y : Placed). Some y.form) (get_some b.code i x no_placed (sym g)))
+
+pub next_there : (p : Program) (s : Entries) (m pc i n : ℕ) (b : Body) → s.top.number ≡ m → pc ≡ s.top.pc → (method_at p m).body ≡ Some b → IsNumber b pc i → (code : List Placed) → code ≡ b.code → n ≡ place_after (drop (suc i) code) b.length → next_place p s.top.number s.top.pc ≡ n
+next_there p s m pc i n b e f own h code q g = rw (e, ← f) (next_numbered p m pc i b own h ∙ ap (λ (xs : List Placed). place_after (drop (suc i) xs) b.length) (sym q) ∙ sym g)
+
+-- the same of the table's number
+pub number_of_table : (p : Program) (m pc i : ℕ) (b : Body) → (method_at p m).body ≡ Some b → found_of (method_at p m).body pc ≡ instruction_of (method_at p m).body (Some i) → i < length (code_of (method_at p m).body) → IsNumber b pc i
+number_of_table p m pc i b own e w = record { found = subst (λ (o : Option Body). found_of o pc ≡ instruction_of o (Some i)) own e; within = subst (λ (o : Option Body). i < length (code_of o)) own w }
+
+-- the code of a linked program
+pub is_body : (p : Program) (m : ℕ) (b : Body) → Linked p → (method_at p m).body ≡ Some b → IsBody b
+is_body p m b h e = subst (λ (o : Option Body). IfSome o (λ x. IsBody x)) e (h.bodies m (has_number p m b e))
+
+-- the place after an instruction
+pub after_some : (code : List Placed) (i end : ℕ) (x : Placed) → Some x ≡ slice_get code (i + 1) → x.pc ≡ place_after (drop (suc i) code) end
+after_some code i end x e =
+    let one : i + 1 ≡ suc i = omega arith in
+    let there : slice_get code (suc i) ≡ Some x = subst (λ (n : ℕ). slice_get code n ≡ Some x) one (sym e) in
+    sym (place_at code (suc i) end no_placed (within code (suc i) x there) ∙ ap (λ (y : Placed). y.pc) (get_some code (suc i) x no_placed there))
+
+past : (code : List Placed) (i : ℕ) → slice_get code i ≡ None → length code ≤ i
+past [] i e = omega arith
+past (x ∷ xs) zero e = absurd (cc)
+past (x ∷ xs) (suc i) e = let h = past xs i e in omega arith
+
+pub after_none : (code : List Placed) (i end : ℕ) → None ≡ slice_get code (i + 1) → end ≡ place_after (drop (suc i) code) end
+after_none code i end e =
+    let one : i + 1 ≡ suc i = omega arith in
+    sym (place_past code (suc i) end (past code (suc i) (subst (λ (n : ℕ). slice_get code n ≡ None) one (sym e))))
