@@ -13,7 +13,7 @@ use Rattle.type_frames.specs.TypedState.{TypedWorld}
 use Rattle.vm_mem.specs.Story.{Story, next_test}
 use Rattle.vm_interp.specs.declared.state.State.{State as Kept}
 use Rattle.vm_interp.specs.Reaching.{TellsTest, given_by}
-use Rattle.test_run.specs.Outcomes.{given_in, touches_of, TellsOne}
+use Rattle.test_run.specs.Outcomes.{given_in, TellsOne}
 
 -- the outcome of a test that ended with this verdict
 abbrev pub outcome_with : Kept → ℕ → Option Verdict → Option Outcome

@@ -69,7 +69,8 @@ fn push_verdict(out: &mut Text, names: &Names, verdict: &Verdict) -> Result<(), 
 /// Appends what comes before the verdict on the line of a test.
 fn push_named(out: &mut Text, names: &Names, test: u32) -> Result<(), NoMemory>
     requires { 1 ≤ test }
-    ensures { OnOk result (out.new ≡ out.old ++ (codes "test " ++ (decimal test ++ (32 ∷ (get_or names.now.tests (test - 1) [] ++ (32 ∷ [])))))) }
+    ensures { OnOk result (out.new ≡ out.old ++ (codes "test " ++ (decimal test
+        ++ (32 ∷ (get_or names.now.tests (test - 1) [] ++ (32 ∷ [])))))) }
 {
     out.extend_from_slice(b"test ")?;
     push_decimal(out, test as u64)?;

@@ -44,9 +44,16 @@ impl<'p, M: Memory> Model for Machine<'p, M> {
 
     ghost Value = { Machined M };
 
-    ghost view = { λ m. record { program = m.checked.now; worker = m.worker; list = m.list; memory = m.memory; spent = m.spent } };
+    ghost view = { λ m. record {
+      program = m.checked.now;
+      worker = m.worker;
+      list = m.list;
+      memory = m.memory;
+      spent = m.spent;
+    } };
 
-    ghost invariant = { λ m. Keeps M.program M.world m.checked.now m.tables m.selections m.list m.memory m.spent };
+    ghost invariant = { λ m. Keeps
+        M.program M.world m.checked.now m.tables m.selections m.list m.memory m.spent };
 }
 
 impl<'p, M: Memory> Machine<'p, M> {
@@ -121,10 +128,13 @@ impl<'p, M: Memory> Machine<'p, M> {
         requires within { budget ≤ (test_at self.old.program test).budget }
         ensures gives { IfOk result (λ o. suite.one_test
             self.old.program (M.world self.old.memory) test budget
-            ≡ given_in self.old.program test (M.world self.old.memory) budget (Some o) (M.world self.new.memory)) }
-        ensures last { IfOk result (λ o. suite.last_outcome self.old.program (self.old.list ++ test ∷ []) ≡ Some o) }
+            ≡ given_in self.old.program test (M.world self.old.memory) budget
+            (Some o) (M.world self.new.memory)) }
+        ensures last { IfOk result (λ o. suite.last_outcome
+            self.old.program (self.old.list ++ test ∷ []) ≡ Some o) }
         ensures told { OnOk result (TellsOne
-            self.old.program test (M.world self.old.memory) budget M.follows self.old.memory self.new.memory) }
+            self.old.program test (M.world self.old.memory) budget
+            M.follows self.old.memory self.new.memory) }
         ensures counted { IfOk result (λ o. steps.new ≡ steps.old + o.units) }
         ensures after { OnOk result (self.new ≡ record self.old {
           list = self.old.list ++ test ∷ [];
@@ -173,8 +183,8 @@ impl<'p, M: Memory> Machine<'p, M> {
         requires test { IsTest self.old.program test }
         ensures gives { IfOk result (λ x. suite.one_test
             self.old.program (M.world self.old.memory) test (least self.old.program test most)
-            ≡ given_in self.old.program test (M.world self.old.memory) (least self.old.program test most)
-            (Some x.outcome) (M.world self.new.memory)) }
+            ≡ given_in self.old.program test (M.world self.old.memory)
+            (least self.old.program test most) (Some x.outcome) (M.world self.new.memory)) }
         ensures piece { IfOk result (λ x. x ≡ record {
           program = self.old.program;
           worker = self.old.worker;
@@ -190,7 +200,8 @@ impl<'p, M: Memory> Machine<'p, M> {
           memory = self.new.memory;
         }) }
         ensures refused { IfErr result (IsRefused M.program
-            self.old.program (M.world self.old.memory) test (least self.old.program test most) self.new.memory) }
+            self.old.program (M.world self.old.memory) test
+            (least self.old.program test most) self.new.memory) }
         ensures spent { OnErr result (self.new ≡ record self.old {
           memory = self.new.memory;
           spent = true;
@@ -221,8 +232,8 @@ impl<'p, M: Memory> Machine<'p, M> {
         requires test { IsTest self.old.program test }
         ensures gives { IfOk result (λ x. suite.one_test
             self.old.program (M.world self.old.memory) test (test_at self.old.program test).budget
-            ≡ given_in self.old.program test (M.world self.old.memory) (test_at self.old.program test).budget
-            (Some x.outcome) (M.world self.new.memory)) }
+            ≡ given_in self.old.program test (M.world self.old.memory)
+            (test_at self.old.program test).budget (Some x.outcome) (M.world self.new.memory)) }
         ensures piece { IfOk result (λ x. x ≡ record {
           program = self.old.program;
           worker = self.old.worker;
@@ -238,7 +249,8 @@ impl<'p, M: Memory> Machine<'p, M> {
           memory = self.new.memory;
         }) }
         ensures refused { IfErr result (IsRefused M.program
-            self.old.program (M.world self.old.memory) test (test_at self.old.program test).budget self.new.memory) }
+            self.old.program (M.world self.old.memory) test
+            (test_at self.old.program test).budget self.new.memory) }
         ensures spent { OnErr result (self.new ≡ record self.old {
           memory = self.new.memory;
           spent = true;
@@ -264,9 +276,14 @@ impl<'p, M: Memory> Machine<'p, M> {
           list = self.old.list ++ test ∷ [];
           memory = self.new.memory;
         }) }
-        ensures refused { IfErr result (IsRefused M.program self.old.program (M.world self.old.memory)
-            test (test_at self.old.program test).budget self.new.memory) }
-        ensures spent { OnErr result (self.new.spent ≡ true) }
+        ensures refused { IfErr result (IsRefused M.program
+            self.old.program (M.world self.old.memory) test
+            (test_at self.old.program test).budget self.new.memory) }
+        ensures spent { OnErr result (self.new ≡ record self.old {
+          list = self.new.list;
+          memory = self.new.memory;
+          spent = true;
+        }) }
     {
         let budget = budget_of(self.checked.program(), test);
         let outcome = self.run_bounded(test, budget, steps)?;
@@ -296,7 +313,11 @@ impl<'p, M: Memory> Machine<'p, M> {
         }) }
         ensures refused { IfErr result (IsListRefused M.program
             self.old.program (M.world self.old.memory) list.now self.new.memory) }
-        ensures spent { OnErr result (self.new.spent ≡ true) }
+        ensures spent { OnErr result (self.new ≡ record self.old {
+          list = self.new.list;
+          memory = self.new.memory;
+          spent = true;
+        }) }
     {
         let mut outcomes = Items::new(self.alloc);
         for index in 0..list.len() {

@@ -25,7 +25,12 @@ impl Model for Piece {
 
     ghost Value = { Posted };
 
-    ghost view = { λ x. record { program = x.program.value; worker = x.worker; list = x.list; outcome = x.outcome } };
+    ghost view = { λ x. record {
+      program = x.program.value;
+      worker = x.worker;
+      list = x.list;
+      outcome = x.outcome;
+    } };
 
     ghost invariant = { λ x. last_outcome x.program.value x.list ≡ Some x.outcome };
 }

@@ -35,11 +35,13 @@ pub(crate) fn run_single<M: Memory>(
     requires limits { HasStackLimits (M.program memory.old) }
     requires typed { TypedWorld (M.program memory.old) (M.world memory.old) }
     requires test { IsTest (M.program memory.old) test }
-    ensures gives { IfOk result (λ o. one_test (M.program memory.old) (M.world memory.old) test budget
+    ensures gives { IfOk result (λ o. one_test
+        (M.program memory.old) (M.world memory.old) test budget
         ≡ given_in (M.program memory.old) test (M.world memory.old) budget o (M.world memory.new)) }
     ensures told { IfOk result (λ o. IfSome o (λ x. TellsOne
         (M.program memory.old) test (M.world memory.old) budget M.follows memory.old memory.new)) }
-    ensures left { IfOk result (λ o. IfSome o (λ x. TypedWorld (M.program memory.old) (M.world memory.new))) }
+    ensures left { IfOk result (λ o. IfSome o (λ x.
+        TypedWorld (M.program memory.old) (M.world memory.new))) }
     ensures of { OnOk result (M.program memory.new ≡ M.program memory.old) }
     ensures kept { selections.new ≡ selections.old }
 {
