@@ -9,3 +9,4 @@ pub mod Builtin
 pub mod Laws
 pub mod Quick
 pub mod Numbered
+pub mod Onward

@@ -1,6 +1,8 @@
 -- The instructions of a code by number.
-use Rattle.std.proofs.Common.{◌≡◌, ℕ, zero, suc, ◌<◌, ◌+◌, List, [], ◌∷◌, length, get_or, drop, eqb, Bool, true, false, cond, refl, sym, ap, ◌∙◌, subst, arith, Option, Some, None, IfSome, slice_get, ◌≤◌}
+use Rattle.std.proofs.Common.{◌≡◌, ℕ, zero, suc, ◌<◌, ◌+◌, List, [], ◌∷◌, length, get_or, drop, eqb, Bool, true, false, cond, refl, sym, ap, ◌∙◌, subst, arith, Option, Some, None, IfSome, IsSome, slice_get, ◌≤◌}
 use Rattle.std.proofs.lemmas.Bool.{eq-eqb, ne_eqb}
+use Rattle.std.proofs.lemmas.List.{get_or_read}
+use Rattle.jvm_model.specs.declared.instr.Instr.{Instr}
 use Rattle.jvm_model.specs.declared.program.Placed.{Placed}
 use Rattle.jvm_model.specs.declared.program.Body.{Body}
 use Rattle.jvm_model.specs.declared.program.Program.{Program}
@@ -8,7 +10,7 @@ use Rattle.jvm_model.specs.Classes.{Found, found_in, found_of, form_at, next_pla
 use Rattle.jvm_model.specs.Entries.{Entries}
 use Rattle.jvm_model.specs.Linked.{Ascends, IsBody, Linked}
 use Rattle.vm_tables.specs.Numbers.{code_of, instruction, instruction_of, after_or, no_placed}
-use Rattle.vm_tables.proofs.Places.{ascending_number, form_some, get_some, place_at, place_past}
+use Rattle.vm_tables.proofs.Places.{ascending_number, form_none, form_some, get_some, place_at, place_past}
 use Rattle.check_sound.proofs.Arrive.{has_number}
 use Rattle.vm_interp.specs.Gliding.{IsNumber}
 
@@ -53,11 +55,20 @@ form_numbered : (p : Program) (m pc i : ℕ) (b : Body) → (method_at p m).body
 form_numbered p m pc i b own h = form_some p m pc i b (subst (λ (o : Option Body). found_of o pc ≡ instruction_of o (Some i)) (sym own) h.found) own
 
 -- what stands at the top frame's place
-pub form_there : (p : Program) (s : Entries) (m pc i : ℕ) (b : Body) (x : Placed) → s.top.number ≡ m → pc ≡ s.top.pc → (method_at p m).body ≡ Some b → IsNumber b pc i → Some x ≡ slice_get b.code i → form_at p s.top.number s.top.pc ≡ Some x.form
-form_there p s m pc i b x e f own h g = rw (e, ← f) (form_numbered p m pc i b own h ∙ ap (λ (y : Placed). Some y.form) (get_some b.code i x no_placed (sym g)))
+pub form_there : (p : Program) (s : Entries) (m pc i : ℕ) (b : Body) (code : List Placed) (x : Placed) → s.top.number ≡ m → pc ≡ s.top.pc → (method_at p m).body ≡ Some b → IsNumber b pc i → code ≡ b.code → x ≡ get_or code i x → form_at p s.top.number s.top.pc ≡ Some x.form
+form_there p s m pc i b code x e f own h q g = rw (e, ← f) (form_numbered p m pc i b own h
+    ∙ ap (λ (y : Placed). Some y.form) (sym (get_or_read b.code i x h.within (subst (λ (xs : List Placed). x ≡ get_or xs i x) q g) no_placed)))
 
 pub next_there : (p : Program) (s : Entries) (m pc i n : ℕ) (b : Body) → s.top.number ≡ m → pc ≡ s.top.pc → (method_at p m).body ≡ Some b → IsNumber b pc i → (code : List Placed) → code ≡ b.code → n ≡ place_after (drop (suc i) code) b.length → next_place p s.top.number s.top.pc ≡ n
 next_there p s m pc i n b e f own h code q g = rw (e, ← f) (next_numbered p m pc i b own h ∙ ap (λ (xs : List Placed). place_after (drop (suc i) xs) b.length) (sym q) ∙ sym g)
+
+none_there : (o : Option Instr) → o ≡ None → IsSome o → ⊥
+none_there None e i = absurd (cc)
+none_there (Some x) e i = absurd (cc)
+
+-- where an instruction stands, the table has its number
+pub no_number : (p : Program) (m pc : ℕ) (n : Option ℕ) → found_of (method_at p m).body pc ≡ instruction_of (method_at p m).body n → n ≡ None → IsSome (form_at p m pc) → ⊥
+no_number p m pc n e h i = none_there (form_at p m pc) (form_none p m pc (e ∙ ap (λ (o : Option ℕ). instruction_of (method_at p m).body o) h)) i
 
 -- the same of the table's number
 pub number_of_table : (p : Program) (m pc i : ℕ) (b : Body) → (method_at p m).body ≡ Some b → found_of (method_at p m).body pc ≡ instruction_of (method_at p m).body (Some i) → i < length (code_of (method_at p m).body) → IsNumber b pc i

@@ -1,4 +1,4 @@
--- Steps that touch nothing, one after the other.
+-- What the step of an instruction that was found asks for, and the steps of forms that touch nothing.
 use Rattle.std.proofs.Common.{◌≡◌, ◌≤◌, ℕ, suc, List, Bool, cond, refl, sym, ap, ◌∙◌, subst, arith, Option, Some, None, IsSome, true, false, nat_le, ◌-◌}
 use Rattle.jvm_model.specs.declared.values.Touch.{Touch}
 use Rattle.jvm_model.specs.declared.instr.Instr.{Instr}
@@ -13,7 +13,7 @@ use Rattle.jvm_model.specs.Entries.{Entries, with_place}
 use Rattle.jvm_model.specs.Rows.{Answer, answer}
 use Rattle.jvm_model.specs.RowsBranches.{row_branches}
 use Rattle.jvm_model.specs.State.{State, Turn, next, with_entries}
-use Rattle.jvm_model.specs.Step.{group_of, row, row_here, row_or_none, after_row, step}
+use Rattle.jvm_model.specs.Step.{group_of, row, row_here, row_or_none, after_row}
 use Rattle.jvm_model.specs.declared.values.Value.{Value}
 use Rattle.jvm_model.specs.View.{ended, counted, touched, IsSafe, IsRow, IsTurn}
 use Rattle.jvm_model.proofs.Steps.{step_runs, safe_row}
@@ -21,12 +21,12 @@ use Rattle.vm_arith.specs.Pure.{GoesOn, Branches, is_pure}
 use Rattle.vm_frames.specs.Stack.{HasRoom}
 use Rattle.vm_arith.proofs.Rows.{has_row}
 use Rattle.check_sound.specs.ReachLaw.{puts}
-use Rattle.vm_interp.specs.Reaching.{AllSafe}
+use Rattle.vm_interp.specs.Reaching.{CanStep}
 use Rattle.vm_interp.specs.Seen.{seen}
+use Rattle.vm_interp.specs.Turns.{by_row}
 use Rattle.vm_interp.specs.declared.state.State.{State as Kept}
-use Rattle.vm_interp.specs.Gliding.{Glide, Glides, here, on, CanGo, GlidesOn, Goes}
+use Rattle.vm_interp.specs.Gliding.{Asks, CanGo, CanGlide, Goes}
 use Rattle.vm_interp.proofs.Quiet.{grows}
-use Rattle.vm_interp.proofs.Whole.{IsRest, goes_on_from}
 
 -- a form that goes on at the next instruction
 pub goes : (i : Instr) (n : ℕ) (s u : Entries) → GoesOn i s u → Goes i n s (with_place u n)
@@ -40,42 +40,22 @@ pub jumps : (to n : ℕ) (s : Entries) → Goes (form.Goto to) n s (with_place s
 unfolding row row_branches
 jumps to n s = record { frame = refl; number = refl; row = λ p e. refl }
 
--- the step of such a form
-pub glided : (p : Program) (i : Instr) (n : ℕ) (s u : Entries) (left left1 : ℕ) → s.top.kind ≡ InMethod → form_at p s.top.number s.top.pc ≡ Some i → next_place p s.top.number s.top.pc ≡ n → Goes i n s u → left ≡ suc left1 → Glide p s left u left1
-unfolding row_here
-glided p i n s u left left1 k f e h l = record { from = k; to = h.frame ∙ k; row = ap (λ o. row_or_none p o s) f ∙ h.row p e; units = l }
-
 one_less : {A : Type 0} (a : A) (w : World) (left left1 : ℕ) → left ≡ suc left1 → counted (spend 1 (done a)) w left ≡ ended a w left1
 one_less a w left left1 e = let d : left - 1 ≡ left1 = omega arith in let h : nat_le 1 left ≡ true = grind arith in rw (h, d) refl
 
-module _ (p : Program) (t : ℕ) (v : World) (b : ℕ) (s : State) (w : World) where
-  step_is : (u : Entries) → s.entries.top.kind ≡ InMethod → s.raised ≡ None → row_here p s.entries ≡ done (answer Go u) → step p s ≡ spend 1 (done (next (with_entries s u)))
-  step_is u k r e = step_runs p s k r ∙ ap (λ (a : Access (Answer Entries)). spend 1 (bind a (after_row p s))) e
+-- the step of such a form
+module _ (p : Program) (s : State) (w : World) (r : s.raised ≡ None) (i : Instr) (n : ℕ) (u : Entries)
+    (found : form_at p s.entries.top.number s.entries.top.pc ≡ Some i) (place : next_place p s.entries.top.number s.entries.top.pc ≡ n) (h : Goes i n s.entries u) where
+  step_is : by_row row_here p s ≡ spend 1 (done (next (with_entries s u)))
+  unfolding row_here
+  step_is = ap (λ (a : Access (Answer Entries)). spend 1 (bind a (after_row p s))) (ap (λ (o : Option Instr). row_or_none p o s.entries) found ∙ h.row p place)
 
-  pub glide_rest : (left left1 : ℕ) (u : Entries) (f : List Touch → List Touch) → s.raised ≡ None → Glide p s.entries left u left1 → IsRest p t v b s w left f → IsRest p t v b (with_entries s u) w left1 f
-  glide_rest left left1 u f r h i =
-      let e = step_is u h.from r h.row in
-      goes_on_from p t v b s w left f i (with_entries s u) w left1 (ap (λ (a : Access Turn). counted a w left) e ∙ one_less (next (with_entries s u)) w left left1 h.units) (λ ts. ap (λ (a : Access Turn). touched a w ts) e)
+  pub quick_counts : (left left1 : ℕ) → left ≡ suc left1 → counted (by_row row_here p s) w left ≡ ended (next (record s { entries = u })) w left1
+  quick_counts left left1 e = ap (λ (a : Access Turn). counted a w left) step_is ∙ one_less (next (with_entries s u)) w left left1 e
+      ∙ ap (λ (o : Option Value). ended (next (record s { entries = u; raised = o })) w left1) (sym r)
 
--- what is left of the test after so many steps
-pub glides_rest : (p : Program) (t : ℕ) (v : World) (b : ℕ) (s : State) (w : World) (left : ℕ) (f : List Touch → List Touch) {u : Entries} {left1 : ℕ} → s.raised ≡ None → Glides p s.entries left u left1 → IsRest p t v b s w left f → IsRest p t v b (with_entries s u) w left1 f
-glides_rest p t v b s w left f r here i = subst (λ o. IsRest p t v b (record s { raised = o }) w left f) r i
-glides_rest p t v b s w left f r (on x m u k g h) i = glide_rest p t v b (with_entries s x) w m k u f refl h (glides_rest p t v b s w left f r g i)
-
--- the same of a state that the code left, whatever was raised
-state_rest : (p : Program) (t : ℕ) (v : World) (b : ℕ) (s : State) (w : World) (left : ℕ) (f : List Touch → List Touch) (o : Option Value) (u : Entries) (left1 : ℕ) → s.raised ≡ o → (o ≡ None → Glides p s.entries left u left1) → (IsSome o → u ≡ s.entries) → (IsSome o → left1 ≡ left) → IsRest p t v b s w left f → IsRest p t v b (record s { entries = u }) w left1 f
-state_rest p t v b s w left f None u left1 e g h k i = subst (λ o. IsRest p t v b (record s { entries = u; raised = o }) w left1 f) (sym e) (glides_rest p t v b s w left f e (g refl) i)
-state_rest p t v b s w left f (Some x) u left1 e g h k i = rw (h refl, k refl) i
-
--- the same of states of the code, in the same program q
-pub glided_rest : (p q : Program) → q ≡ p → (t : ℕ) (v : World) (b : ℕ) (s s' : Kept) (w : World) (left left1 : ℕ) (f : List Touch → List Touch) → IsRest p t v b (seen s) w left f →
-    (s.raised ≡ None → Glides q s.frames left s'.frames left1) → s' ≡ record s { frames = s'.frames } → (IsSome s.raised → s' ≡ s) → (IsSome s.raised → left1 ≡ left) → IsRest p t v b (seen s') w left1 f
-glided_rest p q same t v b s s' w left left1 f r g state raised units = subst (λ (z : Kept). IsRest p t v b (seen z) w left1 f) (sym state)
-    (state_rest p t v b (seen s) w left f s.raised s'.frames left1 refl (λ e. subst (λ (z : Program). Glides z s.frames left s'.frames left1) same (g e)) (λ i. ap (λ (z : Kept). z.frames) (raised i)) units r)
-
-kind_of : (p : Program) (s : Entries) (n : ℕ) {u : Entries} {m : ℕ} → s.top.kind ≡ InMethod → Glides p s n u m → u.top.kind ≡ InMethod
-kind_of p s n e here = e
-kind_of p s n e (on x m u k g h) = h.to
+  pub quick_touches : (ts : List Touch) → touched (by_row row_here p s) w ts ≡ ts
+  quick_touches ts = ap (λ (a : Access Turn). touched a w ts) step_is
 
 there : (p : Program) (s : Entries) (i : Instr) (w : World) → form_at p s.top.number s.top.pc ≡ Some i → IsSafe IsRow (row_here p s) w → IsSafe IsRow (row p i s) w
 unfolding row_here
@@ -85,21 +65,38 @@ by_pure : (p : Program) (i : Instr) (u : Entries) (w : World) (c : Bool) → is_
 by_pure p i u w true e h space = (has_row p w i u e h, let g = grows i in omega arith)
 by_pure p i u w false e h space = tt
 
-pub can_glide : (p : Program) (t : ℕ) (v : World) (b : ℕ) (s : State) (w : World) (left : ℕ) (f : List Touch → List Touch) → AllSafe p t v → IsRest p t v b s w left f → s.raised ≡ None → s.entries.top.kind ≡ InMethod → GlidesOn p s.entries left
-can_glide p t v b s w left f all r n k u m g i e =
-    let x = all (with_entries s u) w (glides_rest p t v b s w left f n g r).reached in
-    let q = kind_of p s.entries left k g in
-    let safe = subst (λ (a : Access Turn). IsSafe IsTurn a w) (step_runs p (with_entries s u) q refl) x.safe in
-    let space = (x.space q refl).room i e in
-    by_pure p i u w (is_pure (group_of i)) refl (there p u i w e (safe_row p (with_entries s u) (row_here p u) w safe)) space
+some_form : (p : Program) (o : Option Instr) (s : Entries) (w : World) → IsSafe IsRow (row_or_none p o s) w → IsSome o
+some_form p None s w h = absurd h
+some_form p (Some i) s w h = cc
 
-pub never_more : (p : Program) (s : Entries) (n : ℕ) {u : Entries} {m : ℕ} → Glides p s n u m → m ≤ n
-never_more p s n here = omega arith
-never_more p s n (on x m u k g h) = let q = never_more p s n g in let l = h.units in omega arith
+-- the row of a frame is there, so its instruction is
+pub has_form : (p : Program) (s : Entries) (w : World) → IsSafe IsRow (row_here p s) w → IsSome (form_at p s.top.number s.top.pc)
+unfolding row_here
+has_form p s w h = some_form p (form_at p s.top.number s.top.pc) s w h
 
-pub no_more : (p : Program) (s : Entries) (n : ℕ) (o : Option Value) (u : Entries) (m : ℕ) → (o ≡ None → Glides p s n u m) → (IsSome o → m ≡ n) → m ≤ n
-no_more p s n None u m g k = never_more p s n (g refl)
-no_more p s n (Some x) u m g k = let q = k refl in omega arith
+-- the same of the code's numbers
+pub there_is : (p q : Program) → q ≡ p → (m pc : ℕ) (s : Entries) → s.top.number ≡ m → pc ≡ s.top.pc → IsSome (form_at p s.top.number s.top.pc) → IsSome (form_at q m pc)
+there_is p q same m pc s e f h = subst (λ (z : Program). IsSome (form_at z m pc)) (sym same) (subst (λ (n : ℕ). IsSome (form_at p n pc)) e (subst (λ (n : ℕ). IsSome (form_at p s.top.number n)) (sym f) h))
+
+-- what a state that can step gives to the step of the frame at the top
+module _ (p : Program) (s : State) (w : World) (can : CanStep p w s) (k : s.entries.top.kind ≡ InMethod) (r : s.raised ≡ None) where
+  fits : IsSafe IsTurn (spend 1 (bind (row_here p s.entries) (after_row p s))) w
+  fits = subst (λ (a : Access Turn). IsSafe IsTurn a w) (step_runs p s k r) can.safe
+
+  row_safe : IsSafe IsRow (row_here p s.entries) w
+  row_safe = safe_row p s (row_here p s.entries) w fits
+
+  pub form_there_is : IsSome (form_at p s.entries.top.number s.entries.top.pc)
+  form_there_is = has_form p s.entries w row_safe
+
+  pub can_glide : (i : Instr) → form_at p s.entries.top.number s.entries.top.pc ≡ Some i → CanGlide i s.entries
+  can_glide i e = by_pure p i s.entries w (is_pure (group_of i)) refl (there p s.entries i w e row_safe) ((can.space k r).room i e)
+
+-- what it gives to the step of an instruction that was found
+pub asked : (p q : Program) → q ≡ p → (w : World) (s : Kept) (i : Instr) (n : ℕ) → CanStep p w (seen s) → s.frames.top.kind ≡ InMethod → s.raised ≡ None →
+    form_at p s.frames.top.number s.frames.top.pc ≡ Some i → next_place p s.frames.top.number s.frames.top.pc ≡ n → Asks q w s i n
+asked p q same w s i n can k r e f = subst (λ (z : Program). Asks z w s i n) (sym same)
+    (record { found = e; place = f; space = can.space k r; native_space = can.native_space k r; fit = fits p (seen s) w can k r })
 
 pub goes_at : (i j : Instr) (n : ℕ) (s u v : Entries) → i ≡ j → v ≡ with_place u n → GoesOn j s u → Goes i n s v
 goes_at i j n s u v e f h = rw (e, f) (goes j n s u h)

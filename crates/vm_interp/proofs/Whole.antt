@@ -64,7 +64,7 @@ pub rest_at_first : (p : Program) (t : ℕ) (v : World) (b : ℕ) (s : State) �
 rest_at_first p t v b s e = subst (λ (z : State). IsRest p t v b z v b (λ ts. ts)) (sym e) (at_first p t v b)
 
 module _ (p : Program) (t : ℕ) (v : World) (b : ℕ) (s : State) (w : World) (left : ℕ) (f : List Touch → List Touch) where
-  goes_by : (n : ℕ) → left < n → (same : counted (tree p t b) v b ≡ counted (whole p n s) w left) → Reaches p t v s w →
+  pub goes_by : (n : ℕ) → left < n → (same : counted (tree p t b) v b ≡ counted (whole p n s) w left) → Reaches p t v s w →
       ((ts : List Touch) → touched (tree p t b) v ts ≡ touched (whole p n s) w (f ts)) →
       (u : State) (w' : World) (left' : ℕ) → counted (step p s) w left ≡ ended (next u) w' left' → IsRest p t v b u w' left' (λ ts. touched (step p s) w (f ts))
   goes_by zero h same r touches u w' left' e = absurd (omega arith)
@@ -131,31 +131,31 @@ pub gives_none : (p : Program) (t : ℕ) (v : World) (b : ℕ) (s : State) (w : 
 gives_none p t v b s w left f r e = gives_over p t v b (over_by p t v b s w left f r.fuel r.more r.same (ap (λ (n : ℕ). counted (step p s) w n) e ∙ none_left p s w))
 
 -- A step that the code made, in the same program q, and what it answered.
-module _ (p q : Program) (same : q ≡ p) (t : ℕ) (v : World) (b : ℕ) (s : Kept) (w : World) (left : ℕ) (f : List Touch → List Touch) (r : IsRest p t v b (seen s) w left f)
-    (o : Option (Option Verdict)) (s' : Kept) (w' : World) (left' : ℕ) (meets : counted (step q (seen s)) w left ≡ turned (as_turned o) s' w' left') where
-  so : (y : Option (Option Verdict)) → o ≡ y → counted (step p (seen s)) w left ≡ turned (as_turned y) s' w' left'
-  so y e = ap (λ (z : Program). counted (step z (seen s)) w left) (sym same) ∙ meets ∙ ap (λ (z : Option (Option Verdict)). turned (as_turned z) s' w' left') e
+module _ (p q : Program) (same : q ≡ p) (t : ℕ) (v : World) (b : ℕ) (s : State) (w : World) (left : ℕ) (f : List Touch → List Touch) (r : IsRest p t v b s w left f)
+    (o : Option (Option Verdict)) (s' : Kept) (w' : World) (left' : ℕ) (meets : counted (step q s) w left ≡ turned (as_turned o) s' w' left') where
+  so : (y : Option (Option Verdict)) → o ≡ y → counted (step p s) w left ≡ turned (as_turned y) s' w' left'
+  so y e = ap (λ (z : Program). counted (step z s) w left) (sym same) ∙ meets ∙ ap (λ (z : Option (Option Verdict)). turned (as_turned z) s' w' left') e
 
   -- the test goes on
-  pub goes_on_rest : o ≡ None → IsRest p t v b (seen s') w' left' (λ ts. touched (step q (seen s)) w (f ts))
-  goes_on_rest e = subst (λ (z : Program). IsRest p t v b (seen s') w' left' (λ ts. touched (step z (seen s)) w (f ts))) (sym same)
-      (goes_by p t v b (seen s) w left f r.fuel r.more r.same r.reached r.touches (seen s') w' left' (so None e))
+  pub goes_on_rest : o ≡ None → IsRest p t v b (seen s') w' left' (λ ts. touched (step q s) w (f ts))
+  goes_on_rest e = subst (λ (z : Program). IsRest p t v b (seen s') w' left' (λ ts. touched (step z s) w (f ts))) (sym same)
+      (goes_by p t v b s w left f r.fuel r.more r.same r.reached r.touches (seen s') w' left' (so None e))
 
   pub goes_on_falls : o ≡ None → left' < left
-  goes_on_falls e = step_falls p (seen s) w left (next (seen s')) w' left' (so None e)
+  goes_on_falls e = step_falls p s w left (next (seen s')) w' left' (so None e)
 
   -- it ended
   gives_by : (all : AllSafe p t v) (y : Option Verdict) → o ≡ Some y → one_test p v t b ≡ given_by p t v b y s' w' left'
-  gives_by all None e = gives_over p t v b (over_by p t v b (seen s) w left f r.fuel r.more r.same (so (Some None) e))
-  gives_by all (Some x) e = gives_ended p t v all b x s' w' left' (ends_by p t v b (seen s) w left f r.fuel r.more r.same x s'.own.output w' left' (so (Some (Some x)) e))
+  gives_by all None e = gives_over p t v b (over_by p t v b s w left f r.fuel r.more r.same (so (Some None) e))
+  gives_by all (Some x) e = gives_ended p t v all b x s' w' left' (ends_by p t v b s w left f r.fuel r.more r.same x s'.own.output w' left' (so (Some (Some x)) e))
 
   pub gives_so : AllSafe p t v → (y : Option Verdict) → o ≡ Some y → one_test p v t b ≡ given_by p t v b y s' w' left'
   gives_so all y e = gives_by all y e
 
-  pub tells_so : (y : Option Verdict) → o ≡ Some y → IsSome y → (ts : List Touch) → touched (tree p t b) v ts ≡ touched (step q (seen s)) w (f ts)
+  pub tells_so : (y : Option Verdict) → o ≡ Some y → IsSome y → (ts : List Touch) → touched (tree p t b) v ts ≡ touched (step q s) w (f ts)
   tells_so None e h ts = absurd (cc)
-  tells_so (Some x) e h ts = touched_by p t v b (seen s) w left f r.fuel r.more r.touches x s'.own.output w' left' (so (Some (Some x)) e) ts
-      ∙ ap (λ (z : Program). touched (step z (seen s)) w (f ts)) (sym same)
+  tells_so (Some x) e h ts = touched_by p t v b s w left f r.fuel r.more r.touches x s'.own.output w' left' (so (Some (Some x)) e) ts
+      ∙ ap (λ (z : Program). touched (step z s) w (f ts)) (sym same)
 
 -- an answer that ends the test isn't over
 pub not_over : (o : Option (Option Verdict)) (y : Option Verdict) → o ≡ Some y → IsSome y → as_turned o ≢ Over
@@ -164,10 +164,3 @@ not_over o (Some x) e h k = let z : Ends x ≡ Over = ap as_turned (sym e) ∙ k
 
 pub goes_not_over : (o : Option (Option Verdict)) → o ≡ None → as_turned o ≢ Over
 goes_not_over o e k = let z : Goes ≡ Over = ap as_turned (sym e) ∙ k in cc
-
--- a step that goes on, and adds no touch
-pub goes_on_from : (p : Program) (t : ℕ) (v : World) (b : ℕ) (s : State) (w : World) (left : ℕ) (f : List Touch → List Touch) → IsRest p t v b s w left f →
-    (u : State) (w' : World) (left' : ℕ) → counted (step p s) w left ≡ ended (next u) w' left' → ((ts : List Touch) → touched (step p s) w ts ≡ ts) → IsRest p t v b u w' left' f
-goes_on_from p t v b s w left f r u w' left' e g =
-    let i = goes_by p t v b s w left f r.fuel r.more r.same r.reached r.touches u w' left' e in
-    record { fuel = i.fuel; more = i.more; same = i.same; reached = i.reached; touches = λ ts. i.touches ts ∙ ap (λ (us : List Touch). touched (whole p i.fuel u) w' us) (g (f ts)) }

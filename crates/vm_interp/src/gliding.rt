@@ -1,100 +1,235 @@
-//! Steps of the frame at the top that touch nothing, in one loop.
+//! Steps of a test, one after the other.
 
-ghost use Rattle.std.specs.Prelude.{◌≡◌, ◌<◌, true, false, cond, None, Some, IfSome, IsSome, drop, length, option_copied, suc};
+ghost use Rattle.std.specs.Prelude.{◌≡◌, ◌<◌, true, false, cond, None, Some, IsSome, IfOk, OnOk, drop, length, suc, IfSome};
 ghost use Rattle.jvm_model.specs.declared.instr.Instr.TheVariants as form;
 ghost use Rattle.jvm_model.specs.declared.instr.Op.TheVariants as op;
 ghost use Rattle.jvm_model.specs.declared.state.EntryKind.TheVariants.{InMethod};
 ghost use Rattle.jvm_model.specs.Classes as classes;
-ghost use Rattle.jvm_model.specs.Classes.{method_at};
+ghost use Rattle.jvm_model.specs.Classes.{form_at, method_at};
 ghost use Rattle.jvm_model.specs.Linked.{IsBody, Linked};
 ghost use Rattle.vm_arith.specs.Pure.{GoesOn, HasRow};
-ghost use Rattle.vm_interp.specs.Gliding.{CanGlide, Glides, GlidesOn, Goes, IsNumber};
+ghost use Rattle.jvm_model.specs.Step as steps;
+ghost use Rattle.vm_interp.specs.Gliding.{Advances, Asks, CanGlide, Goes, IsNumber, IsRunning, StaysIn, StepsOn};
+ghost use Rattle.vm_interp.specs.Seen.{seen};
+ghost use Rattle.vm_interp.specs.Turns.{MeetsPart, TellsPart, as_turned, by_row};
 
 use crate::state::State;
-use et_base::{add32, mul32, sub32};
-use jvm_model::{Body, EntryKind, Instr, Op, Placed, Program};
+use crate::stepping::{form_step, step_safe};
+use crate::turned::Turned;
+use et_base::{NoMemory, add32, mul32, sub32};
+use jvm_model::{Body, EntryKind, Instr, Op, Placed, Program, Verdict};
+use std::alloc::Global;
 use vm_arith::{
     compare, constant, convert, dup, if_ints, if_null, if_refs, if_zero, increase, load, pop, store,
 };
+use vm_calls::Selections;
 use vm_frames::FrameStack;
+use vm_mem::Memory;
 use vm_tables::Tables;
 
-/// Makes steps of the frame at the top, as long as there are units and the instruction is one of those that programs have
-/// most of and that touch nothing: constants, loads and stores, arithmetic, conversions, tests and jumps.
-pub fn glide(stack: &mut FrameStack, p: &Program, tables: &Tables, left: &mut u64)
-    requires tables { tables.now ≡ p.now }
+/// Makes steps of a test one after the other, at least one, as long as they stay in the code of the method at the top. It
+/// answers how the test ended with the last one, None where it goes on: a verdict, or none where the cost is above the
+/// units left.
+pub fn advance<M: Memory>(
+    alloc: Global,
+    state: &mut State,
+    memory: &mut M,
+    p: &Program,
+    tables: &Tables,
+    selections: &mut Selections,
+    left: &mut u64,
+) -> Result<Option<Option<Verdict>>, NoMemory>
+    requires program { p.now ≡ M.program memory.old }
+    requires tables { tables.now ≡ M.program memory.old }
+    requires selections { selections.old ≡ M.program memory.old }
     requires linked { Linked p.now }
-    requires frame { stack.old.top.kind ≡ InMethod }
-    requires can { GlidesOn p.now stack.old left.old }
-    ensures { Glides p.now stack.old left.old stack.new left.new }
+    requires can { StepsOn p.now (seen state.old) (M.world memory.old) left.old }
+    ensures made { IfOk result (λ x. Advances p.now M.world M.follows memory.old memory.new
+        state.old left.old (as_turned x) state.new left.new) }
+    ensures of { OnOk result (M.program memory.new ≡ M.program memory.old) }
+    ensures kept { selections.new ≡ selections.old }
 {
-    let number = stack.number();
-    if let Some(body) = body_of(p, number) {
-        glide_in(stack, p, tables, number, body, left);
+    match glide(alloc, state, memory, p, tables, selections, left)? {
+        Turned::Goes => Ok(None),
+        Turned::Ends(verdict) => Ok(Some(Some(verdict))),
+        Turned::Over => Ok(Some(None)),
     }
 }
 
-/// A method's code, if it has some.
-fn body_of(p: &Program, method: u32) -> Option<&Body>
-    ensures { option_copied result ≡ (method_at p.now method).body }
+/// The same, with how the last step ended.
+fn glide<M: Memory>(
+    alloc: Global,
+    state: &mut State,
+    memory: &mut M,
+    p: &Program,
+    tables: &Tables,
+    selections: &mut Selections,
+    left: &mut u64,
+) -> Result<Turned, NoMemory>
+    requires program { p.now ≡ M.program memory.old }
+    requires tables { tables.now ≡ M.program memory.old }
+    requires selections { selections.old ≡ M.program memory.old }
+    requires linked { Linked p.now }
+    requires can { StepsOn p.now (seen state.old) (M.world memory.old) left.old }
+    ensures made { IfOk result (λ x. Advances p.now M.world M.follows memory.old memory.new
+        state.old left.old x state.new left.new) }
+    ensures of { OnOk result (M.program memory.new ≡ M.program memory.old) }
+    ensures kept { selections.new ≡ selections.old }
 {
-    match p.method(method) {
+    match running_body(state, p) {
+        None => {
+            let turned = step_safe(alloc, state, memory, p, tables, selections, left)?;
+            Ok(turned)
+        }
+        Some(body) => {
+            let number = state.frames.number();
+            glide_in(
+                alloc, state, memory, p, tables, selections, number, body, left,
+            )
+        }
+    }
+}
+
+/// The code of the method at the top, where the next step is that of an instruction of it.
+fn running_body<'p>(state: &State, p: &'p Program) -> Option<&'p Body>
+    ensures { IfSome result (λ b. IsRunning state.now
+        × ((method_at p.now state.now.frames.top.number).body ≡ Some b.now)) }
+{
+    if !is_running(state) {
+        return None;
+    }
+    match p.method(state.frames.number()) {
         None => None,
         Some(record) => record.body.as_ref(),
     }
 }
 
-/// Makes such steps in the code of the method at the top. The number of the next instruction is guessed to be one more.
-fn glide_in(
-    stack: &mut FrameStack,
-    _p: &Program,
+/// Whether the next step is that of an instruction.
+fn is_running(state: &State) -> bool
+    ensures { result ≡ true → IsRunning state.now }
+{
+    match state.frames.kind() {
+        EntryKind::InMethod => state.raised.is_none(),
+        EntryKind::Absent | EntryKind::InClass { .. } => false,
+    }
+}
+
+/// Whether a step that ended so left the test at an instruction of this method.
+fn stays_in(turned: &Turned, state: &State, method: u32) -> bool
+    ensures { result ≡ true → StaysIn method turned.now state.now }
+{
+    match turned {
+        Turned::Goes => is_running(state) && state.frames.number() == method,
+        Turned::Ends(_) | Turned::Over => false,
+    }
+}
+
+/// Makes such steps in the code of the method at the top. The number of the next instruction is guessed to be one more. A
+/// few forms that touch nothing and can't throw are made here.
+fn glide_in<M: Memory>(
+    alloc: Global,
+    state: &mut State,
+    memory: &mut M,
+    p: &Program,
     tables: &Tables,
+    selections: &mut Selections,
     number: u32,
     body: &Body,
     left: &mut u64,
-)
-    requires tables { tables.now ≡ _p.now }
+) -> Result<Turned, NoMemory>
+    requires program { p.now ≡ M.program memory.old }
+    requires tables { tables.now ≡ M.program memory.old }
+    requires selections { selections.old ≡ M.program memory.old }
     requires body { IsBody body.now }
-    requires own { (method_at _p.now number).body ≡ Some body.now }
-    requires number { stack.old.top.number ≡ number }
-    requires frame { stack.old.top.kind ≡ InMethod }
-    requires can { GlidesOn _p.now stack.old left.old }
-    ensures { Glides _p.now stack.old left.old stack.new left.new }
+    requires own { (method_at p.now number).body ≡ Some body.now }
+    requires number { state.old.frames.top.number ≡ number }
+    requires running { IsRunning state.old }
+    requires can { StepsOn p.now (seen state.old) (M.world memory.old) left.old }
+    ensures made { IfOk result (λ x. Advances p.now M.world M.follows memory.old memory.new
+        state.old left.old x state.new left.new) }
+    ensures of { OnOk result (M.program memory.new ≡ M.program memory.old) }
+    ensures kept { selections.new ≡ selections.old }
 {
     let code = body.code.as_slice();
     let mut guess = 0;
     while *left > 0 {
-        let pc = stack.pc();
-        let Some(at) = number_at(tables, body, number, guess, pc) else {
-            return;
-        };
-        let Some(placed) = body.code.get(at) else {
-            return;
-        };
+        let pc = state.frames.pc();
+        let at = number_at(tables, body, number, guess, pc);
+        let placed = &code[at];
         let next = place_after(code, at, body.length);
-        if !glide_form(stack, &placed.form, next) {
-            return;
+        let turned = found_step(
+            alloc,
+            state,
+            memory,
+            p,
+            tables,
+            selections,
+            &placed.form,
+            next,
+            left,
+        )?;
+        if !stays_in(&turned, state, number) {
+            return Ok(turned);
         }
         guess = at + 1;
-        *left -= 1;
     }
+    Ok(Turned::Over)
+}
+
+/// The step of an instruction that was found, with the byte place of the next one. A few forms that touch nothing and
+/// can't throw are made here.
+fn found_step<M: Memory>(
+    alloc: Global,
+    state: &mut State,
+    memory: &mut M,
+    p: &Program,
+    tables: &Tables,
+    selections: &mut Selections,
+    form: &Instr,
+    next: u32,
+    left: &mut u64,
+) -> Result<Turned, NoMemory>
+    requires program { p.now ≡ M.program memory.old }
+    requires tables { tables.now ≡ M.program memory.old }
+    requires selections { selections.old ≡ M.program memory.old }
+    requires asks { Asks (M.program memory.old) (M.world memory.old) state.old form.now next }
+    requires can { CanGlide form.now state.old.frames }
+    requires quiet { state.old.raised ≡ None }
+    requires units { 0 < left.old }
+    ensures meets { IfOk result (λ x. MeetsPart (by_row steps.row_here)
+        (M.program memory.old) (M.world memory.old) state.old left.old
+        x state.new (M.world memory.new) left.new) }
+    ensures told { IfOk result (λ x. TellsPart (by_row steps.row_here)
+        (M.program memory.old) (M.world memory.old) state.old
+        x M.follows memory.old memory.new) }
+    ensures of { OnOk result (M.program memory.new ≡ M.program memory.old) }
+    ensures kept { selections.new ≡ selections.old }
+{
+    if glide_form(&mut state.frames, form, next) {
+        *left -= 1;
+        return Ok(Turned::Goes);
+    }
+    form_step(
+        alloc, state, memory, p, tables, selections, form, next, left,
+    )
 }
 
 /// The number of the instruction at a place of a method's code: the one that is guessed, if it stands there.
 #[tactic(auto, using(crate::proofs::Numbered::number_of_guess, crate::proofs::Numbered::number_of_table))]
-fn number_at(tables: &Tables, body: &Body, method: u32, guess: usize, pc: u32) -> Option<usize>
+fn number_at(tables: &Tables, body: &Body, method: u32, guess: usize, pc: u32) -> usize
     requires body { IsBody body.now }
     requires own { (method_at tables.now method).body ≡ Some body.now }
-    ensures { IfSome result (λ i. IsNumber body.now pc i) }
+    requires there { IsSome (form_at tables.now method pc) }
+    ensures { IsNumber body.now pc result }
 {
     if let Some(placed) = body.code.get(guess) {
         if placed.pc == pc {
-            return Some(guess);
+            return guess;
         }
     }
     match tables.number(method, pc) {
-        None => None,
-        Some(number) => Some(number as usize),
+        None => unreachable!(),
+        Some(number) => number as usize,
     }
 }
 
@@ -110,28 +245,8 @@ fn place_after(code: &[Placed], at: usize, end: u32) -> u32
     }
 }
 
-/// Makes such steps where a frame is at the top and nothing is raised.
-pub fn glide_state(state: &mut State, p: &Program, tables: &Tables, left: &mut u64)
-    requires tables { tables.now ≡ p.now }
-    requires linked { Linked p.now }
-    requires can { state.old.raised ≡ None → state.old.frames.top.kind ≡ InMethod
-        → GlidesOn p.now state.old.frames left.old }
-    ensures glides { state.old.raised ≡ None
-        → Glides p.now state.old.frames left.old state.new.frames left.new }
-    ensures state { state.new ≡ record state.old { frames = state.new.frames } }
-    ensures raised { IsSome state.old.raised → state.new ≡ state.old }
-    ensures units { IsSome state.old.raised → left.new ≡ left.old }
-{
-    if state.raised.is_some() {
-        return;
-    }
-    let EntryKind::InMethod = state.frames.kind() else {
-        return;
-    };
-    glide(&mut state.frames, p, tables, left);
-}
-
-/// Makes the row of such a form, or none of another one.
+/// Makes the row of a constant, a load or store, an operation, a conversion or a branch that touches nothing and can't
+/// throw, or none of another form.
 #[tactic(auto, using(crate::proofs::Quick::goes, crate::proofs::Quick::branches), unfolding(jvm_model::specs::Step::row, jvm_model::specs::RowsMoves::row_moves, jvm_model::specs::RowsBranches::row_branches))]
 fn glide_form(stack: &mut FrameStack, form: &Instr, next: u32) -> bool
     requires { CanGlide form.now stack.old }

@@ -10,9 +10,8 @@ ghost use Rattle.check_sound.specs.ReachLaw.{HasStackLimits};
 ghost use Rattle.vm_interp.specs.Reaching.{AllSafe, TellsTest, given_by};
 ghost use Rattle.vm_interp.specs.Seen.{seen};
 
-use crate::gliding::glide_state;
+use crate::gliding::advance;
 use crate::state::State;
-use crate::stepping::turn;
 use check_sound::{reach_law, step_law};
 use et_base::NoMemory;
 use jvm_model::{Program, Verdict};
@@ -86,10 +85,9 @@ fn run_safe<M: Memory>(
     ensures kept { selections.new ≡ selections.old }
 {
     while *left > 0 {
-        if let Some(end) = turn(alloc, state, memory, p, tables, selections, left)? {
+        if let Some(end) = advance(alloc, state, memory, p, tables, selections, left)? {
             return Ok(end);
         }
-        glide_state(state, p, tables, left);
     }
     Ok(None)
 }

@@ -11,18 +11,19 @@ ghost use Rattle.type_frames.specs.TypedState.{TypedState};
 ghost use Rattle.check_sound.specs.ReachLaw.{HasStackLimits};
 ghost use Rattle.vm_interp.specs.Reaching.{CanStep, HasNativeSpace, HasSpace};
 ghost use Rattle.vm_interp.specs.Seen.{seen};
-ghost use Rattle.vm_interp.specs.Turns.{IsFit, MeetsPart, TellsPart, by_row, as_turned};
+ghost use Rattle.vm_interp.specs.Turns.{IsFit, MeetsPart, TellsPart, by_row};
+ghost use Rattle.vm_interp.specs.Gliding.{Asks};
 
 use crate::concluding::conclude;
 use crate::driving::drive;
-use crate::rows::row_here;
+use crate::rows::{found_row, row_here};
 use crate::state::State;
 use crate::turned::Turned;
 use check_sound::{reach_law, step_law};
 use class_init::{fail, finish};
 use et_base::NoMemory;
 use exception_flow::raise;
-use jvm_model::{EntryKind, Next, Program, Value, Verdict};
+use jvm_model::{EntryKind, Instr, Next, Program, Value};
 use std::alloc::Global;
 use vm_calls::Selections;
 use vm_mem::Memory;
@@ -61,6 +62,48 @@ fn run_step<M: Memory>(
         p,
         tables,
         selections,
+        left,
+    )?;
+    if let Next::Over = next {
+        return Ok(Turned::Over);
+    }
+    conclude(alloc, state, memory, p, tables, next, left)
+}
+
+/// The same of an instruction that was found, with the byte place of the next one.
+pub fn form_step<M: Memory>(
+    alloc: Global,
+    state: &mut State,
+    memory: &mut M,
+    p: &Program,
+    tables: &Tables,
+    selections: &mut Selections,
+    form: &Instr,
+    next: u32,
+    left: &mut u64,
+) -> Result<Turned, NoMemory>
+    requires program { p.now ≡ M.program memory.old }
+    requires tables { tables.now ≡ M.program memory.old }
+    requires selections { selections.old ≡ M.program memory.old }
+    requires asks { Asks (M.program memory.old) (M.world memory.old) state.old form.now next }
+    ensures meets { IfOk result (λ x. MeetsPart (by_row steps.row_here)
+        (M.program memory.old) (M.world memory.old) state.old left.old
+        x state.new (M.world memory.new) left.new) }
+    ensures told { IfOk result (λ x. TellsPart (by_row steps.row_here)
+        (M.program memory.old) (M.world memory.old) state.old
+        x M.follows memory.old memory.new) }
+    ensures of { OnOk result (M.program memory.new ≡ M.program memory.old) }
+    ensures kept { selections.new ≡ selections.old }
+{
+    let next = found_row(
+        alloc,
+        &mut state.frames,
+        memory,
+        p,
+        tables,
+        selections,
+        form,
+        next,
         left,
     )?;
     if let Next::Over = next {
@@ -187,7 +230,7 @@ pub fn step<M: Memory>(
 
 /// The same of a state that can step.
 #[tactic(auto, unfolding(jvm_model::specs::Step::step))]
-fn step_safe<M: Memory>(
+pub fn step_safe<M: Memory>(
     alloc: Global,
     state: &mut State,
     memory: &mut M,
@@ -219,35 +262,5 @@ fn step_safe<M: Memory>(
             None => finish_step(alloc, state, memory, p, tables, left),
             Some(thrown) => fail_step(alloc, state, memory, p, tables, thrown, left),
         },
-    }
-}
-
-/// The same, with how the test ended, None where it goes on: a verdict, or none where the cost is above the units left.
-pub fn turn<M: Memory>(
-    alloc: Global,
-    state: &mut State,
-    memory: &mut M,
-    p: &Program,
-    tables: &Tables,
-    selections: &mut Selections,
-    left: &mut u64,
-) -> Result<Option<Option<Verdict>>, NoMemory>
-    requires program { p.now ≡ M.program memory.old }
-    requires tables { tables.now ≡ M.program memory.old }
-    requires selections { selections.old ≡ M.program memory.old }
-    requires can { CanStep (M.program memory.old) (M.world memory.old) (seen state.old) }
-    ensures meets { IfOk result (λ x. MeetsPart steps.step
-        (M.program memory.old) (M.world memory.old) state.old left.old
-        (as_turned x) state.new (M.world memory.new) left.new) }
-    ensures told { IfOk result (λ x. TellsPart steps.step
-        (M.program memory.old) (M.world memory.old) state.old
-        (as_turned x) M.follows memory.old memory.new) }
-    ensures of { OnOk result (M.program memory.new ≡ M.program memory.old) }
-    ensures kept { selections.new ≡ selections.old }
-{
-    match step_safe(alloc, state, memory, p, tables, selections, left)? {
-        Turned::Goes => Ok(None),
-        Turned::Ends(verdict) => Ok(Some(Some(verdict))),
-        Turned::Over => Ok(Some(None)),
     }
 }
