@@ -1,11 +1,7 @@
-//! Tests of the top call over depots and sinks that fail, and of class files that are cut or written back.
+//! Tests of the top call over depots and sinks that fail.
 #![tactic(auto)]
 
 pub mod asking;
-#[cfg(test)]
-mod class_files;
-#[cfg(test)]
-mod class_tests;
 #[cfg(test)]
 mod files;
 #[cfg(test)]

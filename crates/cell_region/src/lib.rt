@@ -5,6 +5,3 @@ mod chunk;
 mod region;
 
 pub use region::{Block, Mark, Region};
-
-#[cfg(test)]
-mod tests;

@@ -16,6 +16,3 @@ pub use fault::{Fault, ReadError};
 pub use offsets::{PoolFault, read_pool};
 pub use pool::Entry;
 pub use write::{put_pool, write_pool};
-
-#[cfg(test)]
-mod tests;

@@ -17,6 +17,3 @@ pub use fault::ClassFault;
 pub use parts::{
     ClassFile, ClassParts, CodePart, MapFrame, MapPart, MapType, MemberPart, RawHandler,
 };
-
-#[cfg(test)]
-mod tests;

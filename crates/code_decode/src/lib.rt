@@ -16,6 +16,3 @@ pub use decoding::{Code, CodeFault, code_at, decode};
 pub use instructions::RawOp;
 pub use opcodes::{Constant, Named, Shape, shape_of, takes_local};
 pub use starts::Starts;
-
-#[cfg(test)]
-mod tests;

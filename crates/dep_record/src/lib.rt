@@ -21,6 +21,3 @@ pub use record_text::write_record;
 pub use refusal::RecordRefusal;
 pub use report_json::deps_json;
 pub use report_text::deps_text;
-
-#[cfg(test)]
-mod tests;

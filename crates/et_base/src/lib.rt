@@ -21,6 +21,3 @@ pub use text::{
 };
 pub use utf::{UtfFault, modified_of_units, push_modified, units_of_modified};
 pub use utf8::bytes_of_units;
-
-#[cfg(test)]
-mod tests;

@@ -3,8 +3,6 @@
 
 mod cycles;
 mod lookup;
-#[cfg(test)]
-mod lookup_tests;
 mod walk;
 
 pub use cycles::first_cycle;

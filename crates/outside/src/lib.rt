@@ -27,6 +27,3 @@ pub use sink::{Sink, SinkFailed};
 pub use std_sink::StdSink;
 pub use steps::Steps;
 pub use texts::write_text;
-
-#[cfg(test)]
-mod tests;

@@ -5,6 +5,3 @@ mod store;
 mod texts;
 
 pub use store::{Part, Store};
-
-#[cfg(test)]
-mod tests;

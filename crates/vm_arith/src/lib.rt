@@ -13,6 +13,3 @@ pub use moves::{
 };
 pub use numbers::{binary_ints, binary_longs, compare, convert, increase, neg_int, neg_long};
 pub use step::arith;
-
-#[cfg(test)]
-mod tests;

@@ -10,6 +10,3 @@ mod stack;
 
 pub use fault::PushFault;
 pub use stack::{FrameStack, TopEntry};
-
-#[cfg(test)]
-mod tests;

@@ -1,0 +1,31 @@
+//! Tests of the libraries' public calls, a module for each library.
+#![tactic(auto)]
+
+#[cfg(test)]
+mod cell_region_tests;
+#[cfg(test)]
+mod chain_deque_tests;
+#[cfg(test)]
+mod class_files;
+#[cfg(test)]
+mod class_pool_tests;
+#[cfg(test)]
+mod class_reader_tests;
+#[cfg(test)]
+mod class_write_tests;
+#[cfg(test)]
+mod code_decode_tests;
+#[cfg(test)]
+mod dep_record_tests;
+#[cfg(test)]
+mod et_base_tests;
+#[cfg(test)]
+mod member_lookup_tests;
+#[cfg(test)]
+mod outside_tests;
+#[cfg(test)]
+mod sim_store_tests;
+#[cfg(test)]
+mod vm_arith_tests;
+#[cfg(test)]
+mod vm_frames_tests;
