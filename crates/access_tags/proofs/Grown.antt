@@ -1,0 +1,47 @@
+-- The tags after more locations came.
+use Rattle.std.proofs.Common.{◌≡◌, ℕ, [], zero, suc, ◌≤◌, List, ◌∷◌, ◌++◌, length, get_or, replicate, reverse, refl, ◌∙◌, ap, arith, length-append}
+use Rattle.std.proofs.lemmas.List.{length-replicate, get_or_past}
+use Rattle.access_tags.specs.declared.mark.Mark.{Mark}
+use Rattle.access_tags.specs.declared.mark.Past.{Past}
+use Rattle.access_tags.specs.declared.mark.Reader.{Reader}
+use Rattle.access_tags.specs.Tag.{no_mark, no_tag}
+use Rattle.access_tags.specs.Cells.{chain, look, no_past, AreCells}
+use Rattle.access_tags.proofs.Settle.{same_tag}
+use Rattle.access_tags.proofs.Chains.{chain_end}
+
+-- defaults at the end change no place
+default_in : {A : Type 0} (n i : ℕ) (d : A) → get_or (replicate n d) i d ≡ d
+default_in zero i d = refl
+default_in (suc n) zero d = refl
+default_in (suc n) (suc i) d = default_in n i d
+
+pub get_or-defaults : {A : Type 0} (xs : List A) (n i : ℕ) (d : A) → get_or (xs ++ replicate n d) i d ≡ get_or xs i d
+get_or-defaults [] n i d = default_in n i d
+get_or-defaults (x ∷ xs) n zero d = refl
+get_or-defaults (x ∷ xs) n (suc i) d = get_or-defaults xs n i d
+
+pub more_look : (ps : List Past) (rs : List Reader) (ms : List Mark) (n l : ℕ) → look (ps ++ replicate n no_past) rs (ms ++ replicate n no_mark) l ≡ look ps rs ms l
+more_look ps rs ms n l = let g = get_or-defaults ps n l no_past in same_tag (ap (λ (x : Past). x.writer) g) (ap (λ (x : Past). chain (reverse rs) x.readers) g) (get_or-defaults ms n l no_mark)
+
+pub more_pasts : (ps : List Past) (rs : List Reader) (ms : List Mark) (n : ℕ) → AreCells ps rs ms → AreCells (ps ++ replicate n no_past) rs ms
+more_pasts ps rs ms n c = let a = c.full in let e = length-append ps (replicate n no_past) in record {
+  full = omega arith;
+  down = c.down;
+  below = λ i. let g = ap (λ (x : Past). x.readers) (get_or-defaults ps n i no_past) in let k = c.below i in omega arith;
+  few = c.few;
+  free = λ i h. get_or-defaults ps n i no_past ∙ c.free i h;
+}
+
+pub more_cells : (ps : List Past) (rs : List Reader) (ms : List Mark) (n : ℕ) → AreCells ps rs ms → AreCells (ps ++ replicate n no_past) rs (ms ++ replicate n no_mark)
+more_cells ps rs ms n c = let a = c.full in let e = length-append ps (replicate n no_past) in let f = length-append ms (replicate n no_mark) in
+    let g = length-replicate n no_past in let h = length-replicate n no_mark in record {
+      full = omega arith;
+      down = c.down;
+      below = λ i. let g = ap (λ (x : Past). x.readers) (get_or-defaults ps n i no_past) in let k = c.below i in omega arith;
+      few = c.few;
+      free = λ i k. get_or-defaults ps n i no_past ∙ c.free i (omega arith);
+    }
+
+-- past the end stand no tags
+pub no_tag_past : (ps : List Past) (rs : List Reader) (ms : List Mark) (n : ℕ) → AreCells ps rs ms → length ms ≤ n → look ps rs ms n ≡ no_tag
+no_tag_past ps rs ms n c h = let g = c.free n h in same_tag (ap (λ (x : Past). x.writer) g) (ap (λ (x : Past). chain (reverse rs) x.readers) g ∙ chain_end (reverse rs)) (get_or_past ms n no_mark h)

@@ -1,0 +1,114 @@
+-- What is kept stands for the touches, after one more of them and after the end of a test.
+use Rattle.std.proofs.Common.{◌≡◌, ℕ, suc, Bool, true, false, not, ◌||◌, ◌&&◌, cond, List, [], ◌∷◌, ◌++◌, map, flat_map, refl, sym, ◌∙◌, ap, subst, nat_eq, inl, inr}
+use Rattle.std.specs.List.{list_any}
+use Rattle.std.proofs.lemmas.Bool.{cases_Bool}
+use Rattle.std.proofs.lemmas.List.{map-append}
+use Rattle.jvm_model.specs.declared.values.Location.{Location}
+use Rattle.jvm_model.specs.declared.values.Touch.{Touch}
+use Rattle.jvm_model.specs.World.{same}
+use Rattle.jvm_model.proofs.Locations.{same_true}
+use Rattle.order_law.specs.declared.edges.EdgeKind.{EdgeKind}
+use Rattle.order_law.specs.declared.edges.EdgeKind.TheVariants.{Raw, Waw, War}
+use Rattle.order_law.specs.Exposed.{written, exposed}
+use Rattle.order_law.specs.Histories.{Touches}
+use Rattle.access_tags.specs.declared.hit.Hit.{Hit}
+use Rattle.access_tags.specs.declared.hit.Spot.{Spot}
+use Rattle.access_tags.specs.declared.hit.Touched.{Touched}
+use Rattle.access_tags.specs.declared.mark.Mark.{Mark}
+use Rattle.access_tags.specs.Tag.{Tag, tag, writer, readers, mark, no_mark, noted, ended, is_new, places, hit, with_writer, hits_at, hits}
+use Rattle.access_tags.specs.Cells.{Apart}
+use Rattle.access_tags.specs.Numbering.{Numbering, located, is_name, view, IsPlaced, ArePlaced, locations, is_at, tag_at, at_location}
+use Rattle.access_tags.specs.Stands.{StandFor}
+use Rattle.access_tags.proofs.Marks.{mark_more, places_more, any_touched}
+use Rattle.access_tags.proofs.Places.{any_first, first_apart}
+use Rattle.access_tags.proofs.Settle.{tag_with}
+use Rattle.access_tags.proofs.Numbered.{changed, tag_there, any_location}
+
+-- a location that isn't touched
+untouched : (ts : List Touch) (L : Location) → list_any (same L) (places ts) ≡ false → mark ts L ≡ no_mark
+untouched ts L e = base (exposed ts L) (written ts L) (sym (any_touched ts L) ∙ (sym (any_first (map (λ (x : Touch). x.location) ts) L) ∙ e))
+  where
+    base : (a b : Bool) → (a || b) ≡ false → record { exposed = a; written = b } ≡ no_mark
+    base true b q = absurd (cc)
+    base false true q = absurd (cc)
+    base false false q = refl
+
+ended_untouched : (t : ℕ) (g : Tag) → g.mark ≡ no_mark → ended t g ≡ g
+ended_untouched t g e = let w : g.mark.written ≡ false = ap (λ (m : Mark). m.written) e in let x : g.mark.exposed ≡ false = ap (λ (m : Mark). m.exposed) e in rw w (rw x refl)
+
+tag_ended : (T : Touches) (t : ℕ) (ts : List Touch) (L : Location) → T (suc t) ≡ ts → ended (suc t) (tag T t ts L) ≡ tag T (suc t) [] L
+tag_ended T t ts L e = rw e refl
+
+module _ (n : Numbering) (T : Touches) (t : ℕ) (ts : List Touch) (c d : ℕ → Tag) (xs : List Touched) (s : StandFor n T t ts c d xs) where
+  -- one more touch
+  placed_more : (b : Bool) (ys : List Touched) (y : Touched) → ArePlaced n ys → IsPlaced n y → ArePlaced n (ys ++ cond b (y ∷ []) [])
+  placed_more true [] y a p = (p, tt)
+  placed_more false [] y a p = tt
+  placed_more b (x ∷ ys) y a p = (a.0, placed_more b ys y a.1 p)
+
+  locations_more : (b : Bool) (y : Touched) → locations n (xs ++ cond b (y ∷ []) []) ≡ locations n xs ++ cond b (located n.names y.spot ∷ []) []
+  locations_more true y = map-append (λ (x : Touched). located n.names x.spot) xs (y ∷ [])
+  locations_more false y = map-append (λ (x : Touched). located n.names x.spot) xs []
+
+  pub noted_stands : (y : Touched) (x : Touch) (c' d' : ℕ → Tag) (b : Bool) → IsPlaced n y → x.location ≡ located n.names y.spot → b ≡ is_new (tag_at c d y).mark →
+      ((l : ℕ) → c' l ≡ cond (not (is_name y.spot) && nat_eq l y.at) (noted x.write (c y.at)) (c l)) → ((l : ℕ) → d' l ≡ cond (is_name y.spot && nat_eq l y.at) (noted x.write (d y.at)) (d l)) →
+      StandFor n T t (ts ++ x ∷ []) c' d' (xs ++ cond b (y ∷ []) [])
+  noted_stands y x c' d' b p e k g h = let M = located n.names y.spot in
+      let m : b ≡ is_new (mark ts M) = k ∙ ap (λ (z : Tag). is_new z.mark) (tag_there n c d y p ∙ s.tags M) in
+      record {
+        tags = λ L. changed n y (λ (z : Tag). noted x.write z) c d c' d' p g h L ∙ (rw (s.tags L) (rw (s.tags M) (elim (cases_Bool (same L M)) [
+          | inl f ↦ rw f (ap (λ (N : Location). noted x.write (tag T t ts N)) (sym (same_true L M f)) ∙ ap (λ (z : Mark). tag_with (writer T t L) (readers T t L) z) (sym (mark_more ts x L ∙ rw e (rw f refl))))
+          | inr f ↦ rw f (ap (λ (z : Mark). tag_with (writer T t L) (readers T t L) z) (sym (mark_more ts x L ∙ rw e (rw f refl))))
+        ])));
+        touched = locations_more b y ∙ (rw m (rw s.touched (rw (← e) (sym (places_more ts x)))));
+        placed = placed_more b xs y s.placed p;
+      }
+
+  -- the end of the test
+  pub apart : Apart same (locations n xs)
+  apart = subst (λ (ls : List Location). Apart same ls) (sym s.touched) (first_apart (map (λ (x : Touch). x.location) ts))
+
+  pub ended_stands : (test : ℕ) (c' d' : ℕ → Tag) → test ≡ suc t → T test ≡ ts →
+      ((L : Location) → view n c' d' L ≡ cond (list_any (is_at n L) xs) (ended test (view n c d L)) (view n c d L)) → StandFor n T test [] c' d' []
+  ended_stands test c' d' e f g = record {
+    tags = λ L.
+        let q : T (suc t) ≡ ts = subst (λ (u : ℕ). T u ≡ ts) e f in
+        let a : view n c' d' L ≡ cond (list_any (same L) (places ts)) (ended (suc t) (tag T t ts L)) (tag T t ts L) =
+        g L ∙ (ap (λ (b : Bool). cond b (ended test (view n c d L)) (view n c d L)) (any_location n L xs ∙ ap (λ (ls : List Location). list_any (same L) ls) s.touched)
+        ∙ (ap (λ (z : Tag). cond (list_any (same L) (places ts)) (ended test z) z) (s.tags L) ∙ ap (λ (u : ℕ). cond (list_any (same L) (places ts)) (ended u (tag T t ts L)) (tag T t ts L)) e)) in
+        subst (λ (u : ℕ). view n c' d' L ≡ tag T u [] L) (sym e) (a ∙ elim (cases_Bool (list_any (same L) (places ts))) [
+          | inl b ↦ rw b (tag_ended T t ts L q)
+          | inr b ↦ rw b (sym (ended_untouched (suc t) (tag T t ts L) (untouched ts L b)) ∙ tag_ended T t ts L q)
+        ]);
+    touched = refl;
+    placed = tt;
+  }
+
+  -- the conflicts of the test
+  one_writer : (k : EdgeKind) (y : Spot) (u : ℕ) → map (at_location n) (with_writer k y u) ≡ with_writer k (located n.names y) u
+  one_writer k y u = elim (cases_Bool (nat_eq u 0)) [ inl e ↦ rw e refl | inr e ↦ rw e refl ]
+
+  all_readers : (y : Spot) (us : List ℕ) → map (at_location n) (map (hit War y) us) ≡ map (hit War (located n.names y)) us
+  all_readers y [] = refl
+  all_readers y (u ∷ us) = ap (λ (hs : List (Hit Location)). hit War (located n.names y) u ∷ hs) (all_readers y us)
+
+  by_exposed : (b : Bool) (y : Spot) (u : ℕ) → map (at_location n) (cond b (with_writer Raw y u) []) ≡ cond b (with_writer Raw (located n.names y) u) []
+  by_exposed true y u = one_writer Raw y u
+  by_exposed false y u = refl
+
+  by_written : (b : Bool) (y : Spot) (u : ℕ) (us : List ℕ) → map (at_location n) (cond b (with_writer Waw y u ++ map (hit War y) us) []) ≡ cond b (with_writer Waw (located n.names y) u ++ map (hit War (located n.names y)) us) []
+  by_written true y u us = map-append (at_location n) (with_writer Waw y u) (map (hit War y) us) ∙ (rw (one_writer Waw y u) (rw (all_readers y us) refl))
+  by_written false y u us = refl
+
+  hits_there : (y : Spot) (g : Tag) → map (at_location n) (hits_at y g) ≡ hits_at (located n.names y) g
+  hits_there y g = map-append (at_location n) (cond g.mark.exposed (with_writer Raw y g.writer) []) (cond g.mark.written (with_writer Waw y g.writer ++ map (hit War y) g.readers) [])
+      ∙ (rw (by_exposed g.mark.exposed y g.writer) (rw (by_written g.mark.written y g.writer g.readers) refl))
+
+  all_hits : (ys : List Touched) → ArePlaced n ys → map (at_location n) (flat_map (λ (y : Touched). hits_at y.spot (tag_at c d y)) ys) ≡ flat_map (λ (L : Location). hits_at L (tag T t ts L)) (locations n ys)
+  all_hits [] p = refl
+  all_hits (y ∷ ys) p = map-append (at_location n) (hits_at y.spot (tag_at c d y)) (flat_map (λ (y : Touched). hits_at y.spot (tag_at c d y)) ys)
+      ∙ (rw (hits_there y.spot (tag_at c d y)) (rw (tag_there n c d y p.0 ∙ s.tags (located n.names y.spot))
+      (ap (λ (hs : List (Hit Location)). hits_at (located n.names y.spot) (tag T t ts (located n.names y.spot)) ++ hs) (all_hits ys p.1))))
+
+  pub hits_stand : map (at_location n) (flat_map (λ (y : Touched). hits_at y.spot (tag_at c d y)) xs) ≡ hits T t ts
+  hits_stand = all_hits xs s.placed ∙ ap (λ (ls : List Location). flat_map (λ (L : Location). hits_at L (tag T t ts L)) ls) s.touched

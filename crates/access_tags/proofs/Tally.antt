@@ -1,0 +1,158 @@
+-- Rows by the conflicts, one conflict more at a time.
+use Rattle.std.proofs.Common.{◌≡◌, ◌≢◌, ℕ, zero, suc, ◌+◌, ◌*◌, ◌-◌, ◌<◌, ◌≤◌, Bool, true, false, ◌&&◌, cond, List, [], ◌∷◌, ◌++◌, length, get_or, set, map, filter, flat_map, take, refl, sym, ◌∙◌, ap, subst, arith, nat_eq, inl, inr}
+use Rattle.std.specs.List.{range_with_len}
+use Rattle.std.proofs.lemmas.Bool.{cases_Bool, cases_lt, eqb-true, eq-eqb}
+use Rattle.std.proofs.lemmas.List.{get_or-set_other, length-append, append-nil, append_assoc, map-append, map-id, flat_map_more}
+use Rattle.std.proofs.lemmas.List.Elements.{filter-append}
+use Rattle.std.proofs.lemmas.List.FromFn.{map-range_with_len_more}
+use Rattle.std.proofs.Math.Seq.{take-suc}
+use Rattle.std.proofs.lemmas.Grind.{get_or-set_at}
+use Rattle.order_law.specs.declared.edges.EdgeKind.{EdgeKind}
+use Rattle.order_law.specs.declared.edges.EdgeKind.TheVariants.{Raw, Waw, War}
+use Rattle.access_tags.specs.declared.hit.Hit.{Hit}
+use Rattle.access_tags.specs.declared.hit.Spot.{Spot}
+use Rattle.access_tags.specs.declared.rows.Row.{Row}
+use Rattle.access_tags.specs.Tag.{found, is_hit, same_kind, kind_number}
+use Rattle.access_tags.specs.Rows.{key, row_with, row_of, rows_between, IsTable}
+use Rattle.access_tags.proofs.Settle.{differ}
+
+-- the first 8 of one more
+take_all : {A : Type 0} (xs : List A) (n : ℕ) → length xs ≤ n → take n xs ≡ xs
+take_all [] zero h = refl
+take_all [] (suc n) h = refl
+take_all (x ∷ xs) zero h = absurd (omega arith)
+take_all (x ∷ xs) (suc n) h = ap (λ ys. x ∷ ys) (take_all xs n (omega arith))
+
+take_left : {A : Type 0} (xs ys : List A) (n : ℕ) → n ≤ length xs → take n (xs ++ ys) ≡ take n xs
+take_left xs ys zero h = refl
+take_left [] ys (suc n) h = absurd (omega arith)
+take_left (x ∷ xs) ys (suc n) h = ap (λ zs. x ∷ zs) (take_left xs ys n (omega arith))
+
+length_taken : {A : Type 0} (xs : List A) (n : ℕ) → length (take n xs) < n → length xs < n
+length_taken xs zero h = absurd (omega arith)
+length_taken [] (suc n) h = omega arith
+length_taken (x ∷ xs) (suc n) h = let g = length_taken xs n (omega arith) in omega arith
+
+abbrev row : EdgeKind → ℕ → ℕ → List Spot → Row
+row k u n xs = record { kind = k; earlier = u; count = n; spots = xs }
+
+pub shown_more : (k : EdgeKind) (u n : ℕ) (xs : List Spot) (x : Spot) → n ≡ length xs + 1 → length (take 8 xs) < 8 → row k u n (take 8 xs ++ x ∷ []) ≡ row_with k u (xs ++ x ∷ [])
+shown_more k u n xs x e h = let g = length_taken xs 8 h in let l = length-append xs (x ∷ []) in
+    ap (λ (m : ℕ). row k u m (take 8 xs ++ x ∷ [])) (e ∙ sym l)
+    ∙ ap (λ (ys : List Spot). row k u (length (xs ++ x ∷ [])) ys) (ap (λ (ys : List Spot). ys ++ x ∷ []) (take_all xs 8 (omega arith)) ∙ sym (take_all (xs ++ x ∷ []) 8 (omega arith)))
+
+pub shown_same : (k : EdgeKind) (u n : ℕ) (xs : List Spot) (x : Spot) → n ≡ length xs + 1 → 8 ≤ length (take 8 xs) → row k u n (take 8 xs) ≡ row_with k u (xs ++ x ∷ [])
+shown_same k u n xs x e h = let l = length-append xs (x ∷ []) in
+    ap (λ (m : ℕ). row k u m (take 8 xs)) (e ∙ sym l)
+    ∙ ap (λ (ys : List Spot). row k u (length (xs ++ x ∷ [])) ys) (sym (take_left xs (x ∷ []) 8 (elim (cases_lt (length xs) 8) [ inl g ↦ absurd (let z = ap (λ (ys : List Spot). length ys) (take_all xs 8 (omega arith)) in omega arith) | inr g ↦ g ])))
+
+-- one conflict more
+apart_eq : (a b : ℕ) → a ≢ b → nat_eq a b ≡ false
+apart_eq a b n = elim (cases_Bool (nat_eq a b)) [ inl e ↦ absurd (n (eqb-true a b e)) | inr e ↦ e ]
+
+same_three : (u v a : ℕ) → nat_eq (3 * u + a) (3 * v + a) ≡ nat_eq u v
+same_three u v a = elim (cases_Bool (nat_eq u v)) [
+  | inl e ↦ let g = eqb-true u v e in eq-eqb (3 * u + a) (3 * v + a) (omega arith) ∙ sym e
+  | inr e ↦ let d = differ u v e in apart_eq (3 * u + a) (3 * v + a) (λ q. absurd (d (omega arith))) ∙ sym e
+]
+
+same_key : (k j : EdgeKind) (u v : ℕ) → nat_eq (key k u) (key j v) ≡ (same_kind k j && nat_eq u v)
+same_key Raw Raw u v = same_three u v 0
+same_key Waw Waw u v = same_three u v 1
+same_key War War u v = same_three u v 2
+same_key Raw Waw u v = apart_eq (3 * u + 0) (3 * v + 1) (λ q. absurd (omega arith))
+same_key Raw War u v = apart_eq (3 * u + 0) (3 * v + 2) (λ q. absurd (omega arith))
+same_key Waw Raw u v = apart_eq (3 * u + 1) (3 * v + 0) (λ q. absurd (omega arith))
+same_key Waw War u v = apart_eq (3 * u + 1) (3 * v + 2) (λ q. absurd (omega arith))
+same_key War Raw u v = apart_eq (3 * u + 2) (3 * v + 0) (λ q. absurd (omega arith))
+same_key War Waw u v = apart_eq (3 * u + 2) (3 * v + 1) (λ q. absurd (omega arith))
+
+found_more : (k : EdgeKind) (u : ℕ) (hs : List (Hit Spot)) (x : Hit Spot) → found k u (hs ++ x ∷ []) ≡ found k u hs ++ cond (nat_eq (key k u) (key x.kind x.earlier)) (x.place ∷ []) []
+found_more k u hs x =
+    ap (λ (ys : List (Hit Spot)). map (λ (y : Hit Spot). y.place) ys) (filter-append (is_hit k u) hs (x ∷ []))
+    ∙ (map-append (λ (y : Hit Spot). y.place) (filter (is_hit k u) hs) (filter (is_hit k u) (x ∷ []))
+    ∙ ap (λ (ys : List Spot). found k u hs ++ ys) (one (is_hit k u x) ∙ ap (λ (b : Bool). cond b (x.place ∷ []) []) (sym (same_key k x.kind u x.earlier))))
+  where
+    one : (b : Bool) → map (λ (y : Hit Spot). y.place) (cond b (x ∷ []) []) ≡ cond b (x.place ∷ []) []
+    one true = refl
+    one false = refl
+
+kind_below : (k : EdgeKind) → kind_number k < 3
+kind_below Raw = omega arith
+kind_below Waw = omega arith
+kind_below War = omega arith
+
+pub key_within : (k : EdgeKind) (u t n : ℕ) → u < t → n ≡ 3 * t → 3 * u + kind_number k < n
+key_within k u t n h e = let b = kind_below k in omega arith
+
+pub tally_in : (t : ℕ) (hs : List (Hit Spot)) (x : Hit Spot) (rows : List Row) (o r : Row) → length rows ≡ 3 * t → IsTable t hs rows → x.earlier < t →
+    o ≡ get_or rows (key x.kind x.earlier) o → ((k : EdgeKind) (u : ℕ) (xs : List Spot) → o ≡ row_with k u xs → r ≡ row_with k u (xs ++ x.place ∷ [])) →
+    IsTable t (hs ++ x ∷ []) (set rows (key x.kind x.earlier) r)
+tally_in t hs x rows o r l f low q g k u e b = let at = key x.kind x.earlier in elim (cases_Bool (nat_eq (key k u) at)) [
+  | inl y ↦ let z = eqb-true (key k u) at y in
+      let w : o ≡ row_with k u (found k u hs) = q ∙ (ap (λ (j : ℕ). get_or rows j o) (sym z) ∙ f k u o b) in
+      get_or-set_at rows at (key k u) r e z (key_within x.kind x.earlier t (length rows) low l)
+      ∙ (g k u (found k u hs) w ∙ ap (λ (ys : List Spot). row_with k u ys) (sym (found_more k u hs x ∙ rw y refl)))
+  | inr y ↦ get_or-set_other rows at (key k u) r e (differ (key k u) at y)
+      ∙ (f k u e b ∙ ap (λ (ys : List Spot). row_with k u ys) (sym (found_more k u hs x ∙ rw y (append-nil (found k u hs)))))
+]
+
+pub tally_out : (t : ℕ) (hs : List (Hit Spot)) (x : Hit Spot) (rows : List Row) → IsTable t hs rows → t ≤ x.earlier → IsTable t (hs ++ x ∷ []) rows
+tally_out t hs x rows f high k u e b =
+    let y : nat_eq (key k u) (key x.kind x.earlier) ≡ false = apart_eq (key k u) (key x.kind x.earlier) (λ q. absurd (let a = kind_below k in let c = kind_below x.kind in omega arith)) in
+    f k u e b ∙ ap (λ (ys : List Spot). row_with k u ys) (sym (found_more k u hs x ∙ rw y (append-nil (found k u hs))))
+
+pub take_more : (hs : List (Hit Spot)) (i : ℕ) (d : Hit Spot) → i < length hs → take i hs ++ get_or hs i d ∷ [] ≡ take (i + 1) hs
+take_more hs i d h = let e : i + 1 ≡ suc i = omega arith in sym (ap (λ (j : ℕ). take j hs) e ∙ take-suc hs i d h)
+
+-- a table of no conflicts, with the rows of one test more
+table_more : (t : ℕ) (rows : List Row) → length rows ≡ 3 * t → IsTable t [] rows → IsTable (t + 1) [] (rows ++ row_with Raw t [] ∷ row_with Waw t [] ∷ row_with War t [] ∷ [])
+table_more t rows l f k u d h = elim (cases_lt u t) [
+  | inl g ↦ get_or-left rows _ (key k u) d (key_within k u t (length rows) g l) ∙ f k u d g
+  | inr g ↦ let e : u ≡ t = omega arith in ap (λ (i : ℕ). get_or (rows ++ row_with Raw t [] ∷ row_with Waw t [] ∷ row_with War t [] ∷ []) i d) (three k (omega arith)) ∙ (at_end rows k d ∙ ap (λ (v : ℕ). row_with k v []) (sym e))
+]
+  where
+    three : (k : EdgeKind) → u ≡ t → key k u ≡ length rows + kind_number k
+    three k e = omega (arith, l)
+
+    get_or-left : (xs ys : List Row) (i : ℕ) (d : Row) → i < length xs → get_or (xs ++ ys) i d ≡ get_or xs i d
+    get_or-left [] ys i d h = absurd (omega arith)
+    get_or-left (x ∷ xs) ys zero d h = refl
+    get_or-left (x ∷ xs) ys (suc i) d h = get_or-left xs ys i d (omega arith)
+
+    last : (k : EdgeKind) (d : Row) → get_or (row_with Raw t [] ∷ row_with Waw t [] ∷ row_with War t [] ∷ []) (kind_number k) d ≡ row_with k t []
+    last Raw d = refl
+    last Waw d = refl
+    last War d = refl
+
+    at_end : (xs : List Row) (k : EdgeKind) (d : Row) → get_or (xs ++ row_with Raw t [] ∷ row_with Waw t [] ∷ row_with War t [] ∷ []) (length xs + kind_number k) d ≡ row_with k t []
+    at_end [] k d = ap (λ (i : ℕ). get_or (row_with Raw t [] ∷ row_with Waw t [] ∷ row_with War t [] ∷ []) i d) (omega arith) ∙ last k d
+    at_end (x ∷ xs) k d = let e : length (x ∷ xs) + kind_number k ≡ suc (length xs + kind_number k) = omega arith in rw e (at_end xs k d)
+
+pub table_grown : (t : ℕ) (rows : List Row) (a b c : Row) → length rows ≡ 3 * t → IsTable t [] rows → a ≡ row_with Raw t [] → b ≡ row_with Waw t [] → c ≡ row_with War t [] →
+    IsTable (t + 1) [] (((rows ++ a ∷ []) ++ b ∷ []) ++ c ∷ [])
+table_grown t rows a b c l f p q r = subst (λ (ys : List Row). IsTable (t + 1) [] ys) (sym (append_assoc (rows ++ a ∷ []) (b ∷ []) (c ∷ []) ∙ (append_assoc rows (a ∷ []) (b ∷ c ∷ []) ∙ (rw p (rw q (rw r refl)))))) (table_more t rows l f)
+
+pub three_longer : (rows : List Row) (a b c : Row) → length (((rows ++ a ∷ []) ++ b ∷ []) ++ c ∷ []) ≡ length rows + 3
+three_longer rows a b c = let e = length-append ((rows ++ a ∷ []) ++ b ∷ []) (c ∷ []) in let f = length-append (rows ++ a ∷ []) (b ∷ []) in let g = length-append rows (a ∷ []) in omega arith
+
+-- the rows of a test
+pub three_rows : (o p q r u v w : List Row) → p ≡ o ++ u → q ≡ p ++ v → r ≡ q ++ w → r ≡ o ++ (u ++ (v ++ w))
+three_rows o p q r u v w e f g = g ∙ (ap (λ (x : List Row). x ++ w) (f ∙ ap (λ (x : List Row). x ++ v) e) ∙ (append_assoc (o ++ u) v w ∙ append_assoc o u (v ++ w)))
+
+pub row_none : (k : EdgeKind) (u n : ℕ) (rs : List Row) (xs : List Spot) → n ≡ length xs → n ≡ 0 → rs ≡ rs ++ row_of k u xs
+row_none k u n rs [] e z = sym (append-nil rs)
+row_none k u n rs (x ∷ xs) e z = absurd (omega arith)
+
+pub row_some : (k : EdgeKind) (u n : ℕ) (rs : List Row) (r : Row) (xs : List Spot) → n ≡ length xs → n ≢ 0 → r ≡ row_with k u xs → rs ++ r ∷ [] ≡ rs ++ row_of k u xs
+row_some k u n rs r [] e z q = absurd (z e)
+row_some k u n rs r (x ∷ xs) e z q = ap (λ (y : Row). rs ++ y ∷ []) q
+
+range_more : (a n : ℕ) → range_with_len a (n + 1) ≡ range_with_len a n ++ (a + n) ∷ []
+range_more a n = sym (map-id (range_with_len a (n + 1))) ∙ (map-range_with_len_more (λ (x : ℕ). x) a n (a + n) refl ∙ ap (λ (xs : List ℕ). xs ++ (a + n) ∷ []) (map-id (range_with_len a n)))
+
+pub rows_more : (n : ℕ) (hs : List (Hit Spot)) (bs cs es : List Row) → 1 ≤ n → cs ≡ bs ++ flat_map (λ (u : ℕ). rows_between u hs) (range_with_len 1 (n - 1)) → es ≡ cs ++ rows_between n hs →
+    es ≡ bs ++ flat_map (λ (u : ℕ). rows_between u hs) (range_with_len 1 (n + 1 - 1))
+rows_more n hs bs cs es o e f = let q : n + 1 - 1 ≡ (n - 1) + 1 = omega arith in let r : 1 + (n - 1) ≡ n = omega arith in
+    f ∙ (ap (λ (ys : List Row). ys ++ rows_between n hs) e ∙ (flat_map_more (λ (u : ℕ). rows_between u hs) bs (range_with_len 1 (n - 1)) n
+    ∙ ap (λ (xs : List ℕ). bs ++ flat_map (λ (u : ℕ). rows_between u hs) xs) (sym (ap (λ (m : ℕ). range_with_len 1 m) q ∙ (range_more 1 (n - 1) ∙ ap (λ (m : ℕ). range_with_len 1 (n - 1) ++ m ∷ []) r)))))

@@ -1,0 +1,10 @@
+use Rattle.std.proofs.Common.{refl, sym}
+use Rattle.jvm_model.specs.Access.{read_of}
+use Rattle.jvm_model.specs.declared.values.Location.TheVariants as place
+use Rattle.access_tags.specs.declared.hit.Spot.TheVariants as spot
+use Rattle.access_tags.proofs.Following.{read_noted}
+use Rattle.access_tags.proofs.memory.TaggedMemoryMemory.get_static.Goals as goal
+
+pub returns-clause-told : goal.returns-clause-told
+returns-clause-told c =
+    read_noted c.args.self.now c.note.new.self c.get_static.new.self (spot.Static c.args.field) _ _ (read_of (place.Static c.args.field) c.in_ok-v.v) refl c.requires c.in_ok-v.ensures.of c.in_ok-v.ensures.kept refl refl (sym c.given.ensures) refl c.in_ok-note.ensures.told

@@ -1,0 +1,6 @@
+use Rattle.access_tags.proofs.Conflicts.{tags_law}
+use Rattle.access_tags.proofs.EdgeRows.{rows_law}
+use Rattle.access_tags.proofs.tags_law.Goals as goal
+
+pub returns : goal.returns
+returns c = record { conflicts = tags_law; edges = rows_law }

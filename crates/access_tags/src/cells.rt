@@ -1,0 +1,203 @@
+//! The tags of numbered locations.
+
+ghost use Rattle.std.specs.Prelude.{◌≡◌, ◌+◌, ◌<◌, ◌≤◌, ◌^◌, ℕ, [], ◌∷◌, ◌++◌, length, map, reverse, cond, nat_eq, IfOk, OnOk, OnErr};
+ghost use Rattle.order_law.specs.declared.edges.EdgeKind.TheVariants as kinds;
+ghost use Rattle.access_tags.specs.Tag.{hit, with_writer};
+ghost use Rattle.access_tags.specs.Cells.{AreCells, AreDown, chain};
+
+use crate::hit::{Hit, Spot};
+use crate::mark::{Mark, Past, Reader};
+use cell_region::Region;
+use et_base::NoMemory;
+use order_law::EdgeKind;
+use std::alloc::Global;
+
+/// A tag each for locations that are numbered from 0: what the running test did there, the last writer, and the readers
+/// since, as a chain through one region of readers.
+#[derive(Drop)]
+pub struct Cells {
+    marks: Region<Mark>,
+    pasts: Region<Past>,
+    readers: Region<Reader>,
+    ghost sound: { AreCells pasts readers marks },
+}
+
+impl Cells {
+    ghost use Rattle.access_tags.specs.Tag.{no_tag, noted, ended, is_new, hits_at};
+    ghost use Rattle.access_tags.specs.Shelf.{tag_in, count};
+
+    /// No locations. It takes no memory until it grows.
+    pub fn new(alloc: Global) -> Cells
+        ensures count { count result ≡ 0 }
+        ensures tags { (l : ℕ) → tag_in result l ≡ no_tag }
+    {
+        Cells {
+            marks: Region::new(alloc),
+            pasts: Region::new(alloc),
+            readers: Region::new(alloc),
+        }
+    }
+
+    /// How many locations there are.
+    pub fn len(&self) -> u64
+        ensures { result ≡ count self.now }
+    {
+        self.marks.len()
+    }
+
+    /// What the running test did at a location.
+    pub fn mark(&self, at: u64) -> Mark
+        requires { at < count self.now }
+        ensures { result ≡ (tag_in self.now at).mark }
+    {
+        self.marks.get(at)
+    }
+
+    /// So many locations more, which no test touched.
+    #[tactic(auto, using(crate::proofs::Grown::more_pasts, crate::proofs::Grown::more_cells, crate::proofs::Grown::more_look))]
+    pub fn grow(&mut self, more: u64) -> Result<(), NoMemory>
+        ensures count { OnOk result (count self.new ≡ count self.old + more) }
+        ensures kept { count self.old ≤ count self.new }
+        ensures room { OnOk result (count self.new < 2 ^ 64) }
+        ensures tags { OnOk result ((l : ℕ) → tag_in self.new l ≡ tag_in self.old l) }
+    {
+        self.pasts.grow(
+            more,
+            Past {
+                writer: 0,
+                readers: 0,
+            },
+        )?;
+        self.marks.grow(more, Mark::NONE)?;
+        Ok(())
+    }
+
+    /// One more touch of a location by the running test. Answers whether it is the first.
+    #[tactic(auto, using(crate::proofs::Settle::marked_look, crate::proofs::Settle::marked_cells))]
+    pub fn note(&mut self, at: u64, write: bool) -> bool
+        requires { at < count self.old }
+        ensures first { result ≡ is_new (tag_in self.old at).mark }
+        ensures count { count self.new ≡ count self.old }
+        ensures tags { (l : ℕ) → tag_in self.new l
+            ≡ cond (nat_eq l at) (noted write (tag_in self.old at)) (tag_in self.old l) }
+    {
+        let old = self.marks.get(at);
+        self.marks.set(at, old.after(write));
+        old.is_new()
+    }
+
+    /// Adds the conflicts at a location, which is shown as `place`.
+    pub fn gather(&self, at: u64, place: Spot, hits: &mut Vec<Hit<Spot>>) -> Result<(), NoMemory>
+        requires { at < count self.now }
+        ensures { OnOk result (hits.new.items ≡ hits.old.items ++ hits_at place (tag_in self.now at)) }
+    {
+        let mark = self.marks.get(at);
+        let past = self.pasts.get(at);
+        if mark.exposed {
+            hit_writer(hits, EdgeKind::Raw, place, past.writer)?;
+        }
+        if mark.written {
+            hit_writer(hits, EdgeKind::Waw, place, past.writer)?;
+            hit_readers(hits, &self.readers, past.readers, place)?;
+        }
+        Ok(())
+    }
+
+    /// The running test, with this number, ended: what it did at the location joins what earlier tests did there.
+    #[tactic(auto, using(crate::proofs::Settle::written_look, crate::proofs::Settle::exposed_look, crate::proofs::Settle::clear_look, crate::proofs::Settle::written_cells, crate::proofs::Settle::exposed_cells, crate::proofs::Settle::marked_cells))]
+    pub fn settle(&mut self, at: u64, test: u32) -> Result<(), NoMemory>
+        requires { at < count self.old }
+        ensures count { count self.new ≡ count self.old }
+        ensures tags { OnOk result ((l : ℕ) → tag_in self.new l
+            ≡ cond (nat_eq l at) (ended test (tag_in self.old at)) (tag_in self.old l)) }
+    {
+        let mark = self.marks.get(at);
+        self.marks.set(at, Mark::NONE);
+        if mark.written {
+            self.pasts.set(
+                at,
+                Past {
+                    writer: test,
+                    readers: 0,
+                },
+            );
+            return Ok(());
+        }
+        if mark.exposed {
+            let past = self.pasts.get(at);
+            let reader = Reader {
+                test,
+                next: past.readers,
+            };
+            let readers = link(&mut self.readers, reader)?;
+            self.pasts.set(
+                at,
+                Past {
+                    writer: past.writer,
+                    readers,
+                },
+            );
+            return Ok(());
+        }
+        Ok(())
+    }
+}
+
+/// Adds the conflict with a location's last writer, where there is one.
+fn hit_writer(
+    hits: &mut Vec<Hit<Spot>>,
+    kind: EdgeKind,
+    place: Spot,
+    writer: u32,
+) -> Result<(), NoMemory>
+    ensures { OnOk result (hits.new.items ≡ hits.old.items ++ with_writer kind place writer) }
+{
+    if writer != 0 {
+        hits.push(Hit {
+            kind,
+            earlier: writer,
+            place,
+        })?;
+    }
+    Ok(())
+}
+
+/// Adds the conflicts with the readers of a chain, which begins at this number.
+fn hit_readers(
+    hits: &mut Vec<Hit<Spot>>,
+    readers: &Region<Reader>,
+    first: u32,
+    place: Spot,
+) -> Result<(), NoMemory>
+    requires down { AreDown readers.now }
+    requires first { first ≤ length readers.now }
+    ensures { OnOk result (hits.new.items ≡ hits.old.items
+        ++ map (hit kinds.War place) (chain (reverse readers.now) first)) }
+{
+    let mut at = first;
+    while at > 0 {
+        let reader = readers.get(at as u64 - 1);
+        hits.push(Hit {
+            kind: EdgeKind::War,
+            earlier: reader.test,
+            place,
+        })?;
+        at = reader.next;
+    }
+    Ok(())
+}
+
+/// Adds a reader and answers its number. After a refusal the readers are as before.
+fn link(readers: &mut Region<Reader>, reader: Reader) -> Result<u32, NoMemory>
+    ensures gives { IfOk result (λ n. n ≡ length readers.old + 1) }
+    ensures linked { OnOk result (readers.new ≡ readers.old ++ reader ∷ []) }
+    ensures few { OnOk result (length readers.old + 1 < 2 ^ 32) }
+    ensures kept { OnErr result (readers.new ≡ readers.old) }
+{
+    let last = readers.len();
+    if last >= u32::MAX as u64 {
+        return Err(NoMemory {});
+    }
+    readers.grow(1, reader)?;
+    Ok(last as u32 + 1)
+}

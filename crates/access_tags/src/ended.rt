@@ -1,0 +1,15 @@
+//! What is kept of a test that ended.
+
+use crate::hit::Spot;
+use crate::rows::Row;
+use et_base::Items;
+
+/// A test that ended: the rows of its edges, the walk to the object of each part that these show, how many objects there
+/// were then, and whether each of its exposed reads is of the static `System.out`.
+#[derive(Debug, Drop)]
+pub struct Ended {
+    pub rows: Items<Row>,
+    pub walks: Items<Items<Items<Spot>>>,
+    pub size: u64,
+    pub alone: bool,
+}

@@ -1,0 +1,275 @@
+//! The edges of rows, and what is shown of them.
+
+ghost use Rattle.std.specs.Prelude.{◌≡◌, ◌≤◌, ◌++◌, ◌+◌, ℕ, [], length, map, slice_get, true, Some, IfOk, OnOk};
+ghost use Rattle.jvm_model.specs.Texts.{location_text};
+ghost use Rattle.order_law.specs.Histories.{Touches};
+ghost use Rattle.order_law.specs.OwnForm.{HasCodeUnits};
+ghost use Rattle.order_law.specs.OwnRecord as own;
+ghost use Rattle.order_law.specs.Pairing.{PairedList};
+ghost use Rattle.order_law.specs.RecordForm.{is_place_text};
+ghost use Rattle.order_law.specs.Walk.{IsShownIn};
+ghost use Rattle.access_tags.specs.declared.ended.Ended.{Ended as Kept};
+ghost use Rattle.access_tags.specs.AreNames.{AreNames};
+ghost use Rattle.access_tags.specs.FoundIn.{AreEnded, added, are_printed, edges_up_to};
+ghost use Rattle.access_tags.specs.Ran.{HaveWalks};
+ghost use Rattle.access_tags.specs.Numbering.{located};
+ghost use Rattle.access_tags.specs.Places.{place_by, shown_parts, shown_rows};
+ghost use Rattle.access_tags.specs.Rows.{edge_by};
+
+use crate::ended::Ended;
+use crate::hit::Spot;
+use crate::reads::walk_texts;
+use crate::rows::Row;
+use crate::shown_text::{place_text, program_units};
+use crate::texts::push_location;
+use et_base::{Items, NoMemory, Text};
+use jvm_model::{Location, Program};
+use order_law::{Edge, Place, Shown};
+use std::alloc::Global;
+
+/// The edge of a row of a test, where the tests made so many objects each.
+pub fn edge_of(
+    alloc: Global,
+    p: &Program,
+    made: &[u64],
+    names: &[Location],
+    later: u32,
+    row: &Row,
+) -> Result<Edge, NoMemory>
+    requires { HasCodeUnits p.now }
+    ensures edge { IfOk result (λ e. e ≡ edge_by p.now (own.owner_in made.now) names.now later row.now) }
+    ensures form { IfOk result (λ e. is_place_text e.first ≡ true) }
+{
+    let first = match row.spots.get(0) {
+        None => Spot::Static { field: 0 },
+        Some(spot) => *spot,
+    };
+    Ok(Edge {
+        earlier: row.earlier,
+        later,
+        kind: row.kind,
+        count: row.count,
+        first: spot_text(alloc, p, made, names, first)?,
+    })
+}
+
+/// The text of a part's location as a record has it, where the tests made so many objects each.
+fn spot_text(
+    alloc: Global,
+    p: &Program,
+    made: &[u64],
+    names: &[Location],
+    spot: Spot,
+) -> Result<Text, NoMemory>
+    requires { HasCodeUnits p.now }
+    ensures text { IfOk result (λ t. t ≡ own.cut (location_text p.now (own.owner_in made.now) (located names.now spot))) }
+    ensures form { IfOk result (λ t. is_place_text t ≡ true) }
+{
+    match spot {
+        Spot::Static { field } => place_text(alloc, p, made, &Location::Static { field }),
+        Spot::Init { class } => place_text(alloc, p, made, &Location::Init { class }),
+        Spot::Head { object } => place_text(alloc, p, made, &Location::Head { object }),
+        Spot::Field { object, field } => {
+            place_text(alloc, p, made, &Location::Field { object, field })
+        }
+        Spot::Elem { object, index } => {
+            place_text(alloc, p, made, &Location::Elem { object, index })
+        }
+        Spot::Text { object } => place_text(alloc, p, made, &Location::Text { object }),
+        Spot::Named { name } => match names.get(name as usize) {
+            None => place_text(alloc, p, made, &Location::Static { field: 0 }),
+            Some(location) => place_text(alloc, p, made, location),
+        },
+    }
+}
+
+/// Parts with their walks, where the tests made so many objects each.
+pub fn shown_of(
+    alloc: Global,
+    p: &Program,
+    made: &[u64],
+    names: &[Location],
+    spots: &[Spot],
+    walks: &[Items<Spot>],
+) -> Result<Shown, NoMemory>
+    ensures { IfOk result (λ shown. shown ≡ shown_parts p.now (own.owner_in made.now) names.now spots.now walks.now) }
+{
+    let mut places = Items::new(alloc);
+    for i in 0..spots.len().min(walks.len()) {
+        places.push(place_of(alloc, p, made, names, spots[i], walks[i].as_slice())?)?;
+    }
+    Ok(Shown { places })
+}
+
+/// A part with its walk.
+fn place_of(
+    alloc: Global,
+    p: &Program,
+    made: &[u64],
+    names: &[Location],
+    spot: Spot,
+    walk: &[Spot],
+) -> Result<Place, NoMemory>
+    ensures { IfOk result (λ place. place ≡ place_by p.now (own.owner_in made.now) names.now spot walk.now) }
+{
+    let walk = walk_texts(alloc, p, walk)?;
+    let mut at = Text::new(alloc);
+    push_spot(&mut at, p, made, names, spot)?;
+    Ok(Place { at, walk })
+}
+
+/// Appends the text of a part's location.
+fn push_spot(
+    out: &mut Text,
+    p: &Program,
+    made: &[u64],
+    names: &[Location],
+    spot: Spot,
+) -> Result<(), NoMemory>
+    ensures { OnOk result (out.new ≡ out.old ++ location_text p.now (own.owner_in made.now) (located names.now spot)) }
+{
+    match spot {
+        Spot::Static { field } => push_location(out, p, made, &Location::Static { field }),
+        Spot::Init { class } => push_location(out, p, made, &Location::Init { class }),
+        Spot::Head { object } => push_location(out, p, made, &Location::Head { object }),
+        Spot::Field { object, field } => {
+            push_location(out, p, made, &Location::Field { object, field })
+        }
+        Spot::Elem { object, index } => {
+            push_location(out, p, made, &Location::Elem { object, index })
+        }
+        Spot::Text { object } => push_location(out, p, made, &Location::Text { object }),
+        Spot::Named { name } => match names.get(name as usize) {
+            None => push_location(out, p, made, &Location::Static { field: 0 }),
+            Some(location) => push_location(out, p, made, location),
+        },
+    }
+}
+
+/// The edges of tests and what is shown of each.
+#[derive(Drop)]
+pub struct Findings {
+    pub edges: Items<Edge>,
+    pub shown: Items<Shown>,
+}
+
+impl Findings {
+    /// Nothing found.
+    pub fn new(alloc: Global) -> Findings
+        ensures edges { result.edges ≡ [] }
+        ensures shown { result.shown ≡ [] }
+    {
+        Findings {
+            edges: Items::new(alloc),
+            shown: Items::new(alloc),
+        }
+    }
+
+    /// Adds what is kept of a test that ended, where the tests made so many objects each.
+    pub fn push_test(
+        &mut self,
+        alloc: Global,
+        p: &Program,
+        made: &[u64],
+        names: &[Location],
+        test: u32,
+        ended: &Ended,
+    ) -> Result<(), NoMemory>
+        requires { HasCodeUnits p.now }
+        ensures form { OnOk result (are_printed self.old.edges ≡ true → are_printed self.new.edges ≡ true) }
+        ensures edges { OnOk result (self.new.edges ≡ self.old.edges ++ map (edge_by p.now (own.owner_in made.now) names.now test) ended.now.rows) }
+        ensures shown { OnOk result (self.new.shown ≡ self.old.shown ++ shown_rows p.now (own.owner_in made.now) names.now ended.now.rows ended.now.walks) }
+    {
+        let rows = ended.rows.as_slice();
+        push_edges(alloc, p, made, names, test, rows, &mut self.edges)?;
+        push_shown(
+            alloc,
+            p,
+            made,
+            names,
+            rows,
+            ended.walks.as_slice(),
+            &mut self.shown,
+        )
+    }
+}
+
+/// Adds the edges of rows.
+fn push_edges(
+    alloc: Global,
+    p: &Program,
+    made: &[u64],
+    names: &[Location],
+    test: u32,
+    rows: &[Row],
+    edges: &mut Items<Edge>,
+) -> Result<(), NoMemory>
+    requires { HasCodeUnits p.now }
+    ensures form { OnOk result (are_printed edges.old ≡ true → are_printed edges.new ≡ true) }
+    ensures edges { OnOk result (edges.new ≡ edges.old ++ map (edge_by p.now (own.owner_in made.now) names.now test) rows.now) }
+{
+    for row in rows {
+        edges.push(edge_of(alloc, p, made, names, test, row)?)?;
+    }
+    Ok(())
+}
+
+/// Adds what is shown of rows.
+fn push_shown(
+    alloc: Global,
+    p: &Program,
+    made: &[u64],
+    names: &[Location],
+    rows: &[Row],
+    walks: &[Items<Items<Spot>>],
+    shown: &mut Items<Shown>,
+) -> Result<(), NoMemory>
+    ensures { OnOk result (shown.new ≡ shown.old ++ shown_rows p.now (own.owner_in made.now) names.now rows.now walks.now) }
+{
+    for i in 0..rows.len().min(walks.len()) {
+        let spots = rows[i].spots.as_slice();
+        shown.push(shown_of(alloc, p, made, names, spots, walks[i].as_slice())?)?;
+    }
+    Ok(())
+}
+
+/// How many objects each test made, by how many there were when each test before the last ended and when that did.
+pub fn made_of(alloc: Global, ended: &[Ended], last: u64) -> Result<Vec<u64>, NoMemory>
+    ensures { IfOk result (λ made. (f : ℕ → ℕ) → f 0 ≡ 0 → ((i : ℕ) (x : Kept) → slice_get ended.now i ≡ Some x → x.size ≡ f (i + 1)) → last ≡ f (length ended.now + 1)
+        → made.items ≡ added f (length ended.now + 1)) }
+{
+    let mut made = Vec::new(alloc);
+    let mut before = 0;
+    for test in ended {
+        made.push(test.size.saturating_sub(before))?;
+        before = test.size;
+    }
+    made.push(last.saturating_sub(before))?;
+    Ok(made)
+}
+
+/// The edges of a run of tests, and what is shown of each: of the tests before the last, and of that.
+pub fn found_of(
+    alloc: Global,
+    p: &Program,
+    made: &[u64],
+    names: &[Location],
+    ended: &[Ended],
+    last: &Ended,
+) -> Result<Findings, NoMemory>
+    ensures printed { IfOk result (λ found. are_printed found.edges ≡ true) }
+    ensures edges { IfOk result (λ found. (T : Touches) → AreEnded T names.now ended.now last.now → found.edges ≡ edges_up_to p.now T (own.owner_in made.now) (length ended.now + 1)) }
+    ensures shown { IfOk result (λ found. (T : Touches) → AreEnded T names.now ended.now last.now → AreNames names.now → HaveWalks p.now T → length ended.now + 1 ≤ length p.now.tests
+        → PairedList (IsShownIn p.now T (own.owner_in made.now)) found.edges found.shown) }
+{
+    if ended.len() >= u32::MAX as usize {
+        return Err(NoMemory {});
+    }
+    program_units(p);
+    let mut found = Findings::new(alloc);
+    for i in 0..ended.len() {
+        found.push_test(alloc, p, made, names, i as u32 + 1, &ended[i])?;
+    }
+    found.push_test(alloc, p, made, names, ended.len() as u32 + 1, last)?;
+    Ok(found)
+}

@@ -1,0 +1,44 @@
+//! Tags beside the cells of a memory, which give the conflicts of a run of the suite.
+#![tactic(auto)]
+
+ghost use Rattle.access_tags.specs.Tag.{TagsLaw, RowsLaw};
+ghost use Rattle.access_tags.specs.Worlds.{NumbersLaw, ChangesLaw};
+
+mod cells;
+mod ended;
+mod found;
+mod heads;
+mod hit;
+mod mark;
+mod meetings;
+mod memory;
+mod names;
+mod noting;
+mod numbers;
+mod reached;
+mod reaches;
+mod reads;
+mod room;
+mod rows;
+mod settled;
+mod shown_text;
+mod tags;
+mod texts;
+
+pub use memory::TaggedMemory;
+
+/// What the tags give. The conflicts that are read off the tags of the touched locations when a test ends are those of
+/// the definition, which looks back over whole runs, in the order of first touch; and the edges for them, test by test, are
+/// all edges of the touches in the record's order.
+pub fn tags_law()
+    ensures conflicts { TagsLaw }
+    ensures edges { RowsLaw }
+{}
+
+/// The numbers of locations. Each static, class state, head, text, field and element of a world stands at its number among
+/// the world's locations: a static by its field, a class state behind the statics, and a part of an object behind the
+/// object's first number. A write changes no number, and a new object's parts stand last.
+pub fn numbers_law()
+    ensures numbers { NumbersLaw }
+    ensures changes { ChangesLaw }
+{}

@@ -1,0 +1,57 @@
+//! What is kept beside a location.
+
+ghost use Rattle.std.specs.Prelude.{◌≡◌};
+ghost use Rattle.access_tags.specs.Tag.{marked, is_new};
+
+/// What the running test did at a location: whether it has an exposed read of it, which no write of its own precedes, and
+/// whether it wrote it.
+#[derive(Clone, Copy, Debug, PartialEq, Eq)]
+pub struct Mark {
+    pub exposed: bool,
+    pub written: bool,
+}
+
+/// What the tests that ended did at a location: its last writer, 0 for none, and the number of the latest of the readers
+/// since, 0 for none.
+#[derive(Clone, Copy, Debug, PartialEq, Eq)]
+pub struct Past {
+    pub writer: u32,
+    pub readers: u32,
+}
+
+/// A test with an exposed read, and the number of the reader of the same location before it, 0 for none.
+#[derive(Clone, Copy, Debug, PartialEq, Eq)]
+pub struct Reader {
+    pub test: u32,
+    pub next: u32,
+}
+
+impl Mark {
+    pub const NONE: Mark = Mark {
+        exposed: false,
+        written: false,
+    };
+
+    /// The mark after one more touch.
+    pub fn after(self, write: bool) -> Mark
+        ensures { result ≡ marked write self }
+    {
+        if write {
+            return Mark {
+                exposed: self.exposed,
+                written: true,
+            };
+        }
+        Mark {
+            exposed: self.exposed || !self.written,
+            written: self.written,
+        }
+    }
+
+    /// Whether there was no touch.
+    pub fn is_new(self) -> bool
+        ensures { result ≡ is_new self }
+    {
+        !self.exposed && !self.written
+    }
+}

@@ -1,0 +1,325 @@
+//! The memory of a detection run: it stands for the world, and keeps beside each location who wrote and read it.
+
+ghost use Rattle.std.specs.Prelude.{◌≡◌, ℕ, ◌+◌, ◌<◌, List, [], ◌∷◌, length, get_or, slice_get, false, true, None, Some, IfOk, OnOk};
+ghost use Rattle.jvm_model.specs.declared.values.Touch.{Touch};
+ghost use Rattle.jvm_model.specs.Access.{given_by};
+ghost use Rattle.vm_mem.specs.Stores.{place_in};
+ghost use Rattle.jvm_model.specs.Linked.{Linked};
+ghost use Rattle.jvm_model.specs.Suite as suite;
+ghost use Rattle.order_law.specs.Histories.{Touches};
+ghost use Rattle.order_law.specs.OwnRecord.{edges_in};
+ghost use Rattle.order_law.specs.Pairing.{PairedList};
+ghost use Rattle.std.specs.List.{list_all};
+ghost use Rattle.order_law.specs.Reach.{IsReachIn};
+ghost use Rattle.order_law.specs.RecordForm.{is_place_text};
+ghost use Rattle.order_law.specs.Walk.{IsShownIn};
+ghost use Rattle.vm_mem.specs.Story.{Story, Adds, no_story};
+ghost use Rattle.access_tags.specs.Followed.{Follows, HasNoted, IsEnded, IsNamed};
+ghost use Rattle.access_tags.specs.Settled.{reads_out_alone};
+ghost use Rattle.access_tags.specs.Ran.{HaveWalks, kinds_in, owner_by, story_to, touched_by};
+
+use crate::ended::Ended;
+use crate::found::{found_of, made_of};
+use crate::heads::Heads;
+use crate::hit::Spot;
+use crate::meetings::Meetings;
+use crate::names::Names;
+use crate::noting::{elements, note_made, note_part};
+use crate::numbers::Numbers;
+use crate::reaches::reaches_of;
+use crate::settled::OUT;
+use crate::tags::Tags;
+use et_base::{Items, NoMemory, Units};
+use jvm_model::{Head, InitState, Kind, Program, Value};
+use order_law::{Edge, Reach, Shown};
+use sim_store::Part;
+use std::alloc::Global;
+use vm_heap::RegionMemory;
+use vm_mem::Memory;
+
+/// The world, and beside each location the last test that wrote it and the tests that read it since. It follows the tests
+/// that run on it.
+#[derive(Drop)]
+pub struct TaggedMemory {
+    memory: RegionMemory,
+    tags: Tags,
+    numbers: Numbers,
+    names: Names,
+    meetings: Meetings,
+    heads: Heads,
+    ended: Items<Ended>,
+    test: u32,
+    alloc: Global,
+}
+
+impl TaggedMemory {
+    ghost use Rattle.order_law.specs.declared.records.Reach.{Reach as Reached};
+
+    /// The memory of a linked program before its first test, with no touches.
+    pub fn opening(alloc: Global, p: &Program) -> Result<TaggedMemory, NoMemory>
+        requires { Linked p.now }
+        ensures program { IfOk result (λ m. ⟦<TaggedMemory as Memory>⟧.program m ≡ p.now) }
+        ensures world { IfOk result (λ m. ⟦<TaggedMemory as Memory>⟧.world m ≡ suite.opening p.now) }
+        ensures follows { IfOk result (λ m. ⟦<TaggedMemory as Memory>⟧.follows m no_story []) }
+    {
+        let mut tags = Tags::new(alloc);
+        tags.grow(p.fields.len() as u64)?;
+        tags.grow(p.classes.len() as u64)?;
+        Ok(TaggedMemory {
+            memory: RegionMemory::opening(alloc, p)?,
+            tags,
+            numbers: Numbers::of(alloc, p)?,
+            names: Names::new(alloc),
+            meetings: Meetings::new(alloc),
+            heads: Heads::new(alloc, p.classes.len() as u32),
+            ended: Items::new(alloc),
+            test: 0,
+            alloc,
+        })
+    }
+
+    /// The edges of a run of the tests of a program in order, and of each edge its first 8 locations. Where the memory
+    /// follows such a run, the edges are those of the touches, in the record's order; and where to each object at a place
+    /// of conflict there is a walk of reads, it is shown. The text of each edge is in the form of a record.
+    pub fn found(&self, p: &Program) -> Result<(Items<Edge>, Items<Shown>), NoMemory>
+        ensures edges { IfOk result (λ x. (T : Touches) → ⟦<TaggedMemory as Memory>⟧.follows self.now (story_to T (length p.now.tests)) (touched_by T (length p.now.tests))
+            → x.0 ≡ edges_in p.now T (owner_by p.now T)) }
+        ensures printed { IfOk result (λ x. list_all (λ e. is_place_text e.first) x.0 ≡ true) }
+        ensures shown { IfOk result (λ x. (T : Touches) → ⟦<TaggedMemory as Memory>⟧.follows self.now (story_to T (length p.now.tests)) (touched_by T (length p.now.tests))
+            → HaveWalks p.now T → PairedList (IsShownIn p.now T (owner_by p.now T)) x.0 x.1) }
+    {
+        if self.test == 0 {
+            return Ok((Items::new(self.alloc), Items::new(self.alloc)));
+        }
+        let last = self.summary()?;
+        let ended = self.ended.as_slice();
+        let made = made_of(self.alloc, ended, last.size)?;
+        let names = self.names.as_slice();
+        let found = found_of(self.alloc, p, &made, names, ended, &last)?;
+        Ok((found.edges, found.shown))
+    }
+
+    /// The reach of each test of a program, where the memory follows a run of its tests in order: the least set of classes
+    /// that holds the test's own, those of the objects whose heads it touched, and with each class all that it mentions;
+    /// and whether the test is settled. There is no memory for the reach of a program with another number of classes.
+    pub fn reaches(&self, p: &Program) -> Result<Items<Reach>, NoMemory>
+        ensures each { IfOk result (λ rs. length rs ≡ length p.now.tests) }
+        ensures reach { IfOk result (λ rs. (T : Touches) → ⟦<TaggedMemory as Memory>⟧.follows self.now (story_to T (length p.now.tests)) (touched_by T (length p.now.tests))
+            → (i : ℕ) (r : Reached) → slice_get rs i ≡ Some r
+            → IsReachIn p.now T (kinds_in (⟦<TaggedMemory as Memory>⟧.world self.now)) (i + 1) r) }
+    {
+        if self.heads.classes() as usize != p.classes.len() {
+            return Err(NoMemory {});
+        }
+        let alone = self.alone()?;
+        let reaches = reaches_of(self.alloc, p, &self.heads, &alone)?;
+        Ok(reaches)
+    }
+
+    /// Of each test that began whether its exposed reads are of the static `System.out` alone.
+    fn alone(&self) -> Result<Vec<bool>, NoMemory>
+        ensures { IfOk result (λ xs. (T : Touches) (n : ℕ) → Follows self.now (story_to T n) (touched_by T n) → (i : ℕ) → i < n → get_or xs.items i false ≡ reads_out_alone T (i + 1)) }
+    {
+        let mut alone = Vec::new(self.alloc);
+        for test in self.ended.as_slice() {
+            alone.push(test.alone)?;
+        }
+        alone.push(self.tags.reads_static_alone(OUT))?;
+        Ok(alone)
+    }
+
+    /// Notes one more touch of a part that is there, but a file or property: with the object that a read gave, and of a head
+    /// with the kind of its object. It makes no object.
+    fn note(
+        &mut self,
+        spot: Spot,
+        write: bool,
+        gave: Option<u64>,
+        kind: Option<Kind>,
+    ) -> Result<(), NoMemory>
+        ensures memory { self.new.memory ≡ self.old.memory }
+        ensures told { OnOk result (HasNoted self.old self.new spot write gave kind) }
+    {
+        note_part(&self.numbers, &mut self.tags, spot, write)?;
+        self.meetings.note(self.test, spot, write, gave)?;
+        self.heads.note_touch(self.test, kind)?;
+        Ok(())
+    }
+
+    /// The number of a file or property among the names, of which it is then one.
+    fn name_number(&mut self, part: Part, name: &Units) -> Result<u32, NoMemory>
+        ensures memory { self.new.memory ≡ self.old.memory }
+        ensures number { IfOk result (λ k. IsNamed self.new.names (place_in part name.now) k) }
+        ensures told { OnOk result ((h : Story) (ts : List Touch) → Follows self.old h ts → Follows self.new h ts) }
+    {
+        let at = self.names.find(part, name);
+        if at > u32::MAX as usize {
+            return Err(NoMemory {});
+        }
+        if at < self.names.len() {
+            return Ok(at as u32);
+        }
+        self.tags.grow_names()?;
+        self.names.push(part, name)?;
+        Ok(at as u32)
+    }
+
+    /// Notes one more touch of a file or property.
+    fn note_name(&mut self, part: Part, name: &Units, write: bool) -> Result<(), NoMemory>
+        ensures memory { self.new.memory ≡ self.old.memory }
+        ensures told { OnOk result (Adds Follows self.old self.new (record { write = write; location = place_in part name.now; gave = None } ∷ [])) }
+    {
+        let number = self.name_number(part, name)?;
+        self.tags
+            .note(Spot::Named { name: number }, number as u64, write)?;
+        Ok(())
+    }
+
+    /// What is kept of the running test when it ends.
+    fn summary(&self) -> Result<Ended, NoMemory>
+        requires { 0 < self.now.test }
+        ensures { IfOk result (λ x. (h : Story) (ts : List Touch) (T : Touches) → Follows self.now h ts → h ≡ story_to T h.test → T h.test ≡ ts → IsEnded T self.now.names h.test x) }
+    {
+        let mut rows = Items::new(self.alloc);
+        self.tags.push_rows(self.alloc, self.test, &mut rows)?;
+        let walks = self
+            .meetings
+            .walks_of_rows(self.alloc, self.test, rows.as_slice())?;
+        Ok(Ended {
+            rows,
+            walks,
+            size: self.numbers.objects(),
+            alone: self.tags.reads_static_alone(OUT),
+        })
+    }
+}
+
+fn given(v: Value) -> Option<u64>
+    ensures { result ≡ given_by v }
+{
+    match v {
+        Value::Obj(object) => Some(object),
+        _ => None,
+    }
+}
+
+impl Memory for TaggedMemory {
+    ghost program = { λ m. m.memory.program };
+
+    ghost world = { λ m. m.memory.world };
+
+    ghost follows = { λ m h ts. Follows m h ts };
+
+    fn begin_test(&mut self, test: u32) -> Result<(), NoMemory> {
+        if self.test == 0 {
+            self.test = test;
+            return Ok(());
+        }
+        let ended = self.summary()?;
+        self.ended.push(ended)?;
+        self.tags.end_test(self.test)?;
+        self.test = test;
+        Ok(())
+    }
+
+    fn get_static(&mut self, field: u32) -> Result<Value, NoMemory> {
+        let v = self.memory.get_static(field)?;
+        self.note(Spot::Static { field }, false, given(v), None)?;
+        Ok(v)
+    }
+
+    fn put_static(&mut self, field: u32, v: Value) -> Result<(), NoMemory> {
+        self.memory.put_static(field, v)?;
+        self.note(Spot::Static { field }, true, None, None)?;
+        Ok(())
+    }
+
+    fn get_init(&mut self, class: u32) -> Result<InitState, NoMemory> {
+        let s = self.memory.get_init(class)?;
+        self.note(Spot::Init { class }, false, None, None)?;
+        Ok(s)
+    }
+
+    fn put_init(&mut self, class: u32, s: InitState) -> Result<(), NoMemory> {
+        self.memory.put_init(class, s)?;
+        self.note(Spot::Init { class }, true, None, None)?;
+        Ok(())
+    }
+
+    fn head(&mut self, object: u64) -> Result<Head, NoMemory> {
+        let head = self.memory.head(object)?;
+        self.note(Spot::Head { object }, false, None, Some(head.kind))?;
+        Ok(head)
+    }
+
+    fn get_field(&mut self, object: u64, field: u32) -> Result<Value, NoMemory> {
+        let v = self.memory.get_field(object, field)?;
+        self.note(Spot::Field { object, field }, false, given(v), None)?;
+        Ok(v)
+    }
+
+    fn put_field(&mut self, object: u64, field: u32, v: Value) -> Result<(), NoMemory> {
+        self.memory.put_field(object, field, v)?;
+        self.note(Spot::Field { object, field }, true, None, None)?;
+        Ok(())
+    }
+
+    fn get_elem(&mut self, object: u64, index: u32) -> Result<Value, NoMemory> {
+        let v = self.memory.get_elem(object, index)?;
+        self.note(Spot::Elem { object, index }, false, given(v), None)?;
+        Ok(v)
+    }
+
+    fn put_elem(&mut self, object: u64, index: u32, v: Value) -> Result<(), NoMemory> {
+        self.memory.put_elem(object, index, v)?;
+        self.note(Spot::Elem { object, index }, true, None, None)?;
+        Ok(())
+    }
+
+    fn get_text(&mut self, object: u64) -> Result<&Units, NoMemory> {
+        self.note(Spot::Text { object }, false, None, None)?;
+        self.memory.get_text(object)
+    }
+
+    fn put_text(&mut self, object: u64, u: Units) -> Result<(), NoMemory> {
+        self.memory.put_text(object, u)?;
+        self.note(Spot::Text { object }, true, None, None)?;
+        Ok(())
+    }
+
+    fn append_text(&mut self, object: u64, more: &[u16]) -> Result<(), NoMemory> {
+        self.memory.append_text(object, more)?;
+        self.note(Spot::Text { object }, true, None, None)?;
+        Ok(())
+    }
+
+    fn get_store(&mut self, part: Part, name: &Units) -> Result<Option<&Units>, NoMemory> {
+        self.note_name(part, name, false)?;
+        self.memory.get_store(part, name)
+    }
+
+    fn put_store(
+        &mut self,
+        part: Part,
+        name: Units,
+        content: Option<Units>,
+    ) -> Result<(), NoMemory> {
+        self.note_name(part, &name, true)?;
+        self.memory.put_store(part, name, content)?;
+        Ok(())
+    }
+
+    fn make(&mut self, head: Head) -> Result<u64, NoMemory> {
+        let object = self.memory.make(head)?;
+        let first = self.tags.len();
+        let cells = 2 + elements(head) as u64;
+        let Some(parts) = cells.checked_add(self.numbers.fields(head.kind).len() as u64) else {
+            return Err(NoMemory {});
+        };
+        self.tags.grow(parts)?;
+        self.numbers.push(first)?;
+        self.heads.note(self.test, head.kind)?;
+        note_made(&self.numbers, &mut self.tags, object, head)?;
+        Ok(object)
+    }
+}

@@ -1,0 +1,92 @@
+//! Touches of the parts of a world, noted at their numbers.
+
+ghost use Rattle.std.specs.Prelude.{◌≡◌, ◌<◌, List, [], ◌∷◌, length, false, None, OnOk};
+ghost use Rattle.jvm_model.specs.Access.{elems_made, fields_made, made};
+ghost use Rattle.jvm_model.specs.Classes.{blank, elems_of};
+ghost use Rattle.jvm_model.specs.View.{Exists, keys};
+ghost use Rattle.jvm_model.specs.World.{World, Object, object_at, size};
+ghost use Rattle.jvm_model.specs.declared.values.Location.{Location};
+ghost use Rattle.jvm_model.specs.declared.values.Touch.{Touch};
+ghost use Rattle.access_tags.specs.Followed.{HaveNoted, HaveSameRoom, IsNumbered, numbering_in};
+ghost use Rattle.access_tags.specs.Numbering.{is_name, located};
+
+use crate::hit::Spot;
+use crate::numbers::Numbers;
+use crate::tags::Tags;
+use et_base::NoMemory;
+use jvm_model::{Head, Kind, Value};
+
+/// Notes one more touch of a part that is there, but a file or property.
+pub fn note_part(
+    numbers: &Numbers,
+    tags: &mut Tags,
+    spot: Spot,
+    write: bool,
+) -> Result<(), NoMemory>
+    ensures room { HaveSameRoom tags.old tags.new }
+    ensures told { OnOk result ((w : World) (names : List Location) (x : Touch) → IsNumbered w numbers.now → is_name spot ≡ false → Exists w (located [] spot)
+        → x.write ≡ write → x.location ≡ located [] spot → HaveNoted (numbering_in w names) tags.old tags.new (x ∷ [])) }
+{
+    let Some(at) = numbers.number(spot) else {
+        return Err(NoMemory {});
+    };
+    tags.note(spot, at, write)?;
+    Ok(())
+}
+
+/// Notes that the fields of a new object are written.
+fn note_fields(
+    numbers: &Numbers,
+    tags: &mut Tags,
+    object: u64,
+    fields: &[(u32, Value)],
+) -> Result<(), NoMemory>
+    ensures room { HaveSameRoom tags.old tags.new }
+    ensures told { OnOk result ((w : World) (names : List Location) → IsNumbered w numbers.now → object < size w → keys (object_at w object).fields ≡ keys fields.now
+        → HaveNoted (numbering_in w names) tags.old tags.new (fields_made object fields.now)) }
+{
+    for (field, _) in fields {
+        let field = *field;
+        note_part(numbers, tags, Spot::Field { object, field }, true)?;
+    }
+    Ok(())
+}
+
+/// Notes that the elements of a new array are written.
+fn note_elems(numbers: &Numbers, tags: &mut Tags, object: u64, elems: u32) -> Result<(), NoMemory>
+    ensures room { HaveSameRoom tags.old tags.new }
+    ensures told { OnOk result ((w : World) (names : List Location) → IsNumbered w numbers.now → object < size w → length (object_at w object).elems ≡ elems
+        → HaveNoted (numbering_in w names) tags.old tags.new (elems_made object 0 (object_at w object).elems)) }
+{
+    for index in 0..elems {
+        note_part(numbers, tags, Spot::Elem { object, index }, true)?;
+    }
+    Ok(())
+}
+
+/// Notes what making an object without a text writes.
+pub fn note_made(
+    numbers: &Numbers,
+    tags: &mut Tags,
+    object: u64,
+    head: Head,
+) -> Result<(), NoMemory>
+    ensures room { HaveSameRoom tags.old tags.new }
+    ensures told { OnOk result ((w : World) (names : List Location) → IsNumbered w numbers.now → object < size w → object_at w object ≡ blank numbers.now.places head
+        → HaveNoted (numbering_in w names) tags.old tags.new (made object (blank numbers.now.places head))) }
+{
+    note_part(numbers, tags, Spot::Head { object }, true)?;
+    note_fields(numbers, tags, object, numbers.fields(head.kind))?;
+    note_elems(numbers, tags, object, elements(head))?;
+    Ok(())
+}
+
+/// How many elements a new object has.
+pub fn elements(head: Head) -> u32
+    ensures { result ≡ length (elems_of head.kind head.length) }
+{
+    match head.kind {
+        Kind::Class(_) => 0,
+        Kind::Array { .. } => head.length,
+    }
+}
