@@ -1,0 +1,101 @@
+//! A core behind one lock.
+#![tactic(auto)]
+
+ghost use Rattle.std.specs.Prelude.{◌≡◌, ◌<◌, ◌≤◌, length, IfErr};
+ghost use Rattle.run_core.specs.Refusal.{Names};
+
+use run_core::{Core, Event, Refused, Rejected, RunName};
+use std::marker::PhantomData;
+use std::sync::{Mutex, Wait};
+use test_run::Piece;
+
+/// A core of the program, chains and workers of `N`.
+#[derive(Drop)]
+struct Held<N: RunName> {
+    core: Core,
+    of: PhantomData<N>,
+    ghost program: { core.program ≡ N.program },
+    ghost chains: { core.chains ≡ N.chains },
+    ghost workers: { core.workers ≡ N.workers },
+}
+
+impl<N: RunName> Held<N> {
+    fn claim(&mut self, worker: u32, chain: u32) -> Result<(), Rejected>
+        requires worker { (0 < worker) × (worker ≤ N.workers) }
+        requires chain { (0 < chain) × (chain ≤ length N.chains) }
+        ensures { IfErr result (λ r. Names (length N.chains) N.workers r.why) }
+    {
+        self.core.step(Event::Claim { worker, chain })
+    }
+
+    fn post(&mut self, piece: Piece) -> Result<(), Rejected>
+        requires program { piece.program ≡ N.program }
+        requires worker { (0 < piece.worker) × (piece.worker ≤ N.workers) }
+        ensures { IfErr result (λ r. Names (length N.chains) N.workers r.why) }
+    {
+        self.core.step(Event::Post(piece))
+    }
+
+    fn is_complete(&self) -> bool {
+        self.core.is_complete()
+    }
+}
+
+/// A core of the program, chains and workers of `N` behind one lock. Each call but the last takes the lock and makes one
+/// call of the core. None takes memory.
+#[derive(Drop)]
+pub struct Board<N: RunName> {
+    held: Mutex<Held<N>>,
+}
+
+impl<N: RunName> Board<N> {
+    /// A board with this core.
+    pub fn new(core: Core) -> Board<N>
+        requires program { core.program ≡ N.program }
+        requires chains { core.chains ≡ N.chains }
+        requires workers { core.workers ≡ N.workers }
+    {
+        Board {
+            held: Mutex::new(Held {
+                core,
+                of: PhantomData,
+            }),
+        }
+    }
+
+    /// Claims a chain for a worker, or says why it can't be: the answer of the core. Both are numbered from 1.
+    pub fn claim<R: Wait>(&self, rt: &R, worker: u32, chain: u32) -> Result<(), Refused>
+        requires worker { (0 < worker) × (worker ≤ N.workers) }
+        requires chain { (0 < chain) × (chain ≤ length N.chains) }
+        ensures { IfErr result (λ why. Names (length N.chains) N.workers why) }
+    {
+        match self.held.lock(rt).claim(worker, chain) {
+            Ok(()) => Ok(()),
+            Err(rejected) => Err(rejected.why),
+        }
+    }
+
+    /// Posts what a worker's test gave, or hands it back with why it can't be: the answer of the core.
+    pub fn post<R: Wait>(&self, rt: &R, piece: Piece) -> Result<(), Rejected>
+        requires program { piece.program ≡ N.program }
+        requires worker { (0 < piece.worker) × (piece.worker ≤ N.workers) }
+        ensures { IfErr result (λ r. Names (length N.chains) N.workers r.why) }
+    {
+        self.held.lock(rt).post(piece)
+    }
+
+    /// Whether each test of the chains is posted: the answer of the core.
+    pub fn is_complete<R: Wait>(&self, rt: &R) -> bool {
+        self.held.lock(rt).is_complete()
+    }
+
+    /// The core. It takes no lock.
+    pub fn into_core(self) -> Core
+        ensures program { result.program ≡ N.program }
+        ensures chains { result.chains ≡ N.chains }
+        ensures workers { result.workers ≡ N.workers }
+    {
+        let Held { core, of: _ } = self.held.into_inner();
+        core
+    }
+}
