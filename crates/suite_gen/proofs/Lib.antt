@@ -1,0 +1,4 @@
+mod Ranges
+mod Names
+mod Spelled
+mod Parts
