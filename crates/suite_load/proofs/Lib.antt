@@ -2,10 +2,12 @@ pub mod CheckLaws
 pub mod ContentLaws
 pub mod GoodLines
 pub mod LineLaws
+pub mod LinkedCounts
 pub mod LoadLaws
 pub mod LoadOnce
 pub mod NumberLaws
 pub mod ReadingLaws
 pub mod SetLaws
+pub mod SumLaws
 pub mod SummaryLaws
 pub mod WordLaws

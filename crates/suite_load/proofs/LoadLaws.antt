@@ -1,18 +1,22 @@
 -- Refusals of loading, and its parts joined.
-use Rattle.std.proofs.Common.{◌≡◌, ◌≤◌, ◌<◌, ℕ, ◌+◌, List, [], ◌∷◌, ◌++◌, length, take, drop, get_or, Option, Some, None, Result, Ok, Err, IfSome, refl, sym, ap, ◌∙◌, subst}
-use Rattle.std.proofs.lemmas.List.{take_more, take_all, take-append-drop, drop_more}
+use Rattle.std.proofs.Common.{◌≡◌, ◌≤◌, ◌<◌, ℕ, ◌+◌, List, [], ◌∷◌, ◌++◌, length, map, take, drop, get_or, Option, Some, None, Result, Ok, Err, IfSome, refl, sym, ap, ◌∙◌, subst}
+use Rattle.std.proofs.lemmas.List.{take_more, take_all, take-append-drop, drop_more, append_assoc, append-nil, map-append}
 use Rattle.et_base.specs.Answers.{Fails}
 use Rattle.outside.specs.Depot.{Files, DepotView, FailedAt}
 use Rattle.outside.proofs.CountLemmas.{rose_later}
 use Rattle.class_reader.specs.declared.parts.ClassParts.{ClassParts}
 use Rattle.jvm_model.specs.declared.program.Names.{Names}
 use Rattle.jvm_model.specs.declared.program.Program.{Program}
+use Rattle.order_law.specs.declared.records.Prints.{Prints}
+use Rattle.dep_record.specs.Hashes.{prints_of}
+use Rattle.suite_load.specs.declared.print_sums.PrintSums.{PrintSums}
 use Rattle.suite_load.specs.declared.suite_text.SuiteText.{SuiteText}
 use Rattle.suite_load.specs.declared.load_fault.LoadFault.{LoadFault}
 use Rattle.suite_load.specs.declared.load_fault.LoadFault.TheVariants as fault
 use Rattle.suite_load.specs.declared.loaded.Loaded.{Loaded}
-use Rattle.suite_load.specs.Loading.{◌>>=◌, suite_in, class_in, classes_in, read_in, ReadGives, Loads, IsReadAmong, names_in}
+use Rattle.suite_load.specs.Loading.{◌>>=◌, suite_in, class_in, classes_in, read_in, bytes_of, sums_in, ReadGives, Loads, IsReadAmong, names_in}
 use Rattle.suite_load.specs.LoadAnswers.{says, IsProper, LoadAnswers, Checks}
+use Rattle.suite_load.specs.Sums.{AreSums, AreMoreSums}
 
 -- ---- refusals
 
@@ -123,7 +127,7 @@ unfolding read_in
 unread_suite None name e h = tt
 unread_suite (Some files) name e h =
     fails_on (λ f. Loads files name (Err f)) (says e) (suite_in files name)
-    (λ f k. subst (λ r. ReadGives r (Err f)) (sym (ap (λ r. r >>= λ s. classes_in files 0 s.classes >>= λ cs. Ok (s, cs)) k)) refl) h
+    (λ f k. subst (λ r. ReadGives (sums_in files name) r (Err f)) (sym (ap (λ r. r >>= λ s. classes_in files 0 s.classes >>= λ cs. Ok (s, cs)) k)) refl) h
 
 -- a class file isn't read
 pub unread_class : (told was : Option Files) (name : List ℕ) (suite : SuiteText) (names : List (List ℕ)) (e : LoadFault) → was ≡ told → names ≡ suite.classes → IfSome told (λ files. suite_in files name ≡ Ok suite) → IfSome was (λ files. Fails (says e) (classes_in files 0 names)) →
@@ -135,7 +139,7 @@ unread_class (Some files) was name suite names e w n s h =
     fails_on (λ f. Loads files name (Err f)) (says e) (classes_in files 0 names)
     (λ f k.
     let whole = ap (λ r. r >>= λ t. classes_in files 0 t.classes >>= λ cs. Ok (t, cs)) s ∙ ap (λ r. r >>= λ cs. Ok (suite, cs)) (ap (classes_in files 0) (sym n) ∙ k) in
-    subst (λ r. ReadGives r (Err f)) (sym whole) refl) there
+    subst (λ r. ReadGives (sums_in files name) r (Err f)) (sym whole) refl) there
 
 -- the files are read
 pub all_read : (told was : Option Files) (name : List ℕ) (suite : SuiteText) (names : List (List ℕ)) (classes : List ClassParts) → was ≡ told → names ≡ suite.classes → IfSome told (λ files. suite_in files name ≡ Ok suite) → IfSome was (λ files. classes_in files 0 names ≡ Ok classes) →
@@ -145,13 +149,45 @@ all_read (Some files) was name suite names classes w n s h =
     let there = subst (λ o. IfSome o (λ files. classes_in files 0 names ≡ Ok classes)) w h in
     read_done files name suite classes s (ap (classes_in files 0) (sym n) ∙ there)
 
-pub not_checked : (told : Option Files) (name : List ℕ) (suite : SuiteText) (classes : List ClassParts) (e : LoadFault) → IfSome told (λ files. read_in files name ≡ Ok (suite, classes)) → IfSome (says e) (λ f. ReadGives (Ok (suite, classes)) (Err f)) → IfSome told (λ files. LoadAnswers files name (Err e))
+pub not_checked : (told : Option Files) (name : List ℕ) (suite : SuiteText) (classes : List ClassParts) (e : LoadFault) → IfSome told (λ files. read_in files name ≡ Ok (suite, classes)) → Checks suite classes (Err e) → IfSome told (λ files. LoadAnswers files name (Err e))
 not_checked None name suite classes e r h = tt
-not_checked (Some files) name suite classes e r h = refuses_weaker (λ f. ReadGives (Ok (suite, classes)) (Err f)) (λ f. Loads files name (Err f)) (says e) (λ f k. subst (λ x. ReadGives x (Err f)) (sym r) k) h
+not_checked (Some files) name suite classes e r h = refuses_weaker (λ f. ReadGives (sums_in files name) (Ok (suite, classes)) (Err f)) (λ f. Loads files name (Err f)) (says e)
+    (λ f k. subst (λ x. ReadGives (sums_in files name) x (Err f)) (sym r) k) (h (sums_in files name))
 
-pub loads_all : (told : Option Files) (name : List ℕ) (suite : SuiteText) (classes : List ClassParts) (p q : Program) (names : Names) → names ≡ names_in suite q → q ≡ p → IfSome told (λ files. read_in files name ≡ Ok (suite, classes)) → Checks suite classes (Ok p) →
-    IfSome told (λ files. LoadAnswers files name (Ok (record { checked = p; names = names })))
-loads_all None name suite classes p q names e s r h = tt
-loads_all (Some files) name suite classes p q names e s r h =
-    let made : Names → Loaded = λ n. record { checked = p; names = n } in
-    subst (λ x. ReadGives x (Ok (made names))) (sym r) (subst (λ n. ReadGives (Ok (suite, classes)) (Ok (made n))) (sym (e ∙ ap (names_in suite) s)) h)
+pub loads_all : (told : Option Files) (name : List ℕ) (suite : SuiteText) (classes : List ClassParts) (p q : Program) (names : Names) (prints : Prints) → names ≡ names_in suite q → q ≡ p → IfSome told (λ files. read_in files name ≡ Ok (suite, classes)) →
+    IfSome told (λ files. prints ≡ sums_in files name suite) → Checks suite classes (Ok p) → IfSome told (λ files. LoadAnswers files name (Ok (record { checked = p; names = names; prints = prints })))
+loads_all None name suite classes p q names prints e s r d h = tt
+loads_all (Some files) name suite classes p q names prints e s r d h =
+    let sums = sums_in files name in
+    let made : Names → Prints → Loaded = λ n k. record { checked = p; names = n; prints = k } in
+    let named = subst (λ n. ReadGives sums (Ok (suite, classes)) (Ok (made n (sums suite)))) (sym (e ∙ ap (names_in suite) s)) (h sums) in
+    subst (λ x. ReadGives sums x (Ok (made names prints))) (sym r) (subst (λ k. ReadGives sums (Ok (suite, classes)) (Ok (made names k))) (sym d) named)
+
+-- ---- sums
+
+pub sums_none : (told : Option Files) (s : PrintSums) → IfSome told (λ files. AreMoreSums s s [])
+sums_none None s = tt
+sums_none (Some files) s = λ text over h. subst (λ xs. AreSums s text xs) (sym (append-nil over)) h
+
+pub sums_more : (told was : Option Files) (names : List (List ℕ)) (i : ℕ) (name : List ℕ) (first old new : PrintSums) → was ≡ told → i < length names → name ≡ get_or names i name →
+    IfSome told (λ files. AreMoreSums first old (map (bytes_of files) (take i names))) → IfSome was (λ files. AreMoreSums old new (bytes_of files name ∷ [])) →
+    IfSome told (λ files. AreMoreSums first new (map (bytes_of files) (take (i + 1) names)))
+sums_more None was names i name first old new w lt at h g = tt
+sums_more (Some files) was names i name first old new w lt at h g =
+    let here = subst (λ o. IfSome o (λ files. AreMoreSums old new (bytes_of files name ∷ []))) w g in
+    let front = take i names in
+    let longer = ap (map (bytes_of files)) (take_more names i name lt ∙ ap (λ n. front ++ n ∷ []) (sym at)) ∙ map-append (bytes_of files) front (name ∷ []) in
+    λ text over s. subst (λ xs. AreSums new text (over ++ xs)) (sym longer)
+    (subst (λ xs. AreSums new text xs) (append_assoc over (map (bytes_of files) front) (bytes_of files name ∷ [])) (here text (over ++ map (bytes_of files) front) (h text over s)))
+
+pub sums_last : (told : Option Files) (names : List (List ℕ)) (i : ℕ) (first new : PrintSums) → length names ≤ i → IfSome told (λ files. AreMoreSums first new (map (bytes_of files) (take i names))) → IfSome told (λ files. AreMoreSums first new (map (bytes_of files) names))
+sums_last None names i first new le h = tt
+sums_last (Some files) names i first new le h = subst (λ ns. AreMoreSums first new (map (bytes_of files) ns)) (take_all i names le) h
+
+-- all sums of a suite that is read
+pub sums_all : (told was : Option Files) (name : List ℕ) (suite : SuiteText) (names : List (List ℕ)) (old new : PrintSums) (prints : Prints) → was ≡ told → names ≡ suite.classes → IfSome told (λ files. AreSums old (bytes_of files name) []) →
+    IfSome was (λ files. AreMoreSums old new (map (bytes_of files) names)) → ((text : List ℕ) (files : List (List ℕ)) → AreSums new text files → prints ≡ prints_of text files) → IfSome told (λ files. prints ≡ sums_in files name suite)
+sums_all None was name suite names old new prints w n h g k = tt
+sums_all (Some files) was name suite names old new prints w n h g k =
+    let there = subst (λ o. IfSome o (λ files. AreMoreSums old new (map (bytes_of files) names))) w g in
+    k (bytes_of files name) (map (bytes_of files) names) (there (bytes_of files name) [] h) ∙ ap (λ ns. prints_of (bytes_of files name) (map (bytes_of files) ns)) n

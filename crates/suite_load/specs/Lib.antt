@@ -7,3 +7,4 @@ pub mod NumberForms
 pub mod Reading
 pub mod SuiteForm
 pub mod Summary
+pub mod Sums

@@ -8,6 +8,7 @@ use Rattle.class_reader.specs.declared.fault.ClassFault.TheVariants as class
 use Rattle.class_reader.specs.declared.parts.ClassParts.{ClassParts}
 use Rattle.class_link.specs.declared.fault.LinkFault.TheVariants as linking
 use Rattle.jvm_model.specs.declared.program.Program.{Program}
+use Rattle.order_law.specs.declared.records.Prints.{Prints}
 use Rattle.type_frames.specs.declared.fault.CheckFault.{CheckFault}
 use Rattle.type_frames.specs.declared.fault.CheckFault.TheVariants as checking
 use Rattle.suite_load.specs.declared.suite_text.SuiteText.{SuiteText}
@@ -64,7 +65,7 @@ check_answer f = fault.Check f
 abbrev pub LoadAnswers : Files → List ℕ → Result Loaded LoadFault → Type 0
 LoadAnswers files name result = Says (Loads files name) result
 
--- linking and the check of these class files answer this
+-- linking and the check of these class files answer this, whatever the sums are
 abbrev pub Checks : SuiteText → List ClassParts → Result Program LoadFault → Type 0
-Checks suite cs (Ok p) = ReadGives (Ok (suite, cs)) (Ok (loaded_of suite p))
-Checks suite cs (Err e) = IfSome (says e) (λ f. ReadGives (Ok (suite, cs)) (Err f))
+Checks suite cs (Ok p) = (sums : SuiteText → Prints) → ReadGives sums (Ok (suite, cs)) (Ok (loaded_of suite (sums suite) p))
+Checks suite cs (Err e) = (sums : SuiteText → Prints) → IfSome (says e) (λ f. ReadGives sums (Ok (suite, cs)) (Err f))

@@ -1,6 +1,6 @@
 -- What loading a suite gives, or the first fault: the suite text, the class files in order, linking, tests, the check (this
 -- project's order).
-use Rattle.std.specs.Prelude.{◌≡◌, ◌⊎◌, IsOk, ℕ, ◌+◌, ◌-◌, List, [], ◌∷◌, ◌++◌, length, map, get_or, min, nat_le, Option, Some, None, Result, Ok, Err, if◌then◌else◌}
+use Rattle.std.specs.Prelude.{◌≡◌, ◌⊎◌, IsOk, ℕ, ◌+◌, ◌-◌, List, [], ◌∷◌, ◌++◌, length, map, get_or, min, nat_le, unwrap_or, Option, Some, None, Result, Ok, Err, if◌then◌else◌}
 pub use Rattle.et_base.specs.Answers.{◌>>=◌}
 use Rattle.et_base.specs.Quotes.{name_of}
 use Rattle.outside.specs.Depot.{Files, content}
@@ -10,6 +10,8 @@ use Rattle.class_reader.specs.declared.fault.ClassFault.TheVariants as class
 use Rattle.class_reader.specs.Faults.{class_of}
 use Rattle.jvm_model.specs.declared.program.Program.{Program}
 use Rattle.jvm_model.specs.declared.program.Names.{Names}
+use Rattle.order_law.specs.declared.records.Prints.{Prints}
+use Rattle.dep_record.specs.Hashes.{prints_of}
 use Rattle.class_link.specs.declared.fault.LinkFault.{LinkFault}
 use Rattle.class_link.specs.declared.fault.LinkFault.TheVariants as linking
 use Rattle.class_link.specs.declared.lines.TestLines.{TestLines}
@@ -84,6 +86,14 @@ classes_in files read (name ∷ names) = do
   classes ← classes_in files x.1 names
   Ok (x.0 ∷ classes)
 
+-- the bytes of a file, none where there is no such file
+abbrev pub bytes_of : Files → List ℕ → List ℕ
+bytes_of files name = unwrap_or (content files name) []
+
+-- the sums of the suite of this name, whose text says this
+abbrev pub sums_in : Files → List ℕ → SuiteText → Prints
+sums_in files name suite = prints_of (bytes_of files name) (map (bytes_of files) suite.classes)
+
 -- the suite text and its class files
 unfoldable pub read_in : Files → List ℕ → Result (SuiteText × List ClassParts) LoadFault
 read_in files name = do
@@ -123,27 +133,29 @@ typed_answer p (Some f) = Err (fault.Check f)
 abbrev pub names_in : SuiteText → Program → Names
 names_in suite p = record { tests = map (λ x. x.name) suite.tests; classes = map (λ c. name_of c.name) p.classes; fields = map (λ f. name_of f.name) p.fields }
 
--- the suite's checked program and its names
-abbrev pub loaded_of : SuiteText → Program → Loaded
-loaded_of suite p = record { checked = p; names = names_in suite p }
+-- the suite's checked program, its names and its sums
+abbrev pub loaded_of : SuiteText → Prints → Program → Loaded
+loaded_of suite prints p = record { checked = p; names = names_in suite p; prints = prints }
 
--- the suite, where its class files and lines link to this
-unfoldable pub checked_of : SuiteText → Result Program LinkFault → Result Loaded LoadFault
-checked_of suite linked = do
+-- the suite of these sums, where its class files and lines link to this
+unfoldable pub checked_of : SuiteText → Prints → Result Program LinkFault → Result Loaded LoadFault
+checked_of suite prints linked = do
   p ← link_answer suite linked
   typed ← typed_answer p (check_fault p)
-  Ok (loaded_of suite typed)
+  Ok (loaded_of suite prints typed)
 
 -- ---- loading
 
--- What is given once the files are read, or not: linking is a relation, as it looks for the first class that is its own ancestor.
-abbrev pub ReadGives : Result (SuiteText × List ClassParts) LoadFault → Result Loaded LoadFault → Type 0
-ReadGives (Err f) answer = answer ≡ Err f
-ReadGives (Ok x) answer = (cycle : Option ℕ) × (linked : Result Program LinkFault) × LinksBy cycle x.1 (lines_of x.0) linked × (answer ≡ checked_of x.0 linked)
+-- What is given once the files are read, or not, where each suite text has these sums: linking is a relation, as it looks for
+-- the first class that is its own ancestor.
+abbrev pub ReadGives : (SuiteText → Prints) → Result (SuiteText × List ClassParts) LoadFault → Result Loaded LoadFault → Type 0
+ReadGives sums (Err f) answer = answer ≡ Err f
+ReadGives sums (Ok x) answer =
+    (cycle : Option ℕ) × (linked : Result Program LinkFault) × LinksBy cycle x.1 (lines_of x.0) linked × (answer ≡ checked_of x.0 (sums x.0) linked)
 
 -- The answer of loading the suite of this name.
 abbrev pub Loads : Files → List ℕ → Result Loaded LoadFault → Type 0
-Loads files name answer = ReadGives (read_in files name) answer
+Loads files name answer = ReadGives (sums_in files name) (read_in files name) answer
 
 -- Loading has exactly one answer.
 abbrev pub LoadsOnce : Type 0

@@ -1,14 +1,17 @@
 //! A suite's text and its class files, read from a depot.
 
-ghost use Rattle.std.specs.Prelude.{◌≡◌, ◌≤◌, ◌<◌, ◌^◌, ◌+◌, ◌++◌, ◌∷◌, [], drop, length, IfOk, IfErr, IfSome};
+ghost use Rattle.std.specs.Prelude.{◌≡◌, ◌≤◌, ◌<◌, ◌^◌, ◌+◌, ◌++◌, ◌∷◌, [], drop, length, map, IfOk, OnOk, IfErr, IfSome};
 ghost use Rattle.outside.specs.Depot.{FailedAt};
 ghost use Rattle.class_link.specs.Link.{AreLines};
 ghost use Rattle.class_reader.specs.Faults.{class_of};
 ghost use Rattle.suite_load.specs.SuiteForm.{suite_of};
 ghost use Rattle.suite_load.specs.Loading as loading;
-ghost use Rattle.suite_load.specs.LoadAnswers.{Answers, IsProper, refusal_of};
+ghost use Rattle.et_base.specs.Answers.{Gives};
+ghost use Rattle.suite_load.specs.LoadAnswers.{Answers, IsProper, refusal_of, says};
+ghost use Rattle.suite_load.specs.Sums.{AreSums, AreMoreSums};
 
 use crate::load_fault::LoadFault;
+use crate::print_sums::PrintSums;
 use crate::suite_reading::read_suite;
 use crate::suite_text::{SuiteRefusal, SuiteText};
 use class_reader::{ClassFault, ClassFile, read_class};
@@ -73,21 +76,28 @@ fn suite_of_bytes(alloc: Global, bytes: &[u8]) -> Result<SuiteText, LoadFault>
     }
 }
 
-/// The suite text of this name.
+/// The suite text of this name, and the sums over its bytes.
 #[tactic(auto, unfolding(crate::specs::Loading::suite_in))]
-pub fn suite_in<D: Depot>(alloc: Global, depot: &mut D, name: &Text) -> Result<SuiteText, LoadFault>
+pub fn suite_in<D: Depot>(
+    alloc: Global,
+    depot: &mut D,
+    name: &Text,
+) -> Result<(SuiteText, PrintSums), LoadFault>
     ensures told { (D.shown depot.new).told ≡ (D.shown depot.old).told }
     ensures faults { (D.shown depot.old).faults ≤ (D.shown depot.new).faults }
-    ensures lines { IfOk result (λ suite. AreLines (loading.lines_of suite)) }
-    ensures few { IfOk result (λ suite. length suite.classes ≤ 1024) }
+    ensures lines { IfOk result (λ x. AreLines (loading.lines_of x.0)) }
+    ensures few { IfOk result (λ x. length x.0.classes ≤ 1024) }
     ensures answers { IfSome (D.shown depot.old).told (λ files.
-        Answers result (loading.suite_in files name.now)) }
+        Gives says (λ x. x.0) result (loading.suite_in files name.now)) }
+    ensures sums { IfOk result (λ x. IfSome (D.shown depot.old).told (λ files.
+        AreSums x.1 (loading.bytes_of files name.now) [])) }
+    ensures none { IfOk result (λ x. length x.1.classes ≡ 0) }
     ensures proper { IfErr result (IsProper (λ read.
         (read ≡ name.now) × FailedAt (D.shown depot.old) (D.shown depot.new) read)) }
 {
     let bytes = read_file(alloc, depot, name, FILE_LIMIT)?;
     let suite = suite_of_bytes(alloc, bytes.as_slice())?;
-    Ok(suite)
+    Ok((suite, PrintSums::of(alloc, bytes.as_slice())))
 }
 
 // How a fault of the class file of this name is answered.
@@ -124,13 +134,14 @@ fn room_after(read: u64) -> u64
     FILE_LIMIT.min(ALL_LIMIT.saturating_sub(read))
 }
 
-// The class file of this name, and the bytes so far with its own.
+// The class file of this name, and the bytes so far with its own; it is added to the sums.
 #[tactic(auto, unfolding(crate::specs::Loading::class_in))]
 fn class_in<D: Depot>(
     alloc: Global,
     depot: &mut D,
     read: u64,
     name: &Text,
+    sums: &mut PrintSums,
 ) -> Result<(ClassFile, u64), LoadFault>
     requires { read ≤ 67108864 }
     ensures told { (D.shown depot.new).told ≡ (D.shown depot.old).told }
@@ -140,21 +151,30 @@ fn class_in<D: Depot>(
     ensures proper { IfErr result (IsProper (λ read.
         (read ≡ name.now) × FailedAt (D.shown depot.old) (D.shown depot.new) read)) }
     ensures within { IfOk result (λ x. x.1 ≤ 67108864) }
+    ensures sums { OnOk result (IfSome (D.shown depot.old).told (λ files.
+        AreMoreSums sums.old sums.new (loading.bytes_of files name.now ∷ []))) }
+    ensures one_more { OnOk result (length sums.new.classes ≡ length sums.old.classes + 1) }
 {
     let bytes = read_file(alloc, depot, name, room_after(read))?;
     let class = class_of_bytes(alloc, bytes.as_slice(), name)?;
+    sums.add(bytes.as_slice())?;
     Ok((class, read + bytes.len() as u64))
 }
 
-/// The class files of these names, in order.
+/// The class files of these names, in order; they are added to the sums.
 pub fn classes_in<D: Depot>(
     alloc: Global,
     depot: &mut D,
     names: &[Text],
+    sums: &mut PrintSums,
 ) -> Result<Items<ClassFile>, LoadFault>
     ensures told { (D.shown depot.new).told ≡ (D.shown depot.old).told }
     ensures faults { (D.shown depot.old).faults ≤ (D.shown depot.new).faults }
     ensures count { IfOk result (λ cs. length cs ≡ length names.now) }
+    ensures sums { OnOk result (IfSome (D.shown depot.old).told (λ files.
+        AreMoreSums sums.old sums.new (map (loading.bytes_of files) names.now))) }
+    ensures as_many { OnOk result
+        (length sums.new.classes ≡ length sums.old.classes + length names.now) }
     ensures answers { IfSome (D.shown depot.old).told (λ files.
         Answers result (loading.classes_in files 0 names.now)) }
     ensures proper { IfErr result (IsProper (λ read.
@@ -164,7 +184,7 @@ pub fn classes_in<D: Depot>(
     let mut classes = Items::new(alloc);
     let mut read = 0;
     for name in names {
-        let (class, now) = class_in(alloc, depot, read, name)?;
+        let (class, now) = class_in(alloc, depot, read, name, sums)?;
         classes.push(class)?;
         read = now;
     }

@@ -1,6 +1,7 @@
 //! From a suite's text and class files to its checked program.
 
-ghost use Rattle.std.specs.Prelude.{◌≡◌, ◌≤◌, ◌<◌, IfOk, IfErr, length, map};
+ghost use Rattle.std.specs.Prelude.{◌≡◌, ◌≤◌, ◌<◌, ◌+◌, IfOk, IfErr, length, map};
+ghost use Rattle.jvm_model.specs.Builtin.{builtin_count};
 ghost use Rattle.class_link.specs.Link.{AreLines};
 ghost use Rattle.type_frames.specs.Typing.{IsTyped};
 ghost use Rattle.suite_load.specs.Loading as loading;
@@ -106,6 +107,8 @@ pub fn program_of(
     ensures gives { Checks suite.now classes.now result }
     ensures proper { IfErr result (IsProper (λ _. ⊥)) }
     ensures typed { IfOk result IsTyped }
+    ensures count { IfOk result (λ p. length p.tests ≡ length suite.now.tests) }
+    ensures classes { IfOk result (λ p. length p.classes ≡ builtin_count + length classes.now) }
 {
     let lines = lines_of(alloc, suite)?;
     let program = match link(alloc, classes, &lines) {

@@ -1,6 +1,7 @@
 //! Loading of a whole suite.
 
-ghost use Rattle.std.specs.Prelude.{◌≡◌, ◌≤◌, IfOk, IfErr, IfSome};
+ghost use Rattle.std.specs.Prelude.{◌≡◌, ◌≤◌, length, IfOk, IfErr, IfSome, ◌-◌};
+ghost use Rattle.jvm_model.specs.Builtin.{builtin_count};
 ghost use Rattle.outside.specs.Depot.{FailedAt};
 ghost use Rattle.type_frames.specs.Typing.{IsTyped};
 ghost use Rattle.suite_load.specs.Loading.{IsRead};
@@ -15,7 +16,7 @@ use et_base::Text;
 use outside::Depot;
 use std::alloc::Global;
 
-/// The checked program of the suite of this name, with the names that reports print; or the first fault.
+/// The checked program of the suite of this name, with the names that reports print and the suite's sums; or the first fault.
 ///
 /// Faults come in this order: the suite text isn't there (`Absent`), is longer than 1 MiB (`TooLarge`) or has a faulty line
 /// (`Suite`); a class file, in the suite's order, isn't there, is longer than 1 MiB or with those before it than 64 MiB, or
@@ -32,12 +33,20 @@ pub fn load<D: Depot>(alloc: Global, depot: &mut D, name: &Text) -> Result<Loade
     ensures proper { IfErr result (IsProper (λ read.
         IfSome (D.shown depot.old).told (λ files. IsRead files name.now read)
         × FailedAt (D.shown depot.old) (D.shown depot.new) read)) }
+    // There is a name for each test.
+    ensures names { IfOk result (λ l. length l.names.tests ≡ length l.checked.tests) }
+    // There is a sum for each class file.
+    ensures sums { IfOk result (λ l. length l.prints.classes ≡ length l.checked.classes - builtin_count) }
     // The program is typed.
     ensures typed { IfOk result (λ l. IsTyped l.checked) }
 {
-    let suite = suite_in(alloc, depot, name)?;
-    let classes = classes_in(alloc, depot, suite.classes.as_slice())?;
+    let (suite, mut sums) = suite_in(alloc, depot, name)?;
+    let classes = classes_in(alloc, depot, suite.classes.as_slice(), &mut sums)?;
     let checked = program_of(alloc, &suite, classes.as_slice())?;
     let names = names_in(alloc, &suite, checked.program())?;
-    Ok(Loaded { checked, names })
+    Ok(Loaded {
+        checked,
+        names,
+        prints: sums.prints(),
+    })
 }

@@ -1,4 +1,6 @@
-use Rattle.std.proofs.Common.{◌≡◌, ◌≤◌, length, take}
+use Rattle.std.proofs.Common.{◌≡◌, ◌≤◌, ◌+◌, length, map, take, IfSome}
+use Rattle.suite_load.specs.Loading.{bytes_of}
+use Rattle.suite_load.specs.Sums.{AreMoreSums}
 use Rattle.suite_load.proofs.LoadLaws.{SoFar}
 use Rattle.suite_load.proofs.depot_files.classes_in.Given as goal
 
@@ -9,5 +11,7 @@ invariant-loop-name g l = record {
   faults : (g.D.Depot.shown l.fn.depot).faults ≤ (g.D.Depot.shown l.depot).faults;
   within : l.read ≤ 67108864;
   count : length l.classes ≡ l.name-index;
+  sums : IfSome (g.D.Depot.shown l.fn.depot).told (λ files. AreMoreSums l.fn.sums l.sums (map (bytes_of files) (take l.name-index l.names)));
+  as_many : length l.sums.classes ≡ length l.fn.sums.classes + l.name-index;
   files : SoFar (g.D.Depot.shown l.fn.depot).told (take l.name-index l.names) l.classes l.read;
 }

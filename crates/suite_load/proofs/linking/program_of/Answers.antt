@@ -1,4 +1,5 @@
 use Rattle.suite_load.proofs.CheckLaws.{linked_goes, not_linked, not_typed}
+use Rattle.suite_load.proofs.LinkedCounts.{tests_linked, classes_linked}
 use Rattle.suite_load.proofs.linking.program_of.Goals as goal
 
 pub returns-in-Err-clause-gives : goal.returns-in-Err-clause-gives
@@ -11,3 +12,13 @@ returns-in-Ok-check-clause-gives c =
 
 pub returns-clause-gives : goal.returns-clause-gives
 returns-clause-gives c = rw c.check_fault.ensures.named (not_typed c.args.suite.now c.args.classes.now c.in_ok-lines.lines c.in-Ok.program c.in-Err-check.fault c.in_ok-lines.ensures c.in-Ok.ensures.links c.in-Err-check.ensures.fault)
+
+pub returns-in-Ok-check-clause-count : goal.returns-in-Ok-check-clause-count
+returns-in-Ok-check-clause-count c =
+    let good = c.in-Ok-check.ensures.good in
+    tests_linked c.args.suite.now c.args.classes.now c.in_ok-lines.lines c.in-Ok.program c.in-Ok-check.checked c.in_ok-lines.ensures c.in-Ok.ensures.links good.0
+
+pub returns-in-Ok-check-clause-classes : goal.returns-in-Ok-check-clause-classes
+returns-in-Ok-check-clause-classes c =
+    let good = c.in-Ok-check.ensures.good in
+    classes_linked c.args.classes.now c.in_ok-lines.lines c.in-Ok.program c.in-Ok-check.checked c.in-Ok.ensures.links good.0

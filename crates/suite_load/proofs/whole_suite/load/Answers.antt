@@ -1,5 +1,10 @@
+use Rattle.std.proofs.Common.{ℕ, List, length, sym, ap, ◌∙◌, arith}
+use Rattle.class_reader.specs.declared.parts.ClassParts.{ClassParts}
+use Rattle.std.proofs.lemmas.List.{length-map}
 use Rattle.std.proofs.lemmas.Result.{err_from_is_err_and}
-use Rattle.suite_load.proofs.LoadLaws.{unread_suite, unread_class, all_read, not_checked, loads_all}
+use Rattle.jvm_model.specs.declared.program.Names.{Names}
+use Rattle.suite_load.specs.declared.suite_text.TestLine.{TestLine}
+use Rattle.suite_load.proofs.LoadLaws.{unread_suite, unread_class, all_read, not_checked, loads_all, sums_all}
 use Rattle.suite_load.proofs.whole_suite.load.Goals as goal
 
 pub returns-in_err-suite-clause-loads : goal.returns-in_err-suite-clause-loads
@@ -21,4 +26,20 @@ returns-in_err-checked-clause-loads g c =
 pub returns-clause-loads : goal.returns-clause-loads
 returns-clause-loads g c =
     let read = all_read _ _ c.args.name.now c.in_ok-suite.suite c.as_slice.result.now c.in_ok-classes.classes c.suite_in.ensures.told c.as_slice.ensures c.in_ok-suite.ensures.answers c.in_ok-classes.ensures.answers in
-    loads_all _ c.args.name.now c.in_ok-suite.suite c.in_ok-classes.classes c.in_ok-checked.checked c.program.result.now c.in_ok-names.names c.in_ok-names.ensures c.program.ensures.same read (rw c.as_slice-2.ensures at c.in_ok-checked.ensures.gives)
+    let sums = sums_all _ _ c.args.name.now c.in_ok-suite.suite c.as_slice.result.now c.in_ok-suite.sums c.classes_in.new.sums c.prints.result c.suite_in.ensures.told c.as_slice.ensures c.in_ok-suite.ensures.sums c.in_ok-classes.ensures.sums c.prints.ensures.sums in
+    loads_all _ c.args.name.now c.in_ok-suite.suite c.in_ok-classes.classes c.in_ok-checked.checked c.program.result.now c.in_ok-names.names c.prints.result c.in_ok-names.ensures c.program.ensures.same read sums (rw c.as_slice-2.ensures at c.in_ok-checked.ensures.gives)
+
+pub returns-clause-names : goal.returns-clause-names
+returns-clause-names g c =
+    let suite = c.in_ok-suite.suite in
+    ap (λ (n : Names). length n.tests) c.in_ok-names.ensures ∙ length-map suite.tests (λ (x : TestLine). x.name) ∙ sym c.in_ok-checked.ensures.count
+
+pub returns-clause-sums : goal.returns-clause-sums
+returns-clause-sums g c =
+    let none = c.in_ok-suite.ensures.none in
+    let as_many = c.in_ok-classes.ensures.as_many in
+    let count = c.in_ok-classes.ensures.count in
+    let classes = c.in_ok-checked.ensures.classes in
+    let shown = ap (λ (cs : List ClassParts). length cs) c.as_slice-2.ensures in
+    let sums = ap (λ (xs : List (List ℕ)). length xs) c.prints.ensures.classes in
+    omega arith
