@@ -1,0 +1,2 @@
+pub mod Detection
+pub mod SuiteRun
