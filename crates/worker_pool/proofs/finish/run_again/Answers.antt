@@ -1,0 +1,22 @@
+use Rattle.std.proofs.Common.{◌∙◌, ℕ, List, sym, subst}
+use Rattle.std.specs.Result.{IfErr}
+use Rattle.std.proofs.lemmas.Result.{IfOk-weaker}
+use Rattle.jvm_model.specs.declared.program.Program.{Program}
+use Rattle.worker_pool.specs.Faults.{IsRunFault}
+use Rattle.worker_pool.specs.Plans.{AreTests}
+use Rattle.worker_pool.proofs.finish.run_again.Goals as goal
+
+pub run_after-requires-clause-tests : goal.run_after-requires-clause-tests
+run_after-requires-clause-tests g c =
+    let l = c.posts-list in
+    subst (λ (p : Program). AreTests p l.result.now) (sym (c.in_ok-machine.ensures.0 ∙ c.requires.program)) (subst (λ (z : List ℕ). AreTests c.args.core.now.program z) (sym l.ensures) c.requires.tests)
+
+pub returns-clause-piece : goal.returns-clause-piece
+returns-clause-piece g c = IfOk-weaker c.run_after.result _ _ (λ x h. (h.1 ∙ c.in_ok-machine.ensures.1, h.0 ∙ c.in_ok-machine.ensures.0)) c.run_after.ensures.piece
+
+pub returns-clause-fault : goal.returns-clause-fault
+returns-clause-fault g c =
+    let r = c.run_after in
+    let l = c.posts-list in
+    subst (λ (z : List ℕ). IfErr r.result (IsRunFault c.args.core.now.program z c.args.test)) l.ensures
+    (subst (λ (p : Program). IfErr r.result (IsRunFault p l.result.now c.args.test)) (c.in_ok-machine.ensures.0 ∙ c.requires.program) r.ensures.fault)

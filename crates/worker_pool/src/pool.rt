@@ -1,0 +1,96 @@
+//! The pool of workers.
+
+ghost use Rattle.std.specs.Prelude.{◌≡◌, ◌+◌, ◌<◌, ◌^◌, length, IfOk, IfErr};
+ghost use Rattle.run_core.specs.Run.{IsComplete, IsLegal};
+ghost use Rattle.worker_pool.specs.Faults.{IsPlanFault};
+ghost use Rattle.worker_pool.specs.Plans.{HaveTests, units_of};
+
+use crate::finish::{count, finish};
+use crate::plan_fault::PlanFault;
+use crate::slots::{lend, slots_of};
+use crate::worker::work_all;
+use et_base::{Items, NoMemory};
+use order_law::Chains;
+use outside::{Gate, Steps};
+use run_core::{Core, RunName};
+use schedule_plan::{Share, WorkPlan};
+use std::alloc::Global;
+use std::marker::Brand;
+use std::sync::Wait;
+use std::sync::ledger::Ledger;
+use std::thread::Threads;
+use type_frames::Checked;
+use verdict_board::Board;
+
+/// A copy of chains. The only error is want of memory.
+fn copy_of(alloc: Global, c: &Chains) -> Result<Chains, NoMemory>
+    ensures { IfOk result (λ copy. copy.lists ≡ c.now.lists) }
+{
+    let chains = c.lists.as_slice();
+    let mut lists = Items::new(alloc);
+    for tests in chains {
+        lists.push(Items::from_slice(alloc, tests.as_slice())?)?;
+    }
+    Ok(Chains { lists })
+}
+
+/// Lets a worker for each share work over a board with this core, and answers the core. The only error is want of memory.
+fn run_workers<N: RunName + Send + Sync, R: Threads + Wait + Sync, G: Gate + Sync>(
+    rt: &R,
+    alloc: Global,
+    p: &Checked,
+    c: &Chains,
+    shares: &[Share],
+    gate: &G,
+    core: Core,
+) -> Result<Core, NoMemory>
+    requires program { (p.now ≡ N.program) × (core.program ≡ N.program) }
+    requires chains { (c.now.lists ≡ N.chains) × (core.chains ≡ N.chains) }
+    requires workers { (length shares.now ≡ N.workers) × (core.workers ≡ N.workers)
+        × (N.workers < 2 ^ 32) }
+    requires tests { HaveTests N.program N.chains }
+    ensures { IfOk result (λ k. (k.program ≡ N.program) × (k.chains ≡ N.chains)
+        × (k.workers ≡ N.workers)) }
+{
+    let mut slots = slots_of::<N>(alloc, p, shares)?;
+    lend::<N>(&mut slots)?;
+    let board = Board::<N>::new(core);
+    work_all(rt, &board, c.lists.as_slice(), gate, slots.as_mut_slice());
+    Ok(board.into_core())
+}
+
+/// Runs the chains of a plan, one worker for each share, and then what is left. A worker takes the chains of its own deque
+/// and then steals from the others; it claims a chain, runs its tests on its own machine, each after a call of the gate,
+/// and posts each. It counts the units of all posts.
+///
+/// `OverBudget` comes only where this test gives nothing within its budget after the list that it carries: whole chains,
+/// each once, and the first tests of one more, whose next test it is.
+pub fn run_plan<R: Threads + Wait + Sync, G: Gate + Sync, L: Ledger>(
+    rt: &R,
+    alloc: Global,
+    p: &Checked,
+    c: &Chains,
+    plan: &WorkPlan,
+    gate: &G,
+    steps: &mut Steps<L>,
+) -> Result<Core, PlanFault>
+    requires tests { HaveTests p.now c.now.lists }
+    requires workers { 0 < length plan.now.shares }
+    ensures run { IfOk result (λ k. (k.program ≡ p.now) × (k.chains ≡ c.now.lists)
+        × (k.workers ≡ length plan.now.shares)) }
+    ensures whole { IfOk result (λ k. IsLegal k × IsComplete k) }
+    ensures units { IfOk result (λ k. steps.new ≡ steps.old + units_of k.events) }
+    ensures fault { IfErr result
+        (λ e. IsPlanFault p.now c.now.lists (length plan.now.shares) e) }
+{
+    let shares = plan.shares.as_slice();
+    if shares.len() > u32::MAX as usize || c.lists.len() > u32::MAX as usize {
+        return Err(PlanFault::NoMemory);
+    }
+    let chains = c.lists.len() as u32;
+    let core = Core::new(alloc, p.program(), copy_of(alloc, c)?, shares.len() as u32)?;
+    let core = run_workers::<Brand, R, G>(rt, alloc, p, c, shares, gate, core)?;
+    let core = finish(rt, alloc, p, gate, core, chains)?;
+    count(core.history(), steps);
+    Ok(core)
+}
