@@ -3,26 +3,38 @@
 
 ghost use Rattle.std.specs.Prelude.{◌≡◌, ◌<◌};
 
-use electrictest::{Status, electric_plain, written};
+use electrictest::{Status, electric, written};
 use et_base::{Items, Text};
-use outside::{FolderDepot, StdSink, Steps};
+use outside::{FolderDepot, OpenGate, StdSink, Steps};
+use std::alloc::Global;
 use std::env;
-use std::io::ErrorKind;
+use std::io::{ErrorKind, Print};
 use std::marker::Brand;
 use std::process::ExitCode;
+use std::rt::Files;
+use std::sync::Wait;
 use std::sync::ledger::{Blank, Ledger};
+use std::thread::Threads;
 
-const HELP: &[u8] = b"electric runs the tests of a suite of Java class files, in order on one heap.
+const HELP: &[u8] = b"electric runs the tests of a suite of Java class files.
 
-  electric run SUITE - 1 all    run the whole suite and write its report
-  electric --help               write this text
-  electric --version            write the version
+  electric run SUITE - 1 all            run the whole suite and write its report
+  electric detect SUITE                 run the whole suite and write the record of its dependences
+  electric deps SUITE                   run the whole suite and write its dependences; with json behind it, as JSON
+  electric order SUITE RECORD ORDER     run the tests of ORDER in that order
+  electric run SUITE RECORD N SEL       run a selection, with the tests that it needs, on N workers
+  electric run SUITE RECORD N SEL log   the same, and write who ran what behind the report
+  electric plan SUITE RECORD N SEL      write the chains of a selection and the loads of N workers
+  electric gen K N                      run a generated suite of K tests on N workers and write its summary
+  electric --help                       write this text
+  electric --version                    write the version
 
-SUITE is the name of a suite text in the current folder; the class files that it names lie beside it.
+SUITE is the name of a suite text in the current folder; the class files that it names lie beside it. RECORD is the name of
+the suite's record. ORDER and SEL are names of tests joined by commas; SEL may be `all`. N is 1 to 16, and K 1 to 1024.
 
-The exit status is 0 where the report was written and each test passed, 1 where it was written and a test did not
-pass, 2 for words in no form, 3 for a refused suite, class file or program, 4 for want of memory, 5 where a file
-could not be read, 6 where standard output failed, and 7 where a test or the suite passed its number of units.
+The exit status is 0 where the text was written and each test that ran passed, 1 where it was written and a test did
+not pass, 2 for words in no form, 3 for a refused suite, record or order, 4 for want of memory, 5 where a file could
+not be read, 6 where standard output failed, and 7 where a test or the suite passed its number of units.
 ";
 
 const VERSION: &[u8] = b"electric 0.1.0\n";
@@ -59,31 +71,43 @@ fn fixed_text(words: &[Text]) -> Option<&'static [u8]> {
     }
 }
 
-// Answers the command line.
-fn answer<L: Ledger>(rt: &HostRuntime, blank: Blank) -> Status
+// Answers the words.
+fn answer<R: Threads + Wait + Sync + Files + Print, L: Ledger>(
+    rt: &R,
+    alloc: Global,
+    words: &[Text],
+    blank: Blank,
+) -> Status
     requires name { blank.name ≡ L.name }
     requires parts { blank.parts ≡ L.parts }
     requires some { 0 < blank.parts }
 {
-    let alloc = rt.alloc();
-    let words = match words(rt) {
-        Ok(words) => words,
-        Err(status) => return status,
-    };
     let mut sink = StdSink::new(rt);
-    if let Some(text) = fixed_text(words.as_slice()) {
+    if let Some(text) = fixed_text(words) {
         return written(&mut sink, text, Status::Done);
     }
     match String::from_str(alloc, ".") {
         Ok(folder) => {
             let mut depot = FolderDepot::new(rt, alloc, folder);
             let mut steps = Steps::<L>::new(blank);
-            electric_plain(alloc, words.as_slice(), &mut depot, &mut sink, &mut steps)
+            electric(
+                rt,
+                alloc,
+                words,
+                &mut depot,
+                &mut sink,
+                &OpenGate::new(),
+                &mut steps,
+            )
         }
         Err(_) => Status::NoMemory,
     }
 }
 
 fn main(rt: HostRuntime) -> ExitCode {
-    ExitCode::from(answer::<Brand>(&rt, Blank::new(1)).code())
+    let status = match words(&rt) {
+        Ok(words) => answer::<HostRuntime, Brand>(&rt, rt.alloc(), words.as_slice(), Blank::new(1)),
+        Err(status) => status,
+    };
+    ExitCode::from(status.code())
 }

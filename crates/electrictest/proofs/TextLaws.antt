@@ -3,7 +3,7 @@ use Rattle.std.proofs.Common.{◌≡◌, ℕ, suc, ◌+◌, List, [], ◌∷◌,
 use Rattle.jvm_model.specs.declared.outcome.Outcome.{Outcome}
 use Rattle.jvm_model.specs.declared.program.Names.{Names}
 use Rattle.jvm_model.specs.Texts.{head_line, report_on, test_lines, verdict_line}
-use Rattle.electrictest.specs.Replies.{numbered, report}
+use Rattle.electrictest.specs.Wholes.{numbered, report}
 
 length_numbered : (t : ℕ) (os : List Outcome) → length (numbered t os) ≡ length os
 length_numbered t [] = refl

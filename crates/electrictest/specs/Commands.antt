@@ -1,38 +1,60 @@
 -- What the top call promises: its status, the bytes on the sink and the steps (this project's).
-use Rattle.std.specs.Prelude.{◌≡◌, ◌≢◌, ◌⊎◌, ℕ, ◌+◌, ◌-◌, ◌^◌, ◌≤◌, List, length, Bool, true, false, None, IsSome}
+use Rattle.std.specs.Prelude.{◌≡◌, ◌≢◌, ◌⊎◌, ℕ, ◌+◌, ◌-◌, ◌^◌, ◌≤◌, List, length, Bool, true, false, Option, None, Ok, IsSome, IfSome}
 use Rattle.outside.specs.Counts.{Rose}
 use Rattle.outside.specs.Depot.{Files, DepotView, FailedAt}
 use Rattle.outside.specs.Sink.{SinkView, TookPrefix, appended, HasRoom}
 use Rattle.class_reader.specs.declared.fault.ClassFault.TheVariants as class
 use Rattle.class_link.specs.declared.fault.LinkFault.TheVariants as linking
 use Rattle.type_frames.specs.declared.fault.CheckFault.TheVariants as checking
+use Rattle.suite_load.specs.declared.loaded.Loaded.{Loaded}
+use Rattle.electrictest.specs.declared.status.InputFault.{InputFault}
 use Rattle.electrictest.specs.declared.status.InputFault.TheVariants as input
 use Rattle.electrictest.specs.declared.status.Status.{Status}
 use Rattle.electrictest.specs.declared.status.Status.TheVariants as ends
-use Rattle.electrictest.specs.Replies.{suite_word, fault_line, IsReport, IsAnswer}
+use Rattle.electrictest.specs.Words.{Ask}
+use Rattle.electrictest.specs.Loads.{LoadsFor}
+use Rattle.electrictest.specs.Replies.{fault_line, Reports, Unreported, IsAnswer}
 
 -- want of memory is answered by itself alone, and a test line that names no test by its line
-abbrev pub IsProperInput : input.the_data → Type 0
+abbrev pub IsProperInput : InputFault → Type 0
 IsProperInput (input.Class name f) = f ≢ class.NoMemory
 IsProperInput (input.Link f) = (f ≢ linking.NoMemory) × ((t : ℕ) → f ≢ linking.NotATest t)
 IsProperInput (input.Check f) = f ≢ checking.NoMemory
 IsProperInput _ = Unit {0}
 
--- the words have the form that is served
-abbrev pub HasForm : List (List ℕ) → Type 0
-HasForm words = IsSome (suite_word words)
+-- the words have a form that is served
+abbrev pub HasForm : Ask → Type 0
+HasForm a = IsSome a.command
+
+-- a refusal at the file of this name: an input fault, a depot that failed there, or want of memory
+abbrev pub Fails : List ℕ → DepotView → DepotView → Status → Type 0
+Fails name old new (ends.Input f) = IsProperInput f
+Fails name old new (ends.Depot read) = (read ≡ name) × FailedAt old new read
+Fails name old new ends.NoMemory = Unit {0}
+Fails name old new _ = ⊥
+
+-- a refusal that reads no file
+abbrev pub IsProperRefusal : Status → Type 0
+IsProperRefusal (ends.Input f) = IsProperInput f
+IsProperRefusal ends.NoMemory = Unit {0}
+IsProperRefusal _ = ⊥
+
+-- such a refusal, or a number of units that is passed
+abbrev pub IsProperRun : Status → Type 0
+IsProperRun (ends.Over f) = Unit {0}
+IsProperRun s = IsProperRefusal s
 
 -- Why there is no report, whatever the depot tells: exactly words in no form are answered `Words`, unless memory ran out; a
 -- depot is named by the file of its last read that failed.
-abbrev pub ReportEnds : List (List ℕ) → Status → DepotView → DepotView → Type 0
-ReportEnds words ends.Words old new = suite_word words ≡ None
-ReportEnds words (ends.Input f) old new = HasForm words × IsProperInput f
-ReportEnds words (ends.Depot name) old new = HasForm words × FailedAt old new name
-ReportEnds words (ends.Over f) old new = HasForm words
-ReportEnds words ends.NoMemory old new = Unit {0}
-ReportEnds words ends.Done old new = ⊥
-ReportEnds words ends.NotPassed old new = ⊥
-ReportEnds words ends.Sink old new = ⊥
+abbrev pub ReportEnds : Ask → Status → DepotView → DepotView → Type 0
+ReportEnds a ends.Words old new = a.command ≡ None
+ReportEnds a (ends.Input f) old new = HasForm a × IsProperInput f
+ReportEnds a (ends.Depot name) old new = HasForm a × FailedAt old new name
+ReportEnds a (ends.Over f) old new = HasForm a
+ReportEnds a ends.NoMemory old new = Unit {0}
+ReportEnds a ends.Done old new = ⊥
+ReportEnds a ends.NotPassed old new = ⊥
+ReportEnds a ends.Sink old new = ⊥
 
 -- how a command ends that writes a report: each test passed, or one didn't
 abbrev pub report_status : Bool → Status
@@ -40,10 +62,18 @@ report_status true = ends.Done
 report_status false = ends.NotPassed
 
 -- the steps of a report rise by the units of its tests
-pub record Reported (files : Files) (words : List (List ℕ)) (passed : Bool) (text : List ℕ) (begun now : ℕ) : Type 0 where
+pub record Reported (files : Files) (a : Ask) (passed : Bool) (text : List ℕ) (begun now : ℕ) : Type 0 where
   pub units : ℕ
-  pub report : IsReport files words passed text units
+  pub report : Reports files a passed text units
   pub steps : now ≡ begun + units
+
+-- What a command over a loaded suite answers, where the depot's files are told and the suite is theirs: a text, or why there is
+-- none.
+abbrev pub ReportsOver : Option Files → Ask → Loaded → Bool → List ℕ → ℕ → ℕ → Type 0
+ReportsOver told a l passed text begun now = IfSome told (λ files. LoadsFor files a (Ok l) → Reported files a passed text begun now)
+
+abbrev pub RefusedOver : Option Files → Ask → Loaded → Status → Type 0
+RefusedOver told a l s = IfSome told (λ files. LoadsFor files a (Ok l) → Unreported files a s)
 
 -- the text was taken; where a told room holds it, the count of faults stood still
 pub record Whole (text : List ℕ) (old new : SinkView) : Type 0 where
@@ -85,20 +115,20 @@ abbrev pub DepotFailed : Status → DepotView → DepotView → Type 0
 DepotFailed (ends.Depot name) old new = FailedAt old new name
 DepotFailed _ old new = Unit {0}
 
--- What a call was asked for: the words and the depot's files; the depot before and after, and the counts of steps.
+-- A call: what it was asked for and the depot's files; the depot before and after, and the counts of steps.
 pub record Asked : Type 0 where
   pub files : Files
-  pub words : List (List ℕ)
+  pub ask : Ask
   pub depot : DepotView
   pub depot_now : DepotView
   pub begun : ℕ
   pub now : ℕ
 
--- a text that answers the words
+-- a text that answers what is asked
 pub record Answering (asked : Asked) (s : Status) : Type 0 where
   pub text : List ℕ
   pub units : ℕ
-  pub answers : IsAnswer asked.files asked.words s text units
+  pub answers : IsAnswer asked.files asked.ask s text units
   pub counted : Counted s units asked.begun asked.now
   pub failed : DepotFailed s asked.depot asked.depot_now
 
@@ -121,8 +151,8 @@ Served asked s old new = Replied asked s old new
 
 -- Whatever the depot tells: a sink is answered only where its count of faults rose, a report only for words in form, and each
 -- other status as `ReportEnds` says.
-abbrev pub Ends : List (List ℕ) → Status → DepotView → DepotView → SinkView → SinkView → Type 0
-Ends words ends.Sink depot depot_now sink sink_now = Rose sink.faults sink_now.faults
-Ends words ends.Done depot depot_now sink sink_now = HasForm words
-Ends words ends.NotPassed depot depot_now sink sink_now = HasForm words
-Ends words s depot depot_now sink sink_now = ReportEnds words s depot depot_now
+abbrev pub Ends : Ask → Status → DepotView → DepotView → SinkView → SinkView → Type 0
+Ends a ends.Sink depot depot_now sink sink_now = Rose sink.faults sink_now.faults
+Ends a ends.Done depot depot_now sink sink_now = HasForm a
+Ends a ends.NotPassed depot depot_now sink sink_now = HasForm a
+Ends a s depot depot_now sink sink_now = ReportEnds a s depot depot_now

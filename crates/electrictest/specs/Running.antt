@@ -1,21 +1,18 @@
--- The whole suite run in order, with the rest of the suite's units.
-use Rattle.std.specs.Prelude.{◌≡◌, ℕ, ◌+◌, ◌-◌, ◌≤◌, ◌++◌, List, length, map, Option, Some, None, option_map}
-use Rattle.std.specs.List.{range_with_len}
+-- The whole suite run in order, and lists of tests.
+use Rattle.std.specs.Prelude.{◌≡◌, ℕ, ◌+◌, ◌≤◌, List, [], length, map, Bool, Some, None}
+use Rattle.std.specs.List.{list_all}
+use Rattle.jvm_model.specs.Texts.{is_passed}
 use Rattle.jvm_model.specs.declared.outcome.Outcome.{Outcome}
-use Rattle.jvm_model.specs.declared.program.Program.{Program}
 use Rattle.jvm_model.specs.State.{test_at}
-use Rattle.jvm_model.specs.Suite.{Given, SuiteFault, suite_fault, fault_on, runs_on, one_test}
-use Rattle.jvm_model.specs.World.{World}
+use Rattle.jvm_model.specs.Suite.{Given, SuiteFault, suite_fault, runs, first_over}
 use Rattle.suite_load.specs.declared.loaded.Loaded.{Loaded}
-use Rattle.test_run.specs.Running.{least}
-use Rattle.electrictest.specs.Tests.{over_status}
 use Rattle.electrictest.specs.declared.status.Status.{Status}
 use Rattle.electrictest.specs.declared.status.Status.TheVariants as ends
-use Rattle.electrictest.specs.Replies.{over_fault, outcomes_of, units_in}
-
--- the outcomes behind those of front
-abbrev pub outcomes_behind : List Outcome → Option (List Given) → Option (List Outcome)
-outcomes_behind front o = option_map (λ xs. front ++ map (λ x. x.outcome) xs) o
+use Rattle.electrictest.specs.declared.status.OverFault.TheVariants as over
+use Rattle.electrictest.specs.Orders.{IsUnlawful, IsOverOrder}
+use Rattle.electrictest.specs.Records.{Beginning}
+use Rattle.electrictest.specs.TestNames.{test_name, units_in}
+use Rattle.electrictest.specs.Wholes.{over_fault, outcomes_of, report}
 
 -- the run of a whole suite that is within its limits
 pub record Ran (l : Loaded) (outcomes : List Outcome) : Type 0 where
@@ -29,19 +26,35 @@ RunRefused l ends.NoMemory = Unit {0}
 RunRefused l (ends.Over f) = (x : SuiteFault) × (suite_fault l.checked ≡ Some x) × (f ≡ over_fault l.names x)
 RunRefused l _ = ⊥
 
--- a test that is refused: want of memory, or it gives nothing within its budget and the rest of the suite's units
-abbrev pub OneRefused : Loaded → World → ℕ → ℕ → Status → Type 0
-OneRefused l w t r ends.NoMemory = Unit {0}
-OneRefused l w t r s = (one_test l.checked w t (least l.checked t r) ≡ None) × (s ≡ over_status l.names t (test_at l.checked t).budget r)
+-- ---- the tests of a list
 
--- the tests after the first i
-abbrev pub tests_after : Program → ℕ → List ℕ
-tests_after p i = range_with_len (i + 1) (length p.tests - i)
+-- they ran in its order on one heap, and their units are counted
+pub record RanInOrder (l : Loaded) (tests : List ℕ) (begun now : ℕ) (outcomes : List Outcome) : Type 0 where
+  pub given : List Given
+  pub ran : runs l.checked tests ≡ Some given
+  pub gives : outcomes ≡ map (λ x. x.outcome) given
+  pub each : length outcomes ≡ length tests
+  pub counts : now ≡ begun + units_in outcomes
 
--- the run after i tests, with this world and this rest of the suite's units
-pub record Along (l : Loaded) (i : ℕ) (w : World) (rest : ℕ) (outcomes : List Outcome) (begun now : ℕ) : Type 0 where
-  pub faults : fault_on l.checked w rest (tests_after l.checked i) ≡ suite_fault l.checked
-  pub runs : outcomes_behind outcomes (runs_on l.checked w (tests_after l.checked i)) ≡ outcomes_of l.checked
-  pub each : length outcomes ≡ i
-  pub upto : i ≤ length l.checked.tests
+-- a run that is refused: want of memory, or the first test that passes its budget
+abbrev pub ListRefused : Loaded → List ℕ → Status → Type 0
+ListRefused l tests ends.NoMemory = Unit {0}
+ListRefused l tests (ends.Over f) = (t : ℕ) × (first_over l.checked tests ≡ Some t) × (f ≡ over.OverBudget (test_name l.names t) (test_at l.checked t).budget [])
+ListRefused l tests _ = ⊥
+
+-- an order that is refused: want of memory, an order that isn't lawful, or a test of a lawful one that passes its budget
+abbrev pub OrderRefused : Loaded → Beginning → Status → Type 0
+OrderRefused l b ends.NoMemory = Unit {0}
+OrderRefused l b (ends.Input f) = IsUnlawful l b f
+OrderRefused l b (ends.Over f) = IsOverOrder l b f
+OrderRefused l b _ = ⊥
+
+-- ---- the whole suite
+
+-- the report on it, and its units are counted
+pub record WholeReports (l : Loaded) (passed : Bool) (text : List ℕ) (begun now : ℕ) : Type 0 where
+  pub outcomes : List Outcome
+  pub ran : Ran l outcomes
+  pub verdicts : list_all is_passed outcomes ≡ passed
+  pub reports : text ≡ report l.names outcomes
   pub counts : now ≡ begun + units_in outcomes

@@ -1,22 +1,30 @@
 //! The top call: from the words of a command line to the text on a sink.
 
-ghost use Rattle.std.specs.Prelude.{◌≡◌, ◌≤◌, IfOk, IfErr, IfSome};
-ghost use Rattle.electrictest.specs.Commands.{Asked, HasForm, ReportEnds, Reported, Writes, Refused, Taken, Served, Ends};
+ghost use Rattle.std.specs.Prelude.{◌≡◌, ◌≤◌, None, IfOk, IfErr, IfSome};
+ghost use Rattle.electrictest.specs.Commands.{Asked, HasForm, ReportEnds, Reported, ReportsOver, RefusedOver, Writes, Refused, Taken, Served, Ends};
+ghost use Rattle.electrictest.specs.Loads.{IsSuite};
+ghost use Rattle.electrictest.specs.OwnLists.{OwnOrderAnswer};
+ghost use Rattle.electrictest.specs.Words.{ask, plain, refusal_of, IsServed};
 ghost use Rattle.electrictest.specs.Commands as command;
 ghost use Rattle.electrictest.specs.Replies as reply;
 
+use crate::detections::{deps_for, record_for};
 use crate::loading::load_for;
-use crate::reports::{Report, report_on};
-use crate::running::run_all;
+use crate::orders::order_for;
+use crate::plans::plan_for;
+use crate::reports::Report;
 use crate::status::Status;
 use crate::texts::fault_line;
+use crate::wholes::whole_for;
+use crate::words::{Command, command_of, plain_of};
 use et_base::Text;
 use outside::{Depot, Sink, Steps, write_text};
 use std::alloc::Global;
 use std::sync::ledger::Ledger;
+use suite_load::Loaded;
 
-// How a command ends that writes the report.
-fn report_status(report: &Report) -> Status
+/// How a command ends that writes the report.
+pub fn report_status(report: &Report) -> Status
     ensures { result ≡ command.report_status report.now.passed }
 {
     if report.passed {
@@ -26,26 +34,57 @@ fn report_status(report: &Report) -> Status
     }
 }
 
-// The report that the words ask for.
-fn reported<D: Depot, L: Ledger>(
+/// The text for a command over a loaded suite.
+pub fn report_for<D: Depot, L: Ledger>(
     alloc: Global,
+    loaded: &Loaded,
+    asked: Option<Command>,
     words: &[Text],
     depot: &mut D,
     steps: &mut Steps<L>,
 ) -> Result<Report, Status>
+    requires form { refusal_of asked ≡ None }
+    requires served { IsServed asked }
+    requires suite { IsSuite loaded.now }
+    ensures told { (D.shown depot.new).told ≡ (D.shown depot.old).told }
+    ensures faults { (D.shown depot.old).faults ≤ (D.shown depot.new).faults }
+    ensures reports { IfOk result (λ r. let a = ask asked words.now in
+        ReportsOver (D.shown depot.old).told a loaded.now r.passed r.text steps.old steps.new) }
+    ensures refused { IfErr result (λ s.
+        RefusedOver (D.shown depot.old).told (ask asked words.now) loaded.now s) }
+    ensures ends { IfErr result (λ s.
+        ReportEnds (ask asked words.now) s (D.shown depot.old) (D.shown depot.new)) }
+{
+    match asked {
+        Some(Command::Detect) => record_for(alloc, loaded, steps),
+        Some(Command::Deps { json }) => deps_for(alloc, loaded, json, steps),
+        Some(Command::Order) => order_for(alloc, loaded, words, depot, steps),
+        Some(Command::Plan { workers }) => plan_for(alloc, loaded, words, workers, depot),
+        _ => whole_for(alloc, loaded, steps),
+    }
+}
+
+// The report that is asked for.
+fn reported<D: Depot, L: Ledger>(
+    alloc: Global,
+    asked: Option<Command>,
+    words: &[Text],
+    depot: &mut D,
+    steps: &mut Steps<L>,
+) -> Result<Report, Status>
+    requires served { IsServed asked }
     ensures told { (D.shown depot.new).told ≡ (D.shown depot.old).told }
     ensures faults { (D.shown depot.old).faults ≤ (D.shown depot.new).faults }
     ensures reports { IfOk result (λ r. IfSome (D.shown depot.old).told (λ files.
-        Reported files words.now r.passed r.text steps.old steps.new)) }
-    ensures refused { IfErr result (λ s.
-        IfSome (D.shown depot.old).told (λ files. reply.Unreported files words.now s)) }
-    ensures form { IfOk result (λ _. HasForm words.now) }
-    ensures ends { IfErr result (λ s. ReportEnds words.now s (D.shown depot.old) (D.shown depot.new)) }
+        Reported files (ask asked words.now) r.passed r.text steps.old steps.new)) }
+    ensures refused { IfErr result (λ s. IfSome (D.shown depot.old).told (λ files.
+        reply.Unreported files (ask asked words.now) s)) }
+    ensures form { IfOk result (λ _. HasForm (ask asked words.now)) }
+    ensures ends { IfErr result (λ s.
+        ReportEnds (ask asked words.now) s (D.shown depot.old) (D.shown depot.new)) }
 {
-    let loaded = load_for(alloc, words, depot)?;
-    let outcomes = run_all(alloc, &loaded, steps)?;
-    let report = report_on(alloc, &loaded.names, outcomes.as_slice())?;
-    Ok(report)
+    let loaded = load_for(alloc, asked, words, depot)?;
+    report_for(alloc, &loaded, asked, words, depot, steps)
 }
 
 /// Writes a text, and answers this status, or `Sink` where the sink failed: it then took a prefix of the text, and its
@@ -60,8 +99,8 @@ pub fn written<S: Sink>(sink: &mut S, text: &[u8], status: Status) -> Status
     }
 }
 
-// Writes the line of a refusal; want of memory has none.
-fn refused<S: Sink>(alloc: Global, sink: &mut S, status: Status) -> Status
+/// Writes the line of a refusal; want of memory has none.
+pub fn refused<S: Sink>(alloc: Global, sink: &mut S, status: Status) -> Status
     ensures faults { (S.shown sink.old).faults ≤ (S.shown sink.new).faults }
     ensures writes { Refused status result (S.shown sink.old) (S.shown sink.new) }
 {
@@ -74,13 +113,21 @@ fn refused<S: Sink>(alloc: Global, sink: &mut S, status: Status) -> Status
     }
 }
 
-/// Answers the words of a command line: `run SUITE - 1 all` runs the whole suite in order on one heap and writes the
-/// report; each answer that is no report is a line `electric: ..` that says why.
+/// Answers the words of a command line; each answer that is no report is a line `electric: ..` that says why.
 ///
-/// - `Done`: the report was written, and each test passed.
+/// - `run SUITE - 1 all` runs the whole suite in order on one heap and writes the report.
+/// - `order SUITE RECORD ORDER` runs the tests of a lawful order on one heap and writes the report, in suite order.
+/// - `detect SUITE` runs the whole suite in order on one heap and writes its record.
+/// - `deps SUITE` does the same and writes the report on dependences, and `deps SUITE json` writes that as JSON.
+/// - `plan SUITE RECORD N SEL` writes the chains of the selection's closure and the loads of N workers.
+///
+/// The answers:
+///
+/// - `Done`: the report was written, and each test passed; or the plan, record or report on dependences was written.
 /// - `NotPassed`: the report was written, and a test failed or ended in an error.
 /// - `Words`: the words have no form that is served.
-/// - `Input`: a file is absent, too large or faulty, the class files don't link, or the program isn't typed.
+/// - `Input`: no record is named; a file is absent, too large or faulty, the class files don't link, or the program isn't typed;
+///   a name is that of no test; the record is of another suite; or the order isn't lawful by it.
 /// - `Over`: a test passed its budget, or the suite its number of units.
 /// - `Depot`: the depot failed, last at the file that is named, and its count of faults rose.
 /// - `Sink`: the sink failed, and its count of faults rose.
@@ -99,19 +146,30 @@ pub fn electric_plain<D: Depot, S: Sink, L: Ledger>(
     ensures served { IfSome (D.shown depot.old).told (λ files.
         let asked : Asked = record {
           files = files;
-          words = words.now;
+          ask = plain words.now;
           depot = D.shown depot.old;
           depot_now = D.shown depot.new;
           begun = steps.old;
           now = steps.new;
         } in Served asked result (S.shown sink.old) (S.shown sink.new)) }
+    // With the suite's own record a lawful order is answered by what its tests do in the suite's own order.
+    ensures own { IfSome (D.shown depot.old).told (λ files.
+        let asked : Asked = record {
+          files = files;
+          ask = plain words.now;
+          depot = D.shown depot.old;
+          depot_now = D.shown depot.new;
+          begun = steps.old;
+          now = steps.new;
+        } in OwnOrderAnswer asked result (S.shown sink.old) (S.shown sink.new)) }
     // What the sink took, whatever the depot tells.
     ensures taken { Taken result (S.shown sink.old) (S.shown sink.new) }
     // When the words, a depot or a sink are answered, whatever the depot tells.
     ensures ends { let depot_now = D.shown depot.new in let sink_now = S.shown sink.new in
-        Ends words.now result (D.shown depot.old) depot_now (S.shown sink.old) sink_now }
+        Ends (plain words.now) result (D.shown depot.old) depot_now (S.shown sink.old) sink_now }
 {
-    match reported(alloc, words, depot, steps) {
+    let asked = plain_of(command_of(words));
+    match reported(alloc, asked, words, depot, steps) {
         Ok(report) => written(sink, report.text.as_slice(), report_status(&report)),
         Err(status) => refused(alloc, sink, status),
     }

@@ -1,18 +1,23 @@
 //! From words and a depot's files to a checked program.
 
-ghost use Rattle.std.specs.Prelude.{◌≡◌, ◌≤◌, IfOk, IfErr, IfSome, Ok, option_copied};
+ghost use Rattle.std.specs.Prelude.{◌≡◌, ◌≤◌, None, IfOk, IfErr, IfSome, Ok};
 ghost use Rattle.electrictest.specs.Commands.{HasForm, ReportEnds};
-ghost use Rattle.electrictest.specs.Replies as reply;
+ghost use Rattle.electrictest.specs.Loads.{LoadsFor, IsSuite};
+ghost use Rattle.electrictest.specs.Loads as loads;
+ghost use Rattle.electrictest.specs.Replies.{Unreported};
+ghost use Rattle.electrictest.specs.Words.{ask};
+ghost use Rattle.electrictest.specs.Words as asked_for;
 
 use crate::status::{InputFault, Status};
+use crate::words::{Command, refusal_of, word_at};
 use et_base::Text;
 use outside::Depot;
 use std::alloc::Global;
-use suite_load::{LoadFault, Loaded, is_depot_name, load};
+use suite_load::{LoadFault, Loaded, load};
 
-// How a fault of loading is answered.
-fn status_of(fault: LoadFault) -> Status
-    ensures { result ≡ reply.status_of fault }
+/// How a fault of loading is answered.
+pub fn status_of(fault: LoadFault) -> Status
+    ensures { result ≡ loads.status_of fault }
 {
     match fault {
         LoadFault::Depot { name } => Status::Depot { name },
@@ -26,40 +31,31 @@ fn status_of(fault: LoadFault) -> Status
     }
 }
 
-// The suite's name in `run SUITE - 1 all`.
-#[tactic(auto, unfolding(crate::specs::Replies::suite_word))]
-fn suite_word(words: &[Text]) -> Option<&Text>
-    ensures { option_copied result ≡ reply.suite_word words.now }
-{
-    match words {
-        [command, suite, record, workers, selection] => {
-            let is_run = command.as_slice() == b"run".as_slice()
-                && is_depot_name(suite.as_slice())
-                && record.as_slice() == b"-".as_slice()
-                && workers.as_slice() == b"1".as_slice()
-                && selection.as_slice() == b"all".as_slice();
-            if is_run { Some(suite) } else { None }
-        }
-        _ => None,
-    }
-}
-
-/// The suite that the words name: its checked program, and the names that reports print.
+/// The suite that the words name: its checked program, the names that reports print, and its sums.
 ///
-/// `Words` comes exactly where the words have no form; `Input` as the first fault of loading does; `Depot` only where the
-/// depot failed.
-pub fn load_for<D: Depot>(alloc: Global, words: &[Text], depot: &mut D) -> Result<Loaded, Status>
+/// `Words` comes exactly where no command is asked for, `NeedsRecord` where one lacks its record; `Input` as the first fault of
+/// loading does; `Depot` only where the depot failed.
+pub fn load_for<D: Depot>(
+    alloc: Global,
+    asked: Option<Command>,
+    words: &[Text],
+    depot: &mut D,
+) -> Result<Loaded, Status>
     ensures told { (D.shown depot.new).told ≡ (D.shown depot.old).told }
     ensures faults { (D.shown depot.old).faults ≤ (D.shown depot.new).faults }
-    ensures loads { IfOk result (λ l.
-        IfSome (D.shown depot.old).told (λ files. reply.LoadsFor files words.now (Ok l))) }
-    ensures refused { IfErr result (λ s.
-        IfSome (D.shown depot.old).told (λ files. reply.Unreported files words.now s)) }
-    ensures form { IfOk result (λ _. HasForm words.now) }
-    ensures ends { IfErr result (λ s. ReportEnds words.now s (D.shown depot.old) (D.shown depot.new)) }
+    ensures loads { IfOk result (λ l. IfSome (D.shown depot.old).told (λ files.
+        LoadsFor files (ask asked words.now) (Ok l))) }
+    ensures refused { IfErr result (λ s. IfSome (D.shown depot.old).told (λ files.
+        Unreported files (ask asked words.now) s)) }
+    ensures suite { IfOk result IsSuite }
+    ensures form { IfOk result (λ _. HasForm (ask asked words.now)) }
+    ensures named { IfOk result (λ _. asked_for.refusal_of asked ≡ None) }
+    ensures ends { IfErr result (λ s.
+        ReportEnds (ask asked words.now) s (D.shown depot.old) (D.shown depot.new)) }
 {
-    let Some(name) = suite_word(words) else {
-        return Err(Status::Words);
-    };
-    load(alloc, depot, name).map_err(status_of)
+    if let Some(status) = refusal_of(asked) {
+        return Err(status);
+    }
+    let name = Text::from_slice(alloc, word_at(words, 1))?;
+    load(alloc, depot, &name).map_err(status_of)
 }

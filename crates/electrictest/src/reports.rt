@@ -1,9 +1,11 @@
 //! The report on a suite.
 
-ghost use Rattle.std.specs.Prelude.{◌≡◌, ◌<◌, ◌^◌, ◌++◌, ◌∷◌, length, codes, count_by, None, OnOk, IfOk};
+ghost use Rattle.std.specs.Prelude.{◌≡◌, ℕ, ◌<◌, ◌≤◌, ◌^◌, ◌++◌, ◌∷◌, [], filter, length, codes, count_by, None, OnOk, IfOk};
 ghost use Rattle.std.specs.List.{list_all};
 ghost use Rattle.jvm_model.specs.Texts as line;
-ghost use Rattle.electrictest.specs.Replies as reply;
+ghost use Rattle.order_law.specs.Conflicts.{Member};
+ghost use Rattle.electrictest.specs.Orders as order;
+ghost use Rattle.electrictest.specs.Wholes as whole;
 
 use et_base::{NoMemory, Text, push_decimal};
 use jvm_model::{Names, Outcome, Verdict};
@@ -80,7 +82,7 @@ fn push_outcomes(
 ) -> Result<(), NoMemory>
     requires few { length outcomes.now < 2 ^ 32 }
     ensures { OnOk result (out.new
-        ≡ out.old ++ line.test_lines names.now (reply.numbered 1 outcomes.now)) }
+        ≡ out.old ++ line.test_lines names.now (whole.numbered 1 outcomes.now)) }
 {
     for index in 0..outcomes.len() {
         let lines = outcome_lines(alloc, names, (index + 1) as u32, &outcomes[index])?;
@@ -99,12 +101,94 @@ fn is_passed(outcome: &Outcome) -> bool
 #[tactic(auto, unfolding(jvm_model::specs::Texts::report_on))]
 pub fn report_on(alloc: Global, names: &Names, outcomes: &[Outcome]) -> Result<Report, NoMemory>
     requires few { length outcomes.now < 2 ^ 32 }
-    ensures text { IfOk result (λ r. r.text ≡ reply.report names.now outcomes.now) }
+    ensures text { IfOk result (λ r. r.text ≡ whole.report names.now outcomes.now) }
     ensures passed { IfOk result (λ r. r.passed ≡ list_all line.is_passed outcomes.now) }
 {
     let mut text = Text::new(alloc);
     push_head(&mut text, outcomes.len() as u64)?;
     push_outcomes(alloc, &mut text, names, outcomes)?;
+    push_counts(alloc, &mut text, outcomes)?;
+    let passed = outcomes.iter().all(|outcome| is_passed(outcome));
+    Ok(Report { text, passed })
+}
+
+// Appends the lines of a listed test, where it is this one.
+fn push_one(
+    alloc: Global,
+    out: &mut Text,
+    names: &Names,
+    listed: u32,
+    outcome: &Outcome,
+    test: u32,
+) -> Result<(), NoMemory>
+    requires test { 1 ≤ test }
+    ensures { OnOk result (out.new ≡ out.old
+        ++ line.test_lines names.now (filter (order.is_of test) ((listed, outcome.now) ∷ []))) }
+{
+    if listed != test {
+        return Ok(());
+    }
+    let lines = outcome_lines(alloc, names, test, outcome)?;
+    out.extend_from_slice(lines.as_slice())
+}
+
+// Appends the lines of a test, where it is in a list of tests with these outcomes.
+fn push_listed(
+    alloc: Global,
+    out: &mut Text,
+    names: &Names,
+    tests: &[u32],
+    outcomes: &[Outcome],
+    test: u32,
+) -> Result<(), NoMemory>
+    requires test { 1 ≤ test }
+    requires each { length outcomes.now ≡ length tests.now }
+    ensures { OnOk result (out.new ≡ out.old
+        ++ line.test_lines names.now (filter (order.is_of test) (order.paired tests.now outcomes.now))) }
+{
+    for place in 0..tests.len() {
+        push_one(alloc, out, names, tests[place], &outcomes[place], test)?;
+    }
+    Ok(())
+}
+
+// Appends the lines of a list of tests, in suite order.
+fn push_in_order(
+    alloc: Global,
+    out: &mut Text,
+    names: &Names,
+    tests: &[u32],
+    outcomes: &[Outcome],
+) -> Result<(), NoMemory>
+    requires few { length names.now.tests ≤ 1024 }
+    requires each { length outcomes.now ≡ length tests.now }
+    ensures { OnOk result (out.new ≡ out.old
+        ++ line.test_lines names.now (order.by_test (length names.now.tests) (order.paired tests.now outcomes.now))) }
+{
+    for index in 0..names.tests.len() {
+        push_listed(alloc, out, names, tests, outcomes, (index + 1) as u32)?;
+    }
+    Ok(())
+}
+
+/// The report on a list of tests of the suite. The only error is want of memory.
+#[tactic(auto, unfolding(jvm_model::specs::Texts::report_on))]
+pub fn order_report(
+    alloc: Global,
+    names: &Names,
+    tests: &[u32],
+    outcomes: &[Outcome],
+) -> Result<Report, NoMemory>
+    requires few { length names.now.tests ≤ 1024 }
+    requires counted { length outcomes.now < 2 ^ 32 }
+    requires each { length outcomes.now ≡ length tests.now }
+    requires tests { (t : ℕ) → Member t tests.now → (0 < t) × (t ≤ length names.now.tests) }
+    ensures text { IfOk result (λ r. r.text ≡ order.order_report names.now tests.now outcomes.now) }
+    ensures passed { IfOk result (λ r. r.passed ≡ list_all line.is_passed outcomes.now) }
+{
+    let mut text = Text::new(alloc);
+    push_head(&mut text, outcomes.len() as u64)?;
+    push_in_order(alloc, &mut text, names, tests, outcomes)?;
     push_counts(alloc, &mut text, outcomes)?;
     let passed = outcomes.iter().all(|outcome| is_passed(outcome));
     Ok(Report { text, passed })

@@ -33,9 +33,12 @@ pub enum Status {
 /// Why the input was refused.
 #[derive(Debug, Drop)]
 pub enum InputFault {
+    /// The words name no record where one is needed.
+    NeedsRecord,
     /// The depot has no file of this name.
     Absent { name: Text },
-    /// The file of this name is longer than 1 MiB, or with it all class files so far are longer than 64 MiB.
+    /// The file of this name is longer than 1 MiB, or with it all class files so far are longer than 64 MiB; or it is a record
+    /// of more than 512 MiB.
     TooLarge { name: Text },
     /// The suite text's first faulty line, by its number from 1, and what is wrong with it.
     Suite { line: u32, why: Why },
@@ -45,6 +48,18 @@ pub enum InputFault {
     Link { fault: LinkFault },
     /// The program isn't typed; the fault is never `NoMemory`.
     Check { fault: CheckFault },
+    /// A name in the words is that of no test.
+    NoTest { name: Text },
+    /// The record's first faulty line, by its number from 1.
+    Record { line: u32 },
+    /// The record is of a suite with another digest.
+    RecordForeign { kept: [u8; 32], found: [u8; 32] },
+    /// The order names this test twice.
+    Twice { test: Text },
+    /// The order lacks a test that wrote what this one reads.
+    MissingWriter { test: Text, writer: Text },
+    /// In the order the first test stands after the second, which it is before.
+    Inverted { first: Text, second: Text },
 }
 
 /// Which number of units was passed.

@@ -1,4 +1,4 @@
 use Rattle.electric.proofs.main.Given as goal
 
 abbrev pub ghosts-answer : goal.ghosts-answer
-ghosts-answer a = record { name = a.blank.name; parts = a.blank.parts }
+ghosts-answer g a = record { name = a.blank.name; parts = a.blank.parts }

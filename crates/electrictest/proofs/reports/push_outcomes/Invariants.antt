@@ -1,6 +1,6 @@
 use Rattle.std.proofs.Common.{◌≡◌, ◌++◌, ◌+◌, drop}
 use Rattle.jvm_model.specs.Texts as line
-use Rattle.electrictest.specs.Replies as reply
+use Rattle.electrictest.specs.Wholes as reply
 use Rattle.electrictest.proofs.reports.push_outcomes.Given as goal
 
 -- what was written, and the lines that are left

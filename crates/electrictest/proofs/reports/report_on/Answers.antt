@@ -1,7 +1,7 @@
 use Rattle.std.proofs.Common.{◌++◌, ◌∷◌, [], ap, ◌∙◌, length, codes, None}
 use Rattle.jvm_model.specs.Texts.{head_line, test_lines, verdict_line}
 use Rattle.test_run.proofs.Joins.{join3}
-use Rattle.electrictest.specs.Replies.{numbered}
+use Rattle.electrictest.specs.Wholes.{numbered}
 use Rattle.electrictest.proofs.TextLaws.{report_is}
 use Rattle.electrictest.proofs.reports.report_on.Goals as goal
 

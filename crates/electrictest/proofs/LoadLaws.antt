@@ -1,0 +1,76 @@
+-- How the words and a suite's loading are answered.
+use Rattle.std.proofs.Common.{◌≡◌, ◌<◌, ◌≤◌, ℕ, List, Bool, refl, sym, ap, subst, ◌∙◌, inl, inr, arith, Option, Some, None, Result, Ok, Err, IfSome, IfErr, IsErrAnd, MatchResult}
+use Rattle.outside.specs.Counts.{Rose}
+use Rattle.outside.specs.Depot.{Files, DepotView, FailedAt}
+use Rattle.suite_load.specs.declared.load_fault.LoadFault.{LoadFault}
+use Rattle.suite_load.specs.declared.load_fault.LoadFault.TheVariants as fault
+use Rattle.suite_load.specs.declared.loaded.Loaded.{Loaded}
+use Rattle.suite_load.specs.Loading.{Loads, IsRead}
+use Rattle.suite_load.specs.LoadAnswers.{LoadAnswers, IsProper}
+use Rattle.electrictest.specs.declared.status.Status.{Status}
+use Rattle.electrictest.specs.declared.status.Status.TheVariants as ends
+use Rattle.electrictest.specs.declared.words.Command.{Command}
+use Rattle.electrictest.specs.Words.{Ask, ask, word_at, refusal_of, suite_word}
+use Rattle.electrictest.specs.Loads.{LoadsFor, LoadsAny, answered, status_of, of_suite}
+use Rattle.electrictest.specs.Replies.{Unreported, unloaded}
+use Rattle.electrictest.specs.Commands.{ReportEnds, ReportsOver, RefusedOver, Reported}
+
+-- ---- loading
+
+module _ (c : Option Command) (words : List (List ℕ)) (name : List ℕ) (asks : refusal_of c ≡ None) (named : name ≡ word_at words 1) where
+  names_suite : suite_word (ask c words) ≡ Ok name
+  names_suite = ap (λ (o : Option Status). elim o [ None ↦ Ok (word_at words 1) | Some s ↦ Err s ]) asks ∙ ap (λ (n : List ℕ). Ok n) (sym named)
+
+  loads_for : (files : Files) (answer : Result Loaded LoadFault) → Loads files name answer → LoadsFor files (ask c words) (answered answer)
+  loads_for files answer h = subst (λ (w : Result (List ℕ) Status). LoadsAny files w (answered answer)) (sym names_suite) (answer, h, refl)
+
+-- the fault of its loading
+pub unloaded_for : (told : Option Files) (c : Option Command) (words : List (List ℕ)) (name : List ℕ) (f : LoadFault) (old new : DepotView) → refusal_of c ≡ None → name ≡ word_at words 1 →
+    IfSome told (λ files. LoadAnswers files name (Err f)) → IsProper (λ read. IfSome told (λ files. IsRead files name read) × FailedAt old new read) f → IfSome told (λ files. Unreported files (ask c words) (status_of f))
+unloaded_for None c words name f old new e n h p = tt
+unloaded_for (Some files) c words name fault.NoMemory old new e n h p = tt
+unloaded_for (Some files) c words name (fault.Depot read) old new e n h p = of_suite name (names_suite c words name e n) p.0
+unloaded_for (Some files) c words name (fault.Absent x) old new e n h p = unloaded (loads_for c words name e n files (Err (fault.Absent x)) h)
+unloaded_for (Some files) c words name (fault.TooLarge x) old new e n h p = unloaded (loads_for c words name e n files (Err (fault.TooLarge x)) h)
+unloaded_for (Some files) c words name (fault.Suite line why) old new e n h p = unloaded (loads_for c words name e n files (Err (fault.Suite line why)) h)
+unloaded_for (Some files) c words name (fault.Class x f) old new e n h p = unloaded (loads_for c words name e n files (Err (fault.Class x f)) h)
+unloaded_for (Some files) c words name (fault.Link f) old new e n h p = unloaded (loads_for c words name e n files (Err (fault.Link f)) h)
+unloaded_for (Some files) c words name (fault.Check f) old new e n h p = unloaded (loads_for c words name e n files (Err (fault.Check f)) h)
+
+pub unloaded_all : (told : Option Files) (c : Option Command) (words : List (List ℕ)) (name : List ℕ) (r : Result Loaded LoadFault) (old new : DepotView) → refusal_of c ≡ None → name ≡ word_at words 1 →
+    IfSome told (λ files. LoadAnswers files name r) → IfErr r (IsProper (λ read. IfSome told (λ files. IsRead files name read) × FailedAt old new read)) → IfErr r (λ f. IfSome told (λ files. Unreported files (ask c words) (status_of f)))
+unloaded_all told c words name (Ok l) old new e n h p = tt
+unloaded_all told c words name (Err f) old new e n h p = unloaded_for told c words name f old new e n h p
+
+-- a fault's status is answered
+pub answers_fault : (post : LoadFault → Status → Type 0) (r : Result Loaded LoadFault) (s : Result Loaded Status) → MatchResult r (λ l. s ≡ Ok l) (λ f. IsErrAnd s (post f)) → ((f : LoadFault) (x : Status) → post f x → x ≡ status_of f) →
+    (Q : Status → Type 0) → IfErr r (λ f. Q (status_of f)) → IfErr s Q
+answers_fault post (Ok l) s c h Q q = subst (λ (z : Result Loaded Status). IfErr z Q) (sym c) tt
+answers_fault post (Err f) (Ok l) c h Q q = absurd c
+answers_fault post (Err f) (Err x) c h Q q = subst Q (sym (h f x c)) q
+
+-- ---- and then the command
+
+pub reports_all : (told : Option Files) (a : Ask) (l : Loaded) (passed : Bool) (text : List ℕ) (begun now : ℕ) → IfSome told (λ files. LoadsFor files a (Ok l)) →
+    ReportsOver told a l passed text begun now → IfSome told (λ files. Reported files a passed text begun now)
+reports_all None a l passed text begun now load r = tt
+reports_all (Some files) a l passed text begun now load r = r load
+
+pub refuses_all : (told : Option Files) (a : Ask) (l : Loaded) (s : Status) → IfSome told (λ files. LoadsFor files a (Ok l)) → RefusedOver told a l s → IfSome told (λ files. Unreported files a s)
+refuses_all None a l s load r = tt
+refuses_all (Some files) a l s load r = r load
+
+rose_before : (old mid new : ℕ) → old ≤ mid → Rose mid new → Rose old new
+rose_before old mid new le (inl h) = inl (omega arith)
+rose_before old mid new le (inr h) = inr h
+
+-- a depot that failed after the suite was loaded
+pub ends_all : (a : Ask) (s : Status) (old mid new : DepotView) → old.faults ≤ mid.faults → ReportEnds a s mid new → ReportEnds a s old new
+ends_all a ends.NoMemory old mid new le r = tt
+ends_all a ends.Words old mid new le r = r
+ends_all a (ends.Input f) old mid new le r = r
+ends_all a (ends.Depot name) old mid new le r = (r.0, record { rose = rose_before old.faults mid.faults new.faults le r.1.rose; named = r.1.named })
+ends_all a (ends.Over f) old mid new le r = r
+ends_all a ends.Done old mid new le r = absurd r
+ends_all a ends.NotPassed old mid new le r = absurd r
+ends_all a ends.Sink old mid new le r = absurd r

@@ -1,0 +1,23 @@
+use Rattle.std.proofs.Common.{◌-◌, ◌∙◌, ap, List, ℕ, arith}
+use Rattle.std.proofs.lemmas.List.{take_all}
+use Rattle.std.proofs.lemmas.List.Sums.{sum_by_more}
+use Rattle.schedule_plan.specs.Grouping.{at}
+use Rattle.schedule_plan.specs.Plans.{units_of}
+use Rattle.schedule_plan.proofs.Places.{member_get}
+use Rattle.schedule_plan.proofs.Totals.{units_more}
+use Rattle.electrictest.proofs.plan_texts.chain_units.Goals as goal
+
+pub overflow_add-total : goal.overflow_add-total
+overflow_add-total c = let a = units_more c.args.tests.now c.args.units.now c.loop-i.i (omega arith) c.requires.apart c.requires.listed in let b = c.loop-i.invariant in omega arith
+
+pub loop-i-preserved : goal.loop-i-preserved
+loop-i-preserved c = let a = sum_by_more (λ t. at c.args.units.now (t - 1)) c.args.tests.now c.loop-i.i 0 (omega arith) in let b = c.loop-i.invariant in omega arith
+
+pub returns : goal.returns
+returns c = c.loop-i.invariant ∙ ap (λ (l : List ℕ). units_of c.args.units.now l) (take_all c.loop-i.i c.args.tests.now (omega arith))
+
+pub overflow_sub-total : goal.overflow_sub-total
+overflow_sub-total c = (c.requires.listed (at c.args.tests.now c.loop-i.i) (member_get c.args.tests.now c.loop-i.i (omega arith))).0
+
+pub bounds-units-tests : goal.bounds-units-tests
+bounds-units-tests c = let p = c.requires.listed (at c.args.tests.now c.loop-i.i) (member_get c.args.tests.now c.loop-i.i (omega arith)) in omega (arith, p.0, p.1)

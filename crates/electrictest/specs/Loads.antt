@@ -1,0 +1,79 @@
+-- What a call reads of a depot's files: the suite, and for some commands a record of it (this project's).
+use Rattle.std.specs.Prelude.{◌≡◌, ◌≤◌, ℕ, ◌-◌, length, List, Option, Some, None, option_map, Result, Ok, Err}
+use Rattle.jvm_model.specs.Builtin.{builtin_count}
+use Rattle.outside.specs.Depot.{Files}
+use Rattle.suite_load.specs.declared.load_fault.LoadFault.{LoadFault}
+use Rattle.suite_load.specs.declared.load_fault.LoadFault.TheVariants as fault
+use Rattle.suite_load.specs.declared.loaded.Loaded.{Loaded}
+use Rattle.suite_load.specs.Loading.{Loads, IsRead}
+use Rattle.electrictest.specs.declared.status.Status.{Status}
+use Rattle.electrictest.specs.declared.status.Status.TheVariants as ends
+use Rattle.electrictest.specs.declared.status.InputFault.{InputFault}
+use Rattle.electrictest.specs.declared.status.InputFault.TheVariants as input
+use Rattle.electrictest.specs.declared.words.Command.{Command}
+use Rattle.electrictest.specs.declared.words.Command.TheVariants as command
+use Rattle.electrictest.specs.Words.{Ask, suite_word, word_at}
+use Rattle.electrictest.specs.Selections.{ordered, selected}
+use Rattle.electrictest.specs.Records.{Beginning, begun}
+
+-- how a fault of loading is answered
+abbrev pub status_of : LoadFault → Status
+status_of (fault.Depot name) = ends.Depot name
+status_of (fault.Absent name) = ends.Input (input.Absent name)
+status_of (fault.TooLarge name) = ends.Input (input.TooLarge name)
+status_of (fault.Suite line why) = ends.Input (input.Suite line why)
+status_of (fault.Class name f) = ends.Input (input.Class name f)
+status_of (fault.Link f) = ends.Input (input.Link f)
+status_of (fault.Check f) = ends.Input (input.Check f)
+status_of fault.NoMemory = ends.NoMemory
+
+-- how loading is answered
+abbrev pub answered : Result Loaded LoadFault → Result Loaded Status
+answered (Ok l) = Ok l
+answered (Err f) = Err (status_of f)
+
+-- loading the suite of this name answers this
+abbrev pub LoadsNamed : Files → List ℕ → Result Loaded Status → Type 0
+LoadsNamed files name answer = (loading : Result Loaded LoadFault) × Loads files name loading × (answer ≡ answered loading)
+
+abbrev pub LoadsAny : Files → Result (List ℕ) Status → Result Loaded Status → Type 0
+LoadsAny files (Err s) answer = answer ≡ Err s
+LoadsAny files (Ok name) answer = LoadsNamed files name answer
+
+-- loading for what is asked answers this
+abbrev pub LoadsFor : Files → Ask → Result Loaded Status → Type 0
+LoadsFor files a answer = LoadsAny files (suite_word a) answer
+
+-- a suite that was loaded has a name for each test, and few tests
+pub record IsSuite (l : Loaded) : Type 0 where
+  pub names : length l.names.tests ≡ length l.checked.tests
+  pub few : length l.checked.tests ≤ 1024
+  pub sums : length l.prints.classes ≡ length l.checked.classes - builtin_count
+
+-- ---- records
+
+-- the tests that the words name, where they name a record too
+abbrev pub named_by : Option Command → List (List ℕ) → Loaded → Option (Result (List ℕ) InputFault)
+named_by None words l = None
+named_by (Some command.Whole) words l = None
+named_by (Some command.NeedsRecord) words l = None
+named_by (Some (command.Run n log)) words l = Some (selected l.names (word_at words 4))
+named_by (Some command.Detect) words l = None
+named_by (Some (command.Deps json)) words l = None
+named_by (Some command.Order) words l = Some (ordered l.names (word_at words 3))
+named_by (Some (command.Plan n)) words l = Some (selected l.names (word_at words 4))
+named_by (Some (command.Gen k n)) words l = None
+
+-- what a command begins with besides the suite: those tests, and the record
+abbrev pub begun_by : Files → Ask → Loaded → Option (Result Beginning InputFault)
+begun_by files a l = option_map (λ named. begun files l named (word_at a.words 2)) (named_by a.command a.words l)
+
+-- the suite is loaded, and with it this is begun
+pub record Begins (files : Files) (a : Ask) (l : Loaded) (b : Result Beginning InputFault) : Type 0 where
+  pub load : LoadsFor files a (Ok l)
+  pub begins : begun_by files a l ≡ Some b
+
+-- A file that is read: one of the suite, or the record, once the suite is loaded and its tests are named.
+pub data IsReadFor (files : Files) (a : Ask) (read : List ℕ) : Type 0 where
+  of_suite : (name : List ℕ) → suite_word a ≡ Ok name → IsRead files name read → IsReadFor files a read
+  of_record : (l : Loaded) (tests : List ℕ) → LoadsFor files a (Ok l) → named_by a.command a.words l ≡ Some (Ok tests) → read ≡ word_at a.words 2 → IsReadFor files a read

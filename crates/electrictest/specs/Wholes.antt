@@ -1,0 +1,52 @@
+-- What a run of the whole suite gives (this project's).
+use Rattle.std.specs.Prelude.{◌≡◌, ℕ, ◌+◌, List, [], ◌∷◌, length, map, Bool, Option, Some, None, option_map, Ok}
+use Rattle.std.specs.List.{list_all}
+use Rattle.jvm_model.specs.declared.outcome.Outcome.{Outcome}
+use Rattle.jvm_model.specs.declared.program.Names.{Names}
+use Rattle.jvm_model.specs.declared.program.Program.{Program}
+use Rattle.jvm_model.specs.Suite.{SuiteFault, over_budget, over_suite, runs, all_tests, suite_fault}
+use Rattle.jvm_model.specs.Texts.{is_passed, report_on}
+use Rattle.outside.specs.Depot.{Files}
+use Rattle.suite_load.specs.declared.loaded.Loaded.{Loaded}
+use Rattle.electrictest.specs.declared.status.OverFault.{OverFault}
+use Rattle.electrictest.specs.declared.status.OverFault.TheVariants as over
+use Rattle.electrictest.specs.Words.{Ask}
+use Rattle.electrictest.specs.Loads.{LoadsFor}
+use Rattle.electrictest.specs.TestNames.{test_name, units_in}
+
+-- the outcomes of the whole suite in order on one heap
+unfoldable pub outcomes_of : Program → Option (List Outcome)
+outcomes_of p = option_map (map (λ x. x.outcome)) (runs p (all_tests p))
+
+-- how a suite is answered that passes a number of units
+abbrev pub over_fault : Names → SuiteFault → OverFault
+over_fault names (over_budget t budget) = over.OverBudget (test_name names t) budget []
+over_fault names (over_suite t) = over.OverSuite (test_name names t)
+
+-- the outcomes by the numbers of their tests, from t on
+abbrev pub numbered : ℕ → List Outcome → List (ℕ × Outcome)
+numbered t [] = []
+numbered t (o ∷ os) = (t, o) ∷ numbered (t + 1) os
+
+-- the report on the whole suite, without a record
+abbrev pub report : Names → List Outcome → List ℕ
+report names os = report_on names (length os) None (numbered 1 os)
+
+-- a report on these outcomes
+pub record IsReport (files : Files) (a : Ask) (passed : Bool) (text : List ℕ) (units : ℕ) : Type 0 where
+  pub loaded : Loaded
+  pub outcomes : List Outcome
+  pub load : LoadsFor files a (Ok loaded)
+  pub within : suite_fault loaded.checked ≡ None
+  pub ran : outcomes_of loaded.checked ≡ Some outcomes
+  pub verdicts : list_all is_passed outcomes ≡ passed
+  pub reports : text ≡ report loaded.names outcomes
+  pub sum : units ≡ units_in outcomes
+
+-- a suite that passes a number of units
+pub record IsOver (files : Files) (a : Ask) (f : OverFault) : Type 0 where
+  pub loaded : Loaded
+  pub found : SuiteFault
+  pub load : LoadsFor files a (Ok loaded)
+  pub passes : suite_fault loaded.checked ≡ Some found
+  pub named : f ≡ over_fault loaded.names found

@@ -1,0 +1,114 @@
+//! Orders of tests.
+
+ghost use Rattle.std.specs.Prelude.{◌≡◌, ◌≤◌, All, Some, IfOk, IfErr};
+ghost use Rattle.order_law.specs.Conflicts.{Lawful};
+ghost use Rattle.selection_close.specs.Faults.{fault_of};
+ghost use Rattle.test_run.specs.Running.{IsTest};
+ghost use Rattle.electrictest.specs.Commands.{ReportEnds, ReportsOver, RefusedOver};
+ghost use Rattle.electrictest.specs.declared.words.Command.TheVariants as command;
+ghost use Rattle.electrictest.specs.Loads.{IsSuite};
+ghost use Rattle.electrictest.specs.Orders as order;
+ghost use Rattle.electrictest.specs.Records.{beginning};
+ghost use Rattle.electrictest.specs.Running.{OrderRefused};
+ghost use Rattle.electrictest.specs.Words.{ask};
+
+use crate::recorded::{Begun, begin_with};
+use crate::reports::{Report, order_report};
+use crate::running::{run_tests, test_name};
+use crate::selections::ordered;
+use crate::status::{InputFault, Status};
+use crate::words::word_at;
+use dep_graph::Graph;
+use et_base::{NoMemory, Text};
+use jvm_model::Names;
+use outside::{Depot, Steps};
+use selection_close::{OrderFault, check_order};
+use std::alloc::Global;
+use std::sync::ledger::Ledger;
+use suite_load::Loaded;
+
+// How a fault of an order is answered.
+fn input_of(alloc: Global, names: &Names, fault: OrderFault) -> Result<InputFault, NoMemory>
+    ensures { IfOk result (λ f. f ≡ order.order_input names.now (fault_of fault)) }
+{
+    match fault {
+        OrderFault::Twice { test } => Ok(InputFault::Twice {
+            test: test_name(alloc, names, test)?,
+        }),
+        OrderFault::MissingWriter { test, writer } => Ok(InputFault::MissingWriter {
+            test: test_name(alloc, names, test)?,
+            writer: test_name(alloc, names, writer)?,
+        }),
+        OrderFault::Inverted { first, second } => Ok(InputFault::Inverted {
+            first: test_name(alloc, names, first)?,
+            second: test_name(alloc, names, second)?,
+        }),
+    }
+}
+
+// That an order is lawful by the record.
+fn judged(alloc: Global, loaded: &Loaded, begun: &Begun) -> Result<(), Status>
+    ensures lawful { IfOk result (λ _. Lawful begun.now.record.edges begun.now.tests) }
+    ensures refused { IfErr result (OrderRefused loaded.now (beginning begun.now)) }
+{
+    let graph = Graph::of(alloc, &begun.record)?;
+    match check_order(&graph, begun.tests.as_slice()) {
+        Ok(()) => Ok(()),
+        Err(fault) => {
+            let input = input_of(alloc, &loaded.names, fault)?;
+            Err(Status::Input(input))
+        }
+    }
+}
+
+// The report on an order, run on one heap.
+fn order_of<L: Ledger>(
+    alloc: Global,
+    loaded: &Loaded,
+    begun: &Begun,
+    steps: &mut Steps<L>,
+) -> Result<Report, Status>
+    requires tests { All (IsTest loaded.now.checked) begun.now.tests }
+    requires suite { IsSuite loaded.now }
+    ensures reports { IfOk result (λ r. order.Reports loaded.now (beginning begun.now) r.passed r.text
+        steps.old steps.new) }
+    ensures refused { IfErr result (OrderRefused loaded.now (beginning begun.now)) }
+{
+    judged(alloc, loaded, begun)?;
+    let outcomes = run_tests(alloc, loaded, begun.tests.as_slice(), steps)?;
+    let report = order_report(
+        alloc,
+        &loaded.names,
+        begun.tests.as_slice(),
+        outcomes.as_slice(),
+    )?;
+    Ok(report)
+}
+
+/// The report on the order that the words name, by the record that they name.
+///
+/// `NoTest` comes where a name is of no test; then what the record is refused for; `Twice`, `MissingWriter` and `Inverted` where
+/// the order isn't lawful by the record, and `Over` where a test passes its budget.
+pub fn order_for<D: Depot, L: Ledger>(
+    alloc: Global,
+    loaded: &Loaded,
+    words: &[Text],
+    depot: &mut D,
+    steps: &mut Steps<L>,
+) -> Result<Report, Status>
+    requires suite { IsSuite loaded.now }
+    ensures told { (D.shown depot.new).told ≡ (D.shown depot.old).told }
+    ensures faults { (D.shown depot.old).faults ≤ (D.shown depot.new).faults }
+    ensures reports { IfOk result (λ r. let a = ask (Some command.Order) words.now in
+        ReportsOver (D.shown depot.old).told a loaded.now r.passed r.text steps.old steps.new) }
+    ensures refused { IfErr result (λ s.
+        RefusedOver (D.shown depot.old).told (ask (Some command.Order) words.now) loaded.now s) }
+    ensures ends { IfErr result (λ s.
+        ReportEnds (ask (Some command.Order) words.now) s (D.shown depot.old) (D.shown depot.new)) }
+{
+    let tests = ordered(alloc, &loaded.names, word_at(words, 3))?;
+    let begun = begin_with(alloc, depot, loaded, tests, word_at(words, 2))?;
+    // It is typed, and so linked.
+    let _program = loaded.checked.program();
+    order_of(alloc, loaded, &begun, steps)
+}

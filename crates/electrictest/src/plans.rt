@@ -1,0 +1,66 @@
+//! Plans of selections.
+
+ghost use Rattle.std.specs.Prelude.{◌≡◌, ◌<◌, ◌≤◌, ℕ, Some, IfOk, IfErr};
+ghost use Rattle.schedule_plan.specs.Plans.{HasUnits};
+ghost use Rattle.electrictest.specs.Commands.{ReportEnds, ReportsOver, RefusedOver};
+ghost use Rattle.electrictest.specs.declared.words.Command.TheVariants as command;
+ghost use Rattle.electrictest.specs.Loads.{IsSuite};
+ghost use Rattle.electrictest.specs.Plans.{IsPlanReport};
+ghost use Rattle.electrictest.specs.Records.{beginning};
+ghost use Rattle.electrictest.specs.Words.{ask};
+
+use crate::plan_texts::plan_text;
+use crate::recorded::{Begun, begin_with};
+use crate::reports::Report;
+use crate::selections::selected;
+use crate::status::Status;
+use crate::words::word_at;
+use dep_graph::Graph;
+use et_base::{NoMemory, Text};
+use outside::Depot;
+use schedule_plan::{chains, plan};
+use selection_close::close;
+use std::alloc::Global;
+use suite_load::Loaded;
+
+// The plan of a selection's closure for so many workers. The only error is want of memory.
+fn plan_of(alloc: Global, begun: &Begun, workers: u32) -> Result<Text, NoMemory>
+    requires workers { 0 < workers }
+    requires tests { HasUnits begun.now.tests begun.now.record.units }
+    ensures { IfOk result (λ text. IsPlanReport (beginning begun.now) workers text) }
+{
+    let graph = Graph::of(alloc, &begun.record)?;
+    graph.goes_up();
+    let set = close(alloc, &graph, begun.tests.as_slice())?;
+    let listed = chains(alloc, &graph, set.as_slice())?;
+    let units = begun.record.units.as_slice();
+    let shares = plan(alloc, &listed, units, workers)?;
+    plan_text(alloc, &listed, units, &shares)
+}
+
+/// The plan of the selection that the words name for so many workers, by the record that they name; it runs no test.
+///
+/// `NoTest` comes where a name is of no test; then what the record is refused for.
+pub fn plan_for<D: Depot>(
+    alloc: Global,
+    loaded: &Loaded,
+    words: &[Text],
+    workers: u32,
+    depot: &mut D,
+) -> Result<Report, Status>
+    requires workers { 0 < workers }
+    requires suite { IsSuite loaded.now }
+    ensures told { (D.shown depot.new).told ≡ (D.shown depot.old).told }
+    ensures faults { (D.shown depot.old).faults ≤ (D.shown depot.new).faults }
+    ensures reports { (steps : ℕ) → IfOk result (λ r. let a = ask (Some (command.Plan workers)) words.now in
+        ReportsOver (D.shown depot.old).told a loaded.now r.passed r.text steps steps) }
+    ensures refused { IfErr result (λ s.
+        RefusedOver (D.shown depot.old).told (ask (Some (command.Plan workers)) words.now) loaded.now s) }
+    ensures ends { IfErr result (λ s.
+        ReportEnds (ask (Some (command.Plan workers)) words.now) s (D.shown depot.old) (D.shown depot.new)) }
+{
+    let tests = selected(alloc, &loaded.names, word_at(words, 4))?;
+    let begun = begin_with(alloc, depot, loaded, tests, word_at(words, 2))?;
+    let text = plan_of(alloc, &begun, workers)?;
+    Ok(Report { text, passed: true })
+}

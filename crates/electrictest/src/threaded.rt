@@ -1,0 +1,187 @@
+//! The top call for all commands.
+
+ghost use Rattle.std.specs.Prelude.{◌≡◌, ◌≤◌, None, IfOk, IfErr, IfSome};
+ghost use Rattle.electrictest.specs.Commands.{Asked, HasForm, ReportEnds, Reported, ReportsOver, RefusedOver, Taken, Served, Ends};
+ghost use Rattle.electrictest.specs.Loads.{IsSuite};
+ghost use Rattle.electrictest.specs.OwnLists.{OwnOrderAnswer};
+ghost use Rattle.electrictest.specs.OwnRecords.{OwnAnswer};
+ghost use Rattle.electrictest.specs.Replies as reply;
+ghost use Rattle.electrictest.specs.Threaded.{threaded, threaded_of, IsOverSuite, IsThreaded};
+ghost use Rattle.electrictest.specs.Words.{ask, refusal_of, HasWorkers};
+
+use crate::commands::{refused, report_for, report_status, written};
+use crate::generated::summary_for;
+use crate::loading::load_for;
+use crate::pool_runs::run_for;
+use crate::reports::Report;
+use crate::status::Status;
+use crate::words::{Command, command_of, plain_of};
+use et_base::Text;
+use outside::{Depot, Gate, Sink, Steps};
+use std::alloc::Global;
+use std::sync::Wait;
+use std::sync::ledger::Ledger;
+use std::thread::Threads;
+use suite_load::Loaded;
+
+// Of a command, what is served.
+fn served_of(command: Option<Command>) -> Option<Command>
+    requires { HasWorkers command }
+    ensures served { result ≡ threaded_of command }
+    ensures workers { IsThreaded result }
+{
+    match command {
+        Some(Command::Run { workers, log }) => Some(Command::Run { workers, log }),
+        Some(Command::Gen { tests, workers }) => Some(Command::Gen { tests, workers }),
+        command => plain_of(command),
+    }
+}
+
+// The text for a command over a loaded suite.
+fn text_for<R: Threads + Wait + Sync, D: Depot, G: Gate + Sync, L: Ledger>(
+    rt: &R,
+    alloc: Global,
+    loaded: &Loaded,
+    asked: Option<Command>,
+    words: &[Text],
+    depot: &mut D,
+    gate: &G,
+    steps: &mut Steps<L>,
+) -> Result<Report, Status>
+    requires form { refusal_of asked ≡ None }
+    requires served { IsOverSuite asked }
+    requires suite { IsSuite loaded.now }
+    ensures told { (D.shown depot.new).told ≡ (D.shown depot.old).told }
+    ensures faults { (D.shown depot.old).faults ≤ (D.shown depot.new).faults }
+    ensures reports { IfOk result (λ r. let a = ask asked words.now in
+        ReportsOver (D.shown depot.old).told a loaded.now r.passed r.text steps.old steps.new) }
+    ensures refused { IfErr result (λ s.
+        RefusedOver (D.shown depot.old).told (ask asked words.now) loaded.now s) }
+    ensures ends { IfErr result (λ s.
+        ReportEnds (ask asked words.now) s (D.shown depot.old) (D.shown depot.new)) }
+{
+    match asked {
+        Some(Command::Run { workers, log }) => {
+            run_for(rt, alloc, loaded, words, workers, log, depot, gate, steps)
+        }
+        _ => report_for(alloc, loaded, asked, words, depot, steps),
+    }
+}
+
+// The text for a command over a suite of the depot.
+fn suite_text<R: Threads + Wait + Sync, D: Depot, G: Gate + Sync, L: Ledger>(
+    rt: &R,
+    alloc: Global,
+    asked: Option<Command>,
+    words: &[Text],
+    depot: &mut D,
+    gate: &G,
+    steps: &mut Steps<L>,
+) -> Result<Report, Status>
+    requires served { IsOverSuite asked }
+    ensures told { (D.shown depot.new).told ≡ (D.shown depot.old).told }
+    ensures faults { (D.shown depot.old).faults ≤ (D.shown depot.new).faults }
+    ensures reports { IfOk result (λ r. IfSome (D.shown depot.old).told (λ files.
+        Reported files (ask asked words.now) r.passed r.text steps.old steps.new)) }
+    ensures refused { IfErr result (λ s. IfSome (D.shown depot.old).told (λ files.
+        reply.Unreported files (ask asked words.now) s)) }
+    ensures form { IfOk result (λ _. HasForm (ask asked words.now)) }
+    ensures ends { IfErr result (λ s.
+        ReportEnds (ask asked words.now) s (D.shown depot.old) (D.shown depot.new)) }
+{
+    let loaded = load_for(alloc, asked, words, depot)?;
+    text_for(rt, alloc, &loaded, asked, words, depot, gate, steps)
+}
+
+// The text that is asked for.
+fn asked_text<R: Threads + Wait + Sync, D: Depot, G: Gate + Sync, L: Ledger>(
+    rt: &R,
+    alloc: Global,
+    asked: Option<Command>,
+    words: &[Text],
+    depot: &mut D,
+    gate: &G,
+    steps: &mut Steps<L>,
+) -> Result<Report, Status>
+    requires served { IsThreaded asked }
+    ensures told { (D.shown depot.new).told ≡ (D.shown depot.old).told }
+    ensures faults { (D.shown depot.old).faults ≤ (D.shown depot.new).faults }
+    ensures reports { IfOk result (λ r. IfSome (D.shown depot.old).told (λ files.
+        Reported files (ask asked words.now) r.passed r.text steps.old steps.new)) }
+    ensures refused { IfErr result (λ s. IfSome (D.shown depot.old).told (λ files.
+        reply.Unreported files (ask asked words.now) s)) }
+    ensures form { IfOk result (λ _. HasForm (ask asked words.now)) }
+    ensures ends { IfErr result (λ s.
+        ReportEnds (ask asked words.now) s (D.shown depot.old) (D.shown depot.new)) }
+{
+    match asked {
+        Some(Command::Gen { tests, workers }) => {
+            summary_for(rt, alloc, tests, workers, gate, steps)
+        }
+        _ => suite_text(rt, alloc, asked, words, depot, gate, steps),
+    }
+}
+
+/// Answers the words of a command line; each answer that is no report is a line `electric: ..` that says why. What
+/// `electric_plain` serves it answers in the same way. Beside that
+///
+/// - `run SUITE RECORD N SEL` runs the closure of the selection, by the record, on N workers, and writes the report;
+/// - `run SUITE RECORD N SEL log` writes the history of claims and posts behind it;
+/// - `gen K N` runs a generated suite of K tests on N workers and writes its summary; it reads no file of the depot.
+///
+/// A worker calls the gate before each test. The call waits for its threads. `Over` comes for such a run only where a test
+/// passes its budget after the tests that the status lists.
+pub fn electric<R: Threads + Wait + Sync, D: Depot, S: Sink, G: Gate + Sync, L: Ledger>(
+    rt: &R,
+    alloc: Global,
+    words: &[Text],
+    depot: &mut D,
+    sink: &mut S,
+    gate: &G,
+    steps: &mut Steps<L>,
+) -> Status
+    ensures told { (D.shown depot.new).told ≡ (D.shown depot.old).told }
+    ensures depot_faults { (D.shown depot.old).faults ≤ (D.shown depot.new).faults }
+    ensures sink_faults { (S.shown sink.old).faults ≤ (S.shown sink.new).faults }
+    // What it answers, where the depot's files are told.
+    ensures served { IfSome (D.shown depot.old).told (λ files.
+        let asked : Asked = record {
+          files = files;
+          ask = threaded words.now;
+          depot = D.shown depot.old;
+          depot_now = D.shown depot.new;
+          begun = steps.old;
+          now = steps.new;
+        } in Served asked result (S.shown sink.old) (S.shown sink.new)) }
+    // With the suite's own record a run is answered by what its tests do in the suite's own order.
+    ensures own { IfSome (D.shown depot.old).told (λ files.
+        let asked : Asked = record {
+          files = files;
+          ask = threaded words.now;
+          depot = D.shown depot.old;
+          depot_now = D.shown depot.new;
+          begun = steps.old;
+          now = steps.new;
+        } in OwnAnswer asked result (S.shown sink.old) (S.shown sink.new)) }
+    // So is a lawful order.
+    ensures own_order { IfSome (D.shown depot.old).told (λ files.
+        let asked : Asked = record {
+          files = files;
+          ask = threaded words.now;
+          depot = D.shown depot.old;
+          depot_now = D.shown depot.new;
+          begun = steps.old;
+          now = steps.new;
+        } in OwnOrderAnswer asked result (S.shown sink.old) (S.shown sink.new)) }
+    // What the sink took, whatever the depot tells.
+    ensures taken { Taken result (S.shown sink.old) (S.shown sink.new) }
+    // When the words, a depot or a sink are answered, whatever the depot tells.
+    ensures ends { let depot_now = D.shown depot.new in let sink_now = S.shown sink.new in
+        Ends (threaded words.now) result (D.shown depot.old) depot_now (S.shown sink.old) sink_now }
+{
+    let asked = served_of(command_of(words));
+    match asked_text(rt, alloc, asked, words, depot, gate, steps) {
+        Ok(report) => written(sink, report.text.as_slice(), report_status(&report)),
+        Err(status) => refused(alloc, sink, status),
+    }
+}

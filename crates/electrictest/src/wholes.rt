@@ -1,0 +1,48 @@
+//! Runs of the whole suite.
+
+ghost use Rattle.std.specs.Prelude.{ℕ, List, Option, Some, IfOk, IfErr};
+ghost use Rattle.outside.specs.Depot.{Files, DepotView};
+ghost use Rattle.electrictest.specs.Commands.{ReportEnds, ReportsOver, RefusedOver};
+ghost use Rattle.electrictest.specs.declared.words.Command.TheVariants as command;
+ghost use Rattle.electrictest.specs.Running.{RunRefused, WholeReports};
+ghost use Rattle.electrictest.specs.Words.{ask};
+
+use crate::reports::{Report, report_on};
+use crate::running::run_all;
+use crate::status::Status;
+use outside::Steps;
+use std::alloc::Global;
+use std::sync::ledger::Ledger;
+use suite_load::Loaded;
+
+// The report on the whole suite.
+fn whole_report<L: Ledger>(
+    alloc: Global,
+    loaded: &Loaded,
+    steps: &mut Steps<L>,
+) -> Result<Report, Status>
+    ensures reports { IfOk result (λ r. WholeReports loaded.now r.passed r.text steps.old steps.new) }
+    ensures refused { IfErr result (RunRefused loaded.now) }
+{
+    let outcomes = run_all(alloc, loaded, steps)?;
+    let report = report_on(alloc, &loaded.names, outcomes.as_slice())?;
+    Ok(report)
+}
+
+/// The report on the whole suite, run in order on one heap.
+///
+/// `Over` comes where a test passes its budget or the rest of the suite's units.
+pub fn whole_for<L: Ledger>(
+    alloc: Global,
+    loaded: &Loaded,
+    steps: &mut Steps<L>,
+) -> Result<Report, Status>
+    ensures reports { (told : Option Files) (words : List (List ℕ)) → IfOk result (λ r. ReportsOver
+        told (ask (Some command.Whole) words) loaded.now r.passed r.text steps.old steps.new) }
+    ensures refused { (told : Option Files) (words : List (List ℕ)) → IfErr result (λ s.
+        RefusedOver told (ask (Some command.Whole) words) loaded.now s) }
+    ensures ends { (words : List (List ℕ)) (depot : DepotView) → IfErr result (λ s.
+        ReportEnds (ask (Some command.Whole) words) s depot depot) }
+{
+    whole_report(alloc, loaded, steps)
+}
