@@ -2,6 +2,7 @@
 
 ghost use Rattle.std.specs.Prelude.{◌≡◌, ◌<◌};
 ghost use Rattle.electrictest.specs.Commands.{Ends};
+ghost use Rattle.electrictest.specs.Words.{plain};
 
 use electrictest::{Status, electric_plain};
 use et_base::{Items, NoMemory, Text};
@@ -56,7 +57,7 @@ fn answer_on<D: Depot, S: Sink, L: Ledger>(
     requires parts { blank.parts ≡ L.parts }
     requires some { 0 < blank.parts }
     ensures { let depot_now = D.shown depot.new in let sink_now = S.shown sink.new in
-        Ends words.now result (D.shown depot.old) depot_now (S.shown sink.old) sink_now }
+        Ends (plain words.now) result (D.shown depot.old) depot_now (S.shown sink.old) sink_now }
 {
     let mut steps = Steps::<L>::new(blank);
     electric_plain(alloc, words, depot, sink, &mut steps)
@@ -70,7 +71,7 @@ pub fn answer<D: Depot, S: Sink>(
     sink: &mut S,
 ) -> Status
     ensures { let depot_now = D.shown depot.new in let sink_now = S.shown sink.new in
-        Ends words.now result (D.shown depot.old) depot_now (S.shown sink.old) sink_now }
+        Ends (plain words.now) result (D.shown depot.old) depot_now (S.shown sink.old) sink_now }
 {
     answer_on::<D, S, Brand>(alloc, words, depot, sink, Blank::new(1))
 }
