@@ -1,66 +1,67 @@
--- First mentions, one after another.
-use Rattle.std.proofs.Common.{◌≡◌, ℕ, Bool, true, false, not, ◌||◌, cond, List, [], ◌∷◌, ◌++◌, Option, Some, None, nat_eq, refl, sym, ap, ◌∙◌, arith}
-use Rattle.std.specs.Prelude.{filter, fold}
-use Rattle.std.specs.List.{list_any}
-use Rattle.std.proofs.lemmas.List.{append-nil}
-use Rattle.std.proofs.lemmas.List.Elements.{filter-append}
-use Rattle.std.proofs.lemmas.Map.Views.{any-filter_same}
-use Rattle.std.proofs.lemmas.Bool.Decides.{nat_tests}
-use Rattle.indexmap.specs.IndexSet.{insert_key}
-use Rattle.jvm_model.specs.Classes.{first_mentions}
+-- Which classes a pool names, in rising order.
+use Rattle.std.proofs.Common.{◌≡◌, ◌≢◌, ◌⊎◌, ℕ, ◌+◌, ◌-◌, ◌<◌, ◌≤◌, Bool, true, false, ◌||◌, cond, List, [], ◌∷◌, ◌++◌, length, nat_eq, slice_index_or, slice_set, Option, Some, None, refl, sym, ap, ◌∙◌, subst, inl, inr, arith}
+use Rattle.std.proofs.Math.Bool.{or-true, or-false}
+use Rattle.std.proofs.lemmas.Bool.{cases_Bool, eqb-true, eqb-false, ne_eqb}
+use Rattle.std.specs.Prelude.{filter}
 use Rattle.std.specs.Option.{option_to_list}
+use Rattle.std.specs.List.{range_with_len}
+use Rattle.std.proofs.lemmas.List.{append-nil, get_or-set_same, get_or-set_other, length-set}
+use Rattle.std.proofs.lemmas.List.Elements.{filter-append}
+use Rattle.std.proofs.lemmas.List.Folds.{list_any-append}
+use Rattle.jvm_model.specs.Builtin.{builtin_count}
+use Rattle.jvm_model.specs.Classes.{member}
+use Rattle.builtin_lib.proofs.Counts.{range_more}
+use Rattle.class_link.specs.Marks.{Lists}
 
--- the numbers that aren't a
-abbrev others : ℕ → List ℕ → List ℕ
-others a ks = filter (λ y. not (nat_eq a y)) ks
+-- ---- a number more is listed
 
-same_as : (a k x : ℕ) → nat_eq x k ≡ true → nat_eq a k ≡ nat_eq x a
-same_as a k x same = grind (arith, nat_tests)
+listed_more : (i j : ℕ) (is : List ℕ) → member j (is ++ i ∷ []) ≡ (member j is || nat_eq j i)
+listed_more i j is = list_any-append (nat_eq j) is (i ∷ []) ∙ ap (λ b. member j is || b) (or-false (nat_eq j i))
 
-turned : (a x : ℕ) → nat_eq a x ≡ nat_eq x a
-turned a x = grind (arith, nat_tests)
+set_at : (table : List Bool) (i j : ℕ) (is : List ℕ) → i < length table → slice_index_or table j false ≡ member j is → slice_index_or (slice_set table i true) j false ≡ member j (is ++ i ∷ [])
+set_at table i j is h e = elim (cases_Bool (nat_eq j i)) [
+  | inl t ↦ let same : j ≡ i = eqb-true j i t in subst (λ k. slice_index_or (slice_set table i true) k false ≡ member j (is ++ i ∷ [])) (sym same) (get_or-set_same table i true false h ∙ sym (listed_more i j is ∙ ap (λ b. member j is || b) t ∙ or-true (member j is)))
+  | inr f ↦ get_or-set_other table i j true false (eqb-false j i f) ∙ e ∙ sym (listed_more i j is ∙ ap (λ b. member j is || b) f ∙ or-false (member j is))
+]
 
--- a number other than a is among them as before
-any_others : (a x : ℕ) (ks : List ℕ) → nat_eq x a ≡ false → list_any (nat_eq x) (others a ks) ≡ list_any (nat_eq x) ks
-any_others a x ks h = any-filter_same (nat_eq x) (λ y. not (nat_eq a y)) true (λ k same. ap not (same_as a k x same ∙ h)) ks
+pub lists_more : (table : List Bool) (n i : ℕ) (is : List ℕ) → i < length table → Lists table n is → Lists (slice_set table i true) n (is ++ i ∷ [])
+lists_more table n i is h l = record {
+  size = length-set table i true ∙ l.size;
+  each = λ j g. set_at table i j is h (l.each j g);
+}
 
-unless_not : (b : Bool) (xs : List ℕ) → cond (not b) xs [] ≡ cond b [] xs
-unless_not true xs = refl
-unless_not false xs = refl
+-- one that is too large for the table
+pub lists_past : (table : List Bool) (n i : ℕ) (is : List ℕ) → length table ≤ i → Lists table n is → Lists table n (is ++ i ∷ [])
+lists_past table n i is h l = record {
+  size = l.size;
+  each = λ j g. let size = l.size in let other : j ≢ i = λ e. omega (arith, e, g, h, size) in l.each j g ∙ sym (listed_more i j is ∙ ap (λ b. member j is || b) (ne_eqb j i other) ∙ or-false (member j is));
+}
 
--- x alone, without those that are a
-others_one : (a x : ℕ) (b : Bool) → nat_eq x a ≡ b → others a (x ∷ []) ≡ cond b [] (x ∷ [])
-others_one a x b h = ap (λ t. cond (not t) (x ∷ []) []) (turned a x ∙ h) ∙ unless_not b (x ∷ [])
+-- none
+pub lists_none : (table : List Bool) (n : ℕ) (is : List ℕ) (o : Option ℕ) → ((i : ℕ) → o ≢ Some i) → Lists table n is → Lists table n (is ++ option_to_list o)
+lists_none table n is None other h = subst (λ js. Lists table n js) (sym (append-nil is)) h
+lists_none table n is (Some i) other h = absurd (other i refl)
 
-others_push : (a x : ℕ) (ks : List ℕ) (b : Bool) → nat_eq x a ≡ b → others a (ks ++ x ∷ []) ≡ others a ks ++ cond b [] (x ∷ [])
-others_push a x ks b h = filter-append (λ y. not (nat_eq a y)) ks (x ∷ []) ∙ ap (λ ys. others a ks ++ ys) (others_one a x b h)
+-- ---- the given classes so far
 
--- x goes last among the others, unless it is a
-others_more : (a x : ℕ) (ks : List ℕ) (b : Bool) → nat_eq x a ≡ b → others a (insert_key nat_eq ks x) ≡ cond b (others a ks) (insert_key nat_eq (others a ks) x)
-others_more a x ks true h = by (list_any (nat_eq x) ks) (others_push a x ks true h ∙ append-nil (others a ks))
-  where
-    by : (there : Bool) → others a (ks ++ x ∷ []) ≡ others a ks → others a (cond there ks (ks ++ x ∷ [])) ≡ others a ks
-    by true last = refl
-    by false last = last
-others_more a x ks false h = by (list_any (nat_eq x) ks) (others_push a x ks false h) ∙ ap (λ there. cond there (others a ks) (others a ks ++ x ∷ [])) (sym (any_others a x ks h))
-  where
-    by : (there : Bool) → others a (ks ++ x ∷ []) ≡ others a ks ++ x ∷ [] → others a (cond there ks (ks ++ x ∷ [])) ≡ cond there (others a ks) (others a ks ++ x ∷ [])
-    by true last = refl
-    by false last = last
+abbrev so_far : (ℕ → Bool) → ℕ → List ℕ
+so_far f class = filter f (range_with_len builtin_count (class - builtin_count))
 
-behind : (a x : ℕ) (ks : List ℕ) (b there : Bool) → a ∷ cond b ks (cond there ks (ks ++ x ∷ [])) ≡ cond (b || there) (a ∷ ks) ((a ∷ ks) ++ x ∷ [])
-behind a x ks true there = refl
-behind a x ks false true = refl
-behind a x ks false false = refl
+more_numbers : (class : ℕ) → builtin_count ≤ class → range_with_len builtin_count ((class + 1) - builtin_count) ≡ range_with_len builtin_count (class - builtin_count) ++ class ∷ []
+more_numbers class h = ap (range_with_len builtin_count) (omega (arith, h)) ∙ range_more builtin_count (class - builtin_count) class (omega (arith, h))
 
--- one more mention
-pub first_more : (xs : List ℕ) (x : ℕ) → first_mentions (xs ++ x ∷ []) ≡ insert_key nat_eq (first_mentions xs) x
-first_more [] x = refl
-first_more (a ∷ xs) x =
-    ap (λ (ks : List ℕ). a ∷ others a ks) (first_more xs x) ∙ ap (λ (ks : List ℕ). a ∷ ks) (others_more a x (first_mentions xs) (nat_eq x a) refl)
-    ∙ behind a x (others a (first_mentions xs)) (nat_eq x a) (list_any (nat_eq x) (others a (first_mentions xs)))
+one_more : (f : ℕ → Bool) (class : ℕ) → builtin_count ≤ class → so_far f (class + 1) ≡ so_far f class ++ cond (f class) (class ∷ []) []
+one_more f class h = ap (filter f) (more_numbers class h) ∙ filter-append f (range_with_len builtin_count (class - builtin_count)) (class ∷ [])
 
--- one more that may be none
-pub first_more_of : (xs : List ℕ) (x : Option ℕ) → first_mentions (xs ++ option_to_list x) ≡ fold (insert_key nat_eq) (first_mentions xs) (option_to_list x)
-first_more_of xs None = ap first_mentions (append-nil xs)
-first_more_of xs (Some x) = first_more xs x
+-- one that is listed
+pub given_next : (f : ℕ → Bool) (class : ℕ) (xs : List ℕ) → builtin_count ≤ class → f class ≡ true → xs ≡ so_far f class → xs ++ class ∷ [] ≡ so_far f (class + 1)
+given_next f class xs h t e = ap (λ ys. ys ++ class ∷ []) e ∙ sym (one_more f class h ∙ ap (λ b. so_far f class ++ cond b (class ∷ []) []) t)
+
+-- one that isn't
+pub not_given : (f : ℕ → Bool) (class : ℕ) (xs : List ℕ) → builtin_count ≤ class → f class ≡ false → xs ≡ so_far f class → xs ≡ so_far f (class + 1)
+not_given f class xs h t e = e ∙ sym (one_more f class h ∙ ap (λ b. so_far f class ++ cond b (class ∷ []) []) t ∙ append-nil (so_far f class))
+
+-- where the last number is reached
+pub ends_at : (class end : ℕ) → (class ≡ builtin_count) ⊎ (class ≤ end) → end ≤ class → class - builtin_count ≡ end - builtin_count
+ends_at class end (inl e) far = omega (arith, e, far)
+ends_at class end (inr low) far = omega (arith, low, far)

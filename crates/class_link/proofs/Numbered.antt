@@ -1,5 +1,5 @@
 -- Names to numbers: a class's number names an entry of the program, and that entry has the name.
-use Rattle.std.proofs.Common.{◌≡◌, ℕ, ◌+◌, ◌<◌, List, [], ◌∷◌, ◌++◌, length, map, get_or, true, refl, sym, ◌∙◌, ap, subst, arith, Option, Some, None, IfSome, All}
+use Rattle.std.proofs.Common.{◌≡◌, ℕ, ◌+◌, ◌-◌, ◌<◌, List, [], ◌∷◌, ◌++◌, length, map, get_or, true, refl, sym, ◌∙◌, ap, subst, arith, Option, Some, None, IfSome, All}
 use Rattle.std.specs.Prelude.{flat_map, option_and_then, unwrap_or}
 use Rattle.std.specs.List.{range_with_len}
 use Rattle.std.proofs.lemmas.List.{length-map, map-append, get_or-map}
@@ -14,6 +14,7 @@ use Rattle.jvm_model.specs.declared.program.Body.{Body}
 use Rattle.jvm_model.specs.declared.program.ClassRec.{ClassRec}
 use Rattle.jvm_model.specs.declared.program.TestEntry.{TestEntry}
 use Rattle.std.specs.Str.{bytes_eq}
+use Rattle.jvm_model.specs.Builtin.{builtin_count}
 use Rattle.jvm_model.specs.Library.{builtin_classes, builtin_fields, builtin_methods}
 use Rattle.jvm_model.specs.Classes.{class_at, no_class, first_mentions}
 use Rattle.jvm_model.specs.Linked.{IsClass}
@@ -46,14 +47,6 @@ all_flat P f (x ∷ xs) h = All-append P (f x) (flat_map f xs) (h x) (all_flat P
 pub all_mentions : (P : ℕ → Type 0) (xs : List ℕ) → All P xs → All P (first_mentions xs)
 all_mentions P [] h = All-nil P
 all_mentions P (x ∷ xs) h = All-cons P x _ (All-head P x xs h) (All-filter _ P (first_mentions xs) (all_mentions P xs (All-tail P x xs h)))
-
-pub all_to_list : (P : ℕ → Type 0) (o : Option ℕ) → IfSome o P → All P (option_to_list o)
-all_to_list P None h = All-nil P
-all_to_list P (Some x) h = All-cons P x [] h (All-nil P)
-
-pub and_then_some : {A : Type 0} (P : ℕ → Type 0) (f : A → Option ℕ) (o : Option A) → ((x : A) → IfSome (f x) P) → IfSome (option_and_then f o) P
-and_then_some P f None h = tt
-and_then_some P f (Some x) h = h x
 
 -- ---- names
 
@@ -100,5 +93,5 @@ module _ (body : ClassParts → CodePart → Body) (cs : List ClassParts) (tests
   pub number_class : (name : List ℕ) → IsClass p (number_or_first (all_names cs) name)
   number_class name = let a = class_count body cs tests files in let b = names_length in subst (λ k. number_or_first (all_names cs) name < k) names_length (number_within (all_names cs) name (omega arith))
 
-  pub number_class_some : (name : List ℕ) → IfSome (class_number (all_names cs) name) (λ n. IsClass p n)
-  number_class_some name = if_some (λ n. IsClass p n) (class_number (all_names cs) name) (λ n e. (number_is name n e).0)
+  pub given_number : (k : ℕ) → k < length (all_names cs) - builtin_count → IsClass p (builtin_count + k)
+  given_number k h = subst (λ n. builtin_count + k < n) names_length (omega (arith, h))

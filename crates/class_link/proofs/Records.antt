@@ -2,7 +2,7 @@
 use Rattle.std.proofs.Common.{◌≡◌, ℕ, suc, ◌+◌, ◌<◌, List, [], ◌∷◌, length, slice_get, true, refl, sym, ◌∙◌, ap, subst, inl, inr, arith, Option, Some, All}
 use Rattle.std.specs.Prelude.{flat_map}
 use Rattle.std.proofs.lemmas.Bool.{cases_Bool, cond-true, cond-false}
-use Rattle.std.proofs.lemmas.List.Elements.{All-map, All-nil}
+use Rattle.std.proofs.lemmas.List.Elements.{All-map, All-filter}
 use Rattle.std.proofs.lemmas.Option.{slice_get_within}
 use Rattle.class_pool.specs.declared.pool.Entry.{Entry}
 use Rattle.class_pool.specs.declared.pool.Entry.TheVariants as entry
@@ -16,15 +16,15 @@ use Rattle.jvm_model.specs.declared.program.Body.{Body}
 use Rattle.jvm_model.specs.declared.program.TestEntry.{TestEntry}
 use Rattle.jvm_model.specs.Builtin.{builtin_count}
 use Rattle.jvm_model.specs.Library.{builtin_fields, builtin_methods}
-use Rattle.jvm_model.specs.Classes.{class_at, field_at, method_at}
+use Rattle.jvm_model.specs.Classes.{class_at, field_at, method_at, member}
 use Rattle.jvm_model.specs.Linked.{IsClass, IsField, IsMethod, NamesClass}
 use Rattle.jvm_model.proofs.BuiltinRules.{builtin_names, builtin_field_class, builtin_method_class}
-use Rattle.class_link.specs.ClassNames.{text_at, name_at, all_names, class_number, number_or_first, needed_class}
+use Rattle.class_link.specs.ClassNames.{name_at, all_names, number_or_first}
 use Rattle.class_link.specs.Literals.{literals}
-use Rattle.class_link.specs.Assembly.{mentioned_by, is_initialiser, initialiser_from, class_rec, field_rec, method_rec, assembled}
+use Rattle.class_link.specs.Assembly.{mentioned_by, given_classes, is_initialiser, initialiser_from, class_rec, field_rec, method_rec, assembled}
 use Rattle.class_link.proofs.Blocks.{at_place, before}
 use Rattle.class_link.proofs.Assembled.{own_fields, own_methods, GivenMember, holds_builtins, class_given, field_given, method_given, class_cases, field_cases, method_cases, given_class_is, given_field_is, given_method_is}
-use Rattle.class_link.proofs.Numbered.{if_some, all_range, all_flat, all_mentions, all_to_list, and_then_some, number_class, number_class_some}
+use Rattle.class_link.proofs.Numbered.{if_some, all_range, number_class, given_number}
 
 -- the initialiser's number is that of a method which is one
 pub record Initialiser (m : ℕ) (slots : List (Option Entry)) (xs : List MemberPart) (n : ℕ) : Type 0 where
@@ -48,10 +48,6 @@ module _ (body : ClassParts → CodePart → Body) (cs : List ClassParts) (tests
   abbrev p : Program
   p = assembled body cs tests files
 
-  mentioned_class : (slots : List (Option Entry)) (e : Option Entry) → All (λ d. IsClass p d) (mentioned_by (all_names cs) slots e)
-  mentioned_class slots (Some (entry.Class name)) = all_to_list (λ d. IsClass p d) _ (and_then_some (λ d. IsClass p d) (class_number (all_names cs)) (needed_class (text_at slots name)) (λ n. number_class_some body cs tests files n))
-  mentioned_class slots _ = All-nil (λ d. IsClass p d)
-
   module _ (i : ℕ) (c : ClassParts) (h : slice_get cs i ≡ Some c) where
     field_number : (k : ℕ) → k < length c.fields → IsField p ((length builtin_fields + before own_fields cs i) + k)
     field_number k g =
@@ -74,7 +70,7 @@ module _ (body : ClassParts → CodePart → Body) (cs : List ClassParts) (tests
       initialiser = if_some (λ m. IsMethod p m) (initialiser_from (length builtin_methods + before own_methods cs i) c.pool c.methods) (λ n e.
           let r = initialiser_is _ c.pool c.methods n e in
           subst (λ m. IsMethod p m) (sym r.number) (method_number r.index (slice_get_within c.methods r.index r.member r.there)));
-      mentions = all_mentions (λ d. IsClass p d) (flat_map (mentioned_by (all_names cs) c.pool) c.pool) (all_flat (λ d. IsClass p d) (mentioned_by (all_names cs) c.pool) c.pool (mentioned_class c.pool));
+      mentions = All-filter (λ d. member d (flat_map (mentioned_by (all_names cs) c.pool) c.pool)) (λ d. IsClass p d) (given_classes (all_names cs)) (all_range (λ d. IsClass p d) builtin_count _ (given_number body cs tests files));
     }
 
     pub class_numbers_given : NamesClass p (class_at p (builtin_count + i))

@@ -1,6 +1,6 @@
 -- The records of a program, whatever the bodies of its methods are: built-in classes, fields and methods first, then those
 -- of the class files in the suite's order.
-use Rattle.std.specs.Prelude.{ℕ, ◌+◌, List, [], ◌∷◌, ◌++◌, length, map, flat_map, option_map, option_and_then, Option, Some, None, is_some, Bool, false, ◌&&◌, cond}
+use Rattle.std.specs.Prelude.{ℕ, ◌+◌, List, [], ◌∷◌, ◌++◌, length, map, flat_map, option_map, option_and_then, Option, Some, None, is_some, Bool, false, ◌&&◌, cond, ◌-◌, filter}
 use Rattle.std.specs.List.{range_with_len}
 use Rattle.class_pool.specs.declared.pool.Entry.{Entry}
 use Rattle.class_pool.specs.declared.pool.Entry.TheVariants as entry
@@ -19,7 +19,7 @@ use Rattle.jvm_model.specs.declared.program.TestEntry.{TestEntry}
 use Rattle.std.specs.Str.{bytes_eq}
 use Rattle.jvm_model.specs.Builtin.{builtin_count}
 use Rattle.jvm_model.specs.Library.{builtin_classes, builtin_fields, builtin_methods}
-use Rattle.jvm_model.specs.Classes.{is_static, clinit_name, default_of, first_mentions}
+use Rattle.jvm_model.specs.Classes.{is_static, clinit_name, default_of, member}
 use Rattle.jvm_model.specs.Driver.{no_arguments}
 use Rattle.jvm_model.specs.Narrow.{narrowed}
 use Rattle.std.specs.Option.{option_to_list}
@@ -33,9 +33,13 @@ abbrev pub mentioned_by : List (List ℕ) → List (Option Entry) → Option Ent
 mentioned_by names slots (Some (entry.Class name)) = option_to_list (option_and_then (class_number names) (needed_class (text_at slots name)))
 mentioned_by names slots _ = []
 
--- the classes that the Class entries of a pool name
+-- the given classes, whose numbers follow those of the built-in ones
+abbrev pub given_classes : List (List ℕ) → List ℕ
+given_classes names = range_with_len builtin_count (length names - builtin_count)
+
+-- the given classes that the Class entries of a pool name, in rising order
 abbrev pub mentions : List (List ℕ) → List (Option Entry) → List ℕ
-mentions names slots = first_mentions (flat_map (mentioned_by names slots) slots)
+mentions names slots = filter (λ c. member c (flat_map (mentioned_by names slots) slots)) (given_classes names)
 
 -- the class's own static `<clinit>` with `()V` and code (JVMS 2.9)
 abbrev pub is_initialiser : List (Option Entry) → MemberPart → Bool

@@ -1,15 +1,17 @@
 //! The classes that a pool names.
 
-ghost use Rattle.std.specs.Prelude.{◌≡◌, fold, nat_eq, IfOk, OnOk};
-ghost use Rattle.indexmap.specs.IndexSet.{insert_key};
+ghost use Rattle.std.specs.Prelude.{◌≡◌, ℕ, List, ◌++◌, length, IfOk};
+ghost use Rattle.std.specs.List.{flat_map};
 ghost use Rattle.std.specs.Option.{option_to_list};
 ghost use Rattle.class_link.specs.Assembly.{mentioned_by, mentions};
+ghost use Rattle.class_link.specs.Marks.{Lists};
 
 use crate::entries::text_at;
 use crate::names::{ClassNames, needed_class};
+use crate::supertypes::unlisted;
 use class_pool::Entry;
 use et_base::{Items, NoMemory};
-use indexmap::IndexSet;
+use jvm_model::BUILTIN_COUNT;
 use std::alloc::Global;
 
 // The class that an entry names, where it is there.
@@ -22,17 +24,35 @@ fn mentioned_by(names: &ClassNames, slots: &[Option<Entry>], slot: &Option<Entry
     }
 }
 
-// Puts a number last, unless it is there.
-fn note(seen: &mut IndexSet<u32>, mention: Option<u32>) -> Result<(), NoMemory>
-    ensures { OnOk result (seen.new.keys ≡ fold (insert_key nat_eq) seen.old.keys (option_to_list mention)) }
+// Lists a number too, where it is below the table's size.
+fn list(table: &mut Vec<bool>, number: Option<u32>)
+    ensures { (n : ℕ) (is : List ℕ) → Lists table.old.items n is → Lists table.new.items n (is ++ option_to_list number) }
 {
-    if let Some(class) = mention {
-        seen.insert(class)?;
+    if let Some(number) = number {
+        let place = number as usize;
+        if place < table.len() {
+            table[place] = true;
+        }
     }
-    Ok(())
 }
 
-/// The classes that the Class entries of a pool name, each once, in the order of their first mentions.
+// Which classes the Class entries of a pool name.
+fn named_in(
+    alloc: Global,
+    names: &ClassNames,
+    slots: &[Option<Entry>],
+) -> Result<Vec<bool>, NoMemory>
+    ensures { IfOk result (λ table. Lists table.items (length names.now)
+        (flat_map (mentioned_by names.now slots.now) slots.now)) }
+{
+    let mut table = unlisted(alloc, names.len() as usize)?;
+    for slot in slots {
+        list(&mut table, mentioned_by(names, slots, slot));
+    }
+    Ok(table)
+}
+
+/// The given classes that the Class entries of a pool name, in rising order.
 pub(crate) fn mentions(
     alloc: Global,
     names: &ClassNames,
@@ -40,9 +60,12 @@ pub(crate) fn mentions(
 ) -> Result<Items<u32>, NoMemory>
     ensures { IfOk result (λ made. made ≡ mentions names.now slots.now) }
 {
-    let mut seen = IndexSet::new(alloc);
-    for slot in slots {
-        note(&mut seen, mentioned_by(names, slots, slot))?;
+    let table = named_in(alloc, names, slots)?;
+    let mut mentions = Items::new(alloc);
+    for class in BUILTIN_COUNT..names.len() {
+        if table[class as usize] {
+            mentions.push(class)?;
+        }
     }
-    Items::from_slice(alloc, seen.as_slice())
+    Ok(mentions)
 }

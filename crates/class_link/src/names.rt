@@ -38,6 +38,13 @@ impl Model for ClassNames {
 }
 
 impl ClassNames {
+    /// How many classes there are.
+    pub(crate) fn len(&self) -> u32
+        ensures { result ≡ length self.now }
+    {
+        self.names.len()
+    }
+
     /// The number of the class of this name; it takes constant time.
     pub(crate) fn number(&self, name: &[u16]) -> Option<u32>
         ensures { result ≡ class_number self.now name.now }

@@ -94,8 +94,8 @@ fn check_supertype(
     )
 }
 
-// So many times false.
-fn unlisted(alloc: Global, size: usize) -> Result<Vec<bool>, NoMemory>
+/// So many times false.
+pub(crate) fn unlisted(alloc: Global, size: usize) -> Result<Vec<bool>, NoMemory>
     ensures { IfOk result (λ table. Lists table.items size []) }
 {
     let mut table = Vec::with_capacity(alloc, size)?;

@@ -46,6 +46,13 @@ impl TextSet {
         }
     }
 
+    /// How many texts there are.
+    pub(crate) fn len(&self) -> u32
+        ensures { result ≡ length self.now }
+    {
+        self.texts.len() as u32
+    }
+
     /// Puts a text last, unless it is there. Answers whether it is new.
     pub(crate) fn note(&mut self, alloc: Global, text: &[u16]) -> Result<bool, NoMemory>
         requires { length self.old + 1 < 4294967295 }

@@ -5,11 +5,11 @@ mod EdgeLaws
 mod FieldLaws
 mod FoundLaws
 mod GivenFields
-mod GivenLaws
-mod HashLaws
+pub mod GivenLaws
+pub mod HashLaws
 mod JsonLaws
 mod LineLaws
 mod ListedLaws
-mod NumberLaws
+pub mod NumberLaws
 mod SaidLaws
 mod TextLaws

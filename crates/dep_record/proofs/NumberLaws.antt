@@ -15,11 +15,11 @@ digits_after most value (b ∷ bs) = option_and_then (λ v. digits_after most v 
 abbrev within : ℕ → ℕ → List ℕ → Option ℕ
 within most value bs = cond (all_ascii_digits bs && nat_le (digits_value_after 10 value bs) most) (Some (digits_value_after 10 value bs)) None
 
-value_grows : (n : ℕ) (bs : List ℕ) → n ≤ digits_value_after 10 n bs
+pub value_grows : (n : ℕ) (bs : List ℕ) → n ≤ digits_value_after 10 n bs
 value_grows n [] = omega arith
 value_grows n (b ∷ bs) = let h = value_grows (n * 10 + digit_value b) bs in omega (arith, h)
 
-digit_is : (b : ℕ) → is_ascii_digit b ≡ true → digit_value b ≡ b - 48
+pub digit_is : (b : ℕ) → is_ascii_digit b ≡ true → digit_value b ≡ b - 48
 digit_is b h = grind arith
 
 past : (most n : ℕ) (bs : List ℕ) → most < n → within most n bs ≡ None

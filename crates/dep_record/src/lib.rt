@@ -16,6 +16,7 @@ mod report_text;
 
 pub use hashes::{digest, prints};
 pub use laws::text_laws;
+pub use numbers::number_up_to;
 pub use reading::read_record;
 pub use record_text::write_record;
 pub use refusal::RecordRefusal;

@@ -9,6 +9,7 @@ use Rattle.order_law.specs.declared.edges.Edge.{Edge}
 use Rattle.order_law.specs.Conflicts.{Member, Distinct, Joined, ClosedUnderRaw}
 use Rattle.order_law.specs.RecordForm.{are_chains}
 use Rattle.order_law.specs.Histories.{RecordOf, IsTestNumber}
+use Rattle.order_law.specs.OwnRecord.{edges_of}
 
 abbrev pub chain_at : List (List ℕ) → ℕ → List ℕ
 chain_at C i = get_or C i []
@@ -165,3 +166,9 @@ abbrev pub LawOfInterleavings : Type 0
 LawOfInterleavings = (p : Program) (R : List Edge) (set : List ℕ) (C : List (List ℕ)) (n : ℕ) (es : List Event) →
     Linked p → is_detected p ≡ true → RecordOf p R → ((t : ℕ) → Member t set → IsTestNumber p t) →
     ClosedUnderRaw R (λ t. Member t set) → AreChainsOf R (λ t. Member t set) C → Legal p C n es → IsFaithful p set C es
+
+-- So does it by the edges of the program's own record.
+abbrev pub OwnInterleavings : Type 0
+OwnInterleavings = (p : Program) (set : List ℕ) (C : List (List ℕ)) (n : ℕ) (es : List Event) →
+    Linked p → is_detected p ≡ true → ((t : ℕ) → Member t set → IsTestNumber p t) →
+    ClosedUnderRaw (edges_of p) (λ t. Member t set) → AreChainsOf (edges_of p) (λ t. Member t set) C → Legal p C n es → IsFaithful p set C es

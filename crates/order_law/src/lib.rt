@@ -3,7 +3,7 @@
 
 ghost use Rattle.order_law.specs.FrameLaw.{FrameLaw};
 ghost use Rattle.order_law.specs.Histories.{LawOfOrder};
-ghost use Rattle.order_law.specs.Plan.{LawOfInterleavings, LawOfHistories, ChainsApart, FormsApart};
+ghost use Rattle.order_law.specs.Plan.{LawOfInterleavings, OwnInterleavings, LawOfHistories, ChainsApart, FormsApart};
 ghost use Rattle.order_law.specs.OwnRecord.{OwnLaw, EdgesLaw};
 ghost use Rattle.order_law.specs.OrderFault.{LawOfFaults};
 ghost use Rattle.order_law.specs.OwnForm.{UnitsLaw, OrderedLaw, CountedLaw, ReachLaw, PlaceLaw};
@@ -35,9 +35,11 @@ pub fn lawful_order_law()
 
 /// Every interleaving. In every legal history of claims and posts over the chains of a set each post has that outcome, no
 /// test is posted twice and none outside the set, a complete history posts the whole set, and what a worker runs next will
-/// have that outcome too, so that it meets no budget.
+/// have that outcome too, so that it meets no budget: by any edges that are there exactly where there is a conflict, and by
+/// those of the suite's own record.
 pub fn interleavings_law()
-    ensures { LawOfInterleavings }
+    ensures any { LawOfInterleavings }
+    ensures own { OwnInterleavings }
 {}
 
 /// Legal histories by their rules alone, of whatever record. A chain is claimed once at most, and a test posted once at most;

@@ -26,7 +26,7 @@ units_without (u ∷ l) units t h f g =
     ∙ sym (sum_by-cons (λ x. at units (x - 1)) u l)
 
 -- different tests have no more units than there are
-pub units_within : (l units : List ℕ) → Distinct l → HasUnits l units → units_of units l ≤ sum units
+units_within : (l units : List ℕ) → Distinct l → HasUnits l units → units_of units l ≤ sum units
 units_within [] units d h = omega arith
 units_within (t ∷ l) units d h =
     let p = h t (inl refl) in
@@ -51,7 +51,7 @@ ones (t ∷ l) m h =
     omega arith
 
 -- there are no more different numbers from 1 to m than m
-few : (l : List ℕ) (m : ℕ) → Distinct l → ((t : ℕ) → Member t l → (0 < t) × (t ≤ m)) → length l ≤ m
+pub few : (l : List ℕ) (m : ℕ) → Distinct l → ((t : ℕ) → Member t l → (0 < t) × (t ≤ m)) → length l ≤ m
 few l m d h =
     let many = length-replicate m 1 in
     let a = units_within l (replicate m 1) d (λ t j. let p = h t j in (p.0, subst (λ (z : ℕ). t ≤ z) (sym many) p.1)) in

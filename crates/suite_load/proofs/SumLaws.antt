@@ -4,7 +4,6 @@ use Rattle.std.specs.Option.{unwrap_or}
 use Rattle.std.proofs.lemmas.Grind.{flat_map-append}
 use Rattle.std.proofs.lemmas.List.{append-nil}
 use Rattle.outside.specs.Depot.{Files, content}
-use Rattle.order_law.specs.declared.records.Prints.{Prints}
 use Rattle.dep_record.specs.Hashes.{sized, suite_bytes}
 use Rattle.suite_load.specs.declared.print_sums.PrintSums.{PrintSums}
 use Rattle.suite_load.specs.declared.load_fault.LoadFault.{LoadFault}
@@ -22,15 +21,6 @@ bytes_more text files file =
 pub bytes_none : (text : List ℕ) → sized text ≡ suite_bytes text []
 unfolding suite_bytes
 bytes_none text = sym (append-nil (sized text))
-
--- sums that are alike one by one
-pub same_prints : (d d2 s s2 : List ℕ) (c c2 : List (List ℕ)) (e e2 : List ℕ) → d ≡ d2 → s ≡ s2 → c ≡ c2 → e ≡ e2
-    → ◌≡◌ {A = Prints} (record { digest = d; suite = s; classes = c; eager = e }) (record { digest = d2; suite = s2; classes = c2; eager = e2 })
-same_prints d d2 s s2 c c2 e e2 x y z w =
-    ap (λ (t : List ℕ). record { digest = t; suite = s; classes = c; eager = e }) x
-    ∙ ap (λ (t : List ℕ). record { digest = d2; suite = t; classes = c; eager = e }) y
-    ∙ ap (λ (t : List (List ℕ)). record { digest = d2; suite = s2; classes = t; eager = e }) z
-    ∙ ap (λ (t : List ℕ). record { digest = d2; suite = s2; classes = c2; eager = t }) w
 
 -- ---- the bytes of a file that was read
 

@@ -26,7 +26,6 @@ pub use laws::loads_once;
 pub use load_fault::LoadFault;
 pub use loaded::Loaded;
 pub use names::{is_depot_name, is_test_name};
-pub use numbers::number_up_to;
 pub use suite_reading::read_suite;
 pub use suite_text::{FileLine, SuiteRefusal, SuiteText, TestLine, Why};
 pub use whole_suite::load;

@@ -1,5 +1,11 @@
+use Rattle.order_law.specs.Histories.{touches_of}
+use Rattle.order_law.specs.OwnRecord.{edges_of, owner}
+use Rattle.order_law.proofs.OwnRecord.{is_record}
 use Rattle.order_law.proofs.Plans.{law_of_interleavings}
 use Rattle.order_law.proofs.interleavings_law.Goals as goal
 
-pub returns : goal.returns
-returns c = law_of_interleavings
+pub returns-clause-any : goal.returns-clause-any
+returns-clause-any c = law_of_interleavings
+
+pub returns-clause-own : goal.returns-clause-own
+returns-clause-own c = λ p set C n es linked detected. law_of_interleavings p (edges_of p) set C n es linked detected (is_record p (touches_of p) (owner p))

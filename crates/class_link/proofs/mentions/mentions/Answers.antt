@@ -1,21 +1,33 @@
-use Rattle.std.proofs.Common.{◌∙◌, ap, sym, List, ℕ, take, fold, nat_eq, ◌++◌, ◌∷◌, []}
-use Rattle.std.specs.List.{flat_map}
-use Rattle.std.proofs.lemmas.List.{flat_map_more, take_more}
-use Rattle.indexmap.specs.IndexSet.{insert_key}
-use Rattle.jvm_model.specs.Classes.{first_mentions}
+use Rattle.std.proofs.Common.{◌≡◌, ◌-◌, ◌<◌, ◌∙◌, length, false, sym, ap, inr, arith}
+use Rattle.std.specs.Prelude.{filter}
+use Rattle.std.specs.List.{flat_map, range_with_len}
+use Rattle.std.proofs.lemmas.List.{get_or_default}
+use Rattle.jvm_model.specs.Builtin.{builtin_count}
+use Rattle.jvm_model.specs.Classes.{member}
 use Rattle.class_link.specs.Assembly.{mentioned_by}
-use Rattle.std.specs.Option.{option_to_list}
-use Rattle.class_link.proofs.MentionLaws.{first_more_of}
+use Rattle.class_link.proofs.MentionLaws.{given_next, not_given, ends_at}
 use Rattle.class_link.proofs.mentions.mentions.Goals as goal
+use Rattle.class_link.proofs.mentions.mentions.Goals.{then-index+in_ok-push, else-index}
 
-pub loop-slot-preserved : goal.loop-slot-preserved
-loop-slot-preserved c =
-    let f = mentioned_by c.args.names.now c.args.slots.now in
-    let i = c.loop-slot.slot-index in
-    let slots = c.args.slots.now in
-    let slot = c.slot-item.result in
-    c.in_ok-note.ensures
-    ∙ ap (λ (ks : List ℕ). fold (insert_key nat_eq) ks (option_to_list c.mentioned_by.result)) c.loop-slot.invariant
-    ∙ sym (first_more_of (flat_map f (take i slots)) c.mentioned_by.result)
-    ∙ ap (λ (ks : List ℕ). first_mentions (flat_map f (take i slots) ++ ks)) c.mentioned_by.ensures
-    ∙ ap first_mentions (flat_map_more f [] (take i slots) slot ∙ ap (λ x. flat_map f (take i slots ++ x ∷ [])) c.slot-item.is ∙ ap (flat_map f) (sym (take_more slots i slot c.loop-slot-test.true)))
+pub loop-class-preserved : goal.loop-class-preserved
+loop-class-preserved c =
+    let named = flat_map (mentioned_by c.args.names.now c.args.slots.now) c.args.slots.now in
+    let table = c.in_ok-table.table.items in
+    let class = c.loop-class.class in
+    let low = c.loop-class.auto.class in
+    let there : class < length c.args.names.now = omega (arith, c.loop-class-test.true, c.len-class-end.ensures) in
+    let within : class < length table = omega (arith, there, c.in_ok-table.ensures.size) in
+    let listed : member class named ≡ c.index.result.now =
+    sym (c.in_ok-table.ensures.each class there) ∙ get_or_default table class false c.index.result.now within ∙ sym c.index.ensures in
+    elim c.if-index.branch [
+      | then-index+in_ok-push w ↦ rw w.mentions-is (w.in_ok-push.ensures.pushed ∙ given_next (λ d. member d named) class c.loop-class.mentions low (listed ∙ w.if-index.true) c.loop-class.invariant.0, inr (omega (arith, c.loop-class-test.true)))
+      | else-index w ↦ rw w.mentions-is (not_given (λ d. member d named) class c.loop-class.mentions low (listed ∙ w.if-index.false) c.loop-class.invariant.0, inr (omega (arith, c.loop-class-test.true)))
+    ]
+
+pub returns : goal.returns
+returns c =
+    let named = flat_map (mentioned_by c.args.names.now c.args.slots.now) c.args.slots.now in
+    let far = c.loop-class-test.false in
+    let end = c.len-class-end.ensures in
+    c.loop-class.invariant.0
+    ∙ ap (λ n. filter (λ d. member d named) (range_with_len builtin_count n)) (ends_at c.loop-class.class c.len-class-end.result c.loop-class.invariant.1 far ∙ ap (λ n. n - builtin_count) end)

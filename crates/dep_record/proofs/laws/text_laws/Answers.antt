@@ -1,5 +1,6 @@
 use Rattle.dep_record.proofs.FoundLaws.{found_text}
 use Rattle.dep_record.proofs.GivenLaws.{given_text}
+use Rattle.dep_record.proofs.HashLaws.{hashes_law}
 use Rattle.dep_record.proofs.laws.text_laws.Goals as goal
 
 pub returns-clause-found : goal.returns-clause-found
@@ -7,3 +8,6 @@ returns-clause-found c = found_text
 
 pub returns-clause-given : goal.returns-clause-given
 returns-clause-given c = given_text
+
+pub returns-clause-hashes : goal.returns-clause-hashes
+returns-clause-hashes c = hashes_law

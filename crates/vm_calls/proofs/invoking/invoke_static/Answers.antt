@@ -4,7 +4,8 @@ use Rattle.jvm_model.specs.declared.instr.Instr.TheVariants as form
 use Rattle.jvm_model.specs.RowsCalls.{argument_count}
 use Rattle.vm_calls.specs.Calls.{call_row, method_row}
 use Rattle.vm_calls.proofs.Entered.{calls_there, calls_touches}
-use Rattle.vm_calls.proofs.Using.{row_usable, ready_row, ready_meets, ready_tells, begun_meets, begun_tells, fault_meets, fault_tells, over_meets, static_uses}
+use Rattle.class_init.proofs.Using.{row_usable, ready_row, ready_meets, ready_tells, begun_meets, begun_tells, fault_meets, fault_tells, over_meets}
+use Rattle.vm_calls.proofs.Using.{static_uses}
 use Rattle.vm_calls.proofs.invoking.invoke_static.Goals as goal
 
 pub begin_use-requires-clause-safe : goal.begin_use-requires-clause-safe

@@ -1,4 +1,4 @@
-use Rattle.suite_load.proofs.SumLaws.{same_prints}
+use Rattle.dep_record.proofs.HashLaws.{same_prints}
 use Rattle.suite_load.proofs.print_sums.PrintSums.prints.Goals as goal
 
 pub returns-clause-sums : goal.returns-clause-sums
