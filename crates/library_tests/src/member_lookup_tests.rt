@@ -23,21 +23,22 @@ fn numbers(alloc: Global, of: &[u32]) -> Result<Items<u32>, NoMemory> {
     Ok(made)
 }
 
-fn class(
+fn push_class(
     alloc: Global,
-    flags: u16,
-    superclass: Option<u32>,
+    classes: &mut Items<ClassRec>,
     interfaces: &[u32],
     methods: &[u32],
-) -> Result<ClassRec, NoMemory> {
-    Ok(ClassRec {
+) -> Result<(), NoMemory> {
+    let interfaces = numbers(alloc, interfaces)?;
+    let methods = numbers(alloc, methods)?;
+    classes.push(ClassRec {
         name: Units::new(alloc),
         version: 52,
-        flags,
-        superclass,
-        interfaces: numbers(alloc, interfaces)?,
+        flags: 0x0601,
+        superclass: None,
+        interfaces,
         fields: Items::new(alloc),
-        methods: numbers(alloc, methods)?,
+        methods,
         initialiser: None,
         mentions: Items::new(alloc),
     })
@@ -54,23 +55,26 @@ fn method(alloc: Global, class: u32) -> Result<MethodRec, NoMemory> {
     })
 }
 
-// Object, then two interfaces on each level, both below both of the level before, and a class below the last two. The
-// first interface declares a method, and one half way down declares it again.
-fn diamonds(alloc: Global) -> Result<Program, NoMemory> {
+// One interface, then two on each level, both below both of the level before, and one below the last two. The second one
+// declares a method.
+fn interfaces(alloc: Global) -> Result<Items<ClassRec>, NoMemory> {
     let mut classes = Items::new(alloc);
-    classes.push(class(alloc, 0x0021, None, &[], &[])?)?;
-    classes.push(class(alloc, 0x0601, Some(0), &[], &[0])?)?;
-    classes.push(class(alloc, 0x0601, Some(0), &[], &[])?)?;
+    push_class(alloc, &mut classes, &[], &[])?;
+    push_class(alloc, &mut classes, &[], &[0])?;
+    push_class(alloc, &mut classes, &[], &[])?;
     for level in 1..LEVELS {
         let above = [2 * level - 1, 2 * level];
-        let declared: &[u32] = if level == 20 { &[1] } else { &[] };
-        classes.push(class(alloc, 0x0601, Some(0), &above, declared)?)?;
-        classes.push(class(alloc, 0x0601, Some(0), &above, &[])?)?;
+        push_class(alloc, &mut classes, &above, &[])?;
+        push_class(alloc, &mut classes, &above, &[])?;
     }
-    classes.push(class(alloc, 0x0021, Some(0), &[2 * LEVELS - 1, 2 * LEVELS], &[])?)?;
+    push_class(alloc, &mut classes, &[2 * LEVELS - 1, 2 * LEVELS], &[])?;
+    Ok(classes)
+}
+
+fn diamonds(alloc: Global) -> Result<Program, NoMemory> {
+    let classes = interfaces(alloc)?;
     let mut methods = Items::new(alloc);
     methods.push(method(alloc, 1)?)?;
-    methods.push(method(alloc, 41)?)?;
     Ok(Program {
         classes,
         fields: Items::new(alloc),
@@ -86,9 +90,7 @@ fn visits_each_interface_once(rt: HostRuntime) -> Result<(), Fail> {
     let program = diamonds(rt.alloc())?;
     let last = 2 * LEVELS + 1;
     let found = find_method(rt.alloc(), &program, last, &NAME, &DESCRIPTOR)?;
-    assert!(rt; found == Some(1));
-    let higher = find_method(rt.alloc(), &program, 2 * LEVELS / 2 - 1, &NAME, &DESCRIPTOR)?;
-    assert!(rt; higher == Some(0));
+    assert!(rt; found == Some(0));
     let none = find_field(rt.alloc(), &program, last, &NAME, &DESCRIPTOR)?;
     assert!(rt; none.is_none());
     Ok(())

@@ -7,22 +7,17 @@ fn units(alloc: Global, text: &[u16]) -> Result<Units, NoMemory> {
     Units::from_slice(alloc, text)
 }
 
+// A file with a text, and nothing else.
+fn file(alloc: Global, name: Units) -> Result<Store, NoMemory> {
+    let mut store = Store::new(alloc);
+    store.put(Part::File, name, Some(Units::new(alloc)))?;
+    Ok(store)
+}
+
 #[test]
 fn a_store_keeps_files_and_properties_apart(rt: HostRuntime) -> Result<(), Fail> {
-    let alloc = rt.alloc();
-    let name = units(alloc, &[97])?;
-    let mut store = Store::new(alloc);
-    store.put(
-        Part::File,
-        units(alloc, &[97])?,
-        Some(units(alloc, &[1, 2])?),
-    )?;
-    assert!(rt; store.get(Part::Prop, &name).is_none());
-    assert_eq!(rt;
-        store.get(Part::File, &name).map_or(0, |text| text.len()),
-        2
-    );
-    store.put(Part::File, units(alloc, &[97])?, None)?;
-    assert!(rt; store.get(Part::File, &name).is_none());
+    let store = file(rt.alloc(), units(rt.alloc(), &[97])?)?;
+    let name = units(rt.alloc(), &[97])?;
+    assert!(rt; store.has(Part::File, &name) && !store.has(Part::Prop, &name));
     Ok(())
 }

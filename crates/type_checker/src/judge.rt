@@ -1,7 +1,8 @@
 //! One instruction judged, with the frame before it.
 
-ghost use Rattle.std.specs.Prelude.{◌≡◌, ◌<◌, IfOk, Some, length, slice_get};
+ghost use Rattle.std.specs.Prelude.{◌≡◌, ◌<◌, IfOk, Some, length, map, slice_get};
 ghost use Rattle.jvm_model.specs.declared.program.Placed.{Placed};
+ghost use Rattle.type_frames.specs.Rules.{first_broken, test};
 ghost use Rattle.type_frames.specs.Typing.{taken_at};
 ghost use Rattle.type_checker.specs.Steps.{IsJudged, IsStep, IsTurned};
 
@@ -37,7 +38,23 @@ pub(crate) enum Step {
     Onward { next: Option<Shape> },
 }
 
-// The rules in order; the frame is used up.
+/// The number of the first rule that isn't kept, of numbers with whether each is.
+fn first_broken(rules: &[(u32, bool)]) -> Option<u32>
+    ensures { result ≡ first_broken (map (λ x. test x.0 x.1) rules.now) }
+{
+    match rules.split_first() {
+        None => None,
+        Some(((rule, kept), rest)) => {
+            if *kept {
+                first_broken(rest)
+            } else {
+                Some(*rule)
+            }
+        }
+    }
+}
+
+// The frame is used up.
 #[tactic(auto, unfolding(type_frames::specs::Rules::broken))]
 fn broken(
     alloc: Global,
@@ -51,45 +68,29 @@ fn broken(
     requires { k < length e.now.body.code }
     ensures { IfOk result (λ j. IsJudged p.now e.now k x.now f s.now j) }
 {
-    if !rule_1(e, &f, s) {
-        return Ok(Judged::Broken { rule: 1 });
+    let has_room = rule_1(e, &f, s);
+    let takes_operands = rule_2(p, &f, s);
+    let takes_locals = rule_3(p, e, &f, s);
+    let is_handled = rule_9(p, e, x, &f);
+    let is_entered = is_entered(alloc, p, e, k, x.pc)?;
+    let next = after(alloc, f, s)?;
+    let rules = [
+        (1, has_room),
+        (2, takes_operands),
+        (3, takes_locals),
+        (4, is_entered && leads_on(p, e, k, x, &next, s.falls)),
+        (5, rule_5(e, k, s.falls)),
+        (6, s.returns_well),
+        (7, s.starts_well),
+        (9, is_handled),
+        (10, rule_10(e, k)),
+        (11, s.calls_well),
+    ];
+    match first_broken(&rules) {
+        Some(rule) => Ok(Judged::Broken { rule }),
+        None if s.falls => Ok(Judged::Kept { next: Some(next) }),
+        None => Ok(Judged::Kept { next: None }),
     }
-    if !rule_2(p, &f, s) {
-        return Ok(Judged::Broken { rule: 2 });
-    }
-    if !rule_3(p, e, &f, s) {
-        return Ok(Judged::Broken { rule: 3 });
-    }
-    if !is_entered(alloc, p, e, k, x.pc)? {
-        return Ok(Judged::Broken { rule: 4 });
-    }
-    let handled = rule_9(p, e, x, &f);
-    let g = after(alloc, f, s)?;
-    if !leads_on(p, e, k, x, &g, s.falls) {
-        return Ok(Judged::Broken { rule: 4 });
-    }
-    if !rule_5(e, k, s.falls) {
-        return Ok(Judged::Broken { rule: 5 });
-    }
-    if !s.returns_well {
-        return Ok(Judged::Broken { rule: 6 });
-    }
-    if !s.starts_well {
-        return Ok(Judged::Broken { rule: 7 });
-    }
-    if !handled {
-        return Ok(Judged::Broken { rule: 9 });
-    }
-    if !rule_10(e, k) {
-        return Ok(Judged::Broken { rule: 10 });
-    }
-    if !s.calls_well {
-        return Ok(Judged::Broken { rule: 11 });
-    }
-    if s.falls {
-        return Ok(Judged::Kept { next: Some(g) });
-    }
-    Ok(Judged::Kept { next: None })
 }
 
 fn judge(

@@ -4,9 +4,9 @@ use Rattle.jvm_model.specs.declared.values.Value.{Value}
 use Rattle.jvm_model.specs.declared.values.Location.TheVariants as place
 use Rattle.jvm_model.specs.World.{text_or_empty}
 use Rattle.jvm_model.specs.Access.{read, write, spend}
-use Rattle.jvm_model.specs.Rows.{on_reference, on_text}
-use Rattle.jvm_model.specs.Working.{Working, operands, answers, answers_found, truth}
-use Rattle.jvm_model.specs.NativesOutside.{changes_property}
+use Rattle.jvm_model.specs.Rows.{on_text}
+use Rattle.jvm_model.specs.Working.{Working, operands, with_operands, answers, answers_found, truth}
+use Rattle.jvm_model.specs.NativesOutside.{one_text, two_texts, changes_property}
 use Rattle.vm_mem.specs.Meets.{Row}
 use Rattle.vm_natives.specs.declared.named.Named.{Named}
 use Rattle.vm_natives.specs.declared.named.Named.TheVariants.{GetProperty, ClearProperty, ReadFile, DeleteFile, FileExists, Given}
@@ -67,10 +67,9 @@ name_row DeleteFile name p s = delete_row name p s
 name_row FileExists name p s = exists_row name p s
 name_row (Given d v) name p s = given_row d name v p s
 
--- the same with the text of a String
-abbrev pub named_row : Named → Value → Row Working
-named_row d v p s = on_text p s v (λ name. name_row d name p s)
+-- a method that is given a name, or a name and a text
+abbrev pub named_row : Named → Row Working
+named_row d p s = one_text p s (λ name vs. name_row d name p (with_operands s vs))
 
--- a method that is given two Strings
-abbrev pub texts_row : Change → Value → Value → Row Working
-texts_row d v u p s = on_reference s u (on_text p s v (λ name. on_text p s u (λ t. change_row d name t p s)))
+abbrev pub texts_row : Change → Row Working
+texts_row d p s = two_texts p s (λ name t vs. change_row d name t p (with_operands s vs))

@@ -62,7 +62,13 @@ value_row v p s = answers p s (v ∷ operands s)
 abbrev pub text_row : ℕ → List ℕ → Row Working
 text_row n t p s = answers_text p s (operands s) n t
 
--- concat of the texts of a String and of its argument
+-- concat of the text of a String and its argument, of a String and its argument, of both texts
+abbrev pub concat_text_row : Value → List ℕ → Value → Row Working
+concat_text_row r t v p s = on_text p s v (λ u. joined p s (operands s) r t u)
+
+abbrev pub concat_row : Value → Value → Row Working
+concat_row r v p s = on_text p s r (λ t. concat_text_row r t v p s)
+
 abbrev pub joined_row : Value → List ℕ → List ℕ → Row Working
 joined_row r t u p s = joined p s (operands s) r t u
 

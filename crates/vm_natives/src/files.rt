@@ -1,15 +1,13 @@
 //! The methods of electric.Files.
 
 ghost use Rattle.std.specs.Prelude.{◌≡◌, IfOk, OnOk};
-ghost use Rattle.jvm_model.specs.declared.library.Native.{Native};
 ghost use Rattle.vm_frames.specs.Stack.{HasRoom};
 ghost use Rattle.vm_mem.specs.Meets.{IsReady, IsNext, Meets, Tells};
-ghost use Rattle.vm_natives.specs.Rows.{with_own, files_row};
+ghost use Rattle.vm_natives.specs.Rows.{with_own};
 ghost use Rattle.vm_natives.specs.Named.{file_row, write_row, append_row, put_row, delete_row, taken_row, exists_row};
-ghost use Rattle.jvm_model.specs.Working as working;
 
-use crate::named::{Change, Named, answer_for, with_name, with_texts};
-use crate::working::{answer, answer_text, end};
+use crate::named::answer_for;
+use crate::working::{answer, answer_text, end, truth};
 use et_base::{NoMemory, Units};
 use jvm_model::{Next, Own, Program, Value};
 use sim_store::Part;
@@ -18,201 +16,7 @@ use vm_frames::FrameStack;
 use vm_mem::Memory;
 
 /// `read(String)`: a new String of the file's text, or null where there is no file. It counts 1, a unit for each of the
-/// name, and for a new String 1 and a unit for each of its text. A null name throws NullPointerException. Over, with
-/// nothing made, where fewer units are left.
-#[tactic(auto, unfolding(jvm_model::specs::NativesOutside::native_files, crate::specs::Named::name_row))]
-pub fn read<M: Memory>(
-    alloc: Global,
-    stack: &mut FrameStack,
-    memory: &mut M,
-    p: &Program,
-    own: &Own,
-    next: u32,
-    left: &mut u64,
-) -> Result<Next, NoMemory>
-    requires program { p.now ≡ M.program memory.old }
-    requires place { IsNext p.now stack.old next }
-    requires row { IsReady (files_row Native.FilesRead)
-        (M.program memory.old) (M.world memory.old) (with_own stack.old own.now) }
-    ensures meets { IfOk result (λ x. Meets (files_row Native.FilesRead)
-        (M.program memory.old) (M.world memory.old) (with_own stack.old own.now) left.old
-        x (with_own stack.new own.now) (M.world memory.new) left.new) }
-    ensures told { IfOk result (λ x. Tells (files_row Native.FilesRead)
-        (M.program memory.old) (M.world memory.old) (with_own stack.old own.now)
-        x M.follows memory.old memory.new) }
-    ensures of { OnOk result (M.program memory.new ≡ M.program memory.old) }
-{
-    let name = stack.pop_value();
-    with_name(
-        alloc,
-        stack,
-        memory,
-        p,
-        own,
-        Named::ReadFile,
-        name,
-        next,
-        left,
-    )
-}
-
-/// `write(String, String)`: the file has this text. It counts 1 and a unit for each of the name and of the text. A null
-/// name or text throws NullPointerException. Over, with nothing written, where fewer units are left.
-#[tactic(auto, unfolding(jvm_model::specs::NativesOutside::native_files, crate::specs::Named::change_row))]
-pub fn write<M: Memory>(
-    alloc: Global,
-    stack: &mut FrameStack,
-    memory: &mut M,
-    p: &Program,
-    own: &Own,
-    next: u32,
-    left: &mut u64,
-) -> Result<Next, NoMemory>
-    requires program { p.now ≡ M.program memory.old }
-    requires place { IsNext p.now stack.old next }
-    requires row { IsReady (files_row Native.FilesWrite)
-        (M.program memory.old) (M.world memory.old) (with_own stack.old own.now) }
-    ensures meets { IfOk result (λ x. Meets (files_row Native.FilesWrite)
-        (M.program memory.old) (M.world memory.old) (with_own stack.old own.now) left.old
-        x (with_own stack.new own.now) (M.world memory.new) left.new) }
-    ensures told { IfOk result (λ x. Tells (files_row Native.FilesWrite)
-        (M.program memory.old) (M.world memory.old) (with_own stack.old own.now)
-        x M.follows memory.old memory.new) }
-    ensures of { OnOk result (M.program memory.new ≡ M.program memory.old) }
-{
-    let text = stack.pop_value();
-    let name = stack.pop_value();
-    with_texts(
-        alloc,
-        stack,
-        memory,
-        p,
-        own,
-        Change::WriteFile,
-        name,
-        text,
-        next,
-        left,
-    )
-}
-
-/// `append(String, String)`: the file has its text and this one after it; where there is no file, this one alone. It counts
-/// and throws as `write` does.
-#[tactic(auto, unfolding(jvm_model::specs::NativesOutside::native_files, crate::specs::Named::change_row))]
-pub fn append<M: Memory>(
-    alloc: Global,
-    stack: &mut FrameStack,
-    memory: &mut M,
-    p: &Program,
-    own: &Own,
-    next: u32,
-    left: &mut u64,
-) -> Result<Next, NoMemory>
-    requires program { p.now ≡ M.program memory.old }
-    requires place { IsNext p.now stack.old next }
-    requires row { IsReady (files_row Native.FilesAppend)
-        (M.program memory.old) (M.world memory.old) (with_own stack.old own.now) }
-    ensures meets { IfOk result (λ x. Meets (files_row Native.FilesAppend)
-        (M.program memory.old) (M.world memory.old) (with_own stack.old own.now) left.old
-        x (with_own stack.new own.now) (M.world memory.new) left.new) }
-    ensures told { IfOk result (λ x. Tells (files_row Native.FilesAppend)
-        (M.program memory.old) (M.world memory.old) (with_own stack.old own.now)
-        x M.follows memory.old memory.new) }
-    ensures of { OnOk result (M.program memory.new ≡ M.program memory.old) }
-{
-    let text = stack.pop_value();
-    let name = stack.pop_value();
-    with_texts(
-        alloc,
-        stack,
-        memory,
-        p,
-        own,
-        Change::AppendFile,
-        name,
-        text,
-        next,
-        left,
-    )
-}
-
-/// `delete(String)`: the file is taken away; whether there was one is answered. It counts 1 and a unit for each of the
-/// name. A null name throws NullPointerException. Over, with nothing taken away, where fewer units are left.
-#[tactic(auto, unfolding(jvm_model::specs::NativesOutside::native_files, crate::specs::Named::name_row))]
-pub fn delete<M: Memory>(
-    alloc: Global,
-    stack: &mut FrameStack,
-    memory: &mut M,
-    p: &Program,
-    own: &Own,
-    next: u32,
-    left: &mut u64,
-) -> Result<Next, NoMemory>
-    requires program { p.now ≡ M.program memory.old }
-    requires place { IsNext p.now stack.old next }
-    requires row { IsReady (files_row Native.FilesDelete)
-        (M.program memory.old) (M.world memory.old) (with_own stack.old own.now) }
-    ensures meets { IfOk result (λ x. Meets (files_row Native.FilesDelete)
-        (M.program memory.old) (M.world memory.old) (with_own stack.old own.now) left.old
-        x (with_own stack.new own.now) (M.world memory.new) left.new) }
-    ensures told { IfOk result (λ x. Tells (files_row Native.FilesDelete)
-        (M.program memory.old) (M.world memory.old) (with_own stack.old own.now)
-        x M.follows memory.old memory.new) }
-    ensures of { OnOk result (M.program memory.new ≡ M.program memory.old) }
-{
-    let name = stack.pop_value();
-    with_name(
-        alloc,
-        stack,
-        memory,
-        p,
-        own,
-        Named::DeleteFile,
-        name,
-        next,
-        left,
-    )
-}
-
-/// `exists(String)`: whether there is a file. It counts 1 and a unit for each of the name. A null name throws
-/// NullPointerException. Over where fewer units are left.
-#[tactic(auto, unfolding(jvm_model::specs::NativesOutside::native_files, crate::specs::Named::name_row))]
-pub fn exists<M: Memory>(
-    alloc: Global,
-    stack: &mut FrameStack,
-    memory: &mut M,
-    p: &Program,
-    own: &Own,
-    next: u32,
-    left: &mut u64,
-) -> Result<Next, NoMemory>
-    requires program { p.now ≡ M.program memory.old }
-    requires place { IsNext p.now stack.old next }
-    requires row { IsReady (files_row Native.FilesExists)
-        (M.program memory.old) (M.world memory.old) (with_own stack.old own.now) }
-    ensures meets { IfOk result (λ x. Meets (files_row Native.FilesExists)
-        (M.program memory.old) (M.world memory.old) (with_own stack.old own.now) left.old
-        x (with_own stack.new own.now) (M.world memory.new) left.new) }
-    ensures told { IfOk result (λ x. Tells (files_row Native.FilesExists)
-        (M.program memory.old) (M.world memory.old) (with_own stack.old own.now)
-        x M.follows memory.old memory.new) }
-    ensures of { OnOk result (M.program memory.new ≡ M.program memory.old) }
-{
-    let name = stack.pop_value();
-    with_name(
-        alloc,
-        stack,
-        memory,
-        p,
-        own,
-        Named::FileExists,
-        name,
-        next,
-        left,
-    )
-}
-
-/// The text of a file is answered, or null.
+/// name, and for a new String 1 and a unit for each of its text. Over, with nothing made, where fewer units are left.
 pub fn read_at<M: Memory>(
     alloc: Global,
     stack: &mut FrameStack,
@@ -246,7 +50,8 @@ pub fn read_at<M: Memory>(
     }
 }
 
-/// A file is written.
+/// `write(String, String)`: the file has this text. It counts 1 and a unit for each of the name and of the text. Over, with
+/// nothing written, where fewer units are left.
 pub fn write_at<M: Memory>(
     stack: &mut FrameStack,
     memory: &mut M,
@@ -273,7 +78,8 @@ pub fn write_at<M: Memory>(
     put_file(stack, memory, p, own, name, text, cost, next, left)
 }
 
-/// A text is put behind what is in a file.
+/// `append(String, String)`: the file has its text and this one after it; where there is no file, this one alone. It counts
+/// as `write` does.
 pub fn append_to<M: Memory>(
     alloc: Global,
     stack: &mut FrameStack,
@@ -340,7 +146,8 @@ fn put_file<M: Memory>(
     Ok(end(stack, p, next, left))
 }
 
-/// A file is taken away, and whether there was one is answered.
+/// `delete(String)`: the file is taken away; whether there was one is answered. It counts 1 and a unit for each of the name.
+/// Over, with nothing taken away, where fewer units are left.
 pub fn delete_at<M: Memory>(
     stack: &mut FrameStack,
     memory: &mut M,
@@ -402,7 +209,7 @@ fn take_file<M: Memory>(
     Ok(answer(stack, p, truth(found), next, left))
 }
 
-/// Whether there is a file is answered.
+/// `exists(String)`: whether there is a file. It counts 1 and a unit for each of the name. Over where fewer units are left.
 pub fn exists_at<M: Memory>(
     stack: &mut FrameStack,
     memory: &mut M,
@@ -430,11 +237,4 @@ pub fn exists_at<M: Memory>(
         None => Ok(answer_for(stack, p, truth(false), cost, next, left)),
         Some(_) => Ok(answer_for(stack, p, truth(true), cost, next, left)),
     }
-}
-
-/// The int of a boolean.
-fn truth(holds: bool) -> Value
-    ensures { result ≡ working.truth holds }
-{
-    if holds { Value::Int(1) } else { Value::Int(0) }
 }

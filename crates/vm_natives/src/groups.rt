@@ -5,14 +5,18 @@ ghost use Rattle.vm_frames.specs.Stack.{HasRoom};
 ghost use Rattle.vm_mem.specs.Meets.{IsReady, IsNext, Meets, Tells};
 ghost use Rattle.vm_natives.specs.Rows.{growth, with_own, object_row, string_row, builder_row, system_row, print_row, files_row, env_row, throwable_row};
 
-use crate::{builder, env, files, object, stream, string, system, throwable};
+use crate::named::{Change, Named, with_name, with_texts};
+use crate::references::same_reference;
+use crate::stream::{print, print_boolean, print_char, print_int, print_long, print_text};
+use crate::working::{answer, end, truth};
+use crate::{builder, env, string, system, throwable};
 use et_base::NoMemory;
-use jvm_model::{Native, Next, Own, Program};
+use jvm_model::{Native, Next, Own, Program, Value};
 use std::alloc::Global;
 use vm_frames::FrameStack;
 use vm_mem::Memory;
 
-/// A method of java.lang.Object.
+/// A method of java.lang.Object. It counts 1.
 #[tactic(auto, unfolding(jvm_model::specs::NativesObject::native_object))]
 pub fn of_object<M: Memory>(
     stack: &mut FrameStack,
@@ -36,9 +40,23 @@ pub fn of_object<M: Memory>(
     ensures of { OnOk result (M.program memory.new ≡ M.program memory.old) }
 {
     match which {
-        Native::ObjectInit => object::init(stack, memory, p, own, next, left),
-        Native::ObjectEquals => object::equals(stack, memory, p, own, next, left),
-        Native::ObjectHashCode => object::hash_code(stack, memory, p, own, next, left),
+        // `<init>()`
+        Native::ObjectInit => {
+            stack.pop_value();
+            Ok(end(stack, p, next, left))
+        }
+        // `equals(Object)`: whether both are the same reference
+        Native::ObjectEquals => {
+            let other = stack.pop_value();
+            let receiver = stack.pop_value();
+            let same = same_reference(receiver, other);
+            Ok(answer(stack, p, truth(same), next, left))
+        }
+        // `hashCode()`: 0 (this project's)
+        Native::ObjectHashCode => {
+            stack.pop_value();
+            Ok(answer(stack, p, Value::Int(0), next, left))
+        }
         _ => unreachable!(),
     }
 }
@@ -130,7 +148,7 @@ pub fn of_builder<M: Memory>(
 }
 
 /// A method of java.lang.System.
-#[tactic(auto, unfolding(jvm_model::specs::NativesOutside::native_system))]
+#[tactic(auto, unfolding(jvm_model::specs::NativesOutside::native_system, crate::specs::Named::name_row, crate::specs::Named::change_row))]
 pub fn of_system<M: Memory>(
     alloc: Global,
     stack: &mut FrameStack,
@@ -156,11 +174,33 @@ pub fn of_system<M: Memory>(
 {
     match which {
         Native::SystemClock => Ok(system::clock(stack, p, own, next, left)),
-        Native::SystemGetProperty => system::get_property(alloc, stack, memory, p, own, next, left),
-        Native::SystemSetProperty => system::set_property(alloc, stack, memory, p, own, next, left),
-        Native::SystemClearProperty => system::clear_property(
-            alloc, stack, memory, p, own, next, left,
-        ),
+        Native::SystemGetProperty => {
+            with_name(alloc, stack, memory, p, own, Named::GetProperty, next, left)
+        }
+        Native::SystemSetProperty => {
+            with_texts(
+                alloc,
+                stack,
+                memory,
+                p,
+                own,
+                Change::SetProperty,
+                next,
+                left,
+            )
+        }
+        Native::SystemClearProperty => {
+            with_name(
+                alloc,
+                stack,
+                memory,
+                p,
+                own,
+                Named::ClearProperty,
+                next,
+                left,
+            )
+        }
         _ => unreachable!(),
     }
 }
@@ -190,23 +230,26 @@ pub fn of_stream<M: Memory>(
     ensures of { OnOk result (M.program memory.new ≡ M.program memory.old) }
 {
     match which {
-        Native::PrintString => stream::print_string(alloc, stack, memory, p, own, next, left),
-        Native::PrintInt => stream::print_int(alloc, stack, memory, p, own, next, left),
-        Native::PrintLong => stream::print_long(alloc, stack, memory, p, own, next, left),
-        Native::PrintBoolean => stream::print_boolean(stack, memory, p, own, next, left),
-        Native::PrintChar => stream::print_char(alloc, stack, memory, p, own, next, left),
-        Native::PrintlnString => stream::println_string(alloc, stack, memory, p, own, next, left),
-        Native::PrintlnInt => stream::println_int(alloc, stack, memory, p, own, next, left),
-        Native::PrintlnLong => stream::println_long(alloc, stack, memory, p, own, next, left),
-        Native::PrintlnBoolean => stream::println_boolean(alloc, stack, memory, p, own, next, left),
-        Native::PrintlnChar => stream::println_char(alloc, stack, memory, p, own, next, left),
-        Native::Println => stream::println(stack, memory, p, own, next, left),
+        Native::PrintString => print_text(alloc, stack, memory, p, own, &[], next, left),
+        Native::PrintInt => print_int(alloc, stack, memory, p, own, false, next, left),
+        Native::PrintLong => print_long(alloc, stack, memory, p, own, false, next, left),
+        Native::PrintBoolean => print_boolean(alloc, stack, memory, p, own, false, next, left),
+        Native::PrintChar => print_char(alloc, stack, memory, p, own, false, next, left),
+        Native::PrintlnString => print_text(alloc, stack, memory, p, own, b"\n", next, left),
+        Native::PrintlnInt => print_int(alloc, stack, memory, p, own, true, next, left),
+        Native::PrintlnLong => print_long(alloc, stack, memory, p, own, true, next, left),
+        Native::PrintlnBoolean => print_boolean(alloc, stack, memory, p, own, true, next, left),
+        Native::PrintlnChar => print_char(alloc, stack, memory, p, own, true, next, left),
+        Native::Println => {
+            stack.pop_value();
+            print(stack, p, own, b"\n", next, left)
+        }
         _ => unreachable!(),
     }
 }
 
 /// A method of electric.Files.
-#[tactic(auto, unfolding(jvm_model::specs::NativesOutside::native_files))]
+#[tactic(auto, unfolding(jvm_model::specs::NativesOutside::native_files, crate::specs::Named::name_row, crate::specs::Named::change_row))]
 pub fn of_files<M: Memory>(
     alloc: Global,
     stack: &mut FrameStack,
@@ -230,11 +273,19 @@ pub fn of_files<M: Memory>(
     ensures of { OnOk result (M.program memory.new ≡ M.program memory.old) }
 {
     match which {
-        Native::FilesRead => files::read(alloc, stack, memory, p, own, next, left),
-        Native::FilesWrite => files::write(alloc, stack, memory, p, own, next, left),
-        Native::FilesAppend => files::append(alloc, stack, memory, p, own, next, left),
-        Native::FilesDelete => files::delete(alloc, stack, memory, p, own, next, left),
-        Native::FilesExists => files::exists(alloc, stack, memory, p, own, next, left),
+        Native::FilesRead => with_name(alloc, stack, memory, p, own, Named::ReadFile, next, left),
+        Native::FilesWrite => {
+            with_texts(alloc, stack, memory, p, own, Change::WriteFile, next, left)
+        }
+        Native::FilesAppend => {
+            with_texts(alloc, stack, memory, p, own, Change::AppendFile, next, left)
+        }
+        Native::FilesDelete => {
+            with_name(alloc, stack, memory, p, own, Named::DeleteFile, next, left)
+        }
+        Native::FilesExists => {
+            with_name(alloc, stack, memory, p, own, Named::FileExists, next, left)
+        }
         _ => unreachable!(),
     }
 }

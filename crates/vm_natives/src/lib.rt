@@ -6,7 +6,7 @@ mod env;
 mod files;
 mod groups;
 mod named;
-mod object;
+mod references;
 mod running;
 mod stream;
 mod string;

@@ -18,7 +18,7 @@ use vm_frames::FrameStack;
 use vm_mem::Memory;
 
 /// What a method does with a name and a text.
-#[derive(Clone, Copy, Debug, PartialEq, Eq)]
+#[derive(Clone, Copy)]
 pub enum Change {
     SetProperty,
     WriteFile,
@@ -26,7 +26,7 @@ pub enum Change {
 }
 
 /// What a method does with a name. `Given` says that it is given this String besides.
-#[derive(Clone, Copy, Debug, PartialEq, Eq)]
+#[derive(Clone, Copy)]
 pub enum Named {
     GetProperty,
     ClearProperty,
@@ -36,7 +36,7 @@ pub enum Named {
     Given { change: Change, text: Value },
 }
 
-/// A method that is given two Strings: a null one throws before a text is read, first the second one.
+/// A method that is given two Strings: a null one throws NullPointerException before a text is read, first the second one.
 #[tactic(auto, unfolding(crate::specs::Named::name_row))]
 pub fn with_texts<M: Memory>(
     alloc: Global,
@@ -45,37 +45,39 @@ pub fn with_texts<M: Memory>(
     p: &Program,
     own: &Own,
     change: Change,
-    name: Value,
-    text: Value,
     next: u32,
     left: &mut u64,
 ) -> Result<Next, NoMemory>
     requires program { p.now ≡ M.program memory.old }
     requires place { IsNext p.now stack.old next }
-    requires room { HasRoom 1 stack.old }
-    requires row { IsReady (texts_row change name text)
+    requires row { IsReady (texts_row change)
         (M.program memory.old) (M.world memory.old) (with_own stack.old own.now) }
-    ensures meets { IfOk result (λ x. Meets (texts_row change name text)
+    ensures meets { IfOk result (λ x. Meets (texts_row change)
         (M.program memory.old) (M.world memory.old) (with_own stack.old own.now) left.old
         x (with_own stack.new own.now) (M.world memory.new) left.new) }
-    ensures told { IfOk result (λ x. Tells (texts_row change name text)
+    ensures told { IfOk result (λ x. Tells (texts_row change)
         (M.program memory.old) (M.world memory.old) (with_own stack.old own.now)
         x M.follows memory.old memory.new) }
     ensures of { OnOk result (M.program memory.new ≡ M.program memory.old) }
 {
+    let text = stack.pop_value();
     let named = Named::Given { change, text };
     match text {
-        Value::Lit(_) => with_name(alloc, stack, memory, p, own, named, name, next, left),
-        Value::Obj(_) => with_name(alloc, stack, memory, p, own, named, name, next, left),
-        Value::Null => Ok(Next::Fault {
-            class: NULL_POINTER_EXCEPTION,
-        }),
+        Value::Lit(_) => with_name(alloc, stack, memory, p, own, named, next, left),
+        Value::Obj(_) => with_name(alloc, stack, memory, p, own, named, next, left),
+        Value::Null => {
+            stack.pop_value();
+            Ok(Next::Fault {
+                class: NULL_POINTER_EXCEPTION,
+            })
+        }
         Value::Int(_) => unreachable!(),
         Value::Long(_) => unreachable!(),
     }
 }
 
-/// A method that is given a String as a name: a constant's text is the program's, without a touch, another's is read.
+/// A method that is given a String as a name: a constant's text is the program's, without a touch, another's is read. A null
+/// one throws NullPointerException.
 pub fn with_name<M: Memory>(
     alloc: Global,
     stack: &mut FrameStack,
@@ -83,24 +85,22 @@ pub fn with_name<M: Memory>(
     p: &Program,
     own: &Own,
     named: Named,
-    name: Value,
     next: u32,
     left: &mut u64,
 ) -> Result<Next, NoMemory>
     requires program { p.now ≡ M.program memory.old }
     requires place { IsNext p.now stack.old next }
-    requires room { HasRoom 1 stack.old }
-    requires row { IsReady (named_row named name)
+    requires row { IsReady (named_row named)
         (M.program memory.old) (M.world memory.old) (with_own stack.old own.now) }
-    ensures meets { IfOk result (λ x. Meets (named_row named name)
+    ensures meets { IfOk result (λ x. Meets (named_row named)
         (M.program memory.old) (M.world memory.old) (with_own stack.old own.now) left.old
         x (with_own stack.new own.now) (M.world memory.new) left.new) }
-    ensures told { IfOk result (λ x. Tells (named_row named name)
+    ensures told { IfOk result (λ x. Tells (named_row named)
         (M.program memory.old) (M.world memory.old) (with_own stack.old own.now)
         x M.follows memory.old memory.new) }
     ensures of { OnOk result (M.program memory.new ≡ M.program memory.old) }
 {
-    match name {
+    match stack.pop_value() {
         Value::Lit(n) => {
             let name = Units::from_slice(alloc, p.literal(n))?;
             on_name(alloc, stack, memory, p, own, named, name, next, left)

@@ -3,11 +3,10 @@
 
 ghost use Rattle.std.specs.Prelude.{◌≡◌, ◌++◌, IfOk, OnOk};
 ghost use Rattle.et_base.specs.Quotes.{utf8_of};
-ghost use Rattle.jvm_model.specs.declared.library.Native.{Native};
 ghost use Rattle.jvm_model.specs.World.{World};
 ghost use Rattle.vm_mem.specs.Meets.{IsReady, IsNext, Meets, Tells};
-ghost use Rattle.vm_natives.specs.Rows.{with_own, print_row};
-ghost use Rattle.vm_natives.specs.Outside.{bytes_row, string_print_row};
+ghost use Rattle.vm_natives.specs.Rows.{with_own};
+ghost use Rattle.vm_natives.specs.Outside.{boolean_print_row, bytes_row, char_print_row, ended, int_print_row, long_print_row, string_print_row};
 
 use crate::texts::{boolean_text, char_unit};
 use et_base::{NoMemory, Text, Units, bytes_of_units, decimal32, decimal64};
@@ -60,8 +59,9 @@ fn print_units(
     print(stack, p, own, bytes.as_slice(), next, left)
 }
 
-/// Prints a String in UTF-8, or `null`, and then these bytes.
-fn print_text<M: Memory>(
+/// `print(String)` and `println(String)`: the text in UTF-8, or `null`, and then these bytes. It reads the text of a String
+/// that is no constant, and counts 1 and a unit for each byte.
+pub fn print_text<M: Memory>(
     alloc: Global,
     stack: &mut FrameStack,
     memory: &mut M,
@@ -104,137 +104,123 @@ fn print_text<M: Memory>(
     }
 }
 
-/// `print(String)`: the text in UTF-8, or `null`. It reads the text of a String that is no constant, and counts 1 and a
-/// unit for each byte.
-#[tactic(auto, unfolding(jvm_model::specs::NativesOutside::native_print))]
-pub fn print_string<M: Memory>(
-    alloc: Global,
-    stack: &mut FrameStack,
-    memory: &mut M,
-    p: &Program,
-    own: &mut Own,
-    next: u32,
-    left: &mut u64,
-) -> Result<Next, NoMemory>
-    requires program { p.now ≡ M.program memory.old }
-    requires place { IsNext p.now stack.old next }
-    requires row { IsReady (print_row Native.PrintString)
-        (M.program memory.old) (M.world memory.old) (with_own stack.old own.old) }
-    ensures meets { IfOk result (λ x. Meets (print_row Native.PrintString)
-        (M.program memory.old) (M.world memory.old) (with_own stack.old own.old) left.old
-        x (with_own stack.new own.new) (M.world memory.new) left.new) }
-    ensures told { IfOk result (λ x. Tells (print_row Native.PrintString)
-        (M.program memory.old) (M.world memory.old) (with_own stack.old own.old)
-        x M.follows memory.old memory.new) }
-    ensures of { OnOk result (M.program memory.new ≡ M.program memory.old) }
+/// The bytes, and a line feed behind them where they are a line.
+fn ended(bytes: Text, line: bool) -> Result<Text, NoMemory>
+    ensures { IfOk result (λ x. x ≡ ended line bytes) }
 {
-    print_text(alloc, stack, memory, p, own, &[], next, left)
+    let mut bytes = bytes;
+    if line {
+        bytes.push(b'\n')?;
+    }
+    Ok(bytes)
 }
 
-/// `print(int)`: the decimal digits. It counts 1 and a unit for each byte.
-#[tactic(auto, unfolding(jvm_model::specs::NativesOutside::native_print))]
+/// `print(int)`, and `println(int)` where it is a line: the decimal digits. It counts 1 and a unit for each byte.
 pub fn print_int<M: Memory>(
     alloc: Global,
     stack: &mut FrameStack,
     memory: &mut M,
     p: &Program,
     own: &mut Own,
+    line: bool,
     next: u32,
     left: &mut u64,
 ) -> Result<Next, NoMemory>
     requires program { p.now ≡ M.program memory.old }
     requires place { IsNext p.now stack.old next }
-    requires row { IsReady (print_row Native.PrintInt)
+    requires row { IsReady (int_print_row line)
         (M.program memory.old) (M.world memory.old) (with_own stack.old own.old) }
-    ensures meets { IfOk result (λ x. Meets (print_row Native.PrintInt)
+    ensures meets { IfOk result (λ x. Meets (int_print_row line)
         (M.program memory.old) (M.world memory.old) (with_own stack.old own.old) left.old
         x (with_own stack.new own.new) (M.world memory.new) left.new) }
-    ensures told { IfOk result (λ x. Tells (print_row Native.PrintInt)
+    ensures told { IfOk result (λ x. Tells (int_print_row line)
         (M.program memory.old) (M.world memory.old) (with_own stack.old own.old)
         x M.follows memory.old memory.new) }
     ensures of { OnOk result (M.program memory.new ≡ M.program memory.old) }
 {
     let number = stack.pop_int();
     stack.pop_value();
-    let bytes = decimal32(alloc, number)?;
+    let bytes = ended(decimal32(alloc, number)?, line)?;
     print(stack, p, own, bytes.as_slice(), next, left)
 }
 
-/// `print(long)`: the decimal digits. It counts 1 and a unit for each byte.
-#[tactic(auto, unfolding(jvm_model::specs::NativesOutside::native_print))]
+/// `print(long)`, and `println(long)` where it is a line: the decimal digits. It counts 1 and a unit for each byte.
 pub fn print_long<M: Memory>(
     alloc: Global,
     stack: &mut FrameStack,
     memory: &mut M,
     p: &Program,
     own: &mut Own,
+    line: bool,
     next: u32,
     left: &mut u64,
 ) -> Result<Next, NoMemory>
     requires program { p.now ≡ M.program memory.old }
     requires place { IsNext p.now stack.old next }
-    requires row { IsReady (print_row Native.PrintLong)
+    requires row { IsReady (long_print_row line)
         (M.program memory.old) (M.world memory.old) (with_own stack.old own.old) }
-    ensures meets { IfOk result (λ x. Meets (print_row Native.PrintLong)
+    ensures meets { IfOk result (λ x. Meets (long_print_row line)
         (M.program memory.old) (M.world memory.old) (with_own stack.old own.old) left.old
         x (with_own stack.new own.new) (M.world memory.new) left.new) }
-    ensures told { IfOk result (λ x. Tells (print_row Native.PrintLong)
+    ensures told { IfOk result (λ x. Tells (long_print_row line)
         (M.program memory.old) (M.world memory.old) (with_own stack.old own.old)
         x M.follows memory.old memory.new) }
     ensures of { OnOk result (M.program memory.new ≡ M.program memory.old) }
 {
     let number = stack.pop_long();
     stack.pop_value();
-    let bytes = decimal64(alloc, number)?;
+    let bytes = ended(decimal64(alloc, number)?, line)?;
     print(stack, p, own, bytes.as_slice(), next, left)
 }
 
-/// `print(boolean)`: `true` or `false`. It counts 1 and a unit for each byte.
-#[tactic(auto, unfolding(jvm_model::specs::NativesOutside::native_print))]
+/// `print(boolean)`, and `println(boolean)` where it is a line: `true` or `false`. It counts 1 and a unit for each byte.
 pub fn print_boolean<M: Memory>(
+    alloc: Global,
     stack: &mut FrameStack,
     memory: &mut M,
     p: &Program,
     own: &mut Own,
+    line: bool,
     next: u32,
     left: &mut u64,
 ) -> Result<Next, NoMemory>
     requires program { p.now ≡ M.program memory.old }
     requires place { IsNext p.now stack.old next }
-    requires row { IsReady (print_row Native.PrintBoolean)
+    requires row { IsReady (boolean_print_row line)
         (M.program memory.old) (M.world memory.old) (with_own stack.old own.old) }
-    ensures meets { IfOk result (λ x. Meets (print_row Native.PrintBoolean)
+    ensures meets { IfOk result (λ x. Meets (boolean_print_row line)
         (M.program memory.old) (M.world memory.old) (with_own stack.old own.old) left.old
         x (with_own stack.new own.new) (M.world memory.new) left.new) }
-    ensures told { IfOk result (λ x. Tells (print_row Native.PrintBoolean)
+    ensures told { IfOk result (λ x. Tells (boolean_print_row line)
         (M.program memory.old) (M.world memory.old) (with_own stack.old own.old)
         x M.follows memory.old memory.new) }
     ensures of { OnOk result (M.program memory.new ≡ M.program memory.old) }
 {
     let truth = stack.pop_int();
     stack.pop_value();
-    print(stack, p, own, boolean_text(truth), next, left)
+    let bytes = ended(Text::from_slice(alloc, boolean_text(truth))?, line)?;
+    print(stack, p, own, bytes.as_slice(), next, left)
 }
 
-/// `print(char)`: the char in UTF-8, or `?` where it is a surrogate. It counts 1 and a unit for each byte.
-#[tactic(auto, unfolding(jvm_model::specs::NativesOutside::native_print))]
+/// `print(char)`, and `println(char)` where it is a line: the char in UTF-8, or `?` where it is a surrogate. It counts 1 and a unit for each byte.
 pub fn print_char<M: Memory>(
     alloc: Global,
     stack: &mut FrameStack,
     memory: &mut M,
     p: &Program,
     own: &mut Own,
+    line: bool,
     next: u32,
     left: &mut u64,
 ) -> Result<Next, NoMemory>
     requires program { p.now ≡ M.program memory.old }
     requires place { IsNext p.now stack.old next }
-    requires row { IsReady (print_row Native.PrintChar)
+    requires row { IsReady (char_print_row line)
         (M.program memory.old) (M.world memory.old) (with_own stack.old own.old) }
-    ensures meets { IfOk result (λ x. Meets (print_row Native.PrintChar)
+    ensures meets { IfOk result (λ x. Meets (char_print_row line)
         (M.program memory.old) (M.world memory.old) (with_own stack.old own.old) left.old
         x (with_own stack.new own.new) (M.world memory.new) left.new) }
-    ensures told { IfOk result (λ x. Tells (print_row Native.PrintChar)
+    ensures told { IfOk result (λ x. Tells (char_print_row line)
         (M.program memory.old) (M.world memory.old) (with_own stack.old own.old)
         x M.follows memory.old memory.new) }
     ensures of { OnOk result (M.program memory.new ≡ M.program memory.old) }
@@ -242,179 +228,6 @@ pub fn print_char<M: Memory>(
     let char = stack.pop_int();
     stack.pop_value();
     let units = Units::from_slice(alloc, &[char_unit(char)])?;
-    let bytes = bytes_of_units(alloc, &units)?;
+    let bytes = ended(Text::from_vec(bytes_of_units(alloc, &units)?), line)?;
     print(stack, p, own, bytes.as_slice(), next, left)
-}
-
-/// `println(String)`: as `print(String)`, and a line feed.
-#[tactic(auto, unfolding(jvm_model::specs::NativesOutside::native_print))]
-pub fn println_string<M: Memory>(
-    alloc: Global,
-    stack: &mut FrameStack,
-    memory: &mut M,
-    p: &Program,
-    own: &mut Own,
-    next: u32,
-    left: &mut u64,
-) -> Result<Next, NoMemory>
-    requires program { p.now ≡ M.program memory.old }
-    requires place { IsNext p.now stack.old next }
-    requires row { IsReady (print_row Native.PrintlnString)
-        (M.program memory.old) (M.world memory.old) (with_own stack.old own.old) }
-    ensures meets { IfOk result (λ x. Meets (print_row Native.PrintlnString)
-        (M.program memory.old) (M.world memory.old) (with_own stack.old own.old) left.old
-        x (with_own stack.new own.new) (M.world memory.new) left.new) }
-    ensures told { IfOk result (λ x. Tells (print_row Native.PrintlnString)
-        (M.program memory.old) (M.world memory.old) (with_own stack.old own.old)
-        x M.follows memory.old memory.new) }
-    ensures of { OnOk result (M.program memory.new ≡ M.program memory.old) }
-{
-    print_text(alloc, stack, memory, p, own, b"\n", next, left)
-}
-
-/// `println(int)`: as `print(int)`, and a line feed.
-#[tactic(auto, unfolding(jvm_model::specs::NativesOutside::native_print))]
-pub fn println_int<M: Memory>(
-    alloc: Global,
-    stack: &mut FrameStack,
-    memory: &mut M,
-    p: &Program,
-    own: &mut Own,
-    next: u32,
-    left: &mut u64,
-) -> Result<Next, NoMemory>
-    requires program { p.now ≡ M.program memory.old }
-    requires place { IsNext p.now stack.old next }
-    requires row { IsReady (print_row Native.PrintlnInt)
-        (M.program memory.old) (M.world memory.old) (with_own stack.old own.old) }
-    ensures meets { IfOk result (λ x. Meets (print_row Native.PrintlnInt)
-        (M.program memory.old) (M.world memory.old) (with_own stack.old own.old) left.old
-        x (with_own stack.new own.new) (M.world memory.new) left.new) }
-    ensures told { IfOk result (λ x. Tells (print_row Native.PrintlnInt)
-        (M.program memory.old) (M.world memory.old) (with_own stack.old own.old)
-        x M.follows memory.old memory.new) }
-    ensures of { OnOk result (M.program memory.new ≡ M.program memory.old) }
-{
-    let number = stack.pop_int();
-    stack.pop_value();
-    let mut bytes = decimal32(alloc, number)?;
-    bytes.push(b'\n')?;
-    print(stack, p, own, bytes.as_slice(), next, left)
-}
-
-/// `println(long)`: as `print(long)`, and a line feed.
-#[tactic(auto, unfolding(jvm_model::specs::NativesOutside::native_print))]
-pub fn println_long<M: Memory>(
-    alloc: Global,
-    stack: &mut FrameStack,
-    memory: &mut M,
-    p: &Program,
-    own: &mut Own,
-    next: u32,
-    left: &mut u64,
-) -> Result<Next, NoMemory>
-    requires program { p.now ≡ M.program memory.old }
-    requires place { IsNext p.now stack.old next }
-    requires row { IsReady (print_row Native.PrintlnLong)
-        (M.program memory.old) (M.world memory.old) (with_own stack.old own.old) }
-    ensures meets { IfOk result (λ x. Meets (print_row Native.PrintlnLong)
-        (M.program memory.old) (M.world memory.old) (with_own stack.old own.old) left.old
-        x (with_own stack.new own.new) (M.world memory.new) left.new) }
-    ensures told { IfOk result (λ x. Tells (print_row Native.PrintlnLong)
-        (M.program memory.old) (M.world memory.old) (with_own stack.old own.old)
-        x M.follows memory.old memory.new) }
-    ensures of { OnOk result (M.program memory.new ≡ M.program memory.old) }
-{
-    let number = stack.pop_long();
-    stack.pop_value();
-    let mut bytes = decimal64(alloc, number)?;
-    bytes.push(b'\n')?;
-    print(stack, p, own, bytes.as_slice(), next, left)
-}
-
-/// `println(boolean)`: as `print(boolean)`, and a line feed.
-#[tactic(auto, unfolding(jvm_model::specs::NativesOutside::native_print))]
-pub fn println_boolean<M: Memory>(
-    alloc: Global,
-    stack: &mut FrameStack,
-    memory: &mut M,
-    p: &Program,
-    own: &mut Own,
-    next: u32,
-    left: &mut u64,
-) -> Result<Next, NoMemory>
-    requires program { p.now ≡ M.program memory.old }
-    requires place { IsNext p.now stack.old next }
-    requires row { IsReady (print_row Native.PrintlnBoolean)
-        (M.program memory.old) (M.world memory.old) (with_own stack.old own.old) }
-    ensures meets { IfOk result (λ x. Meets (print_row Native.PrintlnBoolean)
-        (M.program memory.old) (M.world memory.old) (with_own stack.old own.old) left.old
-        x (with_own stack.new own.new) (M.world memory.new) left.new) }
-    ensures told { IfOk result (λ x. Tells (print_row Native.PrintlnBoolean)
-        (M.program memory.old) (M.world memory.old) (with_own stack.old own.old)
-        x M.follows memory.old memory.new) }
-    ensures of { OnOk result (M.program memory.new ≡ M.program memory.old) }
-{
-    let truth = stack.pop_int();
-    stack.pop_value();
-    let mut bytes = Text::from_slice(alloc, boolean_text(truth))?;
-    bytes.push(b'\n')?;
-    print(stack, p, own, bytes.as_slice(), next, left)
-}
-
-/// `println(char)`: as `print(char)`, and a line feed.
-#[tactic(auto, unfolding(jvm_model::specs::NativesOutside::native_print))]
-pub fn println_char<M: Memory>(
-    alloc: Global,
-    stack: &mut FrameStack,
-    memory: &mut M,
-    p: &Program,
-    own: &mut Own,
-    next: u32,
-    left: &mut u64,
-) -> Result<Next, NoMemory>
-    requires program { p.now ≡ M.program memory.old }
-    requires place { IsNext p.now stack.old next }
-    requires row { IsReady (print_row Native.PrintlnChar)
-        (M.program memory.old) (M.world memory.old) (with_own stack.old own.old) }
-    ensures meets { IfOk result (λ x. Meets (print_row Native.PrintlnChar)
-        (M.program memory.old) (M.world memory.old) (with_own stack.old own.old) left.old
-        x (with_own stack.new own.new) (M.world memory.new) left.new) }
-    ensures told { IfOk result (λ x. Tells (print_row Native.PrintlnChar)
-        (M.program memory.old) (M.world memory.old) (with_own stack.old own.old)
-        x M.follows memory.old memory.new) }
-    ensures of { OnOk result (M.program memory.new ≡ M.program memory.old) }
-{
-    let char = stack.pop_int();
-    stack.pop_value();
-    let units = Units::from_slice(alloc, &[char_unit(char)])?;
-    let mut bytes = bytes_of_units(alloc, &units)?;
-    bytes.push(b'\n')?;
-    print(stack, p, own, bytes.as_slice(), next, left)
-}
-
-/// `println()`: a line feed. It counts 2.
-#[tactic(auto, unfolding(jvm_model::specs::NativesOutside::native_print))]
-pub fn println<M: Memory>(
-    stack: &mut FrameStack,
-    memory: &mut M,
-    p: &Program,
-    own: &mut Own,
-    next: u32,
-    left: &mut u64,
-) -> Result<Next, NoMemory>
-    requires program { p.now ≡ M.program memory.old }
-    requires place { IsNext p.now stack.old next }
-    requires row { IsReady (print_row Native.Println)
-        (M.program memory.old) (M.world memory.old) (with_own stack.old own.old) }
-    ensures meets { IfOk result (λ x. Meets (print_row Native.Println)
-        (M.program memory.old) (M.world memory.old) (with_own stack.old own.old) left.old
-        x (with_own stack.new own.new) (M.world memory.new) left.new) }
-    ensures told { IfOk result (λ x. Tells (print_row Native.Println)
-        (M.program memory.old) (M.world memory.old) (with_own stack.old own.old)
-        x M.follows memory.old memory.new) }
-    ensures of { OnOk result (M.program memory.new ≡ M.program memory.old) }
-{
-    stack.pop_value();
-    print(stack, p, own, b"\n", next, left)
 }

@@ -7,7 +7,7 @@ ghost use Rattle.jvm_model.specs.declared.values.Value.TheVariants.{Obj};
 ghost use Rattle.jvm_model.specs.World.{World};
 ghost use Rattle.vm_frames.specs.Stack.{HasRoom};
 ghost use Rattle.vm_mem.specs.Meets.{IsReady, IsNext, Meets, Tells};
-ghost use Rattle.vm_natives.specs.Rows.{with_own, string_row, unit_row, compared_row, same_row, cut_row, part_row, joined_row};
+ghost use Rattle.vm_natives.specs.Rows.{with_own, string_row, unit_row, compared_row, same_row, concat_row, concat_text_row, cut_row, joined_row, part_row};
 
 use crate::texts::{
     boolean_text, char_unit, hash_of, int_text, length_of, long_text, part_from, part_of, same_text,
@@ -523,37 +523,103 @@ pub fn concat<M: Memory>(
 {
     let argument = stack.pop_value();
     let receiver = stack.pop_value();
-    match (argument, receiver) {
-        (Value::Null, _) => Ok(Next::Fault {
+    match argument {
+        Value::Lit(_) => concat_to(alloc, stack, memory, p, own, receiver, argument, next, left),
+        Value::Obj(_) => concat_to(alloc, stack, memory, p, own, receiver, argument, next, left),
+        Value::Null => Ok(Next::Fault {
             class: NULL_POINTER_EXCEPTION,
         }),
-        (Value::Lit(_), Value::Null) => Ok(Next::Fault {
+        Value::Int(_) => unreachable!(),
+        Value::Long(_) => unreachable!(),
+    }
+}
+
+/// The text of a String, and then that of its argument.
+fn concat_to<M: Memory>(
+    alloc: Global,
+    stack: &mut FrameStack,
+    memory: &mut M,
+    p: &Program,
+    own: &Own,
+    receiver: Value,
+    argument: Value,
+    next: u32,
+    left: &mut u64,
+) -> Result<Next, NoMemory>
+    requires program { p.now ≡ M.program memory.old }
+    requires place { IsNext p.now stack.old next }
+    requires room { HasRoom 1 stack.old }
+    requires row { IsReady (concat_row receiver argument)
+        (M.program memory.old) (M.world memory.old) (with_own stack.old own.now) }
+    ensures meets { IfOk result (λ x. Meets (concat_row receiver argument)
+        (M.program memory.old) (M.world memory.old) (with_own stack.old own.now) left.old
+        x (with_own stack.new own.now) (M.world memory.new) left.new) }
+    ensures told { IfOk result (λ x. Tells (concat_row receiver argument)
+        (M.program memory.old) (M.world memory.old) (with_own stack.old own.now)
+        x M.follows memory.old memory.new) }
+    ensures of { OnOk result (M.program memory.new ≡ M.program memory.old) }
+{
+    match receiver {
+        Value::Lit(n) => {
+            let text = Units::from_slice(alloc, p.literal(n))?;
+            concat_text(
+                alloc, stack, memory, p, own, receiver, text, argument, next, left,
+            )
+        }
+        Value::Obj(object) => {
+            let text = Units::from_slice(alloc, memory.get_text(object)?.as_slice())?;
+            concat_text(
+                alloc, stack, memory, p, own, receiver, text, argument, next, left,
+            )
+        }
+        Value::Null => Ok(Next::Fault {
             class: NULL_POINTER_EXCEPTION,
         }),
-        (Value::Obj(_), Value::Null) => Ok(Next::Fault {
+        Value::Int(_) => unreachable!(),
+        Value::Long(_) => unreachable!(),
+    }
+}
+
+/// The text of the argument.
+fn concat_text<M: Memory>(
+    alloc: Global,
+    stack: &mut FrameStack,
+    memory: &mut M,
+    p: &Program,
+    own: &Own,
+    receiver: Value,
+    text: Units,
+    argument: Value,
+    next: u32,
+    left: &mut u64,
+) -> Result<Next, NoMemory>
+    requires program { p.now ≡ M.program memory.old }
+    requires place { IsNext p.now stack.old next }
+    requires room { HasRoom 1 stack.old }
+    requires row { IsReady (concat_text_row receiver text argument)
+        (M.program memory.old) (M.world memory.old) (with_own stack.old own.now) }
+    ensures meets { IfOk result (λ x. Meets (concat_text_row receiver text argument)
+        (M.program memory.old) (M.world memory.old) (with_own stack.old own.now) left.old
+        x (with_own stack.new own.now) (M.world memory.new) left.new) }
+    ensures told { IfOk result (λ x. Tells (concat_text_row receiver text argument)
+        (M.program memory.old) (M.world memory.old) (with_own stack.old own.now)
+        x M.follows memory.old memory.new) }
+    ensures of { OnOk result (M.program memory.new ≡ M.program memory.old) }
+{
+    match argument {
+        Value::Lit(n) => {
+            let more = Units::from_slice(alloc, p.literal(n))?;
+            join(stack, memory, p, own, receiver, text, more, next, left)
+        }
+        Value::Obj(object) => {
+            let more = Units::from_slice(alloc, memory.get_text(object)?.as_slice())?;
+            join(stack, memory, p, own, receiver, text, more, next, left)
+        }
+        Value::Null => Ok(Next::Fault {
             class: NULL_POINTER_EXCEPTION,
         }),
-        (Value::Lit(b), Value::Lit(a)) => {
-            let text = Units::from_slice(alloc, p.literal(a))?;
-            let more = Units::from_slice(alloc, p.literal(b))?;
-            join(stack, memory, p, own, receiver, text, more, next, left)
-        }
-        (Value::Lit(b), Value::Obj(a)) => {
-            let text = Units::from_slice(alloc, memory.get_text(a)?.as_slice())?;
-            let more = Units::from_slice(alloc, p.literal(b))?;
-            join(stack, memory, p, own, receiver, text, more, next, left)
-        }
-        (Value::Obj(b), Value::Lit(a)) => {
-            let text = Units::from_slice(alloc, p.literal(a))?;
-            let more = Units::from_slice(alloc, memory.get_text(b)?.as_slice())?;
-            join(stack, memory, p, own, receiver, text, more, next, left)
-        }
-        (Value::Obj(b), Value::Obj(a)) => {
-            let text = Units::from_slice(alloc, memory.get_text(a)?.as_slice())?;
-            let more = Units::from_slice(alloc, memory.get_text(b)?.as_slice())?;
-            join(stack, memory, p, own, receiver, text, more, next, left)
-        }
-        _ => unreachable!(),
+        Value::Int(_) => unreachable!(),
+        Value::Long(_) => unreachable!(),
     }
 }
 

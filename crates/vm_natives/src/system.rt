@@ -8,7 +8,7 @@ ghost use Rattle.vm_mem.specs.Meets.{IsReady, IsNext, Meets, Tells};
 ghost use Rattle.vm_natives.specs.Rows.{with_own, system_row};
 ghost use Rattle.vm_natives.specs.Named.{property_row, property_change_row};
 
-use crate::named::{Change, Named, answer_for, with_name, with_texts};
+use crate::named::answer_for;
 use crate::working::{answer, answer_text};
 use et_base::{NoMemory, Units, add64};
 use jvm_model::{Head, Kind, Next, Own, Program, STRING, Value};
@@ -35,124 +35,7 @@ pub fn clock(stack: &mut FrameStack, p: &Program, own: &mut Own, next: u32, left
 }
 
 /// `getProperty(String)`: a new String of the property's text, or null where it isn't set. It counts 1, a unit for each of
-/// the name, and for a new String 1 and a unit for each of its text. A null name throws NullPointerException. Over, with
-/// nothing made, where fewer units are left.
-#[tactic(auto, unfolding(jvm_model::specs::NativesOutside::native_system, crate::specs::Named::name_row))]
-pub fn get_property<M: Memory>(
-    alloc: Global,
-    stack: &mut FrameStack,
-    memory: &mut M,
-    p: &Program,
-    own: &Own,
-    next: u32,
-    left: &mut u64,
-) -> Result<Next, NoMemory>
-    requires program { p.now ≡ M.program memory.old }
-    requires place { IsNext p.now stack.old next }
-    requires row { IsReady (system_row Native.SystemGetProperty)
-        (M.program memory.old) (M.world memory.old) (with_own stack.old own.now) }
-    ensures meets { IfOk result (λ x. Meets (system_row Native.SystemGetProperty)
-        (M.program memory.old) (M.world memory.old) (with_own stack.old own.now) left.old
-        x (with_own stack.new own.now) (M.world memory.new) left.new) }
-    ensures told { IfOk result (λ x. Tells (system_row Native.SystemGetProperty)
-        (M.program memory.old) (M.world memory.old) (with_own stack.old own.now)
-        x M.follows memory.old memory.new) }
-    ensures of { OnOk result (M.program memory.new ≡ M.program memory.old) }
-{
-    let name = stack.pop_value();
-    with_name(
-        alloc,
-        stack,
-        memory,
-        p,
-        own,
-        Named::GetProperty,
-        name,
-        next,
-        left,
-    )
-}
-
-/// `setProperty(String, String)`: the property has this text, and its old one is answered as `getProperty` does. It counts
-/// a unit for each of the new text besides. A null name or text throws NullPointerException. Over, with nothing written,
-/// where fewer units are left.
-#[tactic(auto, unfolding(jvm_model::specs::NativesOutside::native_system, crate::specs::Named::change_row))]
-pub fn set_property<M: Memory>(
-    alloc: Global,
-    stack: &mut FrameStack,
-    memory: &mut M,
-    p: &Program,
-    own: &Own,
-    next: u32,
-    left: &mut u64,
-) -> Result<Next, NoMemory>
-    requires program { p.now ≡ M.program memory.old }
-    requires place { IsNext p.now stack.old next }
-    requires row { IsReady (system_row Native.SystemSetProperty)
-        (M.program memory.old) (M.world memory.old) (with_own stack.old own.now) }
-    ensures meets { IfOk result (λ x. Meets (system_row Native.SystemSetProperty)
-        (M.program memory.old) (M.world memory.old) (with_own stack.old own.now) left.old
-        x (with_own stack.new own.now) (M.world memory.new) left.new) }
-    ensures told { IfOk result (λ x. Tells (system_row Native.SystemSetProperty)
-        (M.program memory.old) (M.world memory.old) (with_own stack.old own.now)
-        x M.follows memory.old memory.new) }
-    ensures of { OnOk result (M.program memory.new ≡ M.program memory.old) }
-{
-    let text = stack.pop_value();
-    let name = stack.pop_value();
-    with_texts(
-        alloc,
-        stack,
-        memory,
-        p,
-        own,
-        Change::SetProperty,
-        name,
-        text,
-        next,
-        left,
-    )
-}
-
-/// `clearProperty(String)`: the property is taken away, and its old text is answered. It counts and throws as `getProperty`
-/// does. Over, with nothing taken away, where fewer units are left.
-#[tactic(auto, unfolding(jvm_model::specs::NativesOutside::native_system, crate::specs::Named::name_row))]
-pub fn clear_property<M: Memory>(
-    alloc: Global,
-    stack: &mut FrameStack,
-    memory: &mut M,
-    p: &Program,
-    own: &Own,
-    next: u32,
-    left: &mut u64,
-) -> Result<Next, NoMemory>
-    requires program { p.now ≡ M.program memory.old }
-    requires place { IsNext p.now stack.old next }
-    requires row { IsReady (system_row Native.SystemClearProperty)
-        (M.program memory.old) (M.world memory.old) (with_own stack.old own.now) }
-    ensures meets { IfOk result (λ x. Meets (system_row Native.SystemClearProperty)
-        (M.program memory.old) (M.world memory.old) (with_own stack.old own.now) left.old
-        x (with_own stack.new own.now) (M.world memory.new) left.new) }
-    ensures told { IfOk result (λ x. Tells (system_row Native.SystemClearProperty)
-        (M.program memory.old) (M.world memory.old) (with_own stack.old own.now)
-        x M.follows memory.old memory.new) }
-    ensures of { OnOk result (M.program memory.new ≡ M.program memory.old) }
-{
-    let name = stack.pop_value();
-    with_name(
-        alloc,
-        stack,
-        memory,
-        p,
-        own,
-        Named::ClearProperty,
-        name,
-        next,
-        left,
-    )
-}
-
-/// The text of a property is answered, or null.
+/// the name, and for a new String 1 and a unit for each of its text. Over, with nothing made, where fewer units are left.
 pub fn property_at<M: Memory>(
     alloc: Global,
     stack: &mut FrameStack,
@@ -186,8 +69,9 @@ pub fn property_at<M: Memory>(
     }
 }
 
-/// A property is set, or taken away where there is no text, and its old text is answered, or null. It counts so many units
-/// for what is written.
+/// `setProperty(String, String)`, and without a text `clearProperty(String)`: the property has this text, or is taken away,
+/// and its old one is answered as `getProperty` does. It counts so many units for what is written besides. Over, with nothing
+/// written, where fewer units are left.
 pub fn change_property<M: Memory>(
     alloc: Global,
     stack: &mut FrameStack,
