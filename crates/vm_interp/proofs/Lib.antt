@@ -7,6 +7,6 @@ pub mod Quiet
 pub mod Framed
 pub mod Builtin
 pub mod Laws
-pub mod Quick
+pub mod Found
 pub mod Numbered
 pub mod Onward

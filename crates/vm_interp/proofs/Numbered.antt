@@ -78,19 +78,40 @@ number_of_table p m pc i b own e w = record { found = subst (λ (o : Option Body
 pub is_body : (p : Program) (m : ℕ) (b : Body) → Linked p → (method_at p m).body ≡ Some b → IsBody b
 is_body p m b h e = subst (λ (o : Option Body). IfSome o (λ x. IsBody x)) e (h.bodies m (has_number p m b e))
 
--- the place after an instruction
-pub after_some : (code : List Placed) (i end : ℕ) (x : Placed) → Some x ≡ slice_get code (i + 1) → x.pc ≡ place_after (drop (suc i) code) end
-after_some code i end x e =
-    let one : i + 1 ≡ suc i = omega arith in
-    let there : slice_get code (suc i) ≡ Some x = subst (λ (n : ℕ). slice_get code n ≡ Some x) one (sym e) in
-    sym (place_at code (suc i) end no_placed (within code (suc i) x there) ∙ ap (λ (y : Placed). y.pc) (get_some code (suc i) x no_placed there))
+-- an instruction that was looked up
+pub looked_up : (xs : List Placed) (i : ℕ) (x : Placed) → i < length xs → x ≡ get_or xs i x → Some x ≡ slice_get xs i
+looked_up [] i x l e = let none : ⊥ = omega arith in absurd none
+looked_up (y ∷ ys) zero x l e = ap (λ (z : Placed). Some z) e
+looked_up (y ∷ ys) (suc i) x l e = looked_up ys i x (omega arith) e
+
+-- the place of an instruction
+pub here_some : (code : List Placed) (i end : ℕ) (x : Placed) → Some x ≡ slice_get code i → x.pc ≡ place_after (drop i code) end
+here_some code i end x e = sym (place_at code i end no_placed (within code i x (sym e)) ∙ ap (λ (y : Placed). y.pc) (get_some code i x no_placed (sym e)))
 
 past : (code : List Placed) (i : ℕ) → slice_get code i ≡ None → length code ≤ i
 past [] i e = omega arith
 past (x ∷ xs) zero e = absurd (cc)
 past (x ∷ xs) (suc i) e = let h = past xs i e in omega arith
 
+pub here_none : (code : List Placed) (i end : ℕ) → None ≡ slice_get code i → end ≡ place_after (drop i code) end
+here_none code i end e = sym (place_past code i end (past code i (sym e)))
+
+-- the place after an instruction
+pub after_some : (code : List Placed) (i end : ℕ) (x : Placed) → Some x ≡ slice_get code (i + 1) → x.pc ≡ place_after (drop (suc i) code) end
+after_some code i end x e =
+    let one : i + 1 ≡ suc i = omega arith in
+    here_some code (suc i) end x (subst (λ (n : ℕ). Some x ≡ slice_get code n) one e)
+
 pub after_none : (code : List Placed) (i end : ℕ) → None ≡ slice_get code (i + 1) → end ≡ place_after (drop (suc i) code) end
 after_none code i end e =
     let one : i + 1 ≡ suc i = omega arith in
-    sym (place_past code (suc i) end (past code (suc i) (subst (λ (n : ℕ). slice_get code n ≡ None) one (sym e))))
+    here_none code (suc i) end (subst (λ (n : ℕ). None ≡ slice_get code n) one e)
+
+-- the instruction of a number stands at its place
+pub form_here : (p : Program) (m i : ℕ) (b : Body) (x : Placed) → IsBody b → (method_at p m).body ≡ Some b → Some x ≡ slice_get b.code i → form_at p m x.pc ≡ Some x.form
+form_here p m i b x h own e = form_numbered p m x.pc i b own (number_of_guess b i x.pc x h e refl) ∙ ap (λ (y : Placed). Some y.form) (get_some b.code i x no_placed (sym e))
+
+pub next_here : (p : Program) (m i : ℕ) (b : Body) (x : Placed) → IsBody b → (method_at p m).body ≡ Some b → Some x ≡ slice_get b.code i → next_place p m x.pc ≡ place_after (drop (i + 1) b.code) b.length
+next_here p m i b x h own e =
+    let one : i + 1 ≡ suc i = omega arith in
+    next_numbered p m x.pc i b own (number_of_guess b i x.pc x h e refl) ∙ ap (λ (n : ℕ). place_after (drop n b.code) b.length) (sym one)

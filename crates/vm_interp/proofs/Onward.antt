@@ -1,23 +1,39 @@
 -- Steps of a test one after the other, as the code makes them.
-use Rattle.std.proofs.Common.{◌≡◌, ◌≢◌, ◌≤◌, ◌<◌, ℕ, List, refl, sym, ap, ◌∙◌, subst, arith, None}
+use Rattle.std.proofs.Common.{◌≡◌, ◌≢◌, ◌≤◌, ◌<◌, ℕ, List, not, refl, sym, ap, ◌∙◌, subst, arith, Option, None, is_some, suc, Some, slice_get, drop, ◌+◌}
 use Rattle.jvm_model.specs.declared.values.Touch.{Touch}
+use Rattle.jvm_model.specs.declared.instr.Instr.{Instr}
+use Rattle.jvm_model.specs.declared.program.Body.{Body}
+use Rattle.jvm_model.specs.declared.program.Placed.{Placed}
+use Rattle.jvm_model.specs.declared.values.Value.{Value}
+use Rattle.jvm_model.specs.declared.library.Native.{Native}
+use Rattle.jvm_model.specs.declared.outcome.Next.{Next}
+use Rattle.jvm_model.specs.declared.outcome.Next.TheVariants.{Go, Fault, Raise, Enter, Leave, Over as Spent}
 use Rattle.jvm_model.specs.declared.program.Program.{Program}
 use Rattle.jvm_model.specs.declared.state.EntryKind.TheVariants.{InMethod}
 use Rattle.jvm_model.specs.World.{World}
-use Rattle.jvm_model.specs.Access.{Access}
-use Rattle.jvm_model.specs.State.{State, Turn, next}
-use Rattle.jvm_model.specs.Step.{row_here, step}
-use Rattle.jvm_model.specs.View.{counted, ended, touched}
+use Rattle.jvm_model.specs.Access.{Access, done}
+use Rattle.jvm_model.specs.Classes.{form_at, method_at, next_place, place_after}
+use Rattle.jvm_model.specs.Entries.{Entries, with_place}
+use Rattle.jvm_model.specs.Linked.{IsBody}
+use Rattle.jvm_model.specs.State.{State, Turn, next, with_entries}
+use Rattle.jvm_model.specs.Step.{entered, row_here, step}
+use Rattle.jvm_model.specs.View.{counted, ended, paid, touched, IsSafe, IsTurn}
 use Rattle.jvm_model.proofs.Steps.{step_runs}
+use Rattle.vm_arith.specs.Pure.{GoesOn}
+use Rattle.vm_mem.specs.Meets.{Meets, Tells}
 use Rattle.vm_mem.specs.Story.{Story}
-use Rattle.vm_interp.specs.Gliding.{Steps, here, on, StepsOn, Advances}
-use Rattle.vm_interp.specs.Reaching.{AllSafe}
+use Rattle.vm_interp.specs.Gliding.{Steps, here, on, StepsOn, Advances, Rolls, Runs, EndsWithRow, CanGlide}
+use Rattle.vm_interp.specs.Reaching.{AllSafe, HasRoomAfter}
 use Rattle.vm_interp.specs.Seen.{seen}
-use Rattle.vm_interp.specs.Turns.{by_row, turned}
+use Rattle.vm_interp.specs.Turns.{after, by_row, turned}
 use Rattle.vm_interp.specs.declared.state.State.{State as Kept}
 use Rattle.vm_interp.specs.declared.turned.Turned.{Turned}
-use Rattle.vm_interp.specs.declared.turned.Turned.TheVariants.{Goes, Over}
-use Rattle.vm_interp.proofs.Whole.{IsRest, goes_by, step_falls, none_left}
+use Rattle.vm_interp.specs.declared.turned.Turned.TheVariants.{Over}
+use Rattle.vm_interp.proofs.NoEntry.{room_then}
+use Rattle.vm_interp.proofs.Found.{can_glide, fits, goes, step_counts, step_touches}
+use Rattle.vm_interp.proofs.Numbered.{form_here, here_some, next_here}
+use Rattle.vm_interp.proofs.Stepped.{row_over, row_fit, row_counted, row_touches}
+use Rattle.vm_interp.proofs.Whole.{IsRest, goes_by, step_falls}
 
 never_more : (p : Program) (s : State) (w : World) (n : ℕ) {u : State} {v : World} {m : ℕ} {f : List Touch → List Touch} → Steps p s w n u v m f → m ≤ n
 never_more p s w n here = omega arith
@@ -35,6 +51,82 @@ steps_rest p t v b s w n f (on x y m g u w' k h e) r =
 pub steps_can : (p q : Program) → q ≡ p → (t : ℕ) (v : World) (b : ℕ) (s : State) (w : World) (n : ℕ) (f : List Touch → List Touch) → AllSafe p t v → IsRest p t v b s w n f → StepsOn q s w n
 steps_can p q same t v b s w n f all r = subst (λ (z : Program). StepsOn z s w n) (sym same) (λ u y m g h. all u y (steps_rest p t v b s w n f h r).reached)
 
+steps_then : (p : Program) (s : State) (w : World) (n : ℕ) {t : State} {v : World} {m : ℕ} {f : List Touch → List Touch} → Steps p s w n t v m f →
+    {u : State} {x : World} {k : ℕ} {g : List Touch → List Touch} → Steps p t v m u x k g → Steps p s w n u x k (λ ts. g (f ts))
+steps_then p s w n a here = a
+steps_then p s w n {f = f} a (on y v m g u w' k b e) = on y v m (λ ts. g (f ts)) u w' k (steps_then p s w n a b) e
+
+pub steps_on : (p : Program) (s : State) (w : World) (n : ℕ) → StepsOn p s w n → {t : State} {v : World} {m : ℕ} {f : List Touch → List Touch} → Steps p s w n t v m f → StepsOn p t v m
+steps_on p s w n can {f = f} a u x k g h = can u x k (λ ts. g (f ts)) (steps_then p s w n a h)
+
+-- such steps of one state, which touch nothing
+pub runs_none : (p : Program) (s : State) (w : World) (e : Entries) (n : ℕ) → Runs p s w e n e n
+runs_none p s w e n = record { so_far = λ ts. ts; steps = here; same = λ ts. refl; frame = refl; number = refl }
+
+pub runs_from : (p : Program) (s : State) (w : World) (e : Entries) (n pc q : ℕ) → pc ≡ e.top.pc → pc ≡ q → Runs p s w e n (with_place e q) n
+runs_from p s w e n pc q h l = subst (λ (m : ℕ). Runs p s w e n (with_place e m) n) (sym h ∙ l) (runs_none p s w e n)
+
+-- the entries that the state had before have no part in them
+pub runs_over : (p : Program) (z s : Kept) (x : Entries) (w : World) (e : Entries) (n : ℕ) (u : Entries) (k : ℕ) → z ≡ record s { frames = x } → Runs p (seen z) w e n u k → Runs p (seen s) w e n u k
+runs_over p z s x w e n u k h a =
+    let r = subst (λ (y : Kept). Runs p (seen y) w e n u k) h a in
+    record { so_far = r.so_far; steps = r.steps; same = r.same; frame = r.frame; number = r.number }
+
+pub runs_fewer : (p : Program) (s : State) (w : World) (e : Entries) (n : ℕ) (u : Entries) (k : ℕ) → Runs p s w e n u k → k ≤ n
+runs_fewer p s w e n u k r = never_more p (record s { entries = e }) w n r.steps
+
+module _ (p : Program) (s : State) (quiet : s.raised ≡ None) (w : World) (e : Entries) (n : ℕ) (frame : e.top.kind ≡ InMethod) (f : Entries) (k : ℕ) where
+  -- one more
+  runs_on : Runs p s w e n f k → (i : Instr) (q : ℕ) (u : Entries) (k1 : ℕ) → form_at p f.top.number f.top.pc ≡ Some i → next_place p f.top.number f.top.pc ≡ q → GoesOn i f u → k ≡ suc k1 → Runs p s w e n (with_place u q) k1
+  runs_on r i q u k1 found place h d =
+      let t = record s { entries = f } in
+      let by = step_runs p (record s { entries = f }) (r.frame ∙ frame) quiet in
+      let g = goes i q f u h in
+      record {
+        so_far = λ ts. touched (step p (record s { entries = f })) w (r.so_far ts);
+        steps = on (record s { entries = f }) w k r.so_far (record s { entries = with_place u q }) w k1 r.steps
+            (ap (λ (a : Access Turn). counted a w k) by ∙ step_counts p (record s { entries = f }) w quiet i q (with_place u q) found place g k k1 d);
+        same = λ ts. ap (λ (a : Access Turn). touched a w (r.so_far ts)) by ∙ step_touches p (record s { entries = f }) w quiet i q (with_place u q) found place g (r.so_far ts) ∙ r.same ts;
+        frame = h.frame.kind ∙ r.frame;
+        number = h.frame.number ∙ r.number;
+      }
+
+-- the same at the instruction of a number in a code
+module _ (p : Program) (s : State) (quiet : s.raised ≡ None) (w : World) (e : Entries) (n : ℕ) (frame : e.top.kind ≡ InMethod) (b : Body) (body : IsBody b) (own : (method_at p e.top.number).body ≡ Some b)
+    (f : Entries) (at k : ℕ) (x : Placed) (there : Some x ≡ slice_get b.code at) (r : Runs p s w e n (with_place f (place_after (drop at b.code) b.length)) k) where
+  run_here : Runs p s w e n (with_place f x.pc) k
+  run_here = subst (λ (q : ℕ). Runs p s w e n (with_place f q) k) (sym (here_some b.code at b.length x there)) r
+
+  found_here : form_at p f.top.number x.pc ≡ Some x.form
+  found_here = subst (λ (m : ℕ). form_at p m x.pc ≡ Some x.form) (sym r.number) (form_here p e.top.number at b x body own there)
+
+  pub straight_can : StepsOn p (record s { entries = e }) w n → CanGlide x.form (with_place f x.pc)
+  straight_can can = can_glide p (record s { entries = with_place f x.pc }) w (can (record s { entries = with_place f x.pc }) w k run_here.so_far run_here.steps) (r.frame ∙ frame) quiet x.form found_here
+
+  pub straight_on : (u : Entries) (k1 : ℕ) → GoesOn x.form (with_place f x.pc) u → k ≡ suc k1 → Runs p s w e n (with_place u (place_after (drop (at + 1) b.code) b.length)) k1
+  straight_on u k1 h d = runs_on p s quiet w e n frame (with_place f x.pc) k run_here x.form (place_after (drop (at + 1) b.code) b.length) u k1 found_here
+      (subst (λ (m : ℕ). next_place p m x.pc ≡ place_after (drop (at + 1) b.code) b.length) (sym r.number) (next_here p e.top.number at b x body own there)) h d
+
+-- a step that ends with its row
+after_row_ends : (p : Program) (s : State) (x : Next) → EndsWithRow p x → after x p s ≡ done (next (with_entries s s.entries))
+after_row_ends p s Go h = refl
+after_row_ends p s (Enter m) h = ap (λ (o : Option Native). paid (not (not (is_some o))) (entered p s o s.entries)) h
+after_row_ends p s (Fault c) h = absurd h
+after_row_ends p s (Raise v) h = absurd h
+after_row_ends p s Leave h = absurd h
+after_row_ends p s Spent h = absurd h
+
+pub stays_ends : (p : Program) (x : Next) → x ≡ Go → EndsWithRow p x
+stays_ends p x e = subst (λ (y : Next). EndsWithRow p y) (sym e) tt
+
+not_spent : (p : Program) (x : Next) → EndsWithRow p x → x ≢ Spent
+not_spent p Go h = λ e. cc
+not_spent p (Enter m) h = λ e. cc
+not_spent p (Fault c) h = absurd h
+not_spent p (Raise v) h = absurd h
+not_spent p Leave h = absurd h
+not_spent p Spent h = absurd h
+
 module _ {M : Type 0} (world : M → World) (follows : M → Story → List Touch → Type 0) (p q : Program) (same : q ≡ p) where
   module _ (m0 m1 : M) (s : Kept) (left : ℕ) (x : Turned) (s' : Kept) (left' : ℕ) where
     -- one step alone
@@ -50,35 +142,119 @@ module _ {M : Type 0} (world : M → World) (follows : M → Story → List Touc
     pub no_more : (a : Advances q world follows m0 m1 s left x s' left') → a.units ≤ left
     no_more a = never_more q (seen s) (world m0) left a.steps
 
-  -- steps so far, in a memory that follows their touches
-  module _ (m0 m1 m2 : M) (s0 s : Kept) (n0 n : ℕ) (f : List Touch → List Touch) (g : Steps p (seen s0) (world m0) n0 (seen s) (world m1) n f) (told : (h : Story) (ts : List Touch) → follows m0 h ts → follows m1 h (f ts)) where
+  -- steps so far up to these entries, in a memory that follows their touches
+  module _ (m0 m1 m2 : M) (s : Kept) (quiet : s.raised ≡ None) (e : Entries) (n0 n : ℕ) (f : List Touch → List Touch)
+      (g : Steps p (seen s) (world m0) n0 (record (seen s) { entries = e }) (world m1) n f)
+      (told : (h : Story) (ts : List Touch) → follows m0 h ts → follows m1 h (f ts)) (k : e.top.kind ≡ InMethod) where
+    abbrev pub at : State
+    at = record (seen s) { entries = e }
+
+    -- and such steps of the state that they come to
+    module _ (u : Entries) (k1 : ℕ) (r : Runs p (seen s) (world m1) e n u k1) where
+      pub run_steps : Steps p (seen s) (world m0) n0 (record (seen s) { entries = u }) (world m1) k1 (λ ts. r.so_far (f ts))
+      run_steps = steps_then p (seen s) (world m0) n0 g r.steps
+
+      pub run_told : (h : Story) (ts : List Touch) → follows m0 h ts → follows m1 h (r.so_far (f ts))
+      run_told h ts l = subst (λ (us : List Touch). follows m1 h us) (sym (r.same (f ts))) (told h ts l)
+
     -- no unit is left
-    pub ends_over : n ≡ 0 → (s' : Kept) (left' : ℕ) → Advances p world follows m0 m1 s0 n0 Over s' left'
-    ends_over e s' left' = record { last = seen s; there = world m1; units = n; so_far = f; steps = g; meets = ap (λ (k : ℕ). counted (step p (seen s)) (world m1) k) e ∙ none_left p (seen s) (world m1); told = λ k h ts l. absurd (k refl) }
+    pub rolled_over : n ≡ 0 → (t : Entries) (n' : ℕ) → Rolls p world follows m0 m1 s n0 Spent t n'
+    rolled_over z t n' = record {
+      last = e;
+      there = world m1;
+      units = n;
+      so_far = f;
+      steps = g;
+      frame = k;
+      meets = subst (λ (l : ℕ). Meets row_here p (world m1) e l Spent t (world m1) n') (sym z) refl;
+      told = λ o h ts l. absurd (o refl);
+    }
 
-    -- and the step of an instruction that was found
-    module _ (k : s.frames.top.kind ≡ InMethod) (r : s.raised ≡ None) (x : Turned) (s' : Kept) (left' : ℕ) (meets : counted (by_row row_here q (seen s)) (world m1) n ≡ turned x s' (world m2) left')
-        (tells : x ≢ Over → (h : Story) (ts : List Touch) → follows m1 h ts → follows m2 h (touched (by_row row_here q (seen s)) (world m1) ts)) where
-      step_row : step p (seen s) ≡ by_row row_here q (seen s)
-      step_row = step_runs p (seen s) k r ∙ ap (λ (z : Program). by_row row_here z (seen s)) (sym same)
+    -- and the row of one more
+    module _ (x : Next) (t : Entries) (n' : ℕ) (meets : Meets row_here q (world m1) e n x t (world m2) n') (tells : Tells row_here q (world m1) e x follows m1 m2) where
+      same_meets : Meets row_here p (world m1) e n x t (world m2) n'
+      same_meets = subst (λ (z : Program). Meets row_here z (world m1) e n x t (world m2) n') same meets
 
-      form_meets : counted (step p (seen s)) (world m1) n ≡ turned x s' (world m2) left'
-      form_meets = ap (λ (a : Access Turn). counted a (world m1) n) step_row ∙ meets
+      same_tells : Tells row_here p (world m1) e x follows m1 m2
+      same_tells = subst (λ (z : Program). Tells row_here z (world m1) e x follows m1 m2) same tells
 
-      form_tells : x ≢ Over → (h : Story) (ts : List Touch) → follows m0 h ts → follows m2 h (touched (step p (seen s)) (world m1) (f ts))
-      form_tells o h ts l = subst (λ (a : Access Turn). follows m2 h (touched a (world m1) (f ts))) (sym step_row) (tells o h (f ts) (told h ts l))
+      pub rolled : Rolls p world follows m0 m2 s n0 x t n'
+      rolled = record { last = e; there = world m1; units = n; so_far = f; steps = g; frame = k; meets = same_meets; told = λ o h ts l. same_tells o h (f ts) (told h ts l) }
 
-      pub form_last : Advances p world follows m0 m2 s0 n0 x s' left'
-      form_last = record { last = seen s; there = world m1; units = n; so_far = f; steps = g; meets = form_meets; told = form_tells }
+      -- its step ends with it
+      module _ (ends : EndsWithRow p x) where
+        rest : Access Turn
+        rest = done (next (with_entries (record at { entries = t }) t))
 
-      goes : x ≡ Goes → counted (step p (seen s)) (world m1) n ≡ ended (next (seen s')) (world m2) left'
-      goes e = form_meets ∙ ap (λ (y : Turned). turned y s' (world m2) left') e
+        row_goes : counted (step p at) (world m1) n ≡ ended (next (record (seen s) { entries = t })) (world m2) n'
+        row_goes = ap (λ (a : Access Turn). counted a (world m1) n) (step_runs p at k quiet)
+            ∙ row_counted row_here p (world m1) at n t (world m2) n' x (not_spent p x ends) same_meets
+            ∙ ap (λ (a : Access Turn). counted a (world m2) n') (after_row_ends p (record at { entries = t }) x ends)
+            ∙ ap (λ (o : Option Value). ended (next (record (seen s) { entries = t; raised = o })) (world m2) n') (sym quiet)
 
-      pub form_on : x ≡ Goes → Steps p (seen s0) (world m0) n0 (seen s') (world m2) left' (λ ts. touched (step p (seen s)) (world m1) (f ts))
-      form_on e = on (seen s) (world m1) n f (seen s') (world m2) left' g (goes e)
+        touches : (ts : List Touch) → touched (step p at) (world m1) ts ≡ touched (row_here p e) (world m1) ts
+        touches ts = ap (λ (a : Access Turn). touched a (world m1) ts) (step_runs p at k quiet)
+            ∙ row_touches row_here p (world m1) at n t (world m2) n' x (not_spent p x ends) same_meets ts
+            ∙ ap (λ (a : Access Turn). touched a (world m2) (touched (row_here p e) (world m1) ts)) (after_row_ends p (record at { entries = t }) x ends)
 
-      pub form_told : x ≡ Goes → (h : Story) (ts : List Touch) → follows m0 h ts → follows m2 h (touched (step p (seen s)) (world m1) (f ts))
-      form_told e = form_tells (λ o. let z : Goes ≡ Over = sym e ∙ o in cc)
+        pub row_on : Steps p (seen s) (world m0) n0 (record (seen s) { entries = t }) (world m2) n' (λ ts. touched (step p at) (world m1) (f ts))
+        row_on = on at (world m1) n f (record (seen s) { entries = t }) (world m2) n' g row_goes
 
-      pub form_falls : x ≡ Goes → left' < n
-      form_falls e = step_falls p (seen s) (world m1) n (next (seen s')) (world m2) left' (goes e)
+        pub row_told : (h : Story) (ts : List Touch) → follows m0 h ts → follows m2 h (touched (step p at) (world m1) (f ts))
+        row_told h ts l = subst (λ (us : List Touch). follows m2 h us) (sym (touches (f ts))) (same_tells (not_spent p x ends) h (f ts) (told h ts l))
+
+        pub row_falls : n' < n
+        row_falls = step_falls p at (world m1) n (next (record (seen s) { entries = t })) (world m2) n' row_goes
+
+  -- steps and a row, over which a state stands
+  module _ (m0 m1 m2 : M) (s : Kept) (quiet : s.raised ≡ None) (left : ℕ) (x : Next) (z : Kept) (left1 : ℕ) (stands : z ≡ record s { frames = z.frames })
+      (can : StepsOn p (seen s) (world m0) left) (a : Rolls p world follows m0 m1 s left x z.frames left1) where
+    abbrev before : State
+    before = record (seen s) { entries = a.last }
+
+    runs : step p before ≡ by_row row_here p before
+    runs = step_runs p before a.frame quiet
+
+    seen_is : record before { entries = z.frames } ≡ seen z
+    seen_is = sym (ap seen stands)
+
+    pub ends_over : x ≡ Spent → (s' : Kept) (left' : ℕ) → Advances p world follows m0 m1 s left Over s' left'
+    ends_over e s' left' = record {
+      last = before;
+      there = a.there;
+      units = a.units;
+      so_far = a.so_far;
+      steps = a.steps;
+      meets = ap (λ (b : Access Turn). counted b a.there a.units) runs ∙ row_over row_here p a.there before a.units z.frames (world m1) left1 (subst (λ (y : Next). Meets row_here p a.there a.last a.units y z.frames (world m1) left1) e a.meets);
+      told = λ n. absurd (n refl);
+    }
+
+    module _ (n : x ≢ Spent) where
+      pub rolled_fit : IsSafe IsTurn (after x q (seen z)) (world m1)
+      rolled_fit = subst (λ (u : State). IsSafe IsTurn (after x q u) (world m1)) seen_is (subst (λ (r : Program). IsSafe IsTurn (after x r (record before { entries = z.frames })) (world m1)) (sym same)
+          (row_fit row_here p a.there before a.units z.frames (world m1) left1 x n a.meets (fits p before a.there (can before a.there a.units a.so_far a.steps) a.frame quiet)))
+
+      pub rolled_room : HasRoomAfter x q z.frames
+      rolled_room = subst (λ (r : Program). HasRoomAfter x r z.frames) (sym same)
+          (room_then row_here p a.there a.last a.units x z.frames (world m1) left1 n a.meets ((can before a.there a.units a.so_far a.steps).native_space a.frame quiet))
+
+      counts : counted (step p before) a.there a.units ≡ counted (after x q (seen z)) (world m1) left1
+      counts = ap (λ (b : Access Turn). counted b a.there a.units) runs ∙ row_counted row_here p a.there before a.units z.frames (world m1) left1 x n a.meets
+          ∙ ap (λ (u : State). counted (after x p u) (world m1) left1) seen_is ∙ ap (λ (r : Program). counted (after x r (seen z)) (world m1) left1) (sym same)
+
+      rolled_touches : (ts : List Touch) → touched (step p before) a.there ts ≡ touched (after x q (seen z)) (world m1) (touched (row_here p a.last) a.there ts)
+      rolled_touches ts = ap (λ (b : Access Turn). touched b a.there ts) runs ∙ row_touches row_here p a.there before a.units z.frames (world m1) left1 x n a.meets ts
+          ∙ ap (λ (u : State). touched (after x p u) (world m1) (touched (row_here p a.last) a.there ts)) seen_is ∙ ap (λ (r : Program). touched (after x r (seen z)) (world m1) (touched (row_here p a.last) a.there ts)) (sym same)
+
+      -- and what comes after the row
+      pub concluded : (y : Turned) (s' : Kept) (left' : ℕ) → counted (after x q (seen z)) (world m1) left1 ≡ turned y s' (world m2) left' →
+          (y ≢ Over → (h : Story) (ts : List Touch) → follows m1 h ts → follows m2 h (touched (after x q (seen z)) (world m1) ts)) → Advances p world follows m0 m2 s left y s' left'
+      concluded y s' left' meets tells = record {
+        last = before;
+        there = a.there;
+        units = a.units;
+        so_far = a.so_far;
+        steps = a.steps;
+        meets = counts ∙ meets;
+        told = λ o h ts l. subst (λ (us : List Touch). follows m2 h us) (sym (rolled_touches (a.so_far ts))) (tells o h (touched (row_here p a.last) a.there (a.so_far ts)) (a.told n h ts l));
+      }

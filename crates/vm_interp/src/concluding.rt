@@ -127,7 +127,7 @@ fn run_builtin<M: Memory>(
 }
 
 /// Which built-in method a method is, if it is one.
-fn native_of(p: &Program, method: u32) -> Option<Native>
+pub fn native_of(p: &Program, method: u32) -> Option<Native>
     ensures { result ≡ (method_at p.now method).native }
 {
     match p.method(method) {

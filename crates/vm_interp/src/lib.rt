@@ -7,11 +7,13 @@ mod gliding;
 mod judging;
 mod limits;
 mod lookup;
+mod quick;
 mod raising;
 mod rows;
 mod running;
 mod state;
 mod stepping;
+mod straight;
 mod turned;
 
 pub use limits::stack_limits;

@@ -2,7 +2,6 @@
 
 ghost use Rattle.std.specs.Prelude.{◌≡◌, IfOk, None, OnOk, Some};
 ghost use Rattle.jvm_model.specs.declared.instr.Instr.TheVariants as form;
-ghost use Rattle.jvm_model.specs.Classes.{form_at};
 ghost use Rattle.jvm_model.specs.Step as steps;
 ghost use Rattle.vm_frames.specs.Stack.{HasRoom};
 ghost use Rattle.vm_arith.specs.Pure.{TouchesNothing};
@@ -60,43 +59,10 @@ pub fn row_here<M: Memory>(
     )
 }
 
-/// The same of an instruction that was found, with the byte place of the next one.
-#[tactic(auto, unfolding(jvm_model::specs::Step::row_here))]
-pub fn found_row<M: Memory>(
-    alloc: Global,
-    stack: &mut FrameStack,
-    memory: &mut M,
-    p: &Program,
-    tables: &Tables,
-    selections: &mut Selections,
-    form: &Instr,
-    next: u32,
-    left: &mut u64,
-) -> Result<Next, NoMemory>
-    requires program { p.now ≡ M.program memory.old }
-    requires tables { tables.now ≡ M.program memory.old }
-    requires selections { selections.old ≡ M.program memory.old }
-    requires found { form_at (M.program memory.old) stack.old.top.number stack.old.top.pc ≡ Some form.now }
-    requires place { IsNext (M.program memory.old) stack.old next }
-    requires space { HasSpace (M.program memory.old) stack.old }
-    requires row { IsReady steps.row_here (M.program memory.old) (M.world memory.old) stack.old }
-    ensures meets { IfOk result (λ x. Meets steps.row_here
-        (M.program memory.old) (M.world memory.old) stack.old left.old
-        x stack.new (M.world memory.new) left.new) }
-    ensures told { IfOk result (λ x. Tells steps.row_here
-        (M.program memory.old) (M.world memory.old) stack.old
-        x M.follows memory.old memory.new) }
-    ensures of { OnOk result (M.program memory.new ≡ M.program memory.old) }
-    ensures kept { selections.new ≡ selections.old }
-{
-    row_of(
-        alloc, stack, memory, p, tables, selections, form, next, left,
-    )
-}
-
 /// Makes the row of an instruction, with the byte place of the next one.
+#[inline(never)]
 #[tactic(auto, unfolding(jvm_model::specs::Step::row))]
-fn row_of<M: Memory>(
+pub fn row_of<M: Memory>(
     alloc: Global,
     stack: &mut FrameStack,
     memory: &mut M,

@@ -12,18 +12,17 @@ ghost use Rattle.check_sound.specs.ReachLaw.{HasStackLimits};
 ghost use Rattle.vm_interp.specs.Reaching.{CanStep, HasNativeSpace, HasSpace};
 ghost use Rattle.vm_interp.specs.Seen.{seen};
 ghost use Rattle.vm_interp.specs.Turns.{IsFit, MeetsPart, TellsPart, by_row};
-ghost use Rattle.vm_interp.specs.Gliding.{Asks};
 
 use crate::concluding::conclude;
 use crate::driving::drive;
-use crate::rows::{found_row, row_here};
+use crate::rows::row_here;
 use crate::state::State;
 use crate::turned::Turned;
 use check_sound::{reach_law, step_law};
 use class_init::{fail, finish};
 use et_base::NoMemory;
 use exception_flow::raise;
-use jvm_model::{EntryKind, Instr, Next, Program, Value};
+use jvm_model::{EntryKind, Next, Program, Value};
 use std::alloc::Global;
 use vm_calls::Selections;
 use vm_mem::Memory;
@@ -62,48 +61,6 @@ fn run_step<M: Memory>(
         p,
         tables,
         selections,
-        left,
-    )?;
-    if let Next::Over = next {
-        return Ok(Turned::Over);
-    }
-    conclude(alloc, state, memory, p, tables, next, left)
-}
-
-/// The same of an instruction that was found, with the byte place of the next one.
-pub fn form_step<M: Memory>(
-    alloc: Global,
-    state: &mut State,
-    memory: &mut M,
-    p: &Program,
-    tables: &Tables,
-    selections: &mut Selections,
-    form: &Instr,
-    next: u32,
-    left: &mut u64,
-) -> Result<Turned, NoMemory>
-    requires program { p.now ≡ M.program memory.old }
-    requires tables { tables.now ≡ M.program memory.old }
-    requires selections { selections.old ≡ M.program memory.old }
-    requires asks { Asks (M.program memory.old) (M.world memory.old) state.old form.now next }
-    ensures meets { IfOk result (λ x. MeetsPart (by_row steps.row_here)
-        (M.program memory.old) (M.world memory.old) state.old left.old
-        x state.new (M.world memory.new) left.new) }
-    ensures told { IfOk result (λ x. TellsPart (by_row steps.row_here)
-        (M.program memory.old) (M.world memory.old) state.old
-        x M.follows memory.old memory.new) }
-    ensures of { OnOk result (M.program memory.new ≡ M.program memory.old) }
-    ensures kept { selections.new ≡ selections.old }
-{
-    let next = found_row(
-        alloc,
-        &mut state.frames,
-        memory,
-        p,
-        tables,
-        selections,
-        form,
-        next,
         left,
     )?;
     if let Next::Over = next {

@@ -60,6 +60,7 @@ pub fn arrays<M: Memory>(
 }
 
 /// Takes an array and puts its length on top (`arraylength`).
+#[inline(always)]
 pub fn array_length<M: Memory>(
     stack: &mut FrameStack,
     memory: &mut M,
@@ -102,6 +103,7 @@ pub fn array_length<M: Memory>(
 
 /// Takes an index and an array and puts the element there on top (`iaload`, `laload`, `aaload`, `baload`, `caload`,
 /// `saload`).
+#[inline(always)]
 pub fn array_load<M: Memory>(
     stack: &mut FrameStack,
     memory: &mut M,
@@ -187,7 +189,41 @@ pub fn array_store<M: Memory>(
     }
 }
 
+/// Takes a number, an index and an array of numbers and gives the element there the number, narrowed to the element's type.
+#[inline(always)]
+pub fn array_store_number<M: Memory>(
+    stack: &mut FrameStack,
+    memory: &mut M,
+    next: u32,
+    left: &mut u64,
+) -> Result<Next, NoMemory>
+    requires row { IsReady (array_row (form.ArrayStore cell.Int))
+        (M.program memory.old) (M.world memory.old) stack.old }
+    requires place { IsNext (M.program memory.old) stack.old next }
+    ensures meets { IfOk result (λ x. Meets (array_row (form.ArrayStore cell.Int))
+        (M.program memory.old) (M.world memory.old) stack.old left.old
+        x stack.new (M.world memory.new) left.new) }
+    ensures told { IfOk result (λ x. Tells (array_row (form.ArrayStore cell.Int))
+        (M.program memory.old) (M.world memory.old) stack.old
+        x M.follows memory.old memory.new) }
+    ensures of { OnOk result (M.program memory.new ≡ M.program memory.old) }
+{
+    if *left == 0 {
+        return Ok(Next::Over);
+    }
+    let v = stack.pop_value();
+    let index = stack.pop_int();
+    match stack.pop_value() {
+        Value::Obj(array) => store_number(stack, memory, array, index, v, next, left),
+        Value::Null => Ok(Next::Fault {
+            class: NULL_POINTER_EXCEPTION,
+        }),
+        Value::Int(_) | Value::Long(_) | Value::Lit(_) => unreachable!(),
+    }
+}
+
 // A number goes into an array: it is narrowed to the type of the elements.
+#[inline(always)]
 fn store_number<M: Memory>(
     stack: &mut FrameStack,
     memory: &mut M,

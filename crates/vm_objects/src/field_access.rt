@@ -43,6 +43,7 @@ pub fn fields<M: Memory>(
 }
 
 /// Takes an object and puts the value of its field on top (`getfield`).
+#[inline(always)]
 pub fn get_field<M: Memory>(
     stack: &mut FrameStack,
     memory: &mut M,
@@ -80,6 +81,7 @@ pub fn get_field<M: Memory>(
 }
 
 /// Takes a value and an object and gives its field the value, narrowed to the field's type (`putfield`).
+#[inline(always)]
 pub fn put_field<M: Memory>(
     stack: &mut FrameStack,
     memory: &mut M,

@@ -8,7 +8,7 @@ mod field_access;
 mod nesting;
 mod static_access;
 
-pub use array_access::{array_length, array_load, array_store, arrays};
+pub use array_access::{array_length, array_load, array_store, array_store_number, arrays};
 pub use casting::{casts, check_cast, instance_of};
 pub use creation::{create, new_array, new_object};
 pub use field_access::{fields, get_field, put_field};

@@ -1,9 +1,8 @@
-use Rattle.std.proofs.Common.{sym, ◌∙◌, subst}
+use Rattle.std.proofs.Common.{sym, subst}
 use Rattle.jvm_model.specs.declared.program.Program.{Program}
 use Rattle.vm_interp.specs.Gliding.{here}
 use Rattle.vm_interp.specs.Reaching.{CanStep}
 use Rattle.vm_interp.specs.Seen.{seen}
-use Rattle.vm_interp.proofs.Numbered.{is_body}
 use Rattle.vm_interp.proofs.Onward.{alone}
 use Rattle.vm_interp.proofs.gliding.glide.Goals as goal
 
@@ -13,6 +12,3 @@ step_safe-requires-clause-can g c = subst (λ (q : Program). CanStep q (g.M.Memo
 
 pub returns-in_ok-turned-in-None-clause-made : goal.returns-in_ok-turned-in-None-clause-made
 returns-in_ok-turned-in-None-clause-made g c = alone g.M.Memory.world g.M.Memory.follows c.args.p.now (g.M.Memory.program c.args.memory.now) (sym c.requires.program) c.args.memory.now c.step_safe.new.memory c.args.state.now c.args.left.now c.in_ok-turned-in-None.turned c.step_safe.new.state c.step_safe.new.left c.in_ok-turned-in-None.ensures.meets c.in_ok-turned-in-None.ensures.told
-
-pub glide_in-requires-clause-body : goal.glide_in-requires-clause-body
-glide_in-requires-clause-body g c = is_body c.args.p.now c.args.state.now.frames.top.number c.in-Some.body.now c.requires.linked c.in-Some.ensures.1

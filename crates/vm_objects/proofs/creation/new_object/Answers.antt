@@ -1,6 +1,7 @@
 use Rattle.jvm_model.specs.declared.instr.Instr.TheVariants as form
 use Rattle.vm_objects.specs.Forms.{create_row, object_row}
-use Rattle.vm_objects.proofs.Using.{row_usable, ready_row, ready_meets, ready_tells, begun_meets, begun_tells, fault_meets, fault_tells, over_meets, new_uses}
+use Rattle.class_init.proofs.Using.{row_usable, ready_row, ready_meets, ready_tells, begun_meets, begun_tells, fault_meets, fault_tells, over_meets}
+use Rattle.vm_objects.proofs.Using.{new_uses}
 use Rattle.vm_objects.proofs.creation.new_object.Goals as goal
 
 pub begin_use-requires-clause-safe : goal.begin_use-requires-clause-safe

@@ -1,6 +1,7 @@
 use Rattle.jvm_model.specs.declared.instr.Instr.TheVariants as form
 use Rattle.vm_objects.specs.Forms.{static_row, read_row}
-use Rattle.vm_objects.proofs.Using.{row_usable, ready_row, ready_meets, ready_tells, begun_meets, begun_tells, fault_meets, fault_tells, over_meets, get_uses}
+use Rattle.class_init.proofs.Using.{row_usable, ready_row, ready_meets, ready_tells, begun_meets, begun_tells, fault_meets, fault_tells, over_meets}
+use Rattle.vm_objects.proofs.Using.{get_uses}
 use Rattle.vm_objects.proofs.static_access.get_static.Goals as goal
 
 pub begin_use-requires-clause-safe : goal.begin_use-requires-clause-safe

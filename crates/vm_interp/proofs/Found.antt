@@ -1,6 +1,7 @@
 -- What the step of an instruction that was found asks for, and the steps of forms that touch nothing.
-use Rattle.std.proofs.Common.{◌≡◌, ◌≤◌, ℕ, suc, List, Bool, cond, refl, sym, ap, ◌∙◌, subst, arith, Option, Some, None, IsSome, true, false, nat_le, ◌-◌}
+use Rattle.std.proofs.Common.{◌≡◌, ◌<◌, ℕ, suc, List, Bool, cond, refl, sym, ap, ◌∙◌, subst, arith, Option, Some, None, IsSome, true, false, nat_le, ◌-◌}
 use Rattle.jvm_model.specs.declared.values.Touch.{Touch}
+use Rattle.jvm_model.specs.declared.values.Value.{Value}
 use Rattle.jvm_model.specs.declared.instr.Instr.{Instr}
 use Rattle.jvm_model.specs.declared.instr.Instr.TheVariants as form
 use Rattle.jvm_model.specs.declared.outcome.Next.TheVariants.{Go}
@@ -14,18 +15,18 @@ use Rattle.jvm_model.specs.Rows.{Answer, answer}
 use Rattle.jvm_model.specs.RowsBranches.{row_branches}
 use Rattle.jvm_model.specs.State.{State, Turn, next, with_entries}
 use Rattle.jvm_model.specs.Step.{group_of, row, row_here, row_or_none, after_row}
-use Rattle.jvm_model.specs.declared.values.Value.{Value}
-use Rattle.jvm_model.specs.View.{ended, counted, touched, IsSafe, IsRow, IsTurn}
+use Rattle.jvm_model.specs.View.{counted, ended, touched, IsSafe, IsRow, IsTurn}
 use Rattle.jvm_model.proofs.Steps.{step_runs, safe_row}
 use Rattle.vm_arith.specs.Pure.{GoesOn, Branches, is_pure}
 use Rattle.vm_frames.specs.Stack.{HasRoom}
+use Rattle.vm_mem.specs.Meets.{Meets, Tells}
+use Rattle.vm_mem.specs.Story.{Story}
 use Rattle.vm_arith.proofs.Rows.{has_row}
 use Rattle.check_sound.specs.ReachLaw.{puts}
 use Rattle.vm_interp.specs.Reaching.{CanStep}
-use Rattle.vm_interp.specs.Seen.{seen}
+use Rattle.vm_interp.specs.Gliding.{CanGo, CanGlide, Goes}
+use Rattle.vm_interp.specs.Rows.{form_row}
 use Rattle.vm_interp.specs.Turns.{by_row}
-use Rattle.vm_interp.specs.declared.state.State.{State as Kept}
-use Rattle.vm_interp.specs.Gliding.{Asks, CanGo, CanGlide, Goes}
 use Rattle.vm_interp.proofs.Quiet.{grows}
 
 -- a form that goes on at the next instruction
@@ -40,22 +41,40 @@ pub jumps : (to n : ℕ) (s : Entries) → Goes (form.Goto to) n s (with_place s
 unfolding row row_branches
 jumps to n s = record { frame = refl; number = refl; row = λ p e. refl }
 
-one_less : {A : Type 0} (a : A) (w : World) (left left1 : ℕ) → left ≡ suc left1 → counted (spend 1 (done a)) w left ≡ ended a w left1
-one_less a w left left1 e = let d : left - 1 ≡ left1 = omega arith in let h : nat_le 1 left ≡ true = grind arith in rw (h, d) refl
+-- the row of such a form
+module _ (p : Program) (s : Entries) (w : World) (i : Instr) (n : ℕ) (u : Entries) (place : next_place p s.top.number s.top.pc ≡ n) (h : Goes i n s u) where
+  pub quick_meets : (left left1 : ℕ) → left ≡ suc left1 → Meets (form_row i) p w s left Go u w left1
+  quick_meets left left1 e = ap (λ (a : Access (Answer Entries)). counted (spend 1 a) w left) (h.row p place) ∙
+      (let d : left - 1 ≡ left1 = omega arith in let k : nat_le 1 left ≡ true = grind arith in rw (k, d) refl)
 
--- the step of such a form
+  pub quick_touches : (ts : List Touch) → touched (row p i s) w ts ≡ ts
+  quick_touches ts = ap (λ (a : Access (Answer Entries)). touched a w ts) (h.row p place)
+
+  pub went_meets : (left : ℕ) → 0 < left → Meets (form_row i) p w s left Go u w (left - 1)
+  went_meets left l = quick_meets left (left - 1) (omega arith)
+
+  pub went_tells : {M : Type 0} (follows : M → Story → List Touch → Type 0) (m : M) → Tells (form_row i) p w s Go follows m m
+  went_tells follows m o h ts k = subst (λ (us : List Touch). follows m h us) (sym (quick_touches ts)) k
+
+pub branch_meets : (p : Program) (w : World) (i : ℕ → Instr) (b : Bool) (to n : ℕ) (s u : Entries) (left : ℕ) → Branches i b s u → next_place p s.top.number s.top.pc ≡ n → 0 < left → Meets (form_row (i to)) p w s left Go (with_place u (cond b to n)) w (left - 1)
+branch_meets p w i b to n s u left h e l = went_meets p s w (i to) n (with_place u (cond b to n)) e (branches i b to n s u h) left l
+
+pub branch_tells : {M : Type 0} (follows : M → Story → List Touch → Type 0) (m : M) (p : Program) (w : World) (i : ℕ → Instr) (b : Bool) (to : ℕ) (s u : Entries) → Branches i b s u → Tells (form_row (i to)) p w s Go follows m m
+branch_tells follows m p w i b to s u h = went_tells p s w (i to) (next_place p s.top.number s.top.pc) (with_place u (cond b to (next_place p s.top.number s.top.pc))) refl (branches i b to (next_place p s.top.number s.top.pc) s u h) follows m
+
+-- the step of a form that goes on
 module _ (p : Program) (s : State) (w : World) (r : s.raised ≡ None) (i : Instr) (n : ℕ) (u : Entries)
     (found : form_at p s.entries.top.number s.entries.top.pc ≡ Some i) (place : next_place p s.entries.top.number s.entries.top.pc ≡ n) (h : Goes i n s.entries u) where
   step_is : by_row row_here p s ≡ spend 1 (done (next (with_entries s u)))
   unfolding row_here
   step_is = ap (λ (a : Access (Answer Entries)). spend 1 (bind a (after_row p s))) (ap (λ (o : Option Instr). row_or_none p o s.entries) found ∙ h.row p place)
 
-  pub quick_counts : (left left1 : ℕ) → left ≡ suc left1 → counted (by_row row_here p s) w left ≡ ended (next (record s { entries = u })) w left1
-  quick_counts left left1 e = ap (λ (a : Access Turn). counted a w left) step_is ∙ one_less (next (with_entries s u)) w left left1 e
+  pub step_counts : (left left1 : ℕ) → left ≡ suc left1 → counted (by_row row_here p s) w left ≡ ended (next (record s { entries = u })) w left1
+  step_counts left left1 e = ap (λ (a : Access Turn). counted a w left) step_is ∙ (let d : left - 1 ≡ left1 = omega arith in let k : nat_le 1 left ≡ true = grind arith in rw (k, d) refl)
       ∙ ap (λ (o : Option Value). ended (next (record s { entries = u; raised = o })) w left1) (sym r)
 
-  pub quick_touches : (ts : List Touch) → touched (by_row row_here p s) w ts ≡ ts
-  quick_touches ts = ap (λ (a : Access Turn). touched a w ts) step_is
+  pub step_touches : (ts : List Touch) → touched (by_row row_here p s) w ts ≡ ts
+  step_touches ts = ap (λ (a : Access Turn). touched a w ts) step_is
 
 there : (p : Program) (s : Entries) (i : Instr) (w : World) → form_at p s.top.number s.top.pc ≡ Some i → IsSafe IsRow (row_here p s) w → IsSafe IsRow (row p i s) w
 unfolding row_here
@@ -80,10 +99,10 @@ there_is p q same m pc s e f h = subst (λ (z : Program). IsSome (form_at z m pc
 
 -- what a state that can step gives to the step of the frame at the top
 module _ (p : Program) (s : State) (w : World) (can : CanStep p w s) (k : s.entries.top.kind ≡ InMethod) (r : s.raised ≡ None) where
-  fits : IsSafe IsTurn (spend 1 (bind (row_here p s.entries) (after_row p s))) w
+  pub fits : IsSafe IsTurn (spend 1 (bind (row_here p s.entries) (after_row p s))) w
   fits = subst (λ (a : Access Turn). IsSafe IsTurn a w) (step_runs p s k r) can.safe
 
-  row_safe : IsSafe IsRow (row_here p s.entries) w
+  pub row_safe : IsSafe IsRow (row_here p s.entries) w
   row_safe = safe_row p s (row_here p s.entries) w fits
 
   pub form_there_is : IsSome (form_at p s.entries.top.number s.entries.top.pc)
@@ -91,15 +110,6 @@ module _ (p : Program) (s : State) (w : World) (can : CanStep p w s) (k : s.entr
 
   pub can_glide : (i : Instr) → form_at p s.entries.top.number s.entries.top.pc ≡ Some i → CanGlide i s.entries
   can_glide i e = by_pure p i s.entries w (is_pure (group_of i)) refl (there p s.entries i w e row_safe) ((can.space k r).room i e)
-
--- what it gives to the step of an instruction that was found
-pub asked : (p q : Program) → q ≡ p → (w : World) (s : Kept) (i : Instr) (n : ℕ) → CanStep p w (seen s) → s.frames.top.kind ≡ InMethod → s.raised ≡ None →
-    form_at p s.frames.top.number s.frames.top.pc ≡ Some i → next_place p s.frames.top.number s.frames.top.pc ≡ n → Asks q w s i n
-asked p q same w s i n can k r e f = subst (λ (z : Program). Asks z w s i n) (sym same)
-    (record { found = e; place = f; space = can.space k r; native_space = can.native_space k r; fit = fits p (seen s) w can k r })
-
-pub goes_at : (i j : Instr) (n : ℕ) (s u v : Entries) → i ≡ j → v ≡ with_place u n → GoesOn j s u → Goes i n s v
-goes_at i j n s u v e f h = rw (e, f) (goes j n s u h)
 
 pub jumps_at : (i : Instr) (to n : ℕ) (s v : Entries) → i ≡ form.Goto to → v ≡ with_place s to → Goes i n s v
 jumps_at i to n s v e f = rw (e, f) (jumps to n s)
