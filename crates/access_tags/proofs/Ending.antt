@@ -46,6 +46,7 @@ use Rattle.access_tags.specs.Followed.{Follows, HaveSameRoom, IsEnded, IsNamed, 
 use Rattle.access_tags.specs.Numbering.{Numbering, IsAt, IsPlaced, is_named, located, position, with_cells, with_names}
 use Rattle.access_tags.specs.Ran.{size_after, size_in, story_to, touched_by}
 use Rattle.access_tags.specs.Rows.{edges_at, shown_by, with_places}
+use Rattle.access_tags.specs.Trails.{touched_in}
 use Rattle.access_tags.specs.Shelf.{count, tag_in}
 use Rattle.access_tags.specs.Stands.{Stands}
 use Rattle.access_tags.specs.Worlds.{bases, cells_of, states_of, statics_of, width}
@@ -237,7 +238,7 @@ summed m x h ts T z rows walks size_is alone f e w =
     let i : h.test ≡ suc (h.test - 1) = omega arith in
     record {
       rows = λ p by more.
-          let s = more_names_stand (numbering m) T (h.test - 1) ts (tag_in m.tags.cells) (tag_in m.tags.named) m.tags.touched.items t.stands more (tag_in m.tags.named)
+          let s = more_names_stand (numbering m) T (h.test - 1) ts (tag_in m.tags.cells) (tag_in m.tags.named) (touched_in m.tags.touched) t.stands more (tag_in m.tags.named)
           (λ l k. let j = f.named in no_tag_past m.tags.named.pasts m.tags.named.readers m.tags.named.marks l m.tags.named.sound (omega arith)) (λ l. refl) in
           let r = rows (with_names (numbering m) more) T (h.test - 1) ts p by (y ∙ i) (ap T y ∙ w) s in
           subst (λ (u : ℕ). map (shown_by p by (m.names ++ more) u) x.rows ≡ map (with_places T u) (edges_at p T by u)) y

@@ -6,6 +6,8 @@ pub mod Chains
 pub mod Settle
 pub mod Grown
 pub mod Numbered
+pub mod Spanned
+pub mod Parted
 pub mod Stood
 pub mod More
 pub mod Tally

@@ -1,15 +1,13 @@
 -- The tags of locations by those of their numbers.
-use Rattle.std.proofs.Common.{◌≡◌, ◌≢◌, ℕ, zero, suc, ◌+◌, ◌<◌, Bool, true, false, not, ◌||◌, ◌&&◌, cond, List, [], ◌∷◌, length, get_or, take, refl, sym, ◌∙◌, ap, subst, arith, nat_eq, inl, inr}
+use Rattle.std.proofs.Common.{◌≡◌, ◌≢◌, ℕ, suc, Bool, true, false, not, ◌||◌, ◌&&◌, cond, List, [], ◌∷◌, refl, sym, ◌∙◌, ap, subst, arith, nat_eq, inl, inr}
 use Rattle.std.specs.List.{list_any}
 use Rattle.std.proofs.lemmas.Bool.{cases_Bool, eqb-true, eq-eqb}
-use Rattle.std.proofs.lemmas.List.Folds.{list_any_more}
 use Rattle.jvm_model.specs.declared.values.Location.{Location}
 use Rattle.jvm_model.specs.World.{same}
 use Rattle.jvm_model.proofs.Locations.{same_true}
 use Rattle.access_tags.specs.declared.hit.Touched.{Touched}
-use Rattle.access_tags.specs.Tag.{Tag, ended}
-use Rattle.access_tags.specs.Cells.{Apart}
-use Rattle.access_tags.specs.Numbering.{Numbering, located, is_name, is_named, position, view, IsPlaced, ArePlaced, locations, is_at, tag_at}
+use Rattle.access_tags.specs.Tag.{Tag}
+use Rattle.access_tags.specs.Numbering.{Numbering, located, is_name, is_named, position, view, IsPlaced, locations, is_at, tag_at}
 use Rattle.access_tags.proofs.Marks.{same_self, swap_same}
 use Rattle.access_tags.proofs.Settle.{differ}
 
@@ -21,14 +19,6 @@ next_eq a b = elim (cases_Bool (nat_eq a b)) [
   | inl e ↦ let g = eqb-true a b e in eq-eqb (suc a) (suc b) (ap suc g) ∙ sym e
   | inr e ↦ let d = differ a b e in apart_eq (suc a) (suc b) (λ q. absurd (d (omega arith))) ∙ sym e
 ]
-
-first : (a b : Bool) → (a || b) ≡ false → a ≡ false
-first true b e = absurd (cc)
-first false b e = refl
-
-rest : (a b : Bool) → (a || b) ≡ false → b ≡ false
-rest true b e = absurd (cc)
-rest false b e = e
 
 second : (a b : Bool) → (a || b) ≡ true → a ≡ false → b ≡ true
 second true b e f = absurd (cc)
@@ -96,42 +86,6 @@ module _ (n : Numbering) where
   -- the tag of an entry is that of its location
   pub tag_there : (c d : ℕ → Tag) (x : Touched) → IsPlaced n x → tag_at c d x ≡ view n c d (located n.names x.spot)
   tag_there c d x p = ap (λ (b : Bool). cond b (d x.at) (c x.at)) (sym p.kind) ∙ ap (λ (i : ℕ). cond (is_named (located n.names x.spot)) (d i) (c i)) p.at
-
-  -- entries with locations that differ
-  none_at : (L : Location) (xs : List Touched) (i : ℕ) (d : Touched) → list_any (same L) (locations n xs) ≡ false → i < length xs → is_at n L (get_or xs i d) ≡ false
-  none_at L [] i d e h = absurd (omega arith)
-  none_at L (x ∷ xs) zero d e h = first (is_at n L x) _ e
-  none_at L (x ∷ xs) (suc i) d e h = none_at L xs i d (rest (is_at n L x) _ e) (omega arith)
-
-  ahead : (xs : List Touched) (i : ℕ) (d : Touched) → Apart same (locations n xs) → i < length xs → list_any (is_at n (located n.names (get_or xs i d).spot)) (take i xs) ≡ false
-  ahead [] i d a h = absurd (omega arith)
-  ahead (x ∷ xs) zero d a h = refl
-  ahead (x ∷ xs) (suc i) d a h = let y = located n.names (get_or xs i d).spot in let e : same y (located n.names x.spot) ≡ false = swap_same (located n.names x.spot) y ∙ none_at (located n.names x.spot) xs i d a.0 (omega arith) in rw e (ahead xs i d a.1 (omega arith))
-
-  -- one more entry whose test ended
-  pub one_ended : (xs : List Touched) (i t : ℕ) (d : Touched) (v0 v v' : Location → Tag) → Apart same (locations n xs) → i < length xs →
-      ((L : Location) → v L ≡ cond (list_any (is_at n L) (take i xs)) (ended t (v0 L)) (v0 L)) →
-      ((L : Location) → v' L ≡ cond (is_at n L (get_or xs i d)) (ended t (v (located n.names (get_or xs i d).spot))) (v L)) →
-      (L : Location) → v' L ≡ cond (list_any (is_at n L) (take (i + 1) xs)) (ended t (v0 L)) (v0 L)
-  one_ended xs i t d v0 v v' a h f g L = let M = located n.names (get_or xs i d).spot in elim (cases_Bool (is_at n L (get_or xs i d))) [
-    | inl e ↦ let q = same_true L M e in
-        let z : v M ≡ v0 M = f M ∙ rw (ahead xs i d a h) refl in
-        g L ∙ rw e (rw (list_any_more (is_at n L) xs i d h) (rw e (ap (λ (x : Tag). ended t x) z ∙ (ap (λ (x : Location). ended t (v0 x)) (sym q) ∙ or_true (list_any (is_at n L) (take i xs))))))
-    | inr e ↦ g L ∙ rw e (f L ∙ rw (list_any_more (is_at n L) xs i d h) (rw e (or_false (list_any (is_at n L) (take i xs)))))
-  ]
-    where
-      or_true : (b : Bool) → ended t (v0 L) ≡ cond (b || true) (ended t (v0 L)) (v0 L)
-      or_true true = refl
-      or_true false = refl
-
-      or_false : (b : Bool) → cond b (ended t (v0 L)) (v0 L) ≡ cond (b || false) (ended t (v0 L)) (v0 L)
-      or_false true = refl
-      or_false false = refl
-
-  pub placed_at : (xs : List Touched) (i : ℕ) (d : Touched) → ArePlaced n xs → i < length xs → IsPlaced n (get_or xs i d)
-  placed_at [] i d p h = absurd (omega arith)
-  placed_at (x ∷ xs) zero d p h = p.0
-  placed_at (x ∷ xs) (suc i) d p h = placed_at xs i d p.1 (omega arith)
 
   pub any_location : (L : Location) (xs : List Touched) → list_any (is_at n L) xs ≡ list_any (same L) (locations n xs)
   any_location L [] = refl

@@ -5,7 +5,6 @@ use Rattle.std.proofs.lemmas.Bool.{cases_Bool, cases_lt, eqb-true, eq-eqb}
 use Rattle.std.proofs.lemmas.List.{get_or-set_other, length-append, append-nil, append_assoc, map-append, map-id, flat_map_more}
 use Rattle.std.proofs.lemmas.List.Elements.{filter-append}
 use Rattle.std.proofs.lemmas.List.FromFn.{map-range_with_len_more}
-use Rattle.std.proofs.Math.Seq.{take-suc}
 use Rattle.std.proofs.lemmas.Grind.{get_or-set_at}
 use Rattle.order_law.specs.declared.edges.EdgeKind.{EdgeKind}
 use Rattle.order_law.specs.declared.edges.EdgeKind.TheVariants.{Raw, Waw, War}
@@ -101,9 +100,6 @@ pub tally_out : (t : ℕ) (hs : List (Hit Spot)) (x : Hit Spot) (rows : List Row
 tally_out t hs x rows f high k u e b =
     let y : nat_eq (key k u) (key x.kind x.earlier) ≡ false = apart_eq (key k u) (key x.kind x.earlier) (λ q. absurd (let a = kind_below k in let c = kind_below x.kind in omega arith)) in
     f k u e b ∙ ap (λ (ys : List Spot). row_with k u ys) (sym (found_more k u hs x ∙ rw y (append-nil (found k u hs))))
-
-pub take_more : (hs : List (Hit Spot)) (i : ℕ) (d : Hit Spot) → i < length hs → take i hs ++ get_or hs i d ∷ [] ≡ take (i + 1) hs
-take_more hs i d h = let e : i + 1 ≡ suc i = omega arith in sym (ap (λ (j : ℕ). take j hs) e ∙ take-suc hs i d h)
 
 -- a table of no conflicts, with the rows of one test more
 table_more : (t : ℕ) (rows : List Row) → length rows ≡ 3 * t → IsTable t [] rows → IsTable (t + 1) [] (rows ++ row_with Raw t [] ∷ row_with Waw t [] ∷ row_with War t [] ∷ [])

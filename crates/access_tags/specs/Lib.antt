@@ -3,8 +3,12 @@ pub mod Cells
 pub mod Shelf
 pub mod Numbering
 pub mod Within
+pub mod Stretches
+pub mod Trails
 pub mod Stands
+pub mod HaveEnded
 pub mod Rows
+pub mod Counted
 pub mod Worlds
 pub mod Ran
 pub mod Followed

@@ -1,6 +1,6 @@
 -- The locations of a memory in the order of their numbers, and the tags by them.
-use Rattle.std.specs.Prelude.{◌≡◌, ℕ, suc, List, [], ◌∷◌, ◌++◌, get_or, map, Bool, true, false, cond, nat_eq}
-use Rattle.std.specs.List.{list_any}
+use Rattle.std.specs.Prelude.{◌≡◌, ℕ, suc, List, [], ◌∷◌, ◌++◌, get_or, map, flat_map, Bool, true, false, not, ◌||◌, cond, nat_eq}
+use Rattle.std.specs.List.{list_any, list_all}
 use Rattle.jvm_model.specs.declared.values.Location.{Location}
 use Rattle.jvm_model.specs.declared.values.Location.TheVariants as place
 use Rattle.jvm_model.specs.World.{same}
@@ -8,7 +8,7 @@ use Rattle.access_tags.specs.declared.hit.Hit.{Hit}
 use Rattle.access_tags.specs.declared.hit.Spot.{Spot}
 use Rattle.access_tags.specs.declared.hit.Spot.TheVariants as spot
 use Rattle.access_tags.specs.declared.hit.Touched.{Touched}
-use Rattle.access_tags.specs.Tag.{Tag, hit}
+use Rattle.access_tags.specs.Tag.{Tag, hit, hits_at}
 
 -- the locations of statics, class states and objects, and those of names, each in the order of their numbers
 pub record Numbering : Type 0 where
@@ -85,6 +85,17 @@ is_at n L x = same L (located n.names x.spot)
 -- the tag of an entry, by the tags of cells and of names
 abbrev pub tag_at : (ℕ → Tag) → (ℕ → Tag) → Touched → Tag
 tag_at c d x = cond (is_name x.spot) (d x.at) (c x.at)
+
+-- the conflicts at entries
+abbrev pub hits_in : (ℕ → Tag) → (ℕ → Tag) → List Touched → List (Hit Spot)
+hits_in c d xs = flat_map (λ (x : Touched). hits_at x.spot (tag_at c d x)) xs
+
+-- whether there is no exposed read of an entry, or it is this static
+abbrev pub is_alone : (ℕ → Tag) → (ℕ → Tag) → ℕ → Touched → Bool
+is_alone c d f x = not (tag_at c d x).mark.exposed || is_static x.spot f
+
+abbrev pub are_alone : (ℕ → Tag) → (ℕ → Tag) → ℕ → List Touched → Bool
+are_alone c d f xs = list_all (λ (x : Touched). is_alone c d f x) xs
 
 -- a conflict at a spot as one at its location
 abbrev pub at_location : Numbering → Hit Spot → Hit Location

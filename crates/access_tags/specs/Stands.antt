@@ -7,6 +7,7 @@ use Rattle.access_tags.specs.declared.hit.Touched.{Touched}
 use Rattle.access_tags.specs.declared.tags.Tags.{Tags}
 use Rattle.access_tags.specs.Tag.{Tag, tag, places}
 use Rattle.access_tags.specs.Shelf.{tag_in}
+use Rattle.access_tags.specs.Trails.{touched_in}
 use Rattle.access_tags.specs.Numbering.{Numbering, view, ArePlaced, locations}
 
 -- These tags of cells and of names, and this list of what is touched: t tests ended, and the running one touched ts.
@@ -16,4 +17,4 @@ pub record StandFor (n : Numbering) (T : Touches) (t : ℕ) (ts : List Touch) (c
   pub placed : ArePlaced n xs
 
 abbrev pub Stands : Numbering → Touches → ℕ → List Touch → Tags → Type 0
-Stands n T t ts s = StandFor n T t ts (tag_in s.cells) (tag_in s.named) s.touched.items
+Stands n T t ts s = StandFor n T t ts (tag_in s.cells) (tag_in s.named) (touched_in s.touched)

@@ -22,8 +22,11 @@ mod room;
 mod rows;
 mod settled;
 mod shown_text;
+mod stretch;
+mod table;
 mod tags;
 mod texts;
+mod trail;
 
 pub use memory::TaggedMemory;
 

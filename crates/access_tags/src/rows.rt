@@ -25,7 +25,7 @@ impl Row {
     ghost use Rattle.order_law.specs.declared.edges.EdgeKind.{EdgeKind as Kind};
     ghost use Rattle.access_tags.specs.declared.hit.Spot.{Spot as Part};
     ghost use Rattle.access_tags.specs.declared.hit.Hit.{Hit as Found};
-    ghost use Rattle.access_tags.specs.Rows.{row_with, row_of, rows_between, rows_to, IsTable, key};
+    ghost use Rattle.access_tags.specs.Rows.{row_with, row_of, rows_between, IsTable, key};
 
     /// No conflicts yet.
     fn none(alloc: Global, kind: EdgeKind, earlier: u32) -> Row
@@ -54,11 +54,11 @@ impl Row {
     }
 
     /// Rows of no conflicts, of each kind and each test before this one.
-    fn table(alloc: Global, later: u32) -> Result<Vec<Row>, NoMemory>
+    pub fn table(alloc: Global, later: u32) -> Result<Vec<Row>, NoMemory>
         ensures len { IfOk result (λ rows. length rows.items ≡ 3 * later) }
         ensures table { IfOk result (λ rows. IsTable later [] rows.items) }
     {
-        let mut rows = Vec::new(alloc);
+        let mut rows = Vec::with_capacity(alloc, 3 * later as usize)?;
         for earlier in 0..later {
             rows.push(Row::none(alloc, EdgeKind::Raw, earlier))?;
             rows.push(Row::none(alloc, EdgeKind::Waw, earlier))?;
@@ -68,7 +68,7 @@ impl Row {
     }
 
     /// One more conflict, which is left out where it is with no earlier test.
-    fn count(rows: &mut Vec<Row>, hit: Hit<Spot>, later: u32) -> Result<(), NoMemory>
+    pub fn count(rows: &mut Vec<Row>, hit: Hit<Spot>, later: u32) -> Result<(), NoMemory>
         requires { length rows.old.items ≡ 3 * later }
         ensures len { length rows.new.items ≡ length rows.old.items }
         ensures table { OnOk result ((hs : List (Found Part)) → IsTable later hs rows.old.items → IsTable later (hs ++ hit ∷ []) rows.new.items) }
@@ -79,18 +79,6 @@ impl Row {
         let row = &mut rows[3 * hit.earlier as usize + number(hit.kind)];
         row.add(hit.place)?;
         Ok(())
-    }
-
-    /// The rows of each kind and each test before this one, by its conflicts. A conflict with another test is none.
-    fn tally(alloc: Global, hits: &[Hit<Spot>], later: u32) -> Result<Vec<Row>, NoMemory>
-        ensures len { IfOk result (λ rows. length rows.items ≡ 3 * later) }
-        ensures table { IfOk result (λ rows. IsTable later hits.now rows.items) }
-    {
-        let mut rows = Row::table(alloc, later)?;
-        for hit in hits {
-            Row::count(&mut rows, *hit, later)?;
-        }
-        Ok(rows)
     }
 
     /// Adds a copy of a row that has a location.
@@ -109,7 +97,7 @@ impl Row {
     }
 
     /// Adds the rows of an earlier test.
-    fn push_three(
+    pub fn push_three(
         alloc: Global,
         table: &[Row],
         earlier: u32,
@@ -122,23 +110,6 @@ impl Row {
         table[first].push(alloc, rows)?;
         table[first + 1].push(alloc, rows)?;
         table[first + 2].push(alloc, rows)?;
-        Ok(())
-    }
-
-    /// Adds the rows of a test by its conflicts, by the earlier test and then the kind.
-    pub fn push_all(
-        alloc: Global,
-        hits: &[Hit<Spot>],
-        later: u32,
-        rows: &mut Items<Row>,
-    ) -> Result<(), NoMemory>
-        requires { 0 < later }
-        ensures { OnOk result (rows.new ≡ rows.old ++ rows_to later hits.now) }
-    {
-        let table = Row::tally(alloc, hits, later)?;
-        for earlier in 1..later {
-            Row::push_three(alloc, &table, earlier, rows)?;
-        }
         Ok(())
     }
 }

@@ -1,19 +1,24 @@
 //! The tags of a memory's locations.
 
-ghost use Rattle.std.specs.Prelude.{◌≡◌, ◌+◌, ◌<◌, ◌^◌, ◌++◌, ◌∷◌, [], ℕ, suc, List, Bool, length, get_or, cond, map, flat_map, nat_eq, not, ◌&&◌, ◌||◌, IfOk, OnOk};
-ghost use Rattle.std.specs.List.{list_any};
+ghost use Rattle.std.specs.Prelude.{◌≡◌, ◌+◌, ◌<◌, ◌≤◌, ◌^◌, ◌++◌, ◌∷◌, [], ℕ, suc, List, length, cond, map, nat_eq, not, ◌&&◌, ◌||◌, OnOk};
+ghost use Rattle.std.specs.List.{list_all};
 ghost use Rattle.jvm_model.specs.declared.values.Location.{Location};
 ghost use Rattle.jvm_model.specs.World.{same};
 ghost use Rattle.access_tags.specs.Tag.{ended, hits_at, is_new, noted};
-ghost use Rattle.access_tags.specs.Cells.{Apart};
-ghost use Rattle.access_tags.specs.Numbering.{Numbering, ArePlaced, is_at, is_name, locations, tag_at, view};
+ghost use Rattle.access_tags.specs.Counted.{HaveCounted};
+ghost use Rattle.access_tags.specs.HaveEnded.{HaveEnded};
+ghost use Rattle.access_tags.specs.Numbering.{Numbering, are_alone, hits_in, is_alone, is_name, tag_at};
 ghost use Rattle.access_tags.specs.Shelf.{tag_in, count};
 ghost use Rattle.access_tags.specs.Within.{room, AreWithin};
+ghost use Rattle.access_tags.specs.Stretches.{parts, parts_of};
 
 use crate::cells::Cells;
 use crate::hit::{Hit, Spot, Touched};
 use crate::mark::Mark;
 use crate::rows::Row;
+use crate::stretch::Stretch;
+use crate::table::Table;
+use crate::trail::Trail;
 use et_base::{Items, NoMemory};
 use std::alloc::Global;
 
@@ -23,16 +28,15 @@ use std::alloc::Global;
 pub struct Tags {
     cells: Cells,
     named: Cells,
-    touched: Vec<Touched>,
-    ghost within: { AreWithin cells named touched.items },
+    touched: Trail,
+    ghost within: { AreWithin cells named (parts touched.stretches) },
 }
 
 impl Tags {
     ghost use Rattle.jvm_model.specs.declared.values.Touch.{Touch};
     ghost use Rattle.order_law.specs.Histories.{Touches};
     ghost use Rattle.access_tags.specs.Tag as tag;
-    ghost use Rattle.access_tags.specs.Numbering.{located, at_location, with_cells, with_names, IsPlaced};
-    ghost use Rattle.std.specs.List.{list_all};
+    ghost use Rattle.access_tags.specs.Numbering.{located, with_cells, with_names, IsPlaced};
     ghost use Rattle.jvm_model.specs.declared.values.Location.TheVariants as place;
     ghost use Rattle.order_law.specs.Exposed.{exposed};
     ghost use Rattle.access_tags.specs.Stands.{Stands};
@@ -49,7 +53,7 @@ impl Tags {
         Tags {
             cells: Cells::new(alloc),
             named: Cells::new(alloc),
-            touched: Vec::new(alloc),
+            touched: Trail::new(alloc),
         }
     }
 
@@ -111,15 +115,6 @@ impl Tags {
         Ok(())
     }
 
-    /// Adds the conflicts of the running test.
-    pub fn gather(&self, hits: &mut Vec<Hit<Spot>>) -> Result<(), NoMemory>
-        requires { hits.old.items ≡ [] }
-        ensures { OnOk result ((n : Numbering) (T : Touches) (t : ℕ) (ts : List Touch) → Stands n T t ts self.now → map (at_location n) hits.new.items ≡ tag.hits T t ts) }
-    {
-        gather_all(&self.cells, &self.named, &self.touched, hits)?;
-        Ok(())
-    }
-
     /// Adds the rows of the running test, with this number: they are its edges in the record's order, each with its first
     /// 8 locations.
     pub fn push_rows(&self, alloc: Global, test: u32, rows: &mut Items<Row>) -> Result<(), NoMemory>
@@ -127,9 +122,16 @@ impl Tags {
         ensures { OnOk result ((n : Numbering) (T : Touches) (t : ℕ) (ts : List Touch) (p : Program) (by : ℕ → ℕ × ℕ) → test ≡ suc t → T test ≡ ts → Stands n T t ts self.now
             → (xs : List Found) × (rows.new ≡ rows.old ++ xs) × (map (shown_by p by n.names test) xs ≡ map (with_places T test) (edges_at p T by test))) }
     {
+        let mut table = Table::new(alloc, test)?;
         let mut hits = Vec::new(alloc);
-        self.gather(&mut hits)?;
-        Row::push_all(alloc, &hits, test, rows)?;
+        count_all(
+            &self.cells,
+            &self.named,
+            &self.touched,
+            &mut hits,
+            &mut table,
+        )?;
+        table.push_rows(alloc, rows)?;
         Ok(())
     }
 
@@ -138,13 +140,12 @@ impl Tags {
         ensures { (n : Numbering) (T : Touches) (t : ℕ) (ts : List Touch) → Stands n T t ts self.now
             → result ≡ list_all (λ L. not (exposed ts L) || same L (place.Static field)) (tag.places ts) }
     {
-        let mut alone = true;
-        for part in self.touched.as_slice() {
-            let mark = mark(&self.cells, &self.named, *part);
-            let is_static = part.spot.is_static(field);
-            alone = alone && (!mark.exposed || is_static);
+        for i in 0..self.touched.len() {
+            if !reads_alone(&self.cells, &self.named, self.touched.get(i), field) {
+                return false;
+            }
         }
-        alone
+        true
     }
 
     /// The running test, with this number, ended.
@@ -220,18 +221,100 @@ fn gather(
     }
 }
 
-/// Adds the conflicts at the parts that a test touched.
-fn gather_all(
+/// Whether a test has no exposed read of a part, or the part is this static.
+fn reads_alone_at(cells: &Cells, named: &Cells, part: Touched, field: u32) -> bool
+    requires { part.at < room cells.now named.now part.spot }
+    ensures { result ≡ is_alone (tag_in cells.now) (tag_in named.now) field part }
+{
+    let mark = mark(cells, named, part);
+    !mark.exposed || part.spot.is_static(field)
+}
+
+/// Whether each exposed read of a test among the parts of a stretch is of this static.
+#[tactic(auto, using(crate::proofs::Spanned::all_to))]
+fn reads_alone(cells: &Cells, named: &Cells, stretch: Stretch, field: u32) -> bool
+    requires within { AreWithin cells.now named.now (parts_of stretch) }
+    requires order { stretch.first ≤ stretch.end }
+    ensures { result ≡ are_alone (tag_in cells.now) (tag_in named.now) field (parts_of stretch) }
+{
+    for index in stretch.first..stretch.end {
+        if !reads_alone_at(cells, named, stretch.part(index), field) {
+            return false;
+        }
+    }
+    true
+}
+
+/// Counts the conflicts at a part. The list is for its conflicts alone.
+fn count_part(
     cells: &Cells,
     named: &Cells,
-    touched: &[Touched],
+    part: Touched,
     hits: &mut Vec<Hit<Spot>>,
+    table: &mut Table,
 ) -> Result<(), NoMemory>
-    requires { AreWithin cells.now named.now touched.now }
-    ensures { OnOk result (hits.new.items ≡ hits.old.items ++ flat_map (λ (x : Touched). hits_at x.spot (tag_at (tag_in cells.now) (tag_in named.now) x)) touched.now) }
+    requires { part.at < room cells.now named.now part.spot }
+    ensures { OnOk result (HaveCounted table.old table.new
+        (hits_at part.spot (tag_at (tag_in cells.now) (tag_in named.now) part))) }
 {
-    for part in touched {
-        gather(cells, named, *part, hits)?;
+    hits.clear();
+    gather(cells, named, part, hits)?;
+    table.add_all(hits)
+}
+
+/// Counts the conflicts at the parts of a stretch.
+fn count_stretch(
+    cells: &Cells,
+    named: &Cells,
+    stretch: Stretch,
+    hits: &mut Vec<Hit<Spot>>,
+    table: &mut Table,
+) -> Result<(), NoMemory>
+    requires within { AreWithin cells.now named.now (parts_of stretch) }
+    requires order { stretch.first ≤ stretch.end }
+    ensures { OnOk result (HaveCounted table.old table.new
+        (hits_in (tag_in cells.now) (tag_in named.now) (parts_of stretch))) }
+{
+    for index in stretch.first..stretch.end {
+        count_part(cells, named, stretch.part(index), hits, table)?;
+    }
+    Ok(())
+}
+
+/// Counts the conflicts at the parts that a test touched.
+fn count_all(
+    cells: &Cells,
+    named: &Cells,
+    touched: &Trail,
+    hits: &mut Vec<Hit<Spot>>,
+    table: &mut Table,
+) -> Result<(), NoMemory>
+    requires { AreWithin cells.now named.now (parts touched.now.stretches) }
+    ensures { OnOk result (HaveCounted table.old table.new
+        (hits_in (tag_in cells.now) (tag_in named.now) (parts touched.now.stretches))) }
+{
+    for i in 0..touched.len() {
+        count_stretch(cells, named, touched.get(i), hits, table)?;
+    }
+    Ok(())
+}
+
+/// What a test did at the parts of a stretch joins what earlier tests did there.
+fn settle_stretch(
+    cells: &mut Cells,
+    named: &mut Cells,
+    stretch: Stretch,
+    test: u32,
+) -> Result<(), NoMemory>
+    requires within { AreWithin cells.old named.old (parts_of stretch) }
+    requires order { stretch.first ≤ stretch.end }
+    ensures cells_count { count cells.new ≡ count cells.old }
+    ensures named_count { count named.new ≡ count named.old }
+    ensures tags { OnOk result (HaveEnded test (tag_in cells.old) (tag_in named.old)
+        (tag_in cells.new) (tag_in named.new) (parts_of stretch)) }
+{
+    for index in stretch.first..stretch.end {
+        settle(cells, named, stretch.part(index), test)?;
     }
     Ok(())
 }
@@ -240,17 +323,17 @@ fn gather_all(
 fn settle_all(
     cells: &mut Cells,
     named: &mut Cells,
-    touched: &[Touched],
+    touched: &Trail,
     test: u32,
 ) -> Result<(), NoMemory>
-    requires { AreWithin cells.old named.old touched.now }
+    requires { AreWithin cells.old named.old (parts touched.now.stretches) }
     ensures cells_count { count cells.new ≡ count cells.old }
     ensures named_count { count named.new ≡ count named.old }
-    ensures tags { OnOk result ((n : Numbering) → ArePlaced n touched.now → Apart same (locations n touched.now) → (L : Location)
-        → view n (tag_in cells.new) (tag_in named.new) L ≡ cond (list_any (is_at n L) touched.now) (ended test (view n (tag_in cells.old) (tag_in named.old) L)) (view n (tag_in cells.old) (tag_in named.old) L)) }
+    ensures tags { OnOk result (HaveEnded test (tag_in cells.old) (tag_in named.old)
+        (tag_in cells.new) (tag_in named.new) (parts touched.now.stretches)) }
 {
-    for part in touched {
-        settle(cells, named, *part, test)?;
+    for i in 0..touched.len() {
+        settle_stretch(cells, named, touched.get(i), test)?;
     }
     Ok(())
 }

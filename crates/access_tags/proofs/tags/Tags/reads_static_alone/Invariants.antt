@@ -1,9 +1,8 @@
-use Rattle.std.proofs.Common.{◌≡◌, ◌||◌, not, take}
-use Rattle.std.specs.List.{list_all}
-use Rattle.access_tags.specs.declared.hit.Touched.{Touched}
-use Rattle.access_tags.specs.Numbering.{is_static, tag_at}
+use Rattle.std.proofs.Common.{◌≡◌, take, true}
+use Rattle.access_tags.specs.Numbering.{are_alone}
 use Rattle.access_tags.specs.Shelf.{tag_in}
+use Rattle.access_tags.specs.Stretches.{parts}
 use Rattle.access_tags.proofs.tags.Tags.reads_static_alone.Given as goal
 
-abbrev pub invariant-loop-part : goal.invariant-loop-part
-invariant-loop-part l = l.alone ≡ list_all (λ (y : Touched). not (tag_at (tag_in l.self.cells) (tag_in l.self.named) y).mark.exposed || is_static y.spot l.field) (take l.part-index l.self.touched.items)
+abbrev pub invariant-loop-i : goal.invariant-loop-i
+invariant-loop-i l = are_alone (tag_in l.self.cells) (tag_in l.self.named) l.field (parts (take l.i l.self.touched.stretches)) ≡ true

@@ -1,0 +1,119 @@
+-- The tags after a test ended at some parts and then at more, and the conflicts there.
+use Rattle.std.proofs.Common.{◌≡◌, ℕ, ◌+◌, ◌<◌, ◌≤◌, Bool, true, false, ◌||◌, ◌&&◌, not, cond, List, [], ◌∷◌, ◌++◌, length, get_or, take, flat_map, nat_eq, refl, sym, ◌∙◌, ap, subst, inl, inr}
+use Rattle.std.specs.List.{list_any}
+use Rattle.std.proofs.lemmas.Bool.{cases_Bool}
+use Rattle.std.proofs.lemmas.Grind.{flat_map-append}
+use Rattle.std.proofs.lemmas.List.{append-nil, append_assoc, map-append, take_more}
+use Rattle.std.proofs.lemmas.List.Folds.{list_any-append}
+use Rattle.jvm_model.specs.declared.values.Location.{Location}
+use Rattle.jvm_model.specs.World.{same}
+use Rattle.jvm_model.proofs.Locations.{same_true}
+use Rattle.access_tags.specs.declared.hit.Hit.{Hit}
+use Rattle.access_tags.specs.declared.hit.Spot.{Spot}
+use Rattle.access_tags.specs.declared.hit.Touched.{Touched}
+use Rattle.access_tags.specs.declared.rows.Row.{Row}
+use Rattle.access_tags.specs.declared.stretch.Stretch.{Stretch}
+use Rattle.access_tags.specs.declared.table.Table.{Table}
+use Rattle.access_tags.specs.Tag.{Tag, ended}
+use Rattle.access_tags.specs.Cells.{Apart}
+use Rattle.access_tags.specs.Counted.{Counts, HaveCounted}
+use Rattle.access_tags.specs.HaveEnded.{HaveEnded}
+use Rattle.access_tags.specs.Numbering.{Numbering, located, is_name, view, ArePlaced, locations, is_at}
+use Rattle.access_tags.specs.Rows.{IsTable}
+use Rattle.access_tags.specs.Stretches.{part_at, parts_to, parts_of, parts}
+use Rattle.access_tags.proofs.Numbered.{changed, any_location}
+use Rattle.access_tags.proofs.Spanned.{to_none, to_more, parts_more}
+
+-- two lists, one after the other
+placed_left : (n : Numbering) (xs ys : List Touched) → ArePlaced n (xs ++ ys) → ArePlaced n xs
+placed_left n [] ys p = tt
+placed_left n (x ∷ xs) ys p = (p.0, placed_left n xs ys p.1)
+
+placed_right : (n : Numbering) (xs ys : List Touched) → ArePlaced n (xs ++ ys) → ArePlaced n ys
+placed_right n [] ys p = p
+placed_right n (x ∷ xs) ys p = placed_right n xs ys p.1
+
+left_none : (a b : Bool) → (a || b) ≡ false → a ≡ false
+left_none true b e = absurd (cc)
+left_none false b e = refl
+
+right_none : (a b : Bool) → (a || b) ≡ false → b ≡ false
+right_none true b e = absurd (cc)
+right_none false b e = e
+
+apart_left : (ls ms : List Location) → Apart same (ls ++ ms) → Apart same ls
+apart_left [] ms a = tt
+apart_left (L ∷ ls) ms a = (left_none (list_any (same L) ls) _ (sym (list_any-append (same L) ls ms) ∙ a.0), apart_left ls ms a.1)
+
+apart_right : (ls ms : List Location) → Apart same (ls ++ ms) → Apart same ms
+apart_right [] ms a = a
+apart_right (L ∷ ls) ms a = apart_right ls ms a.1
+
+-- what is among the first isn't among the others
+apart_both : (L : Location) (ls ms : List Location) → Apart same (ls ++ ms) → list_any (same L) ls ≡ true → list_any (same L) ms ≡ false
+apart_both L [] ms a e = absurd (cc)
+apart_both L (M ∷ ls) ms a e = elim (cases_Bool (same L M)) [
+  | inl s ↦ subst (λ (N : Location). list_any (same N) ms ≡ false) (sym (same_true L M s)) (right_none (list_any (same M) ls) _ (sym (list_any-append (same M) ls ms) ∙ a.0))
+  | inr s ↦ apart_both L ls ms a.1 (rw s at e)
+]
+
+both_sides : (a b : Bool) (t : ℕ) (x y z : Tag) → (a ≡ true → b ≡ false) → y ≡ cond a (ended t x) x → z ≡ cond b (ended t y) y → z ≡ cond (a || b) (ended t x) x
+both_sides true true t x y z h e f = absurd (let q = h refl in cc)
+both_sides true false t x y z h e f = f ∙ e
+both_sides false true t x y z h e f = f ∙ ap (λ (g : Tag). ended t g) e
+both_sides false false t x y z h e f = f ∙ e
+
+module _ (t : ℕ) where
+  pub ended_none : (c d : ℕ → Tag) → HaveEnded t c d c d []
+  ended_none c d n p a L = refl
+
+  pub ended_one : (c d e f : ℕ → Tag) (x : Touched) → ((l : ℕ) → e l ≡ cond (not (is_name x.spot) && nat_eq l x.at) (ended t (c x.at)) (c l)) →
+      ((l : ℕ) → f l ≡ cond (is_name x.spot && nat_eq l x.at) (ended t (d x.at)) (d l)) → HaveEnded t c d e f (x ∷ [])
+  ended_one c d e f x g h n p a L = changed n x (λ (z : Tag). ended t z) c d e f p.0 g h L ∙ elim (cases_Bool (is_at n L x)) [
+    | inl b ↦ rw b (ap (λ (M : Location). ended t (view n c d M)) (sym (same_true L (located n.names x.spot) b)))
+    | inr b ↦ rw b refl
+  ]
+
+  pub ended_after : (c d e f g h : ℕ → Tag) (xs ys : List Touched) → HaveEnded t c d e f xs → HaveEnded t e f g h ys → HaveEnded t c d g h (xs ++ ys)
+  ended_after c d e f g h xs ys u v n p a L =
+      let b = subst (λ (ls : List Location). Apart same ls) (map-append (λ (x : Touched). located n.names x.spot) xs ys) a in
+      both_sides (list_any (is_at n L) xs) (list_any (is_at n L) ys) t (view n c d L) (view n e f L) (view n g h L)
+      (λ q. any_location n L ys ∙ apart_both L (locations n xs) (locations n ys) b (sym (any_location n L xs) ∙ q))
+      (u n (placed_left n xs ys p) (apart_left (locations n xs) (locations n ys) b) L) (v n (placed_right n xs ys p) (apart_right (locations n xs) (locations n ys) b) L)
+      ∙ ap (λ (q : Bool). cond q (ended t (view n c d L)) (view n c d L)) (sym (list_any-append (is_at n L) xs ys))
+
+-- conflicts that are counted
+pub counted_none : (a : Table) → HaveCounted a a []
+counted_none a = record { later = refl; counts = λ hs k. subst (λ (xs : List (Hit Spot)). Counts a xs) (sym (append-nil hs)) k }
+
+pub counted_after : (a b c : Table) (xs ys : List (Hit Spot)) → HaveCounted a b xs → HaveCounted b c ys → HaveCounted a c (xs ++ ys)
+counted_after a b c xs ys f g = record { later = g.later ∙ f.later; counts = λ hs k. subst (λ (zs : List (Hit Spot)). Counts c zs) (append_assoc hs xs ys) (g.counts (hs ++ xs) (f.counts hs k)) }
+
+pub counted_more : (t : ℕ) (rows : List Row) (gs hs : List (Hit Spot)) (i : ℕ) (d : Hit Spot) → i < length hs → IsTable t ((gs ++ take i hs) ++ get_or hs i d ∷ []) rows → IsTable t (gs ++ take (i + 1) hs) rows
+counted_more t rows gs hs i d h k = subst (λ (xs : List (Hit Spot)). IsTable t xs rows) (append_assoc gs (take i hs) (get_or hs i d ∷ []) ∙ ap (λ (ys : List (Hit Spot)). gs ++ ys) (sym (take_more hs i d h))) k
+
+-- one part or one stretch more
+module _ (f : Touched → List (Hit Spot)) (a b c : Table) where
+  pub counted_to : (s : Stretch) (i : ℕ) → s.first ≤ i → HaveCounted a b (flat_map f (parts_to s i)) → HaveCounted b c (f (part_at s i)) → HaveCounted a c (flat_map f (parts_to s (i + 1)))
+  counted_to s i h u v = subst (λ (ys : List (Hit Spot)). HaveCounted a c ys)
+      (sym (ap (λ (xs : List Touched). flat_map f xs) (to_more s i h) ∙ (flat_map-append f (parts_to s i) (part_at s i ∷ []) ∙ ap (λ (ys : List (Hit Spot)). flat_map f (parts_to s i) ++ ys) (append-nil (f (part_at s i))))))
+      (counted_after a b c (flat_map f (parts_to s i)) (f (part_at s i)) u v)
+
+  pub counted_parts : (ss : List Stretch) (i : ℕ) (d : Stretch) → i < length ss → HaveCounted a b (flat_map f (parts (take i ss))) → HaveCounted b c (flat_map f (parts_of (get_or ss i d))) → HaveCounted a c (flat_map f (parts (take (i + 1) ss)))
+  counted_parts ss i d h u v = subst (λ (ys : List (Hit Spot)). HaveCounted a c ys)
+      (sym (ap (λ (xs : List Touched). flat_map f xs) (parts_more ss i d h) ∙ flat_map-append f (parts (take i ss)) (parts_of (get_or ss i d))))
+      (counted_after a b c (flat_map f (parts (take i ss))) (flat_map f (parts_of (get_or ss i d))) u v)
+
+module _ (t : ℕ) (c d e f g h : ℕ → Tag) where
+  pub ended_to : (s : Stretch) (i : ℕ) → s.first ≤ i → HaveEnded t c d e f (parts_to s i) → HaveEnded t e f g h (part_at s i ∷ []) → HaveEnded t c d g h (parts_to s (i + 1))
+  ended_to s i l u v = subst (λ (xs : List Touched). HaveEnded t c d g h xs) (sym (to_more s i l)) (ended_after t c d e f g h (parts_to s i) (part_at s i ∷ []) u v)
+
+  pub ended_parts : (ss : List Stretch) (i : ℕ) (k : Stretch) → i < length ss → HaveEnded t c d e f (parts (take i ss)) → HaveEnded t e f g h (parts_of (get_or ss i k)) → HaveEnded t c d g h (parts (take (i + 1) ss))
+  ended_parts ss i k l u v = subst (λ (xs : List Touched). HaveEnded t c d g h xs) (sym (parts_more ss i k l)) (ended_after t c d e f g h (parts (take i ss)) (parts_of (get_or ss i k)) u v)
+
+-- none yet
+pub counted_first : (f : Touched → List (Hit Spot)) (a : Table) (s : Stretch) → HaveCounted a a (flat_map f (parts_to s s.first))
+counted_first f a s = subst (λ (xs : List Touched). HaveCounted a a (flat_map f xs)) (sym (to_none s)) (counted_none a)
+
+pub ended_first : (t : ℕ) (c d : ℕ → Tag) (s : Stretch) → HaveEnded t c d c d (parts_to s s.first)
+ended_first t c d s = subst (λ (xs : List Touched). HaveEnded t c d c d xs) (sym (to_none s)) (ended_none t c d)

@@ -1,0 +1,56 @@
+//! The conflicts of a test, counted by the earlier test and the kind.
+
+ghost use Rattle.std.specs.Prelude.{◌≡◌, ◌*◌, ◌<◌, ◌++◌, [], List, length, IfOk, OnOk};
+ghost use Rattle.access_tags.specs.Rows.{rows_to};
+
+use crate::hit::{Hit, Spot};
+use crate::rows::Row;
+use et_base::{Items, NoMemory};
+use std::alloc::Global;
+
+/// A row for each kind and each test before the one with the number `later`.
+#[derive(Debug, Drop)]
+pub struct Table {
+    later: u32,
+    rows: Vec<Row>,
+    ghost full: { length rows.items ≡ 3 * later },
+}
+
+impl Table {
+    ghost use Rattle.access_tags.specs.declared.hit.Spot.{Spot as Part};
+    ghost use Rattle.access_tags.specs.declared.hit.Hit.{Hit as Found};
+    ghost use Rattle.access_tags.specs.Counted.{Counts, HaveCounted};
+
+    /// No conflicts of a test with this number.
+    pub fn new(alloc: Global, later: u32) -> Result<Table, NoMemory>
+        ensures later { IfOk result (λ x. x.later ≡ later) }
+        ensures counts { IfOk result (λ x. Counts x []) }
+    {
+        Ok(Table {
+            later,
+            rows: Row::table(alloc, later)?,
+        })
+    }
+
+    /// More conflicts, of which one with no earlier test is left out.
+    pub fn add_all(&mut self, hits: &[Hit<Spot>]) -> Result<(), NoMemory>
+        ensures { OnOk result (HaveCounted self.old self.new hits.now) }
+    {
+        for hit in hits {
+            Row::count(&mut self.rows, *hit, self.later)?;
+        }
+        Ok(())
+    }
+
+    /// Adds the rows that have a location, by the earlier test and then the kind.
+    pub fn push_rows(&self, alloc: Global, rows: &mut Items<Row>) -> Result<(), NoMemory>
+        requires { 0 < self.now.later }
+        ensures { OnOk result ((hs : List (Found Part)) → Counts self.now hs
+            → rows.new ≡ rows.old ++ rows_to self.now.later hs) }
+    {
+        for earlier in 1..self.later {
+            Row::push_three(alloc, &self.rows, earlier, rows)?;
+        }
+        Ok(())
+    }
+}
