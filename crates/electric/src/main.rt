@@ -35,6 +35,8 @@ the suite's record. ORDER and SEL are names of tests joined by commas; SEL may b
 The exit status is 0 where the text was written and each test that ran passed, 1 where it was written and a test did
 not pass, 2 for words in no form, 3 for a refused suite, record or order, 4 for want of memory, 5 where a file could
 not be read, 6 where standard output failed, and 7 where a test or the suite passed its number of units.
+
+docs/USAGE.md in the program's repository says more.
 ";
 
 const VERSION: &[u8] = b"electric 0.1.0\n";

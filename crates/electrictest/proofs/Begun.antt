@@ -1,5 +1,5 @@
 -- What a command with a record begins with, and why it doesn't begin.
-use Rattle.std.proofs.Common.{◌≡◌, ◌<◌, ◌≤◌, ℕ, List, length, refl, sym, ap, subst, ◌∙◌, arith, All, true, Option, Some, None, option_map, Result, Ok, Err, IfSome, IsSome}
+use Rattle.std.proofs.Common.{◌≡◌, ℕ, List, refl, sym, ap, subst, ◌∙◌, arith, All, Option, Some, None, option_map, Result, Ok, Err, IfSome, IsSome}
 use Rattle.et_base.specs.Answers as answers
 use Rattle.outside.specs.Depot.{Files, DepotView}
 use Rattle.suite_load.specs.declared.loaded.Loaded.{Loaded}
@@ -10,8 +10,8 @@ use Rattle.electrictest.specs.declared.status.InputFault.{InputFault}
 use Rattle.electrictest.specs.declared.words.Command.{Command}
 use Rattle.electrictest.specs.Words.{ask, word_at}
 use Rattle.electrictest.specs.Selections.{IsTestOf}
-use Rattle.electrictest.specs.Records.{◌>>=◌, Beginning, begun, says}
-use Rattle.electrictest.specs.Loads.{LoadsFor, IsSuite, named_by, begun_by, Begins, IsReadFor, of_record}
+use Rattle.electrictest.specs.Records.{Beginning, begun, says}
+use Rattle.electrictest.specs.Loads.{IsSuite, named_by, begun_by, of_record}
 use Rattle.electrictest.specs.Replies.{unbegun}
 use Rattle.electrictest.specs.Commands.{Fails, IsProperRefusal, ReportEnds, RefusedOver}
 

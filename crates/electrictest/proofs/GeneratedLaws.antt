@@ -1,9 +1,9 @@
 -- The summary of a generated suite, from its parts.
-use Rattle.std.proofs.Common.{◌≡◌, ◌<◌, ◌≤◌, ℕ, ◌+◌, List, [], ◌∷◌, ◌++◌, length, map, codes, decimal, sum, Bool, refl, sym, ap, ◌∙◌, subst, arith, inl, inr, All, Option, Some, None, Ok, Err, IfSome}
+use Rattle.std.proofs.Common.{◌≡◌, ℕ, ◌+◌, List, [], ◌∷◌, ◌++◌, length, codes, sum, Bool, refl, sym, ap, ◌∙◌, subst, arith, inl, inr, All, Option, Some, None, Ok, Err, IfSome}
 use Rattle.std.proofs.lemmas.List.FromFn.{length-map-range_with_len}
 use Rattle.jvm_model.specs.declared.outcome.Outcome.{Outcome}
 use Rattle.jvm_model.specs.Linked.{Linked}
-use Rattle.jvm_model.specs.Suite.{seq, all_tests}
+use Rattle.jvm_model.specs.Suite.{seq}
 use Rattle.jvm_model.specs.Texts.{count_line}
 use Rattle.order_law.specs.declared.records.Record.{Record}
 use Rattle.order_law.specs.Reach.{IsRecordOf, units_in}
@@ -15,7 +15,6 @@ use Rattle.worker_pool.specs.Plans.{units_of}
 use Rattle.suite_load.specs.declared.load_fault.LoadFault.{LoadFault}
 use Rattle.suite_load.specs.declared.load_fault.LoadFault.TheVariants as fault
 use Rattle.suite_load.specs.declared.loaded.Loaded.{Loaded}
-use Rattle.suite_load.specs.Loading.{IsRead}
 use Rattle.suite_load.specs.LoadAnswers.{LoadAnswers, IsProper}
 use Rattle.electrictest.specs.declared.recorded.Begun.{Begun}
 use Rattle.electrictest.specs.declared.pool_reports.Tally.{Tally}
@@ -23,9 +22,9 @@ use Rattle.electrictest.specs.declared.status.Status.{Status}
 use Rattle.electrictest.specs.declared.status.Status.TheVariants as ends
 use Rattle.electrictest.specs.declared.words.Command.TheVariants as command
 use Rattle.electrictest.specs.Commands.{IsProperRefusal, IsProperRun, ReportEnds, Reported}
-use Rattle.electrictest.specs.Generated.{suite_name, suite_files, summary_text, summary_by, conflict_line, counted, whole_suite, IsWholeBegun, IsSummary, IsSummed, Sums, Unsummed}
+use Rattle.electrictest.specs.Generated.{suite_name, suite_files, summary_text, summary_by, conflict_line, counted, whole_suite, IsWholeBegun, IsSummed, Sums, Unsummed}
 use Rattle.electrictest.specs.Loads.{LoadsNamed, IsSuite, status_of}
-use Rattle.electrictest.specs.PoolRuns.{IsChosen, IsOfSuite, LawOfOwnRuns, PoolRefused, outcomes}
+use Rattle.electrictest.specs.PoolRuns.{IsChosen, LawOfOwnRuns, PoolRefused, outcomes}
 use Rattle.electrictest.specs.Records.{Beginning, beginning}
 use Rattle.electrictest.specs.Replies.{Unreported, ungenerated}
 use Rattle.electrictest.specs.Running.{RunRefused}

@@ -21,3 +21,4 @@ mod PoolReplies
 mod OwnAnswers
 mod OwnOrderLaws
 mod GeneratedLaws
+mod DetectedLaws

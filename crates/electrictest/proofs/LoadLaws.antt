@@ -1,5 +1,5 @@
 -- How the words and a suite's loading are answered.
-use Rattle.std.proofs.Common.{◌≡◌, ◌<◌, ◌≤◌, ℕ, List, Bool, refl, sym, ap, subst, ◌∙◌, inl, inr, arith, Option, Some, None, Result, Ok, Err, IfSome, IfErr, IsErrAnd, MatchResult}
+use Rattle.std.proofs.Common.{◌≡◌, ◌≤◌, ℕ, List, Bool, refl, sym, ap, subst, ◌∙◌, inl, inr, arith, Option, Some, None, Result, Ok, Err, IfSome, IfErr, IsErrAnd, MatchResult}
 use Rattle.outside.specs.Counts.{Rose}
 use Rattle.outside.specs.Depot.{Files, DepotView, FailedAt}
 use Rattle.suite_load.specs.declared.load_fault.LoadFault.{LoadFault}

@@ -1,17 +1,16 @@
 -- An order, a plan and their refusals answer what is asked.
-use Rattle.std.proofs.Common.{◌≡◌, ◌<◌, ◌≤◌, ℕ, zero, List, Bool, true, refl, sym, ap, subst, ◌∙◌, arith, Option, Some, None, Ok, IfSome}
+use Rattle.std.proofs.Common.{◌≡◌, ℕ, List, Bool, true, refl, sym, subst, arith, Option, Some, None, Ok, IfSome}
 use Rattle.outside.specs.Depot.{Files, DepotView}
 use Rattle.order_law.specs.OrderFault.{OrderFault, twice, missing_writer, inverted}
 use Rattle.jvm_model.specs.declared.program.Names.{Names}
 use Rattle.suite_load.specs.declared.loaded.Loaded.{Loaded}
 use Rattle.electrictest.specs.declared.status.Status.{Status}
 use Rattle.electrictest.specs.declared.status.Status.TheVariants as ends
-use Rattle.electrictest.specs.declared.status.InputFault.{InputFault}
 use Rattle.electrictest.specs.declared.words.Command.TheVariants as command
 use Rattle.electrictest.specs.Words.{ask}
 use Rattle.electrictest.specs.Records.{Beginning}
-use Rattle.electrictest.specs.Loads.{begun_by, Begins}
-use Rattle.electrictest.specs.Orders.{order_input, IsUnlawful, Reports}
+use Rattle.electrictest.specs.Loads.{begun_by}
+use Rattle.electrictest.specs.Orders.{order_input, Reports}
 use Rattle.electrictest.specs.Plans.{IsPlanReport}
 use Rattle.electrictest.specs.PoolRuns.{IsOfSuite}
 use Rattle.electrictest.specs.Replies.{unlawful}

@@ -1,20 +1,16 @@
 -- The outcomes of a list of tests, in suite order.
-use Rattle.std.proofs.Common.{◌≡◌, ◌≢◌, ℕ, zero, suc, ◌+◌, ◌-◌, ◌<◌, ◌≤◌, List, [], ◌∷◌, ◌++◌, length, map, get_or, drop, replicate, filter, flat_map, sum, sum_by, count_by, All, cond, nat_eq, Bool, true, false, refl, sym, ap, subst, ◌∙◌, inl, inr, arith, append_assoc, None}
+use Rattle.std.proofs.Common.{◌≡◌, ℕ, zero, suc, ◌+◌, ◌-◌, ◌<◌, ◌≤◌, List, [], ◌∷◌, ◌++◌, length, map, get_or, drop, filter, flat_map, sum_by, count_by, cond, nat_eq, Bool, true, false, refl, sym, ap, ◌∙◌, inl, inr, arith, append_assoc, None, All, subst}
 use Rattle.std.specs.List.{range_with_len}
-use Rattle.std.proofs.lemmas.Bool.{cases_eq, cases_lt}
+use Rattle.std.proofs.lemmas.Bool.{cases_eq}
 use Rattle.std.proofs.lemmas.Bool.Decides.{nat_tests}
-use Rattle.std.proofs.lemmas.List.{append-nil, drop_more, drop_all, get_or-replicate, length-replicate}
+use Rattle.std.proofs.lemmas.List.{append-nil, drop_more, drop_all}
 use Rattle.std.proofs.lemmas.List.Sums.{sum_by-cons, sum_by-append}
-use Rattle.std.proofs.lemmas.List.Folds.{sum_by-replicate}
 use Rattle.jvm_model.specs.declared.outcome.Outcome.{Outcome}
 use Rattle.jvm_model.specs.declared.program.Names.{Names}
-use Rattle.jvm_model.specs.Texts.{is_passed, is_failed, is_error, head_line, count_line, verdict_line, outcome_lines, test_lines, report_on}
-use Rattle.order_law.specs.Conflicts.{Member, Distinct}
-use Rattle.schedule_plan.specs.Grouping.{at}
-use Rattle.schedule_plan.specs.Plans.{units_of}
+use Rattle.jvm_model.specs.Texts.{is_passed, is_failed, is_error, head_line, count_line, verdict_line, outcome_lines, test_lines}
+use Rattle.order_law.specs.Conflicts.{Member}
 use Rattle.schedule_plan.proofs.Places.{place_of}
-use Rattle.schedule_plan.proofs.Totals.{units_within}
-use Rattle.electrictest.specs.Orders.{paired, is_of, by_test, order_report}
+use Rattle.electrictest.specs.Orders.{paired, is_of, by_test}
 
 abbrev Listed : Type 0
 Listed = List (ℕ × Outcome)
@@ -192,27 +188,7 @@ module _ (names : Names) (ts : List ℕ) (os : List Outcome) (each : length os �
       ∙ ap (λ n. (10 ∷ head_line (length ts) (length xs) None) ++ (line ++ count_line (count_by is_passed (map (λ x. x.1) xs)) n (count_by is_error os))) (count_same is_failed)
       ∙ ap (λ n. (10 ∷ head_line (length ts) (length xs) None) ++ (line ++ count_line (count_by is_passed (map (λ x. x.1) xs)) (count_by is_failed (map (λ x. x.1) xs)) n)) (count_same is_error)
 
--- ---- different tests
-
-ones : (l : List ℕ) (m : ℕ) → ((t : ℕ) → Member t l → (0 < t) × (t ≤ m)) → units_of (replicate m 1) l ≡ length l
-ones [] m h = refl
-ones (t ∷ l) m h =
-    let p = h t (inl refl) in
-    let pos : 0 < t = p.0 in
-    let low : t ≤ m = p.1 in
-    let one : at (replicate m 1) (t - 1) ≡ 1 = get_or-replicate m (t - 1) 1 0 (omega arith) in
-    let rest = ones l m (λ u j. h u (inr j)) in
-    let split = sum_by-cons (λ x. at (replicate m 1) (x - 1)) t l in
-    omega arith
-
--- there are no more different numbers from 1 to m than m
-pub few_different : (l : List ℕ) (m : ℕ) → Distinct l → ((t : ℕ) → Member t l → (0 < t) × (t ≤ m)) → length l ≤ m
-few_different l m d h =
-    let many = length-replicate m 1 in
-    let a = units_within l (replicate m 1) d (λ t j. let p = h t j in (p.0, subst (λ (z : ℕ). t ≤ z) (sym many) p.1)) in
-    let b = ones l m h in
-    let c = sum_by-replicate (λ (x : ℕ). x) m 1 in
-    omega arith
+-- ---- members
 
 -- what holds at each place holds of each member
 pub member_all : (P : ℕ → Type 0) (l : List ℕ) → All P l → (t : ℕ) → Member t l → P t

@@ -13,7 +13,8 @@ use Rattle.electrictest.specs.Orders.{order_report, Reports}
 use Rattle.electrictest.specs.Records.{Beginning}
 use Rattle.electrictest.specs.Running.{RanInOrder, ListRefused, OrderRefused}
 use Rattle.electrictest.specs.TestNames.{units_in}
-use Rattle.electrictest.proofs.OrderLists.{few_different, member_all}
+use Rattle.schedule_plan.proofs.Totals.{few}
+use Rattle.electrictest.proofs.OrderLists.{member_all}
 
 -- each of its tests has a name
 pub are_named : (l : Loaded) (ts : List ℕ) → IsSuite l → All (IsTest l.checked) ts → (t : ℕ) → Member t ts → (0 < t) × (t ≤ length l.names.tests)
@@ -27,7 +28,7 @@ module _ (l : Loaded) (b : Beginning) (lawful : Lawful b.said.edges b.tests) whe
   -- there are few outcomes
   pub few_ran : (os : List Outcome) (begun now : ℕ) → IsSuite l → All (IsTest l.checked) b.tests → RanInOrder l b.tests begun now os → length os ≤ 1024
   few_ran os begun now s h r =
-      let a = few_different b.tests (length l.names.tests) lawful.distinct (are_named l b.tests s h) in
+      let a = few b.tests (length l.names.tests) lawful.distinct (are_named l b.tests s h) in
       let each = r.each in
       let names = s.names in
       let few = s.few in

@@ -1,21 +1,18 @@
 -- What the words of a run are answered with the suite's own record.
-use Rattle.std.proofs.Common.{◌≡◌, ℕ, ◌+◌, List, length, map, Bool, true, false, not, ◌==◌, Option, Some, None, IfSome, option_map, unwrap_or, Result, Ok, Err, refl, sym, ap, ◌∙◌, subst}
+use Rattle.std.proofs.Common.{◌≡◌, ℕ, ◌+◌, List, length, Bool, true, false, ◌==◌, Option, Some, None, option_map, unwrap_or, Result, Ok, Err, refl, sym, ap, ◌∙◌, subst}
 use Rattle.std.specs.Str.{bytes_eq}
 use Rattle.std.proofs.lemmas.Bool.{eq-eqb}
 use Rattle.std.proofs.lemmas.Slice.Eq.{bytes_eq-Decides}
 use Rattle.std.proofs.lemmas.List.FromFn.{length-map-range_with_len}
-use Rattle.jvm_model.specs.Suite.{seq, all_tests}
+use Rattle.jvm_model.specs.Suite.{seq}
 use Rattle.order_law.specs.declared.records.More.{More}
 use Rattle.order_law.specs.declared.records.Record.{Record}
 use Rattle.order_law.specs.Reach.{IsRecordOf, units_in}
 use Rattle.order_law.specs.OwnRecord.{edges_of}
-use Rattle.outside.specs.Depot.{Files, DepotView}
+use Rattle.outside.specs.Depot.{Files}
 use Rattle.outside.specs.Sink.{SinkView}
-use Rattle.dep_record.specs.RecordReading.{said_in}
-use Rattle.dep_record.specs.RecordText.{Said, said}
-use Rattle.suite_load.specs.declared.load_fault.LoadFault.{LoadFault}
+use Rattle.dep_record.specs.RecordText.{said}
 use Rattle.suite_load.specs.declared.loaded.Loaded.{Loaded}
-use Rattle.suite_load.specs.Loading.{Loads}
 use Rattle.suite_load.proofs.LoadOnce.{loads_once}
 use Rattle.electrictest.specs.declared.status.Status.{Status}
 use Rattle.electrictest.specs.declared.status.Status.TheVariants as ends
@@ -23,11 +20,11 @@ use Rattle.electrictest.specs.declared.status.InputFault.{InputFault}
 use Rattle.electrictest.specs.declared.status.OverFault.{OverFault}
 use Rattle.electrictest.specs.declared.words.Command.{Command}
 use Rattle.electrictest.specs.declared.words.Command.TheVariants as command
-use Rattle.electrictest.specs.Commands.{Asked, Served, Replied, Whole}
+use Rattle.electrictest.specs.Commands.{Asked, Served, Whole}
 use Rattle.electrictest.specs.Loads.{LoadsFor, LoadsAny, answered, Begins, begun_by, named_by}
-use Rattle.electrictest.specs.OwnRecords.{AsksOwn, WroteOwn, OwnEnds, OwnAnswer}
+use Rattle.electrictest.specs.OwnRecords.{AsksOwn, WroteOwn, OwnAnswer}
 use Rattle.electrictest.specs.PoolRuns.{IsPoolRun, IsPoolOver, IsPoolReport, IsOverPool, IsOfSuite}
-use Rattle.electrictest.specs.Records.{Beginning, begun, record_bytes, record_fits, said_answer, classes_fit}
+use Rattle.electrictest.specs.Records.{Beginning, begun, record_fits, classes_fit}
 use Rattle.electrictest.specs.Replies.{IsRefusedInput, unloaded, unbegun, ungenerated, unlawful, ReportsBy, OversBy}
 use Rattle.electrictest.specs.Selections.{selected}
 use Rattle.electrictest.specs.Words.{Ask, word_at, suite_word}
@@ -133,7 +130,7 @@ never_refused files a workers log l tests f own (unbegun {l = x} h) = let e = (b
 never_refused files a workers log l tests f own (ungenerated c h) = let e = sym own.asks ∙ c in absurd (cc)
 never_refused files a workers log l tests f own (unlawful {l = x} {b = b} c h u) = let e = sym own.asks ∙ c in absurd (cc)
 
-own_answer : (asked : Asked) (s : Status) (old new : SinkView) → Served asked s old new → OwnAnswer asked s old new
+pub own_answer : (asked : Asked) (s : Status) (old new : SinkView) → Served asked s old new → OwnAnswer asked s old new
 own_answer asked ends.Done old new h = λ workers log l tests own. wrote asked workers log true l tests old new h.reply.text h.reply.units own h.reply.answers h.whole h.reply.counted
 own_answer asked ends.NotPassed old new h = λ workers log l tests own. wrote asked workers log false l tests old new h.reply.text h.reply.units own h.reply.answers h.whole h.reply.counted
 own_answer asked ends.NoMemory old new h = λ workers log l tests own. h
@@ -142,9 +139,3 @@ own_answer asked (ends.Depot name) old new h = λ workers log l tests own. tt
 own_answer asked ends.Words old new h = λ workers log l tests own. let e = sym own.asks ∙ h.reply.answers.0 in absurd (cc)
 own_answer asked (ends.Input f) old new h = λ workers log l tests own. never_refused asked.files asked.ask workers log l tests f own h.reply.answers.0
 own_answer asked (ends.Over f) old new h = λ workers log l tests own. never_over asked.files asked.ask workers log l tests f own h.reply.answers.0
-
-pub own_told : (told : Option Files) (a : Ask) (depot depot_now : DepotView) (begun now : ℕ) (s : Status) (old new : SinkView) →
-    IfSome told (λ files. Served (record { files = files; ask = a; depot = depot; depot_now = depot_now; begun = begun; now = now }) s old new) →
-    IfSome told (λ files. OwnAnswer (record { files = files; ask = a; depot = depot; depot_now = depot_now; begun = begun; now = now }) s old new)
-own_told None a depot depot_now begun now s old new h = tt
-own_told (Some files) a depot depot_now begun now s old new h = own_answer (record { files = files; ask = a; depot = depot; depot_now = depot_now; begun = begun; now = now }) s old new h

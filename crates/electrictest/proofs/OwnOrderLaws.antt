@@ -1,5 +1,5 @@
 -- What the words of an order are answered with the suite's own record.
-use Rattle.std.proofs.Common.{◌≡◌, ℕ, ◌+◌, List, [], ◌∷◌, map, Bool, true, false, Option, Some, None, is_some, is_none, option_map, unwrap_or, Result, Ok, Err, IfSome, refl, sym, ap, ◌∙◌, subst}
+use Rattle.std.proofs.Common.{◌≡◌, ℕ, ◌+◌, List, [], ◌∷◌, map, Bool, true, false, Option, Some, is_some, is_none, option_map, unwrap_or, Result, Ok, Err, refl, sym, ap, ◌∙◌, subst}
 use Rattle.std.proofs.lemmas.Bool.{false≢true}
 use Rattle.jvm_model.specs.declared.outcome.Outcome.{Outcome}
 use Rattle.jvm_model.specs.declared.program.Program.{Program}
@@ -10,7 +10,7 @@ use Rattle.order_law.specs.Conflicts.{Lawful}
 use Rattle.order_law.specs.Histories.{AreSequential}
 use Rattle.order_law.proofs.OrderFaults.{law_of_faults}
 use Rattle.order_law.proofs.OwnRecord.{own_law}
-use Rattle.outside.specs.Depot.{Files, DepotView}
+use Rattle.outside.specs.Depot.{Files}
 use Rattle.outside.specs.Sink.{SinkView}
 use Rattle.dep_record.specs.RecordText.{said}
 use Rattle.suite_load.specs.declared.loaded.Loaded.{Loaded}
@@ -126,7 +126,7 @@ reports_own files a l tests passed text units own r = subst (λ (c : Option Comm
 overs_own : (files : Files) (a : Ask) (l : Loaded) (tests : List ℕ) (f : OverFault) → AsksOwnOrder files a l tests → OversBy a.command files a f → IsOrderedOver files a f
 overs_own files a l tests f own r = subst (λ (c : Option Command). OversBy c files a f) own.asks r
 
-own_order_answer : (asked : Asked) (s : Status) (old new : SinkView) → Served asked s old new → OwnOrderAnswer asked s old new
+pub own_order_answer : (asked : Asked) (s : Status) (old new : SinkView) → Served asked s old new → OwnOrderAnswer asked s old new
 own_order_answer asked ends.Done old new h = λ l tests own.
     wrote asked.files asked.ask l tests own asked true h.reply.text h.reply.units old new (reports_own asked.files asked.ask l tests true h.reply.text h.reply.units own h.reply.answers) h.whole h.reply.counted
 own_order_answer asked ends.NotPassed old new h = λ l tests own.
@@ -139,8 +139,3 @@ own_order_answer asked (ends.Input f) old new h = λ l tests own. never_refused 
 own_order_answer asked (ends.Over f) old new h = λ l tests own. never_over asked.files asked.ask l tests own f (overs_own asked.files asked.ask l tests f own h.reply.answers.0)
 
 -- where files are told
-pub own_order_told : (told : Option Files) (a : Ask) (depot depot_now : DepotView) (begun now : ℕ) (s : Status) (old new : SinkView) →
-    IfSome told (λ files. Served (record { files = files; ask = a; depot = depot; depot_now = depot_now; begun = begun; now = now }) s old new) →
-    IfSome told (λ files. OwnOrderAnswer (record { files = files; ask = a; depot = depot; depot_now = depot_now; begun = begun; now = now }) s old new)
-own_order_told None a depot depot_now begun now s old new h = tt
-own_order_told (Some files) a depot depot_now begun now s old new h = own_order_answer (record { files = files; ask = a; depot = depot; depot_now = depot_now; begun = begun; now = now }) s old new h

@@ -1,11 +1,11 @@
 -- What a run on the closure of a selection gives by the suite's own record.
-use Rattle.std.proofs.Common.{◌≡◌, ℕ, List, [], ◌∷◌, ◌++◌, length, Bool, true, cond, Some, sym, ap, ◌∙◌, subst, arith, inl, inr}
+use Rattle.std.proofs.Common.{◌≡◌, ℕ, List, [], ◌∷◌, ◌++◌, length, Bool, cond, Some, sym, ap, ◌∙◌, subst, arith, inl, inr}
 use Rattle.jvm_model.specs.declared.outcome.Outcome.{Outcome}
 use Rattle.jvm_model.specs.declared.program.Program.{Program}
-use Rattle.jvm_model.specs.Suite.{seq, is_detected}
+use Rattle.jvm_model.specs.Suite.{seq}
 use Rattle.order_law.specs.declared.edges.Edge.{Edge}
 use Rattle.order_law.specs.declared.edges.EdgeKind.TheVariants.{Raw}
-use Rattle.order_law.specs.Conflicts.{Member, HasEdge, Closure, selected, source, ClosedUnderRaw}
+use Rattle.order_law.specs.Conflicts.{Member, Closure, selected, source, ClosedUnderRaw}
 use Rattle.order_law.specs.Histories.{RecordOf, IsTestNumber, touches_of}
 use Rattle.order_law.specs.OwnRecord.{edges_of, owner}
 use Rattle.order_law.specs.Plan.{Event, claim, post, Legal, PostsSequential, Posted, chain_at}

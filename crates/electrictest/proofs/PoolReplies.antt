@@ -1,11 +1,10 @@
 -- A run on workers, or its refusal, answers what is asked.
-use Rattle.std.proofs.Common.{◌≡◌, ◌<◌, ℕ, List, length, Bool, Option, Some, None, Ok, IfSome, All, refl}
+use Rattle.std.proofs.Common.{◌≡◌, ℕ, List, length, Bool, Option, Some, None, Ok, IfSome, All, refl}
 use Rattle.outside.specs.Depot.{Files, DepotView}
 use Rattle.jvm_model.specs.Linked.{Linked}
 use Rattle.suite_load.specs.declared.loaded.Loaded.{Loaded}
 use Rattle.electrictest.specs.declared.status.Status.{Status}
 use Rattle.electrictest.specs.declared.status.Status.TheVariants as ends
-use Rattle.electrictest.specs.declared.words.Command.{Command}
 use Rattle.electrictest.specs.declared.words.Command.TheVariants as command
 use Rattle.electrictest.specs.declared.recorded.Begun.{Begun}
 use Rattle.electrictest.specs.Words.{Ask, ask}

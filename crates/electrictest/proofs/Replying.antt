@@ -7,7 +7,7 @@ use Rattle.electrictest.specs.declared.status.Status.TheVariants as ends
 use Rattle.electrictest.specs.declared.words.Command.{Command}
 use Rattle.electrictest.specs.Words.{Ask, ask}
 use Rattle.electrictest.specs.Replies.{fault_line, Unreported, IsAnswer}
-use Rattle.electrictest.specs.Commands.{HasForm, ReportEnds, Reported, Whole, Writes, Refused, Taken, Counted, DepotFailed, Asked, Answering, Replied, Served, Ends, report_status}
+use Rattle.electrictest.specs.Commands.{HasForm, ReportEnds, Reported, Whole, Writes, Refused, Taken, Counted, DepotFailed, Asked, called, Answering, Replied, Served, Ends, report_status}
 
 -- a text that answers what is asked was written as a whole, or the sink took a part of it
 written_at : (asked : Asked) (s result : Status) (sink sink_now : SinkView) (reply : Answering asked s) → (Replied asked s sink sink_now → Served asked s sink sink_now) →
@@ -30,10 +30,10 @@ writes_as piece text s passed result sink sink_now e f w = subst (λ z. Writes z
 -- a report was written
 pub served_done : (told : Option Files) (c d : Option Command) (words : List (List ℕ)) (depot depot_now : DepotView) (begun now : ℕ) (passed : Bool) (text : List ℕ) (result : Status) (sink sink_now : SinkView) → c ≡ d →
     IfSome told (λ files. Reported files (ask c words) passed text begun now) → Writes text (report_status passed) result sink sink_now →
-    IfSome told (λ files. Served (record { files = files; ask = ask d words; depot = depot; depot_now = depot_now; begun = begun; now = now }) result sink sink_now)
+    IfSome told (λ files. Served (called (ask d words) depot depot_now begun now files) result sink sink_now)
 served_done None c d words depot depot_now begun now passed text result sink sink_now e r w = tt
 served_done (Some files) c d words depot depot_now begun now passed text result sink sink_now e r w =
-    done_at (record { files = files; ask = ask d words; depot = depot; depot_now = depot_now; begun = begun; now = now }) passed text result sink sink_now (subst (λ z. Reported files (ask z words) passed text begun now) e r) w
+    done_at (called (ask d words) depot depot_now begun now files) passed text result sink sink_now (subst (λ z. Reported files (ask z words) passed text begun now) e r) w
 
 pub taken_done : (passed : Bool) (text : List ℕ) (result : Status) (sink sink_now : SinkView) → Writes text (report_status passed) result sink sink_now → Taken result sink sink_now
 taken_done true text result sink sink_now (inl h) = subst (λ z. Taken z sink sink_now) (sym h.0) (text, h.1)
@@ -113,10 +113,10 @@ refused_at asked s result sink sink_now r e (inl (n, w)) =
 
 -- a refusal was written
 pub served_refused : (told : Option Files) (c d : Option Command) (words : List (List ℕ)) (depot depot_now : DepotView) (begun now : ℕ) (s result : Status) (sink sink_now : SinkView) → c ≡ d → IfSome told (λ files. Unreported files (ask c words) s) → ReportEnds (ask c words) s depot depot_now → Refused s result sink sink_now →
-    IfSome told (λ files. Served (record { files = files; ask = ask d words; depot = depot; depot_now = depot_now; begun = begun; now = now }) result sink sink_now)
+    IfSome told (λ files. Served (called (ask d words) depot depot_now begun now files) result sink sink_now)
 served_refused None c d words depot depot_now begun now s result sink sink_now e r n h = tt
 served_refused (Some files) c d words depot depot_now begun now s result sink sink_now e r n h =
-    refused_at (record { files = files; ask = ask d words; depot = depot; depot_now = depot_now; begun = begun; now = now }) s result sink sink_now (subst (λ z. Unreported files (ask z words) s) e r) (subst (λ z. ReportEnds (ask z words) s depot depot_now) e n) h
+    refused_at (called (ask d words) depot depot_now begun now files) s result sink sink_now (subst (λ z. Unreported files (ask z words) s) e r) (subst (λ z. ReportEnds (ask z words) s depot depot_now) e n) h
 
 pub taken_refused : (a : Ask) (depot depot_now : DepotView) (s result : Status) (sink sink_now : SinkView) → ReportEnds a s depot depot_now → Refused s result sink sink_now → Taken result sink sink_now
 taken_refused a depot depot_now s result sink sink_now e (inr h) = subst (λ z. Taken z sink sink_now) (sym h.0) h.1
@@ -137,3 +137,8 @@ pub ends_refused : (c d : Option Command) (words : List (List ℕ)) (s result : 
 ends_refused c d words s result depot depot_now sink sink_now q e (inr h) = subst (λ z. Ends (ask d words) z depot depot_now sink sink_now) (sym h.0) tt
 ends_refused c d words s result depot depot_now sink sink_now q e (inl (n, inl h)) = subst (λ z. Ends (ask d words) z depot depot_now sink sink_now) (sym h.0) (line_ends (ask d words) s depot depot_now sink sink_now (subst (λ z. ReportEnds (ask z words) s depot depot_now) q e))
 ends_refused c d words s result depot depot_now sink sink_now q e (inl (n, inr h)) = subst (λ z. Ends (ask d words) z depot depot_now sink sink_now) (sym h.0) h.1.rose
+
+-- what is so for each depot's files is so for those that are told
+pub for_told : {P Q : Files → Type 0} (told : Option Files) → ((files : Files) → P files → Q files) → IfSome told P → IfSome told Q
+for_told None f h = tt
+for_told (Some files) f h = f files h

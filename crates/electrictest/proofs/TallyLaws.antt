@@ -1,5 +1,5 @@
 -- A tally of one test more.
-use Rattle.std.proofs.Common.{◌≡◌, ℕ, ◌+◌, ◌<◌, ◌≤◌, List, [], ◌∷◌, ◌++◌, length, get_or, take, map, Bool, true, false, cond, ◌&&◌, sym, ap, ◌∙◌, refl, subst, arith, count_by, codes, Some}
+use Rattle.std.proofs.Common.{◌≡◌, ℕ, ◌+◌, ◌<◌, ◌≤◌, List, [], ◌∷◌, ◌++◌, length, get_or, take, Bool, true, false, cond, ◌&&◌, sym, ap, ◌∙◌, refl, subst, arith, count_by, codes, Some}
 use Rattle.std.proofs.lemmas.List.{take_more, append-nil, append_assoc, map-append, length-append, length-map, length-take-le}
 use Rattle.std.proofs.lemmas.List.Sums.{sum_by_push, count_by-le-length}
 use Rattle.std.proofs.lemmas.List.Folds.{list_all-append}

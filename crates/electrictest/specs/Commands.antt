@@ -124,6 +124,10 @@ pub record Asked : Type 0 where
   pub begun : ℕ
   pub now : ℕ
 
+-- such a call for these words, by what there was before and after, over each depot's files
+abbrev pub called : Ask → DepotView → DepotView → ℕ → ℕ → Files → Asked
+called a depot depot_now begun now files = record { files = files; ask = a; depot = depot; depot_now = depot_now; begun = begun; now = now }
+
 -- a text that answers what is asked
 pub record Answering (asked : Asked) (s : Status) : Type 0 where
   pub text : List ℕ

@@ -1,5 +1,5 @@
 -- What an order gives, by a loaded suite and what it begins with (this project's).
-use Rattle.std.specs.Prelude.{◌≡◌, ℕ, ◌+◌, nat_eq, List, [], ◌∷◌, length, map, filter, flat_map, true, Bool, Option, Some, None, Ok}
+use Rattle.std.specs.Prelude.{◌≡◌, ℕ, ◌+◌, nat_eq, List, [], ◌∷◌, length, map, filter, flat_map, true, Bool, Some, None, Ok}
 use Rattle.std.specs.List.{list_all, range_with_len}
 use Rattle.jvm_model.specs.declared.outcome.Outcome.{Outcome}
 use Rattle.jvm_model.specs.declared.program.Names.{Names}

@@ -13,6 +13,7 @@ use Rattle.electrictest.specs.declared.status.Status.{Status}
 use Rattle.electrictest.specs.declared.status.Status.TheVariants as ends
 use Rattle.electrictest.specs.declared.words.Command.TheVariants as command
 use Rattle.electrictest.specs.Commands.{Asked, Whole}
+use Rattle.electrictest.specs.Detections.{IsFound, recorded}
 use Rattle.electrictest.specs.Loads.{LoadsFor}
 use Rattle.electrictest.specs.PoolRuns.{IsPoolReport, AreOwn}
 use Rattle.electrictest.specs.Records.{Beginning, record_bytes}
@@ -59,3 +60,19 @@ OwnEnds asked workers log l tests (ends.Over f) old new = ⊥
 -- For every suite and selection, with the suite's own record, on any number of workers and in whatever order they take chains.
 abbrev pub OwnAnswer : Asked → Status → SinkView → SinkView → Type 0
 OwnAnswer asked s old new = (workers : ℕ) (log : Bool) (l : Loaded) (tests : List ℕ) → AsksOwn asked.files asked.ask workers log l tests → OwnEnds asked workers log l tests s old new
+
+-- The words ask for a run of these tests, and the record that they name is a text that `detect` writes of the suite.
+pub record AsksDetected (files : Files) (a : Ask) (workers : ℕ) (log : Bool) (l : Loaded) (tests : List ℕ) : Type 0 where
+  pub asks : a.command ≡ Some (command.Run workers log)
+  pub load : LoadsFor files a (Ok l)
+  pub named : selected l.names (word_at a.words 4) ≡ Ok tests
+  pub text : List ℕ
+  pub passed : Bool
+  pub units : ℕ
+  pub found : IsFound l recorded passed text units
+  pub held : record_bytes files (word_at a.words 2) ≡ Ok text
+
+-- For every suite and selection, with the record that `detect` wrote, on any number of workers and in whatever order they take
+-- chains.
+abbrev pub DetectedAnswer : Asked → Status → SinkView → SinkView → Type 0
+DetectedAnswer asked s old new = (workers : ℕ) (log : Bool) (l : Loaded) (tests : List ℕ) → AsksDetected asked.files asked.ask workers log l tests → OwnEnds asked workers log l tests s old new

@@ -1,8 +1,7 @@
 -- What a run of a selection on workers gives, by a loaded suite and what it begins with (this project's).
-use Rattle.std.specs.Prelude.{◌≡◌, ℕ, ◌+◌, List, [], ◌∷◌, ◌++◌, length, map, Bool, true, cond, Some, None, Ok}
+use Rattle.std.specs.Prelude.{◌≡◌, ℕ, ◌+◌, List, [], ◌∷◌, ◌++◌, length, map, Bool, true, cond, Some, Ok}
 use Rattle.std.specs.List.{list_all}
 use Rattle.jvm_model.specs.declared.outcome.Outcome.{Outcome}
-use Rattle.jvm_model.specs.declared.program.Names.{Names}
 use Rattle.jvm_model.specs.Linked.{Linked}
 use Rattle.jvm_model.specs.State.{test_at}
 use Rattle.jvm_model.specs.Suite.{seq, is_detected}

@@ -2,7 +2,7 @@
 use Rattle.std.specs.Prelude.{ℕ, ◌<◌, ◌≤◌, ◌==◌, List, [], ◌∷◌, get_or, codes, Bool, true, false, not, ◌&&◌, Option, Some, None, option_map, option_and_then, Result, Ok, Err, if◌then◌else◌}
 use Rattle.std.specs.Str.{bytes_eq}
 use Rattle.suite_load.specs.NameForms.{is_depot_name}
-use Rattle.suite_load.specs.NumberForms.{number_up_to}
+use Rattle.dep_record.specs.Fields.{number_up_to}
 use Rattle.electrictest.specs.declared.status.Status.{Status}
 use Rattle.electrictest.specs.declared.status.Status.TheVariants as ends
 use Rattle.electrictest.specs.declared.status.InputFault.TheVariants as input

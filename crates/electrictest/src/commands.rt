@@ -1,7 +1,7 @@
 //! The top call: from the words of a command line to the text on a sink.
 
 ghost use Rattle.std.specs.Prelude.{◌≡◌, ◌≤◌, None, IfOk, IfErr, IfSome};
-ghost use Rattle.electrictest.specs.Commands.{Asked, HasForm, ReportEnds, Reported, ReportsOver, RefusedOver, Writes, Refused, Taken, Served, Ends};
+ghost use Rattle.electrictest.specs.Commands.{called, HasForm, ReportEnds, Reported, ReportsOver, RefusedOver, Writes, Refused, Taken, Served, Ends};
 ghost use Rattle.electrictest.specs.Loads.{IsSuite};
 ghost use Rattle.electrictest.specs.OwnLists.{OwnOrderAnswer};
 ghost use Rattle.electrictest.specs.Words.{ask, plain, refusal_of, IsServed};
@@ -143,25 +143,15 @@ pub fn electric_plain<D: Depot, S: Sink, L: Ledger>(
     ensures depot_faults { (D.shown depot.old).faults ≤ (D.shown depot.new).faults }
     ensures sink_faults { (S.shown sink.old).faults ≤ (S.shown sink.new).faults }
     // What it answers, where the depot's files are told.
-    ensures served { IfSome (D.shown depot.old).told (λ files.
-        let asked : Asked = record {
-          files = files;
-          ask = plain words.now;
-          depot = D.shown depot.old;
-          depot_now = D.shown depot.new;
-          begun = steps.old;
-          now = steps.new;
-        } in Served asked result (S.shown sink.old) (S.shown sink.new)) }
+    ensures served { let depot_now = D.shown depot.new in
+        let asked = called (plain words.now) (D.shown depot.old) depot_now steps.old steps.new in
+        IfSome (D.shown depot.old).told (λ files.
+        Served (asked files) result (S.shown sink.old) (S.shown sink.new)) }
     // With the suite's own record a lawful order is answered by what its tests do in the suite's own order.
-    ensures own { IfSome (D.shown depot.old).told (λ files.
-        let asked : Asked = record {
-          files = files;
-          ask = plain words.now;
-          depot = D.shown depot.old;
-          depot_now = D.shown depot.new;
-          begun = steps.old;
-          now = steps.new;
-        } in OwnOrderAnswer asked result (S.shown sink.old) (S.shown sink.new)) }
+    ensures own { let depot_now = D.shown depot.new in
+        let asked = called (plain words.now) (D.shown depot.old) depot_now steps.old steps.new in
+        IfSome (D.shown depot.old).told (λ files.
+        OwnOrderAnswer (asked files) result (S.shown sink.old) (S.shown sink.new)) }
     // What the sink took, whatever the depot tells.
     ensures taken { Taken result (S.shown sink.old) (S.shown sink.new) }
     // When the words, a depot or a sink are answered, whatever the depot tells.

@@ -160,7 +160,7 @@ fn summary_of(
     pooled: &Pooled,
     tally: &Tally,
 ) -> Result<Text, NoMemory>
-    ensures { IfOk result (λ text. text ≡ generated.summary_by tests workers begun.now.record
+    ensures { IfOk result (λ text. text ≡ generated.summary_by tests workers (begun.now.record)
         (length pooled.now.chosen.chains.lists) tally.now) }
 {
     let units = total(begun.record.units.as_slice());
@@ -184,7 +184,7 @@ fn summed(
 ) -> Result<Report, NoMemory>
     requires few { length loaded.now.checked.tests ≤ 1024 }
     requires pooled { IsPooled loaded.now (beginning begun.now) workers pooled.now }
-    ensures { IfOk result (λ r. generated.IsSummed loaded.now (beginning begun.now) begun.now.record
+    ensures { IfOk result (λ r. generated.IsSummed loaded.now (beginning begun.now) (begun.now.record)
         tests workers r.passed r.text (units_of pooled.now.core.events)) }
 {
     let chosen = pooled.chosen.set.as_slice();

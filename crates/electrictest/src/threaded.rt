@@ -1,10 +1,10 @@
 //! The top call for all commands.
 
 ghost use Rattle.std.specs.Prelude.{◌≡◌, ◌≤◌, None, IfOk, IfErr, IfSome};
-ghost use Rattle.electrictest.specs.Commands.{Asked, HasForm, ReportEnds, Reported, ReportsOver, RefusedOver, Taken, Served, Ends};
+ghost use Rattle.electrictest.specs.Commands.{called, HasForm, ReportEnds, Reported, ReportsOver, RefusedOver, Taken, Served, Ends};
 ghost use Rattle.electrictest.specs.Loads.{IsSuite};
 ghost use Rattle.electrictest.specs.OwnLists.{OwnOrderAnswer};
-ghost use Rattle.electrictest.specs.OwnRecords.{OwnAnswer};
+ghost use Rattle.electrictest.specs.OwnRecords.{DetectedAnswer, OwnAnswer};
 ghost use Rattle.electrictest.specs.Replies as reply;
 ghost use Rattle.electrictest.specs.Threaded.{threaded, threaded_of, IsOverSuite, IsThreaded};
 ghost use Rattle.electrictest.specs.Words.{ask, refusal_of, HasWorkers};
@@ -144,35 +144,25 @@ pub fn electric<R: Threads + Wait + Sync, D: Depot, S: Sink, G: Gate + Sync, L: 
     ensures depot_faults { (D.shown depot.old).faults ≤ (D.shown depot.new).faults }
     ensures sink_faults { (S.shown sink.old).faults ≤ (S.shown sink.new).faults }
     // What it answers, where the depot's files are told.
-    ensures served { IfSome (D.shown depot.old).told (λ files.
-        let asked : Asked = record {
-          files = files;
-          ask = threaded words.now;
-          depot = D.shown depot.old;
-          depot_now = D.shown depot.new;
-          begun = steps.old;
-          now = steps.new;
-        } in Served asked result (S.shown sink.old) (S.shown sink.new)) }
+    ensures served { let depot_now = D.shown depot.new in
+        let asked = called (threaded words.now) (D.shown depot.old) depot_now steps.old steps.new in
+        IfSome (D.shown depot.old).told (λ files.
+        Served (asked files) result (S.shown sink.old) (S.shown sink.new)) }
     // With the suite's own record a run is answered by what its tests do in the suite's own order.
-    ensures own { IfSome (D.shown depot.old).told (λ files.
-        let asked : Asked = record {
-          files = files;
-          ask = threaded words.now;
-          depot = D.shown depot.old;
-          depot_now = D.shown depot.new;
-          begun = steps.old;
-          now = steps.new;
-        } in OwnAnswer asked result (S.shown sink.old) (S.shown sink.new)) }
-    // So is a lawful order.
-    ensures own_order { IfSome (D.shown depot.old).told (λ files.
-        let asked : Asked = record {
-          files = files;
-          ask = threaded words.now;
-          depot = D.shown depot.old;
-          depot_now = D.shown depot.new;
-          begun = steps.old;
-          now = steps.new;
-        } in OwnOrderAnswer asked result (S.shown sink.old) (S.shown sink.new)) }
+    ensures own { let depot_now = D.shown depot.new in
+        let asked = called (threaded words.now) (D.shown depot.old) depot_now steps.old steps.new in
+        IfSome (D.shown depot.old).told (λ files.
+        OwnAnswer (asked files) result (S.shown sink.old) (S.shown sink.new)) }
+    // So it is with the record that `detect` wrote.
+    ensures detected { let depot_now = D.shown depot.new in
+        let asked = called (threaded words.now) (D.shown depot.old) depot_now steps.old steps.new in
+        IfSome (D.shown depot.old).told (λ files.
+        DetectedAnswer (asked files) result (S.shown sink.old) (S.shown sink.new)) }
+    // With the suite's own record a lawful order is answered in the same way.
+    ensures own_order { let depot_now = D.shown depot.new in
+        let asked = called (threaded words.now) (D.shown depot.old) depot_now steps.old steps.new in
+        IfSome (D.shown depot.old).told (λ files.
+        OwnOrderAnswer (asked files) result (S.shown sink.old) (S.shown sink.new)) }
     // What the sink took, whatever the depot tells.
     ensures taken { Taken result (S.shown sink.old) (S.shown sink.new) }
     // When the words, a depot or a sink are answered, whatever the depot tells.

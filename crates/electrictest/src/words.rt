@@ -4,8 +4,9 @@ ghost use Rattle.std.specs.Prelude.{◌≡◌, ◌≤◌, ◌<◌, Some, IfSome}
 ghost use Rattle.electrictest.specs.Words as words_ask;
 
 use crate::status::{InputFault, Status};
+use dep_record::number_up_to;
 use et_base::Text;
-use suite_load::{is_depot_name, number_up_to};
+use suite_load::is_depot_name;
 
 /// What is asked for.
 #[derive(Clone, Copy, Debug, PartialEq, Eq)]

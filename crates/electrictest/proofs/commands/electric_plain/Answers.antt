@@ -1,7 +1,8 @@
 use Rattle.std.proofs.Common.{ap, ◌∙◌}
+use Rattle.electrictest.specs.Commands.{called}
 use Rattle.electrictest.specs.Words.{ask, plain, plain_of}
-use Rattle.electrictest.proofs.OwnOrderLaws.{own_order_told}
-use Rattle.electrictest.proofs.Replying.{writes_as, served_done, served_refused, taken_done, taken_refused, ends_done, ends_refused}
+use Rattle.electrictest.proofs.OwnOrderLaws.{own_order_answer}
+use Rattle.electrictest.proofs.Replying.{for_told, writes_as, served_done, served_refused, taken_done, taken_refused, ends_done, ends_refused}
 use Rattle.electrictest.proofs.commands.electric_plain.Goals as goal
 
 pub returns-in-Ok-clause-served : goal.returns-in-Ok-clause-served
@@ -12,8 +13,8 @@ returns-in-Ok-clause-served g c =
 pub returns-in-Ok-clause-own : goal.returns-in-Ok-clause-own
 returns-in-Ok-clause-own g c =
     let old = g.D.Depot.shown c.args.depot.now in
-    let new = g.D.Depot.shown c.reported.new.depot in
-    own_order_told old.told (plain c.args.words.now) old new c.args.steps.now c.reported.new.steps c.written.result _ _ (returns-in-Ok-clause-served g c)
+    let asked = called (plain c.args.words.now) old (g.D.Depot.shown c.reported.new.depot) c.args.steps.now c.reported.new.steps in
+    for_told old.told (λ files. own_order_answer (asked files) c.written.result _ _) (returns-in-Ok-clause-served g c)
 
 pub returns-in-Ok-clause-taken : goal.returns-in-Ok-clause-taken
 returns-in-Ok-clause-taken g c =
@@ -31,8 +32,8 @@ returns-in-Err-clause-served g c = served_refused _ c.plain_of-asked.result _ c.
 pub returns-in-Err-clause-own : goal.returns-in-Err-clause-own
 returns-in-Err-clause-own g c =
     let old = g.D.Depot.shown c.args.depot.now in
-    let new = g.D.Depot.shown c.reported.new.depot in
-    own_order_told old.told (plain c.args.words.now) old new c.args.steps.now c.reported.new.steps c.refused.result _ _ (returns-in-Err-clause-served g c)
+    let asked = called (plain c.args.words.now) old (g.D.Depot.shown c.reported.new.depot) c.args.steps.now c.reported.new.steps in
+    for_told old.told (λ files. own_order_answer (asked files) c.refused.result _ _) (returns-in-Err-clause-served g c)
 
 pub returns-in-Err-clause-taken : goal.returns-in-Err-clause-taken
 returns-in-Err-clause-taken g c = taken_refused (ask c.plain_of-asked.result c.args.words.now) _ _ c.in-Err.status c.refused.result _ _ c.in-Err.ensures.ends c.refused.ensures.writes

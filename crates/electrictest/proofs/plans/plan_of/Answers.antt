@@ -1,6 +1,5 @@
-use Rattle.std.proofs.Common.{◌≡◌, ℕ, List, sym, subst}
+use Rattle.std.proofs.Common.{◌≡◌, ℕ, List}
 use Rattle.std.proofs.lemmas.Result.{IfOk-weaker}
-use Rattle.schedule_plan.specs.Plans.{HaveUnits}
 use Rattle.electrictest.specs.PlanTexts.{plan_text}
 use Rattle.electrictest.specs.Plans.{IsPlanReport}
 use Rattle.electrictest.specs.Records.{beginning}

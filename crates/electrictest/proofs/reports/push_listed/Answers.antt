@@ -1,5 +1,5 @@
-use Rattle.std.proofs.Common.{arith, ap, ◌++◌}
-use Rattle.electrictest.proofs.OrderLists.{listed_more, listed_all, left}
+use Rattle.std.proofs.Common.{arith}
+use Rattle.electrictest.proofs.OrderLists.{listed_more, listed_all}
 use Rattle.electrictest.proofs.reports.push_listed.Goals as goal
 
 pub loop-place-preserved : goal.loop-place-preserved

@@ -1,9 +1,11 @@
 use Rattle.std.proofs.Common.{ap, ◌∙◌}
+use Rattle.electrictest.specs.Commands.{called}
 use Rattle.electrictest.specs.Words.{ask}
 use Rattle.electrictest.specs.Threaded.{threaded, threaded_of}
-use Rattle.electrictest.proofs.OwnAnswers.{own_told}
-use Rattle.electrictest.proofs.OwnOrderLaws.{own_order_told}
-use Rattle.electrictest.proofs.Replying.{writes_as, served_done, served_refused, taken_done, taken_refused, ends_done, ends_refused}
+use Rattle.electrictest.proofs.OwnAnswers.{own_answer}
+use Rattle.electrictest.proofs.OwnOrderLaws.{own_order_answer}
+use Rattle.electrictest.proofs.DetectedLaws.{detected_answer}
+use Rattle.electrictest.proofs.Replying.{for_told, writes_as, served_done, served_refused, taken_done, taken_refused, ends_done, ends_refused}
 use Rattle.electrictest.proofs.threaded.electric.Goals as goal
 
 pub returns-in-Ok-clause-served : goal.returns-in-Ok-clause-served
@@ -14,14 +16,20 @@ returns-in-Ok-clause-served g c =
 pub returns-in-Ok-clause-own : goal.returns-in-Ok-clause-own
 returns-in-Ok-clause-own g c =
     let old = g.D.Depot.shown c.args.depot.now in
-    let new = g.D.Depot.shown c.asked_text.new.depot in
-    own_told old.told (threaded c.args.words.now) old new c.args.steps.now c.asked_text.new.steps c.written.result _ _ (returns-in-Ok-clause-served g c)
+    let asked = called (threaded c.args.words.now) old (g.D.Depot.shown c.asked_text.new.depot) c.args.steps.now c.asked_text.new.steps in
+    for_told old.told (λ files. own_answer (asked files) c.written.result _ _) (returns-in-Ok-clause-served g c)
 
 pub returns-in-Ok-clause-own_order : goal.returns-in-Ok-clause-own_order
 returns-in-Ok-clause-own_order g c =
     let old = g.D.Depot.shown c.args.depot.now in
-    let new = g.D.Depot.shown c.asked_text.new.depot in
-    own_order_told old.told (threaded c.args.words.now) old new c.args.steps.now c.asked_text.new.steps c.written.result _ _ (returns-in-Ok-clause-served g c)
+    let asked = called (threaded c.args.words.now) old (g.D.Depot.shown c.asked_text.new.depot) c.args.steps.now c.asked_text.new.steps in
+    for_told old.told (λ files. own_order_answer (asked files) c.written.result _ _) (returns-in-Ok-clause-served g c)
+
+pub returns-in-Ok-clause-detected : goal.returns-in-Ok-clause-detected
+returns-in-Ok-clause-detected g c =
+    let old = g.D.Depot.shown c.args.depot.now in
+    let asked = called (threaded c.args.words.now) old (g.D.Depot.shown c.asked_text.new.depot) c.args.steps.now c.asked_text.new.steps in
+    for_told old.told (λ files. detected_answer (asked files) c.written.result _ _) (returns-in-Ok-clause-served g c)
 
 pub returns-in-Ok-clause-taken : goal.returns-in-Ok-clause-taken
 returns-in-Ok-clause-taken g c =
@@ -39,14 +47,20 @@ returns-in-Err-clause-served g c = served_refused _ c.served_of-asked.result _ c
 pub returns-in-Err-clause-own : goal.returns-in-Err-clause-own
 returns-in-Err-clause-own g c =
     let old = g.D.Depot.shown c.args.depot.now in
-    let new = g.D.Depot.shown c.asked_text.new.depot in
-    own_told old.told (threaded c.args.words.now) old new c.args.steps.now c.asked_text.new.steps c.refused.result _ _ (returns-in-Err-clause-served g c)
+    let asked = called (threaded c.args.words.now) old (g.D.Depot.shown c.asked_text.new.depot) c.args.steps.now c.asked_text.new.steps in
+    for_told old.told (λ files. own_answer (asked files) c.refused.result _ _) (returns-in-Err-clause-served g c)
 
 pub returns-in-Err-clause-own_order : goal.returns-in-Err-clause-own_order
 returns-in-Err-clause-own_order g c =
     let old = g.D.Depot.shown c.args.depot.now in
-    let new = g.D.Depot.shown c.asked_text.new.depot in
-    own_order_told old.told (threaded c.args.words.now) old new c.args.steps.now c.asked_text.new.steps c.refused.result _ _ (returns-in-Err-clause-served g c)
+    let asked = called (threaded c.args.words.now) old (g.D.Depot.shown c.asked_text.new.depot) c.args.steps.now c.asked_text.new.steps in
+    for_told old.told (λ files. own_order_answer (asked files) c.refused.result _ _) (returns-in-Err-clause-served g c)
+
+pub returns-in-Err-clause-detected : goal.returns-in-Err-clause-detected
+returns-in-Err-clause-detected g c =
+    let old = g.D.Depot.shown c.args.depot.now in
+    let asked = called (threaded c.args.words.now) old (g.D.Depot.shown c.asked_text.new.depot) c.args.steps.now c.asked_text.new.steps in
+    for_told old.told (λ files. detected_answer (asked files) c.refused.result _ _) (returns-in-Err-clause-served g c)
 
 pub returns-in-Err-clause-taken : goal.returns-in-Err-clause-taken
 returns-in-Err-clause-taken g c = taken_refused (ask c.served_of-asked.result c.args.words.now) _ _ c.in-Err.status c.refused.result _ _ c.in-Err.ensures.ends c.refused.ensures.writes
