@@ -1,5 +1,7 @@
 //! The top call over depots and sinks that fail, and sinks that take short pieces.
 
+ghost use Rattle.std.specs.Prelude.{◌<◌};
+
 use crate::asking::{File, answers, depot};
 use crate::files::{
     COUNTER_CLASS, COUNTER_REPORT, COUNTER_SUITE, RETURN_CLASS, RETURN_REPORT, RETURN_SUITE,
@@ -15,52 +17,66 @@ const RETURN_FILES: [File; 2] = [(b"s", RETURN_SUITE), (b"T.class", &RETURN_CLAS
 
 const COUNTER_FILES: [File; 2] = [(b"s", COUNTER_SUITE), (b"Counter.class", &COUNTER_CLASS)];
 
+// Whether a suite is answered where the sink takes at most `most` bytes a call.
+fn is_answered(alloc: Global, most: usize) -> Result<bool, NoMemory>
+    requires { 0 < most }
+{
+    let mut depot = depot(alloc, &COUNTER_FILES, &[])?;
+    answers(alloc, &RUN, &mut depot, most, 0, COUNTER_REPORT)
+}
+
 #[test]
 fn a_suite_is_answered_in_pieces_of_any_size(rt: HostRuntime) -> Result<(), Fail> {
-    let alloc = rt.alloc();
     for most in [1, 3, 1000] {
-        let mut depot = depot(alloc, &COUNTER_FILES, &[])?;
-        assert!(rt;
-            answers(alloc, &RUN, &mut depot, most, 0, COUNTER_REPORT)?,
-            "{most}"
-        );
+        assert!(rt; is_answered(rt.alloc(), most)?, "{most}");
     }
     Ok(())
 }
 
-#[test]
-fn words_in_no_form_ask_no_depot(rt: HostRuntime) -> Result<(), Fail> {
-    let alloc = rt.alloc();
+// Whether words in no form are answered so over a depot whose first call would fail.
+fn refuses_words(alloc: Global) -> Result<bool, NoMemory> {
     let mut depot = depot(alloc, &RETURN_FILES, &[1])?;
     let given: [&[u8]; 2] = [b"walk", b"s"];
-    assert!(rt; answers(alloc, &given, &mut depot, 1000, 2, b"electric: words\n")?);
+    answers(alloc, &given, &mut depot, 1000, 2, b"electric: words\n")
+}
+
+#[test]
+fn words_in_no_form_ask_no_depot(rt: HostRuntime) -> Result<(), Fail> {
+    assert!(rt; refuses_words(rt.alloc())?);
     Ok(())
 }
 
 // A run reads the suite and then the class, and stops where one of these calls fails.
+fn names_what_failed(alloc: Global) -> Result<bool, NoMemory> {
+    let mut depot = depot(alloc, &RETURN_FILES, &[1, 3])?;
+    let suite = answers(alloc, &RUN, &mut depot, 1000, 5, b"electric: depot s\n")?;
+    let class = answers(
+        alloc,
+        &RUN,
+        &mut depot,
+        1000,
+        5,
+        b"electric: depot T.class\n",
+    )?;
+    let none = answers(alloc, &RUN, &mut depot, 1000, 0, RETURN_REPORT)?;
+    Ok(suite && class && none)
+}
+
 #[test]
 fn a_depot_that_fails_is_named(rt: HostRuntime) -> Result<(), Fail> {
-    let alloc = rt.alloc();
-    let mut depot = depot(alloc, &RETURN_FILES, &[1, 3])?;
-    assert!(rt; answers(alloc, &RUN, &mut depot, 1000, 5, b"electric: depot s\n")?);
-    assert!(rt;
-        answers(
-            alloc,
-            &RUN,
-            &mut depot,
-            1000,
-            5,
-            b"electric: depot T.class\n"
-        )?
-    );
-    assert!(rt; answers(alloc, &RUN, &mut depot, 1000, 0, RETURN_REPORT)?);
+    assert!(rt; names_what_failed(rt.alloc())?);
     Ok(())
 }
 
-// Each line is one piece, so the sink that takes all at once holds whole lines.
+// Whether a run over a sink that fails at this call ends so, and so much of the report is held. Each line is one piece, so
+// the sink that takes all at once holds whole lines.
+fn holds_lines(alloc: Global, call: u64, code: u8, len: usize) -> Result<bool, NoMemory> {
+    let held = held_before(alloc, &RUN, &COUNTER_FILES, 1000, call, COUNTER_REPORT)?;
+    Ok(held.is_prefix && held.code == code && held.len == len)
+}
+
 #[test]
 fn a_sink_that_fails_holds_the_lines_before(rt: HostRuntime) -> Result<(), Fail> {
-    let alloc = rt.alloc();
     for (call, code, len) in [
         (1, 6, 0),
         (2, 6, 15),
@@ -70,20 +86,20 @@ fn a_sink_that_fails_holds_the_lines_before(rt: HostRuntime) -> Result<(), Fail>
         (6, 6, 125),
         (7, 0, 151),
     ] {
-        let held = held_before(alloc, &RUN, &COUNTER_FILES, 1000, call, COUNTER_REPORT)?;
-        assert!(rt; held.is_prefix, "at {call}");
-        assert_eq!(rt; held.code, code, "at {call}");
-        assert_eq!(rt; held.len, len, "at {call}");
+        assert!(rt; holds_lines(rt.alloc(), call, code, len)?, "at {call}");
     }
     Ok(())
 }
 
+// Whether a refusal over a sink that fails in the middle of it ends so, and its first 8 bytes are held.
+fn holds_a_prefix(alloc: Global) -> Result<bool, NoMemory> {
+    let held = held_before(alloc, &[], &[], 4, 3, b"electric: words\n")?;
+    Ok(held.is_prefix && held.code == 6 && held.len == 8)
+}
+
 #[test]
 fn a_sink_that_fails_at_a_refusal_holds_a_prefix(rt: HostRuntime) -> Result<(), Fail> {
-    let held = held_before(rt.alloc(), &[], &[], 4, 3, b"electric: words\n")?;
-    assert!(rt; held.is_prefix);
-    assert_eq!(rt; held.code, 6);
-    assert_eq!(rt; held.len, 8);
+    assert!(rt; holds_a_prefix(rt.alloc())?);
     Ok(())
 }
 
@@ -98,11 +114,14 @@ fn class_of_size(alloc: Global, size: u32) -> Result<Vec<u8>, NoMemory> {
     Ok(class)
 }
 
-#[test]
-fn a_class_file_of_a_mebibyte_is_read(rt: HostRuntime) -> Result<(), Fail> {
-    let alloc = rt.alloc();
+fn reads_greatest_class(alloc: Global) -> Result<bool, NoMemory> {
     let most = class_of_size(alloc, 1_048_576)?;
     let mut depot = depot(alloc, &[(b"s", RETURN_SUITE), (b"T.class", &most)], &[])?;
-    assert!(rt; answers(alloc, &RUN, &mut depot, 1000, 0, RETURN_REPORT)?);
+    answers(alloc, &RUN, &mut depot, 1000, 0, RETURN_REPORT)
+}
+
+#[test]
+fn a_class_file_of_a_mebibyte_is_read(rt: HostRuntime) -> Result<(), Fail> {
+    assert!(rt; reads_greatest_class(rt.alloc())?);
     Ok(())
 }
