@@ -54,7 +54,7 @@ fn join_place(g: &Graph, tests: &[u32], labels: &mut [usize], place: usize)
     }
 }
 
-/// Joins two places, where the test of the earlier one is before that of the other.
+/// Joins two places, where the test of the earlier one is before that of the other and they aren't joined yet.
 fn join(g: &Graph, tests: &[u32], labels: &mut [usize], earlier: usize, place: usize)
     requires earlier { earlier < place }
     requires within { place < length tests.now }
@@ -64,11 +64,11 @@ fn join(g: &Graph, tests: &[u32], labels: &mut [usize], earlier: usize, place: u
     ensures joined { Before g.now (at tests.now earlier) (at tests.now place)
         → at labels.new earlier ≡ at labels.new place }
 {
-    if !g.before(tests[earlier], tests[place]) {
-        return;
-    }
     let a = labels[earlier];
     let b = labels[place];
+    if a == b || !g.before(tests[earlier], tests[place]) {
+        return;
+    }
     if a < b {
         relabel(labels, b, a);
     } else {
