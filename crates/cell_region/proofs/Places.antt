@@ -93,3 +93,9 @@ filled_more cs ds start i v x h b w a e =
     let n : i + 1 - start ≡ (i - start) + 1 = omega arith in
     ap (take (i + 1)) a ∙ take_more_set (joined cs) i x k ∙ ap (λ t. t ++ x ∷ []) e ∙ append_assoc v (replicate (i - start) x) (x ∷ [])
     ∙ ap (λ t. v ++ t) (replicate_more (i - start) x) ∙ ap (λ t. v ++ replicate t x) (sym n)
+
+-- one more cell
+pub pushed : {X : Type 0} (cs ds : List (List X)) (n : ℕ) (v : List X) (x : X) → AreLong cs → n < chunk_size * length cs → take n (joined cs) ≡ v → joined ds ≡ set (joined cs) n x → take (n + 1) (joined ds) ≡ v ++ x ∷ []
+pushed cs ds n v x h w e a =
+    let l = length-joined cs h in let k : n < length (joined cs) = omega arith in
+    ap (take (n + 1)) a ∙ take_more_set (joined cs) n x k ∙ ap (λ t. t ++ x ∷ []) e

@@ -1,4 +1,4 @@
-ghost use Rattle.std.specs.Prelude.{◌≡◌, ℕ, List, length, take, replicate, ◌-◌, ◌*◌, ◌^◌, ◌<◌, ◌≤◌, ◌++◌, slice_index_or, slice_set, IfOk, OnOk, OnErr, []};
+ghost use Rattle.std.specs.Prelude.{◌≡◌, ℕ, List, length, take, replicate, ◌-◌, ◌*◌, ◌^◌, ◌<◌, ◌≤◌, ◌++◌, slice_index_or, slice_set, IfOk, OnOk, OnErr, [], ◌∷◌};
 ghost use Rattle.cell_region.specs.Chunks.{AreLong, joined, chunk_size};
 
 use crate::chunk::Chunk;
@@ -82,6 +82,26 @@ impl<T: Copy> Region<T> {
         Ok(Block { start, len: n })
     }
 
+    /// Appends a cell. After a refusal the list is as before.
+    #[inline(always)]
+    pub fn push(&mut self, content: T) -> Result<(), NoMemory>
+        ensures pushed { OnOk result (self.new ≡ self.old ++ content ∷ []) }
+        ensures room { OnOk result (length self.new < 2 ^ 64) }
+        ensures kept { OnErr result (self.new ≡ self.old) }
+    {
+        let Some(end) = self.len.checked_add(1) else {
+            return Err(NoMemory {});
+        };
+        if self.len / CHUNK >= self.chunks.len() as u64 {
+            // a copy, so that the content stays in registers where there is room
+            let fill = content;
+            make_room(&mut self.chunks, self.alloc, end, fill)?;
+        }
+        set_cell(&mut self.chunks, self.len, content);
+        self.len = end;
+        Ok(())
+    }
+
     /// The content of a cell.
     pub fn get(&self, i: u64) -> T
         requires { i < length self.now }
@@ -115,6 +135,7 @@ impl<T: Copy> Region<T> {
 }
 
 /// Chunks for so many cells; those that stand stay.
+#[inline(never)]
 fn make_room<T: Copy>(
     chunks: &mut Vec<Chunk<T>>,
     alloc: Global,

@@ -13,12 +13,12 @@ use Rattle.jvm_model.specs.declared.values.Head.{Head}
 use Rattle.jvm_model.specs.World.{Object, look, keep, put_at, no_object}
 use Rattle.jvm_model.specs.Classes.{member, layout, field_at, default_of, fields_of, elems_of, blank}
 use Rattle.jvm_model.specs.View.{keys}
-use Rattle.vm_heap.specs.declared.header.Header.{Header}
+use Rattle.vm_heap.specs.Entries.{Entry}
 use Rattle.vm_heap.specs.Objects.{field_numbers, new_cells, cell_count, object_of, objects_of, IsWhole}
 use Rattle.vm_tables.specs.FieldPlaces.{place}
 use Rattle.vm_heap.specs.Held.{Held}
 use Rattle.vm_mem.proofs.Entries.{put_at_set}
-use Rattle.vm_heap.proofs.Objects.{before, own_cells, object_there, cell_set, start_at, cells_within, length-objects_of, with_text, whole_text, text_set, made_last, whole_last}
+use Rattle.vm_heap.proofs.Objects.{before, own_cells, object_there, cell_set, start_at, cells_within, length-objects_of, with_text, text_set, made_last, whole_last}
 
 pub place_below : (f : ℕ) (ks : List ℕ) → member f ks ≡ true → place f ks < length ks
 place_below f [] h = absurd (cc)
@@ -65,12 +65,16 @@ elems_alone p (Class c) n h = absurd (omega arith)
 elems_alone p (Array d b) n h = refl
 
 -- Where a field or element of an object stands in the region.
-pub record Cell (p : Program) (xs : List Header) (cs : List Value) (n : ℕ) (v : Value) (changed : Value → List Object) : Type 0 where
+pub record Cell (p : Program) (xs : List Entry) (cs : List Value) (n : ℕ) (v : Value) (changed : Value → List Object) : Type 0 where
   pub within : n < length cs
   pub value : get_or cs n Null ≡ v
   pub after : (w : Value) → objects_of p xs (set cs n w) ≡ changed w
 
-abbrev pub made_of : Header → List (ℕ × Value) → List Value → Object
+-- the place of a cell by another name
+pub moved : {p : Program} {xs : List Entry} {cs : List Value} {m n : ℕ} {v : Value} {changed : Value → List Object} → Cell p xs cs m v changed → n ≡ m → Cell p xs cs n v changed
+moved {p} {xs} {cs} {m} {n} {v} {changed} k e = subst (λ i. Cell p xs cs i v changed) (sym e) k
+
+abbrev pub made_of : Entry → List (ℕ × Value) → List Value → Object
 made_of x fs es = record { head = x.head; fields = fs; elems = es; text = x.text }
 
 abbrev pub blank_of : Head → List (ℕ × Value) → List Value → Object
@@ -82,17 +86,17 @@ with_fields x fs = record x { fields = fs }
 abbrev pub with_elems : Object → List Value → Object
 with_elems x es = record x { elems = es }
 
-field_made : (x : Header) (ks : List ℕ) (s : List Value) (f : ℕ) (w : Value) → member f ks ≡ true → length ks ≤ length s →
+field_made : (x : Entry) (ks : List ℕ) (s : List Value) (f : ℕ) (w : Value) → member f ks ≡ true → length ks ≤ length s →
     made_of x (zip ks (set s (place f ks) w)) (drop (length ks) (set s (place f ks) w)) ≡ made_of x (keep nat_eq (zip ks s) f w) (drop (length ks) s)
 field_made x ks s f w m h =
     let k = place_below f ks m in
     ap (λ t. made_of x t (drop (length ks) (set s (place f ks) w))) (field_kept ks s f w m h) ∙ ap (λ t. made_of x (keep nat_eq (zip ks s) f w) t) (drop-set-lt (length ks) s (place f ks) w k)
 
-elem_made : (x : Header) (ks : List ℕ) (s : List Value) (i : ℕ) (w : Value) → ks ≡ [] → i < length s →
+elem_made : (x : Entry) (ks : List ℕ) (s : List Value) (i : ℕ) (w : Value) → ks ≡ [] → i < length s →
     made_of x (zip ks (set s i w)) (drop (length ks) (set s i w)) ≡ made_of x (zip ks s) (put_at Null (drop (length ks) s) i w)
 elem_made x ks s i w e h = rw e (ap (λ t. made_of x [] t) (sym (put_at_set Null s i w h)))
 
-length-own : (p : Program) (xs : List Header) (cs : List Value) (o : ℕ) (x : Header) → IsWhole p xs cs → o < length xs → x ≡ get_or xs o x → length (own_cells p x (before p xs o) cs) ≡ cell_count p x.head
+length-own : (p : Program) (xs : List Entry) (cs : List Value) (o : ℕ) (x : Entry) → IsWhole p xs cs → o < length xs → x ≡ get_or xs o x → length (own_cells p x (before p xs o) cs) ≡ cell_count p x.head
 length-own p xs cs o x h w q =
     let b : before p xs o + cell_count p x.head ≤ length cs = rw q (cells_within p xs cs o x h w) in
     let d = length-drop (before p xs o) cs in
@@ -100,7 +104,7 @@ length-own p xs cs o x h w q =
     length-take-le (cell_count p x.head) (drop (before p xs o) cs) m
 
 -- a cell of an object
-own_cell : (p : Program) (xs : List Header) (cs : List Value) (o k : ℕ) (x : Header) → IsWhole p xs cs → o < length xs → x ≡ get_or xs o x → k < cell_count p x.head →
+own_cell : (p : Program) (xs : List Entry) (cs : List Value) (o k : ℕ) (x : Entry) → IsWhole p xs cs → o < length xs → x ≡ get_or xs o x → k < cell_count p x.head →
     Cell p xs cs (x.start + k) (get_or (own_cells p x (before p xs o) cs) k Null) (λ w. set (objects_of p xs cs) o (object_of p x (set (own_cells p x (before p xs o) cs) k w)))
 own_cell p xs cs o k x h w q n =
     let b : before p xs o + cell_count p x.head ≤ length cs = rw q (cells_within p xs cs o x h w) in
@@ -126,7 +130,7 @@ kind_place p (Class c) f n h m =
     let e = keys_laid p (λ g. default_of (field_at p g).descriptor) (layout p c) in
     h c (ap (member f) (sym e) ∙ m) ∙ ap (place f) (sym e)
 
-pub field_cell : (p t : Program) (xs : List Header) (cs : List Value) (o : ℕ) (x : Header) (e : Object) (f n : ℕ) → t ≡ p → IsPlaceOf t f n → IsWhole p xs cs → o < length xs → x ≡ get_or xs o x →
+pub field_cell : (p t : Program) (xs : List Entry) (cs : List Value) (o : ℕ) (x : Entry) (e : Object) (f n : ℕ) → t ≡ p → IsPlaceOf t f n → IsWhole p xs cs → o < length xs → x ≡ get_or xs o x →
     member f (keys (get_or (objects_of p xs cs) o e).fields) ≡ true →
     Cell p xs cs (x.start + n) (look nat_eq Null (get_or (objects_of p xs cs) o e).fields f)
     (λ w. set (objects_of p xs cs) o (with_fields (get_or (objects_of p xs cs) o e) (keep nat_eq (get_or (objects_of p xs cs) o e).fields f w)))
@@ -146,7 +150,7 @@ field_cell p t xs cs o x e f n same at h w q m =
       after = λ v. c.after v ∙ ap (λ y. set (objects_of p xs cs) o (object_of p x (set s y v))) k ∙ ap (set (objects_of p xs cs) o) (field_made x ks s f v r long ∙ ap (λ y. with_fields y (keep nat_eq y.fields f v)) (sym there));
     }
 
-pub elem_cell : (p : Program) (xs : List Header) (cs : List Value) (o : ℕ) (x : Header) (e : Object) (i : ℕ) → IsWhole p xs cs → o < length xs → x ≡ get_or xs o x →
+pub elem_cell : (p : Program) (xs : List Entry) (cs : List Value) (o : ℕ) (x : Entry) (e : Object) (i : ℕ) → IsWhole p xs cs → o < length xs → x ≡ get_or xs o x →
     i < length (get_or (objects_of p xs cs) o e).elems →
     Cell p xs cs (x.start + i) (get_or (get_or (objects_of p xs cs) o e).elems i Null)
     (λ w. set (objects_of p xs cs) o (with_elems (get_or (objects_of p xs cs) o e) (put_at Null (get_or (objects_of p xs cs) o e).elems i w)))
@@ -181,7 +185,7 @@ length-new_cells p h =
     ∙ ap (λ n. n + length (elems_of h.kind h.length)) (length_values (fields_of p h.kind))
 
 -- a header over new cells is the new object
-pub new_object : (p : Program) (x : Header) (h : Head) → x.head ≡ h → x.text ≡ None → object_of p x (new_cells p h) ≡ blank p h
+pub new_object : (p : Program) (x : Entry) (h : Head) → x.head ≡ h → x.text ≡ None → object_of p x (new_cells p h) ≡ blank p h
 unfolding blank
 new_object p x h e t =
     ap (λ y. object_of p (record { head = y; start = x.start; text = x.text }) (new_cells p h)) e
@@ -195,10 +199,10 @@ fill_next a vs m v =
     ap (λ t. set t (length a + length vs) v) (sym (append_assoc a vs (replicate (suc m) Null))) ∙ ap (λ n. set ((a ++ vs) ++ replicate (suc m) Null) n v) (sym (length-append a vs))
     ∙ set-append_seam (a ++ vs) Null (replicate m Null) v ∙ append_assoc a vs (v ∷ replicate m Null) ∙ ap (λ t. a ++ t) (sym (append_assoc vs (v ∷ []) (replicate m Null)))
 
-pub text_there : (p : Program) (xs : List Header) (cs : List Value) (o : ℕ) (x : Header) (e : Object) → o < length xs → x ≡ get_or xs o x → x.text ≡ (get_or (objects_of p xs cs) o e).text
+pub text_there : (p : Program) (xs : List Entry) (cs : List Value) (o : ℕ) (x : Entry) (e : Object) → o < length xs → x ≡ get_or xs o x → x.text ≡ (get_or (objects_of p xs cs) o e).text
 text_there p xs cs o x e w q = ap (λ y. y.text) q ∙ ap (λ y. y.text) (sym (object_there p xs cs o x e w))
 
-pub head_there : (p : Program) (xs : List Header) (cs : List Value) (o : ℕ) (x : Header) (e : Object) → o < length xs → x ≡ get_or xs o x → x.head ≡ (get_or (objects_of p xs cs) o e).head
+pub head_there : (p : Program) (xs : List Entry) (cs : List Value) (o : ℕ) (x : Entry) (e : Object) → o < length xs → x ≡ get_or xs o x → x.head ≡ (get_or (objects_of p xs cs) o e).head
 head_there p xs cs o x e w q = ap (λ y. y.head) q ∙ ap (λ y. y.head) (sym (object_there p xs cs o x e w))
 
 -- a heap's view, and one with a part of an object changed
@@ -214,30 +218,27 @@ elem_changed h o i v = record h { objects = set h.objects o (with_elems (get_or 
 abbrev pub text_changed : Held → ℕ → List ℕ → Held
 text_changed h o t = record h { objects = set h.objects o (record (get_or h.objects o no_object) { text = Some t }) }
 
-pub headers_there : (p : Program) (xs : List Header) (cs : List Value) (h : Held) (o : ℕ) → held p (objects_of p xs cs) ≡ h → o < length h.objects → o < length xs
+pub headers_there : (p : Program) (xs : List Entry) (cs : List Value) (h : Held) (o : ℕ) → held p (objects_of p xs cs) ≡ h → o < length h.objects → o < length xs
 headers_there p xs cs h o e w = let l = length-objects_of p xs cs in let m : length (objects_of p xs cs) ≡ length h.objects = ap (λ y. length y.objects) e in omega arith
 
 pub got : (cs : List Value) (n : ℕ) (r v : Value) → r ≡ get_or cs n r → n < length cs → get_or cs n Null ≡ v → r ≡ v
 got cs n r v e w g = e ∙ get_or_default cs n r Null w ∙ g
 
--- a header with another text
-pub whole_written : (p : Program) (xs : List Header) (cs : List Value) (o : ℕ) (x : Header) (t : Option (List ℕ)) → IsWhole p xs cs → o < length xs → x ≡ get_or xs o x → IsWhole p (set xs o (with_text x t)) cs
-whole_written p xs cs o x t h w q = subst (λ y. IsWhole p (set xs o (with_text y t)) cs) (sym q) (whole_text p xs cs o x t h w)
-
-pub text_written : (p : Program) (xs : List Header) (cs : List Value) (o : ℕ) (x : Header) (u : Option (List ℕ)) (t : List ℕ) → o < length xs → x ≡ get_or xs o x → u ≡ Some t →
+-- an object with another text
+pub text_written : (p : Program) (xs : List Entry) (cs : List Value) (o : ℕ) (x : Entry) (u : Option (List ℕ)) (t : List ℕ) → o < length xs → x ≡ get_or xs o x → u ≡ Some t →
     held p (objects_of p (set xs o (with_text x u)) cs) ≡ text_changed (held p (objects_of p xs cs)) o t
 text_written p xs cs o x u t w q e =
     ap (λ y. held p (objects_of p (set xs o (with_text x y)) cs)) e ∙ ap (λ y. held p (objects_of p (set xs o (with_text y (Some t))) cs)) q
     ∙ ap (held p) (text_set p xs cs o x no_object (Some t) w)
 
 -- one more object of a heap
-pub held_last : (p : Program) (xs : List Header) (x : Header) (cs : List Value) (h : Head) → IsWhole p xs cs → x.head ≡ h → x.text ≡ None →
+pub held_last : (p : Program) (xs : List Entry) (x : Entry) (cs : List Value) (h : Head) → IsWhole p xs cs → x.head ≡ h → x.text ≡ None →
     held p (objects_of p (xs ++ x ∷ []) (cs ++ new_cells p h)) ≡ held p (objects_of p xs cs ++ blank p h ∷ [])
 held_last p xs x cs h w e t =
     let n : length (new_cells p h) ≡ cell_count p x.head = rw e (length-new_cells p h) in
     ap (held p) (made_last p xs x cs (new_cells p h) w.full n ∙ ap (λ y. objects_of p xs cs ++ y ∷ []) (new_object p x h e t))
 
-pub cells_last : (p : Program) (xs : List Header) (x : Header) (cs : List Value) (h : Head) → IsWhole p xs cs → x.head ≡ h → x.start ≡ length cs → length (cs ++ new_cells p h) < 2 ^ 64 → IsWhole p (xs ++ x ∷ []) (cs ++ new_cells p h)
+pub cells_last : (p : Program) (xs : List Entry) (x : Entry) (cs : List Value) (h : Head) → IsWhole p xs cs → x.head ≡ h → x.start ≡ length cs → length (cs ++ new_cells p h) < 2 ^ 64 → IsWhole p (xs ++ x ∷ []) (cs ++ new_cells p h)
 cells_last p xs x cs h w e s f = whole_last p xs x cs (new_cells p h) w s (rw e (length-new_cells p h)) f
 
 -- one more cell has its value

@@ -1,3 +1,4 @@
+pub mod Entries
 pub mod Objects
 pub mod Cells
 pub mod Overlay

@@ -1,10 +1,8 @@
 use jvm_model::Head;
-use vm_mem::TextCell;
 
-/// An object: its head, where its cells begin, and its text.
-#[derive(Drop)]
+/// What stands of an object apart from its cells and its text: its head, and where its cells begin.
+#[derive(Clone, Copy, Debug, PartialEq, Eq)]
 pub struct Header {
     pub head: Head,
     pub start: u64,
-    pub text: TextCell,
 }

@@ -1,4 +1,4 @@
-ghost use Rattle.std.specs.Prelude.{◌≡◌, ◌<◌, ◌+◌, ◌^◌, [], ◌∷◌, ◌++◌, length, map, set, get_or, nat_eq, true, Some, IfOk, OnOk, OnErr};
+ghost use Rattle.std.specs.Prelude.{◌≡◌, ◌<◌, ◌+◌, ◌^◌, [], ◌∷◌, ◌++◌, length, map, replicate, set, get_or, nat_eq, true, Some, IfOk, OnOk, OnErr};
 ghost use Rattle.jvm_model.specs.declared.values.Value.TheVariants.{Null};
 ghost use Rattle.jvm_model.specs.World.{look, keep, put_at, text_or_empty, no_object};
 ghost use Rattle.jvm_model.specs.Classes.{member, blank};
@@ -6,22 +6,22 @@ ghost use Rattle.jvm_model.specs.View.{keys};
 ghost use Rattle.vm_heap.specs.Objects.{new_cells};
 
 use crate::header::Header;
+use crate::headers::Headers;
 use cell_region::{Mark, Region};
 use et_base::{NoMemory, Units};
 use jvm_model::{Head, Kind, Program, Value};
 use std::alloc::Global;
 use std::marker::Model;
-use vm_mem::{Layouts, TextCell, element_default};
+use vm_mem::{Layouts, element_default};
 use vm_tables::FieldPlaces;
 
 /// All objects: a header each, and the cells of all of them in one region in the order of the objects.
 #[derive(Drop)]
 pub struct Heap {
-    headers: Vec<Header>,
+    headers: Headers,
     cells: Region<Value>,
     layouts: Layouts,
     places: FieldPlaces,
-    alloc: Global,
 }
 
 impl Model for Heap {
@@ -30,9 +30,9 @@ impl Model for Heap {
 
     ghost Value = { Held };
 
-    ghost view = { λ s. record { program = s.layouts; objects = objects_of s.layouts s.headers.items s.cells } };
+    ghost view = { λ s. record { program = s.layouts; objects = objects_of s.layouts s.headers s.cells } };
 
-    ghost invariant = { λ s. IsHeap s.layouts s.places s.headers.items s.cells };
+    ghost invariant = { λ s. IsHeap s.layouts s.places s.headers s.cells };
 }
 
 impl Heap {
@@ -44,11 +44,10 @@ impl Heap {
         ensures { IfOk result (λ x. x ≡ record { program = p.now; objects = [] }) }
     {
         Ok(Heap {
-            headers: Vec::new(alloc),
+            headers: Headers::new(alloc),
             cells: Region::new(alloc),
             layouts: Layouts::of(alloc, p)?,
             places: FieldPlaces::of(alloc, p)?,
-            alloc,
         })
     }
 
@@ -57,7 +56,7 @@ impl Heap {
         requires { object < length self.now.objects }
         ensures { result ≡ (get_or self.now.objects object no_object).head }
     {
-        self.headers[object as usize].head
+        self.headers.of(object).head
     }
 
     /// The value of a field.
@@ -66,7 +65,7 @@ impl Heap {
         requires field { member field (keys (get_or self.now.objects object no_object).fields) ≡ true }
         ensures { result ≡ look nat_eq Null (get_or self.now.objects object no_object).fields field }
     {
-        let start = self.headers[object as usize].start;
+        let start = self.headers.of(object).start;
         self.cells.get(start + self.places.place(field) as u64)
     }
 
@@ -76,7 +75,7 @@ impl Heap {
         requires field { member field (keys (get_or self.old.objects object no_object).fields) ≡ true }
         ensures { let x = get_or self.old.objects object no_object in self.new ≡ record self.old { objects = set self.old.objects object (record x { fields = keep nat_eq x.fields field v }) } }
     {
-        let start = self.headers[object as usize].start;
+        let start = self.headers.of(object).start;
         let place = start + self.places.place(field) as u64;
         self.cells.set(place, v);
     }
@@ -87,7 +86,7 @@ impl Heap {
         requires index { index < length (get_or self.now.objects object no_object).elems }
         ensures { result ≡ get_or (get_or self.now.objects object no_object).elems index Null }
     {
-        let header = &self.headers[object as usize];
+        let header = self.headers.of(object);
         self.cells.get(header.start + index as u64)
     }
 
@@ -97,7 +96,7 @@ impl Heap {
         requires index { index < length (get_or self.old.objects object no_object).elems }
         ensures { let x = get_or self.old.objects object no_object in self.new ≡ record self.old { objects = set self.old.objects object (record x { elems = put_at Null x.elems index v }) } }
     {
-        let header = &self.headers[object as usize];
+        let header = self.headers.of(object);
         let place = header.start + index as u64;
         self.cells.set(place, v);
     }
@@ -107,15 +106,16 @@ impl Heap {
         requires { object < length self.now.objects }
         ensures { result.now ≡ text_or_empty (get_or self.now.objects object no_object).text }
     {
-        self.headers[object as usize].text.get()
+        self.headers.text(object)
     }
 
     /// Writes the text of an object.
-    pub fn set_text(&mut self, object: u64, text: Units)
+    pub fn set_text(&mut self, object: u64, text: Units) -> Result<(), NoMemory>
         requires { object < length self.old.objects }
-        ensures { let x = get_or self.old.objects object no_object in self.new ≡ record self.old { objects = set self.old.objects object (record x { text = Some text }) } }
+        ensures program { self.new.program ≡ self.old.program }
+        ensures written { OnOk result (let x = get_or self.old.objects object no_object in self.new ≡ record self.old { objects = set self.old.objects object (record x { text = Some text }) }) }
     {
-        self.headers[object as usize].text.set(text);
+        self.headers.set_text(object, text)
     }
 
     /// Writes these units behind the text of an object.
@@ -128,29 +128,31 @@ impl Heap {
                   (record x { text = Some (text_or_empty x.text ++ more.now) });
             }) }
     {
-        self.headers[object as usize].text.append(more)
+        self.headers.append_text(object, more)
     }
 
     /// Makes a new object with default cells and no text, and answers its place. After a refusal there are the objects
     /// of before.
+    #[inline(always)]
     pub fn make(&mut self, head: Head) -> Result<u64, NoMemory>
         ensures gives { IfOk result (λ o. o ≡ length self.old.objects) }
         ensures made { OnOk result (self.new ≡ record self.old { objects = self.old.objects ++ blank self.old.program head ∷ [] }) }
         ensures kept { OnErr result (self.new ≡ self.old) }
     {
-        let object = self.headers.len() as u64;
+        let object = self.headers.len();
         let mark = self.cells.mark();
         append_cells(&mut self.cells, &self.layouts, head)?;
         let header = Header {
             head,
             start: mark.len,
-            text: TextCell::new(self.alloc),
         };
-        if self.headers.push(header).is_err() {
-            self.cells.release(mark);
-            return Err(NoMemory {});
+        match self.headers.push(header) {
+            Ok(()) => Ok(object),
+            Err(refusal) => {
+                self.cells.release(mark);
+                Err(refusal)
+            }
         }
-        Ok(object)
     }
 
     /// Takes all objects away. It takes no memory.
@@ -163,6 +165,7 @@ impl Heap {
 }
 
 /// Appends the cells of a new object. After a refusal the cells are as before.
+#[inline(always)]
 fn append_cells(cells: &mut Region<Value>, layouts: &Layouts, head: Head) -> Result<(), NoMemory>
     ensures made { OnOk result (cells.new ≡ cells.old ++ new_cells layouts.now head) }
     ensures room { OnOk result (length cells.new < 2 ^ 64) }
@@ -171,23 +174,35 @@ fn append_cells(cells: &mut Region<Value>, layouts: &Layouts, head: Head) -> Res
     match head.kind {
         Kind::Class(class) => append_values(cells, layouts.fields(class)),
         Kind::Array { dims, base } => {
-            cells.grow(head.length as u64, element_default(dims, base))?;
-            Ok(())
+            append_elements(cells, head.length, element_default(dims, base))
         }
     }
 }
 
+/// Appends so many cells, each with the same value. After a refusal the cells are as before.
+#[inline(never)]
+fn append_elements(cells: &mut Region<Value>, count: u32, v: Value) -> Result<(), NoMemory>
+    ensures made { OnOk result (cells.new ≡ cells.old ++ replicate count v) }
+    ensures room { OnOk result (length cells.new < 2 ^ 64) }
+    ensures kept { OnErr result (cells.new ≡ cells.old) }
+{
+    cells.grow(count as u64, v)?;
+    Ok(())
+}
+
 /// Appends a cell with the value of each field. After a refusal the cells are as before.
+#[inline(always)]
 fn append_values(cells: &mut Region<Value>, fields: &[(u32, Value)]) -> Result<(), NoMemory>
     ensures made { OnOk result (cells.new ≡ cells.old ++ map (λ x. x.1) fields.now) }
     ensures room { OnOk result (length cells.new < 2 ^ 64) }
     ensures kept { OnErr result (cells.new ≡ cells.old) }
 {
-    let block = cells.grow(fields.len() as u64, Value::Null)?;
-    let mut place = block.start;
+    let mark = cells.mark();
     for (_, v) in fields {
-        cells.set(place, *v);
-        place += 1;
+        if let Err(refusal) = cells.push(*v) {
+            cells.release(mark);
+            return Err(refusal);
+        }
     }
     Ok(())
 }

@@ -3,6 +3,7 @@
 
 mod changes;
 mod header;
+mod headers;
 mod heap;
 mod region_memory;
 

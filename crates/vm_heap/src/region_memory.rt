@@ -131,8 +131,7 @@ impl Memory for RegionMemory {
     }
 
     fn put_text(&mut self, object: u64, u: Units) -> Result<(), NoMemory> {
-        self.heap.set_text(object, u);
-        Ok(())
+        self.heap.set_text(object, u)
     }
 
     fn append_text(&mut self, object: u64, more: &[u16]) -> Result<(), NoMemory> {
@@ -152,6 +151,7 @@ impl Memory for RegionMemory {
         self.store.put(part, name, content)
     }
 
+    #[inline(always)]
     fn make(&mut self, head: Head) -> Result<u64, NoMemory> {
         self.heap.make(head)
     }

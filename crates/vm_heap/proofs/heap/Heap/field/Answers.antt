@@ -1,15 +1,17 @@
-use Rattle.std.proofs.Common.{◌≡◌, ◌<◌, length, get_or, arith, true, rules}
+use Rattle.std.proofs.Common.{◌≡◌, ◌<◌, length, get_or, arith, true, rules, ◌+◌, ap}
+use Rattle.std.proofs.lemmas.List.{get_or_default}
+use Rattle.vm_heap.specs.Entries.{no_entry}
 use Rattle.jvm_model.specs.World.{no_object}
 use Rattle.jvm_model.specs.View.{keys}
 use Rattle.jvm_model.specs.Classes.{member}
 use Rattle.vm_heap.specs.Objects.{objects_of}
-use Rattle.vm_heap.proofs.Cells.{field_cell, headers_there, got}
+use Rattle.vm_heap.proofs.Cells.{moved, field_cell, headers_there, got}
 use Rattle.vm_heap.proofs.heap.Heap.field.Goals as goal
 
-pub index-requires : goal.index-requires
-index-requires c =
+pub of-requires : goal.of-requires
+of-requires c =
     let p = c.self.inside.layouts in
-    let xs = c.self.inside.headers.items in
+    let xs = c.self.inside.headers in
     let cs = c.self.inside.cells in
     let w : c.args.object < length xs = headers_there p xs cs c.args.self.now c.args.object c.self.view_is c.requires.object in
     search rules
@@ -17,11 +19,11 @@ index-requires c =
 pub overflow_add-start : goal.overflow_add-start
 overflow_add-start c =
     let p = c.self.inside.layouts in
-    let xs = c.self.inside.headers.items in
+    let xs = c.self.inside.headers in
     let cs = c.self.inside.cells in
     let w : c.args.object < length xs = headers_there p xs cs c.args.self.now c.args.object c.self.view_is c.requires.object in
     let m : member c.args.field (keys (get_or (objects_of p xs cs) c.args.object no_object).fields) ≡ true = rw (← c.self.view_is) at c.requires.field in
-    let k = field_cell p c.self.inside.places xs cs c.args.object c.index.result.now no_object c.args.field c.place.result c.self.invariant.same c.place.ensures c.self.invariant.whole w c.index.ensures m in
+    let k = moved (field_cell p c.self.inside.places xs cs c.args.object (get_or xs c.args.object no_entry) no_object c.args.field c.place.result c.self.invariant.same c.place.ensures c.self.invariant.whole w (get_or_default xs c.args.object no_entry _ w) m) (ap (λ h. h.start + c.place.result) c.of.ensures) in
     let b = k.within in
     let f = c.self.invariant.whole.few in
     omega arith
@@ -29,19 +31,19 @@ overflow_add-start c =
 pub get-requires : goal.get-requires
 get-requires c =
     let p = c.self.inside.layouts in
-    let xs = c.self.inside.headers.items in
+    let xs = c.self.inside.headers in
     let cs = c.self.inside.cells in
     let w : c.args.object < length xs = headers_there p xs cs c.args.self.now c.args.object c.self.view_is c.requires.object in
     let m : member c.args.field (keys (get_or (objects_of p xs cs) c.args.object no_object).fields) ≡ true = rw (← c.self.view_is) at c.requires.field in
-    let k = field_cell p c.self.inside.places xs cs c.args.object c.index.result.now no_object c.args.field c.place.result c.self.invariant.same c.place.ensures c.self.invariant.whole w c.index.ensures m in
+    let k = moved (field_cell p c.self.inside.places xs cs c.args.object (get_or xs c.args.object no_entry) no_object c.args.field c.place.result c.self.invariant.same c.place.ensures c.self.invariant.whole w (get_or_default xs c.args.object no_entry _ w) m) (ap (λ h. h.start + c.place.result) c.of.ensures) in
     k.within
 
 pub returns : goal.returns
 returns c =
     let p = c.self.inside.layouts in
-    let xs = c.self.inside.headers.items in
+    let xs = c.self.inside.headers in
     let cs = c.self.inside.cells in
     let w : c.args.object < length xs = headers_there p xs cs c.args.self.now c.args.object c.self.view_is c.requires.object in
     let m : member c.args.field (keys (get_or (objects_of p xs cs) c.args.object no_object).fields) ≡ true = rw (← c.self.view_is) at c.requires.field in
-    let k = field_cell p c.self.inside.places xs cs c.args.object c.index.result.now no_object c.args.field c.place.result c.self.invariant.same c.place.ensures c.self.invariant.whole w c.index.ensures m in
+    let k = moved (field_cell p c.self.inside.places xs cs c.args.object (get_or xs c.args.object no_entry) no_object c.args.field c.place.result c.self.invariant.same c.place.ensures c.self.invariant.whole w (get_or_default xs c.args.object no_entry _ w) m) (ap (λ h. h.start + c.place.result) c.of.ensures) in
     rw (← c.self.view_is) (got cs _ c.get.result _ c.get.ensures k.within k.value)

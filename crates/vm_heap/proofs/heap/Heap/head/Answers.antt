@@ -1,12 +1,14 @@
-use Rattle.std.proofs.Common.{◌<◌, length, rules}
+use Rattle.std.proofs.Common.{◌<◌, ◌∙◌, ap, get_or, length, rules}
+use Rattle.std.proofs.lemmas.List.{get_or_default}
+use Rattle.vm_heap.specs.Entries.{no_entry}
 use Rattle.jvm_model.specs.World.{no_object}
 use Rattle.vm_heap.proofs.Cells.{headers_there, head_there}
 use Rattle.vm_heap.proofs.heap.Heap.head.Goals as goal
 
-pub index-requires : goal.index-requires
-index-requires c =
+pub of-requires : goal.of-requires
+of-requires c =
     let p = c.self.inside.layouts in
-    let xs = c.self.inside.headers.items in
+    let xs = c.self.inside.headers in
     let cs = c.self.inside.cells in
     let w : c.args.object < length xs = headers_there p xs cs c.args.self.now c.args.object c.self.view_is c.requires in
     search rules
@@ -14,7 +16,7 @@ index-requires c =
 pub returns : goal.returns
 returns c =
     let p = c.self.inside.layouts in
-    let xs = c.self.inside.headers.items in
+    let xs = c.self.inside.headers in
     let cs = c.self.inside.cells in
     let w : c.args.object < length xs = headers_there p xs cs c.args.self.now c.args.object c.self.view_is c.requires in
-    rw (← c.self.view_is) (head_there p xs cs c.args.object c.index.result.now no_object w c.index.ensures)
+    rw (← c.self.view_is) (ap (λ h. h.head) c.of.ensures ∙ head_there p xs cs c.args.object (get_or xs c.args.object no_entry) no_object w (get_or_default xs c.args.object no_entry _ w))
