@@ -15,6 +15,8 @@ use vm_tables::Tables;
 /// Returns from the method at the top: its entry is popped, and a value, narrowed to the type that the method returns, goes to
 /// the frame below, which goes on after its call. An initialisation entry below takes no value. It answers Leave where no
 /// entry is left, counts 1 and touches nothing; Over, with the entries as before, where no unit is left.
+#[cold]
+#[inline(never)]
 #[tactic(auto, using(crate::proofs::Returned::return_touches, crate::proofs::Returned::value_there, crate::proofs::Returned::value_handed, crate::proofs::Returned::none_handed))]
 pub fn give_back<M: Memory>(
     stack: &mut FrameStack,

@@ -1,7 +1,6 @@
 -- What the step of an instruction that was found asks for, and the steps of forms that touch nothing.
-use Rattle.std.proofs.Common.{◌≡◌, ◌<◌, ℕ, suc, List, Bool, cond, refl, sym, ap, ◌∙◌, subst, arith, Option, Some, None, IsSome, true, false, nat_le, ◌-◌}
+use Rattle.std.proofs.Common.{◌≡◌, ◌<◌, ℕ, suc, List, Bool, cond, refl, sym, ap, ◌∙◌, subst, arith, Option, Some, None, true, false, nat_le, ◌-◌}
 use Rattle.jvm_model.specs.declared.values.Touch.{Touch}
-use Rattle.jvm_model.specs.declared.values.Value.{Value}
 use Rattle.jvm_model.specs.declared.instr.Instr.{Instr}
 use Rattle.jvm_model.specs.declared.instr.Instr.TheVariants as form
 use Rattle.jvm_model.specs.declared.outcome.Next.TheVariants.{Go}
@@ -13,9 +12,9 @@ use Rattle.jvm_model.specs.Classes.{next_place, form_at}
 use Rattle.jvm_model.specs.Entries.{Entries, with_place}
 use Rattle.jvm_model.specs.Rows.{Answer, answer}
 use Rattle.jvm_model.specs.RowsBranches.{row_branches}
-use Rattle.jvm_model.specs.State.{State, Turn, next, with_entries}
+use Rattle.jvm_model.specs.State.{State, Turn}
 use Rattle.jvm_model.specs.Step.{group_of, row, row_here, row_or_none, after_row}
-use Rattle.jvm_model.specs.View.{counted, ended, touched, IsSafe, IsRow, IsTurn}
+use Rattle.jvm_model.specs.View.{counted, touched, IsSafe, IsRow, IsTurn}
 use Rattle.jvm_model.proofs.Steps.{step_runs, safe_row}
 use Rattle.vm_arith.specs.Pure.{GoesOn, Branches, is_pure}
 use Rattle.vm_frames.specs.Stack.{HasRoom}
@@ -26,7 +25,6 @@ use Rattle.check_sound.specs.ReachLaw.{puts}
 use Rattle.vm_interp.specs.Reaching.{CanStep}
 use Rattle.vm_interp.specs.Gliding.{CanGo, CanGlide, Goes}
 use Rattle.vm_interp.specs.Rows.{form_row}
-use Rattle.vm_interp.specs.Turns.{by_row}
 use Rattle.vm_interp.proofs.Quiet.{grows}
 
 -- a form that goes on at the next instruction
@@ -62,20 +60,6 @@ branch_meets p w i b to n s u left h e l = went_meets p s w (i to) n (with_place
 pub branch_tells : {M : Type 0} (follows : M → Story → List Touch → Type 0) (m : M) (p : Program) (w : World) (i : ℕ → Instr) (b : Bool) (to : ℕ) (s u : Entries) → Branches i b s u → Tells (form_row (i to)) p w s Go follows m m
 branch_tells follows m p w i b to s u h = went_tells p s w (i to) (next_place p s.top.number s.top.pc) (with_place u (cond b to (next_place p s.top.number s.top.pc))) refl (branches i b to (next_place p s.top.number s.top.pc) s u h) follows m
 
--- the step of a form that goes on
-module _ (p : Program) (s : State) (w : World) (r : s.raised ≡ None) (i : Instr) (n : ℕ) (u : Entries)
-    (found : form_at p s.entries.top.number s.entries.top.pc ≡ Some i) (place : next_place p s.entries.top.number s.entries.top.pc ≡ n) (h : Goes i n s.entries u) where
-  step_is : by_row row_here p s ≡ spend 1 (done (next (with_entries s u)))
-  unfolding row_here
-  step_is = ap (λ (a : Access (Answer Entries)). spend 1 (bind a (after_row p s))) (ap (λ (o : Option Instr). row_or_none p o s.entries) found ∙ h.row p place)
-
-  pub step_counts : (left left1 : ℕ) → left ≡ suc left1 → counted (by_row row_here p s) w left ≡ ended (next (record s { entries = u })) w left1
-  step_counts left left1 e = ap (λ (a : Access Turn). counted a w left) step_is ∙ (let d : left - 1 ≡ left1 = omega arith in let k : nat_le 1 left ≡ true = grind arith in rw (k, d) refl)
-      ∙ ap (λ (o : Option Value). ended (next (record s { entries = u; raised = o })) w left1) (sym r)
-
-  pub step_touches : (ts : List Touch) → touched (by_row row_here p s) w ts ≡ ts
-  step_touches ts = ap (λ (a : Access Turn). touched a w ts) step_is
-
 there : (p : Program) (s : Entries) (i : Instr) (w : World) → form_at p s.top.number s.top.pc ≡ Some i → IsSafe IsRow (row_here p s) w → IsSafe IsRow (row p i s) w
 unfolding row_here
 there p s i w e h = subst (λ (o : Option Instr). IsSafe IsRow (row_or_none p o s) w) e h
@@ -83,19 +67,6 @@ there p s i w e h = subst (λ (o : Option Instr). IsSafe IsRow (row_or_none p o 
 by_pure : (p : Program) (i : Instr) (u : Entries) (w : World) (c : Bool) → is_pure (group_of i) ≡ c → IsSafe IsRow (row p i u) w → HasRoom (puts i) u → CanGo c i u
 by_pure p i u w true e h space = (has_row p w i u e h, let g = grows i in omega arith)
 by_pure p i u w false e h space = tt
-
-some_form : (p : Program) (o : Option Instr) (s : Entries) (w : World) → IsSafe IsRow (row_or_none p o s) w → IsSome o
-some_form p None s w h = absurd h
-some_form p (Some i) s w h = cc
-
--- the row of a frame is there, so its instruction is
-pub has_form : (p : Program) (s : Entries) (w : World) → IsSafe IsRow (row_here p s) w → IsSome (form_at p s.top.number s.top.pc)
-unfolding row_here
-has_form p s w h = some_form p (form_at p s.top.number s.top.pc) s w h
-
--- the same of the code's numbers
-pub there_is : (p q : Program) → q ≡ p → (m pc : ℕ) (s : Entries) → s.top.number ≡ m → pc ≡ s.top.pc → IsSome (form_at p s.top.number s.top.pc) → IsSome (form_at q m pc)
-there_is p q same m pc s e f h = subst (λ (z : Program). IsSome (form_at z m pc)) (sym same) (subst (λ (n : ℕ). IsSome (form_at p n pc)) e (subst (λ (n : ℕ). IsSome (form_at p s.top.number n)) (sym f) h))
 
 -- what a state that can step gives to the step of the frame at the top
 module _ (p : Program) (s : State) (w : World) (can : CanStep p w s) (k : s.entries.top.kind ≡ InMethod) (r : s.raised ≡ None) where
@@ -105,11 +76,15 @@ module _ (p : Program) (s : State) (w : World) (can : CanStep p w s) (k : s.entr
   pub row_safe : IsSafe IsRow (row_here p s.entries) w
   row_safe = safe_row p s (row_here p s.entries) w fits
 
-  pub form_there_is : IsSome (form_at p s.entries.top.number s.entries.top.pc)
-  form_there_is = has_form p s.entries w row_safe
-
   pub can_glide : (i : Instr) → form_at p s.entries.top.number s.entries.top.pc ≡ Some i → CanGlide i s.entries
   can_glide i e = by_pure p i s.entries w (is_pure (group_of i)) refl (there p s.entries i w e row_safe) ((can.space k r).room i e)
+
+-- a form that goes on, and the place of the next instruction
+pub straight_meets : (p : Program) (w : World) (i : Instr) (n : ℕ) (s u : Entries) (left : ℕ) → GoesOn i s u → next_place p s.top.number s.top.pc ≡ n → 0 < left → Meets (form_row i) p w s left Go (with_place u n) w (left - 1)
+straight_meets p w i n s u left h e l = went_meets p s w i n (with_place u n) e (goes i n s u h) left l
+
+pub straight_tells : {M : Type 0} (follows : M → Story → List Touch → Type 0) (m : M) (p : Program) (w : World) (i : Instr) (s u : Entries) → GoesOn i s u → Tells (form_row i) p w s Go follows m m
+straight_tells follows m p w i s u h = went_tells p s w i (next_place p s.top.number s.top.pc) (with_place u (next_place p s.top.number s.top.pc)) refl (goes i (next_place p s.top.number s.top.pc) s u h) follows m
 
 pub jumps_at : (i : Instr) (to n : ℕ) (s v : Entries) → i ≡ form.Goto to → v ≡ with_place s to → Goes i n s v
 jumps_at i to n s v e f = rw (e, f) (jumps to n s)

@@ -1,8 +1,6 @@
 -- Steps of a test one after the other, as the code makes them.
-use Rattle.std.proofs.Common.{◌≡◌, ◌≢◌, ◌≤◌, ◌<◌, ℕ, List, not, refl, sym, ap, ◌∙◌, subst, arith, Option, None, is_some, suc, Some, slice_get, drop, ◌+◌}
+use Rattle.std.proofs.Common.{◌≡◌, ◌≢◌, ◌≤◌, ◌<◌, ℕ, suc, List, length, drop, not, refl, sym, ap, ◌∙◌, subst, arith, Option, None, is_some}
 use Rattle.jvm_model.specs.declared.values.Touch.{Touch}
-use Rattle.jvm_model.specs.declared.instr.Instr.{Instr}
-use Rattle.jvm_model.specs.declared.program.Body.{Body}
 use Rattle.jvm_model.specs.declared.program.Placed.{Placed}
 use Rattle.jvm_model.specs.declared.values.Value.{Value}
 use Rattle.jvm_model.specs.declared.library.Native.{Native}
@@ -12,17 +10,16 @@ use Rattle.jvm_model.specs.declared.program.Program.{Program}
 use Rattle.jvm_model.specs.declared.state.EntryKind.TheVariants.{InMethod}
 use Rattle.jvm_model.specs.World.{World}
 use Rattle.jvm_model.specs.Access.{Access, done}
-use Rattle.jvm_model.specs.Classes.{form_at, method_at, next_place, place_after}
+use Rattle.jvm_model.specs.Classes.{place_after}
 use Rattle.jvm_model.specs.Entries.{Entries, with_place}
-use Rattle.jvm_model.specs.Linked.{IsBody}
 use Rattle.jvm_model.specs.State.{State, Turn, next, with_entries}
 use Rattle.jvm_model.specs.Step.{entered, row_here, step}
 use Rattle.jvm_model.specs.View.{counted, ended, paid, touched, IsSafe, IsTurn}
 use Rattle.jvm_model.proofs.Steps.{step_runs}
-use Rattle.vm_arith.specs.Pure.{GoesOn}
 use Rattle.vm_mem.specs.Meets.{Meets, Tells}
 use Rattle.vm_mem.specs.Story.{Story}
-use Rattle.vm_interp.specs.Gliding.{Steps, here, on, StepsOn, Advances, Rolls, Runs, EndsWithRow, CanGlide}
+use Rattle.vm_tables.proofs.Places.{place_past}
+use Rattle.vm_interp.specs.Gliding.{Steps, here, on, StepsOn, Advances, Rolls, EndsWithRow}
 use Rattle.vm_interp.specs.Reaching.{AllSafe, HasRoomAfter}
 use Rattle.vm_interp.specs.Seen.{seen}
 use Rattle.vm_interp.specs.Turns.{after, by_row, turned}
@@ -30,8 +27,7 @@ use Rattle.vm_interp.specs.declared.state.State.{State as Kept}
 use Rattle.vm_interp.specs.declared.turned.Turned.{Turned}
 use Rattle.vm_interp.specs.declared.turned.Turned.TheVariants.{Over}
 use Rattle.vm_interp.proofs.NoEntry.{room_then}
-use Rattle.vm_interp.proofs.Found.{can_glide, fits, goes, step_counts, step_touches}
-use Rattle.vm_interp.proofs.Numbered.{form_here, here_some, next_here}
+use Rattle.vm_interp.proofs.Found.{fits}
 use Rattle.vm_interp.proofs.Stepped.{row_over, row_fit, row_counted, row_touches}
 use Rattle.vm_interp.proofs.Whole.{IsRest, goes_by, step_falls}
 
@@ -51,61 +47,13 @@ steps_rest p t v b s w n f (on x y m g u w' k h e) r =
 pub steps_can : (p q : Program) → q ≡ p → (t : ℕ) (v : World) (b : ℕ) (s : State) (w : World) (n : ℕ) (f : List Touch → List Touch) → AllSafe p t v → IsRest p t v b s w n f → StepsOn q s w n
 steps_can p q same t v b s w n f all r = subst (λ (z : Program). StepsOn z s w n) (sym same) (λ u y m g h. all u y (steps_rest p t v b s w n f h r).reached)
 
-steps_then : (p : Program) (s : State) (w : World) (n : ℕ) {t : State} {v : World} {m : ℕ} {f : List Touch → List Touch} → Steps p s w n t v m f →
-    {u : State} {x : World} {k : ℕ} {g : List Touch → List Touch} → Steps p t v m u x k g → Steps p s w n u x k (λ ts. g (f ts))
-steps_then p s w n a here = a
-steps_then p s w n {f = f} a (on y v m g u w' k b e) = on y v m (λ ts. g (f ts)) u w' k (steps_then p s w n a b) e
+-- the byte place written again
+pub placed_again : (s u : Entries) (n : ℕ) → u ≡ with_place s n → s.top.pc ≡ n → u ≡ s
+placed_again s u n e f = e ∙ ap (λ (m : ℕ). with_place s m) (sym f)
 
-pub steps_on : (p : Program) (s : State) (w : World) (n : ℕ) → StepsOn p s w n → {t : State} {v : World} {m : ℕ} {f : List Touch → List Touch} → Steps p s w n t v m f → StepsOn p t v m
-steps_on p s w n can {f = f} a u x k g h = can u x k (λ ts. g (f ts)) (steps_then p s w n a h)
-
--- such steps of one state, which touch nothing
-pub runs_none : (p : Program) (s : State) (w : World) (e : Entries) (n : ℕ) → Runs p s w e n e n
-runs_none p s w e n = record { so_far = λ ts. ts; steps = here; same = λ ts. refl; frame = refl; number = refl }
-
-pub runs_from : (p : Program) (s : State) (w : World) (e : Entries) (n pc q : ℕ) → pc ≡ e.top.pc → pc ≡ q → Runs p s w e n (with_place e q) n
-runs_from p s w e n pc q h l = subst (λ (m : ℕ). Runs p s w e n (with_place e m) n) (sym h ∙ l) (runs_none p s w e n)
-
--- the entries that the state had before have no part in them
-pub runs_over : (p : Program) (z s : Kept) (x : Entries) (w : World) (e : Entries) (n : ℕ) (u : Entries) (k : ℕ) → z ≡ record s { frames = x } → Runs p (seen z) w e n u k → Runs p (seen s) w e n u k
-runs_over p z s x w e n u k h a =
-    let r = subst (λ (y : Kept). Runs p (seen y) w e n u k) h a in
-    record { so_far = r.so_far; steps = r.steps; same = r.same; frame = r.frame; number = r.number }
-
-pub runs_fewer : (p : Program) (s : State) (w : World) (e : Entries) (n : ℕ) (u : Entries) (k : ℕ) → Runs p s w e n u k → k ≤ n
-runs_fewer p s w e n u k r = never_more p (record s { entries = e }) w n r.steps
-
-module _ (p : Program) (s : State) (quiet : s.raised ≡ None) (w : World) (e : Entries) (n : ℕ) (frame : e.top.kind ≡ InMethod) (f : Entries) (k : ℕ) where
-  -- one more
-  runs_on : Runs p s w e n f k → (i : Instr) (q : ℕ) (u : Entries) (k1 : ℕ) → form_at p f.top.number f.top.pc ≡ Some i → next_place p f.top.number f.top.pc ≡ q → GoesOn i f u → k ≡ suc k1 → Runs p s w e n (with_place u q) k1
-  runs_on r i q u k1 found place h d =
-      let t = record s { entries = f } in
-      let by = step_runs p (record s { entries = f }) (r.frame ∙ frame) quiet in
-      let g = goes i q f u h in
-      record {
-        so_far = λ ts. touched (step p (record s { entries = f })) w (r.so_far ts);
-        steps = on (record s { entries = f }) w k r.so_far (record s { entries = with_place u q }) w k1 r.steps
-            (ap (λ (a : Access Turn). counted a w k) by ∙ step_counts p (record s { entries = f }) w quiet i q (with_place u q) found place g k k1 d);
-        same = λ ts. ap (λ (a : Access Turn). touched a w (r.so_far ts)) by ∙ step_touches p (record s { entries = f }) w quiet i q (with_place u q) found place g (r.so_far ts) ∙ r.same ts;
-        frame = h.frame.kind ∙ r.frame;
-        number = h.frame.number ∙ r.number;
-      }
-
--- the same at the instruction of a number in a code
-module _ (p : Program) (s : State) (quiet : s.raised ≡ None) (w : World) (e : Entries) (n : ℕ) (frame : e.top.kind ≡ InMethod) (b : Body) (body : IsBody b) (own : (method_at p e.top.number).body ≡ Some b)
-    (f : Entries) (at k : ℕ) (x : Placed) (there : Some x ≡ slice_get b.code at) (r : Runs p s w e n (with_place f (place_after (drop at b.code) b.length)) k) where
-  run_here : Runs p s w e n (with_place f x.pc) k
-  run_here = subst (λ (q : ℕ). Runs p s w e n (with_place f q) k) (sym (here_some b.code at b.length x there)) r
-
-  found_here : form_at p f.top.number x.pc ≡ Some x.form
-  found_here = subst (λ (m : ℕ). form_at p m x.pc ≡ Some x.form) (sym r.number) (form_here p e.top.number at b x body own there)
-
-  pub straight_can : StepsOn p (record s { entries = e }) w n → CanGlide x.form (with_place f x.pc)
-  straight_can can = can_glide p (record s { entries = with_place f x.pc }) w (can (record s { entries = with_place f x.pc }) w k run_here.so_far run_here.steps) (r.frame ∙ frame) quiet x.form found_here
-
-  pub straight_on : (u : Entries) (k1 : ℕ) → GoesOn x.form (with_place f x.pc) u → k ≡ suc k1 → Runs p s w e n (with_place u (place_after (drop (at + 1) b.code) b.length)) k1
-  straight_on u k1 h d = runs_on p s quiet w e n frame (with_place f x.pc) k run_here x.form (place_after (drop (at + 1) b.code) b.length) u k1 found_here
-      (subst (λ (m : ℕ). next_place p m x.pc ≡ place_after (drop (at + 1) b.code) b.length) (sym r.number) (next_here p e.top.number at b x body own there)) h d
+-- the same behind the last instruction of a code
+pub last_same : (code : List Placed) (i end : ℕ) (s u : Entries) → u ≡ with_place s end → s.top.pc ≡ place_after (drop (suc i) code) end → length code ≤ suc i → u ≡ s
+last_same code i end s u e f h = placed_again s u end e (f ∙ place_past code (suc i) end h)
 
 -- a step that ends with its row
 after_row_ends : (p : Program) (s : State) (x : Next) → EndsWithRow p x → after x p s ≡ done (next (with_entries s s.entries))
@@ -115,9 +63,6 @@ after_row_ends p s (Fault c) h = absurd h
 after_row_ends p s (Raise v) h = absurd h
 after_row_ends p s Leave h = absurd h
 after_row_ends p s Spent h = absurd h
-
-pub stays_ends : (p : Program) (x : Next) → x ≡ Go → EndsWithRow p x
-stays_ends p x e = subst (λ (y : Next). EndsWithRow p y) (sym e) tt
 
 not_spent : (p : Program) (x : Next) → EndsWithRow p x → x ≢ Spent
 not_spent p Go h = λ e. cc
@@ -148,14 +93,6 @@ module _ {M : Type 0} (world : M → World) (follows : M → Story → List Touc
       (told : (h : Story) (ts : List Touch) → follows m0 h ts → follows m1 h (f ts)) (k : e.top.kind ≡ InMethod) where
     abbrev pub at : State
     at = record (seen s) { entries = e }
-
-    -- and such steps of the state that they come to
-    module _ (u : Entries) (k1 : ℕ) (r : Runs p (seen s) (world m1) e n u k1) where
-      pub run_steps : Steps p (seen s) (world m0) n0 (record (seen s) { entries = u }) (world m1) k1 (λ ts. r.so_far (f ts))
-      run_steps = steps_then p (seen s) (world m0) n0 g r.steps
-
-      pub run_told : (h : Story) (ts : List Touch) → follows m0 h ts → follows m1 h (r.so_far (f ts))
-      run_told h ts l = subst (λ (us : List Touch). follows m1 h us) (sym (r.same (f ts))) (told h ts l)
 
     -- no unit is left
     pub rolled_over : n ≡ 0 → (t : Entries) (n' : ℕ) → Rolls p world follows m0 m1 s n0 Spent t n'

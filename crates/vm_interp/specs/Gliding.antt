@@ -1,5 +1,5 @@
 -- Steps of a test, one after the other.
-use Rattle.std.specs.Prelude.{◌≡◌, ◌≢◌, ◌<◌, ℕ, List, length, Bool, true, false, Some, None}
+use Rattle.std.specs.Prelude.{◌≡◌, ◌≢◌, ◌<◌, ℕ, List, length, drop, Bool, true, false, Some, None}
 use Rattle.jvm_model.specs.declared.values.Touch.{Touch}
 use Rattle.jvm_model.specs.declared.instr.Instr.{Instr}
 use Rattle.jvm_model.specs.declared.outcome.Next.{Next}
@@ -9,7 +9,7 @@ use Rattle.jvm_model.specs.declared.program.Program.{Program}
 use Rattle.jvm_model.specs.declared.state.EntryKind.TheVariants.{InMethod}
 use Rattle.jvm_model.specs.World.{World}
 use Rattle.jvm_model.specs.Access.{done}
-use Rattle.jvm_model.specs.Classes.{found_of, method_at, next_place}
+use Rattle.jvm_model.specs.Classes.{found_of, method_at, next_place, place_after}
 use Rattle.jvm_model.specs.Entries.{Entries}
 use Rattle.jvm_model.specs.Rows.{answer}
 use Rattle.jvm_model.specs.State.{State, next}
@@ -25,6 +25,8 @@ use Rattle.vm_interp.specs.Seen.{seen}
 use Rattle.vm_interp.specs.Turns.{turned}
 use Rattle.vm_interp.specs.declared.state.State.{State as Kept}
 use Rattle.vm_interp.specs.declared.turned.Turned.{Turned}
+use Rattle.vm_interp.specs.declared.went.Went.{Went}
+use Rattle.vm_interp.specs.declared.went.Went.TheVariants.{On, Aside, By}
 use Rattle.vm_interp.specs.declared.turned.Turned.TheVariants.{Over}
 
 -- so many steps, after each of which the test goes on; the function adds their touches to those before
@@ -32,14 +34,6 @@ pub data Steps (p : Program) (s : State) (w : World) (n : ℕ) : State → World
   here : Steps p s w n s w n (λ ts. ts)
   on : (t : State) (v : World) (m : ℕ) (f : List Touch → List Touch) (u : State) (w' : World) (k : ℕ) →
       Steps p s w n t v m f → counted (step p t) v m ≡ ended (next u) w' k → Steps p s w n u w' k (λ ts. touched (step p t) v (f ts))
-
--- such steps of one state, which touch nothing and stay in the same method: from these entries to those
-pub record Runs (p : Program) (s : State) (w : World) (e : Entries) (n : ℕ) (u : Entries) (k : ℕ) : Type 0 where
-  pub so_far : List Touch → List Touch
-  pub steps : Steps p (record s { entries = e }) w n (record s { entries = u }) w k so_far
-  pub same : (ts : List Touch) → so_far ts ≡ ts
-  pub frame : u.top.kind ≡ e.top.kind
-  pub number : u.top.number ≡ e.top.number
 
 -- each state that such steps come to can step
 abbrev pub StepsOn : Program → State → World → ℕ → Type 0
@@ -67,11 +61,6 @@ pub record Rolls {M : Type 0} (p : Program) (world : M → World) (follows : M �
   pub frame : last.top.kind ≡ InMethod
   pub meets : Meets row_here p there last units x t (world new) left'
   pub told : x ≢ Spent → (h : Story) (ts : List Touch) → follows old h ts → follows new h (touched (row_here p last) there (so_far ts))
-
--- the next step is that of an instruction
-pub record IsRunning (s : Kept) : Type 0 where
-  pub frame : s.frames.top.kind ≡ InMethod
-  pub quiet : s.raised ≡ None
 
 -- the step of a row that answered this ends with it, and the test goes on
 abbrev pub EndsWithRow : Program → Next → Type 0
@@ -101,8 +90,37 @@ pub record IsNumber (b : Body) (pc i : ℕ) : Type 0 where
   pub found : found_of (Some b) pc ≡ instruction_of (Some b) (Some i)
   pub within : i < length b.code
 
+-- the instruction of this number stands at a place of a code
+pub record IsPlaced (b : Body) (i pc : ℕ) : Type 0 where
+  pub within : i < length b.code
+  pub place : pc ≡ place_after (drop i b.code) b.length
+
+-- the top frame is of this method, whose code this is, and at the instruction of this number
+pub record Stands (p : Program) (m : ℕ) (b : Body) (i : ℕ) (s : Entries) : Type 0 where
+  pub frame : s.top.kind ≡ InMethod
+  pub number : s.top.number ≡ m
+  pub own : (method_at p m).body ≡ Some b
+  pub placed : IsPlaced b i s.top.pc
+
+-- the top frame is of this method
+pub record IsIn (m : ℕ) (s : Entries) : Type 0 where
+  pub frame : s.top.kind ≡ InMethod
+  pub number : s.top.number ≡ m
+
+-- how a row left the frame of a method, where this is the place of the next instruction
+abbrev pub IsLeft : Went → ℕ → ℕ → Entries → Type 0
+IsLeft On m n s = IsIn m s × (s.top.pc ≡ n)
+IsLeft Aside m n s = IsIn m s
+IsLeft (By x) m n s = Unit {0}
+
 -- the row of a form goes on, where this is the place of the next instruction
 pub record Goes (i : Instr) (next : ℕ) (s u : Entries) : Type 0 where
   pub frame : u.top.kind ≡ s.top.kind
   pub number : u.top.number ≡ s.top.number
   pub row : (p : Program) → next_place p s.top.number s.top.pc ≡ next → row p i s ≡ done (answer Go u)
+
+-- what the row answered
+abbrev pub next_of : Went → Next
+next_of On = Go
+next_of Aside = Go
+next_of (By x) = x

@@ -20,6 +20,7 @@ use vm_tables::Tables;
 
 /// Ends a step whose row answered this: the test goes on over the row's entries, a new throwable of a class or a given one
 /// is raised, or a method is entered, which a built-in one runs at once. It counts what the row left.
+#[inline(never)]
 pub fn conclude<M: Memory>(
     alloc: Global,
     state: &mut State,

@@ -1,11 +1,15 @@
 //! Steps of a test, one after the other.
 
-ghost use Rattle.std.specs.Prelude.{◌≡◌, ◌<◌, true, Some, IsSome, IfOk, OnOk, drop, length, suc, IfSome};
+ghost use Rattle.std.specs.Prelude.{◌≡◌, ◌<◌, ℕ, true, None, Some, IfOk, OnOk, drop, length, suc, IfSome};
 ghost use Rattle.jvm_model.specs.declared.state.EntryKind.TheVariants.{InMethod};
 ghost use Rattle.jvm_model.specs.Classes as classes;
-ghost use Rattle.jvm_model.specs.Classes.{form_at, method_at};
-ghost use Rattle.jvm_model.specs.Linked.{IsBody, Linked};
-ghost use Rattle.vm_interp.specs.Gliding.{Advances, EndsWithRow, IsNumber, IsRunning, Rolls, StaysIn, StepsOn};
+ghost use Rattle.jvm_model.specs.Classes.{method_at};
+ghost use Rattle.jvm_model.specs.Linked.{Linked};
+ghost use Rattle.jvm_model.specs.Step as steps;
+ghost use Rattle.vm_mem.specs.Meets.{Meets, Tells};
+ghost use Rattle.vm_interp.specs.Gliding.{Advances, EndsWithRow, IsLeft, IsPlaced, Rolls, Stands, StaysIn, StepsOn, next_of};
+ghost use Rattle.vm_interp.specs.Reaching.{CanStep};
+ghost use Rattle.vm_interp.specs.declared.went.Went.TheVariants.{On};
 ghost use Rattle.vm_interp.specs.Seen.{seen};
 ghost use Rattle.vm_interp.specs.Turns.{as_turned};
 
@@ -13,8 +17,8 @@ use crate::concluding::{conclude, native_of};
 use crate::quick::quick_row;
 use crate::state::State;
 use crate::stepping::step_safe;
-use crate::straight::run_straight;
 use crate::turned::Turned;
+use crate::went::Went;
 use et_base::NoMemory;
 use jvm_model::{Body, EntryKind, Next, Placed, Program, Verdict};
 use std::alloc::Global;
@@ -73,29 +77,36 @@ fn glide<M: Memory>(
     ensures of { OnOk result (M.program memory.new ≡ M.program memory.old) }
     ensures kept { selections.new ≡ selections.old }
 {
-    match running_body(state, p) {
+    match running_at(state, p, tables) {
         None => {
             let turned = step_safe(alloc, state, memory, p, tables, selections, left)?;
             Ok(turned)
         }
-        Some(body) => {
-            let number = state.frames.number();
-            glide_in(
-                alloc, state, memory, p, tables, selections, number, body, left,
-            )
-        }
+        Some(stand) => glide_in(
+            alloc,
+            state,
+            memory,
+            p,
+            tables,
+            selections,
+            stand.number,
+            stand.body,
+            stand.at,
+            left,
+        ),
     }
 }
 
-/// The code of the method at the top, where the next step is that of an instruction of it.
-fn running_body<'p>(state: &State, p: &'p Program) -> Option<&'p Body>
-    ensures { IfSome result (λ b. IsRunning state.now
-        × ((method_at p.now state.now.frames.top.number).body ≡ Some b.now)) }
+/// The instruction at the top, where the next step is that of an instruction.
+fn running_at<'p>(state: &State, p: &'p Program, tables: &Tables) -> Option<Stand<'p>>
+    ensures { IfSome result (λ x. (state.now.raised ≡ None)
+        × Stands p.now x.number x.body.now x.at state.now.frames) }
 {
     if state.raised.is_some() {
         return None;
     }
-    body_at_top(&state.frames, p)
+    let body = body_at_top(&state.frames, p)?;
+    stand_in(&state.frames, p, tables, body)
 }
 
 /// The code of the method at the top, where a method with code is.
@@ -158,15 +169,15 @@ fn glide_in<M: Memory>(
     selections: &mut Selections,
     number: u32,
     body: &Body,
+    at: usize,
     left: &mut u64,
 ) -> Result<Turned, NoMemory>
     requires program { p.now ≡ M.program memory.old }
     requires tables { tables.now ≡ M.program memory.old }
     requires selections { selections.old ≡ M.program memory.old }
     requires linked { Linked p.now }
-    requires own { (method_at p.now number).body ≡ Some body.now }
-    requires number { state.old.frames.top.number ≡ number }
-    requires running { IsRunning state.old }
+    requires stands { Stands p.now number body.now at state.old.frames }
+    requires quiet { state.old.raised ≡ None }
     requires can { StepsOn p.now (seen state.old) (M.world memory.old) left.old }
     ensures made { IfOk result (λ x. Advances p.now M.world M.follows memory.old memory.new
         state.old left.old x state.new left.new) }
@@ -174,7 +185,7 @@ fn glide_in<M: Memory>(
     ensures kept { selections.new ≡ selections.old }
 {
     let next = roll(
-        alloc, state, memory, p, tables, selections, number, body, left,
+        alloc, state, memory, p, tables, selections, number, body, at, left,
     )?;
     if let Next::Over = next {
         return Ok(Turned::Over);
@@ -185,7 +196,6 @@ fn glide_in<M: Memory>(
 
 /// Makes the rows of such steps, up to one with which its step doesn't end or that leaves no instruction at the top. The
 /// entries stand in a local meanwhile, and what is called apart works on a copy of them: so they can be kept in registers.
-/// The number of the next instruction is guessed to be one more.
 fn roll<M: Memory>(
     alloc: Global,
     state: &mut State,
@@ -195,15 +205,15 @@ fn roll<M: Memory>(
     selections: &mut Selections,
     number: u32,
     body: &Body,
+    at: usize,
     left: &mut u64,
 ) -> Result<Next, NoMemory>
     requires program { p.now ≡ M.program memory.old }
     requires tables { tables.now ≡ M.program memory.old }
     requires selections { selections.old ≡ M.program memory.old }
     requires linked { Linked p.now }
-    requires own { (method_at p.now number).body ≡ Some body.now }
-    requires number { state.old.frames.top.number ≡ number }
-    requires running { IsRunning state.old }
+    requires stands { Stands p.now number body.now at state.old.frames }
+    requires quiet { state.old.raised ≡ None }
     requires can { StepsOn p.now (seen state.old) (M.world memory.old) left.old }
     ensures made { IfOk result (λ x. Rolls p.now M.world M.follows memory.old memory.new
         state.old left.old x state.new.frames left.new) }
@@ -215,74 +225,216 @@ fn roll<M: Memory>(
     let mut units = *left;
     let mut number = number;
     let mut body = body;
-    let mut guess = 0;
+    let mut at = at;
     while units > 0 {
-        let place = frames.pc();
-        let first = number_at(tables, body, number, guess, place);
-        guess = run_straight(&mut frames, body, first, &mut units, state, memory, p);
-        if units == 0 {
-            continue;
-        }
-        let code = body.code.as_slice();
-        let pc = frames.pc();
-        let at = number_at(tables, body, number, guess, pc);
-        let next = place_after(code, at, body.length);
-        let went = quick_row(
+        let went = row_at(
             alloc,
             &mut frames,
             memory,
             p,
             tables,
             selections,
-            &code[at].form,
-            next,
+            number,
+            body,
+            at,
             &mut units,
+            state,
         )?;
-        if stays_in(&went, &frames, number) {
-            guess = at + 1;
-            continue;
-        }
-        let Some(other) = body_after(&went, &frames, p) else {
+        let Some(stand) = stand_after(went, &frames, p, tables, number, body, at) else {
             state.frames = frames;
             *left = units;
-            return Ok(went);
+            return Ok(went.next());
         };
-        number = frames.number();
-        body = other;
-        guess = 0;
+        number = stand.number;
+        body = stand.body;
+        at = stand.at;
     }
+    frames.set_pc(0);
     state.frames = frames;
     *left = units;
     Ok(Next::Over)
 }
 
-/// The number of the instruction at a place of a method's code: the one that is guessed, if it stands there.
-#[tactic(auto, using(crate::proofs::Numbered::number_of_guess, crate::proofs::Numbered::number_of_table))]
-fn number_at(tables: &Tables, body: &Body, method: u32, guess: usize, pc: u32) -> usize
-    requires body { IsBody body.now }
-    requires own { (method_at tables.now method).body ≡ Some body.now }
-    requires there { IsSome (form_at tables.now method pc) }
-    ensures { IsNumber body.now pc result }
+/// Makes the row of the instruction of a number in the code of the method at the top.
+#[inline(always)]
+fn row_at<M: Memory>(
+    alloc: Global,
+    stack: &mut FrameStack,
+    memory: &mut M,
+    p: &Program,
+    tables: &Tables,
+    selections: &mut Selections,
+    number: u32,
+    body: &Body,
+    at: usize,
+    left: &mut u64,
+    _state: &State,
+) -> Result<Went, NoMemory>
+    requires program { p.now ≡ M.program memory.old }
+    requires tables { tables.now ≡ M.program memory.old }
+    requires selections { selections.old ≡ M.program memory.old }
+    requires linked { Linked p.now }
+    requires stands { Stands p.now number body.now at stack.old }
+    requires quiet { _state.now.raised ≡ None }
+    requires can { CanStep p.now (M.world memory.old)
+        (record (seen _state.now) { entries = stack.old }) }
+    requires units { 0 < left.old }
+    ensures meets { IfOk result (λ x. Meets steps.row_here
+        (M.program memory.old) (M.world memory.old) stack.old left.old
+        (next_of x) stack.new (M.world memory.new) left.new) }
+    ensures told { IfOk result (λ x. Tells steps.row_here
+        (M.program memory.old) (M.world memory.old) stack.old
+        (next_of x) M.follows memory.old memory.new) }
+    ensures left { IfOk result (λ x. IsLeft x number
+        (classes.place_after (drop (suc at) body.now.code) body.now.length) stack.new) }
+    ensures more { IfOk result (λ x. x ≡ On → suc at < length body.now.code) }
+    ensures of { OnOk result (M.program memory.new ≡ M.program memory.old) }
+    ensures kept { selections.new ≡ selections.old }
 {
-    if let Some(placed) = body.code.get(guess) {
-        if placed.pc == pc {
-            return guess;
+    let code = body.code.as_slice();
+    let placed = &code[at];
+    stack.set_pc(placed.pc);
+    let end = &body.length;
+    let went = quick_row(
+        alloc,
+        stack,
+        memory,
+        p,
+        tables,
+        selections,
+        &placed.form,
+        code,
+        at,
+        end,
+        left,
+    )?;
+    Ok(unless_last(went, stack, code, at, end))
+}
+
+/// How a row left the frame, where none is the next instruction behind the last one of a code. There the place is written
+/// once more, and so it needn't be read of any other instruction.
+#[inline(always)]
+#[tactic(auto, using(crate::proofs::Onward::last_same))]
+fn unless_last(went: Went, stack: &mut FrameStack, code: &[Placed], at: usize, end: &u32) -> Went
+    requires within { at < length code.now }
+    requires left { went ≡ On
+        → stack.old.top.pc ≡ classes.place_after (drop (suc at) code.now) end.now }
+    ensures same { stack.new ≡ stack.old }
+    ensures answered { next_of result ≡ next_of went }
+    ensures kept { (m : ℕ) (n : ℕ) → IsLeft went m n stack.old → IsLeft result m n stack.old }
+    ensures more { result ≡ On → suc at < length code.now }
+{
+    match went {
+        Went::On => {
+            if at + 1 < code.len() {
+                return Went::On;
+            }
+            stack.set_pc(*end);
+            Went::By(Next::Go)
         }
-    }
-    match tables.number(method, pc) {
-        None => unreachable!(),
-        Some(number) => number as usize,
+        Went::Aside => Went::Aside,
+        Went::By(next) => Went::By(next),
     }
 }
 
-/// The place of the instruction after that of a number, or the end of the code behind the last one.
-#[tactic(auto, using(crate::proofs::Numbered::after_some, crate::proofs::Numbered::after_none))]
-fn place_after(code: &[Placed], at: usize, end: u32) -> u32
-    requires { at < length code.now }
-    ensures { result ≡ classes.place_after (drop (suc at) code.now) end }
+/// The instruction at which a row left the top, where its step ends with it.
+#[inline(always)]
+fn stand_after<'p>(
+    went: Went,
+    stack: &FrameStack,
+    p: &'p Program,
+    tables: &Tables,
+    number: u32,
+    body: &'p Body,
+    at: usize,
+) -> Option<Stand<'p>>
+    requires own { (method_at p.now number).body ≡ Some body.now }
+    requires within { at < length body.now.code }
+    requires more { went ≡ On → suc at < length body.now.code }
+    requires left { IsLeft went number
+        (classes.place_after (drop (suc at) body.now.code) body.now.length) stack.now }
+    ensures { IfSome result (λ x. EndsWithRow p.now (next_of went)
+        × Stands p.now x.number x.body.now x.at stack.now) }
 {
-    match code.get(at + 1) {
-        None => end,
-        Some(placed) => placed.pc,
+    match went {
+        Went::On => Some(Stand {
+            number,
+            body,
+            at: one_more(body.code.as_slice(), at),
+        }),
+        Went::Aside => {
+            let at = number_there(tables, body, number, stack.pc())?;
+            Some(Stand { number, body, at })
+        }
+        Went::By(next) => {
+            if stays_in(&next, stack, number) {
+                let at = number_there(tables, body, number, stack.pc())?;
+                return Some(Stand { number, body, at });
+            }
+            let body = body_after(&next, stack, p)?;
+            stand_in(stack, p, tables, body)
+        }
+    }
+}
+
+/// The number after that of an instruction of a code.
+#[inline(always)]
+fn one_more(_code: &[Placed], at: usize) -> usize
+    requires { at < length _code.now }
+    ensures { result ≡ suc at }
+{
+    at + 1
+}
+
+/// The instruction at the top in the code of its method.
+fn stand_in<'p>(
+    stack: &FrameStack,
+    _p: &Program,
+    tables: &Tables,
+    body: &'p Body,
+) -> Option<Stand<'p>>
+    requires frame { stack.now.top.kind ≡ InMethod }
+    requires own { (method_at _p.now stack.now.top.number).body ≡ Some body.now }
+    ensures { IfSome result (λ x. Stands _p.now x.number x.body.now x.at stack.now) }
+{
+    let number = stack.number();
+    let at = number_there(tables, body, number, stack.pc())?;
+    Some(Stand { number, body, at })
+}
+
+/// An instruction by its number in the code of a method.
+#[derive(Clone, Copy)]
+struct Stand<'p> {
+    number: u32,
+    body: &'p Body,
+    at: usize,
+}
+
+/// The number of the instruction at a place of a method's code, if the table has it.
+fn number_there(tables: &Tables, body: &Body, method: u32, pc: u32) -> Option<usize>
+    ensures { IfSome result (λ i. IsPlaced body.now i pc) }
+{
+    let code = body.code.as_slice();
+    if stands_at(code, 0, pc) {
+        return Some(0);
+    }
+    let number = tables.number(method, pc)? as usize;
+    if stands_at(code, number, pc) {
+        Some(number)
+    } else {
+        None
+    }
+}
+
+/// Whether the instruction of a number stands at a place.
+#[inline(always)]
+#[tactic(auto, using(crate::proofs::Numbered::here_some, crate::proofs::Numbered::within))]
+fn stands_at(code: &[Placed], at: usize, pc: u32) -> bool
+    ensures within { result ≡ true → at < length code.now }
+    ensures place { result ≡ true → (end : ℕ) → pc ≡ classes.place_after (drop at code.now) end }
+{
+    match code.get(at) {
+        None => false,
+        Some(placed) => placed.pc == pc,
     }
 }

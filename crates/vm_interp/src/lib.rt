@@ -15,6 +15,7 @@ mod state;
 mod stepping;
 mod straight;
 mod turned;
+mod went;
 
 pub use limits::stack_limits;
 pub use running::run;

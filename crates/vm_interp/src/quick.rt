@@ -1,7 +1,8 @@
 //! The rows of instructions in one flat match: of branches, fields and arrays, and apart of the others.
 
-ghost use Rattle.std.specs.Prelude.{◌≡◌, ◌<◌, ◌-◌, IfOk, OnOk, Some, cond, true, false};
+ghost use Rattle.std.specs.Prelude.{◌≡◌, ◌<◌, ◌-◌, IfOk, OnOk, Some, cond, drop, length, suc, true, false};
 ghost use Rattle.jvm_model.specs.declared.instr.Instr.TheVariants as form;
+ghost use Rattle.jvm_model.specs.Classes as classes;
 ghost use Rattle.jvm_model.specs.Classes.{field_at, form_at, is_trivial};
 ghost use Rattle.jvm_model.specs.Entries.{with_place};
 ghost use Rattle.jvm_model.specs.Step as steps;
@@ -9,25 +10,29 @@ ghost use Rattle.vm_frames.specs.Stack.{HasRoom};
 ghost use Rattle.vm_mem.specs.Meets.{IsReady, IsNext, Meets, Tells};
 ghost use Rattle.vm_calls.specs.Calls.{HasRoomBelow, call_row, return_row};
 ghost use Rattle.vm_objects.specs.Forms.{array_row, static_row};
-ghost use Rattle.vm_interp.specs.Gliding.{CanGlide};
+ghost use Rattle.jvm_model.specs.declared.state.EntryKind.TheVariants.{InMethod};
+ghost use Rattle.vm_interp.specs.declared.went.Went.TheVariants.{Aside, On};
+ghost use Rattle.vm_interp.specs.Gliding.{CanGlide, IsLeft, next_of};
 ghost use Rattle.check_sound.specs.ReachLaw.{puts};
 ghost use Rattle.vm_interp.specs.Reaching.{HasPlaceBelow, HasSpace};
 ghost use Rattle.vm_interp.specs.Rows.{form_row};
 
-use crate::rows::row_of;
+use crate::rows::{return_nothing, row_of};
+use crate::straight::straight_form;
+use crate::went::Went;
 use et_base::NoMemory;
-use jvm_model::{Cell, Instr, Next, Program, Sort};
+use jvm_model::{Cell, EntryKind, Instr, Kind, Next, Placed, Program, Sort};
 use std::alloc::Global;
 use std::mem;
 use vm_arith::{if_ints, if_null, if_refs, if_zero};
-use vm_calls::{Selections, give_back, invoke_static};
+use vm_calls::{Selections, give_back, invoke_special, invoke_static, invoke_virtual};
 use vm_frames::FrameStack;
 use vm_mem::Memory;
 use vm_objects::{array_length, array_load, array_store_number, get_field, put_field};
 use vm_tables::Tables;
 
-/// Makes the row of an instruction that was found, with the byte place of the next one. Those that run often are
-/// made here, and the others apart.
+/// Makes the row of an instruction that was found, by its number in the code of its method. Those that run often are made
+/// here, and the others apart. The place of the next one is read only where it's asked for.
 #[inline(always)]
 #[tactic(auto, unfolding(jvm_model::specs::Step::row_here))]
 pub fn quick_row<M: Memory>(
@@ -38,36 +43,43 @@ pub fn quick_row<M: Memory>(
     tables: &Tables,
     selections: &mut Selections,
     form: &Instr,
-    next: u32,
+    code: &[Placed],
+    at: usize,
+    end: &u32,
     left: &mut u64,
-) -> Result<Next, NoMemory>
+) -> Result<Went, NoMemory>
     requires program { p.now ≡ M.program memory.old }
     requires tables { tables.now ≡ M.program memory.old }
     requires selections { selections.old ≡ M.program memory.old }
     requires found { form_at (M.program memory.old) stack.old.top.number stack.old.top.pc
         ≡ Some form.now }
-    requires place { IsNext (M.program memory.old) stack.old next }
+    requires within { at < length code.now }
+    requires place { IsNext (M.program memory.old) stack.old
+        (classes.place_after (drop (suc at) code.now) end.now) }
     requires space { HasSpace (M.program memory.old) stack.old }
     requires row { IsReady steps.row_here (M.program memory.old) (M.world memory.old) stack.old }
     requires can { CanGlide form.now stack.old }
+    requires frame { stack.old.top.kind ≡ InMethod }
     requires units { 0 < left.old }
     ensures meets { IfOk result (λ x. Meets steps.row_here
         (M.program memory.old) (M.world memory.old) stack.old left.old
-        x stack.new (M.world memory.new) left.new) }
+        (next_of x) stack.new (M.world memory.new) left.new) }
     ensures told { IfOk result (λ x. Tells steps.row_here
         (M.program memory.old) (M.world memory.old) stack.old
-        x M.follows memory.old memory.new) }
+        (next_of x) M.follows memory.old memory.new) }
+    ensures left { IfOk result (λ x. IsLeft x stack.old.top.number
+        (classes.place_after (drop (suc at) code.now) end.now) stack.new) }
     ensures of { OnOk result (M.program memory.new ≡ M.program memory.old) }
     ensures kept { selections.new ≡ selections.old }
 {
     quick_form(
-        alloc, stack, memory, p, tables, selections, form, next, left,
+        alloc, stack, memory, p, tables, selections, form, code, at, end, left,
     )
 }
 
 /// The same by its form alone.
 #[inline(always)]
-#[tactic(auto, using(crate::proofs::Found::branch_meets, crate::proofs::Found::branch_tells), unfolding(jvm_model::specs::Step::row, jvm_model::specs::RowsBranches::row_branches, jvm_model::specs::RowsFields::row_fields, jvm_model::specs::RowsArrays::row_arrays))]
+#[tactic(auto, using(crate::proofs::Found::branch_meets, crate::proofs::Found::branch_tells, crate::proofs::Found::straight_meets, crate::proofs::Found::straight_tells), unfolding(jvm_model::specs::Step::row, jvm_model::specs::RowsBranches::row_branches, jvm_model::specs::RowsFields::row_fields, jvm_model::specs::RowsArrays::row_arrays))]
 fn quick_form<M: Memory>(
     alloc: Global,
     stack: &mut FrameStack,
@@ -76,75 +88,183 @@ fn quick_form<M: Memory>(
     tables: &Tables,
     selections: &mut Selections,
     form: &Instr,
-    next: u32,
+    code: &[Placed],
+    at: usize,
+    end: &u32,
     left: &mut u64,
-) -> Result<Next, NoMemory>
+) -> Result<Went, NoMemory>
     requires program { p.now ≡ M.program memory.old }
     requires tables { tables.now ≡ M.program memory.old }
     requires selections { selections.old ≡ M.program memory.old }
-    requires place { IsNext (M.program memory.old) stack.old next }
+    requires within { at < length code.now }
+    requires place { IsNext (M.program memory.old) stack.old
+        (classes.place_after (drop (suc at) code.now) end.now) }
     requires room { HasRoom (puts form.now) stack.old }
     requires below { HasPlaceBelow form.now stack.old }
     requires row { IsReady (form_row form.now)
         (M.program memory.old) (M.world memory.old) stack.old }
     requires can { CanGlide form.now stack.old }
+    requires frame { stack.old.top.kind ≡ InMethod }
     requires units { 0 < left.old }
     ensures meets { IfOk result (λ x. Meets (form_row form.now)
         (M.program memory.old) (M.world memory.old) stack.old left.old
-        x stack.new (M.world memory.new) left.new) }
+        (next_of x) stack.new (M.world memory.new) left.new) }
     ensures told { IfOk result (λ x. Tells (form_row form.now)
         (M.program memory.old) (M.world memory.old) stack.old
-        x M.follows memory.old memory.new) }
+        (next_of x) M.follows memory.old memory.new) }
+    ensures left { IfOk result (λ x. IsLeft x stack.old.top.number
+        (classes.place_after (drop (suc at) code.now) end.now) stack.new) }
     ensures of { OnOk result (M.program memory.new ≡ M.program memory.old) }
     ensures kept { selections.new ≡ selections.old }
 {
+    if straight_form(stack, form) {
+        let next = place_after(code, at, end);
+        step_to(stack, next, left);
+        return Ok(Went::On);
+    }
     match form {
         Instr::IfZero { test, to } => {
             let taken = if_zero(stack, *test);
+            let next = place_after(code, at, end);
             step_to(stack, target(taken, *to, next), left);
-            Ok(Next::Go)
+            Ok(aside_if(taken))
         }
         Instr::IfInts { test, to } => {
             let taken = if_ints(stack, *test);
+            let next = place_after(code, at, end);
             step_to(stack, target(taken, *to, next), left);
-            Ok(Next::Go)
+            Ok(aside_if(taken))
         }
         Instr::IfRefs { same, to } => {
             let taken = if_refs(stack, *same);
+            let next = place_after(code, at, end);
             step_to(stack, target(taken, *to, next), left);
-            Ok(Next::Go)
+            Ok(aside_if(taken))
         }
         Instr::IfNull { null, to } => {
             let taken = if_null(stack, *null);
+            let next = place_after(code, at, end);
             step_to(stack, target(taken, *to, next), left);
-            Ok(Next::Go)
+            Ok(aside_if(taken))
         }
         Instr::Goto { to } => {
             step_to(stack, *to, left);
-            Ok(Next::Go)
+            Ok(Went::Aside)
         }
-        Instr::GetField { field, .. } => get_field(stack, memory, *field, next, left),
-        Instr::PutField { field, .. } => put_field(stack, memory, p, *field, next, left),
-        Instr::ArrayLength => array_length(stack, memory, next, left),
-        Instr::ArrayLoad { .. } => array_load(stack, memory, next, left),
-        Instr::ArrayStore { of: Cell::Int } => { array_store_number(stack, memory, next, left) }
-        Instr::ArrayStore { of: Cell::Byte } => { array_store_number(stack, memory, next, left) }
-        Instr::ArrayStore { of: Cell::Char } => { array_store_number(stack, memory, next, left) }
+        Instr::GetField { field, .. } => {
+            let method = stack.number();
+            let next = place_after(code, at, end);
+            let went = get_field(stack, memory, *field, next, left)?;
+            Ok(left_at(went, stack, method, next))
+        }
+        Instr::PutField { field, .. } => {
+            let method = stack.number();
+            let next = place_after(code, at, end);
+            let went = put_field(stack, memory, p, *field, next, left)?;
+            Ok(left_at(went, stack, method, next))
+        }
+        Instr::ArrayLength => {
+            let method = stack.number();
+            let next = place_after(code, at, end);
+            let went = array_length(stack, memory, next, left)?;
+            Ok(left_at(went, stack, method, next))
+        }
+        Instr::ArrayLoad { .. } => {
+            let method = stack.number();
+            let next = place_after(code, at, end);
+            let went = array_load(stack, memory, next, left)?;
+            Ok(left_at(went, stack, method, next))
+        }
+        Instr::ArrayStore { of: Cell::Int } => {
+            let method = stack.number();
+            let next = place_after(code, at, end);
+            let went = array_store_number(stack, memory, next, left)?;
+            Ok(left_at(went, stack, method, next))
+        }
+        Instr::ArrayStore { of: Cell::Byte } => {
+            let method = stack.number();
+            let next = place_after(code, at, end);
+            let went = array_store_number(stack, memory, next, left)?;
+            Ok(left_at(went, stack, method, next))
+        }
+        Instr::ArrayStore { of: Cell::Char } => {
+            let method = stack.number();
+            let next = place_after(code, at, end);
+            let went = array_store_number(stack, memory, next, left)?;
+            Ok(left_at(went, stack, method, next))
+        }
         Instr::GetStatic { field } if tables.is_trivial(p.field_class(*field)) => {
-            read_trivial(stack, memory, *field, next, left)
+            let method = stack.number();
+            let next = place_after(code, at, end);
+            let went = read_trivial(stack, memory, *field, next, left)?;
+            Ok(left_at(went, stack, method, next))
         }
         Instr::PutStatic { field } if tables.is_trivial(p.field_class(*field)) => {
-            write_trivial(stack, memory, p, *field, next, left)
+            let method = stack.number();
+            let next = place_after(code, at, end);
+            let went = write_trivial(stack, memory, p, *field, next, left)?;
+            Ok(left_at(went, stack, method, next))
         }
         Instr::InvokeStatic { method } => {
-            call_apart(alloc, stack, memory, p, tables, *method, left)
+            let went = call_apart(alloc, stack, memory, p, tables, *method, left)?;
+            Ok(Went::By(went))
         }
-        Instr::Return { of: Some(of) } => { return_apart(alloc, stack, memory, tables, *of, left) }
+        Instr::InvokeSpecial { named, method } => {
+            let went = special_apart(
+                alloc, stack, memory, p, tables, selections, *named, *method, left,
+            )?;
+            Ok(Went::By(went))
+        }
+        Instr::InvokeVirtual { named, method } => {
+            let went = virtual_apart(
+                alloc, stack, memory, p, tables, selections, *named, *method, left,
+            )?;
+            Ok(Went::By(went))
+        }
+        Instr::Return { of: Some(of) } => {
+            let went = return_apart(alloc, stack, memory, tables, *of, left)?;
+            Ok(Went::By(went))
+        }
+        Instr::Return { of: None } => {
+            let went = return_nothing(stack, memory, tables, left)?;
+            Ok(Went::By(went))
+        }
         _ => {
-            row_apart(
+            let next = place_after(code, at, end);
+            let went = row_apart(
                 alloc, stack, memory, p, tables, selections, form, next, left,
-            )
+            )?;
+            Ok(Went::By(went))
         }
+    }
+}
+
+/// How a branch left the entry.
+#[inline(always)]
+fn aside_if(taken: bool) -> Went
+    ensures { result ≡ cond taken Aside On }
+{
+    if taken { Went::Aside } else { Went::On }
+}
+
+/// How a row that answered this left an entry, where the next instruction of this method has this place.
+#[inline(always)]
+fn left_at(went: Next, stack: &FrameStack, method: u32, next: u32) -> Went
+    ensures answered { next_of result ≡ went }
+    ensures left { IsLeft result method next stack.now }
+{
+    match went {
+        Next::Go => match stack.kind() {
+            EntryKind::InMethod => {
+                if stack.number() == method && stack.pc() == next {
+                    Went::On
+                } else {
+                    Went::By(went)
+                }
+            }
+            EntryKind::Absent | EntryKind::InClass { .. } => Went::By(went),
+        },
+        _ => Went::By(went),
     }
 }
 
@@ -215,6 +335,80 @@ fn call_apart<M: Memory>(
     let mut moved = mem::replace(stack, FrameStack::new(alloc));
     let mut units = *left;
     let went = invoke_static(&mut moved, memory, p, tables, method, &mut units)?;
+    *stack = moved;
+    *left = units;
+    Ok(went)
+}
+
+/// Calls a method without regard to the object's class, on such copies.
+#[inline(always)]
+fn special_apart<M: Memory>(
+    alloc: Global,
+    stack: &mut FrameStack,
+    memory: &mut M,
+    p: &Program,
+    tables: &Tables,
+    selections: &mut Selections,
+    named: Kind,
+    method: u32,
+    left: &mut u64,
+) -> Result<Next, NoMemory>
+    requires program { p.now ≡ M.program memory.old }
+    requires tables { tables.now ≡ M.program memory.old }
+    requires selections { selections.old ≡ M.program memory.old }
+    requires row { IsReady (call_row (form.InvokeSpecial named method))
+        (M.program memory.old) (M.world memory.old) stack.old }
+    ensures meets { IfOk result (λ x. Meets (call_row (form.InvokeSpecial named method))
+        (M.program memory.old) (M.world memory.old) stack.old left.old
+        x stack.new (M.world memory.new) left.new) }
+    ensures told { IfOk result (λ x. Tells (call_row (form.InvokeSpecial named method))
+        (M.program memory.old) (M.world memory.old) stack.old
+        x M.follows memory.old memory.new) }
+    ensures of { OnOk result (M.program memory.new ≡ M.program memory.old) }
+    ensures kept { selections.new ≡ selections.old }
+{
+    let mut moved = mem::replace(stack, FrameStack::new(alloc));
+    let mut units = *left;
+    let went = invoke_special(
+        alloc, &mut moved, memory, p, tables, selections, named, method, &mut units,
+    )?;
+    *stack = moved;
+    *left = units;
+    Ok(went)
+}
+
+/// Calls the method that the object's class selects, on such copies.
+#[inline(always)]
+fn virtual_apart<M: Memory>(
+    alloc: Global,
+    stack: &mut FrameStack,
+    memory: &mut M,
+    p: &Program,
+    tables: &Tables,
+    selections: &mut Selections,
+    named: Kind,
+    method: u32,
+    left: &mut u64,
+) -> Result<Next, NoMemory>
+    requires program { p.now ≡ M.program memory.old }
+    requires tables { tables.now ≡ M.program memory.old }
+    requires selections { selections.old ≡ M.program memory.old }
+    requires row { IsReady (call_row (form.InvokeVirtual named method))
+        (M.program memory.old) (M.world memory.old) stack.old }
+    ensures meets { IfOk result (λ x. Meets (call_row (form.InvokeVirtual named method))
+        (M.program memory.old) (M.world memory.old) stack.old left.old
+        x stack.new (M.world memory.new) left.new) }
+    ensures told { IfOk result (λ x. Tells (call_row (form.InvokeVirtual named method))
+        (M.program memory.old) (M.world memory.old) stack.old
+        x M.follows memory.old memory.new) }
+    ensures of { OnOk result (M.program memory.new ≡ M.program memory.old) }
+    ensures kept { selections.new ≡ selections.old }
+{
+    let mut moved = mem::replace(stack, FrameStack::new(alloc));
+    let mut units = *left;
+    let went = invoke_virtual(
+        alloc, &mut moved, memory, p, tables, selections, named, method, &mut units,
+    )?;
     *stack = moved;
     *left = units;
     Ok(went)
@@ -331,4 +525,17 @@ fn target(taken: bool, to: u32, next: u32) -> u32
     ensures { result ≡ cond taken to next }
 {
     if taken { to } else { next }
+}
+
+/// The place of the instruction after that of a number, or the end of the code behind the last one.
+#[inline(always)]
+#[tactic(auto, using(crate::proofs::Numbered::after_some, crate::proofs::Numbered::after_none))]
+fn place_after(code: &[Placed], at: usize, end: &u32) -> u32
+    requires { at < length code.now }
+    ensures { result ≡ classes.place_after (drop (suc at) code.now) end.now }
+{
+    match code.get(at + 1) {
+        None => *end,
+        Some(placed) => placed.pc,
+    }
 }

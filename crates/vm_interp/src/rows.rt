@@ -60,6 +60,7 @@ pub fn row_here<M: Memory>(
 }
 
 /// Makes the row of an instruction, with the byte place of the next one.
+#[cold]
 #[inline(never)]
 #[tactic(auto, unfolding(jvm_model::specs::Step::row))]
 pub fn row_of<M: Memory>(
@@ -153,7 +154,8 @@ fn quiet_row<M: Memory>(
 /// after its call. It answers Leave where no entry is left, counts 1 and touches nothing; Over, with the entries as before,
 /// where no unit is left.
 #[tactic(auto, using(vm_calls::proofs::Returned::return_touches), unfolding(jvm_model::specs::RowsReturn::row_return, jvm_model::specs::RowsReturn::hands_on))]
-fn return_nothing<M: Memory>(
+#[inline(always)]
+pub fn return_nothing<M: Memory>(
     stack: &mut FrameStack,
     _memory: &mut M,
     tables: &Tables,

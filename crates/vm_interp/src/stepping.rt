@@ -186,6 +186,7 @@ pub fn step<M: Memory>(
 }
 
 /// The same of a state that can step.
+#[inline(never)]
 #[tactic(auto, unfolding(jvm_model::specs::Step::step))]
 pub fn step_safe<M: Memory>(
     alloc: Global,
