@@ -24,7 +24,7 @@ use std::sync::ledger::Ledger;
 use suite_load::Loaded;
 
 /// How a command ends that writes the report.
-pub fn report_status(report: &Report) -> Status
+fn report_status(report: &Report) -> Status
     ensures { result ≡ command.report_status report.now.passed }
 {
     if report.passed {
@@ -100,7 +100,7 @@ pub fn written<S: Sink>(sink: &mut S, text: &[u8], status: Status) -> Status
 }
 
 /// Writes the line of a refusal; want of memory has none.
-pub fn refused<S: Sink>(alloc: Global, sink: &mut S, status: Status) -> Status
+fn refused<S: Sink>(alloc: Global, sink: &mut S, status: Status) -> Status
     ensures faults { (S.shown sink.old).faults ≤ (S.shown sink.new).faults }
     ensures writes { Refused status result (S.shown sink.old) (S.shown sink.new) }
 {
@@ -110,6 +110,19 @@ pub fn refused<S: Sink>(alloc: Global, sink: &mut S, status: Status) -> Status
             Ok(text) => written(sink, text.as_slice(), status),
             Err(_) => Status::NoMemory,
         },
+    }
+}
+
+/// Writes a report, or else the line of a refusal.
+pub fn answered<S: Sink>(alloc: Global, sink: &mut S, report: Result<Report, Status>) -> Status
+    ensures faults { (S.shown sink.old).faults ≤ (S.shown sink.new).faults }
+    ensures reports { IfOk report (λ r. let status = command.report_status r.passed in
+        Writes r.text status result (S.shown sink.old) (S.shown sink.new)) }
+    ensures refuses { IfErr report (λ s. Refused s result (S.shown sink.old) (S.shown sink.new)) }
+{
+    match report {
+        Ok(report) => written(sink, report.text.as_slice(), report_status(&report)),
+        Err(status) => refused(alloc, sink, status),
     }
 }
 
@@ -159,8 +172,6 @@ pub fn electric_plain<D: Depot, S: Sink, L: Ledger>(
         Ends (plain words.now) result (D.shown depot.old) depot_now (S.shown sink.old) sink_now }
 {
     let asked = plain_of(command_of(words));
-    match reported(alloc, asked, words, depot, steps) {
-        Ok(report) => written(sink, report.text.as_slice(), report_status(&report)),
-        Err(status) => refused(alloc, sink, status),
-    }
+    let report = reported(alloc, asked, words, depot, steps);
+    answered(alloc, sink, report)
 }

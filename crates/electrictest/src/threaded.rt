@@ -9,7 +9,7 @@ ghost use Rattle.electrictest.specs.Replies as reply;
 ghost use Rattle.electrictest.specs.Threaded.{threaded, threaded_of, IsOverSuite, IsThreaded};
 ghost use Rattle.electrictest.specs.Words.{ask, refusal_of, HasWorkers};
 
-use crate::commands::{refused, report_for, report_status, written};
+use crate::commands::{answered, report_for};
 use crate::generated::summary_for;
 use crate::loading::load_for;
 use crate::pool_runs::run_for;
@@ -170,8 +170,6 @@ pub fn electric<R: Threads + Wait + Sync, D: Depot, S: Sink, G: Gate + Sync, L: 
         Ends (threaded words.now) result (D.shown depot.old) depot_now (S.shown sink.old) sink_now }
 {
     let asked = served_of(command_of(words));
-    match asked_text(rt, alloc, asked, words, depot, gate, steps) {
-        Ok(report) => written(sink, report.text.as_slice(), report_status(&report)),
-        Err(status) => refused(alloc, sink, status),
-    }
+    let report = asked_text(rt, alloc, asked, words, depot, gate, steps);
+    answered(alloc, sink, report)
 }

@@ -1,69 +1,41 @@
 use Rattle.std.proofs.Common.{ap, ◌∙◌}
 use Rattle.electrictest.specs.Commands.{called}
-use Rattle.electrictest.specs.Words.{ask}
 use Rattle.electrictest.specs.Threaded.{threaded, threaded_of}
 use Rattle.electrictest.proofs.OwnAnswers.{own_answer}
 use Rattle.electrictest.proofs.OwnOrderLaws.{own_order_answer}
 use Rattle.electrictest.proofs.DetectedLaws.{detected_answer}
-use Rattle.electrictest.proofs.Replying.{for_told, writes_as, served_done, served_refused, taken_done, taken_refused, ends_done, ends_refused}
+use Rattle.electrictest.proofs.Replying.{for_told, served_by, taken_by, ends_by}
 use Rattle.electrictest.proofs.threaded.electric.Goals as goal
 
-pub returns-in-Ok-clause-served : goal.returns-in-Ok-clause-served
-returns-in-Ok-clause-served g c =
-    served_done _ c.served_of-asked.result _ c.args.words.now _ _ c.args.steps.now c.asked_text.new.steps c.in-Ok.report.passed c.in-Ok.report.text c.written.result _ _ (c.served_of-asked.ensures.served ∙ ap threaded_of c.command_of.ensures.asks) c.in-Ok.ensures.reports
-    (writes_as c.as_slice.result.now c.in-Ok.report.text c.report_status.result c.in-Ok.report.passed c.written.result _ _ c.as_slice.ensures c.report_status.ensures c.written.ensures.writes)
+pub returns-clause-served : goal.returns-clause-served
+returns-clause-served g c =
+    served_by c.served_of-asked.result _ c.args.words.now _ _ c.answered.result _ _ (c.served_of-asked.ensures.served ∙ ap threaded_of c.command_of.ensures.asks)
+    _ c.args.steps.now c.asked_text-report.new.steps c.asked_text-report.result c.asked_text-report.ensures.reports c.asked_text-report.ensures.refused c.asked_text-report.ensures.ends c.answered.ensures.reports c.answered.ensures.refuses
 
-pub returns-in-Ok-clause-own : goal.returns-in-Ok-clause-own
-returns-in-Ok-clause-own g c =
+pub returns-clause-own : goal.returns-clause-own
+returns-clause-own g c =
     let old = g.D.Depot.shown c.args.depot.now in
-    let asked = called (threaded c.args.words.now) old (g.D.Depot.shown c.asked_text.new.depot) c.args.steps.now c.asked_text.new.steps in
-    for_told old.told (λ files. own_answer (asked files) c.written.result _ _) (returns-in-Ok-clause-served g c)
+    let asked = called (threaded c.args.words.now) old (g.D.Depot.shown c.asked_text-report.new.depot) c.args.steps.now c.asked_text-report.new.steps in
+    for_told old.told (λ files. own_answer (asked files) c.answered.result _ _) (returns-clause-served g c)
 
-pub returns-in-Ok-clause-own_order : goal.returns-in-Ok-clause-own_order
-returns-in-Ok-clause-own_order g c =
+pub returns-clause-own_order : goal.returns-clause-own_order
+returns-clause-own_order g c =
     let old = g.D.Depot.shown c.args.depot.now in
-    let asked = called (threaded c.args.words.now) old (g.D.Depot.shown c.asked_text.new.depot) c.args.steps.now c.asked_text.new.steps in
-    for_told old.told (λ files. own_order_answer (asked files) c.written.result _ _) (returns-in-Ok-clause-served g c)
+    let asked = called (threaded c.args.words.now) old (g.D.Depot.shown c.asked_text-report.new.depot) c.args.steps.now c.asked_text-report.new.steps in
+    for_told old.told (λ files. own_order_answer (asked files) c.answered.result _ _) (returns-clause-served g c)
 
-pub returns-in-Ok-clause-detected : goal.returns-in-Ok-clause-detected
-returns-in-Ok-clause-detected g c =
+pub returns-clause-detected : goal.returns-clause-detected
+returns-clause-detected g c =
     let old = g.D.Depot.shown c.args.depot.now in
-    let asked = called (threaded c.args.words.now) old (g.D.Depot.shown c.asked_text.new.depot) c.args.steps.now c.asked_text.new.steps in
-    for_told old.told (λ files. detected_answer (asked files) c.written.result _ _) (returns-in-Ok-clause-served g c)
+    let asked = called (threaded c.args.words.now) old (g.D.Depot.shown c.asked_text-report.new.depot) c.args.steps.now c.asked_text-report.new.steps in
+    for_told old.told (λ files. detected_answer (asked files) c.answered.result _ _) (returns-clause-served g c)
 
-pub returns-in-Ok-clause-taken : goal.returns-in-Ok-clause-taken
-returns-in-Ok-clause-taken g c =
-    taken_done c.in-Ok.report.passed c.in-Ok.report.text c.written.result _ _
-    (writes_as c.as_slice.result.now c.in-Ok.report.text c.report_status.result c.in-Ok.report.passed c.written.result _ _ c.as_slice.ensures c.report_status.ensures c.written.ensures.writes)
+pub returns-clause-taken : goal.returns-clause-taken
+returns-clause-taken g c =
+    taken_by c.served_of-asked.result _ c.args.words.now _ _ c.answered.result _ _ (c.served_of-asked.ensures.served ∙ ap threaded_of c.command_of.ensures.asks)
+    c.asked_text-report.result c.asked_text-report.ensures.ends c.answered.ensures.reports c.answered.ensures.refuses
 
-pub returns-in-Ok-clause-ends : goal.returns-in-Ok-clause-ends
-returns-in-Ok-clause-ends g c =
-    ends_done c.served_of-asked.result _ c.args.words.now c.in-Ok.report.passed c.in-Ok.report.text c.written.result _ _ _ _ (c.served_of-asked.ensures.served ∙ ap threaded_of c.command_of.ensures.asks) c.in-Ok.ensures.form
-    (writes_as c.as_slice.result.now c.in-Ok.report.text c.report_status.result c.in-Ok.report.passed c.written.result _ _ c.as_slice.ensures c.report_status.ensures c.written.ensures.writes)
-
-pub returns-in-Err-clause-served : goal.returns-in-Err-clause-served
-returns-in-Err-clause-served g c = served_refused _ c.served_of-asked.result _ c.args.words.now _ _ c.args.steps.now c.asked_text.new.steps c.in-Err.status c.refused.result _ _ (c.served_of-asked.ensures.served ∙ ap threaded_of c.command_of.ensures.asks) c.in-Err.ensures.refused c.in-Err.ensures.ends c.refused.ensures.writes
-
-pub returns-in-Err-clause-own : goal.returns-in-Err-clause-own
-returns-in-Err-clause-own g c =
-    let old = g.D.Depot.shown c.args.depot.now in
-    let asked = called (threaded c.args.words.now) old (g.D.Depot.shown c.asked_text.new.depot) c.args.steps.now c.asked_text.new.steps in
-    for_told old.told (λ files. own_answer (asked files) c.refused.result _ _) (returns-in-Err-clause-served g c)
-
-pub returns-in-Err-clause-own_order : goal.returns-in-Err-clause-own_order
-returns-in-Err-clause-own_order g c =
-    let old = g.D.Depot.shown c.args.depot.now in
-    let asked = called (threaded c.args.words.now) old (g.D.Depot.shown c.asked_text.new.depot) c.args.steps.now c.asked_text.new.steps in
-    for_told old.told (λ files. own_order_answer (asked files) c.refused.result _ _) (returns-in-Err-clause-served g c)
-
-pub returns-in-Err-clause-detected : goal.returns-in-Err-clause-detected
-returns-in-Err-clause-detected g c =
-    let old = g.D.Depot.shown c.args.depot.now in
-    let asked = called (threaded c.args.words.now) old (g.D.Depot.shown c.asked_text.new.depot) c.args.steps.now c.asked_text.new.steps in
-    for_told old.told (λ files. detected_answer (asked files) c.refused.result _ _) (returns-in-Err-clause-served g c)
-
-pub returns-in-Err-clause-taken : goal.returns-in-Err-clause-taken
-returns-in-Err-clause-taken g c = taken_refused (ask c.served_of-asked.result c.args.words.now) _ _ c.in-Err.status c.refused.result _ _ c.in-Err.ensures.ends c.refused.ensures.writes
-
-pub returns-in-Err-clause-ends : goal.returns-in-Err-clause-ends
-returns-in-Err-clause-ends g c = ends_refused c.served_of-asked.result _ c.args.words.now c.in-Err.status c.refused.result _ _ _ _ (c.served_of-asked.ensures.served ∙ ap threaded_of c.command_of.ensures.asks) c.in-Err.ensures.ends c.refused.ensures.writes
+pub returns-clause-ends : goal.returns-clause-ends
+returns-clause-ends g c =
+    ends_by c.served_of-asked.result _ c.args.words.now _ _ c.answered.result _ _ (c.served_of-asked.ensures.served ∙ ap threaded_of c.command_of.ensures.asks)
+    c.asked_text-report.result c.asked_text-report.ensures.form c.asked_text-report.ensures.ends c.answered.ensures.reports c.answered.ensures.refuses
