@@ -1,4 +1,4 @@
-//! Tests of the top call over depots and sinks that fail.
+//! Tests of the top call over depots and sinks that fail, and of workers in threads.
 #![tactic(auto)]
 
 pub mod asking;
@@ -8,3 +8,7 @@ mod files;
 mod outsides;
 #[cfg(test)]
 mod tests;
+#[cfg(test)]
+mod threads;
+#[cfg(test)]
+mod turns;
