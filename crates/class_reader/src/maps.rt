@@ -222,7 +222,8 @@ fn frames_of<'a>(
 ) -> Result<((Items<MapFrame>, Items<u8>), &'a [u8]), ReadError>
     ensures { Gives (λ x. ((x.0.0, x.0.1), x.1.now)) result (frames_at pool.now left len total count [] bytes.now) }
 {
-    let mut frames = Items::new(alloc);
+    // Each entry takes a byte at least.
+    let mut frames = Items::with_capacity(alloc, bytes.len().min(count as usize))?;
     let mut rest = bytes;
     for i in 0..count {
         let within = len.saturating_sub(total.saturating_sub(rest.len()));

@@ -15,14 +15,14 @@ use class_pool::fields::u16_at;
 use class_pool::{Fault, ReadError};
 use et_base::Items;
 use std::alloc::Global;
-use std::collections::BTreeSet;
+use std::collections::HashSet;
 
 // A field behind those before it, whose keys are kept beside them.
 #[tactic(auto, unfolding(crate::specs::Class::field_at))]
 fn field_of<'a>(
     texts: &Texts,
     before: &[MemberPart],
-    keys: &mut BTreeSet<u32>,
+    keys: &mut HashSet<u32>,
     bytes: &'a [u8],
 ) -> Result<(MemberPart, &'a [u8]), ReadError>
     requires { IsSeen texts.now before.now keys.old }
@@ -56,7 +56,7 @@ fn fields_counted<'a>(
     ensures { Gives (λ x. (x.0, x.1.now)) result (counted (λ before _ b. field_at texts.now before b) [] count bytes.now) }
 {
     let mut fields = Items::new(alloc);
-    let mut keys = BTreeSet::new(alloc);
+    let mut keys = HashSet::new(alloc);
     let mut rest = bytes;
     for i in 0..count {
         let (field, next) = field_of(texts, fields.as_slice(), &mut keys, rest)?;
@@ -85,7 +85,7 @@ fn method_of<'a>(
     alloc: Global,
     texts: &Texts,
     before: &[MemberPart],
-    keys: &mut BTreeSet<u32>,
+    keys: &mut HashSet<u32>,
     bytes: &'a [u8],
 ) -> Result<(MemberPart, &'a [u8]), ReadError>
     requires few { length before.now < 65535 }
@@ -125,7 +125,7 @@ fn methods_counted<'a>(
     ensures { Gives (λ x. (x.0, x.1.now)) result (counted (λ before _ b. method_at texts.now before b) [] count bytes.now) }
 {
     let mut methods = Items::new(alloc);
-    let mut keys = BTreeSet::new(alloc);
+    let mut keys = HashSet::new(alloc);
     let mut rest = bytes;
     for i in 0..count {
         let (method, next) = method_of(alloc, texts, methods.as_slice(), &mut keys, rest)?;

@@ -2,24 +2,22 @@
 
 ghost use Rattle.std.specs.Prelude.{◌≡◌, ℕ, ◌<◌, ◌^◌, ◌||◌, true, not, length, map, List, IfOk, IfErr, OnOk, if◌then◌else◌};
 ghost use Rattle.std.specs.Option.{option_or};
-ghost use Rattle.std.specs.Ordering.{nat_cmp};
-ghost use Rattle.std.specs.Cmp.Lexicographic.{slice_cmp};
 ghost use Rattle.std.specs.Str.{bytes_eq};
-ghost use Rattle.std.specs.BTreeMap as tree;
+ghost use Rattle.std.specs.HashMap as hash;
 ghost use Rattle.class_pool.specs.Pool.{entry_of, is_text};
 ghost use Rattle.et_base.specs.Answers.{nothing, tested};
 ghost use Rattle.class_pool.specs.Reading.{Gives};
 ghost use Rattle.class_pool.specs.declared.fault.Fault.TheVariants.{Repeated};
-ghost use Rattle.class_reader.specs.Texts.{first_from, first_of, mark_with, mark_of, key_of};
+ghost use Rattle.class_reader.specs.Texts.{first_of, mark_with, mark_of, key_of};
 ghost use Rattle.class_reader.specs.Names.{is_text_of, is_repeated};
-ghost use Rattle.class_reader.specs.Lookups.{looked_up};
+ghost use Rattle.class_reader.specs.Lookups.{noted_first};
 
 use crate::parts::MemberPart;
 use class_pool::fault::wants;
 use class_pool::names::{argument_units, is_field_descriptor, is_method_name, is_unqualified};
 use class_pool::{Entry, Fault, Pool, ReadError};
 use std::alloc::Global;
-use std::collections::{BTreeMap, BTreeSet};
+use std::collections::{HashMap, HashSet};
 use std::marker::Model;
 
 /// What tests say of a slot's text.
@@ -58,50 +56,36 @@ fn mark_with(slot: &Option<Entry>, first: Option<u16>) -> Mark
     }
 }
 
-// Notes a text of the slot of this number, unless it was noted before.
-fn note<'a>(texts: &mut BTreeMap<&'a [u16], u16>, text: &'a [u16], i: u16) -> Result<(), ReadError>
-    ensures noted { OnOk result ((q : List ℕ) → tree.get_by (λ k. slice_cmp nat_cmp q k.now) texts.new ≡ option_or (tree.get_by (λ k. slice_cmp nat_cmp q k.now) texts.old) (if bytes_eq text.now q then Some i else None)) }
+// The number that is noted for a text; where there is none, this one, which is noted then.
+fn note<'a>(texts: &mut HashMap<&'a [u16], u16>, text: &'a [u16], i: u16) -> Result<u16, ReadError>
+    ensures first { IfOk result (λ n. Some n ≡ option_or (hash.get_by (λ k. bytes_eq text.now k.now) texts.old) (Some i)) }
+    ensures noted { OnOk result ((q : List ℕ) → hash.get_by (λ k. bytes_eq q k.now) texts.new ≡ option_or (hash.get_by (λ k. bytes_eq q k.now) texts.old) (if bytes_eq text.now q then Some i else None)) }
     ensures err { IfErr result (λ e. e ≡ ReadError.Memory) }
 {
-    if !texts.contains_key(text) {
-        texts.insert(text, i)?;
+    match texts.get(text).copied() {
+        Some(first) => Ok(first),
+        None => {
+            texts.insert(text, i)?;
+            Ok(i)
+        }
     }
-    Ok(())
 }
 
 fn note_slot<'a>(
-    texts: &mut BTreeMap<&'a [u16], u16>,
+    texts: &mut HashMap<&'a [u16], u16>,
     slot: &'a Option<Entry>,
     i: u16,
-) -> Result<(), ReadError>
-    ensures noted { OnOk result ((q : List ℕ) → tree.get_by (λ k. slice_cmp nat_cmp q k.now) texts.new ≡ option_or (tree.get_by (λ k. slice_cmp nat_cmp q k.now) texts.old) (if is_text_of q slot.now then Some i else None)) }
+) -> Result<Option<u16>, ReadError>
+    ensures first { IfOk result (λ n. n ≡ noted_first texts.old slot.now i) }
+    ensures noted { OnOk result ((q : List ℕ) → hash.get_by (λ k. bytes_eq q k.now) texts.new ≡ option_or (hash.get_by (λ k. bytes_eq q k.now) texts.old) (if is_text_of q slot.now then Some i else None)) }
     ensures err { IfErr result (λ e. e ≡ ReadError.Memory) }
 {
     match slot {
-        Some(Entry::Utf8(units)) => note(texts, units.as_slice(), i),
-        _ => Ok(()),
-    }
-}
-
-// For each text the number of the first slot that has it.
-fn firsts_of(alloc: Global, slots: &[Option<Entry>]) -> Result<BTreeMap<&[u16], u16>, ReadError>
-    requires { length slots.now < 2 ^ 16 }
-    ensures found { IfOk result (λ m. (q : List ℕ) → tree.get_by (λ k. slice_cmp nat_cmp q k.now) m ≡ first_from 0 slots.now q) }
-    ensures err { IfErr result (λ e. e ≡ ReadError.Memory) }
-{
-    let mut texts = BTreeMap::new(alloc);
-    for (i, slot) in slots.iter().enumerate() {
-        note_slot(&mut texts, slot, i as u16)?;
-    }
-    Ok(texts)
-}
-
-fn first_in(texts: &BTreeMap<&[u16], u16>, slot: &Option<Entry>) -> Option<u16>
-    ensures { result ≡ looked_up texts.now slot.now }
-{
-    match slot {
-        Some(Entry::Utf8(units)) => texts.get(units.as_slice()).copied(),
-        _ => None,
+        Some(Entry::Utf8(units)) => {
+            let first = note(texts, units.as_slice(), i)?;
+            Ok(Some(first))
+        }
+        _ => Ok(None),
     }
 }
 
@@ -110,10 +94,11 @@ fn marks_of(alloc: Global, slots: &[Option<Entry>]) -> Result<Vec<Mark>, ReadErr
     ensures marks { IfOk result (λ v. v.items ≡ map (mark_of slots.now) slots.now) }
     ensures err { IfErr result (λ e. e ≡ ReadError.Memory) }
 {
-    let texts = firsts_of(alloc, slots)?;
-    let mut marks = Vec::new(alloc);
-    for slot in slots {
-        marks.push(mark_with(slot, first_in(&texts, slot)))?;
+    let mut texts = HashMap::new(alloc);
+    let mut marks = Vec::with_capacity(alloc, slots.len())?;
+    for (i, slot) in slots.iter().enumerate() {
+        let first = note_slot(&mut texts, slot, i as u16)?;
+        marks.push(mark_with(slot, first))?;
     }
     Ok(marks)
 }
@@ -184,7 +169,7 @@ impl<'a> Texts<'a> {
     pub fn once(
         &self,
         _before: &[MemberPart],
-        keys: &mut BTreeSet<u32>,
+        keys: &mut HashSet<u32>,
         name: u16,
         descriptor: u16,
         left: usize,

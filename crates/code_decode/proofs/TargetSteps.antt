@@ -1,7 +1,9 @@
 -- Steps of the pass over instructions that looks where they lead.
-use Rattle.std.proofs.Common.{◌≡◌, ℕ, ◌+◌, ◌<◌, Bool, List, ◌∷◌, length, get_or, drop, Result, Ok, sym, ap, ◌∙◌}
-use Rattle.std.specs.Prelude.{ℤ}
+use Rattle.std.proofs.Common.{◌≡◌, ℕ, ◌+◌, ◌<◌, Bool, true, false, List, [], ◌∷◌, length, map, get_or, drop, Option, Some, Result, Ok, refl, sym, ap, ◌∙◌, arith}
+use Rattle.std.specs.Prelude.{ℤ, not, ◌&&◌, ◌||◌}
+use Rattle.std.specs.List.{list_all, enumerate_from, range_with_len}
 use Rattle.std.proofs.lemmas.List.{drop_more}
+use Rattle.std.proofs.lemmas.List.FromFn.{get_or-map-range_with_len}
 use Rattle.class_pool.specs.declared.fault.Fault.{Fault}
 use Rattle.class_pool.specs.declared.fault.Fault.TheVariants.{BadTarget}
 use Rattle.class_pool.specs.declared.fault.ReadError.{ReadError}
@@ -9,7 +11,44 @@ use Rattle.class_pool.specs.declared.fault.ReadError.TheVariants as errors
 use Rattle.et_base.specs.Answers.{◌>>=◌, Fails, tested}
 use Rattle.class_pool.specs.Reading.{named}
 use Rattle.code_decode.specs.declared.instructions.RawOp.{RawOp}
-use Rattle.code_decode.specs.Targets.{leads_to, targets_fit}
+use Rattle.code_decode.specs.declared.opcodes.Shape.{Shape}
+use Rattle.code_decode.specs.declared.opcodes.Shape.TheVariants as shape
+use Rattle.code_decode.specs.Opcodes.{shape_of}
+use Rattle.code_decode.specs.Targets.{is_place, names_places, leads_to, targets_fit}
+
+-- ---- opcodes that lead nowhere
+
+abbrev has_places : Option Shape → Bool
+has_places (Some shape.Branch) = true
+has_places (Some shape.FarBranch) = true
+has_places (Some shape.Table) = true
+has_places (Some shape.Lookup) = true
+has_places _ = false
+
+places_are : map names_places (range_with_len 0 256) ≡ map (λ n. has_places (shape_of n)) (range_with_len 0 256)
+unfolding shape_of
+places_are = refl
+
+places_of : (n : ℕ) → n < 256 → names_places n ≡ has_places (shape_of n)
+places_of n h =
+    sym (get_or-map-range_with_len names_places 0 256 n n false h (omega arith)) ∙ ap (λ t. get_or t n false) places_are
+    ∙ get_or-map-range_with_len (λ n. has_places (shape_of n)) 0 256 n n false h (omega arith)
+
+no_place : (form : Option Shape) (i : ℕ) → has_places form ≡ false → is_place form i ≡ false
+no_place (Some shape.Branch) i h = absurd cc
+no_place (Some shape.FarBranch) i h = absurd cc
+no_place (Some shape.Table) i h = absurd cc
+no_place (Some shape.Lookup) i h = absurd cc
+no_place _ i h = refl
+
+no_places : (form : Option Shape) (test : ℤ → Bool) (i : ℕ) (args : List ℤ) → has_places form ≡ false → list_all (λ p. not (is_place form p.0) || test p.1) (enumerate_from i args) ≡ true
+no_places form test i [] h = refl
+no_places form test i (a ∷ args) h = ap (λ b. (not b || test a) && list_all (λ p. not (is_place form p.0) || test p.1) (enumerate_from (i + 1) args)) (no_place form i h) ∙ no_places form test (i + 1) args h
+
+pub leads_nowhere : (test : ℤ → Bool) (o : RawOp) → o.opcode < 256 → names_places o.opcode ≡ false → leads_to test o ≡ true
+leads_nowhere test o lt h = no_places (shape_of o.opcode) test 0 o.args (sym (places_of o.opcode lt) ∙ h)
+
+-- ---- one instruction after the other
 
 abbrev judged_op : ℕ → (ℤ → Bool) → RawOp → Result (Unit {0}) Fault
 judged_op method test o = tested (leads_to test o) (BadTarget method o.pc)

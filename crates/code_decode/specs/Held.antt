@@ -5,6 +5,6 @@ use Rattle.code_decode.specs.declared.args.Held.TheVariants as held
 
 abbrev pub held_args : Held → List ℤ
 held_args held.None = []
-held_args (held.One args) = args
-held_args (held.Two args) = args
+held_args (held.One one) = one.args
+held_args (held.Two two) = two.args
 held_args (held.Many args) = args.value

@@ -7,7 +7,7 @@ use Rattle.et_base.specs.Answers.{◌>>=◌, tested}
 use Rattle.code_decode.specs.declared.instructions.RawOp.{RawOp}
 use Rattle.code_decode.specs.declared.opcodes.Shape.{Shape}
 use Rattle.code_decode.specs.declared.opcodes.Shape.TheVariants as shape
-use Rattle.code_decode.specs.Opcodes.{shape_of}
+use Rattle.code_decode.specs.Opcodes.{is_within, shape_of}
 
 -- whether one of these instructions begins at a pc
 abbrev pub has_start : List RawOp → ℕ → Bool
@@ -27,6 +27,10 @@ is_place (Some shape.FarBranch) i = true
 is_place (Some shape.Table) i = not (i == 1 || i == 2)
 is_place (Some shape.Lookup) i = i % 2 == 0
 is_place _ i = false
+
+-- whether operands of an opcode can be places in the code
+abbrev pub names_places : ℕ → Bool
+names_places n = is_within 153 167 n || n == 170 || n == 171 || is_within 198 200 n
 
 -- whether the test lets through each place among the operands of a form
 abbrev pub leads : Option Shape → (ℤ → Bool) → List ℤ → Bool

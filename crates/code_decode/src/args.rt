@@ -14,11 +14,25 @@ pub struct Args {
     held: Held,
 }
 
+// One operand, laid out as a box is, so that instructions are copied in whole words.
+#[derive(Debug, Drop)]
+struct One {
+    args: [i32; 1],
+    aligned: [u64; 0],
+}
+
+// Two operands, laid out in the same way.
+#[derive(Debug, Drop)]
+struct Two {
+    args: [i32; 2],
+    aligned: [u64; 0],
+}
+
 #[derive(Debug, Drop)]
 enum Held {
     None,
-    One([i32; 1]),
-    Two([i32; 2]),
+    One(One),
+    Two(Two),
     Many(Box<Items<i32>>),
 }
 
@@ -44,7 +58,10 @@ impl Args {
         ensures { result ≡ arg ∷ [] }
     {
         Args {
-            held: Held::One([arg]),
+            held: Held::One(One {
+                args: [arg],
+                aligned: [],
+            }),
         }
     }
 
@@ -53,7 +70,10 @@ impl Args {
         ensures { result ≡ first ∷ second ∷ [] }
     {
         Args {
-            held: Held::Two([first, second]),
+            held: Held::Two(Two {
+                args: [first, second],
+                aligned: [],
+            }),
         }
     }
 
@@ -74,8 +94,8 @@ impl Args {
     {
         match &self.held {
             Held::None => &[],
-            Held::One(args) => args.as_slice(),
-            Held::Two(args) => args.as_slice(),
+            Held::One(one) => one.args.as_slice(),
+            Held::Two(two) => two.args.as_slice(),
             Held::Many(args) => args.as_slice(),
         }
     }

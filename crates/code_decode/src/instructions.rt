@@ -34,6 +34,7 @@ pub struct RawOp {
 }
 
 #[tactic(auto, unfolding(crate::specs::Instructions::args_at))]
+#[inline(always)]
 fn args_of<'a>(
     alloc: Global,
     pool: &Pool,
@@ -64,6 +65,7 @@ fn args_of<'a>(
 }
 
 #[tactic(auto, unfolding(crate::specs::Instructions::shaped_at))]
+#[inline(always)]
 fn shaped_of<'a>(
     alloc: Global,
     pool: &Pool,
@@ -124,6 +126,7 @@ fn wide_of<'a>(spot: &Spot, bytes: &'a [u8]) -> Result<(RawOp, &'a [u8]), ReadEr
 
 // The instruction at a spot, where these bytes begin.
 #[tactic(auto, unfolding(crate::specs::Instructions::op_at))]
+#[inline(always)]
 fn op_of<'a>(
     alloc: Global,
     pool: &Pool,
@@ -140,7 +143,17 @@ fn op_of<'a>(
     }
 }
 
-// All instructions of a code.
+// The same instructions, without room for more.
+fn without_room(ops: Items<RawOp>) -> Items<RawOp>
+    ensures { result ≡ ops }
+{
+    let mut ops = ops.into_vec();
+    ops.shrink_to_fit();
+    Items::from_vec(ops)
+}
+
+// All instructions of a code. By itself the loop has the registers that it needs.
+#[inline(never)]
 #[tactic(auto, unfolding(crate::specs::Instructions::ops_at))]
 pub fn ops_of(
     alloc: Global,
@@ -152,8 +165,8 @@ pub fn ops_of(
     ensures { Gives (λ x. x) result (ops_at method pool.now bytes.now) }
 {
     let total = bytes.len() as u16;
-    // An instruction takes two bytes in the mean.
-    let mut ops = Items::with_capacity(alloc, bytes.len() / 2)?;
+    // Room for the most that there can be, of which what is left over is given back.
+    let mut ops = Items::with_capacity(alloc, bytes.len())?;
     let mut rest = bytes;
     for _ in 0..bytes.len() {
         if rest.is_empty() {
@@ -164,7 +177,7 @@ pub fn ops_of(
         ops.push(op)?;
         rest = next;
     }
-    Ok(ops)
+    Ok(without_room(ops))
 }
 
 // Where an instruction stands, by what is left of the code.

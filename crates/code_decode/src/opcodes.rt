@@ -1,7 +1,7 @@
 //! Which operands an opcode has.
 
 ghost use Rattle.std.specs.Prelude.{◌≡◌};
-ghost use Rattle.code_decode.specs.Opcodes.{has_no_operands, takes_local, takes_branch, shape_of};
+ghost use Rattle.code_decode.specs.Opcodes.{takes_local, shape_of};
 
 /// What a constant takes on the stack.
 #[derive(Clone, Copy, Debug, PartialEq, Eq)]
@@ -68,57 +68,94 @@ pub enum Shape {
     Lookup,
 }
 
-fn has_no_operands(opcode: u8) -> bool
-    ensures { result ≡ has_no_operands opcode }
-{
-    matches!(
-        opcode,
-        0..=10 | 26..=33 | 42..=47 | 50..=53 | 59..=66 | 75..=80 | 83..=97 | 100 | 101 | 104 | 105 | 108 | 109 | 112 | 113 | 116 | 117 | 120..=131 | 133 | 136 | 145..=148 | 172 | 173 | 176 | 177 | 190 | 191 | 194 | 195
-    )
-}
-
 /// Whether this is a load or a store that names its local variable, and so may stand behind wide (JVMS 6.5).
+#[inline(always)]
 pub fn takes_local(opcode: u8) -> bool
     ensures { result ≡ takes_local opcode }
 {
     matches!(opcode, 21 | 22 | 25 | 54 | 55 | 58)
 }
 
-// The branches by two bytes.
-pub fn takes_branch(opcode: u8) -> bool
-    ensures { result ≡ takes_branch opcode }
-{
-    matches!(opcode, 153..=167 | 198 | 199)
-}
+// The cells of the table below.
+const NO: Option<Shape> = None;
+
+const PLAIN: Option<Shape> = Some(Shape::Plain);
+
+const BYTE: Option<Shape> = Some(Shape::Byte);
+
+const SHORT: Option<Shape> = Some(Shape::Short);
+
+const NEAR: Option<Shape> = Some(Shape::Near(Constant::Single));
+
+const FAR: Option<Shape> = Some(Shape::Far(Constant::Single));
+
+const LONG: Option<Shape> = Some(Shape::Far(Constant::Double));
+
+const LOCAL: Option<Shape> = Some(Shape::Local);
+
+const INC: Option<Shape> = Some(Shape::Increment);
+
+const JUMP: Option<Shape> = Some(Shape::Branch);
+
+const TABLE: Option<Shape> = Some(Shape::Table);
+
+const LOOKUP: Option<Shape> = Some(Shape::Lookup);
+
+const FIELD: Option<Shape> = Some(Shape::Entry(Named::Field));
+
+const CLASS: Option<Shape> = Some(Shape::Entry(Named::Virtual));
+
+const DIRECT: Option<Shape> = Some(Shape::Entry(Named::Direct));
+
+const IFACE: Option<Shape> = Some(Shape::Interface);
+
+const MADE: Option<Shape> = Some(Shape::Entry(Named::Made));
+
+const KIND: Option<Shape> = Some(Shape::Kind);
+
+const ELEM: Option<Shape> = Some(Shape::Entry(Named::Element));
+
+const TESTED: Option<Shape> = Some(Shape::Entry(Named::Tested));
+
+const DIMS: Option<Shape> = Some(Shape::Dimensions);
+
+const GOTO_W: Option<Shape> = Some(Shape::FarBranch);
+
+// The form of each opcode's operands, in rows of ten.
+#[rattlefmt::skip]
+static SHAPES: [Option<Shape>; 256] = [
+    PLAIN,  PLAIN,  PLAIN,  PLAIN,  PLAIN,  PLAIN,  PLAIN,  PLAIN,  PLAIN,  PLAIN,
+    PLAIN,  NO,     NO,     NO,     NO,     NO,     BYTE,   SHORT,  NEAR,   FAR,
+    LONG,   LOCAL,  LOCAL,  NO,     NO,     LOCAL,  PLAIN,  PLAIN,  PLAIN,  PLAIN,
+    PLAIN,  PLAIN,  PLAIN,  PLAIN,  NO,     NO,     NO,     NO,     NO,     NO,
+    NO,     NO,     PLAIN,  PLAIN,  PLAIN,  PLAIN,  PLAIN,  PLAIN,  NO,     NO,
+    PLAIN,  PLAIN,  PLAIN,  PLAIN,  LOCAL,  LOCAL,  NO,     NO,     LOCAL,  PLAIN,
+    PLAIN,  PLAIN,  PLAIN,  PLAIN,  PLAIN,  PLAIN,  PLAIN,  NO,     NO,     NO,
+    NO,     NO,     NO,     NO,     NO,     PLAIN,  PLAIN,  PLAIN,  PLAIN,  PLAIN,
+    PLAIN,  NO,     NO,     PLAIN,  PLAIN,  PLAIN,  PLAIN,  PLAIN,  PLAIN,  PLAIN,
+    PLAIN,  PLAIN,  PLAIN,  PLAIN,  PLAIN,  PLAIN,  PLAIN,  PLAIN,  NO,     NO,
+    PLAIN,  PLAIN,  NO,     NO,     PLAIN,  PLAIN,  NO,     NO,     PLAIN,  PLAIN,
+    NO,     NO,     PLAIN,  PLAIN,  NO,     NO,     PLAIN,  PLAIN,  NO,     NO,
+    PLAIN,  PLAIN,  PLAIN,  PLAIN,  PLAIN,  PLAIN,  PLAIN,  PLAIN,  PLAIN,  PLAIN,
+    PLAIN,  PLAIN,  INC,    PLAIN,  NO,     NO,     PLAIN,  NO,     NO,     NO,
+    NO,     NO,     NO,     NO,     NO,     PLAIN,  PLAIN,  PLAIN,  PLAIN,  NO,
+    NO,     NO,     NO,     JUMP,   JUMP,   JUMP,   JUMP,   JUMP,   JUMP,   JUMP,
+    JUMP,   JUMP,   JUMP,   JUMP,   JUMP,   JUMP,   JUMP,   JUMP,   NO,     NO,
+    TABLE,  LOOKUP, PLAIN,  PLAIN,  NO,     NO,     PLAIN,  PLAIN,  FIELD,  FIELD,
+    FIELD,  FIELD,  CLASS,  DIRECT, DIRECT, IFACE,  NO,     MADE,   KIND,   ELEM,
+    PLAIN,  PLAIN,  TESTED, TESTED, PLAIN,  PLAIN,  NO,     DIMS,   JUMP,   JUMP,
+    GOTO_W, NO,     NO,     NO,     NO,     NO,     NO,     NO,     NO,     NO,
+    NO,     NO,     NO,     NO,     NO,     NO,     NO,     NO,     NO,     NO,
+    NO,     NO,     NO,     NO,     NO,     NO,     NO,     NO,     NO,     NO,
+    NO,     NO,     NO,     NO,     NO,     NO,     NO,     NO,     NO,     NO,
+    NO,     NO,     NO,     NO,     NO,     NO,     NO,     NO,     NO,     NO,
+    NO,     NO,     NO,     NO,     NO,     NO,
+];
 
 /// The form of an opcode's operands (JVMS 6.5); none for wide and for opcodes outside of the profile.
-#[tactic(auto, unfolding(crate::specs::Opcodes::shape_of))]
+#[inline(always)]
 pub fn shape_of(opcode: u8) -> Option<Shape>
     ensures { result ≡ shape_of opcode }
 {
-    let shape = match opcode {
-        _ if has_no_operands(opcode) => Shape::Plain,
-        _ if takes_local(opcode) => Shape::Local,
-        _ if takes_branch(opcode) => Shape::Branch,
-        16 => Shape::Byte,
-        17 => Shape::Short,
-        18 => Shape::Near(Constant::Single),
-        19 => Shape::Far(Constant::Single),
-        20 => Shape::Far(Constant::Double),
-        132 => Shape::Increment,
-        170 => Shape::Table,
-        171 => Shape::Lookup,
-        178..=181 => Shape::Entry(Named::Field),
-        182 => Shape::Entry(Named::Virtual),
-        183 | 184 => Shape::Entry(Named::Direct),
-        185 => Shape::Interface,
-        187 => Shape::Entry(Named::Made),
-        188 => Shape::Kind,
-        189 => Shape::Entry(Named::Element),
-        192 | 193 => Shape::Entry(Named::Tested),
-        197 => Shape::Dimensions,
-        200 => Shape::FarBranch,
-        _ => return None,
-    };
-    Some(shape)
+    SHAPES[usize::from(opcode)]
 }

@@ -5,7 +5,7 @@ ghost use Rattle.et_base.specs.Answers.{nothing, tested};
 ghost use Rattle.class_pool.specs.Reading.{Gives};
 ghost use Rattle.class_pool.specs.declared.fault.Fault.TheVariants.{BadTarget};
 ghost use Rattle.class_pool.specs.declared.fault.ReadError.TheVariants.{Memory};
-ghost use Rattle.code_decode.specs.Targets.{Marks, is_place, is_marked, leads, leads_to, targets_fit};
+ghost use Rattle.code_decode.specs.Targets.{Marks, is_place, names_places, is_marked, leads, leads_to, targets_fit};
 
 use crate::instructions::RawOp;
 use crate::opcodes::{Shape, shape_of};
@@ -83,6 +83,13 @@ fn is_place(shape: Option<Shape>, i: usize) -> bool
     }
 }
 
+// Whether operands of an opcode can be places in the code.
+fn names_places(opcode: u8) -> bool
+    ensures { result ≡ names_places opcode }
+{
+    matches!(opcode, 153..=167 | 170 | 171 | 198..=200)
+}
+
 // Whether each place among operands is marked.
 fn leads(shape: Option<Shape>, starts: &Starts, args: &[i32]) -> bool
     ensures { result ≡ leads shape (is_marked starts.now) args.now }
@@ -96,10 +103,7 @@ fn leads(shape: Option<Shape>, starts: &Starts, args: &[i32]) -> bool
 fn leads_to_starts(starts: &Starts, op: &RawOp) -> bool
     ensures { result ≡ leads_to (is_marked starts.now) op.now }
 {
-    match op.args.as_slice() {
-        [] => true,
-        args => leads(shape_of(op.opcode), starts, args),
-    }
+    !names_places(op.opcode) || leads(shape_of(op.opcode), starts, op.args.as_slice())
 }
 
 fn judge_op(method: u32, starts: &Starts, op: &RawOp) -> Result<(), ReadError>

@@ -16,7 +16,7 @@ loop-preserved c = rw c.in_ok-push.ensures.pushed (to_end_on (λ _ rest. op_at c
 
 pub returns : goal.returns
 unfolding ops_at
-returns c = elim c.loop-test.branch [
+returns c = rw c.without_room.ensures (elim c.loop-test.branch [
   | else-loop-test w ↦ to_end_out (λ _ rest. op_at c.args.pool.now (spot_at c.args.method (length c.args.bytes.now) rest) rest) c.loop.ops _ c.loop.rest.now _ (omega arith) c.loop.invariant
   | then-loop-test+then-is_empty w ↦ to_end_none (λ _ rest. op_at c.args.pool.now (spot_at c.args.method (length c.args.bytes.now) rest) rest) c.loop.ops _ c.loop.rest.now _ (grind arith) c.loop.invariant
-]
+])
