@@ -1,9 +1,9 @@
--- Fields and elements of an object by the cells of the region.
-use Rattle.std.proofs.Common.{◌≡◌, ℕ, suc, ◌+◌, ◌^◌, ◌-◌, ◌<◌, ◌≤◌, List, [], ◌∷◌, ◌++◌, length, get_or, set, take, drop, map, replicate, nat_eq, true, Option, Some, None, refl, sym, subst, ap, ◌∙◌, arith, inl, inr, length-append, append_assoc}
+-- Fields and elements of an object by the cells of all.
+use Rattle.std.proofs.Common.{◌≡◌, ℕ, suc, ◌+◌, ◌^◌, ◌-◌, ◌<◌, ◌≤◌, List, [], ◌∷◌, ◌++◌, length, get_or, set, drop, map, nat_eq, true, Option, Some, None, refl, sym, subst, ap, ◌∙◌, arith, inl, inr, length-append, Vec, Global}
+use Rattle.std.specs.Vec.{vec_len}
 use Rattle.std.specs.List.{zip}
 use Rattle.std.proofs.lemmas.Bool.{cases_Bool}
-use Rattle.std.proofs.lemmas.List.{get_or_default, take_more, map-append, get_or-take, get_or-drop, drop-set-lt, length-drop, length-take-le, nil_from_length}
-use Rattle.std.proofs.Math.Seq.{set-append_seam}
+use Rattle.std.proofs.lemmas.List.{get_or_default, get_or-take, get_or-drop, drop-set-lt, length-drop, length-take-le, nil_from_length}
 use Rattle.jvm_model.specs.declared.program.Program.{Program}
 use Rattle.jvm_model.specs.declared.values.Value.{Value}
 use Rattle.jvm_model.specs.declared.values.Value.TheVariants.{Null}
@@ -15,10 +15,17 @@ use Rattle.jvm_model.specs.Classes.{member, layout, field_at, default_of, fields
 use Rattle.jvm_model.specs.View.{keys}
 use Rattle.vm_heap.specs.Entries.{Entry}
 use Rattle.vm_heap.specs.Objects.{field_numbers, new_cells, cell_count, object_of, objects_of, IsWhole}
-use Rattle.vm_tables.specs.FieldPlaces.{place}
+use Rattle.vm_tables.specs.FieldPlaces.{place, IsHeld}
 use Rattle.vm_heap.specs.Held.{Held}
 use Rattle.vm_mem.proofs.Entries.{put_at_set}
 use Rattle.vm_heap.proofs.Objects.{before, own_cells, object_there, cell_set, start_at, cells_within, length-objects_of, with_text, text_set, made_last, whole_last}
+
+-- a vector's length is a machine's number, and the list's
+pub few : (v : Vec Value Global) → length v.items < 2 ^ 64
+few v = let l = v.ok.0 in let r = v.ok.1 in let s = v.small in omega arith
+
+pub within_vec : (v : Vec Value Global) (n : ℕ) → n < length v.items → n < vec_len v
+within_vec v n w = subst (λ k. n < k) (sym v.ok.0) w
 
 pub place_below : (f : ℕ) (ks : List ℕ) → member f ks ≡ true → place f ks < length ks
 place_below f [] h = absurd (cc)
@@ -64,7 +71,7 @@ elems_alone : (p : Program) (k : Kind) (n : ℕ) → 0 < length (elems_of k n) �
 elems_alone p (Class c) n h = absurd (omega arith)
 elems_alone p (Array d b) n h = refl
 
--- Where a field or element of an object stands in the region.
+-- Where a field or element of an object stands among the cells.
 pub record Cell (p : Program) (xs : List Entry) (cs : List Value) (n : ℕ) (v : Value) (changed : Value → List Object) : Type 0 where
   pub within : n < length cs
   pub value : get_or cs n Null ≡ v
@@ -130,6 +137,27 @@ kind_place p (Class c) f n h m =
     let e = keys_laid p (λ g. default_of (field_at p g).descriptor) (layout p c) in
     h c (ap (member f) (sym e) ∙ m) ∙ ap (place f) (sym e)
 
+kind_held : (p : Program) (k : Kind) (f : ℕ) → member f (keys (fields_of p k)) ≡ true → IsHeld p f
+kind_held p (Array d b) f m = absurd (cc)
+kind_held p (Class c) f m =
+    let e = keys_laid p (λ g. default_of (field_at p g).descriptor) (layout p c) in
+    (c, ap (member f) (sym e) ∙ m)
+
+-- an object's fields are those of its head
+field_listed : (p : Program) (xs : List Entry) (cs : List Value) (o : ℕ) (x : Entry) (e : Object) (f : ℕ) → IsWhole p xs cs → o < length xs → x ≡ get_or xs o x →
+    member f (keys (get_or (objects_of p xs cs) o e).fields) ≡ true → member f (field_numbers p x.head) ≡ true
+field_listed p xs cs o x e f h w q m =
+    let s = own_cells p x (before p xs o) cs in
+    let ks = field_numbers p x.head in
+    let l = length-own p xs cs o x h w q in
+    let long : length ks ≤ length s = omega arith in
+    let there : get_or (objects_of p xs cs) o e ≡ object_of p x s = object_there p xs cs o x e w ∙ ap (λ y. object_of p y (own_cells p y (before p xs o) cs)) (sym q) in
+    ap (member f) (sym (keys_zip ks s long)) ∙ ap (λ y. member f (keys y.fields)) (sym there) ∙ m
+
+pub field_held : (p t : Program) (xs : List Entry) (cs : List Value) (o : ℕ) (x : Entry) (e : Object) (f : ℕ) → t ≡ p → IsWhole p xs cs → o < length xs → x ≡ get_or xs o x →
+    member f (keys (get_or (objects_of p xs cs) o e).fields) ≡ true → IsHeld t f
+field_held p t xs cs o x e f same h w q m = subst (λ y. IsHeld y f) (sym same) (kind_held p x.head.kind f (field_listed p xs cs o x e f h w q m))
+
 pub field_cell : (p t : Program) (xs : List Entry) (cs : List Value) (o : ℕ) (x : Entry) (e : Object) (f n : ℕ) → t ≡ p → IsPlaceOf t f n → IsWhole p xs cs → o < length xs → x ≡ get_or xs o x →
     member f (keys (get_or (objects_of p xs cs) o e).fields) ≡ true →
     Cell p xs cs (x.start + n) (look nat_eq Null (get_or (objects_of p xs cs) o e).fields f)
@@ -140,7 +168,7 @@ field_cell p t xs cs o x e f n same at h w q m =
     let l = length-own p xs cs o x h w q in
     let long : length ks ≤ length s = omega arith in
     let there : get_or (objects_of p xs cs) o e ≡ object_of p x s = object_there p xs cs o x e w ∙ ap (λ y. object_of p y (own_cells p y (before p xs o) cs)) (sym q) in
-    let r : member f ks ≡ true = ap (member f) (sym (keys_zip ks s long)) ∙ ap (λ y. member f (keys y.fields)) (sym there) ∙ m in
+    let r : member f ks ≡ true = field_listed p xs cs o x e f h w q m in
     let b = place_below f ks r in
     let k : n ≡ place f ks = kind_place p x.head.kind f n (subst (λ y. IsPlaceOf y f n) same at) r in
     let c = own_cell p xs cs o n x h w q (omega arith) in
@@ -193,12 +221,6 @@ new_object p x h e t =
     ∙ ap (λ y. blank_of h y (drop (length (field_numbers p h)) (new_cells p h))) (zip_back (fields_of p h.kind) (elems_of h.kind h.length))
     ∙ ap (λ y. blank_of h (fields_of p h.kind) y) (drop_back (fields_of p h.kind) (elems_of h.kind h.length))
 
--- the next cell gets its value
-pub fill_next : (a vs : List Value) (m : ℕ) (v : Value) → set (a ++ (vs ++ replicate (suc m) Null)) (length a + length vs) v ≡ a ++ ((vs ++ v ∷ []) ++ replicate m Null)
-fill_next a vs m v =
-    ap (λ t. set t (length a + length vs) v) (sym (append_assoc a vs (replicate (suc m) Null))) ∙ ap (λ n. set ((a ++ vs) ++ replicate (suc m) Null) n v) (sym (length-append a vs))
-    ∙ set-append_seam (a ++ vs) Null (replicate m Null) v ∙ append_assoc a vs (v ∷ replicate m Null) ∙ ap (λ t. a ++ t) (sym (append_assoc vs (v ∷ []) (replicate m Null)))
-
 pub text_there : (p : Program) (xs : List Entry) (cs : List Value) (o : ℕ) (x : Entry) (e : Object) → o < length xs → x ≡ get_or xs o x → x.text ≡ (get_or (objects_of p xs cs) o e).text
 text_there p xs cs o x e w q = ap (λ y. y.text) q ∙ ap (λ y. y.text) (sym (object_there p xs cs o x e w))
 
@@ -238,21 +260,8 @@ held_last p xs x cs h w e t =
     let n : length (new_cells p h) ≡ cell_count p x.head = rw e (length-new_cells p h) in
     ap (held p) (made_last p xs x cs (new_cells p h) w.full n ∙ ap (λ y. objects_of p xs cs ++ y ∷ []) (new_object p x h e t))
 
-pub cells_last : (p : Program) (xs : List Entry) (x : Entry) (cs : List Value) (h : Head) → IsWhole p xs cs → x.head ≡ h → x.start ≡ length cs → length (cs ++ new_cells p h) < 2 ^ 64 → IsWhole p (xs ++ x ∷ []) (cs ++ new_cells p h)
-cells_last p xs x cs h w e s f = whole_last p xs x cs (new_cells p h) w s (rw e (length-new_cells p h)) f
-
--- one more cell has its value
-pub filled : (old : List Value) (fs : List (ℕ × Value)) (cs ds : List Value) (i n : ℕ) (e : ℕ × Value) → i < length fs → cs ≡ old ++ (map (λ x. x.1) (take i fs) ++ replicate (length fs - i) Null) → n ≡ length old + i →
-    ds ≡ set cs n (get_or fs i e).1 → ds ≡ old ++ (map (λ x. x.1) (take (i + 1) fs) ++ replicate (length fs - (i + 1)) Null)
-filled old fs cs ds i n e w c q d =
-    let v = (get_or fs i e).1 in
-    let vs = values_of (take i fs) in
-    let l : length vs ≡ i = length_values (take i fs) ∙ length_keys (take i fs) ∙ length-take-le i fs (omega arith) in
-    let m : length fs - i ≡ suc (length fs - (i + 1)) = omega arith in
-    let a : n ≡ length old + length vs = omega arith in
-    let t : values_of (take (i + 1) fs) ≡ vs ++ v ∷ [] = ap values_of (take_more fs i e w) ∙ map-append (λ x. x.1) (take i fs) (get_or fs i e ∷ []) in
-    d ∙ ap (λ y. set y n v) (c ∙ ap (λ k. old ++ (vs ++ replicate k Null)) m) ∙ ap (λ k. set (old ++ (vs ++ replicate (suc (length fs - (i + 1))) Null)) k v) a
-    ∙ fill_next old vs (length fs - (i + 1)) v ∙ ap (λ y. old ++ (y ++ replicate (length fs - (i + 1)) Null)) (sym t)
+pub cells_last : (p : Program) (xs : List Entry) (x : Entry) (cs : List Value) (h : Head) → IsWhole p xs cs → x.head ≡ h → x.start ≡ length cs → IsWhole p (xs ++ x ∷ []) (cs ++ new_cells p h)
+cells_last p xs x cs h w e s = whole_last p xs x cs (new_cells p h) w s (rw e (length-new_cells p h))
 
 abbrev pub last_on : Held → Head → Held
 last_on y h = record y { objects = y.objects ++ blank y.program h ∷ [] }

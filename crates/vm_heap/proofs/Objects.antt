@@ -1,5 +1,5 @@
 -- Objects whose cells stand one after the other: what one of them is, and what a change of a cell or a text changes.
-use Rattle.std.proofs.Common.{◌≡◌, ℕ, zero, suc, ◌+◌, ◌^◌, ◌<◌, ◌≤◌, List, [], ◌∷◌, ◌++◌, length, get_or, set, take, drop, map, Option, refl, sym, ap, ◌∙◌, arith, length-append, add_assoc}
+use Rattle.std.proofs.Common.{◌≡◌, ℕ, zero, suc, ◌+◌, ◌<◌, ◌≤◌, List, [], ◌∷◌, ◌++◌, length, get_or, set, take, drop, map, Option, refl, sym, ap, ◌∙◌, arith, length-append, add_assoc}
 use Rattle.std.proofs.lemmas.List.{drop-drop, drop-set-lt, drop-set-add, take-set-le, take-append-le, drop-append-le, length-set, nil_from_length, length-drop}
 use Rattle.std.proofs.Math.Seq.{take-set-lt, take-length}
 use Rattle.jvm_model.specs.declared.program.Program.{Program}
@@ -75,9 +75,8 @@ total_last : (p : Program) (xs : List Entry) (x : Entry) → total p (xs ++ x �
 total_last p [] x = omega arith
 total_last p (y ∷ ys) x = let e = total_last p ys x in omega arith
 
-pub whole_last : (p : Program) (xs : List Entry) (x : Entry) (cs new : List Value) → IsWhole p xs cs → x.start ≡ length cs → length new ≡ cell_count p x.head → length (cs ++ new) < 2 ^ 64 → IsWhole p (xs ++ x ∷ []) (cs ++ new)
-whole_last p xs x cs new h s n few = record {
-  few = few;
+pub whole_last : (p : Program) (xs : List Entry) (x : Entry) (cs new : List Value) → IsWhole p xs cs → x.start ≡ length cs → length new ≡ cell_count p x.head → IsWhole p (xs ++ x ∷ []) (cs ++ new)
+whole_last p xs x cs new h s n = record {
   beside = let f = h.full in beside_last p 0 xs x h.beside (omega arith);
   full = let f = h.full in length-append cs new ∙ (let t = total_last p xs x in omega arith);
 }
@@ -115,10 +114,10 @@ total_same p (x ∷ xs) (y ∷ ys) e =
     omega arith
 
 pub whole_same : (p : Program) (xs ys : List Entry) (cs : List Value) → map header_of ys ≡ map header_of xs → IsWhole p xs cs → IsWhole p ys cs
-whole_same p xs ys cs e h = record { beside = beside_same p 0 xs ys e h.beside; full = h.full ∙ sym (total_same p xs ys e); few = h.few }
+whole_same p xs ys cs e h = record { beside = beside_same p 0 xs ys e h.beside; full = h.full ∙ sym (total_same p xs ys e) }
 
 pub whole_set : (p : Program) (xs : List Entry) (cs : List Value) (i : ℕ) (v : Value) → IsWhole p xs cs → IsWhole p xs (set cs i v)
-whole_set p xs cs i v h = record { beside = h.beside; full = length-set cs i v ∙ h.full; few = rw length-set h.few }
+whole_set p xs cs i v h = record { beside = h.beside; full = length-set cs i v ∙ h.full }
 
 pub start_at : (p : Program) (xs : List Entry) (cs : List Value) (o : ℕ) (d : Entry) → IsWhole p xs cs → o < length xs → (get_or xs o d).start ≡ before p xs o
 start_at p xs cs o d h w = let e = start_from p 0 xs o d h.beside w in omega arith

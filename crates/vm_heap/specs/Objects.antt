@@ -1,5 +1,5 @@
--- The objects whose cells stand one after the other in a region.
-use Rattle.std.specs.Prelude.{◌≡◌, ℕ, ◌+◌, ◌<◌, ◌^◌, List, [], ◌∷◌, ◌++◌, length, take, drop, map}
+-- The objects whose cells stand one after the other in a list.
+use Rattle.std.specs.Prelude.{◌≡◌, ℕ, ◌+◌, List, [], ◌∷◌, ◌++◌, length, take, drop, map}
 use Rattle.std.specs.List.{zip}
 use Rattle.jvm_model.specs.declared.program.Program.{Program}
 use Rattle.jvm_model.specs.declared.values.Value.{Value}
@@ -44,7 +44,6 @@ AreBeside p n (x ∷ xs) = (x.start ≡ n) × AreBeside p (n + cell_count p x.he
 pub record IsWhole (p : Program) (xs : List Entry) (cs : List Value) : Type 0 where
   pub beside : AreBeside p 0 xs
   pub full : length cs ≡ total p xs
-  pub few : length cs < 2 ^ 64
 
 -- a heap's headers and cells go together, and its table of places is of the same program
 pub record IsHeap (p q : Program) (xs : List Entry) (cs : List Value) : Type 0 where

@@ -4,5 +4,5 @@ use jvm_model::Head;
 #[derive(Clone, Copy, Debug, PartialEq, Eq)]
 pub struct Header {
     pub head: Head,
-    pub start: u64,
+    pub start: usize,
 }

@@ -7,7 +7,6 @@ ghost use Rattle.vm_heap.specs.Objects.{new_cells};
 
 use crate::header::Header;
 use crate::headers::Headers;
-use cell_region::{Mark, Region};
 use et_base::{NoMemory, Units};
 use jvm_model::{Head, Kind, Program, Value};
 use std::alloc::Global;
@@ -15,11 +14,11 @@ use std::marker::Model;
 use vm_mem::{Layouts, element_default};
 use vm_tables::FieldPlaces;
 
-/// All objects: a header each, and the cells of all of them in one region in the order of the objects.
+/// All objects: a header each, and the cells of all of them in one list in the order of the objects.
 #[derive(Drop)]
 pub struct Heap {
     headers: Headers,
-    cells: Region<Value>,
+    cells: Vec<Value>,
     layouts: Layouts,
     places: FieldPlaces,
 }
@@ -30,9 +29,9 @@ impl Model for Heap {
 
     ghost Value = { Held };
 
-    ghost view = { λ s. record { program = s.layouts; objects = objects_of s.layouts s.headers s.cells } };
+    ghost view = { λ s. record { program = s.layouts; objects = objects_of s.layouts s.headers s.cells.items } };
 
-    ghost invariant = { λ s. IsHeap s.layouts s.places s.headers s.cells };
+    ghost invariant = { λ s. IsHeap s.layouts s.places s.headers s.cells.items };
 }
 
 impl Heap {
@@ -45,7 +44,7 @@ impl Heap {
     {
         Ok(Heap {
             headers: Headers::new(alloc),
-            cells: Region::new(alloc),
+            cells: Vec::new(alloc),
             layouts: Layouts::of(alloc, p)?,
             places: FieldPlaces::of(alloc, p)?,
         })
@@ -66,7 +65,7 @@ impl Heap {
         ensures { result ≡ look nat_eq Null (get_or self.now.objects object no_object).fields field }
     {
         let start = self.headers.of(object).start;
-        self.cells.get(start + self.places.place(field) as u64)
+        self.cells[start + self.places.place_of(field)]
     }
 
     /// Gives a field another value.
@@ -76,8 +75,7 @@ impl Heap {
         ensures { let x = get_or self.old.objects object no_object in self.new ≡ record self.old { objects = set self.old.objects object (record x { fields = keep nat_eq x.fields field v }) } }
     {
         let start = self.headers.of(object).start;
-        let place = start + self.places.place(field) as u64;
-        self.cells.set(place, v);
+        self.cells[start + self.places.place_of(field)] = v;
     }
 
     /// The value of an element.
@@ -87,7 +85,7 @@ impl Heap {
         ensures { result ≡ get_or (get_or self.now.objects object no_object).elems index Null }
     {
         let header = self.headers.of(object);
-        self.cells.get(header.start + index as u64)
+        self.cells[header.start + index as usize]
     }
 
     /// Gives an element another value.
@@ -97,8 +95,8 @@ impl Heap {
         ensures { let x = get_or self.old.objects object no_object in self.new ≡ record self.old { objects = set self.old.objects object (record x { elems = put_at Null x.elems index v }) } }
     {
         let header = self.headers.of(object);
-        let place = header.start + index as u64;
-        self.cells.set(place, v);
+        let place = header.start + index as usize;
+        self.cells[place] = v;
     }
 
     /// The text of an object, empty until one was written.
@@ -140,16 +138,12 @@ impl Heap {
         ensures kept { OnErr result (self.new ≡ self.old) }
     {
         let object = self.headers.len();
-        let mark = self.cells.mark();
+        let start = self.cells.len();
         append_cells(&mut self.cells, &self.layouts, head)?;
-        let header = Header {
-            head,
-            start: mark.len,
-        };
-        match self.headers.push(header) {
+        match self.headers.push(Header { head, start }) {
             Ok(()) => Ok(object),
             Err(refusal) => {
-                self.cells.release(mark);
+                self.cells.truncate(start);
                 Err(refusal)
             }
         }
@@ -160,16 +154,15 @@ impl Heap {
         ensures { self.new ≡ record self.old { objects = [] } }
     {
         self.headers.clear();
-        self.cells.release(Mark { len: 0 });
+        self.cells.clear();
     }
 }
 
 /// Appends the cells of a new object. After a refusal the cells are as before.
 #[inline(always)]
-fn append_cells(cells: &mut Region<Value>, layouts: &Layouts, head: Head) -> Result<(), NoMemory>
-    ensures made { OnOk result (cells.new ≡ cells.old ++ new_cells layouts.now head) }
-    ensures room { OnOk result (length cells.new < 2 ^ 64) }
-    ensures kept { OnErr result (cells.new ≡ cells.old) }
+fn append_cells(cells: &mut Vec<Value>, layouts: &Layouts, head: Head) -> Result<(), NoMemory>
+    ensures made { OnOk result (cells.new.items ≡ cells.old.items ++ new_cells layouts.now head) }
+    ensures kept { OnErr result (cells.new.items ≡ cells.old.items) }
 {
     match head.kind {
         Kind::Class(class) => append_values(cells, layouts.fields(class)),
@@ -181,28 +174,31 @@ fn append_cells(cells: &mut Region<Value>, layouts: &Layouts, head: Head) -> Res
 
 /// Appends so many cells, each with the same value. After a refusal the cells are as before.
 #[inline(never)]
-fn append_elements(cells: &mut Region<Value>, count: u32, v: Value) -> Result<(), NoMemory>
-    ensures made { OnOk result (cells.new ≡ cells.old ++ replicate count v) }
-    ensures room { OnOk result (length cells.new < 2 ^ 64) }
-    ensures kept { OnErr result (cells.new ≡ cells.old) }
+fn append_elements(cells: &mut Vec<Value>, count: u32, v: Value) -> Result<(), NoMemory>
+    ensures made { OnOk result (cells.new.items ≡ cells.old.items ++ replicate count v) }
+    ensures kept { OnErr result (cells.new.items ≡ cells.old.items) }
 {
-    cells.grow(count as u64, v)?;
+    let Some(end) = cells.len().checked_add(count as usize) else {
+        return Err(NoMemory {});
+    };
+    cells.resize(end, v)?;
     Ok(())
 }
 
 /// Appends a cell with the value of each field. After a refusal the cells are as before.
 #[inline(always)]
-fn append_values(cells: &mut Region<Value>, fields: &[(u32, Value)]) -> Result<(), NoMemory>
-    ensures made { OnOk result (cells.new ≡ cells.old ++ map (λ x. x.1) fields.now) }
-    ensures room { OnOk result (length cells.new < 2 ^ 64) }
-    ensures kept { OnErr result (cells.new ≡ cells.old) }
+fn append_values(cells: &mut Vec<Value>, fields: &[(u32, Value)]) -> Result<(), NoMemory>
+    ensures made { OnOk result (cells.new.items ≡ cells.old.items ++ map (λ x. x.1) fields.now) }
+    ensures kept { OnErr result (cells.new.items ≡ cells.old.items) }
 {
-    let mark = cells.mark();
+    let start = cells.len();
     for (_, v) in fields {
-        if let Err(refusal) = cells.push(*v) {
-            cells.release(mark);
-            return Err(refusal);
+        // the value is read after the room is there, so that nothing is kept over the call that makes it
+        if cells.reserve(1).is_err() {
+            cells.truncate(start);
+            return Err(NoMemory {});
         }
+        cells.push_reserved(*v);
     }
     Ok(())
 }

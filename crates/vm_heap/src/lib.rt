@@ -1,4 +1,4 @@
-//! The memory of the product: the cells of all objects in one region, set back without taking memory.
+//! The memory of the product: the cells of all objects in one list, set back without taking memory.
 #![tactic(auto)]
 
 mod changes;

@@ -9,7 +9,7 @@ use Rattle.jvm_model.specs.Classes.{class_at, field_at, no_class, class_bound, i
 use Rattle.jvm_model.specs.Linked.{IsClass, IsField, Linked}
 use Rattle.jvm_model.proofs.Upwards.{upwards_step, upwards_root}
 use Rattle.member_lookup.proofs.Ancestry.{any_append, member_get}
-use Rattle.vm_tables.specs.FieldPlaces.{place, AreFieldPlaces}
+use Rattle.vm_tables.specs.FieldPlaces.{place, AreFieldPlaces, IsHeld, HaveEntries}
 
 -- ---- one more place is noted
 
@@ -154,6 +154,20 @@ noted_all p q n places e h g =
       | inr l ↦ let none = rw (past_classes p c (omega arith)) at m in absurd (cc)
     ]) in
     subst (λ w. AreFieldPlaces w places) (sym e) all
+
+-- a field that objects have is one of the program's
+held_within : (p : Program) → Linked p → (f : ℕ) → IsHeld p f → f < length p.fields
+held_within p l f h =
+    let m : member f (layout p h.0) ≡ true = h.1 in
+    elim (cases_lt h.0 (length p.classes)) [
+      | inl g ↦ (stands p l h.0 f g m).field
+      | inr g ↦ let none = rw (past_classes p h.0 (omega arith)) at m in absurd (cc)
+    ]
+
+pub entries_all : (p q : Program) (places : List ℕ) → Linked p → q ≡ p → length places ≡ length p.fields → HaveEntries q places
+entries_all p q places l e n =
+    let all : HaveEntries p places = λ f h. (let w = held_within p l f h in omega arith) in
+    subst (λ w. HaveEntries w places) (sym e) all
 
 pub cells_all : (p : Program) (n : ℕ) (cells : List ℕ) → length cells ≡ n → length p.classes ≤ n → ((c : ℕ) → c < n → get_or cells c 0 ≡ length (layout p c)) → (c : ℕ) → get_or cells c 0 ≡ length (layout p c)
 cells_all p n cells l h g c = elim (cases_lt c n) [

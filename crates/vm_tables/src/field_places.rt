@@ -3,7 +3,7 @@
 ghost use Rattle.std.specs.Prelude.{◌≡◌, ℕ, ◌<◌, All, IfOk, cond, get_or, length, true};
 ghost use Rattle.jvm_model.specs.Classes.{layout, member};
 ghost use Rattle.jvm_model.specs.Linked.{Linked};
-ghost use Rattle.vm_tables.specs.FieldPlaces.{place};
+ghost use Rattle.vm_tables.specs.FieldPlaces.{IsHeld, place};
 
 use et_base::NoMemory;
 use jvm_model::Program;
@@ -21,13 +21,14 @@ pub struct FieldPlaces {
 
 impl Model for FieldPlaces {
     ghost use Rattle.jvm_model.specs.declared.program.Program.{Program as Numbered};
-    ghost use Rattle.vm_tables.specs.FieldPlaces.{AreFieldPlaces};
+    ghost use Rattle.vm_tables.specs.FieldPlaces.{AreFieldPlaces, HaveEntries};
 
     ghost Value = { Numbered };
 
     ghost view = { λ t. t.program.value };
 
-    ghost invariant = { λ t. AreFieldPlaces t.program.value t.places.items };
+    ghost invariant = { λ t. AreFieldPlaces t.program.value t.places.items
+        × HaveEntries t.program.value t.places.items };
 }
 
 impl FieldPlaces {
@@ -47,7 +48,16 @@ impl FieldPlaces {
         })
     }
 
-    /// The place of a field among the cells of an object that has it, from 0.
+    /// The place of a field that objects of a class have among their cells, from 0.
+    pub fn place_of(&self, field: u32) -> usize
+        requires { IsHeld self.now field }
+        ensures { (c : ℕ) → member field (layout self.now c) ≡ true
+            → result ≡ place field (layout self.now c) }
+    {
+        self.places[field as usize]
+    }
+
+    /// The place of a field among the cells of an object that has it, from 0. It asks for no such object.
     pub fn place(&self, field: u32) -> usize
         ensures { (c : ℕ) → member field (layout self.now c) ≡ true → result ≡ place field (layout self.now c) }
     {

@@ -9,10 +9,10 @@ use Rattle.vm_heap.proofs.Cells.{headers_there, held, text_changed, text_there, 
 use Rattle.vm_heap.proofs.heap.Heap.append_text.Goals as goal
 
 pub append_text-requires : goal.append_text-requires
-append_text-requires c = headers_there c.self.inside.layouts c.self.inside.headers c.self.inside.cells c.args.self.now c.args.object c.self.view_is c.requires
+append_text-requires c = headers_there c.self.inside.layouts c.self.inside.headers c.self.inside.cells.items c.args.self.now c.args.object c.self.view_is c.requires
 
 pub invariant_of-self : goal.invariant_of-self
-invariant_of-self c = record { same = c.self.invariant.same; whole = whole_same c.self.inside.layouts c.self.inside.headers c.append_text.new.self c.self.inside.cells c.append_text.ensures.headers c.self.invariant.whole }
+invariant_of-self c = record { same = c.self.invariant.same; whole = whole_same c.self.inside.layouts c.self.inside.headers c.append_text.new.self c.self.inside.cells.items c.append_text.ensures.headers c.self.invariant.whole }
 
 pub returns-clause-program : goal.returns-clause-program
 returns-clause-program c = ap (λ h. h.program) c.self.view_is
@@ -21,7 +21,7 @@ pub returns-clause-appended : goal.returns-clause-appended
 returns-clause-appended c =
     let p = c.self.inside.layouts in
     let xs = c.self.inside.headers in
-    let cs = c.self.inside.cells in
+    let cs = c.self.inside.cells.items in
     let o = c.args.object in
     let w : o < length xs = headers_there p xs cs c.args.self.now o c.self.view_is c.requires in
     let x = get_or xs o no_entry in

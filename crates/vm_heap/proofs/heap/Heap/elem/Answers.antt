@@ -3,14 +3,14 @@ use Rattle.std.proofs.lemmas.List.{get_or_default}
 use Rattle.vm_heap.specs.Entries.{no_entry}
 use Rattle.jvm_model.specs.World.{no_object}
 use Rattle.vm_heap.specs.Objects.{objects_of}
-use Rattle.vm_heap.proofs.Cells.{moved, elem_cell, headers_there, got}
+use Rattle.vm_heap.proofs.Cells.{few, within_vec, moved, elem_cell, headers_there, got}
 use Rattle.vm_heap.proofs.heap.Heap.elem.Goals as goal
 
 pub of-header-requires : goal.of-header-requires
 of-header-requires c =
     let p = c.self.inside.layouts in
     let xs = c.self.inside.headers in
-    let cs = c.self.inside.cells in
+    let cs = c.self.inside.cells.items in
     let w : c.args.object < length xs = headers_there p xs cs c.args.self.now c.args.object c.self.view_is c.requires.object in
     search rules
 
@@ -18,30 +18,30 @@ pub overflow_add-header : goal.overflow_add-header
 overflow_add-header c =
     let p = c.self.inside.layouts in
     let xs = c.self.inside.headers in
-    let cs = c.self.inside.cells in
+    let cs = c.self.inside.cells.items in
     let w : c.args.object < length xs = headers_there p xs cs c.args.self.now c.args.object c.self.view_is c.requires.object in
     let m : c.args.index < length (get_or (objects_of p xs cs) c.args.object no_object).elems = rw (← c.self.view_is) at c.requires.index in
     let k = moved (elem_cell p xs cs c.args.object (get_or xs c.args.object no_entry) no_object c.args.index c.self.invariant.whole w (get_or_default xs c.args.object no_entry _ w) m) (ap (λ h. h.start + c.args.index) c.of-header.ensures) in
     let b = k.within in
-    let f = c.self.invariant.whole.few in
+    let f = few c.self.inside.cells in
     omega arith
 
-pub get-requires : goal.get-requires
-get-requires c =
+pub index-requires : goal.index-requires
+index-requires c =
     let p = c.self.inside.layouts in
     let xs = c.self.inside.headers in
-    let cs = c.self.inside.cells in
+    let cs = c.self.inside.cells.items in
     let w : c.args.object < length xs = headers_there p xs cs c.args.self.now c.args.object c.self.view_is c.requires.object in
     let m : c.args.index < length (get_or (objects_of p xs cs) c.args.object no_object).elems = rw (← c.self.view_is) at c.requires.index in
     let k = moved (elem_cell p xs cs c.args.object (get_or xs c.args.object no_entry) no_object c.args.index c.self.invariant.whole w (get_or_default xs c.args.object no_entry _ w) m) (ap (λ h. h.start + c.args.index) c.of-header.ensures) in
-    k.within
+    within_vec c.self.inside.cells _ k.within
 
 pub returns : goal.returns
 returns c =
     let p = c.self.inside.layouts in
     let xs = c.self.inside.headers in
-    let cs = c.self.inside.cells in
+    let cs = c.self.inside.cells.items in
     let w : c.args.object < length xs = headers_there p xs cs c.args.self.now c.args.object c.self.view_is c.requires.object in
     let m : c.args.index < length (get_or (objects_of p xs cs) c.args.object no_object).elems = rw (← c.self.view_is) at c.requires.index in
     let k = moved (elem_cell p xs cs c.args.object (get_or xs c.args.object no_entry) no_object c.args.index c.self.invariant.whole w (get_or_default xs c.args.object no_entry _ w) m) (ap (λ h. h.start + c.args.index) c.of-header.ensures) in
-    rw (← c.self.view_is) (got cs _ c.get.result _ c.get.ensures k.within k.value)
+    rw (← c.self.view_is) (got cs _ c.index.result.now _ c.index.ensures k.within k.value)

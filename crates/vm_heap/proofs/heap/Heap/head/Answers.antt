@@ -9,7 +9,7 @@ pub of-requires : goal.of-requires
 of-requires c =
     let p = c.self.inside.layouts in
     let xs = c.self.inside.headers in
-    let cs = c.self.inside.cells in
+    let cs = c.self.inside.cells.items in
     let w : c.args.object < length xs = headers_there p xs cs c.args.self.now c.args.object c.self.view_is c.requires in
     search rules
 
@@ -17,6 +17,6 @@ pub returns : goal.returns
 returns c =
     let p = c.self.inside.layouts in
     let xs = c.self.inside.headers in
-    let cs = c.self.inside.cells in
+    let cs = c.self.inside.cells.items in
     let w : c.args.object < length xs = headers_there p xs cs c.args.self.now c.args.object c.self.view_is c.requires in
     rw (← c.self.view_is) (ap (λ h. h.head) c.of.ensures ∙ head_there p xs cs c.args.object (get_or xs c.args.object no_entry) no_object w (get_or_default xs c.args.object no_entry _ w))

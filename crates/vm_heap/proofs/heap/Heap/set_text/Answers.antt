@@ -8,10 +8,10 @@ use Rattle.vm_heap.proofs.Cells.{headers_there, held, text_changed, text_written
 use Rattle.vm_heap.proofs.heap.Heap.set_text.Goals as goal
 
 pub set_text-requires : goal.set_text-requires
-set_text-requires c = headers_there c.self.inside.layouts c.self.inside.headers c.self.inside.cells c.args.self.now c.args.object c.self.view_is c.requires
+set_text-requires c = headers_there c.self.inside.layouts c.self.inside.headers c.self.inside.cells.items c.args.self.now c.args.object c.self.view_is c.requires
 
 pub invariant_of-self : goal.invariant_of-self
-invariant_of-self c = record { same = c.self.invariant.same; whole = whole_same c.self.inside.layouts c.self.inside.headers c.set_text.new.self c.self.inside.cells c.set_text.ensures.headers c.self.invariant.whole }
+invariant_of-self c = record { same = c.self.invariant.same; whole = whole_same c.self.inside.layouts c.self.inside.headers c.set_text.new.self c.self.inside.cells.items c.set_text.ensures.headers c.self.invariant.whole }
 
 pub returns-clause-program : goal.returns-clause-program
 returns-clause-program c = ap (λ h. h.program) c.self.view_is
@@ -20,7 +20,7 @@ pub returns-clause-written : goal.returns-clause-written
 returns-clause-written c =
     let p = c.self.inside.layouts in
     let xs = c.self.inside.headers in
-    let cs = c.self.inside.cells in
+    let cs = c.self.inside.cells.items in
     let o = c.args.object in
     let w : o < length xs = headers_there p xs cs c.args.self.now o c.self.view_is c.requires in
     let x = get_or xs o no_entry in

@@ -1,5 +1,5 @@
 use Rattle.std.proofs.Common.{◌≡◌, ◌≤◌, ◌++◌, drop, length, take, arith}
-use Rattle.vm_tables.proofs.Laid.{fields_within, noted_all, noted_more, written}
+use Rattle.vm_tables.proofs.Laid.{entries_all, fields_within, noted_all, noted_more, written}
 use Rattle.vm_tables.proofs.field_places.FieldPlaces.of.Goals as goal
 
 pub note_places-requires : goal.note_places-requires
@@ -27,5 +27,7 @@ pub invariant_of-result : goal.invariant_of-result
 invariant_of-result c =
     let m = c.loop-class-test.false in
     let e = c.len-class-end.ensures in
-    let n : length c.args.p.now.classes ≤ c.loop-class.class = omega arith in
-    noted_all c.args.p.now c.of.result.value c.loop-class.class c.loop-class.places.items c.of.ensures n c.loop-class.invariant.placed
+    let n : length c.args.p.now.classes ≤ c.loop-class.class = omega arith in (
+      noted_all c.args.p.now c.of.result.value c.loop-class.class c.loop-class.places.items c.of.ensures n c.loop-class.invariant.placed,
+      entries_all c.args.p.now c.of.result.value c.loop-class.places.items c.requires c.of.ensures c.loop-class.invariant.many,
+    )
