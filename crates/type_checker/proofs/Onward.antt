@@ -8,10 +8,14 @@ use Rattle.jvm_model.specs.declared.instr.Instr.TheVariants as form
 use Rattle.type_frames.specs.declared.fault.CheckFault.{CheckFault}
 use Rattle.type_frames.specs.Frames.{Slots}
 use Rattle.type_frames.specs.Environment.{Environment}
-use Rattle.type_frames.specs.Rules.{opening}
-use Rattle.type_frames.specs.Typing.{incoming, taken_at, taken_by, passed_on, judged, fault_of, breach_at, code_fault, or_later}
+use Rattle.type_frames.specs.Rules.{opening, broken}
+use Rattle.type_frames.specs.Sides.{sides}
+use Rattle.type_frames.specs.Typing.{incoming, taken_at, taken_by, passed, passed_on, breach_of, judged, fault_of, breach_at, code_fault, or_later}
+use Rattle.type_frames.specs.declared.sides.Sides.{Sides}
 use Rattle.type_checker.specs.declared.judge.Step.TheVariants.{Faulty, Onward}
-use Rattle.type_checker.specs.Steps.{IsStep}
+use Rattle.type_checker.specs.declared.judge.Turned.{Turned}
+use Rattle.type_checker.specs.declared.judge.Turned.TheVariants as way
+use Rattle.type_checker.specs.Steps.{IsJudged, IsTurned, IsStep}
 
 pub at_start : (p : Program) (e : Environment) → Some (opening e) ≡ incoming p e 0
 unfolding incoming
@@ -54,3 +58,8 @@ onward p name j e k f g s lt h =
 
 pub at_end : (p : Program) (name : List ℕ) (j : ℕ) (e : Environment) (k : ℕ) → length e.body.code ≤ k → code_fault p name j e k (drop k e.body.code) ≡ None
 at_end p name j e k h = ap (code_fault p name j e k) (drop_all k e.body.code h)
+
+pub turned_by : (p : Program) (e : Environment) (k : ℕ) (x : Placed) (f : Slots) (s : Sides) → s ≡ sides p e x.pc f x.form → (t : Turned) → IsJudged p e k x f s t → IsTurned p e k x (Some f) t
+turned_by p e k x f s q way.NoFrame h = absurd h
+turned_by p e k x f s q (way.Broken r) h = ap breach_of (subst (λ y. broken p e k x f y ≡ Some r) q h)
+turned_by p e k x f s q (way.On g) h = (ap breach_of (subst (λ y. broken p e k x f y ≡ None) q h.0), h.1 ∙ ap (passed f) q)

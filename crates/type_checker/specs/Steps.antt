@@ -6,18 +6,17 @@ use Rattle.type_frames.specs.declared.sides.Sides.{Sides}
 use Rattle.type_frames.specs.Frames.{Slots}
 use Rattle.type_frames.specs.Environment.{Environment}
 use Rattle.type_frames.specs.Rules.{broken}
-use Rattle.type_frames.specs.Typing.{no_frame, rule, passed, passed_on, judged, fault_of}
-use Rattle.type_checker.specs.declared.judge.Judged.{Judged}
-use Rattle.type_checker.specs.declared.judge.Judged.TheVariants as judgement
+use Rattle.type_frames.specs.Typing.{Breach, no_frame, rule, passed, passed_on, judged, fault_of}
 use Rattle.type_checker.specs.declared.judge.Turned.{Turned}
 use Rattle.type_checker.specs.declared.judge.Turned.TheVariants as way
 use Rattle.type_checker.specs.declared.judge.Step.{Step}
 use Rattle.type_checker.specs.declared.judge.Step.TheVariants.{Faulty, Onward}
 
 -- with these sides: the lowest broken rule, or the frame that goes on
-abbrev pub IsJudged : Program → Environment → ℕ → Placed → Slots → Sides → Judged → Type 0
-IsJudged p e k x f s (judgement.Broken r) = broken p e k x f s ≡ Some r
-IsJudged p e k x f s (judgement.Kept g) = (broken p e k x f s ≡ None) × (g ≡ passed f s)
+abbrev pub IsJudged : Program → Environment → ℕ → Placed → Slots → Sides → Turned → Type 0
+IsJudged p e k x f s way.NoFrame = ⊥
+IsJudged p e k x f s (way.Broken r) = broken p e k x f s ≡ Some r
+IsJudged p e k x f s (way.On g) = (broken p e k x f s ≡ None) × (g ≡ passed f s)
 
 -- with the frame before the instruction, if there is one
 abbrev pub IsTurned : Program → Environment → ℕ → Placed → Option Slots → Turned → Type 0
@@ -28,3 +27,8 @@ IsTurned p e k x f (way.On g) = (judged p e k x f ≡ None) × (g ≡ passed_on 
 abbrev pub IsStep : Program → Environment → List ℕ → ℕ → ℕ → Placed → Option Slots → Step → Type 0
 IsStep p e name j k x f (Faulty c) = fault_of name j x.pc (judged p e k x f) ≡ Some c
 IsStep p e name j k x f (Onward g) = (fault_of name j x.pc (judged p e k x f) ≡ None) × (g ≡ passed_on p e f (Some x))
+
+-- no frame, or a broken rule
+abbrev pub breach : Option ℕ → Breach
+breach None = no_frame
+breach (Some r) = rule r

@@ -1,12 +1,12 @@
 //! Needs and types, put together.
 
-ghost use Rattle.std.specs.Prelude.{◌≡◌, ◌∷◌, ◌++◌, [], IfOk, OnOk, flat_map, map, replicate, reverse, cond, length, slice_index_or};
+ghost use Rattle.std.specs.Prelude.{◌≡◌, ◌∷◌, ◌++◌, [], IfOk, OnOk, flat_map, map, MatchOption, replicate, reverse, cond, length, slice_index_or};
 ghost use Rattle.jvm_model.specs.declared.values.Base.TheVariants as jvm;
 ghost use Rattle.type_frames.specs.declared.vtype.VType.TheVariants as types;
 ghost use Rattle.type_frames.specs.declared.sides.Need.TheVariants as wants;
 ghost use Rattle.type_frames.specs.Frames.{same};
 ghost use Rattle.type_frames.specs.Descriptors.{base_text, kind_name, types_of};
-ghost use Rattle.type_frames.specs.Sides.{argument_needs, int_need, int_type, long_need, long_type, needs_of, number_need, number_type, objects_text, on_stack, place_of, plain, result_types, two};
+ghost use Rattle.type_frames.specs.Sides.{argument_needs, int_need, is_raw, int_type, long_need, long_type, needs_of, number_need, number_type, objects_text, on_stack, place_of, plain, result_types, two};
 
 use crate::shape::Shape;
 use et_base::letters::{
@@ -17,13 +17,13 @@ use jvm_model::{Base, Kind, OBJECT, Program, parameters, return_type};
 use std::alloc::Global;
 use type_frames::{Need, Sides, Turn, VType, class_name, copy_type, push_types, same, spread};
 
-/// What takes and gives, and nothing else.
-pub(crate) fn plain(alloc: Global, takes: Items<Need>, gives: Items<VType>) -> Sides
-    ensures { result ≡ plain takes gives }
+/// The sides of what takes and gives nothing; what an instruction takes and gives is added to them.
+pub(crate) fn nothing(alloc: Global) -> Sides
+    ensures { result ≡ plain [] [] }
 {
     Sides {
-        takes,
-        gives,
+        takes: Items::new(alloc),
+        gives: Items::new(alloc),
         reads: Items::new(alloc),
         sets: Items::new(alloc),
         turn: Turn::Keep,
@@ -32,24 +32,6 @@ pub(crate) fn plain(alloc: Global, takes: Items<Need>, gives: Items<VType>) -> S
         starts_well: true,
         calls_well: true,
     }
-}
-
-/// One need.
-pub(crate) fn one_need(alloc: Global, need: Need) -> Result<Items<Need>, NoMemory>
-    ensures { IfOk result (λ ns. ns ≡ need ∷ []) }
-{
-    let mut needs = Items::new(alloc);
-    needs.push(need)?;
-    Ok(needs)
-}
-
-/// One type.
-pub(crate) fn one_type(alloc: Global, t: VType) -> Result<Items<VType>, NoMemory>
-    ensures { IfOk result (λ ts. ts ≡ t ∷ []) }
-{
-    let mut types = Items::new(alloc);
-    types.push(t)?;
-    Ok(types)
 }
 
 /// Appends the need of an int.
@@ -90,79 +72,90 @@ pub(crate) fn push_two(needs: &mut Items<Need>, half: bool) -> Result<(), NoMemo
     needs.push(Need::One)
 }
 
-/// The need of an int.
-pub(crate) fn int_need(alloc: Global) -> Result<Items<Need>, NoMemory>
-    ensures { IfOk result (λ ns. ns ≡ int_need) }
+/// Appends the places of a long, top first.
+pub(crate) fn push_long_type(types: &mut Items<VType>) -> Result<(), NoMemory>
+    ensures { OnOk result (types.new ≡ types.old ++ long_type) }
 {
-    one_need(alloc, Need::Fits(VType::Int))
-}
-
-/// The needs of a whole number of either width.
-pub(crate) fn number_need(alloc: Global, wide: bool) -> Result<Items<Need>, NoMemory>
-    ensures { IfOk result (λ ns. ns ≡ number_need wide) }
-{
-    let mut needs = Items::new(alloc);
-    push_number(&mut needs, wide)?;
-    Ok(needs)
-}
-
-/// The places of an int.
-pub(crate) fn int_type(alloc: Global) -> Result<Items<VType>, NoMemory>
-    ensures { IfOk result (λ ts. ts ≡ int_type) }
-{
-    one_type(alloc, VType::Int)
-}
-
-/// The places of a long, top first.
-pub(crate) fn long_type(alloc: Global) -> Result<Items<VType>, NoMemory>
-    ensures { IfOk result (λ ts. ts ≡ long_type) }
-{
-    let mut types = Items::new(alloc);
     types.push(VType::Top)?;
-    types.push(VType::Long)?;
-    Ok(types)
+    types.push(VType::Long)
 }
 
-/// The places of a whole number of either width.
-pub(crate) fn number_type(alloc: Global, wide: bool) -> Result<Items<VType>, NoMemory>
-    ensures { IfOk result (λ ts. ts ≡ number_type wide) }
+/// Appends the places of a whole number of either width.
+pub(crate) fn push_number_type(types: &mut Items<VType>, wide: bool) -> Result<(), NoMemory>
+    ensures { OnOk result (types.new ≡ types.old ++ number_type wide) }
 {
     if wide {
-        long_type(alloc)
+        push_long_type(types)
     } else {
-        int_type(alloc)
+        types.push(VType::Int)
     }
 }
 
-/// The type of a place of the stack, from its top.
+// The type of a place of the stack, from its top; none past its end.
 #[tactic(auto, using(crate::proofs::Stacks::from_top, crate::proofs::Stacks::from_top_past))]
-pub(crate) fn place_of(alloc: Global, f: &Shape, n: usize) -> Result<VType, NoMemory>
-    ensures { IfOk result (λ t. t ≡ place_of f.now n) }
+fn type_at(f: &Shape, n: usize) -> Option<&VType>
+    ensures { MatchOption result (place_of f.now n ≡ types.Top) (λ t. t.now ≡ place_of f.now n) }
 {
     let depth = f.stack.len();
     if n < depth {
-        return copy_type(alloc, &f.stack[depth - 1 - n]);
+        return Some(&f.stack[depth - 1 - n]);
     }
-    Ok(VType::Top)
+    None
+}
+
+/// The type of a place of the stack, from its top.
+pub(crate) fn place_of(alloc: Global, f: &Shape, n: usize) -> Result<VType, NoMemory>
+    ensures { IfOk result (λ t. t ≡ place_of f.now n) }
+{
+    match type_at(f, n) {
+        None => Ok(VType::Top),
+        Some(t) => copy_type(alloc, t),
+    }
 }
 
 /// Whether a place of the stack is the second half of a long.
-pub(crate) fn is_half(alloc: Global, f: &Shape, n: usize) -> Result<bool, NoMemory>
-    ensures { IfOk result (λ b. b ≡ same (place_of f.now n) types.Top) }
+pub(crate) fn is_half(f: &Shape, n: usize) -> bool
+    ensures { result ≡ same (place_of f.now n) types.Top }
 {
-    let t = place_of(alloc, f, n)?;
-    Ok(same(&t, &VType::Top))
+    match type_at(f, n) {
+        None => true,
+        Some(t) => same(t, &VType::Top),
+    }
 }
 
-/// The types of these places of the stack.
-pub(crate) fn moved(alloc: Global, f: &Shape, order: &[usize]) -> Result<Items<VType>, NoMemory>
-    ensures { IfOk result (λ ts. ts ≡ map (λ n. place_of f.now n) order.now) }
+/// Whether a type is one of an uninitialised object.
+pub(crate) fn is_raw(t: &VType) -> bool
+    ensures { result ≡ is_raw t.now }
 {
-    let mut types = Items::new(alloc);
+    match t {
+        VType::UninitThis | VType::Uninit { pc: _ } => true,
+        _ => false,
+    }
+}
+
+/// Whether a place of the stack is one of an uninitialised object.
+pub(crate) fn is_raw_at(f: &Shape, n: usize) -> bool
+    ensures { result ≡ is_raw (place_of f.now n) }
+{
+    match type_at(f, n) {
+        None => false,
+        Some(t) => is_raw(t),
+    }
+}
+
+/// Appends the types of these places of the stack.
+pub(crate) fn push_moved(
+    alloc: Global,
+    types: &mut Items<VType>,
+    f: &Shape,
+    order: &[usize],
+) -> Result<(), NoMemory>
+    ensures { OnOk result (types.new ≡ types.old ++ map (λ n. place_of f.now n) order.now) }
+{
     for n in order {
         types.push(place_of(alloc, f, *n)?)?;
     }
-    Ok(types)
+    Ok(())
 }
 
 /// Appends the needs of a value of a type's text, top first.
@@ -209,14 +202,16 @@ fn push_all_needs(alloc: Global, needs: &mut Items<Need>, texts: &[Units]) -> Re
     Ok(())
 }
 
-/// The needs of a call's arguments, top first.
-pub(crate) fn argument_needs(alloc: Global, descriptor: &[u16]) -> Result<Items<Need>, NoMemory>
-    ensures { IfOk result (λ ns. ns ≡ argument_needs descriptor.now) }
+/// Appends the needs of a call's arguments, top first.
+pub(crate) fn push_argument_needs(
+    alloc: Global,
+    needs: &mut Items<Need>,
+    descriptor: &[u16],
+) -> Result<(), NoMemory>
+    ensures { OnOk result (needs.new ≡ needs.old ++ argument_needs descriptor.now) }
 {
-    let mut needs = Items::new(alloc);
     let texts = parameters(alloc, descriptor)?;
-    push_all_needs(alloc, &mut needs, texts.as_slice())?;
-    Ok(needs)
+    push_all_needs(alloc, needs, texts.as_slice())
 }
 
 /// Types as they stand on the stack, top first.

@@ -1,6 +1,6 @@
 //! The first fault of a program, and the check.
 
-ghost use Rattle.std.specs.Prelude.{◌≡◌, ◌+◌, IfErr, IfOk, Some, List};
+ghost use Rattle.std.specs.Prelude.{◌≡◌, ◌+◌, IfErr, IfOk, None, Some, List};
 ghost use Rattle.jvm_model.specs.Classes as classes;
 ghost use Rattle.jvm_model.specs.Linked.{Linked};
 ghost use Rattle.type_frames.specs.declared.fault.CheckFault.TheVariants as faults;
@@ -258,6 +258,19 @@ fn all_frames(alloc: Global, p: &Program) -> Result<Items<Items<Frame>>, NoMemor
     Ok(all)
 }
 
+// The given frames of all methods, where the program has no fault.
+fn checked_frames(alloc: Global, p: &Program) -> Result<Items<Items<Frame>>, CheckFault>
+    ensures frames { IfOk result (λ all. all ≡ all_frames p.now) }
+    ensures none { IfOk result (λ _. check_fault p.now ≡ None) }
+    ensures fault { IfErr result (λ e.
+        (e ≡ faults.NoMemory → ⊥) → check_fault p.now ≡ Some e) }
+{
+    if let Some(fault) = first_fault(alloc, p)? {
+        return Err(fault);
+    }
+    Ok(all_frames(alloc, p)?)
+}
+
 /// Checks a linked program by type checking with stack maps (JVMS 4.10.1). Ok comes exactly where the program is typed;
 /// otherwise the first fault is named: by class in suite order, in a class members that aren't supported first, then by
 /// method and place, and at a place `NoFrame` before the lowest rule that is broken.
@@ -268,9 +281,6 @@ pub fn check(alloc: Global, p: Program) -> Result<Checked, CheckFault>
     ensures untyped { IfErr result (λ e. (e ≡ faults.NoMemory → ⊥) → IsTyped p → ⊥) }
     ensures fault { IfErr result (λ e. (e ≡ faults.NoMemory → ⊥) → check_fault p ≡ Some e) }
 {
-    if let Some(fault) = first_fault(alloc, &p)? {
-        return Err(fault);
-    }
-    let frames = all_frames(alloc, &p)?;
+    let frames = checked_frames(alloc, &p)?;
     Ok(Checked::new(p, frames))
 }

@@ -4,6 +4,9 @@ ghost use Rattle.std.specs.Prelude.{◌≡◌, ◌++◌, IfOk, OnOk, MatchOption
 ghost use Rattle.type_frames.specs.Environment.{class_made, environment_of, given_at, is_target, leads, made_at, targets, Environment};
 ghost use Rattle.jvm_model.specs.Descriptors.{return_type};
 ghost use Rattle.type_frames.specs.Descriptors.{types_of};
+ghost use Rattle.type_frames.specs.Frames.{spread};
+ghost use Rattle.type_frames.specs.Given as maps;
+ghost use Rattle.type_frames.specs.Given.{entry_types};
 
 use et_base::{Items, NoMemory};
 use jvm_model::{Body, Instr, MethodRec, Placed, Program, return_type};
@@ -23,6 +26,12 @@ pub(crate) struct Context<'a> {
     pub result: Items<VType>,
     pub body: &'a Body,
     pub given: Items<Frame>,
+    marks: Marks,
+}
+
+// Where a method's instructions, given frames and targets are.
+#[derive(Drop)]
+struct Marks {
     code: Places,
     frames: Places,
     targets: Places,
@@ -37,7 +46,7 @@ impl<'a> Model for Context<'a> {
 
     ghost view = { λ e. record { class = e.class; starts = e.starts; args = e.args; result = e.result; body = e.body.now; given = e.given } };
 
-    ghost invariant = { λ e. (e.code ≡ maps.places e.body.now.code) × (e.frames ≡ map (λ g. g.pc) e.given) × (e.targets ≡ environments.targets e.body.now) };
+    ghost invariant = { λ e. (e.marks.code ≡ maps.places e.body.now.code) × (e.marks.frames ≡ map (λ g. g.pc) e.given) × (e.marks.targets ≡ environments.targets e.body.now) };
 }
 
 // The places of given frames.
@@ -108,6 +117,28 @@ fn branch_targets(alloc: Global, code: &[Placed]) -> Result<Vec<u32>, NoMemory>
     Ok(places)
 }
 
+fn marks_of(alloc: Global, b: &Body, given: &[Frame]) -> Result<Marks, NoMemory>
+    ensures code { IfOk result (λ m. m.code ≡ maps.places b.now.code) }
+    ensures frames { IfOk result (λ m. m.frames ≡ map (λ g. g.pc) given.now) }
+    ensures targets { IfOk result (λ m. m.targets ≡ targets b.now) }
+{
+    let bound = b.length as usize;
+    let code = Places::new(alloc, bound, code_places(alloc, b.code.as_slice())?)?;
+    let frames = Places::new(alloc, bound, frame_places(alloc, given)?)?;
+    Ok(Marks {
+        code,
+        frames,
+        targets: Places::new(alloc, bound, body_targets(alloc, b)?)?,
+    })
+}
+
+// The places of the locals that a method begins with.
+fn argument_types(alloc: Global, p: &Program, m: &MethodRec) -> Result<Items<VType>, NoMemory>
+    ensures { IfOk result (λ ts. ts ≡ spread (entry_types p.now m.now)) }
+{
+    spread(alloc, entry_types(alloc, p, m)?.as_slice())
+}
+
 // The type that a method returns, none for void.
 fn result_types(alloc: Global, m: &MethodRec) -> Result<Items<VType>, NoMemory>
     ensures { IfOk result (λ ts. ts ≡ types_of (return_type m.now.descriptor)) }
@@ -127,11 +158,8 @@ pub(crate) fn context_of<'a>(
 ) -> Result<Context<'a>, NoMemory>
     ensures { IfOk result (λ e. e ≡ environment_of p.now m.now b.now given) }
 {
-    let bound = b.length as usize;
-    let code = Places::new(alloc, bound, code_places(alloc, b.code.as_slice())?)?;
-    let frames = Places::new(alloc, bound, frame_places(alloc, given.as_slice())?)?;
-    let targets = Places::new(alloc, bound, body_targets(alloc, b)?)?;
-    let args = spread(alloc, entry_types(alloc, p, m)?.as_slice())?;
+    let marks = marks_of(alloc, b, given.as_slice())?;
+    let args = argument_types(alloc, p, m)?;
     Ok(Context {
         class: m.class,
         starts: is_constructor(m),
@@ -139,9 +167,7 @@ pub(crate) fn context_of<'a>(
         result: result_types(alloc, m)?,
         body: b,
         given,
-        code,
-        frames,
-        targets,
+        marks,
     })
 }
 
@@ -150,7 +176,7 @@ pub(crate) fn context_of<'a>(
 pub(crate) fn given_at<'a>(e: &'a Context, pc: u32) -> Option<&'a Frame>
     ensures { MatchOption result (given_at e.now pc ≡ None) (λ g. given_at e.now pc ≡ Some g.now) }
 {
-    match e.frames.find(u64::from(pc)) {
+    match e.marks.frames.find(u64::from(pc)) {
         None => None,
         Some(index) => e.given.as_slice().get(index),
     }
@@ -161,7 +187,7 @@ pub(crate) fn given_at<'a>(e: &'a Context, pc: u32) -> Option<&'a Frame>
 pub(crate) fn made_at(e: &Context, pc: u32) -> Option<u32>
     ensures { result ≡ made_at e.now pc }
 {
-    match e.code.find(u64::from(pc)) {
+    match e.marks.code.find(u64::from(pc)) {
         None => None,
         Some(index) => match e.body.code.as_slice().get(index) {
             None => None,
@@ -184,5 +210,5 @@ fn class_made(x: &Placed) -> Option<u32>
 pub(crate) fn is_target(e: &Context, pc: u32) -> bool
     ensures { result ≡ is_target e.now pc }
 {
-    e.targets.find(u64::from(pc)).is_some()
+    e.marks.targets.find(u64::from(pc)).is_some()
 }

@@ -3,8 +3,8 @@
 ghost use Rattle.std.specs.Prelude.{◌≡◌, ◌<◌, IfOk, Some, length, map, slice_get};
 ghost use Rattle.jvm_model.specs.declared.program.Placed.{Placed};
 ghost use Rattle.type_frames.specs.Rules.{first_broken, test};
-ghost use Rattle.type_frames.specs.Typing.{taken_at};
-ghost use Rattle.type_checker.specs.Steps.{IsJudged, IsStep, IsTurned};
+ghost use Rattle.type_frames.specs.Typing.{fault_of, taken_at};
+ghost use Rattle.type_checker.specs.Steps.{breach, IsJudged, IsStep, IsTurned};
 
 use crate::after::{after, shape_of};
 use crate::context::{Context, given_at, is_target};
@@ -16,14 +16,8 @@ use jvm_model::{Placed, Program};
 use std::alloc::Global;
 use type_frames::{CheckFault, Sides};
 
-/// What the rules say of an instruction: the lowest one that it breaks, or the frame that goes on, if control does.
-#[derive(Drop)]
-pub(crate) enum Judged {
-    Broken { rule: u32 },
-    Kept { next: Option<Shape> },
-}
-
-/// How the walk over a method goes on after an instruction.
+/// How the walk over a method goes on after an instruction: there is no frame before it, this is the lowest rule that it
+/// breaks, or this frame goes on, if control does.
 #[derive(Drop)]
 pub(crate) enum Turned {
     NoFrame,
@@ -64,9 +58,9 @@ fn broken(
     x: &Placed,
     f: Shape,
     s: &Sides,
-) -> Result<Judged, NoMemory>
+) -> Result<Turned, NoMemory>
     requires { k < length e.now.body.code }
-    ensures { IfOk result (λ j. IsJudged p.now e.now k x.now f s.now j) }
+    ensures { IfOk result (IsJudged p.now e.now k x.now f s.now) }
 {
     let has_room = rule_1(e, &f, s);
     let takes_operands = rule_2(p, &f, s);
@@ -87,9 +81,9 @@ fn broken(
         (11, s.calls_well),
     ];
     match first_broken(&rules) {
-        Some(rule) => Ok(Judged::Broken { rule }),
-        None if s.falls => Ok(Judged::Kept { next: Some(next) }),
-        None => Ok(Judged::Kept { next: None }),
+        Some(rule) => Ok(Turned::Broken { rule }),
+        None if s.falls => Ok(Turned::On { next: Some(next) }),
+        None => Ok(Turned::On { next: None }),
     }
 }
 
@@ -102,13 +96,10 @@ fn judge(
     f: Shape,
 ) -> Result<Turned, NoMemory>
     requires { k < length e.now.body.code }
-    ensures { IfOk result (λ t. IsTurned p.now e.now k x.now (Some f) t) }
+    ensures { IfOk result (IsTurned p.now e.now k x.now (Some f)) }
 {
     let s = sides(alloc, p, e, x.pc, &f, &x.form)?;
-    match broken(alloc, p, e, k, x, f, &s)? {
-        Judged::Broken { rule } => Ok(Turned::Broken { rule }),
-        Judged::Kept { next } => Ok(Turned::On { next }),
-    }
+    broken(alloc, p, e, k, x, f, &s)
 }
 
 // Takes the frame given at the place, or the one that came in.
@@ -136,6 +127,28 @@ fn turned_at(
     }
 }
 
+/// What is wrong at a place: no frame, or the rule that is broken.
+pub(crate) fn fault(
+    alloc: Global,
+    name: &[u16],
+    method: u32,
+    pc: u32,
+    broken: Option<u32>,
+) -> Result<CheckFault, NoMemory>
+    ensures { IfOk result (λ c. fault_of name.now method pc (Some (breach broken)) ≡ Some c) }
+{
+    let class = Items::from_slice(alloc, name)?;
+    Ok(match broken {
+        None => CheckFault::NoFrame { class, method, pc },
+        Some(rule) => CheckFault::Rule {
+            class,
+            method,
+            pc,
+            rule,
+        },
+    })
+}
+
 fn named_step(
     alloc: Global,
     p: &Program,
@@ -152,19 +165,10 @@ fn named_step(
 {
     match turned_at(alloc, p, e, k, x, running)? {
         Turned::NoFrame => Ok(Step::Faulty {
-            fault: CheckFault::NoFrame {
-                class: Items::from_slice(alloc, name)?,
-                method,
-                pc: x.pc,
-            },
+            fault: fault(alloc, name, method, x.pc, None)?,
         }),
         Turned::Broken { rule } => Ok(Step::Faulty {
-            fault: CheckFault::Rule {
-                class: Items::from_slice(alloc, name)?,
-                method,
-                pc: x.pc,
-                rule,
-            },
+            fault: fault(alloc, name, method, x.pc, Some(rule))?,
         }),
         Turned::On { next } => Ok(Step::Onward { next }),
     }

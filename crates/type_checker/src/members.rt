@@ -7,12 +7,13 @@ ghost use Rattle.jvm_model.specs.Classes.{class_at, field_at, method_at};
 ghost use Rattle.type_frames.specs.declared.vtype.VType.{VType};
 ghost use Rattle.type_frames.specs.declared.vtype.VType.TheVariants as types;
 ghost use Rattle.type_frames.specs.declared.sides.Need.TheVariants as wants;
+ghost use Rattle.type_frames.specs.declared.sides.Turn.TheVariants as turns;
 ghost use Rattle.type_frames.specs.Descriptors.{kind_name, types_of};
 ghost use Rattle.type_frames.specs.Sides.{argument_needs, array_need, call_sides, element_type, init_sides, int_need, int_type, is_that, is_raw, is_start, is_unset, leaving, loaded, needs_of, new_sides, object_of, on_stack, owner_need, place_of, plain, put_field_sides, ref_sides, refs_sides, return_sides, return_typed, returns, special_need, special_sides, started, stored};
 
 use crate::build::{
-    argument_needs, int_need, int_type, kind_name, long_type, number_need, objects_text, one_need,
-    one_type, place_of, plain, push_int, push_needs, result_types, text_types,
+    is_raw_at, kind_name, objects_text, place_of, push_argument_needs, push_int, push_long,
+    push_long_type, push_needs, result_types, text_types,
 };
 use crate::context::{Context, made_at};
 use crate::shape::Shape;
@@ -20,123 +21,109 @@ use et_base::letters::{ARRAY, CHAR, CLASS, INT, LONG, SHORT};
 use et_base::{Items, NoMemory};
 use jvm_model::{CLINIT, Cell, INIT, Kind, OBJECT, Program, Sort, THROWABLE};
 use std::alloc::Global;
-use type_frames::{Need, Sides, Turn, VType, assignable, class_name, copy_type, object_of, same};
+use type_frames::{
+    Need, Sides, Turn, VType, class_name, copy_type, object_assignable, object_of, same,
+};
 
-/// Whether a type is one of an uninitialised object.
-pub(crate) fn is_raw(t: &VType) -> bool
-    ensures { result ≡ is_raw t.now }
+pub(crate) fn reference(s: &mut Sides, f: &Shape) -> Result<(), NoMemory>
+    requires { s.old ≡ plain [] [] }
+    ensures { OnOk result (s.new ≡ ref_sides (place_of f.now 0)) }
 {
-    match t {
-        VType::UninitThis | VType::Uninit { pc: _ } => true,
-        _ => false,
+    s.starts_well = !is_raw_at(f, 0);
+    s.takes.push(Need::Ref)
+}
+
+pub(crate) fn references(s: &mut Sides, f: &Shape) -> Result<(), NoMemory>
+    requires { s.old ≡ plain [] [] }
+    ensures { OnOk result (s.new ≡ refs_sides (place_of f.now 0) (place_of f.now 1)) }
+{
+    s.starts_well = !is_raw_at(f, 0) && !is_raw_at(f, 1);
+    s.takes.push(Need::Ref)?;
+    s.takes.push(Need::Ref)
+}
+
+pub(crate) fn test_two(s: &mut Sides) -> Result<(), NoMemory>
+    requires { s.old ≡ plain [] [] }
+    ensures { OnOk result (s.new ≡ plain (int_need ++ int_need) []) }
+{
+    push_int(&mut s.takes)?;
+    push_int(&mut s.takes)
+}
+
+/// A jump by a table.
+pub(crate) fn jump(s: &mut Sides) -> Result<(), NoMemory>
+    requires { s.old ≡ plain [] [] }
+    ensures { OnOk result (s.new ≡ leaving (plain int_need [])) }
+{
+    s.falls = false;
+    push_int(&mut s.takes)
+}
+
+// The needs of a return of another type than the descriptor has.
+fn push_returned(needs: &mut Items<Need>, of: &Option<Sort>) -> Result<(), NoMemory>
+    ensures { OnOk result (needs.new ≡ needs.old ++ (return_typed (types.Top ∷ []) true of.now).takes) }
+{
+    match of {
+        None => Ok(()),
+        Some(Sort::Int) => push_int(needs),
+        Some(Sort::Long) => push_long(needs),
+        Some(Sort::Ref) => needs.push(Need::Ref),
     }
-}
-
-pub(crate) fn reference(alloc: Global, f: &Shape) -> Result<Sides, NoMemory>
-    ensures { IfOk result (λ s. s ≡ ref_sides (place_of f.now 0)) }
-{
-    let mut s = plain(alloc, one_need(alloc, Need::Ref)?, Items::new(alloc));
-    let t = place_of(alloc, f, 0)?;
-    s.starts_well = !is_raw(&t);
-    Ok(s)
-}
-
-pub(crate) fn references(alloc: Global, f: &Shape) -> Result<Sides, NoMemory>
-    ensures { IfOk result (λ s. s ≡ refs_sides (place_of f.now 0) (place_of f.now 1)) }
-{
-    let mut takes = one_need(alloc, Need::Ref)?;
-    takes.push(Need::Ref)?;
-    let mut s = plain(alloc, takes, Items::new(alloc));
-    let t = place_of(alloc, f, 0)?;
-    let u = place_of(alloc, f, 1)?;
-    s.starts_well = !is_raw(&t) && !is_raw(&u);
-    Ok(s)
-}
-
-pub(crate) fn test(alloc: Global) -> Result<Sides, NoMemory>
-    ensures { IfOk result (λ s. s ≡ plain int_need []) }
-{
-    Ok(plain(alloc, int_need(alloc)?, Items::new(alloc)))
-}
-
-pub(crate) fn test_two(alloc: Global) -> Result<Sides, NoMemory>
-    ensures { IfOk result (λ s. s ≡ plain (int_need ++ int_need) []) }
-{
-    let mut takes = int_need(alloc)?;
-    push_int(&mut takes)?;
-    Ok(plain(alloc, takes, Items::new(alloc)))
-}
-
-/// Control doesn't go on at the next instruction.
-pub(crate) fn leaving(s: Sides) -> Sides
-    ensures { result ≡ leaving s }
-{
-    let mut s = s;
-    s.falls = false;
-    s
-}
-
-fn returns(alloc: Global, takes: Items<Need>, well: bool) -> Sides
-    ensures { result ≡ returns takes well }
-{
-    let mut s = plain(alloc, takes, Items::new(alloc));
-    s.falls = false;
-    s.returns_well = well;
-    s
 }
 
 // The sides of a return, by the type that the descriptor has; a list of types is none or one of them.
 fn return_typed(
     alloc: Global,
+    s: &mut Sides,
     types: &[VType],
     early: bool,
     of: &Option<Sort>,
-) -> Result<Sides, NoMemory>
-    ensures { IfOk result (λ s. s ≡ return_typed types.now early of.now) }
+) -> Result<(), NoMemory>
+    requires { s.old ≡ plain [] [] }
+    ensures { OnOk result (s.new ≡ return_typed types.now early of.now) }
 {
+    s.falls = false;
+    s.returns_well = !early;
     match (types, of) {
-        ([], None) => Ok(returns(alloc, Items::new(alloc), !early)),
-        ([VType::Int], Some(Sort::Int)) => Ok(returns(alloc, int_need(alloc)?, !early)),
-        ([VType::Long], Some(Sort::Long)) => Ok(returns(alloc, number_need(alloc, true)?, !early)),
+        ([], None) => Ok(()),
+        ([VType::Int], Some(Sort::Int)) => push_int(&mut s.takes),
+        ([VType::Long], Some(Sort::Long)) => push_long(&mut s.takes),
         ([VType::Object(name)], Some(Sort::Ref)) => {
-            let t = VType::Object(Items::from_slice(alloc, name.as_slice())?);
-            Ok(returns(alloc, one_need(alloc, Need::Fits(t))?, !early))
+            let name = Items::from_slice(alloc, name.as_slice())?;
+            s.takes.push(Need::Fits(VType::Object(name)))
         }
-        (_, None) => Ok(returns(alloc, Items::new(alloc), false)),
-        (_, Some(Sort::Int)) => Ok(returns(alloc, int_need(alloc)?, false)),
-        (_, Some(Sort::Long)) => Ok(returns(alloc, number_need(alloc, true)?, false)),
-        (_, Some(Sort::Ref)) => Ok(returns(alloc, one_need(alloc, Need::Ref)?, false)),
+        _ => {
+            s.returns_well = false;
+            push_returned(&mut s.takes, of)
+        }
     }
 }
 
 pub(crate) fn give_back(
     alloc: Global,
+    s: &mut Sides,
     e: &Context,
     f: &Shape,
     of: &Option<Sort>,
-) -> Result<Sides, NoMemory>
-    ensures { IfOk result (λ s. s ≡ return_sides e.now f.now of.now) }
+) -> Result<(), NoMemory>
+    requires { s.old ≡ plain [] [] }
+    ensures { OnOk result (s.new ≡ return_sides e.now f.now of.now) }
 {
-    return_typed(alloc, e.result.as_slice(), e.starts && f.flag, of)
+    return_typed(alloc, s, e.result.as_slice(), e.starts && f.flag, of)
 }
 
-pub(crate) fn get_static(alloc: Global, p: &Program, field: u32) -> Result<Sides, NoMemory>
-    ensures { IfOk result (λ s.
-        s ≡ plain [] (on_stack (types_of (field_at p.now field).descriptor))) }
+pub(crate) fn get_static(
+    alloc: Global,
+    s: &mut Sides,
+    p: &Program,
+    field: u32,
+) -> Result<(), NoMemory>
+    requires { s.old ≡ plain [] [] }
+    ensures { OnOk result (s.new ≡
+        plain [] (on_stack (types_of (field_at p.now field).descriptor))) }
 {
-    Ok(plain(
-        alloc,
-        Items::new(alloc),
-        text_types(alloc, p.field_descriptor(field))?,
-    ))
-}
-
-pub(crate) fn put_static(alloc: Global, p: &Program, field: u32) -> Result<Sides, NoMemory>
-    ensures { IfOk result (λ s. s ≡ plain (needs_of (field_at p.now field).descriptor) []) }
-{
-    let mut takes = Items::new(alloc);
-    push_needs(alloc, &mut takes, p.field_descriptor(field))?;
-    Ok(plain(alloc, takes, Items::new(alloc)))
+    s.gives = text_types(alloc, p.field_descriptor(field))?;
+    Ok(())
 }
 
 // The need of an object of a class.
@@ -148,16 +135,19 @@ fn object_need(alloc: Global, p: &Program, class: u32) -> Result<Need, NoMemory>
 
 pub(crate) fn get_field(
     alloc: Global,
+    s: &mut Sides,
     p: &Program,
     named: u32,
     field: u32,
-) -> Result<Sides, NoMemory>
-    ensures { IfOk result (λ s.
-        s ≡ plain (wants.Fits (object_of p.now named) ∷ [])
+) -> Result<(), NoMemory>
+    requires { s.old ≡ plain [] [] }
+    ensures { OnOk result (s.new ≡
+        plain (wants.Fits (object_of p.now named) ∷ [])
         (on_stack (types_of (field_at p.now field).descriptor))) }
 {
-    let takes = one_need(alloc, object_need(alloc, p, named)?)?;
-    Ok(plain(alloc, takes, text_types(alloc, p.field_descriptor(field))?))
+    s.takes.push(object_need(alloc, p, named)?)?;
+    s.gives = text_types(alloc, p.field_descriptor(field))?;
+    Ok(())
 }
 
 // The object of a putfield: also an uninitialised `this`, where the named and the declaring class are the current one.
@@ -179,81 +169,74 @@ fn owner_need(
 
 pub(crate) fn put_field(
     alloc: Global,
+    s: &mut Sides,
     p: &Program,
     e: &Context,
     f: &Shape,
     named: u32,
     field: u32,
-) -> Result<Sides, NoMemory>
-    ensures { IfOk result (λ s.
-        s ≡ put_field_sides p.now e.now f.now named (field_at p.now field)) }
+) -> Result<(), NoMemory>
+    requires { s.old ≡ plain [] [] }
+    ensures { OnOk result (s.new ≡
+        put_field_sides p.now e.now f.now named (field_at p.now field)) }
 {
-    let mut takes = Items::new(alloc);
-    push_needs(alloc, &mut takes, p.field_descriptor(field))?;
-    let t = place_of(alloc, f, takes.len())?;
-    takes.push(owner_need(alloc, p, e, named, field, &t)?)?;
-    Ok(plain(alloc, takes, Items::new(alloc)))
+    push_needs(alloc, &mut s.takes, p.field_descriptor(field))?;
+    let t = place_of(alloc, f, s.takes.len())?;
+    s.takes.push(owner_need(alloc, p, e, named, field, &t)?)
 }
 
-// A call with this need of its receiver, if it has one; `<clinit>` and `<init>` aren't called so.
-fn call(alloc: Global, p: &Program, method: u32, receiver: Option<Need>) -> Result<Sides, NoMemory>
-    ensures { IfOk result (λ s. s ≡ call_sides (method_at p.now method) (option_to_list receiver)) }
+/// A call without its receiver; `<clinit>` and `<init>` aren't called so.
+pub(crate) fn call(alloc: Global, s: &mut Sides, p: &Program, method: u32) -> Result<(), NoMemory>
+    requires { s.old ≡ plain [] [] }
+    ensures { OnOk result (s.new ≡ call_sides (method_at p.now method) []) }
 {
-    let mut takes = argument_needs(alloc, p.method_descriptor(method))?;
-    if let Some(need) = receiver {
-        takes.push(need)?;
-    }
-    let mut s = plain(
-        alloc,
-        takes,
-        result_types(alloc, p.method_descriptor(method))?,
-    );
+    let descriptor = p.method_descriptor(method);
+    push_argument_needs(alloc, &mut s.takes, descriptor)?;
+    s.gives = result_types(alloc, descriptor)?;
     let name = p.method_name(method);
     s.calls_well = !(name == CLINIT.as_slice() || name == INIT.as_slice());
-    Ok(s)
-}
-
-pub(crate) fn call_static(alloc: Global, p: &Program, method: u32) -> Result<Sides, NoMemory>
-    ensures { IfOk result (λ s. s ≡ call_sides (method_at p.now method) []) }
-{
-    call(alloc, p, method, None)
+    Ok(())
 }
 
 pub(crate) fn call_virtual(
     alloc: Global,
+    s: &mut Sides,
     p: &Program,
     named: &Kind,
     method: u32,
-) -> Result<Sides, NoMemory>
-    ensures { IfOk result (λ s.
-        s ≡ call_sides (method_at p.now method)
+) -> Result<(), NoMemory>
+    requires { s.old ≡ plain [] [] }
+    ensures { OnOk result (s.new ≡
+        call_sides (method_at p.now method)
         (wants.Fits (types.Object (kind_name p.now named.now)) ∷ [])) }
 {
-    let need = Need::Fits(VType::Object(kind_name(alloc, p, named)?));
-    call(alloc, p, method, Some(need))
+    call(alloc, s, p, method)?;
+    s.takes
+        .push(Need::Fits(VType::Object(kind_name(alloc, p, named)?)))
 }
 
 pub(crate) fn call_interface(
     alloc: Global,
+    s: &mut Sides,
     p: &Program,
     named: u32,
     method: u32,
-) -> Result<Sides, NoMemory>
-    ensures { IfOk result (λ s.
-        s ≡ call_sides (method_at p.now method) (wants.Fits (object_of p.now named) ∷ [])) }
+) -> Result<(), NoMemory>
+    requires { s.old ≡ plain [] [] }
+    ensures { OnOk result (s.new ≡
+        call_sides (method_at p.now method) (wants.Fits (object_of p.now named) ∷ [])) }
 {
-    let need = object_need(alloc, p, named)?;
-    call(alloc, p, method, Some(need))
+    call(alloc, s, p, method)?;
+    s.takes.push(object_need(alloc, p, named)?)
 }
 
 // The receiver of invokespecial.
 fn special_need(alloc: Global, p: &Program, e: &Context, named: &Kind) -> Result<Need, NoMemory>
     ensures { IfOk result (λ n. n ≡ special_need p.now e.now named.now) }
 {
-    let own = object_of(alloc, p, e.class)?;
     let other = VType::Object(kind_name(alloc, p, named)?);
-    if assignable(p, &own, &other) {
-        return Ok(Need::Fits(own));
+    if object_assignable(p, p.class_name(e.class), &other) {
+        return object_need(alloc, p, e.class);
     }
     Ok(Need::Never)
 }
@@ -296,42 +279,66 @@ fn started(
     }
 }
 
-fn init(alloc: Global, p: &Program, e: &Context, f: &Shape, method: u32) -> Result<Sides, NoMemory>
-    ensures { IfOk result (λ s.
-        s ≡ init_sides p.now e.now f.now (method_at p.now method)
-        (place_of f.now (length (argument_needs (method_at p.now method).descriptor)))) }
+// The object that an `<init>` of the class starts.
+fn start(
+    alloc: Global,
+    s: &mut Sides,
+    p: &Program,
+    e: &Context,
+    class: u32,
+    t: VType,
+) -> Result<(), NoMemory>
+    ensures { OnOk result (s.new ≡
+        record s.old {
+          turn = turns.All t (started p.now e.now class t);
+          starts_well = is_start p.now e.now class t;
+        }) }
 {
-    let mut takes = argument_needs(alloc, p.method_descriptor(method))?;
-    let t = place_of(alloc, f, takes.len())?;
-    takes.push(Need::Raw)?;
-    let mut s = plain(
-        alloc,
-        takes,
-        result_types(alloc, p.method_descriptor(method))?,
-    );
-    let class = p.method_class(method);
     s.starts_well = is_start(p, e, class, &t);
     let to = started(alloc, p, e, class, &t)?;
     s.turn = Turn::All { from: t, to };
-    Ok(s)
+    Ok(())
+}
+
+fn init(
+    alloc: Global,
+    s: &mut Sides,
+    p: &Program,
+    e: &Context,
+    f: &Shape,
+    method: u32,
+) -> Result<(), NoMemory>
+    requires { s.old ≡ plain [] [] }
+    ensures { OnOk result (s.new ≡
+        init_sides p.now e.now f.now (method_at p.now method)
+        (place_of f.now (length (argument_needs (method_at p.now method).descriptor)))) }
+{
+    let descriptor = p.method_descriptor(method);
+    push_argument_needs(alloc, &mut s.takes, descriptor)?;
+    let t = place_of(alloc, f, s.takes.len())?;
+    s.takes.push(Need::Raw)?;
+    s.gives = result_types(alloc, descriptor)?;
+    start(alloc, s, p, e, p.method_class(method), t)
 }
 
 pub(crate) fn call_special(
     alloc: Global,
+    s: &mut Sides,
     p: &Program,
     e: &Context,
     f: &Shape,
     named: &Kind,
     method: u32,
-) -> Result<Sides, NoMemory>
-    ensures { IfOk result (λ s.
-        s ≡ special_sides p.now e.now f.now named.now (method_at p.now method)) }
+) -> Result<(), NoMemory>
+    requires { s.old ≡ plain [] [] }
+    ensures { OnOk result (s.new ≡
+        special_sides p.now e.now f.now named.now (method_at p.now method)) }
 {
     if p.method_name(method) == INIT.as_slice() {
-        return init(alloc, p, e, f, method);
+        return init(alloc, s, p, e, f, method);
     }
-    let need = special_need(alloc, p, e, named)?;
-    call(alloc, p, method, Some(need))
+    call(alloc, s, p, method)?;
+    s.takes.push(special_need(alloc, p, e, named)?)
 }
 
 // No place of the stack is what the `new` at this place made before.
@@ -356,20 +363,16 @@ fn holds_made(stack: &[VType], pc: u32) -> bool
     stack.iter().rev().any(|t| is_made(t, pc))
 }
 
-pub(crate) fn create(alloc: Global, f: &Shape, pc: u32) -> Result<Sides, NoMemory>
-    ensures { IfOk result (λ s. s ≡ new_sides f.now pc) }
+pub(crate) fn create(s: &mut Sides, f: &Shape, pc: u32) -> Result<(), NoMemory>
+    requires { s.old ≡ plain [] [] }
+    ensures { OnOk result (s.new ≡ new_sides f.now pc) }
 {
-    let mut s = plain(
-        alloc,
-        Items::new(alloc),
-        one_type(alloc, VType::Uninit { pc })?,
-    );
     s.turn = Turn::All {
         from: VType::Uninit { pc },
         to: VType::Top,
     };
     s.starts_well = is_unset(&f.stack, pc);
-    Ok(s)
+    s.gives.push(VType::Uninit { pc })
 }
 
 // The array that a load or a store works on.
@@ -413,112 +416,149 @@ fn element_type(alloc: Global, t: &VType) -> Result<VType, NoMemory>
     }
 }
 
-// What a load from an array gives.
-fn loaded(alloc: Global, f: &Shape, of: &Cell) -> Result<Items<VType>, NoMemory>
-    ensures { IfOk result (λ ts. ts ≡ loaded f.now of.now) }
+// Appends what a load from an array gives.
+fn push_loaded(
+    alloc: Global,
+    types: &mut Items<VType>,
+    f: &Shape,
+    of: &Cell,
+) -> Result<(), NoMemory>
+    ensures { OnOk result (types.new ≡ types.old ++ loaded f.now of.now) }
 {
     match of {
-        Cell::Long => long_type(alloc),
-        Cell::Ref => {
-            let t = place_of(alloc, f, 1)?;
-            one_type(alloc, element_type(alloc, &t)?)
-        }
-        Cell::Int | Cell::Byte | Cell::Char | Cell::Short => int_type(alloc),
+        Cell::Long => push_long_type(types),
+        Cell::Ref => types.push(element_type(alloc, &place_of(alloc, f, 1)?)?),
+        Cell::Int | Cell::Byte | Cell::Char | Cell::Short => types.push(VType::Int),
     }
 }
 
-// What a store into an array takes on top.
-fn stored(alloc: Global, p: &Program, of: &Cell) -> Result<Items<Need>, NoMemory>
-    ensures { IfOk result (λ ns. ns ≡ stored p.now of.now) }
+// Appends what a store into an array takes on top.
+fn push_stored(
+    alloc: Global,
+    needs: &mut Items<Need>,
+    p: &Program,
+    of: &Cell,
+) -> Result<(), NoMemory>
+    ensures { OnOk result (needs.new ≡ needs.old ++ stored p.now of.now) }
 {
     match of {
-        Cell::Long => number_need(alloc, true),
-        Cell::Ref => one_need(alloc, object_need(alloc, p, OBJECT)?),
-        Cell::Int | Cell::Byte | Cell::Char | Cell::Short => int_need(alloc),
+        Cell::Long => push_long(needs),
+        Cell::Ref => needs.push(object_need(alloc, p, OBJECT)?),
+        Cell::Int | Cell::Byte | Cell::Char | Cell::Short => push_int(needs),
     }
 }
 
 pub(crate) fn array_load(
     alloc: Global,
+    s: &mut Sides,
     p: &Program,
     f: &Shape,
     of: &Cell,
-) -> Result<Sides, NoMemory>
-    ensures { IfOk result (λ s.
-        s ≡ plain (wants.Fits types.Int ∷ array_need p.now of.now ∷ []) (loaded f.now of.now)) }
+) -> Result<(), NoMemory>
+    requires { s.old ≡ plain [] [] }
+    ensures { OnOk result (s.new ≡
+        plain (wants.Fits types.Int ∷ array_need p.now of.now ∷ []) (loaded f.now of.now)) }
 {
-    let mut takes = int_need(alloc)?;
-    takes.push(array_need(alloc, p, of)?)?;
-    Ok(plain(alloc, takes, loaded(alloc, f, of)?))
+    push_int(&mut s.takes)?;
+    s.takes.push(array_need(alloc, p, of)?)?;
+    push_loaded(alloc, &mut s.gives, f, of)
 }
 
-pub(crate) fn array_store(alloc: Global, p: &Program, of: &Cell) -> Result<Sides, NoMemory>
-    ensures { IfOk result (λ s.
-        s ≡ plain (stored p.now of.now ++ (wants.Fits types.Int ∷ array_need p.now of.now ∷ [])) []) }
+pub(crate) fn array_store(
+    alloc: Global,
+    s: &mut Sides,
+    p: &Program,
+    of: &Cell,
+) -> Result<(), NoMemory>
+    requires { s.old ≡ plain [] [] }
+    ensures { OnOk result (s.new ≡
+        plain (stored p.now of.now ++ (wants.Fits types.Int ∷ array_need p.now of.now ∷ [])) []) }
 {
-    let mut takes = stored(alloc, p, of)?;
-    push_int(&mut takes)?;
-    takes.push(array_need(alloc, p, of)?)?;
-    Ok(plain(alloc, takes, Items::new(alloc)))
+    push_stored(alloc, &mut s.takes, p, of)?;
+    push_int(&mut s.takes)?;
+    s.takes.push(array_need(alloc, p, of)?)
 }
 
-pub(crate) fn new_array(alloc: Global, p: &Program, kind: &Kind) -> Result<Sides, NoMemory>
-    ensures { IfOk result (λ s. s ≡ plain int_need (types.Object (kind_name p.now kind.now) ∷ [])) }
+// Appends the type of a class or an array.
+fn push_kind(
+    alloc: Global,
+    gives: &mut Items<VType>,
+    p: &Program,
+    kind: &Kind,
+) -> Result<(), NoMemory>
+    ensures { OnOk result (gives.new ≡ gives.old ++ types.Object (kind_name p.now kind.now) ∷ []) }
 {
-    let gives = one_type(alloc, VType::Object(kind_name(alloc, p, kind)?))?;
-    Ok(plain(alloc, int_need(alloc)?, gives))
+    gives.push(VType::Object(kind_name(alloc, p, kind)?))
 }
 
-fn int_needs(alloc: Global, count: u8) -> Result<Items<Need>, NoMemory>
-    ensures { IfOk result (λ ns. ns ≡ replicate count (wants.Fits types.Int)) }
+pub(crate) fn new_array(
+    alloc: Global,
+    s: &mut Sides,
+    p: &Program,
+    kind: &Kind,
+) -> Result<(), NoMemory>
+    requires { s.old ≡ plain [] [] }
+    ensures { OnOk result (s.new ≡ plain int_need (types.Object (kind_name p.now kind.now) ∷ [])) }
 {
-    let mut needs = Items::new(alloc);
+    push_int(&mut s.takes)?;
+    push_kind(alloc, &mut s.gives, p, kind)
+}
+
+fn push_ints(needs: &mut Items<Need>, count: u8) -> Result<(), NoMemory>
+    ensures { OnOk result (needs.new ≡ needs.old ++ replicate count (wants.Fits types.Int)) }
+{
     for done in 0..count {
-        push_int(&mut needs)?;
+        push_int(needs)?;
     }
-    Ok(needs)
+    Ok(())
 }
 
 pub(crate) fn new_arrays(
     alloc: Global,
+    s: &mut Sides,
     p: &Program,
     kind: &Kind,
     dims: u8,
-) -> Result<Sides, NoMemory>
-    ensures { IfOk result (λ s.
-        s ≡ plain (replicate dims (wants.Fits types.Int))
+) -> Result<(), NoMemory>
+    requires { s.old ≡ plain [] [] }
+    ensures { OnOk result (s.new ≡
+        plain (replicate dims (wants.Fits types.Int))
         (types.Object (kind_name p.now kind.now) ∷ [])) }
 {
-    let gives = one_type(alloc, VType::Object(kind_name(alloc, p, kind)?))?;
-    Ok(plain(alloc, int_needs(alloc, dims)?, gives))
+    push_ints(&mut s.takes, dims)?;
+    push_kind(alloc, &mut s.gives, p, kind)
 }
 
-pub(crate) fn array_length(alloc: Global) -> Result<Sides, NoMemory>
-    ensures { IfOk result (λ s. s ≡ plain (wants.Array ∷ []) int_type) }
+pub(crate) fn array_length(s: &mut Sides) -> Result<(), NoMemory>
+    requires { s.old ≡ plain [] [] }
+    ensures { OnOk result (s.new ≡ plain (wants.Array ∷ []) int_type) }
 {
-    Ok(plain(alloc, one_need(alloc, Need::Array)?, int_type(alloc)?))
+    s.takes.push(Need::Array)?;
+    s.gives.push(VType::Int)
 }
 
-pub(crate) fn throw(alloc: Global, p: &Program) -> Result<Sides, NoMemory>
-    ensures { IfOk result (λ s. s ≡ leaving (plain (wants.Fits (object_of p.now 7) ∷ []) [])) }
+pub(crate) fn throw(alloc: Global, s: &mut Sides, p: &Program) -> Result<(), NoMemory>
+    requires { s.old ≡ plain [] [] }
+    ensures { OnOk result (s.new ≡ leaving (plain (wants.Fits (object_of p.now 7) ∷ []) [])) }
 {
-    let takes = one_need(alloc, object_need(alloc, p, THROWABLE)?)?;
-    Ok(leaving(plain(alloc, takes, Items::new(alloc))))
+    s.falls = false;
+    s.takes.push(object_need(alloc, p, THROWABLE)?)
 }
 
-pub(crate) fn cast(alloc: Global, p: &Program, kind: &Kind) -> Result<Sides, NoMemory>
-    ensures { IfOk result (λ s.
-        s ≡ plain (wants.Fits (object_of p.now 0) ∷ [])
+pub(crate) fn cast(alloc: Global, s: &mut Sides, p: &Program, kind: &Kind) -> Result<(), NoMemory>
+    requires { s.old ≡ plain [] [] }
+    ensures { OnOk result (s.new ≡
+        plain (wants.Fits (object_of p.now 0) ∷ [])
         (types.Object (kind_name p.now kind.now) ∷ [])) }
 {
-    let takes = one_need(alloc, object_need(alloc, p, OBJECT)?)?;
-    let gives = one_type(alloc, VType::Object(kind_name(alloc, p, kind)?))?;
-    Ok(plain(alloc, takes, gives))
+    s.takes.push(object_need(alloc, p, OBJECT)?)?;
+    push_kind(alloc, &mut s.gives, p, kind)
 }
 
-pub(crate) fn instance_of(alloc: Global, p: &Program) -> Result<Sides, NoMemory>
-    ensures { IfOk result (λ s. s ≡ plain (wants.Fits (object_of p.now 0) ∷ []) int_type) }
+pub(crate) fn instance_of(alloc: Global, s: &mut Sides, p: &Program) -> Result<(), NoMemory>
+    requires { s.old ≡ plain [] [] }
+    ensures { OnOk result (s.new ≡ plain (wants.Fits (object_of p.now 0) ∷ []) int_type) }
 {
-    let takes = one_need(alloc, object_need(alloc, p, OBJECT)?)?;
-    Ok(plain(alloc, takes, int_type(alloc)?))
+    s.takes.push(object_need(alloc, p, OBJECT)?)?;
+    s.gives.push(VType::Int)
 }

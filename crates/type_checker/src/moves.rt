@@ -6,8 +6,8 @@ ghost use Rattle.type_frames.specs.declared.sides.Need.TheVariants as wants;
 ghost use Rattle.type_frames.specs.Sides.{const_type, convert_sides, dup2_sides, dup2_x1_sides, dup2_x2_sides, dup_sides, dup_x1_sides, dup_x2_sides, inc_sides, int_type, load_sides, long_need, long_type, number_need, number_type, place_of, plain, reading, second_need, setting, store_sides, swap_sides, two};
 
 use crate::build::{
-    int_need, int_type, is_half, long_type, moved, number_need, number_type, one_need, one_type,
-    place_of, plain, push_long, push_number, push_two,
+    is_half, place_of, push_int, push_long, push_long_type, push_moved, push_number,
+    push_number_type, push_two,
 };
 use crate::shape::Shape;
 use et_base::{Items, NoMemory};
@@ -15,172 +15,134 @@ use jvm_model::{Conv, Op, Program, STRING, Sort, Value};
 use std::alloc::Global;
 use type_frames::{Need, Reading, Setting, Sides, VType, copy_type, object_of};
 
-pub(crate) fn pop(alloc: Global) -> Result<Sides, NoMemory>
-    ensures { IfOk result (λ s. s ≡ plain (wants.One ∷ []) []) }
+pub(crate) fn dup(alloc: Global, s: &mut Sides, f: &Shape) -> Result<(), NoMemory>
+    requires { s.old ≡ plain [] [] }
+    ensures { OnOk result (s.new ≡ dup_sides (place_of f.now 0)) }
 {
-    Ok(plain(alloc, one_need(alloc, Need::One)?, Items::new(alloc)))
+    s.takes.push(Need::One)?;
+    push_moved(alloc, &mut s.gives, f, &[0, 0])
 }
 
-pub(crate) fn pop2(alloc: Global, f: &Shape) -> Result<Sides, NoMemory>
-    ensures { IfOk result (λ s. s ≡ plain (two (place_of f.now 0)) []) }
+pub(crate) fn dup_x1(alloc: Global, s: &mut Sides, f: &Shape) -> Result<(), NoMemory>
+    requires { s.old ≡ plain [] [] }
+    ensures { OnOk result (s.new ≡ dup_x1_sides (place_of f.now 0) (place_of f.now 1)) }
 {
-    let mut takes = Items::new(alloc);
-    push_two(&mut takes, is_half(alloc, f, 0)?)?;
-    Ok(plain(alloc, takes, Items::new(alloc)))
+    push_two(&mut s.takes, false)?;
+    push_moved(alloc, &mut s.gives, f, &[0, 1, 0])
 }
 
-pub(crate) fn dup(alloc: Global, f: &Shape) -> Result<Sides, NoMemory>
-    ensures { IfOk result (λ s. s ≡ dup_sides (place_of f.now 0)) }
+pub(crate) fn dup_x2(alloc: Global, s: &mut Sides, f: &Shape) -> Result<(), NoMemory>
+    requires { s.old ≡ plain [] [] }
+    ensures { OnOk result (s.new ≡
+        dup_x2_sides (place_of f.now 0) (place_of f.now 1) (place_of f.now 2)) }
 {
-    Ok(plain(
-        alloc,
-        one_need(alloc, Need::One)?,
-        moved(alloc, f, &[0, 0])?,
-    ))
+    s.takes.push(Need::One)?;
+    push_two(&mut s.takes, is_half(f, 1))?;
+    push_moved(alloc, &mut s.gives, f, &[0, 1, 2, 0])
 }
 
-pub(crate) fn dup_x1(alloc: Global, f: &Shape) -> Result<Sides, NoMemory>
-    ensures { IfOk result (λ s. s ≡ dup_x1_sides (place_of f.now 0) (place_of f.now 1)) }
+pub(crate) fn dup2(alloc: Global, s: &mut Sides, f: &Shape) -> Result<(), NoMemory>
+    requires { s.old ≡ plain [] [] }
+    ensures { OnOk result (s.new ≡ dup2_sides (place_of f.now 0) (place_of f.now 1)) }
 {
-    let mut takes = one_need(alloc, Need::One)?;
-    takes.push(Need::One)?;
-    Ok(plain(alloc, takes, moved(alloc, f, &[0, 1, 0])?))
+    push_two(&mut s.takes, is_half(f, 0))?;
+    push_moved(alloc, &mut s.gives, f, &[0, 1, 0, 1])
 }
 
-pub(crate) fn dup_x2(alloc: Global, f: &Shape) -> Result<Sides, NoMemory>
-    ensures { IfOk result (λ s.
-        s ≡ dup_x2_sides (place_of f.now 0) (place_of f.now 1) (place_of f.now 2)) }
+pub(crate) fn dup2_x1(alloc: Global, s: &mut Sides, f: &Shape) -> Result<(), NoMemory>
+    requires { s.old ≡ plain [] [] }
+    ensures { OnOk result (s.new ≡
+        dup2_x1_sides (place_of f.now 0) (place_of f.now 1) (place_of f.now 2)) }
 {
-    let mut takes = one_need(alloc, Need::One)?;
-    push_two(&mut takes, is_half(alloc, f, 1)?)?;
-    Ok(plain(alloc, takes, moved(alloc, f, &[0, 1, 2, 0])?))
+    push_two(&mut s.takes, is_half(f, 0))?;
+    s.takes.push(Need::One)?;
+    push_moved(alloc, &mut s.gives, f, &[0, 1, 2, 0, 1])
 }
 
-pub(crate) fn dup2(alloc: Global, f: &Shape) -> Result<Sides, NoMemory>
-    ensures { IfOk result (λ s. s ≡ dup2_sides (place_of f.now 0) (place_of f.now 1)) }
+pub(crate) fn dup2_x2(alloc: Global, s: &mut Sides, f: &Shape) -> Result<(), NoMemory>
+    requires { s.old ≡ plain [] [] }
+    ensures { OnOk result (s.new ≡
+        dup2_x2_sides (place_of f.now 0) (place_of f.now 1) (place_of f.now 2) (place_of f.now 3)) }
 {
-    let mut takes = Items::new(alloc);
-    push_two(&mut takes, is_half(alloc, f, 0)?)?;
-    Ok(plain(alloc, takes, moved(alloc, f, &[0, 1, 0, 1])?))
+    push_two(&mut s.takes, is_half(f, 0))?;
+    push_two(&mut s.takes, is_half(f, 2))?;
+    push_moved(alloc, &mut s.gives, f, &[0, 1, 2, 3, 0, 1])
 }
 
-pub(crate) fn dup2_x1(alloc: Global, f: &Shape) -> Result<Sides, NoMemory>
-    ensures { IfOk result (λ s.
-        s ≡ dup2_x1_sides (place_of f.now 0) (place_of f.now 1) (place_of f.now 2)) }
+pub(crate) fn swap(alloc: Global, s: &mut Sides, f: &Shape) -> Result<(), NoMemory>
+    requires { s.old ≡ plain [] [] }
+    ensures { OnOk result (s.new ≡ swap_sides (place_of f.now 0) (place_of f.now 1)) }
 {
-    let mut takes = Items::new(alloc);
-    push_two(&mut takes, is_half(alloc, f, 0)?)?;
-    takes.push(Need::One)?;
-    Ok(plain(alloc, takes, moved(alloc, f, &[0, 1, 2, 0, 1])?))
+    push_two(&mut s.takes, false)?;
+    push_moved(alloc, &mut s.gives, f, &[1, 0])
 }
 
-pub(crate) fn dup2_x2(alloc: Global, f: &Shape) -> Result<Sides, NoMemory>
-    ensures { IfOk result (λ s.
-        s ≡ dup2_x2_sides (place_of f.now 0) (place_of f.now 1) (place_of f.now 2) (place_of f.now 3)) }
+pub(crate) fn push_constant(
+    alloc: Global,
+    types: &mut Items<VType>,
+    p: &Program,
+    v: &Value,
+) -> Result<(), NoMemory>
+    ensures { OnOk result (types.new ≡ types.old ++ const_type p.now v.now) }
 {
-    let mut takes = Items::new(alloc);
-    push_two(&mut takes, is_half(alloc, f, 0)?)?;
-    push_two(&mut takes, is_half(alloc, f, 2)?)?;
-    Ok(plain(alloc, takes, moved(alloc, f, &[0, 1, 2, 3, 0, 1])?))
+    match v {
+        Value::Int(_) => types.push(VType::Int),
+        Value::Long(_) => push_long_type(types),
+        Value::Null => types.push(VType::Null),
+        Value::Lit(_) => types.push(object_of(alloc, p, STRING)?),
+        Value::Obj(_) => types.push(VType::Top),
+    }
 }
 
-pub(crate) fn swap(alloc: Global, f: &Shape) -> Result<Sides, NoMemory>
-    ensures { IfOk result (λ s. s ≡ swap_sides (place_of f.now 0) (place_of f.now 1)) }
-{
-    let mut takes = one_need(alloc, Need::One)?;
-    takes.push(Need::One)?;
-    Ok(plain(alloc, takes, moved(alloc, f, &[1, 0])?))
-}
-
-pub(crate) fn constant(alloc: Global, p: &Program, v: &Value) -> Result<Sides, NoMemory>
-    ensures { IfOk result (λ s. s ≡ plain [] (const_type p.now v.now)) }
-{
-    let gives = match v {
-        Value::Int(_) => int_type(alloc)?,
-        Value::Long(_) => long_type(alloc)?,
-        Value::Null => one_type(alloc, VType::Null)?,
-        Value::Lit(_) => one_type(alloc, object_of(alloc, p, STRING)?)?,
-        Value::Obj(_) => one_type(alloc, VType::Top)?,
-    };
-    Ok(plain(alloc, Items::new(alloc), gives))
-}
-
-// The needs of the second operand: an int for a shift of longs too.
-fn second_need(alloc: Global, op: &Op, wide: bool) -> Result<Items<Need>, NoMemory>
-    ensures { IfOk result (λ ns. ns ≡ second_need op.now wide) }
+// Appends the needs of the second operand: an int for a shift of longs too.
+fn push_second(needs: &mut Items<Need>, op: &Op, wide: bool) -> Result<(), NoMemory>
+    ensures { OnOk result (needs.new ≡ needs.old ++ second_need op.now wide) }
 {
     match op {
-        Op::Shl | Op::Shr | Op::Ushr => int_need(alloc),
-        Op::Add | Op::Sub | Op::Mul | Op::Div | Op::Rem | Op::And | Op::Or | Op::Xor => number_need(
-            alloc, wide,
+        Op::Shl | Op::Shr | Op::Ushr => push_int(needs),
+        Op::Add | Op::Sub | Op::Mul | Op::Div | Op::Rem | Op::And | Op::Or | Op::Xor => push_number(
+            needs, wide,
         ),
     }
 }
 
-pub(crate) fn binary(alloc: Global, op: &Op, wide: bool) -> Result<Sides, NoMemory>
-    ensures { IfOk result (λ s.
-        s ≡ plain (second_need op.now wide ++ number_need wide) (number_type wide)) }
+pub(crate) fn binary(s: &mut Sides, op: &Op, wide: bool) -> Result<(), NoMemory>
+    requires { s.old ≡ plain [] [] }
+    ensures { OnOk result (s.new ≡
+        plain (second_need op.now wide ++ number_need wide) (number_type wide)) }
 {
-    let mut takes = second_need(alloc, op, wide)?;
-    push_number(&mut takes, wide)?;
-    Ok(plain(alloc, takes, number_type(alloc, wide)?))
+    push_second(&mut s.takes, op, wide)?;
+    push_number(&mut s.takes, wide)?;
+    push_number_type(&mut s.gives, wide)
 }
 
-pub(crate) fn negation(alloc: Global, wide: bool) -> Result<Sides, NoMemory>
-    ensures { IfOk result (λ s. s ≡ plain (number_need wide) (number_type wide)) }
+/// From a whole number of one width to one of another.
+pub(crate) fn number(s: &mut Sides, from: bool, to: bool) -> Result<(), NoMemory>
+    requires { s.old ≡ plain [] [] }
+    ensures { OnOk result (s.new ≡ plain (number_need from) (number_type to)) }
 {
-    Ok(plain(alloc, number_need(alloc, wide)?, number_type(alloc, wide)?))
+    push_number(&mut s.takes, from)?;
+    push_number_type(&mut s.gives, to)
 }
 
-pub(crate) fn conversion(alloc: Global, to: &Conv) -> Result<Sides, NoMemory>
-    ensures { IfOk result (λ s. s ≡ convert_sides to.now) }
+pub(crate) fn conversion(s: &mut Sides, to: &Conv) -> Result<(), NoMemory>
+    requires { s.old ≡ plain [] [] }
+    ensures { OnOk result (s.new ≡ convert_sides to.now) }
 {
     match to {
-        Conv::I2l => Ok(plain(alloc, number_need(alloc, false)?, number_type(alloc, true)?)),
-        Conv::L2i => Ok(plain(alloc, number_need(alloc, true)?, number_type(alloc, false)?)),
-        Conv::I2b | Conv::I2c | Conv::I2s => Ok(plain(
-            alloc,
-            number_need(alloc, false)?,
-            number_type(alloc, false)?,
-        )),
+        Conv::I2l => number(s, false, true),
+        Conv::L2i => number(s, true, false),
+        Conv::I2b | Conv::I2c | Conv::I2s => number(s, false, false),
     }
 }
 
-pub(crate) fn comparison(alloc: Global) -> Result<Sides, NoMemory>
-    ensures { IfOk result (λ s. s ≡ plain (long_need ++ long_need) int_type) }
+pub(crate) fn comparison(s: &mut Sides) -> Result<(), NoMemory>
+    requires { s.old ≡ plain [] [] }
+    ensures { OnOk result (s.new ≡ plain (long_need ++ long_need) int_type) }
 {
-    let mut takes = number_need(alloc, true)?;
-    push_long(&mut takes)?;
-    Ok(plain(alloc, takes, int_type(alloc)?))
-}
-
-// Gives these types, and asks this of a local.
-fn with_reading(
-    alloc: Global,
-    gives: Items<VType>,
-    local: u16,
-    need: Need,
-) -> Result<Sides, NoMemory>
-    ensures { IfOk result (λ s. s ≡ record (plain [] gives) { reads = reading local need ∷ [] }) }
-{
-    let mut s = plain(alloc, Items::new(alloc), gives);
-    s.reads.push(Reading {
-        local: u32::from(local),
-        need,
-    })?;
-    Ok(s)
-}
-
-// Takes these, and sets a local.
-fn with_setting(alloc: Global, takes: Items<Need>, local: u16, to: VType) -> Result<Sides, NoMemory>
-    ensures { IfOk result (λ s. s ≡ record (plain takes []) { sets = setting local to ∷ [] }) }
-{
-    let mut s = plain(alloc, takes, Items::new(alloc));
-    s.sets.push(Setting {
-        local: u32::from(local),
-        to,
-    })?;
-    Ok(s)
+    push_long(&mut s.takes)?;
+    push_long(&mut s.takes)?;
+    s.gives.push(VType::Int)
 }
 
 fn local_of(alloc: Global, f: &Shape, n: u16) -> Result<VType, NoMemory>
@@ -192,72 +154,96 @@ fn local_of(alloc: Global, f: &Shape, n: u16) -> Result<VType, NoMemory>
     }
 }
 
-fn load_long(alloc: Global, local: u16) -> Result<Sides, NoMemory>
-    ensures { IfOk result (λ s.
-        s ≡ record (plain [] long_type)
+/// Asks this of a local.
+pub(crate) fn read(reads: &mut Items<Reading>, local: u16, need: Need) -> Result<(), NoMemory>
+    ensures { OnOk result (reads.new ≡ reads.old ++ reading local need ∷ []) }
+{
+    reads.push(Reading {
+        local: u32::from(local),
+        need,
+    })
+}
+
+fn load_long(s: &mut Sides, local: u16) -> Result<(), NoMemory>
+    requires { s.old ≡ plain [] [] }
+    ensures { OnOk result (s.new ≡
+        record (plain [] long_type)
         { reads = reading local (wants.Fits types.Long) ∷ reading (local + 1) wants.Half ∷ [] }) }
 {
-    let mut s = plain(alloc, Items::new(alloc), long_type(alloc)?);
-    s.reads.push(Reading {
-        local: u32::from(local),
-        need: Need::Fits(VType::Long),
-    })?;
+    push_long_type(&mut s.gives)?;
+    read(&mut s.reads, local, Need::Fits(VType::Long))?;
     s.reads.push(Reading {
         local: u32::from(local) + 1,
         need: Need::Half,
-    })?;
-    Ok(s)
+    })
 }
 
-pub(crate) fn load(alloc: Global, f: &Shape, of: &Sort, local: u16) -> Result<Sides, NoMemory>
-    ensures { IfOk result (λ s. s ≡ load_sides f.now of.now local) }
+pub(crate) fn load(
+    alloc: Global,
+    s: &mut Sides,
+    f: &Shape,
+    of: &Sort,
+    local: u16,
+) -> Result<(), NoMemory>
+    requires { s.old ≡ plain [] [] }
+    ensures { OnOk result (s.new ≡ load_sides f.now of.now local) }
 {
     match of {
-        Sort::Int => with_reading(alloc, int_type(alloc)?, local, Need::Fits(VType::Int)),
-        Sort::Long => load_long(alloc, local),
-        Sort::Ref => with_reading(
-            alloc,
-            one_type(alloc, local_of(alloc, f, local)?)?,
-            local,
-            Need::Ref,
-        ),
+        Sort::Int => {
+            s.gives.push(VType::Int)?;
+            read(&mut s.reads, local, Need::Fits(VType::Int))
+        }
+        Sort::Long => load_long(s, local),
+        Sort::Ref => {
+            s.gives.push(local_of(alloc, f, local)?)?;
+            read(&mut s.reads, local, Need::Ref)
+        }
     }
 }
 
-fn store_long(alloc: Global, local: u16) -> Result<Sides, NoMemory>
-    ensures { IfOk result (λ s.
-        s ≡ record (plain long_need [])
+// Sets a local.
+fn set(sets: &mut Items<Setting>, local: u16, to: VType) -> Result<(), NoMemory>
+    ensures { OnOk result (sets.new ≡ sets.old ++ setting local to ∷ []) }
+{
+    sets.push(Setting {
+        local: u32::from(local),
+        to,
+    })
+}
+
+fn store_long(s: &mut Sides, local: u16) -> Result<(), NoMemory>
+    requires { s.old ≡ plain [] [] }
+    ensures { OnOk result (s.new ≡
+        record (plain long_need [])
         { sets = setting (local + 1) types.Top ∷ setting local types.Long ∷ [] }) }
 {
-    let mut s = plain(alloc, number_need(alloc, true)?, Items::new(alloc));
+    push_long(&mut s.takes)?;
     s.sets.push(Setting {
         local: u32::from(local) + 1,
         to: VType::Top,
     })?;
-    s.sets.push(Setting {
-        local: u32::from(local),
-        to: VType::Long,
-    })?;
-    Ok(s)
+    set(&mut s.sets, local, VType::Long)
 }
 
-pub(crate) fn store(alloc: Global, f: &Shape, of: &Sort, local: u16) -> Result<Sides, NoMemory>
-    ensures { IfOk result (λ s. s ≡ store_sides f.now of.now local) }
+pub(crate) fn store(
+    alloc: Global,
+    s: &mut Sides,
+    f: &Shape,
+    of: &Sort,
+    local: u16,
+) -> Result<(), NoMemory>
+    requires { s.old ≡ plain [] [] }
+    ensures { OnOk result (s.new ≡ store_sides f.now of.now local) }
 {
     match of {
-        Sort::Int => with_setting(alloc, int_need(alloc)?, local, VType::Int),
-        Sort::Long => store_long(alloc, local),
-        Sort::Ref => with_setting(
-            alloc,
-            one_need(alloc, Need::Ref)?,
-            local,
-            place_of(alloc, f, 0)?,
-        ),
+        Sort::Int => {
+            push_int(&mut s.takes)?;
+            set(&mut s.sets, local, VType::Int)
+        }
+        Sort::Long => store_long(s, local),
+        Sort::Ref => {
+            s.takes.push(Need::Ref)?;
+            set(&mut s.sets, local, place_of(alloc, f, 0)?)
+        }
     }
-}
-
-pub(crate) fn increment(alloc: Global, local: u16) -> Result<Sides, NoMemory>
-    ensures { IfOk result (λ s. s ≡ inc_sides local) }
-{
-    with_reading(alloc, Items::new(alloc), local, Need::Fits(VType::Int))
 }

@@ -9,8 +9,8 @@ ghost use Rattle.type_frames.specs.Environment.{leads};
 ghost use Rattle.type_frames.specs.Rules as rules;
 
 use crate::after::opening;
+use crate::build::is_raw;
 use crate::context::{Context, given_at, made_at};
-use crate::members::is_raw;
 use crate::shape::Shape;
 use et_base::NoMemory;
 use et_base::letters::{ARRAY, BOOLEAN, BYTE};

@@ -5,8 +5,8 @@ ghost use Rattle.type_frames.specs.Typing.{code_fault, method_fault};
 
 use crate::after::opening;
 use crate::context::{Context, context_of};
-use crate::judge::{Step, step_at};
-use et_base::{Items, NoMemory};
+use crate::judge::{Step, fault, step_at};
+use et_base::NoMemory;
 use jvm_model::{MethodRec, Program};
 use std::alloc::Global;
 use type_frames::{CheckFault, given_frames};
@@ -53,13 +53,7 @@ pub(crate) fn method_fault(
         return Ok(None);
     };
     let Some(given) = given_frames(alloc, p, m)? else {
-        let class = Items::from_slice(alloc, name)?;
-        return Ok(Some(CheckFault::Rule {
-            class,
-            method,
-            pc: 0,
-            rule: 8,
-        }));
+        return Ok(Some(fault(alloc, name, method, 0, Some(8))?));
     };
     let e = context_of(alloc, p, m, b, given)?;
     code_fault(alloc, p, &e, name, method)

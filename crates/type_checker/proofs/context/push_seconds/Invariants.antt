@@ -1,5 +1,5 @@
-use Rattle.std.proofs.Common.{◌≡◌, ◌++◌, drop, map}
+use Rattle.std.proofs.Common.{◌≡◌, ◌++◌, take, map}
 use Rattle.type_checker.proofs.context.push_seconds.Given as goal
 
 abbrev pub invariant-loop-pair : goal.invariant-loop-pair
-invariant-loop-pair l = l.places.items ++ map (λ x. x.1) (drop l.pair-index l.pairs) ≡ l.initial.places.items ++ map (λ x. x.1) l.pairs
+invariant-loop-pair l = l.places.items ≡ l.initial.places.items ++ map (λ x. x.1) (take l.pair-index l.pairs)

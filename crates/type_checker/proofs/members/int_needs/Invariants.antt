@@ -1,7 +1,0 @@
-use Rattle.std.proofs.Common.{◌≡◌, replicate}
-use Rattle.type_frames.specs.declared.vtype.VType.TheVariants.{Int}
-use Rattle.type_frames.specs.declared.sides.Need.TheVariants.{Fits}
-use Rattle.type_checker.proofs.members.int_needs.Given as goal
-
-abbrev pub invariant-loop-done : goal.invariant-loop-done
-invariant-loop-done l = l.needs ≡ replicate l.done (Fits Int)
