@@ -6,7 +6,7 @@ ghost use Rattle.vm_frames.specs.Stack.{HasRoom};
 ghost use Rattle.vm_mem.specs.Meets.{IsReady, IsNext, Meets, Tells};
 ghost use Rattle.vm_natives.specs.Rows.{with_own, builder_row, begun_row, appended_row};
 
-use crate::texts::{boolean_text, char_unit, int_text, length_of, long_text};
+use crate::texts::length_of;
 use crate::working::{answer, answer_text};
 use et_base::{NoMemory, Units};
 use jvm_model::{NULL_POINTER_EXCEPTION, Next, Own, Program, Value};
@@ -184,7 +184,7 @@ pub fn append_string<M: Memory>(
 
 /// These units are appended to a builder, which is answered. It reads the builder's text, and counts 1 and a unit for
 /// each that is appended.
-fn append<M: Memory>(
+pub fn append<M: Memory>(
     stack: &mut FrameStack,
     memory: &mut M,
     p: &Program,
@@ -227,118 +227,6 @@ fn append<M: Memory>(
         Value::Long(_) => unreachable!(),
         Value::Lit(_) => unreachable!(),
     }
-}
-
-/// `append(int)`: the decimal digits. It reads the builder's text, and counts 1 and a unit for each that is appended.
-#[tactic(auto, unfolding(jvm_model::specs::NativesString::native_builder))]
-pub fn append_int<M: Memory>(
-    alloc: Global,
-    stack: &mut FrameStack,
-    memory: &mut M,
-    p: &Program,
-    own: &Own,
-    next: u32,
-    left: &mut u64,
-) -> Result<Next, NoMemory>
-    requires program { p.now ≡ M.program memory.old }
-    requires place { IsNext p.now stack.old next }
-    requires row { IsReady (builder_row Native.BuilderAppendInt)
-        (M.program memory.old) (M.world memory.old) (with_own stack.old own.now) }
-    ensures meets { IfOk result (λ x. Meets (builder_row Native.BuilderAppendInt)
-        (M.program memory.old) (M.world memory.old) (with_own stack.old own.now) left.old
-        x (with_own stack.new own.now) (M.world memory.new) left.new) }
-    ensures told { IfOk result (λ x. Tells (builder_row Native.BuilderAppendInt)
-        (M.program memory.old) (M.world memory.old) (with_own stack.old own.now)
-        x M.follows memory.old memory.new) }
-    ensures of { OnOk result (M.program memory.new ≡ M.program memory.old) }
-{
-    let more = int_text(alloc, stack.pop_int())?;
-    let receiver = stack.pop_value();
-    append(stack, memory, p, own, receiver, more.as_slice(), next, left)
-}
-
-/// `append(long)`: the decimal digits. It reads the builder's text, and counts 1 and a unit for each that is appended.
-#[tactic(auto, unfolding(jvm_model::specs::NativesString::native_builder))]
-pub fn append_long<M: Memory>(
-    alloc: Global,
-    stack: &mut FrameStack,
-    memory: &mut M,
-    p: &Program,
-    own: &Own,
-    next: u32,
-    left: &mut u64,
-) -> Result<Next, NoMemory>
-    requires program { p.now ≡ M.program memory.old }
-    requires place { IsNext p.now stack.old next }
-    requires row { IsReady (builder_row Native.BuilderAppendLong)
-        (M.program memory.old) (M.world memory.old) (with_own stack.old own.now) }
-    ensures meets { IfOk result (λ x. Meets (builder_row Native.BuilderAppendLong)
-        (M.program memory.old) (M.world memory.old) (with_own stack.old own.now) left.old
-        x (with_own stack.new own.now) (M.world memory.new) left.new) }
-    ensures told { IfOk result (λ x. Tells (builder_row Native.BuilderAppendLong)
-        (M.program memory.old) (M.world memory.old) (with_own stack.old own.now)
-        x M.follows memory.old memory.new) }
-    ensures of { OnOk result (M.program memory.new ≡ M.program memory.old) }
-{
-    let more = long_text(alloc, stack.pop_long())?;
-    let receiver = stack.pop_value();
-    append(stack, memory, p, own, receiver, more.as_slice(), next, left)
-}
-
-/// `append(boolean)`: `true` or `false`. It reads the builder's text, and counts 1 and a unit for each that is
-/// appended.
-#[tactic(auto, unfolding(jvm_model::specs::NativesString::native_builder))]
-pub fn append_boolean<M: Memory>(
-    alloc: Global,
-    stack: &mut FrameStack,
-    memory: &mut M,
-    p: &Program,
-    own: &Own,
-    next: u32,
-    left: &mut u64,
-) -> Result<Next, NoMemory>
-    requires program { p.now ≡ M.program memory.old }
-    requires place { IsNext p.now stack.old next }
-    requires row { IsReady (builder_row Native.BuilderAppendBoolean)
-        (M.program memory.old) (M.world memory.old) (with_own stack.old own.now) }
-    ensures meets { IfOk result (λ x. Meets (builder_row Native.BuilderAppendBoolean)
-        (M.program memory.old) (M.world memory.old) (with_own stack.old own.now) left.old
-        x (with_own stack.new own.now) (M.world memory.new) left.new) }
-    ensures told { IfOk result (λ x. Tells (builder_row Native.BuilderAppendBoolean)
-        (M.program memory.old) (M.world memory.old) (with_own stack.old own.now)
-        x M.follows memory.old memory.new) }
-    ensures of { OnOk result (M.program memory.new ≡ M.program memory.old) }
-{
-    let more = Units::from_ascii(alloc, boolean_text(stack.pop_int()))?;
-    let receiver = stack.pop_value();
-    append(stack, memory, p, own, receiver, more.as_slice(), next, left)
-}
-
-/// `append(char)`: the one unit. It reads the builder's text, and counts 2.
-#[tactic(auto, unfolding(jvm_model::specs::NativesString::native_builder))]
-pub fn append_char<M: Memory>(
-    stack: &mut FrameStack,
-    memory: &mut M,
-    p: &Program,
-    own: &Own,
-    next: u32,
-    left: &mut u64,
-) -> Result<Next, NoMemory>
-    requires program { p.now ≡ M.program memory.old }
-    requires place { IsNext p.now stack.old next }
-    requires row { IsReady (builder_row Native.BuilderAppendChar)
-        (M.program memory.old) (M.world memory.old) (with_own stack.old own.now) }
-    ensures meets { IfOk result (λ x. Meets (builder_row Native.BuilderAppendChar)
-        (M.program memory.old) (M.world memory.old) (with_own stack.old own.now) left.old
-        x (with_own stack.new own.now) (M.world memory.new) left.new) }
-    ensures told { IfOk result (λ x. Tells (builder_row Native.BuilderAppendChar)
-        (M.program memory.old) (M.world memory.old) (with_own stack.old own.now)
-        x M.follows memory.old memory.new) }
-    ensures of { OnOk result (M.program memory.new ≡ M.program memory.old) }
-{
-    let unit = char_unit(stack.pop_int());
-    let receiver = stack.pop_value();
-    append(stack, memory, p, own, receiver, &[unit], next, left)
 }
 
 /// `length()`: the number of units. It reads the text and counts 1.

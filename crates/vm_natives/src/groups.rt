@@ -8,9 +8,10 @@ ghost use Rattle.vm_natives.specs.Rows.{growth, with_own, object_row, string_row
 use crate::named::{Change, Named, with_name, with_texts};
 use crate::references::same_reference;
 use crate::stream::{print, print_boolean, print_char, print_int, print_long, print_text};
-use crate::working::{answer, end, truth};
+use crate::texts::{boolean_text, char_unit, int_text, long_text};
+use crate::working::{answer, answer_text, end, truth};
 use crate::{builder, env, string, system, throwable};
-use et_base::NoMemory;
+use et_base::{NoMemory, Units};
 use jvm_model::{Native, Next, Own, Program, Value};
 use std::alloc::Global;
 use vm_frames::FrameStack;
@@ -96,11 +97,31 @@ pub fn of_string<M: Memory>(
         ),
         Native::StringSubstring => string::substring(alloc, stack, memory, p, own, next, left),
         Native::StringConcat => string::concat(alloc, stack, memory, p, own, next, left),
-        Native::StringToString => string::to_string(stack, memory, p, own, next, left),
-        Native::StringOfInt => string::of_int(alloc, stack, memory, p, own, next, left),
-        Native::StringOfLong => string::of_long(alloc, stack, memory, p, own, next, left),
-        Native::StringOfBoolean => string::of_boolean(alloc, stack, memory, p, own, next, left),
-        Native::StringOfChar => string::of_char(alloc, stack, memory, p, own, next, left),
+        // `toString()`: the String itself. It counts 1.
+        Native::StringToString => {
+            let receiver = stack.pop_value();
+            Ok(answer(stack, p, receiver, next, left))
+        }
+        // `valueOf(int)`: the decimal digits. A new String counts its length and 2.
+        Native::StringOfInt => {
+            let text = int_text(alloc, stack.pop_int())?;
+            answer_text(stack, memory, p, own, text, 0, next, left)
+        }
+        // `valueOf(long)`: the decimal digits. A new String counts its length and 2.
+        Native::StringOfLong => {
+            let text = long_text(alloc, stack.pop_long())?;
+            answer_text(stack, memory, p, own, text, 0, next, left)
+        }
+        // `valueOf(boolean)`: `true` or `false`. A new String counts its length and 2.
+        Native::StringOfBoolean => {
+            let text = Units::from_ascii(alloc, boolean_text(stack.pop_int()))?;
+            answer_text(stack, memory, p, own, text, 0, next, left)
+        }
+        // `valueOf(char)`: the one unit. A new String counts its length and 2.
+        Native::StringOfChar => {
+            let text = Units::from_slice(alloc, &[char_unit(stack.pop_int())])?;
+            answer_text(stack, memory, p, own, text, 0, next, left)
+        }
         _ => unreachable!(),
     }
 }
@@ -135,12 +156,31 @@ pub fn of_builder<M: Memory>(
         Native::BuilderAppendString => builder::append_string(
             alloc, stack, memory, p, own, next, left,
         ),
-        Native::BuilderAppendInt => builder::append_int(alloc, stack, memory, p, own, next, left),
-        Native::BuilderAppendLong => builder::append_long(alloc, stack, memory, p, own, next, left),
-        Native::BuilderAppendBoolean => builder::append_boolean(
-            alloc, stack, memory, p, own, next, left,
-        ),
-        Native::BuilderAppendChar => builder::append_char(stack, memory, p, own, next, left),
+        // `append(int)`: the decimal digits. It reads the builder's text, and counts 1 and a unit for each that is appended.
+        Native::BuilderAppendInt => {
+            let more = int_text(alloc, stack.pop_int())?;
+            let receiver = stack.pop_value();
+            builder::append(stack, memory, p, own, receiver, more.as_slice(), next, left)
+        }
+        // `append(long)`: the decimal digits. It reads the builder's text, and counts 1 and a unit for each that is appended.
+        Native::BuilderAppendLong => {
+            let more = long_text(alloc, stack.pop_long())?;
+            let receiver = stack.pop_value();
+            builder::append(stack, memory, p, own, receiver, more.as_slice(), next, left)
+        }
+        // `append(boolean)`: `true` or `false`. It reads the builder's text, and counts 1 and a unit for each that is
+        // appended.
+        Native::BuilderAppendBoolean => {
+            let more = Units::from_ascii(alloc, boolean_text(stack.pop_int()))?;
+            let receiver = stack.pop_value();
+            builder::append(stack, memory, p, own, receiver, more.as_slice(), next, left)
+        }
+        // `append(char)`: the one unit. It reads the builder's text, and counts 2.
+        Native::BuilderAppendChar => {
+            let unit = char_unit(stack.pop_int());
+            let receiver = stack.pop_value();
+            builder::append(stack, memory, p, own, receiver, &[unit], next, left)
+        }
         Native::BuilderLength => builder::length(stack, memory, p, own, next, left),
         Native::BuilderToString => builder::to_string(alloc, stack, memory, p, own, next, left),
         _ => unreachable!(),
@@ -347,24 +387,45 @@ pub fn of_throwable<M: Memory>(
     ensures of { OnOk result (M.program memory.new ≡ M.program memory.old) }
 {
     match which {
-        Native::ThrowableInit => throwable::init(stack, memory, p, own, next, left),
-        Native::ThrowableInitString => throwable::init_string(stack, memory, p, own, next, left),
+        // `<init>()`: no message is written. It counts 1.
+        Native::ThrowableInit => {
+            stack.pop_value();
+            Ok(end(stack, p, next, left))
+        }
+        // `<init>(String)`: the argument is the message, null too. It writes the message and counts 1.
+        Native::ThrowableInitString => {
+            let message = stack.pop_value();
+            let receiver = stack.pop_value();
+            throwable::keep_message(stack, memory, p, own, receiver, message, next, left)
+        }
         Native::ThrowableGetMessage => throwable::get_message(stack, memory, p, own, next, left),
         Native::AssertionInitObject => throwable::assertion_object(
             alloc, stack, memory, p, own, next, left,
         ),
-        Native::AssertionInitInt => throwable::assertion_int(
-            alloc, stack, memory, p, own, next, left,
-        ),
-        Native::AssertionInitLong => throwable::assertion_long(
-            alloc, stack, memory, p, own, next, left,
-        ),
-        Native::AssertionInitBoolean => throwable::assertion_boolean(
-            alloc, stack, memory, p, own, next, left,
-        ),
-        Native::AssertionInitChar => throwable::assertion_char(
-            alloc, stack, memory, p, own, next, left,
-        ),
+        // `<init>(int)` of AssertionError: the decimal digits are the message. It counts 2 and the text's length.
+        Native::AssertionInitInt => {
+            let text = int_text(alloc, stack.pop_int())?;
+            let receiver = stack.pop_value();
+            throwable::make_message(stack, memory, p, own, receiver, text, next, left)
+        }
+        // `<init>(long)` of AssertionError: the decimal digits are the message. It counts 2 and the text's length.
+        Native::AssertionInitLong => {
+            let text = long_text(alloc, stack.pop_long())?;
+            let receiver = stack.pop_value();
+            throwable::make_message(stack, memory, p, own, receiver, text, next, left)
+        }
+        // `<init>(boolean)` of AssertionError: `true` or `false` is the message. It counts 2 and the text's length.
+        Native::AssertionInitBoolean => {
+            let text = Units::from_ascii(alloc, boolean_text(stack.pop_int()))?;
+            let receiver = stack.pop_value();
+            throwable::make_message(stack, memory, p, own, receiver, text, next, left)
+        }
+        // `<init>(char)` of AssertionError: the one unit is the message. It counts 2 and the text's length.
+        Native::AssertionInitChar => {
+            let text = Units::from_slice(alloc, &[char_unit(stack.pop_int())])?;
+            let receiver = stack.pop_value();
+            throwable::make_message(stack, memory, p, own, receiver, text, next, left)
+        }
         _ => unreachable!(),
     }
 }

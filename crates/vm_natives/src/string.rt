@@ -9,9 +9,7 @@ ghost use Rattle.vm_frames.specs.Stack.{HasRoom};
 ghost use Rattle.vm_mem.specs.Meets.{IsReady, IsNext, Meets, Tells};
 ghost use Rattle.vm_natives.specs.Rows.{with_own, string_row, unit_row, compared_row, same_row, concat_row, concat_text_row, cut_row, joined_row, part_row};
 
-use crate::texts::{
-    boolean_text, char_unit, hash_of, int_text, length_of, long_text, part_from, part_of, same_text,
-};
+use crate::texts::{hash_of, length_of, part_from, part_of, same_text};
 use crate::working::{answer, answer_costly, answer_text, truth};
 use et_base::{NoMemory, Units};
 use jvm_model::{
@@ -394,37 +392,7 @@ pub fn substring<M: Memory>(
 {
     let to = stack.pop_int();
     let from = stack.pop_int();
-    let receiver = stack.pop_value();
-    cut(alloc, stack, memory, p, own, receiver, from, to, next, left)
-}
-
-/// The call answers the part of a String between two places.
-fn cut<M: Memory>(
-    alloc: Global,
-    stack: &mut FrameStack,
-    memory: &mut M,
-    p: &Program,
-    own: &Own,
-    receiver: Value,
-    from: i32,
-    to: i32,
-    next: u32,
-    left: &mut u64,
-) -> Result<Next, NoMemory>
-    requires program { p.now ≡ M.program memory.old }
-    requires place { IsNext p.now stack.old next }
-    requires room { HasRoom 1 stack.old }
-    requires row { IsReady (cut_row receiver from to)
-        (M.program memory.old) (M.world memory.old) (with_own stack.old own.now) }
-    ensures meets { IfOk result (λ x. Meets (cut_row receiver from to)
-        (M.program memory.old) (M.world memory.old) (with_own stack.old own.now) left.old
-        x (with_own stack.new own.now) (M.world memory.new) left.new) }
-    ensures told { IfOk result (λ x. Tells (cut_row receiver from to)
-        (M.program memory.old) (M.world memory.old) (with_own stack.old own.now)
-        x M.follows memory.old memory.new) }
-    ensures of { OnOk result (M.program memory.new ≡ M.program memory.old) }
-{
-    match receiver {
+    match stack.pop_value() {
         Value::Lit(n) => {
             let part = part_of(alloc, p.literal(n), from, to)?;
             answer_part(stack, memory, p, own, part, next, left)
@@ -438,7 +406,7 @@ fn cut<M: Memory>(
     }
 }
 
-/// The same of a String that is no constant.
+/// The part of a String that is no constant.
 fn cut_text<M: Memory>(
     alloc: Global,
     stack: &mut FrameStack,
@@ -654,138 +622,4 @@ fn join<M: Memory>(
             answer_text(stack, memory, p, own, text, 0, next, left)
         }
     }
-}
-
-/// `toString()`: the String itself. It counts 1.
-#[tactic(auto, unfolding(jvm_model::specs::NativesString::native_string))]
-pub fn to_string<M: Memory>(
-    stack: &mut FrameStack,
-    memory: &mut M,
-    p: &Program,
-    own: &Own,
-    next: u32,
-    left: &mut u64,
-) -> Result<Next, NoMemory>
-    requires program { p.now ≡ M.program memory.old }
-    requires place { IsNext p.now stack.old next }
-    requires row { IsReady (string_row Native.StringToString)
-        (M.program memory.old) (M.world memory.old) (with_own stack.old own.now) }
-    ensures meets { IfOk result (λ x. Meets (string_row Native.StringToString)
-        (M.program memory.old) (M.world memory.old) (with_own stack.old own.now) left.old
-        x (with_own stack.new own.now) (M.world memory.new) left.new) }
-    ensures told { IfOk result (λ x. Tells (string_row Native.StringToString)
-        (M.program memory.old) (M.world memory.old) (with_own stack.old own.now)
-        x M.follows memory.old memory.new) }
-    ensures of { OnOk result (M.program memory.new ≡ M.program memory.old) }
-{
-    let receiver = stack.pop_value();
-    Ok(answer(stack, p, receiver, next, left))
-}
-
-/// `valueOf(int)`: the decimal digits. A new String counts its length and 2.
-#[tactic(auto, unfolding(jvm_model::specs::NativesString::native_string))]
-pub fn of_int<M: Memory>(
-    alloc: Global,
-    stack: &mut FrameStack,
-    memory: &mut M,
-    p: &Program,
-    own: &Own,
-    next: u32,
-    left: &mut u64,
-) -> Result<Next, NoMemory>
-    requires program { p.now ≡ M.program memory.old }
-    requires place { IsNext p.now stack.old next }
-    requires row { IsReady (string_row Native.StringOfInt)
-        (M.program memory.old) (M.world memory.old) (with_own stack.old own.now) }
-    ensures meets { IfOk result (λ x. Meets (string_row Native.StringOfInt)
-        (M.program memory.old) (M.world memory.old) (with_own stack.old own.now) left.old
-        x (with_own stack.new own.now) (M.world memory.new) left.new) }
-    ensures told { IfOk result (λ x. Tells (string_row Native.StringOfInt)
-        (M.program memory.old) (M.world memory.old) (with_own stack.old own.now)
-        x M.follows memory.old memory.new) }
-    ensures of { OnOk result (M.program memory.new ≡ M.program memory.old) }
-{
-    let text = int_text(alloc, stack.pop_int())?;
-    answer_text(stack, memory, p, own, text, 0, next, left)
-}
-
-/// `valueOf(long)`: the decimal digits. A new String counts its length and 2.
-#[tactic(auto, unfolding(jvm_model::specs::NativesString::native_string))]
-pub fn of_long<M: Memory>(
-    alloc: Global,
-    stack: &mut FrameStack,
-    memory: &mut M,
-    p: &Program,
-    own: &Own,
-    next: u32,
-    left: &mut u64,
-) -> Result<Next, NoMemory>
-    requires program { p.now ≡ M.program memory.old }
-    requires place { IsNext p.now stack.old next }
-    requires row { IsReady (string_row Native.StringOfLong)
-        (M.program memory.old) (M.world memory.old) (with_own stack.old own.now) }
-    ensures meets { IfOk result (λ x. Meets (string_row Native.StringOfLong)
-        (M.program memory.old) (M.world memory.old) (with_own stack.old own.now) left.old
-        x (with_own stack.new own.now) (M.world memory.new) left.new) }
-    ensures told { IfOk result (λ x. Tells (string_row Native.StringOfLong)
-        (M.program memory.old) (M.world memory.old) (with_own stack.old own.now)
-        x M.follows memory.old memory.new) }
-    ensures of { OnOk result (M.program memory.new ≡ M.program memory.old) }
-{
-    let text = long_text(alloc, stack.pop_long())?;
-    answer_text(stack, memory, p, own, text, 0, next, left)
-}
-
-/// `valueOf(boolean)`: `true` or `false`. A new String counts its length and 2.
-#[tactic(auto, unfolding(jvm_model::specs::NativesString::native_string))]
-pub fn of_boolean<M: Memory>(
-    alloc: Global,
-    stack: &mut FrameStack,
-    memory: &mut M,
-    p: &Program,
-    own: &Own,
-    next: u32,
-    left: &mut u64,
-) -> Result<Next, NoMemory>
-    requires program { p.now ≡ M.program memory.old }
-    requires place { IsNext p.now stack.old next }
-    requires row { IsReady (string_row Native.StringOfBoolean)
-        (M.program memory.old) (M.world memory.old) (with_own stack.old own.now) }
-    ensures meets { IfOk result (λ x. Meets (string_row Native.StringOfBoolean)
-        (M.program memory.old) (M.world memory.old) (with_own stack.old own.now) left.old
-        x (with_own stack.new own.now) (M.world memory.new) left.new) }
-    ensures told { IfOk result (λ x. Tells (string_row Native.StringOfBoolean)
-        (M.program memory.old) (M.world memory.old) (with_own stack.old own.now)
-        x M.follows memory.old memory.new) }
-    ensures of { OnOk result (M.program memory.new ≡ M.program memory.old) }
-{
-    let text = Units::from_ascii(alloc, boolean_text(stack.pop_int()))?;
-    answer_text(stack, memory, p, own, text, 0, next, left)
-}
-
-/// `valueOf(char)`: the one unit. A new String counts its length and 2.
-#[tactic(auto, unfolding(jvm_model::specs::NativesString::native_string))]
-pub fn of_char<M: Memory>(
-    alloc: Global,
-    stack: &mut FrameStack,
-    memory: &mut M,
-    p: &Program,
-    own: &Own,
-    next: u32,
-    left: &mut u64,
-) -> Result<Next, NoMemory>
-    requires program { p.now ≡ M.program memory.old }
-    requires place { IsNext p.now stack.old next }
-    requires row { IsReady (string_row Native.StringOfChar)
-        (M.program memory.old) (M.world memory.old) (with_own stack.old own.now) }
-    ensures meets { IfOk result (λ x. Meets (string_row Native.StringOfChar)
-        (M.program memory.old) (M.world memory.old) (with_own stack.old own.now) left.old
-        x (with_own stack.new own.now) (M.world memory.new) left.new) }
-    ensures told { IfOk result (λ x. Tells (string_row Native.StringOfChar)
-        (M.program memory.old) (M.world memory.old) (with_own stack.old own.now)
-        x M.follows memory.old memory.new) }
-    ensures of { OnOk result (M.program memory.new ≡ M.program memory.old) }
-{
-    let text = Units::from_slice(alloc, &[char_unit(stack.pop_int())])?;
-    answer_text(stack, memory, p, own, text, 0, next, left)
 }

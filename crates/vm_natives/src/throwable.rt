@@ -5,7 +5,6 @@ ghost use Rattle.jvm_model.specs.declared.library.Native.{Native};
 ghost use Rattle.vm_mem.specs.Meets.{IsReady, IsNext, Meets, Tells};
 ghost use Rattle.vm_natives.specs.Rows.{with_own, throwable_row, kept_row, told_row};
 
-use crate::texts::{boolean_text, char_unit, int_text, long_text};
 use crate::working::{answer, end};
 use et_base::{NoMemory, Units};
 use jvm_model::{Head, Kind, MESSAGE, NULL_POINTER_EXCEPTION, Next, Own, Program, STRING, Value};
@@ -13,61 +12,8 @@ use std::alloc::Global;
 use vm_frames::FrameStack;
 use vm_mem::Memory;
 
-/// `<init>()`: no message is written. It counts 1.
-#[tactic(auto, unfolding(jvm_model::specs::NativesObject::native_throwable))]
-pub fn init<M: Memory>(
-    stack: &mut FrameStack,
-    memory: &mut M,
-    p: &Program,
-    own: &Own,
-    next: u32,
-    left: &mut u64,
-) -> Result<Next, NoMemory>
-    requires program { p.now ≡ M.program memory.old }
-    requires place { IsNext p.now stack.old next }
-    requires row { IsReady (throwable_row Native.ThrowableInit)
-        (M.program memory.old) (M.world memory.old) (with_own stack.old own.now) }
-    ensures meets { IfOk result (λ x. Meets (throwable_row Native.ThrowableInit)
-        (M.program memory.old) (M.world memory.old) (with_own stack.old own.now) left.old
-        x (with_own stack.new own.now) (M.world memory.new) left.new) }
-    ensures told { IfOk result (λ x. Tells (throwable_row Native.ThrowableInit)
-        (M.program memory.old) (M.world memory.old) (with_own stack.old own.now)
-        x M.follows memory.old memory.new) }
-    ensures of { OnOk result (M.program memory.new ≡ M.program memory.old) }
-{
-    stack.pop_value();
-    Ok(end(stack, p, next, left))
-}
-
-/// `<init>(String)`: the argument is the message, null too. It writes the message and counts 1.
-#[tactic(auto, unfolding(jvm_model::specs::NativesObject::native_throwable))]
-pub fn init_string<M: Memory>(
-    stack: &mut FrameStack,
-    memory: &mut M,
-    p: &Program,
-    own: &Own,
-    next: u32,
-    left: &mut u64,
-) -> Result<Next, NoMemory>
-    requires program { p.now ≡ M.program memory.old }
-    requires place { IsNext p.now stack.old next }
-    requires row { IsReady (throwable_row Native.ThrowableInitString)
-        (M.program memory.old) (M.world memory.old) (with_own stack.old own.now) }
-    ensures meets { IfOk result (λ x. Meets (throwable_row Native.ThrowableInitString)
-        (M.program memory.old) (M.world memory.old) (with_own stack.old own.now) left.old
-        x (with_own stack.new own.now) (M.world memory.new) left.new) }
-    ensures told { IfOk result (λ x. Tells (throwable_row Native.ThrowableInitString)
-        (M.program memory.old) (M.world memory.old) (with_own stack.old own.now)
-        x M.follows memory.old memory.new) }
-    ensures of { OnOk result (M.program memory.new ≡ M.program memory.old) }
-{
-    let message = stack.pop_value();
-    let receiver = stack.pop_value();
-    keep_message(stack, memory, p, own, receiver, message, next, left)
-}
-
 /// This value is the message of a throwable.
-fn keep_message<M: Memory>(
+pub fn keep_message<M: Memory>(
     stack: &mut FrameStack,
     memory: &mut M,
     p: &Program,
@@ -194,7 +140,7 @@ pub fn assertion_object<M: Memory>(
 }
 
 /// A new String of this text is the message of a throwable. It counts 2 and the text's length.
-fn make_message<M: Memory>(
+pub fn make_message<M: Memory>(
     stack: &mut FrameStack,
     memory: &mut M,
     p: &Program,
@@ -239,116 +185,4 @@ fn make_message<M: Memory>(
         Value::Long(_) => unreachable!(),
         Value::Lit(_) => unreachable!(),
     }
-}
-
-/// `<init>(int)` of AssertionError: the decimal digits are the message. It counts 2 and the text's length.
-#[tactic(auto, unfolding(jvm_model::specs::NativesObject::native_throwable))]
-pub fn assertion_int<M: Memory>(
-    alloc: Global,
-    stack: &mut FrameStack,
-    memory: &mut M,
-    p: &Program,
-    own: &Own,
-    next: u32,
-    left: &mut u64,
-) -> Result<Next, NoMemory>
-    requires program { p.now ≡ M.program memory.old }
-    requires place { IsNext p.now stack.old next }
-    requires row { IsReady (throwable_row Native.AssertionInitInt)
-        (M.program memory.old) (M.world memory.old) (with_own stack.old own.now) }
-    ensures meets { IfOk result (λ x. Meets (throwable_row Native.AssertionInitInt)
-        (M.program memory.old) (M.world memory.old) (with_own stack.old own.now) left.old
-        x (with_own stack.new own.now) (M.world memory.new) left.new) }
-    ensures told { IfOk result (λ x. Tells (throwable_row Native.AssertionInitInt)
-        (M.program memory.old) (M.world memory.old) (with_own stack.old own.now)
-        x M.follows memory.old memory.new) }
-    ensures of { OnOk result (M.program memory.new ≡ M.program memory.old) }
-{
-    let text = int_text(alloc, stack.pop_int())?;
-    let receiver = stack.pop_value();
-    make_message(stack, memory, p, own, receiver, text, next, left)
-}
-
-/// `<init>(long)` of AssertionError: the decimal digits are the message. It counts 2 and the text's length.
-#[tactic(auto, unfolding(jvm_model::specs::NativesObject::native_throwable))]
-pub fn assertion_long<M: Memory>(
-    alloc: Global,
-    stack: &mut FrameStack,
-    memory: &mut M,
-    p: &Program,
-    own: &Own,
-    next: u32,
-    left: &mut u64,
-) -> Result<Next, NoMemory>
-    requires program { p.now ≡ M.program memory.old }
-    requires place { IsNext p.now stack.old next }
-    requires row { IsReady (throwable_row Native.AssertionInitLong)
-        (M.program memory.old) (M.world memory.old) (with_own stack.old own.now) }
-    ensures meets { IfOk result (λ x. Meets (throwable_row Native.AssertionInitLong)
-        (M.program memory.old) (M.world memory.old) (with_own stack.old own.now) left.old
-        x (with_own stack.new own.now) (M.world memory.new) left.new) }
-    ensures told { IfOk result (λ x. Tells (throwable_row Native.AssertionInitLong)
-        (M.program memory.old) (M.world memory.old) (with_own stack.old own.now)
-        x M.follows memory.old memory.new) }
-    ensures of { OnOk result (M.program memory.new ≡ M.program memory.old) }
-{
-    let text = long_text(alloc, stack.pop_long())?;
-    let receiver = stack.pop_value();
-    make_message(stack, memory, p, own, receiver, text, next, left)
-}
-
-/// `<init>(boolean)` of AssertionError: `true` or `false` is the message. It counts 2 and the text's length.
-#[tactic(auto, unfolding(jvm_model::specs::NativesObject::native_throwable))]
-pub fn assertion_boolean<M: Memory>(
-    alloc: Global,
-    stack: &mut FrameStack,
-    memory: &mut M,
-    p: &Program,
-    own: &Own,
-    next: u32,
-    left: &mut u64,
-) -> Result<Next, NoMemory>
-    requires program { p.now ≡ M.program memory.old }
-    requires place { IsNext p.now stack.old next }
-    requires row { IsReady (throwable_row Native.AssertionInitBoolean)
-        (M.program memory.old) (M.world memory.old) (with_own stack.old own.now) }
-    ensures meets { IfOk result (λ x. Meets (throwable_row Native.AssertionInitBoolean)
-        (M.program memory.old) (M.world memory.old) (with_own stack.old own.now) left.old
-        x (with_own stack.new own.now) (M.world memory.new) left.new) }
-    ensures told { IfOk result (λ x. Tells (throwable_row Native.AssertionInitBoolean)
-        (M.program memory.old) (M.world memory.old) (with_own stack.old own.now)
-        x M.follows memory.old memory.new) }
-    ensures of { OnOk result (M.program memory.new ≡ M.program memory.old) }
-{
-    let text = Units::from_ascii(alloc, boolean_text(stack.pop_int()))?;
-    let receiver = stack.pop_value();
-    make_message(stack, memory, p, own, receiver, text, next, left)
-}
-
-/// `<init>(char)` of AssertionError: the one unit is the message. It counts 2 and the text's length.
-#[tactic(auto, unfolding(jvm_model::specs::NativesObject::native_throwable))]
-pub fn assertion_char<M: Memory>(
-    alloc: Global,
-    stack: &mut FrameStack,
-    memory: &mut M,
-    p: &Program,
-    own: &Own,
-    next: u32,
-    left: &mut u64,
-) -> Result<Next, NoMemory>
-    requires program { p.now ≡ M.program memory.old }
-    requires place { IsNext p.now stack.old next }
-    requires row { IsReady (throwable_row Native.AssertionInitChar)
-        (M.program memory.old) (M.world memory.old) (with_own stack.old own.now) }
-    ensures meets { IfOk result (λ x. Meets (throwable_row Native.AssertionInitChar)
-        (M.program memory.old) (M.world memory.old) (with_own stack.old own.now) left.old
-        x (with_own stack.new own.now) (M.world memory.new) left.new) }
-    ensures told { IfOk result (λ x. Tells (throwable_row Native.AssertionInitChar)
-        (M.program memory.old) (M.world memory.old) (with_own stack.old own.now)
-        x M.follows memory.old memory.new) }
-    ensures of { OnOk result (M.program memory.new ≡ M.program memory.old) }
-{
-    let text = Units::from_slice(alloc, &[char_unit(stack.pop_int())])?;
-    let receiver = stack.pop_value();
-    make_message(stack, memory, p, own, receiver, text, next, left)
 }
