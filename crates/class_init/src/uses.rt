@@ -23,6 +23,7 @@ pub enum Use {
 /// Begins the initialisation of a class or interface that an instruction uses, where none was begun (JVMS 5.5): it is
 /// Running then, and its initialisation entry is on top. An Erroneous one faults with NoClassDefFoundError, a full list
 /// of entries with StackOverflowError. One that is trivial is Ready without a touch. Only Begun counts the 1 of the step.
+#[inline(always)]
 #[tactic(auto, unfolding(jvm_model::specs::Rows::begin))]
 pub fn begin_use<M: Memory>(
     stack: &mut FrameStack,

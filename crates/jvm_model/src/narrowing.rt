@@ -21,6 +21,7 @@ pub fn default_of(descriptor: &[u16]) -> Value
 
 /// A whole number narrowed to a type, by the first unit of its descriptor: a boolean keeps the lowest bit, a byte, a
 /// char and a short the low bits as `i2b`, `i2c` and `i2s` do (this project's).
+#[inline(always)]
 pub fn narrow_int(unit: u16, n: i32) -> i32
     ensures { result ≡ narrowing.narrow_int unit n }
 {
@@ -35,6 +36,7 @@ pub fn narrow_int(unit: u16, n: i32) -> i32
 
 impl Value {
     /// The value narrowed to a type, by the first unit of its descriptor; only an int may change.
+    #[inline(always)]
     #[tactic(auto, unfolding(crate::specs::Narrow::narrow))]
     pub fn narrow(self, unit: u16) -> Value
         ensures { result ≡ narrowing.narrow unit self }
@@ -46,6 +48,7 @@ impl Value {
     }
 
     /// The value narrowed to a type, by its descriptor.
+    #[inline(always)]
     pub fn narrowed(self, descriptor: &[u16]) -> Value
         ensures { result ≡ narrowing.narrowed descriptor.now self }
     {

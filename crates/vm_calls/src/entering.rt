@@ -14,6 +14,7 @@ use vm_frames::{FrameStack, PushFault};
 /// Enters a method with so many of the topmost operands as its arguments, the receiver among them: its frame is on top, and
 /// its cost and the 1 of the step are counted. A full list of entries faults with StackOverflowError, a method without code
 /// with AbstractMethodError; a built-in method leaves the operands as they are and counts nothing.
+#[inline(always)]
 #[tactic(auto, unfolding(jvm_model::specs::RowsCalls::calls))]
 pub(crate) fn enter_method(
     stack: &mut FrameStack,
@@ -58,6 +59,7 @@ pub(crate) fn enter_method(
 }
 
 /// Enters the method that a call selected, or throws the error that it selected.
+#[inline(always)]
 pub(crate) fn enter_choice(
     stack: &mut FrameStack,
     p: &Program,
@@ -77,6 +79,7 @@ pub(crate) fn enter_choice(
 
 /// The operand below so many others. An entry has fewer than 65,536 operands, as is seen from the room that taking the top
 /// one leaves.
+#[inline(always)]
 #[tactic(auto, using(crate::proofs::Entered::few_operands))]
 pub(crate) fn receiver(stack: &mut FrameStack, arguments: usize) -> Value
     requires { arguments < length stack.old.top.stack }

@@ -62,8 +62,7 @@ pub fn call<M: Memory>(
 }
 
 /// Uses the class that declares a static method and enters the method.
-#[cold]
-#[inline(never)]
+#[inline(always)]
 #[tactic(auto, using(crate::proofs::Entered::calls_touches, crate::proofs::Entered::calls_there), unfolding(jvm_model::specs::RowsCalls::row_calls))]
 pub fn invoke_static<M: Memory>(
     stack: &mut FrameStack,
@@ -94,6 +93,7 @@ pub fn invoke_static<M: Memory>(
 }
 
 /// Enters the method that is selected on an instance of a kind.
+#[inline(always)]
 fn enter_selected(
     alloc: Global,
     stack: &mut FrameStack,
@@ -118,6 +118,7 @@ fn enter_selected(
 }
 
 /// Calls a method on the object below the arguments; an interface is named by invokeinterface.
+#[inline(always)]
 #[tactic(auto, using(crate::proofs::Entered::selected_touches, crate::proofs::Entered::object_there))]
 fn invoke_on_object<M: Memory>(
     alloc: Global,
@@ -168,8 +169,7 @@ fn invoke_on_object<M: Memory>(
 /// Calls the method that is selected by the class of the object below the arguments: a private method is the one that is
 /// named; another is the first of its name and descriptor upwards, or a default method. Null throws. It reads the
 /// object's head.
-#[cold]
-#[inline(never)]
+#[inline(always)]
 pub fn invoke_virtual<M: Memory>(
     alloc: Global,
     stack: &mut FrameStack,
@@ -236,8 +236,7 @@ pub fn invoke_interface<M: Memory>(
 /// Calls a method without regard to the object's class: `<init>` is the one that is named; another is looked for from the
 /// named class upwards, or from the direct superclass of the current class where the named one is an ancestor of it. Null
 /// throws. It touches nothing.
-#[cold]
-#[inline(never)]
+#[inline(always)]
 #[tactic(auto, using(crate::proofs::Entered::selected_touches, crate::proofs::Entered::reference_there), unfolding(jvm_model::specs::RowsCalls::row_calls))]
 pub fn invoke_special<M: Memory>(
     alloc: Global,

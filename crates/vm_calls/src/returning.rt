@@ -15,8 +15,7 @@ use vm_tables::Tables;
 /// Returns from the method at the top: its entry is popped, and a value, narrowed to the type that the method returns, goes to
 /// the frame below, which goes on after its call. An initialisation entry below takes no value. It answers Leave where no
 /// entry is left, counts 1 and touches nothing; Over, with the entries as before, where no unit is left.
-#[cold]
-#[inline(never)]
+#[inline(always)]
 #[tactic(auto, using(crate::proofs::Returned::return_touches, crate::proofs::Returned::value_there, crate::proofs::Returned::value_handed, crate::proofs::Returned::none_handed))]
 pub fn give_back<M: Memory>(
     stack: &mut FrameStack,
@@ -48,6 +47,7 @@ pub fn give_back<M: Memory>(
 }
 
 /// Pops the entry at the top, and the one below goes on.
+#[inline(always)]
 #[tactic(auto, unfolding(jvm_model::specs::RowsReturn::hands_on))]
 fn hand_nothing(stack: &mut FrameStack, tables: &Tables, left: &mut u64) -> Next
     ensures { (w : World) → Meets (hands_row []) tables.now w stack.old left.old result stack.new w left.new }
@@ -69,6 +69,7 @@ fn hand_nothing(stack: &mut FrameStack, tables: &Tables, left: &mut u64) -> Next
 }
 
 /// Pops the entry at the top, and a value goes to the one below.
+#[inline(always)]
 #[tactic(auto, unfolding(jvm_model::specs::RowsReturn::hands_on))]
 fn hand_value(stack: &mut FrameStack, tables: &Tables, v: Value, left: &mut u64) -> Next
     requires { HasRoomBelow stack.old }

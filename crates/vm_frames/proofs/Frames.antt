@@ -1,9 +1,10 @@
 -- How a frame's locals are written, one argument after another.
-use Rattle.std.proofs.Common.{◌≡◌, ℕ, zero, suc, ◌<◌, ◌≤◌, ◌-◌, ◌+◌, ◌*◌, ◌^◌, max, List, [], ◌∷◌, ◌++◌, length, get_or, set, take, drop, replicate, refl, sym, ap, ◌∙◌, arith, append_assoc}
+use Rattle.std.proofs.Common.{◌≡◌, ℕ, zero, suc, ◌<◌, ◌≤◌, ◌-◌, ◌+◌, ◌*◌, ◌^◌, max, List, [], ◌∷◌, ◌++◌, length, get_or, set, take, drop, replicate, cond, refl, sym, ap, ◌∙◌, arith, append_assoc}
 use Rattle.std.proofs.lemmas.List.{take_more_set, take_more, take-take, drop-append-le, replicate_more, take_at, take-append-le, get_or-take, length-take-le, length-append}
 use Rattle.jvm_model.specs.declared.values.Value.{Value}
 use Rattle.jvm_model.specs.declared.values.Value.TheVariants.{Int, Long, Null, Lit, Obj}
 use Rattle.jvm_model.specs.Entries.{slots_of, filled}
+use Rattle.jvm_model.specs.RowsMoves.{is_long}
 use Rattle.vm_frames.specs.Extents.{HasFrame}
 
 pub slots_of-append : (vs ws : List Value) → slots_of (vs ++ ws) ≡ slots_of vs ++ slots_of ws
@@ -24,6 +25,14 @@ put_two_slots xs to v w h =
     let there : to + 2 ≡ to + 1 + 1 = omega arith in
     let long : to + 1 < length (set xs to v) = rw (Rattle.std.proofs.Common.length-set xs to v) h in
     rw (there, take_more_set (set xs to v) (to + 1) w long, take_more_set xs to v (omega arith), append_assoc) refl
+
+-- a long takes two slots, and any other value one
+pub slots_of_one : (v : Value) → slots_of (v ∷ []) ≡ cond (is_long v) (v ∷ Null ∷ []) (v ∷ [])
+slots_of_one (Int n) = refl
+slots_of_one (Long n) = refl
+slots_of_one Null = refl
+slots_of_one (Lit n) = refl
+slots_of_one (Obj o) = refl
 
 -- the arguments up to a place, and the next one
 pub argument_more : (xs ys : List Value) (from base place : ℕ) (v : Value) → from ≤ place → place < base → base ≤ length xs → take base ys ≡ take base xs → v ≡ get_or ys place Null

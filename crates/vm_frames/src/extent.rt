@@ -1,10 +1,11 @@
 //! Where an entry stands in the slots.
 
-ghost use Rattle.std.specs.Prelude.{◌≡◌, ◌++◌, OnOk, OnErr, false};
+ghost use Rattle.std.specs.Prelude.{◌≡◌, ◌++◌, ◌∷◌, [], OnOk, OnErr, false};
 ghost use Rattle.vm_frames.specs.Extents.{saved_by};
 
 use et_base::NoMemory;
 use jvm_model::EntryKind;
+use std::mem;
 
 /// An entry's kind, number and place in the code, and its extent in the slots: its locals stand from `base` up to
 /// `first`, its operands from there up to `top`.
@@ -72,14 +73,43 @@ impl Extent {
     }
 }
 
-/// Puts an extent on those that are saved, unless it is no entry. After a refusal they are as before.
+/// Puts an extent on those that are saved, unless it is no entry. After a refusal they are as before. Where there is room
+/// for it, the address of the list isn't handed on.
+#[inline(always)]
 pub fn save(saved: &mut Vec<Extent>, below: Extent) -> Result<(), NoMemory>
     ensures saved { OnOk result (saved.new.items ≡ saved.old.items ++ saved_by below.kind below) }
     ensures kept { OnErr result (saved.new.items ≡ saved.old.items) }
 {
     match below.kind {
-        EntryKind::Absent => {}
-        EntryKind::InMethod | EntryKind::InClass { .. } => saved.push(below)?,
+        EntryKind::Absent => Ok(()),
+        EntryKind::InMethod | EntryKind::InClass { .. } => push(saved, below),
     }
+}
+
+/// Puts an extent on others. After a refusal they are as before.
+#[inline(always)]
+fn push(saved: &mut Vec<Extent>, below: Extent) -> Result<(), NoMemory>
+    ensures saved { OnOk result (saved.new.items ≡ saved.old.items ++ below ∷ []) }
+    ensures kept { OnErr result (saved.new.items ≡ saved.old.items) }
+{
+    if saved.len() < saved.capacity() {
+        saved.push_reserved(below);
+        return Ok(());
+    }
+    let alloc = *saved.allocator();
+    let mut moved = mem::replace(saved, Vec::new(alloc));
+    let grown = push_apart(&mut moved, below);
+    *saved = moved;
+    grown
+}
+
+/// The same, apart.
+#[cold]
+#[inline(never)]
+fn push_apart(saved: &mut Vec<Extent>, below: Extent) -> Result<(), NoMemory>
+    ensures saved { OnOk result (saved.new.items ≡ saved.old.items ++ below ∷ []) }
+    ensures kept { OnErr result (saved.new.items ≡ saved.old.items) }
+{
+    saved.push(below)?;
     Ok(())
 }

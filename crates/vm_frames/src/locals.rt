@@ -1,6 +1,6 @@
 //! Writes of a frame's locals into the slots.
 
-ghost use Rattle.std.specs.Prelude.{◌≡◌, ◌<◌, ◌≤◌, ◌+◌, ◌-◌, ◌*◌, ◌^◌, ◌++◌, ◌∷◌, [], length, take, drop, replicate, IfOk, OnErr};
+ghost use Rattle.std.specs.Prelude.{◌≡◌, ◌<◌, ◌≤◌, ◌+◌, ◌-◌, ◌*◌, ◌^◌, ◌++◌, ◌∷◌, [], length, take, drop, get_or, replicate, IfOk, OnErr};
 ghost use Rattle.std.specs.Option.{option_to_list};
 ghost use Rattle.jvm_model.specs.declared.values.Value.TheVariants.{Null};
 ghost use Rattle.jvm_model.specs.Entries.{slots_of, filled};
@@ -33,7 +33,30 @@ fn put_argument(slots: &mut Slots, to: usize, v: Value) -> usize
     }
 }
 
+/// Writes the value of a place as a local at the place `to` above it. Answers the place after it.
+#[inline(always)]
+#[tactic(auto, using(crate::proofs::Frames::put_one, crate::proofs::Frames::put_two_slots, crate::proofs::Frames::slots_of_one))]
+fn copy_argument(slots: &mut Slots, from: usize, to: usize) -> usize
+    requires order { from < to }
+    requires room { to + 1 < length slots.old }
+    requires few { length slots.old < 2 ^ 63 }
+    ensures written { take result slots.new
+        ≡ take to slots.old ++ slots_of (get_or slots.old from Null ∷ []) }
+    ensures end { result ≡ to + length (slots_of (get_or slots.old from Null ∷ [])) }
+    ensures most { result ≤ to + 2 }
+    ensures kept { length slots.new ≡ length slots.old }
+{
+    slots.copy(from, to);
+    if slots.is_long(from) {
+        slots.set(to + 1, Value::Null);
+        to + 2
+    } else {
+        to + 1
+    }
+}
+
 /// Writes the values from the place `from` up to `base` as locals from `base` on. Answers the place after them.
+#[inline(always)]
 fn copy_arguments(slots: &mut Slots, from: usize, base: usize) -> usize
     requires order { from ≤ base }
     requires room { base + 2 * (base - from) ≤ length slots.old }
@@ -46,13 +69,13 @@ fn copy_arguments(slots: &mut Slots, from: usize, base: usize) -> usize
 {
     let mut to = base;
     for place in from..base {
-        let v = slots.get(place);
-        to = put_argument(slots, to, v);
+        to = copy_argument(slots, place, to);
     }
     to
 }
 
 /// Fills the slots from `from` up to `to` with null.
+#[inline(always)]
 #[tactic(auto, using(crate::proofs::Frames::clear_more))]
 fn clear(slots: &mut Slots, from: usize, to: usize)
     requires order { from ≤ to }
@@ -67,6 +90,7 @@ fn clear(slots: &mut Slots, from: usize, to: usize)
 
 /// Writes the locals of a frame whose arguments stand from the place `from` up to `base`, from `base` on. Answers the
 /// place after them.
+#[inline(always)]
 #[tactic(auto, using(crate::proofs::Frames::frame_made))]
 fn locals_of_operands(slots: &mut Slots, from: usize, base: usize, max_locals: u16) -> usize
     requires order { from ≤ base }
@@ -104,6 +128,7 @@ fn locals_of_receiver(
 
 /// The frame of a method whose arguments stand from the place `from` up to `base`: its locals are written from `base` on,
 /// and there is room for its operands. Answers the place after the locals. After a refusal the slots are as before.
+#[inline(always)]
 #[tactic(auto, using(crate::proofs::Frames::frame_grown))]
 pub fn frame_of_operands(
     slots: &mut Slots,

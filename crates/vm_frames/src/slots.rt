@@ -10,6 +10,7 @@ use et_base::NoMemory;
 use jvm_model::Value;
 use std::alloc::Global;
 use std::marker::Model;
+use std::mem;
 
 /// Which of the values the bits of a place are.
 #[derive(Clone, Copy, Debug)]
@@ -56,8 +57,28 @@ impl Slots {
     }
 
     /// Makes at least so many places, the new ones with null. After a refusal there are as many as before. There are never
-    /// as many as 2^63.
+    /// as many as 2^63. Where they are there already, the address of the slots isn't handed on.
+    #[inline(always)]
     pub fn grow(&mut self, wanted: usize) -> Result<(), NoMemory>
+        ensures grown { IfOk result (λ _.
+            self.new ≡ self.old ++ replicate (wanted - length self.old) Null) }
+        ensures kept { OnErr result (self.new ≡ self.old) }
+        ensures few { length self.new < 2 ^ 63 }
+    {
+        if wanted <= self.tags.len() {
+            return Ok(());
+        }
+        let alloc = *self.tags.allocator();
+        let mut moved = mem::replace(self, Slots::new(alloc));
+        let grown = moved.grow_apart(wanted);
+        *self = moved;
+        grown
+    }
+
+    /// The same, apart.
+    #[cold]
+    #[inline(never)]
+    fn grow_apart(&mut self, wanted: usize) -> Result<(), NoMemory>
         ensures grown { IfOk result (λ _.
             self.new ≡ self.old ++ replicate (wanted - length self.old) Null) }
         ensures kept { OnErr result (self.new ≡ self.old) }
@@ -69,6 +90,7 @@ impl Slots {
     }
 
     /// The value of a place.
+    #[inline(always)]
     pub fn get(&self, i: usize) -> Value
         requires { i < length self.now }
         ensures { result ≡ get_or self.now i Null }
@@ -84,6 +106,7 @@ impl Slots {
     }
 
     /// Writes a value at a place.
+    #[inline(always)]
     pub fn set(&mut self, i: usize, v: Value)
         requires { i < length self.old }
         ensures { self.new ≡ set self.old i v }
@@ -98,6 +121,7 @@ impl Slots {
     }
 
     /// Whether the value of a place is a long.
+    #[inline(always)]
     pub fn is_long(&self, i: usize) -> bool
         requires { i < length self.now }
         ensures { result ≡ is_long (get_or self.now i Null) }
@@ -106,6 +130,7 @@ impl Slots {
     }
 
     /// The int of a place.
+    #[inline(always)]
     pub fn int_at(&self, i: usize) -> i32
         requires place { i < length self.now }
         requires int { IsInt (get_or self.now i Null) }
@@ -115,6 +140,7 @@ impl Slots {
     }
 
     /// Writes an int at a place.
+    #[inline(always)]
     pub fn set_int(&mut self, i: usize, n: i32)
         requires { i < length self.old }
         ensures { self.new ≡ set self.old i (Int n) }
@@ -123,6 +149,7 @@ impl Slots {
     }
 
     /// The long of a place.
+    #[inline(always)]
     pub fn long_at(&self, i: usize) -> i64
         requires place { i < length self.now }
         requires long { IsLong (get_or self.now i Null) }
@@ -132,6 +159,7 @@ impl Slots {
     }
 
     /// Writes a long at a place.
+    #[inline(always)]
     pub fn set_long(&mut self, i: usize, n: i64)
         requires { i < length self.old }
         ensures { self.new ≡ set self.old i (Long n) }
@@ -140,6 +168,7 @@ impl Slots {
     }
 
     /// Writes the value of a place at another.
+    #[inline(always)]
     pub fn copy(&mut self, from: usize, to: usize)
         requires from { from < length self.old }
         requires to { to < length self.old }
@@ -151,6 +180,7 @@ impl Slots {
     }
 
     /// Writes a tag and bits that fit it at a place.
+    #[inline(always)]
     fn put(&mut self, i: usize, tag: Tag, bits: u64)
         requires place { i < length self.old }
         requires fit { Fit tag bits }

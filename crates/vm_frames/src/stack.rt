@@ -134,6 +134,7 @@ impl FrameStack {
 
     /// The local of a slot; a long stands in the first of its two.
     #[tactic(auto, using(crate::proofs::Tops::tops))]
+    #[inline(always)]
     pub fn local(&self, i: u16) -> Value
         requires { i < length self.now.top.locals }
         ensures { slice_get self.now.top.locals i ≡ Some result }
@@ -143,6 +144,7 @@ impl FrameStack {
 
     /// Sets the local of a slot.
     #[tactic(auto, using(crate::proofs::Tops::tops))]
+    #[inline(always)]
     pub fn set_local(&mut self, i: u16, v: Value)
         requires { i < length self.old.top.locals }
         ensures { self.new ≡ with_local self.old i v }
@@ -152,6 +154,7 @@ impl FrameStack {
 
     /// The operand that is `k` operands below the top one.
     #[tactic(auto, using(crate::proofs::Tops::tops))]
+    #[inline(always)]
     pub fn peek(&self, k: u16) -> Value
         requires { k < length self.now.top.stack }
         ensures { slice_get self.now.top.stack k ≡ Some result }
@@ -161,6 +164,7 @@ impl FrameStack {
 
     /// Puts an operand on top.
     #[tactic(auto, using(crate::proofs::Tops::tops))]
+    #[inline(always)]
     pub fn push_value(&mut self, v: Value)
         requires { HasRoom 1 self.old }
         ensures { self.new ≡ with_stack self.old (v ∷ self.old.top.stack) }
@@ -171,6 +175,7 @@ impl FrameStack {
 
     /// Takes the top operand. There is room for one again.
     #[tactic(auto, using(crate::proofs::Tops::tops))]
+    #[inline(always)]
     pub fn pop_value(&mut self) -> Value
         requires { 0 < length self.old.top.stack }
         ensures popped { self.old ≡ with_stack self.new (result ∷ self.new.top.stack) }
@@ -215,6 +220,7 @@ impl FrameStack {
 
     /// Enters a method with so many of the topmost operands as its arguments, which leave the caller's operands (JVMS
     /// 2.6.1 and 6.5). After a refusal the entries are as before.
+    #[inline(always)]
     pub fn enter(&mut self, method: u32, max_locals: u16, arguments: usize) -> Result<(), PushFault>
         requires { arguments ≤ length self.old.top.stack }
         ensures entered { OnOk result (self.new ≡ called_with max_locals method arguments self.old) }
@@ -240,6 +246,7 @@ impl FrameStack {
 
     /// Pushes the initialisation entry of a class or interface (JVMS 5.5), its `<clinit>` not entered yet. After a
     /// refusal the entries are as before.
+    #[inline(always)]
     pub fn push_init(&mut self, class: u32) -> Result<(), PushFault>
         ensures pushed { OnOk result (self.new ≡ with_entry (class_entry class) self.old) }
         ensures deep { (result ≡ Err PushFault.Deep) ↔ (is_full self.old ≡ true) }
@@ -263,6 +270,7 @@ impl FrameStack {
 
     /// Pops the top entry.
     #[tactic(auto, using(crate::proofs::Entering::popping))]
+    #[inline(always)]
     pub fn pop(&mut self)
         ensures { self.new ≡ popped_entry self.old }
     {
@@ -276,6 +284,7 @@ impl FrameStack {
 impl FrameStack {
     /// Puts an int on top.
     #[tactic(auto, using(crate::proofs::Tops::tops))]
+    #[inline(always)]
     pub fn push_int(&mut self, n: i32)
         requires { HasRoom 1 self.old }
         ensures { self.new ≡ with_stack self.old (Int n ∷ self.old.top.stack) }
@@ -286,6 +295,7 @@ impl FrameStack {
 
     /// Takes the int on top. There is room for one operand again.
     #[tactic(auto, using(crate::proofs::Tops::tops))]
+    #[inline(always)]
     pub fn pop_int(&mut self) -> i32
         requires { HasIntOnTop self.old.top.stack }
         ensures popped { self.old ≡ with_stack self.new (Int result ∷ self.new.top.stack) }
@@ -297,6 +307,7 @@ impl FrameStack {
 
     /// Puts a long on top.
     #[tactic(auto, using(crate::proofs::Tops::tops))]
+    #[inline(always)]
     pub fn push_long(&mut self, n: i64)
         requires { HasRoom 1 self.old }
         ensures { self.new ≡ with_stack self.old (Long n ∷ self.old.top.stack) }
@@ -307,6 +318,7 @@ impl FrameStack {
 
     /// Takes the long on top. There is room for one operand again.
     #[tactic(auto, using(crate::proofs::Tops::tops))]
+    #[inline(always)]
     pub fn pop_long(&mut self) -> i64
         requires { HasLongOnTop self.old.top.stack }
         ensures popped { self.old ≡ with_stack self.new (Long result ∷ self.new.top.stack) }
@@ -327,6 +339,7 @@ impl FrameStack {
 
     /// Puts the local of a slot on top.
     #[tactic(auto, using(crate::proofs::Tops::tops))]
+    #[inline(always)]
     pub fn load(&mut self, i: u16)
         requires place { i < length self.old.top.locals }
         requires room { HasRoom 1 self.old }
@@ -341,6 +354,7 @@ impl FrameStack {
 
     /// Takes the top operand into the local of a slot. There is room for one operand again.
     #[tactic(auto, using(crate::proofs::Tops::tops))]
+    #[inline(always)]
     pub fn store(&mut self, i: u16)
         requires operand { 0 < length self.old.top.stack }
         requires place { i < length self.old.top.locals }
@@ -354,6 +368,7 @@ impl FrameStack {
 
     /// Puts the top operand on top once more.
     #[tactic(auto, using(crate::proofs::Tops::tops))]
+    #[inline(always)]
     pub fn dup(&mut self)
         requires operand { 0 < length self.old.top.stack }
         requires room { HasRoom 1 self.old }

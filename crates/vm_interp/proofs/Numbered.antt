@@ -1,12 +1,18 @@
 -- The instructions of a code by number.
-use Rattle.std.proofs.Common.{◌≡◌, ℕ, zero, suc, ◌<◌, ◌+◌, List, [], ◌∷◌, length, get_or, drop, eqb, Bool, true, false, cond, refl, sym, ap, ◌∙◌, subst, arith, Option, Some, None, IfSome, slice_get, ◌≤◌}
+use Rattle.std.proofs.Common.{◌≡◌, ℕ, zero, suc, ◌<◌, ◌+◌, List, [], ◌∷◌, length, get_or, drop, eqb, Bool, true, false, cond, refl, sym, ap, ◌∙◌, subst, arith, Option, Some, None, IfSome, slice_get, ◌≤◌, All}
 use Rattle.std.proofs.lemmas.Bool.{eq-eqb, ne_eqb}
+use Rattle.std.proofs.lemmas.List.Elements.{All-head, All-tail}
+use Rattle.std.proofs.Math.Nat.{lt_of_not-le}
+use Rattle.jvm_model.specs.declared.instr.Instr.{Instr}
 use Rattle.jvm_model.specs.declared.program.Placed.{Placed}
 use Rattle.jvm_model.specs.declared.program.Body.{Body}
 use Rattle.jvm_model.specs.declared.program.Program.{Program}
 use Rattle.jvm_model.specs.Classes.{Found, found_in, found_of, form_at, next_place, place_after, method_at}
 use Rattle.jvm_model.specs.Entries.{Entries}
 use Rattle.jvm_model.specs.Linked.{Ascends, IsBody, Linked}
+use Rattle.jvm_model.specs.Step.{row_here, row_or_none}
+use Rattle.jvm_model.specs.View.{IsRow, IsSafe}
+use Rattle.jvm_model.specs.World.{World}
 use Rattle.vm_tables.specs.Numbers.{instruction, instruction_of, after_or, no_placed}
 use Rattle.vm_tables.proofs.Places.{ascending_number, form_some, get_some, place_at, place_past}
 use Rattle.check_sound.proofs.Arrive.{has_number}
@@ -105,3 +111,26 @@ module _ (p : Program) (m : ℕ) (b : Body) (i : ℕ) (s : Entries) (x : Placed)
   stands_next = subst (λ (n : ℕ). next_place p n s.top.pc ≡ place_after (drop (suc i) b.code) b.length) (sym h.number)
       (subst (λ (n : ℕ). next_place p m n ≡ place_after (drop (suc i) b.code) b.length) (sym stands_pc)
       (next_numbered p m x.pc i b h.own (number_of_guess b i x.pc x body at refl)))
+
+-- no instruction stands behind the last one
+none_past : (code : List Placed) (end pc : ℕ) → All (λ x. x.pc < end) code → end ≤ pc → found_in code end pc ≡ None
+none_past [] end pc h l = refl
+none_past (x ∷ xs) end pc h l =
+    let apart : eqb x.pc pc ≡ false = ne_eqb x.pc pc (λ e. (let low : x.pc < end = All-head (λ (y : Placed). y.pc < end) x xs h in let none : ⊥ = omega arith in none)) in
+    chosen (eqb x.pc pc) false (Some (record { form = x.form; after = place_after xs end })) (found_in xs end pc) apart ∙ none_past xs end pc (All-tail (λ (y : Placed). y.pc < end) x xs h) l
+
+form_none : (p : Program) (m pc : ℕ) (b : Body) → (method_at p m).body ≡ Some b → found_in b.code b.length pc ≡ None → form_at p m pc ≡ None
+unfolding form_at
+form_none p m pc b own e =
+    subst (λ (o : Option Found). (elim o as (λ _. Option Instr) [ None ↦ None | Some x ↦ Some x.form ]) ≡ None) (sym (ap (λ (o : Option Body). found_of o pc) own ∙ e)) refl
+
+stuck : (p : Program) (s : Entries) (w : World) → form_at p s.top.number s.top.pc ≡ None → IsSafe IsRow (row_here p s) w → ⊥
+unfolding row_here
+stuck p s w e h = subst (λ (o : Option Instr). IsSafe IsRow (row_or_none p o s) w) e h
+
+-- so a frame whose row is safe isn't there
+pub goes_more : (p : Program) (m : ℕ) (b : Body) (i : ℕ) (s : Entries) (w : World) → Linked p → (method_at p m).body ≡ Some b → s.top.number ≡ m → s.top.pc ≡ place_after (drop (suc i) b.code) b.length → IsSafe IsRow (row_here p s) w → suc i < length b.code
+goes_more p m b i s w linked own n q safe = lt_of_not-le (λ l.
+    (let end : s.top.pc ≡ b.length = q ∙ place_past b.code (suc i) b.length l in
+    let none : form_at p m s.top.pc ≡ None = form_none p m s.top.pc b own (none_past b.code b.length s.top.pc (is_body p m b linked own).within (omega (arith, end))) in
+    stuck p s w (ap (λ (k : ℕ). form_at p k s.top.pc) n ∙ none) safe))

@@ -1,7 +1,7 @@
 -- Steps of a test one after the other, as the code makes them.
-use Rattle.std.proofs.Common.{◌≡◌, ◌≢◌, ◌≤◌, ◌<◌, ℕ, suc, List, length, drop, not, refl, sym, ap, ◌∙◌, subst, arith, Option, None, is_some}
+use Rattle.std.proofs.Common.{◌≡◌, ◌≢◌, ◌≤◌, ◌<◌, ℕ, suc, List, length, drop, not, refl, sym, ap, ◌∙◌, subst, arith, Option, None, Some, is_some}
 use Rattle.jvm_model.specs.declared.values.Touch.{Touch}
-use Rattle.jvm_model.specs.declared.program.Placed.{Placed}
+use Rattle.jvm_model.specs.declared.program.Body.{Body}
 use Rattle.jvm_model.specs.declared.values.Value.{Value}
 use Rattle.jvm_model.specs.declared.library.Native.{Native}
 use Rattle.jvm_model.specs.declared.outcome.Next.{Next}
@@ -10,7 +10,8 @@ use Rattle.jvm_model.specs.declared.program.Program.{Program}
 use Rattle.jvm_model.specs.declared.state.EntryKind.TheVariants.{InMethod}
 use Rattle.jvm_model.specs.World.{World}
 use Rattle.jvm_model.specs.Access.{Access, done}
-use Rattle.jvm_model.specs.Classes.{place_after}
+use Rattle.jvm_model.specs.Classes.{method_at, place_after}
+use Rattle.jvm_model.specs.Linked.{Linked}
 use Rattle.jvm_model.specs.Entries.{Entries, with_place}
 use Rattle.jvm_model.specs.State.{State, Turn, next, with_entries}
 use Rattle.jvm_model.specs.Step.{entered, row_here, step}
@@ -18,8 +19,7 @@ use Rattle.jvm_model.specs.View.{counted, ended, paid, touched, IsSafe, IsTurn}
 use Rattle.jvm_model.proofs.Steps.{step_runs}
 use Rattle.vm_mem.specs.Meets.{Meets, Tells}
 use Rattle.vm_mem.specs.Story.{Story}
-use Rattle.vm_tables.proofs.Places.{place_past}
-use Rattle.vm_interp.specs.Gliding.{Steps, here, on, StepsOn, Advances, Rolls, EndsWithRow}
+use Rattle.vm_interp.specs.Gliding.{Steps, here, on, StepsOn, Advances, Rolls, EndsWithRow, IsIn}
 use Rattle.vm_interp.specs.Reaching.{AllSafe, HasRoomAfter}
 use Rattle.vm_interp.specs.Seen.{seen}
 use Rattle.vm_interp.specs.Turns.{after, by_row, turned}
@@ -27,7 +27,8 @@ use Rattle.vm_interp.specs.declared.state.State.{State as Kept}
 use Rattle.vm_interp.specs.declared.turned.Turned.{Turned}
 use Rattle.vm_interp.specs.declared.turned.Turned.TheVariants.{Over}
 use Rattle.vm_interp.proofs.NoEntry.{room_then}
-use Rattle.vm_interp.proofs.Found.{fits}
+use Rattle.vm_interp.proofs.Found.{fits, row_safe}
+use Rattle.vm_interp.proofs.Numbered.{goes_more}
 use Rattle.vm_interp.proofs.Stepped.{row_over, row_fit, row_counted, row_touches}
 use Rattle.vm_interp.proofs.Whole.{IsRest, goes_by, step_falls}
 
@@ -50,10 +51,6 @@ steps_can p q same t v b s w n f all r = subst (λ (z : Program). StepsOn z s w 
 -- the byte place written again
 pub placed_again : (s u : Entries) (n : ℕ) → u ≡ with_place s n → s.top.pc ≡ n → u ≡ s
 placed_again s u n e f = e ∙ ap (λ (m : ℕ). with_place s m) (sym f)
-
--- the same behind the last instruction of a code
-pub last_same : (code : List Placed) (i end : ℕ) (s u : Entries) → u ≡ with_place s end → s.top.pc ≡ place_after (drop (suc i) code) end → length code ≤ suc i → u ≡ s
-last_same code i end s u e f h = placed_again s u end e (f ∙ place_past code (suc i) end h)
 
 -- a step that ends with its row
 after_row_ends : (p : Program) (s : State) (x : Next) → EndsWithRow p x → after x p s ≡ done (next (with_entries s s.entries))
@@ -139,6 +136,11 @@ module _ {M : Type 0} (world : M → World) (follows : M → Story → List Touc
 
         pub row_told : (h : Story) (ts : List Touch) → follows m0 h ts → follows m2 h (touched (step p at) (world m1) (f ts))
         row_told h ts l = subst (λ (us : List Touch). follows m2 h us) (sym (touches (f ts))) (same_tells (not_spent p x ends) h (f ts) (told h ts l))
+
+        -- where it goes on behind an instruction, that one isn't the last of its code
+        pub row_more : StepsOn p (seen s) (world m0) n0 → Linked p → (m i : ℕ) (b : Body) → (method_at p m).body ≡ Some b → IsIn m t → t.top.pc ≡ place_after (drop (suc i) b.code) b.length → suc i < length b.code
+        row_more can linked m i b own h place = goes_more p m b i t (world m2) linked own h.number place
+            (row_safe p (record (seen s) { entries = t }) (world m2) (can (record (seen s) { entries = t }) (world m2) n' (λ ts. touched (step p at) (world m1) (f ts)) row_on) h.frame quiet)
 
         pub row_falls : n' < n
         row_falls = step_falls p at (world m1) n (next (record (seen s) { entries = t })) (world m2) n' row_goes

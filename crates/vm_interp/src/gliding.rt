@@ -225,6 +225,7 @@ fn roll<M: Memory>(
     let mut units = *left;
     let mut number = number;
     let mut body = body;
+    let mut code = body.code.as_slice();
     let mut at = at;
     while units > 0 {
         let went = row_at(
@@ -236,17 +237,19 @@ fn roll<M: Memory>(
             selections,
             number,
             body,
+            code,
             at,
             &mut units,
             state,
         )?;
-        let Some(stand) = stand_after(went, &frames, p, tables, number, body, at) else {
+        let Some(stand) = stand_after(went, &frames, p, tables, number, body, code, at) else {
             state.frames = frames;
             *left = units;
             return Ok(went.next());
         };
         number = stand.number;
         body = stand.body;
+        code = stand.code;
         at = stand.at;
     }
     frames.set_pc(0);
@@ -266,6 +269,7 @@ fn row_at<M: Memory>(
     selections: &mut Selections,
     number: u32,
     body: &Body,
+    code: &[Placed],
     at: usize,
     left: &mut u64,
     _state: &State,
@@ -274,6 +278,7 @@ fn row_at<M: Memory>(
     requires tables { tables.now ≡ M.program memory.old }
     requires selections { selections.old ≡ M.program memory.old }
     requires linked { Linked p.now }
+    requires code { code.now ≡ body.now.code }
     requires stands { Stands p.now number body.now at stack.old }
     requires quiet { _state.now.raised ≡ None }
     requires can { CanStep p.now (M.world memory.old)
@@ -287,11 +292,9 @@ fn row_at<M: Memory>(
         (next_of x) M.follows memory.old memory.new) }
     ensures left { IfOk result (λ x. IsLeft x number
         (classes.place_after (drop (suc at) body.now.code) body.now.length) stack.new) }
-    ensures more { IfOk result (λ x. x ≡ On → suc at < length body.now.code) }
     ensures of { OnOk result (M.program memory.new ≡ M.program memory.old) }
     ensures kept { selections.new ≡ selections.old }
 {
-    let code = body.code.as_slice();
     let placed = &code[at];
     stack.set_pc(placed.pc);
     let end = &body.length;
@@ -308,33 +311,7 @@ fn row_at<M: Memory>(
         end,
         left,
     )?;
-    Ok(unless_last(went, stack, code, at, end))
-}
-
-/// How a row left the frame, where none is the next instruction behind the last one of a code. There the place is written
-/// once more, and so it needn't be read of any other instruction.
-#[inline(always)]
-#[tactic(auto, using(crate::proofs::Onward::last_same))]
-fn unless_last(went: Went, stack: &mut FrameStack, code: &[Placed], at: usize, end: &u32) -> Went
-    requires within { at < length code.now }
-    requires left { went ≡ On
-        → stack.old.top.pc ≡ classes.place_after (drop (suc at) code.now) end.now }
-    ensures same { stack.new ≡ stack.old }
-    ensures answered { next_of result ≡ next_of went }
-    ensures kept { (m : ℕ) (n : ℕ) → IsLeft went m n stack.old → IsLeft result m n stack.old }
-    ensures more { result ≡ On → suc at < length code.now }
-{
-    match went {
-        Went::On => {
-            if at + 1 < code.len() {
-                return Went::On;
-            }
-            stack.set_pc(*end);
-            Went::By(Next::Go)
-        }
-        Went::Aside => Went::Aside,
-        Went::By(next) => Went::By(next),
-    }
+    Ok(went)
 }
 
 /// The instruction at which a row left the top, where its step ends with it.
@@ -346,30 +323,38 @@ fn stand_after<'p>(
     tables: &Tables,
     number: u32,
     body: &'p Body,
+    code: &'p [Placed],
     at: usize,
 ) -> Option<Stand<'p>>
     requires own { (method_at p.now number).body ≡ Some body.now }
+    requires code { code.now ≡ body.now.code }
     requires within { at < length body.now.code }
     requires more { went ≡ On → suc at < length body.now.code }
     requires left { IsLeft went number
         (classes.place_after (drop (suc at) body.now.code) body.now.length) stack.now }
-    ensures { IfSome result (λ x. EndsWithRow p.now (next_of went)
+    ensures stands { IfSome result (λ x. EndsWithRow p.now (next_of went)
         × Stands p.now x.number x.body.now x.at stack.now) }
+    ensures code { IfSome result (λ x. x.code.now ≡ x.body.now.code) }
 {
+    let here = Stand {
+        number,
+        body,
+        code,
+        at,
+    };
     match went {
         Went::On => Some(Stand {
-            number,
-            body,
-            at: one_more(body.code.as_slice(), at),
+            at: one_more(code, at),
+            ..here
         }),
         Went::Aside => {
             let at = number_there(tables, body, number, stack.pc())?;
-            Some(Stand { number, body, at })
+            Some(Stand { at, ..here })
         }
         Went::By(next) => {
             if stays_in(&next, stack, number) {
                 let at = number_there(tables, body, number, stack.pc())?;
-                return Some(Stand { number, body, at });
+                return Some(Stand { at, ..here });
             }
             let body = body_after(&next, stack, p)?;
             stand_in(stack, p, tables, body)
@@ -395,11 +380,17 @@ fn stand_in<'p>(
 ) -> Option<Stand<'p>>
     requires frame { stack.now.top.kind ≡ InMethod }
     requires own { (method_at _p.now stack.now.top.number).body ≡ Some body.now }
-    ensures { IfSome result (λ x. Stands _p.now x.number x.body.now x.at stack.now) }
+    ensures stands { IfSome result (λ x. Stands _p.now x.number x.body.now x.at stack.now) }
+    ensures code { IfSome result (λ x. x.code.now ≡ x.body.now.code) }
 {
     let number = stack.number();
     let at = number_there(tables, body, number, stack.pc())?;
-    Some(Stand { number, body, at })
+    Some(Stand {
+        number,
+        body,
+        code: body.code.as_slice(),
+        at,
+    })
 }
 
 /// An instruction by its number in the code of a method.
@@ -407,6 +398,7 @@ fn stand_in<'p>(
 struct Stand<'p> {
     number: u32,
     body: &'p Body,
+    code: &'p [Placed],
     at: usize,
 }
 

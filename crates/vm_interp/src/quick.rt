@@ -3,13 +3,11 @@
 ghost use Rattle.std.specs.Prelude.{◌≡◌, ◌<◌, ◌-◌, IfOk, OnOk, Some, cond, drop, length, suc, true, false};
 ghost use Rattle.jvm_model.specs.declared.instr.Instr.TheVariants as form;
 ghost use Rattle.jvm_model.specs.Classes as classes;
-ghost use Rattle.jvm_model.specs.Classes.{field_at, form_at, is_trivial};
+ghost use Rattle.jvm_model.specs.Classes.{form_at};
 ghost use Rattle.jvm_model.specs.Entries.{with_place};
 ghost use Rattle.jvm_model.specs.Step as steps;
 ghost use Rattle.vm_frames.specs.Stack.{HasRoom};
 ghost use Rattle.vm_mem.specs.Meets.{IsReady, IsNext, Meets, Tells};
-ghost use Rattle.vm_calls.specs.Calls.{HasRoomBelow, call_row, return_row};
-ghost use Rattle.vm_objects.specs.Forms.{array_row, static_row};
 ghost use Rattle.jvm_model.specs.declared.state.EntryKind.TheVariants.{InMethod};
 ghost use Rattle.vm_interp.specs.declared.went.Went.TheVariants.{Aside, On};
 ghost use Rattle.vm_interp.specs.Gliding.{CanGlide, IsLeft, next_of};
@@ -21,14 +19,17 @@ use crate::rows::{return_nothing, row_of};
 use crate::straight::straight_form;
 use crate::went::Went;
 use et_base::NoMemory;
-use jvm_model::{Cell, EntryKind, Instr, Kind, Next, Placed, Program, Sort};
+use jvm_model::{Cell, EntryKind, Instr, Next, Placed, Program};
 use std::alloc::Global;
 use std::mem;
 use vm_arith::{if_ints, if_null, if_refs, if_zero};
 use vm_calls::{Selections, give_back, invoke_special, invoke_static, invoke_virtual};
 use vm_frames::FrameStack;
 use vm_mem::Memory;
-use vm_objects::{array_length, array_load, array_store_number, get_field, put_field};
+use vm_objects::{
+    array_length, array_load, array_store_number, get_field, get_static, new_object, put_field,
+    put_static,
+};
 use vm_tables::Tables;
 
 /// Makes the row of an instruction that was found, by its number in the code of its method. Those that run often are made
@@ -193,36 +194,42 @@ fn quick_form<M: Memory>(
             let went = array_store_number(stack, memory, next, left)?;
             Ok(left_at(went, stack, method, next))
         }
-        Instr::GetStatic { field } if tables.is_trivial(p.field_class(*field)) => {
+        Instr::GetStatic { field } => {
             let method = stack.number();
             let next = place_after(code, at, end);
-            let went = read_trivial(stack, memory, *field, next, left)?;
+            let went = get_static(stack, memory, p, tables, *field, next, left)?;
             Ok(left_at(went, stack, method, next))
         }
-        Instr::PutStatic { field } if tables.is_trivial(p.field_class(*field)) => {
+        Instr::PutStatic { field } => {
             let method = stack.number();
             let next = place_after(code, at, end);
-            let went = write_trivial(stack, memory, p, *field, next, left)?;
+            let went = put_static(stack, memory, p, tables, *field, next, left)?;
+            Ok(left_at(went, stack, method, next))
+        }
+        Instr::New { class } => {
+            let method = stack.number();
+            let next = place_after(code, at, end);
+            let went = new_object(stack, memory, p, tables, *class, next, left)?;
             Ok(left_at(went, stack, method, next))
         }
         Instr::InvokeStatic { method } => {
-            let went = call_apart(alloc, stack, memory, p, tables, *method, left)?;
+            let went = invoke_static(stack, memory, p, tables, *method, left)?;
             Ok(Went::By(went))
         }
         Instr::InvokeSpecial { named, method } => {
-            let went = special_apart(
+            let went = invoke_special(
                 alloc, stack, memory, p, tables, selections, *named, *method, left,
             )?;
             Ok(Went::By(went))
         }
         Instr::InvokeVirtual { named, method } => {
-            let went = virtual_apart(
+            let went = invoke_virtual(
                 alloc, stack, memory, p, tables, selections, *named, *method, left,
             )?;
             Ok(Went::By(went))
         }
         Instr::Return { of: Some(of) } => {
-            let went = return_apart(alloc, stack, memory, tables, *of, left)?;
+            let went = give_back(stack, memory, tables, Some(*of), left)?;
             Ok(Went::By(went))
         }
         Instr::Return { of: None } => {
@@ -307,206 +314,6 @@ fn row_apart<M: Memory>(
     *stack = moved;
     *left = units;
     Ok(went)
-}
-
-/// Calls a static method, on such copies.
-#[inline(always)]
-fn call_apart<M: Memory>(
-    alloc: Global,
-    stack: &mut FrameStack,
-    memory: &mut M,
-    p: &Program,
-    tables: &Tables,
-    method: u32,
-    left: &mut u64,
-) -> Result<Next, NoMemory>
-    requires program { p.now ≡ M.program memory.old }
-    requires tables { tables.now ≡ M.program memory.old }
-    requires row { IsReady (call_row (form.InvokeStatic method))
-        (M.program memory.old) (M.world memory.old) stack.old }
-    ensures meets { IfOk result (λ x. Meets (call_row (form.InvokeStatic method))
-        (M.program memory.old) (M.world memory.old) stack.old left.old
-        x stack.new (M.world memory.new) left.new) }
-    ensures told { IfOk result (λ x. Tells (call_row (form.InvokeStatic method))
-        (M.program memory.old) (M.world memory.old) stack.old
-        x M.follows memory.old memory.new) }
-    ensures of { OnOk result (M.program memory.new ≡ M.program memory.old) }
-{
-    let mut moved = mem::replace(stack, FrameStack::new(alloc));
-    let mut units = *left;
-    let went = invoke_static(&mut moved, memory, p, tables, method, &mut units)?;
-    *stack = moved;
-    *left = units;
-    Ok(went)
-}
-
-/// Calls a method without regard to the object's class, on such copies.
-#[inline(always)]
-fn special_apart<M: Memory>(
-    alloc: Global,
-    stack: &mut FrameStack,
-    memory: &mut M,
-    p: &Program,
-    tables: &Tables,
-    selections: &mut Selections,
-    named: Kind,
-    method: u32,
-    left: &mut u64,
-) -> Result<Next, NoMemory>
-    requires program { p.now ≡ M.program memory.old }
-    requires tables { tables.now ≡ M.program memory.old }
-    requires selections { selections.old ≡ M.program memory.old }
-    requires row { IsReady (call_row (form.InvokeSpecial named method))
-        (M.program memory.old) (M.world memory.old) stack.old }
-    ensures meets { IfOk result (λ x. Meets (call_row (form.InvokeSpecial named method))
-        (M.program memory.old) (M.world memory.old) stack.old left.old
-        x stack.new (M.world memory.new) left.new) }
-    ensures told { IfOk result (λ x. Tells (call_row (form.InvokeSpecial named method))
-        (M.program memory.old) (M.world memory.old) stack.old
-        x M.follows memory.old memory.new) }
-    ensures of { OnOk result (M.program memory.new ≡ M.program memory.old) }
-    ensures kept { selections.new ≡ selections.old }
-{
-    let mut moved = mem::replace(stack, FrameStack::new(alloc));
-    let mut units = *left;
-    let went = invoke_special(
-        alloc, &mut moved, memory, p, tables, selections, named, method, &mut units,
-    )?;
-    *stack = moved;
-    *left = units;
-    Ok(went)
-}
-
-/// Calls the method that the object's class selects, on such copies.
-#[inline(always)]
-fn virtual_apart<M: Memory>(
-    alloc: Global,
-    stack: &mut FrameStack,
-    memory: &mut M,
-    p: &Program,
-    tables: &Tables,
-    selections: &mut Selections,
-    named: Kind,
-    method: u32,
-    left: &mut u64,
-) -> Result<Next, NoMemory>
-    requires program { p.now ≡ M.program memory.old }
-    requires tables { tables.now ≡ M.program memory.old }
-    requires selections { selections.old ≡ M.program memory.old }
-    requires row { IsReady (call_row (form.InvokeVirtual named method))
-        (M.program memory.old) (M.world memory.old) stack.old }
-    ensures meets { IfOk result (λ x. Meets (call_row (form.InvokeVirtual named method))
-        (M.program memory.old) (M.world memory.old) stack.old left.old
-        x stack.new (M.world memory.new) left.new) }
-    ensures told { IfOk result (λ x. Tells (call_row (form.InvokeVirtual named method))
-        (M.program memory.old) (M.world memory.old) stack.old
-        x M.follows memory.old memory.new) }
-    ensures of { OnOk result (M.program memory.new ≡ M.program memory.old) }
-    ensures kept { selections.new ≡ selections.old }
-{
-    let mut moved = mem::replace(stack, FrameStack::new(alloc));
-    let mut units = *left;
-    let went = invoke_virtual(
-        alloc, &mut moved, memory, p, tables, selections, named, method, &mut units,
-    )?;
-    *stack = moved;
-    *left = units;
-    Ok(went)
-}
-
-/// Returns a value from the method at the top, on such copies.
-#[inline(always)]
-fn return_apart<M: Memory>(
-    alloc: Global,
-    stack: &mut FrameStack,
-    memory: &mut M,
-    tables: &Tables,
-    of: Sort,
-    left: &mut u64,
-) -> Result<Next, NoMemory>
-    requires tables { tables.now ≡ M.program memory.old }
-    requires row { IsReady (return_row (form.Return (Some of)))
-        (M.program memory.old) (M.world memory.old) stack.old }
-    requires room { HasRoomBelow stack.old }
-    ensures meets { IfOk result (λ x. Meets (return_row (form.Return (Some of)))
-        (M.program memory.old) (M.world memory.old) stack.old left.old
-        x stack.new (M.world memory.new) left.new) }
-    ensures told { IfOk result (λ x. Tells (return_row (form.Return (Some of)))
-        (M.program memory.old) (M.world memory.old) stack.old
-        x M.follows memory.old memory.new) }
-    ensures of { OnOk result (M.program memory.new ≡ M.program memory.old) }
-{
-    let mut moved = mem::replace(stack, FrameStack::new(alloc));
-    let mut units = *left;
-    let went = give_back(&mut moved, memory, tables, Some(of), &mut units)?;
-    *stack = moved;
-    *left = units;
-    Ok(went)
-}
-
-/// The value of a static field of a trivial class is put on top (`getstatic`).
-#[inline(always)]
-#[tactic(auto, unfolding(jvm_model::specs::RowsStatics::row_statics, jvm_model::specs::RowsStatics::read_static, jvm_model::specs::Rows::begin))]
-fn read_trivial<M: Memory>(
-    stack: &mut FrameStack,
-    memory: &mut M,
-    field: u32,
-    next: u32,
-    left: &mut u64,
-) -> Result<Next, NoMemory>
-    requires trivial { is_trivial (M.program memory.old)
-        (field_at (M.program memory.old) field).class ≡ true }
-    requires row { IsReady (static_row (form.GetStatic field))
-        (M.program memory.old) (M.world memory.old) stack.old }
-    requires room { HasRoom 1 stack.old }
-    requires place { IsNext (M.program memory.old) stack.old next }
-    requires units { 0 < left.old }
-    ensures meets { IfOk result (λ x. Meets (static_row (form.GetStatic field))
-        (M.program memory.old) (M.world memory.old) stack.old left.old
-        x stack.new (M.world memory.new) left.new) }
-    ensures told { IfOk result (λ x. Tells (static_row (form.GetStatic field))
-        (M.program memory.old) (M.world memory.old) stack.old
-        x M.follows memory.old memory.new) }
-    ensures of { OnOk result (M.program memory.new ≡ M.program memory.old) }
-{
-    let v = memory.get_static(field)?;
-    stack.push_value(v);
-    stack.set_pc(next);
-    *left -= 1;
-    Ok(Next::Go)
-}
-
-/// A static field of a trivial class gets a value, narrowed to the field's type (`putstatic`).
-#[inline(always)]
-#[tactic(auto, unfolding(jvm_model::specs::RowsStatics::row_statics, jvm_model::specs::RowsStatics::write_static, jvm_model::specs::Rows::begin))]
-fn write_trivial<M: Memory>(
-    stack: &mut FrameStack,
-    memory: &mut M,
-    p: &Program,
-    field: u32,
-    next: u32,
-    left: &mut u64,
-) -> Result<Next, NoMemory>
-    requires program { p.now ≡ M.program memory.old }
-    requires trivial { is_trivial (M.program memory.old)
-        (field_at (M.program memory.old) field).class ≡ true }
-    requires row { IsReady (static_row (form.PutStatic field))
-        (M.program memory.old) (M.world memory.old) stack.old }
-    requires place { IsNext (M.program memory.old) stack.old next }
-    requires units { 0 < left.old }
-    ensures meets { IfOk result (λ x. Meets (static_row (form.PutStatic field))
-        (M.program memory.old) (M.world memory.old) stack.old left.old
-        x stack.new (M.world memory.new) left.new) }
-    ensures told { IfOk result (λ x. Tells (static_row (form.PutStatic field))
-        (M.program memory.old) (M.world memory.old) stack.old
-        x M.follows memory.old memory.new) }
-    ensures of { OnOk result (M.program memory.new ≡ M.program memory.old) }
-{
-    let v = stack.pop_value();
-    memory.put_static(field, v.narrowed(p.field_descriptor(field)))?;
-    stack.set_pc(next);
-    *left -= 1;
-    Ok(Next::Go)
 }
 
 /// Goes on at a place of the code, and counts the step.

@@ -63,6 +63,7 @@ pub fn create<M: Memory>(
 /// An abstract class or an interface throws an InstantiationError, which counts nothing. Where the class's
 /// initialisation is begun, its entry is on top, which costs 1; where it can't be used the step throws, which counts
 /// nothing. It answers Over where the cost is above the units left. The only error is want of memory.
+#[inline(always)]
 pub fn new_object<M: Memory>(
     stack: &mut FrameStack,
     memory: &mut M,
@@ -100,6 +101,7 @@ pub fn new_object<M: Memory>(
 }
 
 // Whether a class has no instances.
+#[inline(always)]
 fn is_bare(program: &Program, class: u32) -> bool
     ensures { result ≡ is_bare program.now class }
 {
@@ -110,6 +112,7 @@ fn is_bare(program: &Program, class: u32) -> bool
 }
 
 // A new instance of a class that may be used is put on top.
+#[inline(always)]
 #[tactic(auto, unfolding(jvm_model::specs::RowsCreate::new_object))]
 fn make_object<M: Memory>(
     stack: &mut FrameStack,

@@ -54,6 +54,7 @@ pub fn statics<M: Memory>(
 }
 
 /// Uses the class that declares a static field and puts the field's value on top (`getstatic`).
+#[inline(always)]
 pub fn get_static<M: Memory>(
     stack: &mut FrameStack,
     memory: &mut M,
@@ -86,6 +87,7 @@ pub fn get_static<M: Memory>(
 }
 
 // The value of a static field whose class may be used is put on top.
+#[inline(always)]
 #[tactic(auto, unfolding(jvm_model::specs::RowsStatics::read_static))]
 fn read_static<M: Memory>(
     stack: &mut FrameStack,
@@ -118,6 +120,7 @@ fn read_static<M: Memory>(
 
 /// Uses the class that declares a static field, takes a value and gives it to the field, narrowed to the field's type
 /// (`putstatic`).
+#[inline(always)]
 pub fn put_static<M: Memory>(
     stack: &mut FrameStack,
     memory: &mut M,
@@ -149,6 +152,7 @@ pub fn put_static<M: Memory>(
 }
 
 // A static field whose class may be used gets a value.
+#[inline(always)]
 #[tactic(auto, unfolding(jvm_model::specs::RowsStatics::write_static))]
 fn write_static<M: Memory>(
     stack: &mut FrameStack,

@@ -11,6 +11,7 @@ invariant-loop-units g l = record {
   program : l.p ≡ g.M.Memory.program l.memory;
   kept : l.selections ≡ l.fn.selections;
   others : l.state ≡ record l.fn.state { frames = l.state.frames };
+  code : l.code ≡ l.body.code;
   stands : Stands l.p l.number l.body l.at l.frames;
   so_far : List Touch → List Touch;
   steps : Steps l.p (seen l.fn.state) (g.M.Memory.world l.fn.memory) l.fn.left (record (seen l.fn.state) { entries = l.frames }) (g.M.Memory.world l.memory) l.units so_far;
