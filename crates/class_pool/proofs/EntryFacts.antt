@@ -1,11 +1,10 @@
 -- What the indices of a pool name, down to the texts.
-use Rattle.std.proofs.Common.{◌≡◌, ◌<◌, ◌^◌, ◌+◌, ℕ, zero, suc, Bool, true, false, ◌&&◌, List, length, Option, Some, None, is_some, refl, ap, ◌∙◌, arith, inl, inr}
-use Rattle.std.proofs.lemmas.Bool.{cases_lt, and_parts, or_cases}
-use Rattle.std.proofs.lemmas.List.{get_or_past}
+use Rattle.std.proofs.Common.{◌≡◌, ◌<◌, ◌^◌, ◌+◌, ℕ, Bool, true, false, ◌&&◌, List, length, Option, Some, None, refl, ap, inl, inr}
+use Rattle.std.proofs.lemmas.Bool.{and_parts, or_cases}
 use Rattle.class_pool.specs.declared.pool.Entry.{Entry}
 use Rattle.class_pool.specs.declared.pool.Entry.TheVariants.{Utf8, Class, Str, Field, Method, InterfaceMethod, NameAndType}
 use Rattle.et_base.specs.Names.{is_unqualified, is_method_name, is_class_name, is_class_entry_name, is_field_descriptor, is_method_descriptor, starts_array}
-use Rattle.class_pool.specs.Pool.{entry_of, is_text, is_class, text_of, class_name_of, in_text, in_pair}
+use Rattle.class_pool.specs.Pool.{entry_of, is_text, is_class, text_of, in_text, in_pair}
 use Rattle.class_pool.specs.PoolGrammar.{EntryFits, IsPool}
 use Rattle.class_pool.proofs.PoolFacts.{wants_none, entry_fits, entry_indices, class_named, field_class, field_pair, method_class, method_pair, interface_method_class, interface_method_pair}
 
@@ -92,20 +91,9 @@ plain_name us h bare = elim (or_cases (is_class_name us) (starts_array us && is_
   | inr array ↦ absurd (let there : starts_array us ≡ true = (and_parts _ _ array).0 in cc)
 ]
 
--- an index that names an entry is one of two bytes
-pub index_small : (slots : List (Option Entry)) (i : ℕ) → length slots + 1 < 2 ^ 16 → is_some (entry_of slots i) ≡ true → i < 2 ^ 16
-index_small slots zero few h = omega arith
-index_small slots (suc i) few h = elim (cases_lt i (length slots)) [
-  | inl lt ↦ omega (arith, lt, few)
-  | inr le ↦ absurd (let past : entry_of slots (suc i) ≡ None = get_or_past slots i None le in let none : is_some (entry_of slots (suc i)) ≡ false = ap is_some past in cc)
-]
-
 -- the texts themselves
 pub units_are : (test : List ℕ → Bool) (slots : List (Option Entry)) (i : ℕ) → (t : NamesText test slots i) → text_of (entry_of slots i) ≡ Some t.units
 units_are test slots i t = ap text_of t.entry
-
-pub class_name_is : (slots : List (Option Entry)) (i : ℕ) → (c : NamesClass slots i) → class_name_of slots (entry_of slots i) ≡ Some c.text.units
-class_name_is slots i c = ap (class_name_of slots) c.entry ∙ units_are is_class_entry_name slots c.name c.text
 
 -- ---- the whole
 

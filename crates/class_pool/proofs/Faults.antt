@@ -2,19 +2,13 @@
 use Rattle.std.proofs.Common.{◌≡◌, ℕ, zero, suc, Bool, true, false, cond, ltb, List, [], ◌∷◌, ◌++◌, length, take, drop, Result, Ok, Err, refl, subst}
 use Rattle.std.specs.Int.{Width, byte_len, from_be_bytes}
 use Rattle.class_pool.specs.declared.fault.Fault.{Fault}
-use Rattle.et_base.specs.Answers.{◌>>=◌, tested}
+use Rattle.et_base.specs.Answers.{◌>>=◌}
 use Rattle.class_pool.specs.Reading.{number_or, run_or}
 use Rattle.class_pool.specs.Loops.{counted}
 
 -- each fault of a reader is of this sort
 abbrev pub Refuses : {A : Type 0} → (Fault → Type 0) → (List ℕ → Result A Fault) → Type 0
 Refuses P read = (bytes : List ℕ) (fault : Fault) → read bytes ≡ Err fault → P fault
-
-err_is : {A : Type 0} (P : Fault → Type 0) (r : Result A Fault) (f g : Fault) → r ≡ Err f → r ≡ Err g → P f → P g
-err_is P r f g e h p = subst P (let s : f ≡ g = cc in s) p
-
-pub refused : {A : Type 0} (P : Fault → Type 0) (f g : Fault) (r : Result A Fault) → r ≡ Err f → P f → r ≡ Err g → P g
-refused P f g r e p h = err_is P r f g e h p
 
 pub bind_refuses : {A B : Type 0} (P : Fault → Type 0) (r : Result A Fault) (f : A → Result B Fault) (fault : Fault) → ((e : Fault) → r ≡ Err e → P e) → ((x : A) → r ≡ Ok x → f x ≡ Err fault → P fault) → (r >>= f) ≡ Err fault → P fault
 bind_refuses P (Ok x) f fault first next e = next x refl e
@@ -43,10 +37,6 @@ refuses_number P w short p bytes fault e = cond_err P (ltb (length bytes) (byte_
 
 pub refuses_run : (P : Fault → Type 0) (n : ℕ) (short : List ℕ → Fault) → ((bytes : List ℕ) → P (short bytes)) → Refuses P (λ bytes. run_or (short bytes) n bytes)
 refuses_run P n short p bytes fault e = cond_err P (ltb (length bytes) n) (short bytes) fault (take n bytes, drop n bytes) (p bytes) e
-
-pub refuses_test : {A : Type 0} (P : Fault → Type 0) (b : Bool) (fault : List ℕ → Fault) (read : List ℕ → Result A Fault) → ((bytes : List ℕ) → P (fault bytes)) → Refuses P read → Refuses P (λ bytes. tested b (fault bytes) >>= λ _. read bytes)
-refuses_test P true fault read p q bytes g e = q bytes g e
-refuses_test P false fault read p q bytes g e = subst P (let s : fault bytes ≡ g = cc in s) (p bytes)
 
 pub refuses_counted : {A : Type 0} (P : Fault → Type 0) (step : List A → ℕ → List ℕ → Result (A × List ℕ) Fault) → ((front : List A) (n : ℕ) → Refuses P (step front n)) → (n : ℕ) (front : List A) → Refuses P (λ bytes. counted step front n bytes)
 unfolding counted

@@ -1,7 +1,6 @@
 -- A reader of a grammar: what it takes is spelled so, and what is spelled so is taken, whatever follows.
 use Rattle.std.proofs.Common.{◌≡◌, ℕ, ℤ, zero, suc, ◌+◌, ◌-◌, ◌^◌, ◌<◌, ◌≤◌, Bool, true, false, cond, ltb, eqb, eq-eqb, List, [], ◌∷◌, ◌++◌, length, take, drop, Result, Ok, Err, refl, sym, ap, subst, ◌∙◌, append_assoc, arith, inl, inr}
 use Rattle.std.specs.Int.{Width, w8, w16, w32, w64, byte_len, from_be_bytes, to_be_bytes, cast_signed, cast_unsigned}
-use Rattle.std.specs.Int.RustNames.{FitsSigned}
 use Rattle.std.proofs.lemmas.Int.{of_z-to_z, to_z-of_z}
 use borrow.Author.Gap.{read_sfits}
 use mir.Val.{bits}
@@ -9,13 +8,11 @@ use mir.ValLaws.{of_z_fits}
 use Rattle.std.proofs.lemmas.Bool.{cases_lt, ltb-false, le-ltb, eqb-true}
 use Rattle.std.proofs.lemmas.List.{take_at, drop_at, take-append-drop, length-append, length-take, get_or-drop, get_or-take, get_or_past, append-nil}
 use Rattle.std.proofs.lemmas.Nat.{be_bytes_2, be_bytes_4, be_bytes_8, from_be_bytes-to_be_bytes_2, from_be_bytes-to_be_bytes_4, from_be_bytes-to_be_bytes_8}
-use Rattle.std.specs.List.{flat_map, AllByRecursion}
-use Rattle.std.proofs.lemmas.List.Concat.{flat_map-cons}
 use Rattle.class_pool.specs.declared.fault.Fault.{Fault}
 use Rattle.class_pool.specs.declared.fault.Fault.TheVariants.{Truncated}
 use Rattle.et_base.specs.Answers.{◌>>=◌, tested}
 use Rattle.class_pool.specs.Reading.{number_or, number_at, run_or, run_at}
-use Rattle.class_pool.specs.Loops.{counted, to_end, folded}
+use Rattle.class_pool.specs.Loops.{counted, folded}
 use Rattle.class_pool.specs.Grammar.{Joined, Chain, IsBytes, Nothing, Then, Mapped, Never, Tested, Number, Signed, Run, Counted, Sized}
 
 pub IsBytes-drop : (n : ℕ) (bytes : List ℕ) → IsBytes bytes → IsBytes (drop n bytes)
@@ -246,33 +243,6 @@ reads_counted S step p n front = record {
   again = λ text rest ys (xs, e, len, s). ap (λ k. counted step front k (text ++ rest)) (sym len) ∙ counted_again S step p xs front text rest s ∙ ap (λ zs. Ok (zs, rest)) (sym e);
 }
 
--- ---- items to the end of a run
-
-pub ends_takes : {A : Type 0} (S : List A → List ℕ → A → Type 0) (step : List A → List ℕ → Result (A × List ℕ) Fault) → ((front : List A) → Reads (S front) (step front)) → ((front : List A) (text : List ℕ) (x : A) → S front text x → 0 < length text)
-    → (n : ℕ) (front : List A) (bytes : List ℕ) (ys : List A) → IsBytes bytes → length bytes ≤ n → to_end step front n bytes ≡ Ok ys → (xs : List A) × (ys ≡ front ++ xs) × Joined (λ before _ text x. S before text x) front bytes xs
-unfolding to_end
-ends_takes S step p some n front [] ys fits le e = ([], sym (ok_is front ys e) ∙ sym (append-nil front), refl)
-ends_takes S step p some zero front (b ∷ bytes) ys fits le e = absurd (omega arith)
-ends_takes S step p some (suc n) front (b ∷ bytes) ys fits le e =
-    let a = bind_ok (step front (b ∷ bytes)) (λ x. to_end step (front ++ x.0 ∷ []) n x.1) ys e in
-    let t = (p front).takes (b ∷ bytes) a.0 fits a.1 in
-    let one : 0 < length t.text = some front t.text a.0.0 t.spelled in
-    let len : suc (length bytes) ≡ length t.text + length a.0.1 = ap length t.parts ∙ length-append t.text a.0.1 in
-    let u = ends_takes S step p some n (front ++ a.0.0 ∷ []) a.0.1 ys t.rest_fits (omega arith) a.2 in
-    (a.0.0 ∷ u.0, u.1 ∙ append_assoc front (a.0.0 ∷ []) u.0, (t.text, a.0.1, t.parts, t.spelled, u.2))
-
-pub ends_again : {A : Type 0} (S : List A → List ℕ → A → Type 0) (step : List A → List ℕ → Result (A × List ℕ) Fault) → ((front : List A) → Reads (S front) (step front)) → ((front : List A) (text : List ℕ) (x : A) → S front text x → 0 < length text)
-    → (xs : List A) (n : ℕ) (front : List A) (text : List ℕ) → length text ≤ n → Joined (λ before _ text x. S before text x) front text xs → to_end step front n text ≡ Ok (front ++ xs)
-unfolding to_end
-ends_again S step p some [] n front text le s = rw (s, append-nil) refl
-ends_again S step p some (x ∷ xs) n front [] le (one, more, e, s, others) = absurd (omega (arith, some front one x s, ap length e, length-append one more))
-ends_again S step p some (x ∷ xs) zero front (b ∷ bytes) le (one, more, e, s, others) = absurd (omega arith)
-ends_again S step p some (x ∷ xs) (suc n) front (b ∷ bytes) le (one, more, e, s, others) =
-    let len : suc (length bytes) ≡ length one + length more = ap length e ∙ length-append one more in
-    let first : 0 < length one = some front one x s in
-    ap (λ r. r >>= λ x. to_end step (front ++ x.0 ∷ []) n x.1) (ap (step front) e ∙ (p front).again one more x s)
-    ∙ ends_again S step p some xs n (front ++ x ∷ []) more (omega arith) others ∙ ap Ok (append_assoc front (x ∷ []) xs)
-
 -- ---- a state by steps
 
 pub folded_takes : {A : Type 0} (T : A → List ℕ → A → Type 0) (step : A → List ℕ → Result (A × List ℕ) Fault) → ((a : A) → Reads (T a) (step a))
@@ -348,17 +318,6 @@ pub chosen : {X : Type 0} (b : Bool) (S T : Type 0) → cond b S T → ((b ≡ t
 chosen true S T h first second = first refl h
 chosen false S T h first second = second refl h
 
--- ---- bytes
-
-pub bytes_append : (a b : List ℕ) → IsBytes a → IsBytes b → IsBytes (a ++ b)
-bytes_append [] b p q i = q i
-bytes_append (x ∷ a) b p q zero = p 0
-bytes_append (x ∷ a) b p q (suc i) = bytes_append a b (λ k. p (suc k)) q i
-
-pub one_byte : (a : ℕ) → a < 256 → IsBytes (a ∷ [])
-one_byte a lt zero = lt
-one_byte a lt (suc i) = omega arith
-
 -- ---- numbers of one, two, four and eight bytes
 
 pub reads_8 : Reads (Number w8 (2 ^ 8)) (λ bytes. number_at w8 bytes)
@@ -391,33 +350,7 @@ reads_run_then n T next q = record {
       ap (λ r. r >>= λ x. next (text ++ rest) x.0 x.1) (ap (run_at n) whole ∙ p.again one (more ++ rest) x s) ∙ (q (text ++ rest) x s.2).again more rest y t;
 }
 
--- ---- items whose spelling is a function
-
-pub joined_flat : {A : Type 0} (spell : A → List ℕ) (P : A → Type 0) (before : List A) (text : List ℕ) (xs : List A) → Joined (λ _ _ t x. (t ≡ spell x) × P x) before text xs → (text ≡ flat_map spell xs) × AllByRecursion P xs
-joined_flat spell P before text [] s = (s, tt)
-joined_flat spell P before text (x ∷ xs) (one, more, e, s, others) =
-    let r = joined_flat spell P (before ++ x ∷ []) more xs others in
-    (e ∙ ap (λ t. t ++ more) s.0 ∙ ap (λ t. spell x ++ t) r.0 ∙ sym (flat_map-cons spell x xs), (s.1, r.1))
-
-pub flat_joined : {A : Type 0} (spell : A → List ℕ) (P : A → Type 0) (before : List A) (xs : List A) → AllByRecursion P xs → Joined (λ _ _ t x. (t ≡ spell x) × P x) before (flat_map spell xs) xs
-flat_joined spell P before [] h = refl
-flat_joined spell P before (x ∷ xs) h = (spell x, flat_map spell xs, flat_map-cons spell x xs, (refl, h.0), flat_joined spell P (before ++ x ∷ []) xs h.1)
-
 -- ---- signed numbers
-
-pub reads_signed : (w : Width) → IsWide w (2 ^ bits w) → Reads (Signed w) (λ bytes. number_at w bytes >>= λ n. Ok (cast_signed w n.0, n.1))
-reads_signed w wide = reads_as (Mapped (cast_signed w) (Number w (2 ^ bits w))) (Signed w) _
-    (λ text z (n, s, is).
-    let back : cast_unsigned w z ≡ n = ap (cast_unsigned w) is ∙ of_z-to_z w n s.1 in
-    (s.0 ∙ ap (to_be_bytes w) (sym back), subst (FitsSigned w) (sym is) (read_sfits w n)))
-    (λ text z (e, fits). (cast_unsigned w z, (e, (of_z_fits w z fits).fits), sym (to_z-of_z w z fits)))
-    (reads_mapped (cast_signed w) (Number w (2 ^ bits w)) _ (reads_number w (2 ^ bits w) (λ bytes. Truncated (length bytes)) wide))
-
-pub reads_signed_32 : Reads (Signed w32) (λ bytes. number_at w32 bytes >>= λ n. Ok (cast_signed w32 n.0, n.1))
-reads_signed_32 = reads_signed w32 wide32
-
-pub reads_signed_64 : Reads (Signed w64) (λ bytes. number_at w64 bytes >>= λ n. Ok (cast_signed w64 n.0, n.1))
-reads_signed_64 = reads_signed w64 wide64
 
 -- a signed number in a constructor
 pub reads_signed_as : {B : Type 0} (w : Width) (made : ℤ → B) → IsWide w (2 ^ bits w) → Reads (Mapped made (Signed w)) (λ bytes. number_at w bytes >>= λ n. Ok (made (cast_signed w n.0), n.1))

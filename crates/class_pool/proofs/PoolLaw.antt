@@ -16,7 +16,7 @@ use Rattle.class_pool.specs.Reading.{number_at, run_at}
 use Rattle.class_pool.specs.Pool.{units_or, text_at, single_at, twin_at, handle_at, twins_at, singles_at, numbers_at, body_at, entry_at, slot_by, slot_at, is_second, is_wide, slot_len, slots_at, wrong_index, wrong_name, found_at, pass, no_place, indices_pass, names_pass, pool_at}
 use Rattle.class_pool.specs.Grammar.{IsBytes, Nothing, Then, Mapped, Never, Number, Signed, Run, Counted, Joined}
 use Rattle.class_pool.specs.PoolGrammar.{entry_bytes, EntryFits, EntryText, SlotText, IsSound, PoolText}
-use Rattle.class_pool.proofs.Laws.{reads_8, reads_16, reads_32, reads_64, reads_signed_as, wide32, wide64, reads_run_then, chosen, done, bind_ok, ok_is, Taken, Reads, reads_nothing, reads_then, reads_mapped, reads_if, reads_never, reads_as, reads_counted}
+use Rattle.class_pool.proofs.Laws.{reads_8, reads_16, reads_32, reads_64, reads_signed_as, wide32, wide64, reads_run_then, chosen, bind_ok, ok_is, Taken, Reads, reads_nothing, reads_then, reads_mapped, reads_if, reads_never, reads_as, reads_counted}
 
 -- ---- texts
 
@@ -234,9 +234,6 @@ reads_slot before slots = reads_as (λ text x. cond (is_second before) (Nothing 
 
 -- ---- passes
 
-unit_ok : (u : Unit {0}) → done u ≡ done tt
-unit_ok u = refl
-
 -- A pass finds nothing exactly where it finds nothing in each slot, wherever the slots lie.
 found_none : (o : Option ℕ) (left : ℕ) (rest : Option ℕ) → found_at o left rest ≡ None → (o ≡ None) × (rest ≡ None)
 found_none None left rest e = (refl, e)
@@ -295,10 +292,3 @@ reads_pool = reads_as _ PoolText _ pool_to pool_from (reads_then (Number w16 (2 
     (λ all n rest. slots_at n rest >>= λ slots. indices_pass slots.0 (length rest) >>= λ _. names_pass slots.0 (length rest) >>= λ _. Ok slots)
     reads_16 (λ all n. reads_then (Counted SlotText [] (n - 1)) Sound (λ bytes. slots_at n bytes) (λ all slots rest. indices_pass slots (length all) >>= λ _. names_pass slots (length all) >>= λ _. Ok (slots, rest))
     (reads_counted SlotText slot_at reads_slot (n - 1) []) (λ all slots. reads_sound slots (length all))))
-
-abbrev no_bytes : List ℕ
-no_bytes = []
-
--- bytes spell one pool at most
-pub pool_once : (text : List ℕ) (a b : List (Option Entry)) → PoolText text a → PoolText text b → a ≡ b
-pool_once text a b s t = let e : done (a, no_bytes) ≡ done (b, no_bytes) = sym (reads_pool.again text [] a s) ∙ reads_pool.again text [] b t in ap (λ (x : List (Option Entry) × List ℕ). x.0) (ok_is (a, no_bytes) (b, no_bytes) e)

@@ -1,11 +1,9 @@
 -- Each pool that meets the conditions is spelled by what is written, and what is spelled meets them.
-use Rattle.std.proofs.Common.{◌≡◌, ℕ, ◌+◌, List, [], ◌∷◌, ◌++◌, length, Option, Some, None, Ok, refl, arith, All}
+use Rattle.std.proofs.Common.{ℕ, ◌+◌, List, [], ◌∷◌, ◌++◌, length, Option, Some, None, refl, arith, All}
 use Rattle.std.specs.List.{flat_map, AllByRecursion}
 use Rattle.std.proofs.lemmas.List.Elements.{All-from_recursion}
 use Rattle.std.proofs.lemmas.List.Concat.{flat_map-cons}
 use Rattle.class_pool.specs.declared.pool.Entry.{Entry}
-use Rattle.class_pool.proofs.PoolLaw.{reads_pool}
-use Rattle.class_pool.specs.Pool.{pool_at}
 use Rattle.class_pool.specs.Grammar.{Joined}
 use Rattle.class_pool.specs.PoolGrammar.{SlotText, EntryFits, PoolText, slot_bytes, Laid, IsPool, pool_spelling}
 
@@ -38,7 +36,3 @@ laid_fits before (Some entry ∷ slots) h = (h.1, laid_fits (before ++ Some entr
 
 pub slots_fit : (slots : List (Option Entry)) → IsPool slots → All SlotFits slots
 slots_fit slots h = All-from_recursion SlotFits slots (laid_fits [] slots h.laid)
-
--- what is written is read again as itself, whatever follows
-pub pool_reread : (slots : List (Option Entry)) (rest : List ℕ) → IsPool slots → pool_at (pool_spelling slots ++ rest) ≡ Ok (slots, rest)
-pool_reread slots rest h = reads_pool.again (pool_spelling slots) rest slots (pool_written slots h)

@@ -153,33 +153,9 @@ abbrev pub is_text : Option Entry → Bool
 is_text (Some (Utf8 units)) = true
 is_text _ = false
 
-abbrev pub is_integer : Option Entry → Bool
-is_integer (Some (Integer n)) = true
-is_integer _ = false
-
-abbrev pub is_long : Option Entry → Bool
-is_long (Some (Long n)) = true
-is_long _ = false
-
 abbrev pub is_class : Option Entry → Bool
 is_class (Some (Class name)) = true
 is_class _ = false
-
-abbrev pub is_str : Option Entry → Bool
-is_str (Some (Str text)) = true
-is_str _ = false
-
-abbrev pub is_field : Option Entry → Bool
-is_field (Some (Field class pair)) = true
-is_field _ = false
-
-abbrev pub is_method : Option Entry → Bool
-is_method (Some (Method class pair)) = true
-is_method _ = false
-
-abbrev pub is_interface_method : Option Entry → Bool
-is_interface_method (Some (InterfaceMethod class pair)) = true
-is_interface_method _ = false
 
 abbrev pub is_pair : Option Entry → Bool
 is_pair (Some (NameAndType name descriptor)) = true

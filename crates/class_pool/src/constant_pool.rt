@@ -17,7 +17,7 @@ use std::marker::Model;
 /// A constant pool (JVMS 4.4). Contracts see it as its slots from index 1 on, with none in the second
 /// slot of a long or double. Each entry names entries of the kinds that it may name, and names and
 /// descriptors have their forms.
-#[derive(Debug, Drop)]
+#[derive(Drop)]
 pub struct Pool {
     slots: Items<Option<Entry>>,
 }

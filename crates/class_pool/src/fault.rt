@@ -10,7 +10,7 @@ use std::alloc::{AllocError, AllocFailed};
 
 /// The first fault of a reading from left to right. A place is the number of bytes that are left
 /// at the field concerned; in code it is a pc, beside the method's number.
-#[derive(Clone, Copy, Debug, PartialEq, Eq)]
+#[derive(Clone, Copy, Debug)]
 pub enum Fault {
     /// The file doesn't begin with CAFEBABE (JVMS 4.1).
     BadMagic,

@@ -1,7 +1,7 @@
 //! What an index of a pool names.
 
 ghost use Rattle.std.specs.Prelude.{◌≡◌, option_copied};
-ghost use Rattle.class_pool.specs.Pool.{entry_of, is_text, is_integer, is_long, is_class, is_str, is_field, is_method, is_interface_method, is_pair, is_handled, text_of, class_name_of};
+ghost use Rattle.class_pool.specs.Pool.{entry_of, is_text, is_class, is_pair, is_handled, text_of, class_name_of};
 
 use crate::pool::Entry;
 use et_base::Units;
@@ -27,53 +27,11 @@ pub fn names_text(slots: &[Option<Entry>], index: u16) -> bool
     matches!(entry_at(slots, index), Some(Entry::Utf8(_)))
 }
 
-/// Whether this index names an Integer entry.
-pub fn names_integer(slots: &[Option<Entry>], index: u16) -> bool
-    ensures { result ≡ is_integer (entry_of slots.now index) }
-{
-    matches!(entry_at(slots, index), Some(Entry::Integer(_)))
-}
-
-/// Whether this index names a Long entry.
-pub fn names_long(slots: &[Option<Entry>], index: u16) -> bool
-    ensures { result ≡ is_long (entry_of slots.now index) }
-{
-    matches!(entry_at(slots, index), Some(Entry::Long(_)))
-}
-
 /// Whether this index names a Class entry.
 pub fn names_class(slots: &[Option<Entry>], index: u16) -> bool
     ensures { result ≡ is_class (entry_of slots.now index) }
 {
     matches!(entry_at(slots, index), Some(Entry::Class { .. }))
-}
-
-/// Whether this index names a String entry.
-pub fn names_str(slots: &[Option<Entry>], index: u16) -> bool
-    ensures { result ≡ is_str (entry_of slots.now index) }
-{
-    matches!(entry_at(slots, index), Some(Entry::Str { .. }))
-}
-
-/// Whether this index names a Fieldref entry.
-pub fn names_field(slots: &[Option<Entry>], index: u16) -> bool
-    ensures { result ≡ is_field (entry_of slots.now index) }
-{
-    matches!(entry_at(slots, index), Some(Entry::Field { .. }))
-}
-
-/// Whether this index names a Methodref entry.
-pub fn names_method(slots: &[Option<Entry>], index: u16) -> bool
-    ensures { result ≡ is_method (entry_of slots.now index) }
-{
-    matches!(entry_at(slots, index), Some(Entry::Method { .. }))
-}
-
-/// Whether this index names an InterfaceMethodref entry.
-pub fn names_interface_method(slots: &[Option<Entry>], index: u16) -> bool
-    ensures { result ≡ is_interface_method (entry_of slots.now index) }
-{
-    matches!(entry_at(slots, index), Some(Entry::InterfaceMethod { .. }))
 }
 
 /// Whether this index names a NameAndType entry.

@@ -91,7 +91,7 @@ pub(crate) fn all_indices(slots: &[Option<Entry>], from: usize) -> Result<(), Re
 }
 
 /// What tests say of a slot's text; all false where it is no text.
-#[derive(Clone, Copy, Debug)]
+#[derive(Clone, Copy)]
 pub(crate) struct Mark {
     name: bool,
     method_name: bool,

@@ -12,7 +12,7 @@ use et_base::{Items, Units, UtfFault, units_of_modified};
 use std::alloc::Global;
 
 /// An entry of a constant pool (JVMS 4.4). Indices count from 1, as in the class file.
-#[derive(Debug, Drop)]
+#[derive(Drop)]
 pub enum Entry {
     Utf8(Units),
     Integer(i32),
