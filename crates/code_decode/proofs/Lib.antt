@@ -2,10 +2,9 @@ pub mod Marking
 pub mod TargetSteps
 pub mod CodeLaw
 pub mod WholeLaw
-pub mod FaultLaw
+pub mod Readers
 pub mod SpellingLaw
 pub mod SpellingSwitches
 pub mod RespelledLaw
 pub mod ArgFacts
 pub mod CodeFacts
-pub mod NamedFacts

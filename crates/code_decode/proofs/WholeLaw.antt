@@ -6,7 +6,10 @@ use Rattle.std.proofs.lemmas.List.{append-nil, length-append}
 use Rattle.class_pool.specs.declared.fault.Fault.{Fault}
 use Rattle.class_pool.specs.declared.fault.Fault.TheVariants.{BadTarget}
 use Rattle.class_pool.specs.declared.pool.Entry.{Entry}
-use Rattle.et_base.specs.Answers.{◌>>=◌, tested}
+use Rattle.class_pool.specs.declared.fault.ReadError.{ReadError}
+use Rattle.class_pool.specs.declared.fault.ReadError.TheVariants as errors
+use Rattle.et_base.specs.Answers.{◌>>=◌, Fails, tested}
+use Rattle.class_pool.specs.Reading.{named}
 use Rattle.class_pool.specs.Loops.{to_end}
 use Rattle.class_pool.specs.Grammar.{IsBytes}
 use Rattle.class_pool.proofs.Laws.{bind_ok, ok_is, tested_ok, wide8}
@@ -15,9 +18,10 @@ use Rattle.code_decode.specs.declared.instructions.RawOp.{RawOp}
 use Rattle.code_decode.specs.declared.decoding.Code.{Code}
 use Rattle.code_decode.specs.Instructions.{op_at, spot_at, ops_at}
 use Rattle.code_decode.specs.Targets.{is_start, leads_to, targets_fit}
-use Rattle.code_decode.specs.Decoding.{code_at}
+use Rattle.code_decode.specs.Decoding.{code_at, IsCodeError}
 use Rattle.code_decode.specs.CodeGrammar.{OpText, OpsText, CodeText}
-use Rattle.code_decode.proofs.CodeLaw.{reads_op}
+use Rattle.code_decode.proofs.CodeLaw.{takes_op}
+use Rattle.code_decode.proofs.Readers.{Named, named_ok, named_then, named_test, named_to_end}
 
 -- ---- instructions one after the other
 
@@ -40,7 +44,7 @@ ops_takes slots method total n front [] ys fits le inside e = ([], sym (ok_is fr
 ops_takes slots method total zero front (b ∷ bytes) ys fits le inside e = absurd (omega arith)
 ops_takes slots method total (suc n) front (b ∷ bytes) ys fits le inside e =
     let a = bind_ok (step slots method total front (b ∷ bytes)) (λ x. to_end (step slots method total) (front ++ x.0 ∷ []) n x.1) ys e in
-    let t = (reads_op slots (spot_at method total (b ∷ bytes))).takes (b ∷ bytes) a.0 fits a.1 in
+    let t = (takes_op slots (spot_at method total (b ∷ bytes))).reads.takes (b ∷ bytes) a.0 fits a.1 in
     let one : 0 < length t.text = some_bytes slots total (total - length (b ∷ bytes)) t.text a.0.0 t.spelled in
     let len : suc (length bytes) ≡ length t.text + length a.0.1 = ap length t.parts ∙ length-append t.text a.0.1 in
     let u = ops_takes slots method total n (front ++ a.0.0 ∷ []) a.0.1 ys t.rest_fits (omega arith) (omega arith) a.2 in
@@ -59,7 +63,7 @@ ops_again slots method total (x ∷ xs) (suc n) front pc (b ∷ bytes) le ends (
     let here : total - suc (length bytes) ≡ pc = omega arith in
     let at = λ (p : ℕ). let spot : Spot = record { method = method; total = total; pc = p } in spot in
     let taken : op_at slots (at (total - suc (length bytes))) (b ∷ bytes) ≡ Ok (x, more) =
-    ap (λ p. op_at slots (at p) (b ∷ bytes)) here ∙ ap (op_at slots (at pc)) e ∙ (reads_op slots (at pc)).again one more x s in
+    ap (λ p. op_at slots (at p) (b ∷ bytes)) here ∙ ap (op_at slots (at pc)) e ∙ (takes_op slots (at pc)).reads.again one more x s in
     ap (λ r. r >>= λ x. to_end (step slots method total) (front ++ x.0 ∷ []) n x.1) taken
     ∙ ops_again slots method total xs n (front ++ x ∷ []) (pc + length one) more (omega arith) (omega arith) others ∙ ap Ok (append_assoc front (x ∷ []) xs)
 
@@ -97,3 +101,19 @@ code_again method slots text code s =
     ap (λ r. r >>= λ ops. targets_fit method (is_start ops (length text)) ops >>= λ _. Ok (record { length = length text; ops = ops })) ops
     ∙ ap (λ r. r >>= λ _. Ok (made (length text))) (all_fit method (is_start code.ops (length text)) code.ops s.targets)
     ∙ ap (λ n. Ok (made n)) (sym s.len)
+
+-- ---- faults
+
+named_targets : (method : ℕ) (test : ℤ → Bool) (ops : List RawOp) → Named method (targets_fit method test ops)
+named_targets method test [] = named_ok method tt
+named_targets method test (o ∷ ops) = named_then method (tested (leads_to test o) (BadTarget method o.pc)) _ (named_test method (leads_to test o) (BadTarget method o.pc) refl) (λ _. named_targets method test ops)
+
+named_code : (method : ℕ) (slots : Slots) (bytes : List ℕ) → Named method (code_at method slots bytes)
+unfolding code_at ops_at
+named_code method slots bytes = named_then method (ops_at method slots bytes) _ (named_to_end method _ (λ _ rest. (takes_op slots (spot_at method (length bytes) rest)).faults rest) (length bytes) [] bytes)
+    (λ ops. named_then method (targets_fit method (is_start ops (length bytes)) ops) _ (named_targets method (is_start ops (length bytes)) ops) (λ _. named_ok method _))
+
+-- Each error of reading a code is one of that code.
+pub code_error : (error : ReadError) (method : ℕ) (slots : Slots) (bytes : List ℕ) → Fails (named error) (code_at method slots bytes) → IsCodeError method error
+code_error errors.Memory method slots bytes fails = tt
+code_error (errors.Fault f) method slots bytes fails = (named_code method slots bytes).of f fails

@@ -9,26 +9,26 @@ use std::alloc::Global;
 use std::marker::Model;
 
 /// The operands of an instruction in order. Contracts see the list of them. Up to two take no memory of their own.
-#[derive(Debug, Drop)]
+#[derive(Drop)]
 pub struct Args {
     held: Held,
 }
 
 // One operand, laid out as a box is, so that instructions are copied in whole words.
-#[derive(Debug, Drop)]
+#[derive(Drop)]
 struct One {
     args: [i32; 1],
     aligned: [u64; 0],
 }
 
 // Two operands, laid out in the same way.
-#[derive(Debug, Drop)]
+#[derive(Drop)]
 struct Two {
     args: [i32; 2],
     aligned: [u64; 0],
 }
 
-#[derive(Debug, Drop)]
+#[derive(Drop)]
 enum Held {
     None,
     One(One),

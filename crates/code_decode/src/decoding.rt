@@ -17,7 +17,7 @@ use et_base::Items;
 use std::alloc::Global;
 
 /// A code taken to instructions.
-#[derive(Debug, Drop)]
+#[derive(Drop)]
 pub struct Code {
     /// Its length in bytes.
     pub length: u32,

@@ -19,7 +19,7 @@ use et_base::Items;
 use std::alloc::Global;
 
 /// An instruction with its pc and its operands.
-#[derive(Debug, Drop)]
+#[derive(Drop)]
 pub struct RawOp {
     /// Where it begins, in bytes from the code's start.
     pub pc: u32,

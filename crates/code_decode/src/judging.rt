@@ -1,6 +1,7 @@
 //! Whether an instruction takes what it names.
 
-ghost use Rattle.std.specs.Prelude.{◌≡◌, option_copied};
+ghost use Rattle.std.specs.Prelude.{◌≡◌, option_copied, Some};
+ghost use Rattle.class_pool.specs.declared.pool.Entry.TheVariants.{Class};
 ghost use Rattle.class_pool.specs.Pool.{entry_of};
 ghost use Rattle.et_base.specs.Answers.{nothing};
 ghost use Rattle.class_pool.specs.Reading.{Gives};
@@ -14,7 +15,7 @@ use class_pool::names::argument_units;
 use class_pool::{Entry, Pool, ReadError};
 
 /// What an operand is to its instruction.
-#[derive(Clone, Copy, Debug, PartialEq, Eq)]
+#[derive(Clone, Copy)]
 pub enum Fit {
     /// It is taken.
     Right,
@@ -114,21 +115,38 @@ fn member_fit(pool: &Pool, class: u16) -> Fit
     array_fit(class_name(pool, class))
 }
 
+// Whether an instruction takes a class, by the index of its name.
+fn class_fit(named: Named, pool: &Pool, name: u16) -> Fit
+    ensures { result ≡ named_fit named pool.now (Some (Class name)) }
+{
+    let name = units_of(pool, name);
+    match named {
+        Named::Made => made_fit(name),
+        Named::Element => element_fit(name),
+        Named::Tested => array_fit(name),
+        Named::Nested => nested_fit(name),
+        Named::Field | Named::Virtual | Named::Direct | Named::Interface => Fit::Wrong,
+    }
+}
+
 // Whether the entry at an index is one that an instruction takes.
 pub fn named_fit(named: Named, pool: &Pool, index: u16) -> Fit
     ensures { result ≡ named_fit named pool.now (entry_of pool.now index) }
 {
-    match (named, pool.entry(index)) {
-        (Named::Field, Some(Entry::Field { class, .. })) => member_fit(pool, *class),
-        (Named::Virtual | Named::Direct, Some(Entry::Method { class, .. })) => member_fit(
-            pool, *class,
-        ),
-        (Named::Direct | Named::Interface, Some(Entry::InterfaceMethod { class, .. })) =>
-            member_fit(pool, *class),
-        (Named::Made, Some(Entry::Class { name })) => made_fit(units_of(pool, *name)),
-        (Named::Element, Some(Entry::Class { name })) => element_fit(units_of(pool, *name)),
-        (Named::Tested, Some(Entry::Class { name })) => array_fit(units_of(pool, *name)),
-        (Named::Nested, Some(Entry::Class { name })) => nested_fit(units_of(pool, *name)),
+    match pool.entry(index) {
+        Some(Entry::Class { name }) => class_fit(named, pool, *name),
+        Some(Entry::Field { class, .. }) => match named {
+            Named::Field => member_fit(pool, *class),
+            _ => Fit::Wrong,
+        },
+        Some(Entry::Method { class, .. }) => match named {
+            Named::Virtual | Named::Direct => member_fit(pool, *class),
+            _ => Fit::Wrong,
+        },
+        Some(Entry::InterfaceMethod { class, .. }) => match named {
+            Named::Direct | Named::Interface => member_fit(pool, *class),
+            _ => Fit::Wrong,
+        },
         _ => Fit::Wrong,
     }
 }

@@ -4,7 +4,7 @@ ghost use Rattle.std.specs.Prelude.{◌≡◌};
 ghost use Rattle.code_decode.specs.Opcodes.{takes_local, shape_of};
 
 /// What a constant takes on the stack.
-#[derive(Clone, Copy, Debug, PartialEq, Eq)]
+#[derive(Clone, Copy)]
 pub enum Constant {
     /// One unit, as an int or a string: ldc and ldc_w.
     Single,
@@ -13,7 +13,7 @@ pub enum Constant {
 }
 
 /// What an instruction wants of the pool entry that it names by two bytes.
-#[derive(Clone, Copy, Debug, PartialEq, Eq)]
+#[derive(Clone, Copy)]
 pub enum Named {
     /// A field: getstatic, putstatic, getfield, putfield.
     Field,
@@ -34,7 +34,7 @@ pub enum Named {
 }
 
 /// The form of an instruction's operands (JVMS 6.5).
-#[derive(Clone, Copy, Debug, PartialEq, Eq)]
+#[derive(Clone, Copy)]
 pub enum Shape {
     /// None.
     Plain,

@@ -6,7 +6,7 @@ ghost use Rattle.code_decode.specs.Place.{cut, wrong, foreign, place, target};
 use class_pool::Fault;
 
 /// Where an instruction stands: the number of its method, the length of the code, and its pc.
-#[derive(Clone, Copy, Debug, PartialEq, Eq)]
+#[derive(Clone, Copy)]
 pub struct Spot {
     pub method: u32,
     pub total: u16,

@@ -15,7 +15,7 @@ use std::alloc::Global;
 use std::marker::Model;
 
 /// For each place in a code whether an instruction begins there.
-#[derive(Debug, Drop)]
+#[derive(Drop)]
 pub struct Starts {
     marks: Vec<bool>,
 }

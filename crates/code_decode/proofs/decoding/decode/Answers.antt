@@ -1,8 +1,7 @@
 use Rattle.std.proofs.Common.{◌∙◌, sym, subst, arith, Ok}
 use Rattle.et_base.specs.Answers.{Fails}
 use Rattle.class_pool.specs.Reading.{named}
-use Rattle.code_decode.proofs.WholeLaw.{code_takes, code_again}
-use Rattle.code_decode.proofs.FaultLaw.{code_error}
+use Rattle.code_decode.proofs.WholeLaw.{code_takes, code_again, code_error}
 use Rattle.code_decode.proofs.decoding.decode.Goals as goal
 
 pub code_fault-requires : goal.code_fault-requires
