@@ -8,4 +8,3 @@ pub mod AttributeFacts
 pub mod PartFacts
 pub mod MemberFacts
 pub mod ClassFacts
-pub mod ConstantFacts

@@ -7,6 +7,8 @@ use Rattle.class_pool.specs.Pool.{entry_of, in_text}
 use Rattle.et_base.specs.Names.{is_unqualified, is_field_descriptor, argument_units}
 use Rattle.et_base.specs.Names as names
 use Rattle.class_reader.specs.declared.parts.MemberPart.{MemberPart}
+use Rattle.class_reader.specs.declared.names.Form.{Form}
+use Rattle.class_reader.specs.declared.names.Form.TheVariants as form
 
 -- whether an entry is this text
 abbrev pub is_text_of : List ℕ → Option Entry → Bool
@@ -55,6 +57,13 @@ has_room own (Some units) = nat_le (own + units) 255
 
 abbrev pub is_method_type : ℕ → Option Entry → Bool
 is_method_type flags entry = in_text (λ us. has_room (own_units flags) (argument_units us)) entry
+
+-- a name or a descriptor of this form
+abbrev pub has_form : Form → Option Entry → Bool
+has_form form.FieldName = is_field_name
+has_form form.FieldType = is_field_type
+has_form form.MethodName = is_method_name
+has_form (form.MethodType flags) = is_method_type flags
 
 -- a constant that fits a field's descriptor (JVMS table 4.7.2-A)
 abbrev pub is_small : Option Entry → Bool

@@ -4,14 +4,15 @@ ghost use Rattle.std.specs.Prelude.{◌≡◌, ◌<◌, length, IfOk, None, List
 ghost use Rattle.class_pool.specs.Pool.{entry_of};
 ghost use Rattle.class_pool.specs.Reading.{Gives};
 ghost use Rattle.class_pool.specs.Loops.{folded};
-ghost use Rattle.class_reader.specs.Names.{is_code, is_constant_value, is_stack_map};
+ghost use Rattle.class_reader.specs.Names.{is_text_of, is_code, is_constant_value, is_stack_map};
 ghost use Rattle.class_reader.specs.Maps.{map_at};
 ghost use Rattle.class_reader.specs.Class.{other_at, once_at, attribute_at, attributes_at, skipped_at, all_skipped_at, constant_at, run_code_at, part_at, code_attribute_at};
 
 use crate::handlers::handlers_of;
-use crate::maps::map_of;
-use crate::names::{fitting_at, names_code, names_constant_value, names_stack_map, text_at};
+use crate::maps::Maps;
+use crate::names::{fitting_at, is_text_of, text_at};
 use crate::parts::{CodePart, MapPart};
+use crate::reading::Reads;
 use class_pool::fault::wants;
 use class_pool::fields::{run_at, u16_at, u32_at};
 use class_pool::{Fault, Pool, ReadError};
@@ -57,36 +58,23 @@ pub fn after_all<'a>(pool: &Pool, bytes: &'a [u8]) -> Result<((), &'a [u8]), Rea
     after_count(pool, count, rest)
 }
 
-// ---- ConstantValue (JVMS 4.7.2)
+// ---- places where one kind of attribute is read
 
-#[tactic(auto, unfolding(crate::specs::Class::constant_at))]
-fn constant_of<'a>(
-    pool: &Pool,
-    descriptor: u16,
-    bytes: &'a [u8],
-) -> Result<(u16, &'a [u8]), ReadError>
-    ensures { Gives (λ x. (x.0, x.1.now)) result (constant_at pool.now descriptor bytes.now) }
-{
-    let (len, rest) = u32_at(bytes)?;
-    wants(len == 2, Fault::BadLength(bytes.len()))?;
-    fitting_at(pool, descriptor, rest)
-}
-
+// An attribute behind its name, left bytes before the end: one that is wanted stands once.
 #[tactic(auto, unfolding(crate::specs::Class::once_at))]
-fn constant_once<'a>(
-    pool: &Pool,
-    descriptor: u16,
+fn once_of<'a, R: Reads>(
+    reader: &R,
     wanted: bool,
-    found: Option<u16>,
+    found: Option<R::Part>,
     left: usize,
     bytes: &'a [u8],
-) -> Result<(Option<u16>, &'a [u8]), ReadError>
-    ensures { Gives (λ x. (x.0, x.1.now)) result (once_at wanted (constant_at pool.now descriptor) found left bytes.now) }
+) -> Result<(Option<R::Part>, &'a [u8]), ReadError>
+    ensures { Gives (λ x. (x.0, x.1.now)) result (once_at wanted (R.reads reader.now) found left bytes.now) }
 {
     if wanted {
         wants(found.is_none(), Fault::Repeated(left))?;
-        let (constant, rest) = constant_of(pool, descriptor, bytes)?;
-        Ok((Some(constant), rest))
+        let (part, rest) = reader.read(bytes)?;
+        Ok((Some(part), rest))
     } else {
         let (_, rest) = after_other(bytes)?;
         Ok((found, rest))
@@ -94,45 +82,76 @@ fn constant_once<'a>(
 }
 
 #[tactic(auto, unfolding(crate::specs::Class::attribute_at))]
-fn field_attribute<'a>(
+fn attribute_of<'a, R: Reads>(
+    name: &[u8],
+    reader: &R,
     pool: &Pool,
-    descriptor: u16,
-    found: Option<u16>,
+    found: Option<R::Part>,
     bytes: &'a [u8],
-) -> Result<(Option<u16>, &'a [u8]), ReadError>
-    ensures { Gives (λ x. (x.0, x.1.now)) result (attribute_at is_constant_value (constant_at pool.now descriptor) pool.now found bytes.now) }
+) -> Result<(Option<R::Part>, &'a [u8]), ReadError>
+    ensures { Gives (λ x. (x.0, x.1.now)) result (attribute_at (is_text_of name.now) (R.reads reader.now) pool.now found bytes.now) }
 {
-    let (name, rest) = text_at(pool, bytes)?;
-    constant_once(
-        pool,
-        descriptor,
-        names_constant_value(pool, name),
-        found,
-        bytes.len(),
-        rest,
-    )
+    let (index, rest) = text_at(pool, bytes)?;
+    let wanted = is_text_of(pool, index, name);
+    once_of(reader, wanted, found, bytes.len(), rest)
 }
 
-fn field_folded<'a>(
+fn folded_of<'a, R: Reads>(
+    name: &[u8],
+    reader: &R,
     pool: &Pool,
-    descriptor: u16,
     count: u16,
     bytes: &'a [u8],
-) -> Result<(Option<u16>, &'a [u8]), ReadError>
-    ensures { Gives (λ x. (x.0, x.1.now)) result (folded (λ found b. attribute_at is_constant_value (constant_at pool.now descriptor) pool.now found b) None count bytes.now) }
+) -> Result<(Option<R::Part>, &'a [u8]), ReadError>
+    ensures { Gives (λ x. (x.0, x.1.now)) result (folded (λ found b. attribute_at (is_text_of name.now) (R.reads reader.now) pool.now found b) None count bytes.now) }
 {
     let mut found = None;
     let mut rest = bytes;
     for i in 0..count {
-        let (now, next) = field_attribute(pool, descriptor, found, rest)?;
+        let (now, next) = attribute_of(name, reader, pool, found, rest)?;
         found = now;
         rest = next;
     }
     Ok((found, rest))
 }
 
-/// The attributes of a field of this descriptor: its constant value, where there is one.
+// The attributes of one place: what is read of the one of this name, where there is one.
 #[tactic(auto, unfolding(crate::specs::Class::attributes_at))]
+fn attributes_of<'a, R: Reads>(
+    name: &[u8],
+    reader: &R,
+    pool: &Pool,
+    bytes: &'a [u8],
+) -> Result<(Option<R::Part>, &'a [u8]), ReadError>
+    ensures { Gives (λ x. (x.0, x.1.now)) result (attributes_at (is_text_of name.now) (R.reads reader.now) pool.now bytes.now) }
+{
+    let (count, rest) = u16_at(bytes)?;
+    folded_of(name, reader, pool, count, rest)
+}
+
+// ---- ConstantValue (JVMS 4.7.2)
+
+// What reads one behind its name, for a field of this descriptor.
+#[derive(Drop)]
+struct Constants<'p> {
+    pool: &'p Pool,
+    descriptor: u16,
+}
+
+impl<'p> Reads for Constants<'p> {
+    type Part = u16;
+
+    ghost reads = { λ constants. constant_at constants.pool.now constants.descriptor };
+
+    #[tactic(auto, unfolding(crate::specs::Class::constant_at))]
+    fn read<'a>(&self, bytes: &'a [u8]) -> Result<(u16, &'a [u8]), ReadError> {
+        let (len, rest) = u32_at(bytes)?;
+        wants(len == 2, Fault::BadLength(bytes.len()))?;
+        fitting_at(self.pool, self.descriptor, rest)
+    }
+}
+
+/// The attributes of a field of this descriptor: its constant value, where there is one.
 pub fn field_attributes<'a>(
     pool: &Pool,
     descriptor: u16,
@@ -140,8 +159,8 @@ pub fn field_attributes<'a>(
 ) -> Result<(Option<u16>, &'a [u8]), ReadError>
     ensures { Gives (λ x. (x.0, x.1.now)) result (attributes_at is_constant_value (constant_at pool.now descriptor) pool.now bytes.now) }
 {
-    let (count, rest) = u16_at(bytes)?;
-    field_folded(pool, descriptor, count, rest)
+    let constants = Constants { pool, descriptor };
+    attributes_of(b"ConstantValue", &constants, pool, bytes)
 }
 
 // ---- Code (JVMS 4.7.3)
@@ -156,67 +175,7 @@ fn run_of_code(bytes: &[u8]) -> Result<(&[u8], &[u8]), ReadError>
     run_at(len as usize, rest)
 }
 
-#[tactic(auto, unfolding(crate::specs::Class::once_at))]
-fn map_once<'a>(
-    alloc: Global,
-    pool: &Pool,
-    wanted: bool,
-    found: Option<MapPart>,
-    left: usize,
-    bytes: &'a [u8],
-) -> Result<(Option<MapPart>, &'a [u8]), ReadError>
-    ensures { Gives (λ x. (x.0, x.1.now)) result (once_at wanted (map_at pool.now) found left bytes.now) }
-{
-    if wanted {
-        wants(found.is_none(), Fault::Repeated(left))?;
-        let (map, rest) = map_of(alloc, pool, bytes)?;
-        Ok((Some(map), rest))
-    } else {
-        let (_, rest) = after_other(bytes)?;
-        Ok((found, rest))
-    }
-}
-
-#[tactic(auto, unfolding(crate::specs::Class::attribute_at))]
-fn code_attribute<'a>(
-    alloc: Global,
-    pool: &Pool,
-    found: Option<MapPart>,
-    bytes: &'a [u8],
-) -> Result<(Option<MapPart>, &'a [u8]), ReadError>
-    ensures { Gives (λ x. (x.0, x.1.now)) result (attribute_at is_stack_map (map_at pool.now) pool.now found bytes.now) }
-{
-    let (name, rest) = text_at(pool, bytes)?;
-    map_once(
-        alloc,
-        pool,
-        names_stack_map(pool, name),
-        found,
-        bytes.len(),
-        rest,
-    )
-}
-
-fn code_folded<'a>(
-    alloc: Global,
-    pool: &Pool,
-    count: u16,
-    bytes: &'a [u8],
-) -> Result<(Option<MapPart>, &'a [u8]), ReadError>
-    ensures { Gives (λ x. (x.0, x.1.now)) result (folded (λ found b. attribute_at is_stack_map (map_at pool.now) pool.now found b) None count bytes.now) }
-{
-    let mut found = None;
-    let mut rest = bytes;
-    for i in 0..count {
-        let (now, next) = code_attribute(alloc, pool, found, rest)?;
-        found = now;
-        rest = next;
-    }
-    Ok((found, rest))
-}
-
 // The attributes of a code: its stack map, where there is one.
-#[tactic(auto, unfolding(crate::specs::Class::attributes_at))]
 fn code_attributes<'a>(
     alloc: Global,
     pool: &Pool,
@@ -224,120 +183,60 @@ fn code_attributes<'a>(
 ) -> Result<(Option<MapPart>, &'a [u8]), ReadError>
     ensures { Gives (λ x. (x.0, x.1.now)) result (attributes_at is_stack_map (map_at pool.now) pool.now bytes.now) }
 {
-    let (count, rest) = u16_at(bytes)?;
-    code_folded(alloc, pool, count, rest)
+    attributes_of(b"StackMapTable", &Maps { alloc, pool }, pool, bytes)
 }
 
-#[tactic(auto, unfolding(crate::specs::Class::part_at))]
-fn part_of<'a>(
+// What reads a Code attribute behind its name, in the method of this number.
+#[derive(Drop)]
+struct Codes<'p> {
     alloc: Global,
     method: u32,
-    pool: &Pool,
-    bytes: &'a [u8],
-) -> Result<(CodePart, &'a [u8]), ReadError>
-    ensures { Gives (λ x. (x.0, x.1.now)) result (part_at method pool.now bytes.now) }
-{
-    let (max_stack, rest) = u16_at(bytes)?;
-    let (max_locals, rest) = u16_at(rest)?;
-    let (run, rest) = run_of_code(rest)?;
-    let (code, starts) = code_at(alloc, method, pool, run)?;
-    let (handlers, rest) = handlers_of(alloc, method, pool, &code, &starts, rest)?;
-    let (map, rest) = code_attributes(alloc, pool, rest)?;
-    Ok((
-        CodePart {
-            max_stack,
-            max_locals,
-            code,
-            handlers,
-            map,
-        },
-        rest,
-    ))
+    pool: &'p Pool,
 }
 
-#[tactic(auto, unfolding(crate::specs::Class::code_attribute_at))]
-fn code_attribute_of<'a>(
-    alloc: Global,
-    method: u32,
-    pool: &Pool,
-    bytes: &'a [u8],
-) -> Result<(CodePart, &'a [u8]), ReadError>
-    ensures { Gives (λ x. (x.0, x.1.now)) result (code_attribute_at method pool.now bytes.now) }
-{
-    let (len, start) = u32_at(bytes)?;
-    let (part, rest) = part_of(alloc, method, pool, start)?;
-    wants(
-        start.len().saturating_sub(rest.len()) == len as usize,
-        Fault::BadLength(bytes.len()),
-    )?;
-    Ok((part, rest))
-}
-
-#[tactic(auto, unfolding(crate::specs::Class::once_at))]
-fn code_once<'a>(
-    alloc: Global,
-    method: u32,
-    pool: &Pool,
-    wanted: bool,
-    found: Option<CodePart>,
-    left: usize,
-    bytes: &'a [u8],
-) -> Result<(Option<CodePart>, &'a [u8]), ReadError>
-    ensures { Gives (λ x. (x.0, x.1.now)) result (once_at wanted (code_attribute_at method pool.now) found left bytes.now) }
-{
-    if wanted {
-        wants(found.is_none(), Fault::Repeated(left))?;
-        let (part, rest) = code_attribute_of(alloc, method, pool, bytes)?;
-        Ok((Some(part), rest))
-    } else {
-        let (_, rest) = after_other(bytes)?;
-        Ok((found, rest))
+impl<'p> Codes<'p> {
+    #[tactic(auto, unfolding(crate::specs::Class::part_at))]
+    fn part_of<'a>(&self, bytes: &'a [u8]) -> Result<(CodePart, &'a [u8]), ReadError>
+        ensures { Gives (λ x. (x.0, x.1.now)) result (part_at self.now.method self.now.pool.now bytes.now) }
+    {
+        let (alloc, method, pool) = (self.alloc, self.method, self.pool);
+        let (max_stack, rest) = u16_at(bytes)?;
+        let (max_locals, rest) = u16_at(rest)?;
+        let (run, rest) = run_of_code(rest)?;
+        let (code, starts) = code_at(alloc, method, pool, run)?;
+        let (handlers, rest) = handlers_of(alloc, method, pool, &code, &starts, rest)?;
+        let (map, rest) = code_attributes(alloc, pool, rest)?;
+        Ok((
+            CodePart {
+                max_stack,
+                max_locals,
+                code,
+                handlers,
+                map,
+            },
+            rest,
+        ))
     }
 }
 
-#[tactic(auto, unfolding(crate::specs::Class::attribute_at))]
-fn method_attribute<'a>(
-    alloc: Global,
-    method: u32,
-    pool: &Pool,
-    found: Option<CodePart>,
-    bytes: &'a [u8],
-) -> Result<(Option<CodePart>, &'a [u8]), ReadError>
-    ensures { Gives (λ x. (x.0, x.1.now)) result (attribute_at is_code (code_attribute_at method pool.now) pool.now found bytes.now) }
-{
-    let (name, rest) = text_at(pool, bytes)?;
-    code_once(
-        alloc,
-        method,
-        pool,
-        names_code(pool, name),
-        found,
-        bytes.len(),
-        rest,
-    )
-}
+impl<'p> Reads for Codes<'p> {
+    type Part = CodePart;
 
-fn method_folded<'a>(
-    alloc: Global,
-    method: u32,
-    pool: &Pool,
-    count: u16,
-    bytes: &'a [u8],
-) -> Result<(Option<CodePart>, &'a [u8]), ReadError>
-    ensures { Gives (λ x. (x.0, x.1.now)) result (folded (λ found b. attribute_at is_code (code_attribute_at method pool.now) pool.now found b) None count bytes.now) }
-{
-    let mut found = None;
-    let mut rest = bytes;
-    for i in 0..count {
-        let (now, next) = method_attribute(alloc, method, pool, found, rest)?;
-        found = now;
-        rest = next;
+    ghost reads = { λ codes. code_attribute_at codes.method codes.pool.now };
+
+    #[tactic(auto, unfolding(crate::specs::Class::code_attribute_at))]
+    fn read<'a>(&self, bytes: &'a [u8]) -> Result<(CodePart, &'a [u8]), ReadError> {
+        let (len, start) = u32_at(bytes)?;
+        let (part, rest) = self.part_of(start)?;
+        wants(
+            start.len().saturating_sub(rest.len()) == len as usize,
+            Fault::BadLength(bytes.len()),
+        )?;
+        Ok((part, rest))
     }
-    Ok((found, rest))
 }
 
 /// The attributes of the method of this number: its code, where there is one.
-#[tactic(auto, unfolding(crate::specs::Class::attributes_at))]
 pub fn method_attributes<'a>(
     alloc: Global,
     method: u32,
@@ -346,6 +245,10 @@ pub fn method_attributes<'a>(
 ) -> Result<(Option<CodePart>, &'a [u8]), ReadError>
     ensures { Gives (λ x. (x.0, x.1.now)) result (attributes_at is_code (code_attribute_at method pool.now) pool.now bytes.now) }
 {
-    let (count, rest) = u16_at(bytes)?;
-    method_folded(alloc, method, pool, count, rest)
+    let codes = Codes {
+        alloc,
+        method,
+        pool,
+    };
+    attributes_of(b"Code", &codes, pool, bytes)
 }

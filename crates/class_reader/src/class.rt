@@ -1,9 +1,8 @@
 //! Class files (JVMS 4.1).
 
-ghost use Rattle.std.specs.Prelude.{◌≡◌, ◌<◌, ◌^◌, length, IfOk, Ok, [], List, Option};
+ghost use Rattle.std.specs.Prelude.{◌≡◌, ◌<◌, ◌^◌, length, IfOk, Ok, List, Option};
 ghost use Rattle.class_pool.specs.Pool.{is_class};
 ghost use Rattle.class_pool.specs.Reading.{Gives};
-ghost use Rattle.class_pool.specs.Loops.{counted};
 ghost use Rattle.class_reader.specs.declared.parts.ClassParts.{ClassParts};
 ghost use Rattle.class_reader.specs.Class.{head_at, interfaces_at, members_at, body_at, class_at};
 ghost use Rattle.class_reader.specs.Indices.{index_at};
@@ -15,6 +14,7 @@ use crate::fault::{ClassFault, shown};
 use crate::members::{fields_of, methods_of};
 use crate::names::{class_at, own_class_at};
 use crate::parts::{ClassFile, ClassParts, MemberPart};
+use crate::reading::{Reads, counted};
 use crate::texts::Texts;
 use class_pool::fault::wants;
 use class_pool::fields::{u16_at, u32_at};
@@ -34,22 +34,20 @@ fn head_of(bytes: &[u8]) -> Result<((u16, u16), &[u8]), ReadError>
     Ok(((minor, major), rest))
 }
 
-fn interfaces_counted<'a>(
-    alloc: Global,
-    pool: &Pool,
-    count: u16,
-    bytes: &'a [u8],
-) -> Result<(Items<u16>, &'a [u8]), ReadError>
-    ensures { Gives (λ x. (x.0, x.1.now)) result (counted (λ _ _ b. index_at is_class pool.now b) [] count bytes.now) }
-{
-    let mut interfaces = Items::new(alloc);
-    let mut rest = bytes;
-    for i in 0..count {
-        let (index, next) = class_at(pool, rest)?;
-        interfaces.push(index)?;
-        rest = next;
+// What reads indices that name classes.
+#[derive(Drop)]
+struct Classes<'p> {
+    pool: &'p Pool,
+}
+
+impl<'p> Reads for Classes<'p> {
+    type Part = u16;
+
+    ghost reads = { λ classes. index_at is_class classes.pool.now };
+
+    fn read<'a>(&self, bytes: &'a [u8]) -> Result<(u16, &'a [u8]), ReadError> {
+        class_at(self.pool, bytes)
     }
-    Ok((interfaces, rest))
 }
 
 #[tactic(auto, unfolding(crate::specs::Class::interfaces_at))]
@@ -61,7 +59,7 @@ fn interfaces_of<'a>(
     ensures { Gives (λ x. (x.0, x.1.now)) result (interfaces_at pool.now bytes.now) }
 {
     let (count, rest) = u16_at(bytes)?;
-    interfaces_counted(alloc, pool, count, rest)
+    counted(alloc, &Classes { pool }, count, rest)
 }
 
 #[tactic(auto, unfolding(crate::specs::Class::members_at))]

@@ -9,6 +9,7 @@ mod maps;
 mod members;
 mod names;
 mod parts;
+mod reading;
 mod texts;
 
 pub use class::read_class;

@@ -3,85 +3,84 @@
 ghost use Rattle.std.specs.Prelude.{◌≡◌, ◌==◌, ◌-◌, ◌%◌, [], take, length, IfOk, IfErr, List, Option};
 ghost use Rattle.class_pool.specs.Pool.{entry_of};
 ghost use Rattle.class_pool.specs.Reading.{Gives};
-ghost use Rattle.class_pool.specs.Loops.{counted};
 ghost use Rattle.class_reader.specs.Indices.{index_at};
 ghost use Rattle.class_reader.specs.Maps.{is_object, tagged_at, type_at, given_at, types_at, is_frame_tag, tells_delta, stack_given, frame_at, is_bad_length, has_bad_tag, kept_at, frames_at, map_at};
 
-use crate::names::names_class;
 use crate::parts::{MapFrame, MapPart, MapType};
+use crate::reading::{Reads, counted};
 use class_pool::fault::wants;
 use class_pool::fields::{run_at, u8_at, u16_at, u32_at};
+use class_pool::lookup::names_class;
 use class_pool::{Fault, Pool, ReadError};
 use et_base::Items;
 use std::alloc::Global;
 
-#[tactic(auto, unfolding(crate::specs::Indices::index_at))]
-fn object_at<'a>(checked: bool, pool: &Pool, bytes: &'a [u8]) -> Result<(u16, &'a [u8]), ReadError>
-    ensures { Gives (λ x. (x.0, x.1.now)) result (index_at (is_object checked) pool.now bytes.now) }
-{
-    let (index, rest) = u16_at(bytes)?;
-    wants(
-        !checked || names_class(pool, index),
-        Fault::BadIndex(bytes.len()),
-    )?;
-    Ok((index, rest))
+// What reads types; classes that they name are looked at where that is checked. A tag that is none is a wrong
+// length, left bytes before the end.
+#[derive(Drop)]
+struct Types<'p> {
+    checked: bool,
+    pool: &'p Pool,
+    left: usize,
 }
 
-#[tactic(auto, unfolding(crate::specs::Maps::tagged_at))]
-fn tagged_of<'a>(
-    checked: bool,
-    pool: &Pool,
-    left: usize,
-    tag: u8,
-    bytes: &'a [u8],
-) -> Result<(MapType, &'a [u8]), ReadError>
-    ensures { Gives (λ x. (x.0, x.1.now)) result (tagged_at checked pool.now left tag bytes.now) }
-{
-    match tag {
-        0..=6 => Ok((MapType { tag, arg: 0 }, bytes)),
-        7 => {
-            let (arg, rest) = object_at(checked, pool, bytes)?;
-            Ok((MapType { tag, arg }, rest))
+impl<'p> Types<'p> {
+    #[tactic(auto, unfolding(crate::specs::Indices::index_at))]
+    fn object_at<'a>(&self, bytes: &'a [u8]) -> Result<(u16, &'a [u8]), ReadError>
+        ensures { Gives (λ x. (x.0, x.1.now)) result (index_at (is_object self.now.checked) self.now.pool.now bytes.now) }
+    {
+        let (index, rest) = u16_at(bytes)?;
+        wants(
+            !self.checked || names_class(self.pool.slots(), index),
+            Fault::BadIndex(bytes.len()),
+        )?;
+        Ok((index, rest))
+    }
+
+    #[tactic(auto, unfolding(crate::specs::Maps::tagged_at))]
+    fn tagged_of<'a>(&self, tag: u8, bytes: &'a [u8]) -> Result<(MapType, &'a [u8]), ReadError>
+        ensures { Gives (λ x. (x.0, x.1.now)) result (tagged_at self.now.checked self.now.pool.now self.now.left tag bytes.now) }
+    {
+        match tag {
+            0..=6 => Ok((MapType { tag, arg: 0 }, bytes)),
+            7 => {
+                let (arg, rest) = self.object_at(bytes)?;
+                Ok((MapType { tag, arg }, rest))
+            }
+            8 => {
+                let (arg, rest) = u16_at(bytes)?;
+                Ok((MapType { tag, arg }, rest))
+            }
+            _ => Err(ReadError::Fault(Fault::BadLength(self.left))),
         }
-        8 => {
-            let (arg, rest) = u16_at(bytes)?;
-            Ok((MapType { tag, arg }, rest))
-        }
-        _ => Err(ReadError::Fault(Fault::BadLength(left))),
+    }
+
+    // As many types as the tag of their entry gives, or as it tells before them.
+    #[tactic(auto, unfolding(crate::specs::Maps::types_at))]
+    fn types_of<'a>(
+        &self,
+        alloc: Global,
+        told: bool,
+        given: u16,
+        bytes: &'a [u8],
+    ) -> Result<(Items<MapType>, &'a [u8]), ReadError>
+        ensures { Gives (λ x. (x.0, x.1.now)) result (types_at self.now.checked self.now.pool.now self.now.left told given bytes.now) }
+    {
+        let (count, rest) = given_of(told, given, bytes)?;
+        counted(alloc, self, count, rest)
     }
 }
 
-#[tactic(auto, unfolding(crate::specs::Maps::type_at))]
-fn type_of<'a>(
-    checked: bool,
-    pool: &Pool,
-    left: usize,
-    bytes: &'a [u8],
-) -> Result<(MapType, &'a [u8]), ReadError>
-    ensures { Gives (λ x. (x.0, x.1.now)) result (type_at checked pool.now left bytes.now) }
-{
-    let (tag, rest) = u8_at(bytes)?;
-    tagged_of(checked, pool, left, tag, rest)
-}
+impl<'p> Reads for Types<'p> {
+    type Part = MapType;
 
-fn types_counted<'a>(
-    alloc: Global,
-    checked: bool,
-    pool: &Pool,
-    left: usize,
-    count: u16,
-    bytes: &'a [u8],
-) -> Result<(Items<MapType>, &'a [u8]), ReadError>
-    ensures { Gives (λ x. (x.0, x.1.now)) result (counted (λ _ _ b. type_at checked pool.now left b) [] count bytes.now) }
-{
-    let mut types = Items::new(alloc);
-    let mut rest = bytes;
-    for i in 0..count {
-        let (one, next) = type_of(checked, pool, left, rest)?;
-        types.push(one)?;
-        rest = next;
+    ghost reads = { λ types. type_at types.checked types.pool.now types.left };
+
+    #[tactic(auto, unfolding(crate::specs::Maps::type_at))]
+    fn read<'a>(&self, bytes: &'a [u8]) -> Result<(MapType, &'a [u8]), ReadError> {
+        let (tag, rest) = u8_at(bytes)?;
+        self.tagged_of(tag, rest)
     }
-    Ok((types, rest))
 }
 
 fn given_of(told: bool, given: u16, bytes: &[u8]) -> Result<(u16, &[u8]), ReadError>
@@ -92,22 +91,6 @@ fn given_of(told: bool, given: u16, bytes: &[u8]) -> Result<(u16, &[u8]), ReadEr
     } else {
         Ok((given, bytes))
     }
-}
-
-#[tactic(auto, unfolding(crate::specs::Maps::types_at))]
-fn types_of<'a>(
-    alloc: Global,
-    checked: bool,
-    pool: &Pool,
-    left: usize,
-    told: bool,
-    given: u16,
-    bytes: &'a [u8],
-) -> Result<(Items<MapType>, &'a [u8]), ReadError>
-    ensures { Gives (λ x. (x.0, x.1.now)) result (types_at checked pool.now left told given bytes.now) }
-{
-    let (count, rest) = given_of(told, given, bytes)?;
-    types_counted(alloc, checked, pool, left, count, rest)
 }
 
 fn is_frame_tag(tag: u8) -> bool
@@ -140,24 +123,14 @@ fn frame_of<'a>(
     let (tag, rest) = u8_at(bytes)?;
     wants(is_frame_tag(tag), Fault::BadLength(left))?;
     let (delta, rest) = given_of(127 < tag, tag as u16 % 64, rest)?;
-    let (locals, rest) = types_of(
-        alloc,
+    let full = tag == 255;
+    let types = Types {
         checked,
         pool,
         left,
-        tag == 255,
-        (tag as u16).saturating_sub(251),
-        rest,
-    )?;
-    let (stack, rest) = types_of(
-        alloc,
-        checked,
-        pool,
-        left,
-        tag == 255,
-        stack_given(tag),
-        rest,
-    )?;
+    };
+    let (locals, rest) = types.types_of(alloc, full, (tag as u16).saturating_sub(251), rest)?;
+    let (stack, rest) = types.types_of(alloc, full, stack_given(tag), rest)?;
     Ok((
         MapFrame {
             tag,
@@ -238,36 +211,42 @@ fn frames_of<'a>(
     Ok(((frames, Items::new(alloc)), rest))
 }
 
-/// A StackMapTable behind its name.
-#[tactic(auto, unfolding(crate::specs::Maps::map_at))]
-pub fn map_of<'a>(
-    alloc: Global,
-    pool: &Pool,
-    bytes: &'a [u8],
-) -> Result<(MapPart, &'a [u8]), ReadError>
-    ensures { Gives (λ x. (x.0, x.1.now)) result (map_at pool.now bytes.now) }
-{
-    let (len, start) = u32_at(bytes)?;
-    let (count, rest) = u16_at(start)?;
-    let ((frames, kept), rest) = frames_of(
-        alloc,
-        pool,
-        bytes.len(),
-        len as usize,
-        start.len(),
-        count,
-        rest,
-    )?;
-    wants(
-        start.len().saturating_sub(rest.len()) == len as usize,
-        Fault::BadLength(bytes.len()),
-    )?;
-    Ok((
-        MapPart {
+/// What reads a StackMapTable behind its name.
+#[derive(Drop)]
+pub struct Maps<'p> {
+    pub alloc: Global,
+    pub pool: &'p Pool,
+}
+
+impl<'p> Reads for Maps<'p> {
+    type Part = MapPart;
+
+    ghost reads = { λ maps. map_at maps.pool.now };
+
+    #[tactic(auto, unfolding(crate::specs::Maps::map_at))]
+    fn read<'a>(&self, bytes: &'a [u8]) -> Result<(MapPart, &'a [u8]), ReadError> {
+        let (len, start) = u32_at(bytes)?;
+        let (count, rest) = u16_at(start)?;
+        let ((frames, kept), rest) = frames_of(
+            self.alloc,
+            self.pool,
+            bytes.len(),
+            len as usize,
+            start.len(),
             count,
-            frames,
-            rest: kept,
-        },
-        rest,
-    ))
+            rest,
+        )?;
+        wants(
+            start.len().saturating_sub(rest.len()) == len as usize,
+            Fault::BadLength(bytes.len()),
+        )?;
+        Ok((
+            MapPart {
+                count,
+                frames,
+                rest: kept,
+            },
+            rest,
+        ))
+    }
 }

@@ -7,7 +7,7 @@ ghost use Rattle.class_reader.specs.Texts.{IsSeen};
 ghost use Rattle.class_reader.specs.Class.{field_at, fields_at, method_at, methods_at};
 
 use crate::attributes::{field_attributes, method_attributes};
-use crate::names::{field_name_at, field_type_at, fits_flags, method_name_at, method_type_at};
+use crate::names::{Form, fits_flags, form_at};
 use crate::parts::MemberPart;
 use crate::texts::Texts;
 use class_pool::fault::wants;
@@ -17,53 +17,119 @@ use et_base::Items;
 use std::alloc::Global;
 use std::collections::HashSet;
 
-// A field behind those before it, whose keys are kept beside them.
-#[tactic(auto, unfolding(crate::specs::Class::field_at))]
-fn field_of<'a>(
-    texts: &Texts,
-    before: &[MemberPart],
-    keys: &mut HashSet<u32>,
-    bytes: &'a [u8],
-) -> Result<(MemberPart, &'a [u8]), ReadError>
-    requires { IsSeen texts.now before.now keys.old }
-    ensures gives { Gives (λ x. (x.0, x.1.now)) result (field_at texts.now before.now bytes.now) }
-    ensures seen { IfOk result (λ x. IsSeen texts.now (before.now ++ x.0 ∷ []) keys.new) }
-{
-    let (flags, rest) = u16_at(bytes)?;
-    let (name, rest) = field_name_at(texts, rest)?;
-    let left = rest.len();
-    let (descriptor, rest) = field_type_at(texts, rest)?;
-    texts.once(before, keys, name, descriptor, left)?;
-    let (constant, rest) = field_attributes(texts.pool(), descriptor, rest)?;
-    Ok((
-        MemberPart {
-            flags,
-            name,
-            descriptor,
-            constant,
-            code: None,
-        },
-        rest,
-    ))
+// A kind of members: what reads one behind those before it, whose keys are kept beside them.
+trait Kind {
+    ghost use Rattle.std.specs.Prelude.{ℕ, List, Option, Result};
+    ghost use Rattle.class_pool.specs.declared.fault.Fault.{Fault};
+    ghost use Rattle.class_pool.specs.declared.pool.Entry.{Entry};
+    ghost use Rattle.class_reader.specs.declared.parts.MemberPart.{MemberPart};
+
+    ghost member_at: { List (Option Entry) → List MemberPart → List ℕ → Result (MemberPart × List ℕ) Fault };
+
+    fn member_of<'a>(
+        &self,
+        texts: &Texts,
+        before: &[MemberPart],
+        keys: &mut HashSet<u32>,
+        bytes: &'a [u8],
+    ) -> Result<(MemberPart, &'a [u8]), ReadError>
+        requires few { length before.now < 65535 }
+        requires seen { IsSeen texts.now before.now keys.old }
+        ensures gives { Gives (λ x. (x.0, x.1.now)) result (member_at texts.now before.now bytes.now) }
+        ensures seen { IfOk result (λ x. IsSeen texts.now (before.now ++ x.0 ∷ []) keys.new) };
 }
 
-fn fields_counted<'a>(
+#[derive(Drop)]
+struct Fields {}
+
+impl Kind for Fields {
+    ghost member_at = { field_at };
+
+    #[tactic(auto, unfolding(crate::specs::Class::field_at))]
+    fn member_of<'a>(
+        &self,
+        texts: &Texts,
+        before: &[MemberPart],
+        keys: &mut HashSet<u32>,
+        bytes: &'a [u8],
+    ) -> Result<(MemberPart, &'a [u8]), ReadError> {
+        let (flags, rest) = u16_at(bytes)?;
+        let (name, rest) = form_at(texts, Form::FieldName, rest)?;
+        let left = rest.len();
+        let (descriptor, rest) = form_at(texts, Form::FieldType, rest)?;
+        texts.once(before, keys, name, descriptor, left)?;
+        let (constant, rest) = field_attributes(texts.pool(), descriptor, rest)?;
+        Ok((
+            MemberPart {
+                flags,
+                name,
+                descriptor,
+                constant,
+                code: None,
+            },
+            rest,
+        ))
+    }
+}
+
+#[derive(Drop)]
+struct Methods {
     alloc: Global,
+}
+
+impl Kind for Methods {
+    ghost member_at = { method_at };
+
+    #[tactic(auto, unfolding(crate::specs::Class::method_at))]
+    fn member_of<'a>(
+        &self,
+        texts: &Texts,
+        before: &[MemberPart],
+        keys: &mut HashSet<u32>,
+        bytes: &'a [u8],
+    ) -> Result<(MemberPart, &'a [u8]), ReadError> {
+        let (flags, rest) = u16_at(bytes)?;
+        let (name, rest) = form_at(texts, Form::MethodName, rest)?;
+        let left = rest.len();
+        let (descriptor, rest) = form_at(texts, Form::MethodType(flags), rest)?;
+        texts.once(before, keys, name, descriptor, left)?;
+        let number = before.len() as u32 + 1;
+        let (code, rest) = method_attributes(self.alloc, number, texts.pool(), rest)?;
+        wants(
+            fits_flags(flags, code.is_some()),
+            Fault::CodeKind(bytes.len()),
+        )?;
+        Ok((
+            MemberPart {
+                flags,
+                name,
+                descriptor,
+                constant: None,
+                code,
+            },
+            rest,
+        ))
+    }
+}
+
+fn members_counted<'a, K: Kind>(
+    alloc: Global,
+    kind: &K,
     texts: &Texts,
     count: u16,
     bytes: &'a [u8],
 ) -> Result<(Items<MemberPart>, &'a [u8]), ReadError>
-    ensures { Gives (λ x. (x.0, x.1.now)) result (counted (λ before _ b. field_at texts.now before b) [] count bytes.now) }
+    ensures { Gives (λ x. (x.0, x.1.now)) result (counted (λ before _ b. K.member_at texts.now before b) [] count bytes.now) }
 {
-    let mut fields = Items::new(alloc);
+    let mut members = Items::new(alloc);
     let mut keys = HashSet::new(alloc);
     let mut rest = bytes;
     for i in 0..count {
-        let (field, next) = field_of(texts, fields.as_slice(), &mut keys, rest)?;
-        fields.push(field)?;
+        let (member, next) = kind.member_of(texts, members.as_slice(), &mut keys, rest)?;
+        members.push(member)?;
         rest = next;
     }
-    Ok((fields, rest))
+    Ok((members, rest))
 }
 
 /// The fields, behind the interfaces.
@@ -76,63 +142,7 @@ pub fn fields_of<'a>(
     ensures { Gives (λ x. (x.0, x.1.now)) result (fields_at texts.now bytes.now) }
 {
     let (count, rest) = u16_at(bytes)?;
-    fields_counted(alloc, texts, count, rest)
-}
-
-// A method behind those before it, whose keys are kept beside them.
-#[tactic(auto, unfolding(crate::specs::Class::method_at))]
-fn method_of<'a>(
-    alloc: Global,
-    texts: &Texts,
-    before: &[MemberPart],
-    keys: &mut HashSet<u32>,
-    bytes: &'a [u8],
-) -> Result<(MemberPart, &'a [u8]), ReadError>
-    requires few { length before.now < 65535 }
-    requires seen { IsSeen texts.now before.now keys.old }
-    ensures gives { Gives (λ x. (x.0, x.1.now)) result (method_at texts.now before.now bytes.now) }
-    ensures seen { IfOk result (λ x. IsSeen texts.now (before.now ++ x.0 ∷ []) keys.new) }
-{
-    let (flags, rest) = u16_at(bytes)?;
-    let (name, rest) = method_name_at(texts, rest)?;
-    let left = rest.len();
-    let (descriptor, rest) = method_type_at(texts, flags, rest)?;
-    texts.once(before, keys, name, descriptor, left)?;
-    let number = before.len() as u32 + 1;
-    let (code, rest) = method_attributes(alloc, number, texts.pool(), rest)?;
-    wants(
-        fits_flags(flags, code.is_some()),
-        Fault::CodeKind(bytes.len()),
-    )?;
-    Ok((
-        MemberPart {
-            flags,
-            name,
-            descriptor,
-            constant: None,
-            code,
-        },
-        rest,
-    ))
-}
-
-fn methods_counted<'a>(
-    alloc: Global,
-    texts: &Texts,
-    count: u16,
-    bytes: &'a [u8],
-) -> Result<(Items<MemberPart>, &'a [u8]), ReadError>
-    ensures { Gives (λ x. (x.0, x.1.now)) result (counted (λ before _ b. method_at texts.now before b) [] count bytes.now) }
-{
-    let mut methods = Items::new(alloc);
-    let mut keys = HashSet::new(alloc);
-    let mut rest = bytes;
-    for i in 0..count {
-        let (method, next) = method_of(alloc, texts, methods.as_slice(), &mut keys, rest)?;
-        methods.push(method)?;
-        rest = next;
-    }
-    Ok((methods, rest))
+    members_counted(alloc, &Fields {}, texts, count, rest)
 }
 
 /// The methods, behind the fields.
@@ -145,5 +155,5 @@ pub fn methods_of<'a>(
     ensures { Gives (λ x. (x.0, x.1.now)) result (methods_at texts.now bytes.now) }
 {
     let (count, rest) = u16_at(bytes)?;
-    methods_counted(alloc, texts, count, rest)
+    members_counted(alloc, &Methods { alloc }, texts, count, rest)
 }

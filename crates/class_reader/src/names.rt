@@ -3,62 +3,23 @@
 ghost use Rattle.std.specs.Prelude.{◌≡◌, ◌≤◌, true, IfOk};
 ghost use Rattle.class_pool.specs.Pool.{entry_of, is_text, is_class};
 ghost use Rattle.class_pool.specs.Reading.{Gives};
-ghost use Rattle.class_reader.specs.Names.{is_text_of, is_code, is_constant_value, is_stack_map, own_units, has_room, is_small, begins_array, is_own_class, is_field_name, is_field_type, is_method_name, is_method_type, fits_constant, fits_flags};
+ghost use Rattle.class_reader.specs.Names.{is_text_of, own_units, has_room, is_small, begins_array, is_own_class, has_form, fits_constant, fits_flags};
 ghost use Rattle.class_reader.specs.Indices.{index_at, form_at};
 
 use crate::texts::Texts;
 use class_pool::fault::wants;
 use class_pool::fields::u16_at;
+use class_pool::lookup::{names_class, names_text};
 use class_pool::{Entry, Fault, Pool, ReadError};
 use et_base::is_ascii_text;
 use et_base::letters::ARRAY;
 
-fn is_text_of(pool: &Pool, index: u16, text: &[u8]) -> bool
+/// Whether the index names this text.
+pub fn is_text_of(pool: &Pool, index: u16, text: &[u8]) -> bool
     ensures { result ≡ is_text_of text.now (entry_of pool.now index) }
 {
     match pool.entry(index) {
         Some(Entry::Utf8(units)) => is_ascii_text(units.as_slice(), text),
-        _ => false,
-    }
-}
-
-/// Whether the index names the text `Code`.
-pub fn names_code(pool: &Pool, index: u16) -> bool
-    ensures { result ≡ is_code (entry_of pool.now index) }
-{
-    is_text_of(pool, index, b"Code")
-}
-
-/// Whether the index names the text `ConstantValue`.
-pub fn names_constant_value(pool: &Pool, index: u16) -> bool
-    ensures { result ≡ is_constant_value (entry_of pool.now index) }
-{
-    is_text_of(pool, index, b"ConstantValue")
-}
-
-/// Whether the index names the text `StackMapTable`.
-pub fn names_stack_map(pool: &Pool, index: u16) -> bool
-    ensures { result ≡ is_stack_map (entry_of pool.now index) }
-{
-    is_text_of(pool, index, b"StackMapTable")
-}
-
-/// Whether the index names a text.
-pub fn names_text(pool: &Pool, index: u16) -> bool
-    ensures { result ≡ is_text (entry_of pool.now index) }
-{
-    match pool.entry(index) {
-        Some(Entry::Utf8(_)) => true,
-        _ => false,
-    }
-}
-
-/// Whether the index names a class.
-pub fn names_class(pool: &Pool, index: u16) -> bool
-    ensures { result ≡ is_class (entry_of pool.now index) }
-{
-    match pool.entry(index) {
-        Some(Entry::Class { .. }) => true,
         _ => false,
     }
 }
@@ -96,12 +57,6 @@ fn has_room(own: u16, units: Option<u8>) -> bool
         None => false,
         Some(units) => own + units as u16 <= 255,
     }
-}
-
-fn is_method_type(texts: &Texts, flags: u16, index: u16) -> bool
-    ensures { result ≡ is_method_type flags (entry_of texts.now index) }
-{
-    has_room(own_units(flags), texts.mark(index).argument_units)
 }
 
 fn is_small(pool: &Pool, descriptor: u16) -> bool
@@ -143,7 +98,10 @@ pub fn text_at<'a>(pool: &Pool, bytes: &'a [u8]) -> Result<(u16, &'a [u8]), Read
     ensures text { IfOk result (λ x. is_text (entry_of pool.now x.0) ≡ true) }
 {
     let (index, rest) = u16_at(bytes)?;
-    wants(names_text(pool, index), Fault::BadIndex(bytes.len()))?;
+    wants(
+        names_text(pool.slots(), index),
+        Fault::BadIndex(bytes.len()),
+    )?;
     Ok((index, rest))
 }
 
@@ -153,7 +111,10 @@ pub fn class_at<'a>(pool: &Pool, bytes: &'a [u8]) -> Result<(u16, &'a [u8]), Rea
     ensures { Gives (λ x. (x.0, x.1.now)) result (index_at is_class pool.now bytes.now) }
 {
     let (index, rest) = u16_at(bytes)?;
-    wants(names_class(pool, index), Fault::BadIndex(bytes.len()))?;
+    wants(
+        names_class(pool.slots(), index),
+        Fault::BadIndex(bytes.len()),
+    )?;
     Ok((index, rest))
 }
 
@@ -184,61 +145,40 @@ pub fn fitting_at<'a>(
     Ok((index, rest))
 }
 
-/// An index that names a field's name (JVMS 4.2.2).
-#[tactic(auto, unfolding(crate::specs::Indices::form_at))]
-pub fn field_name_at<'a>(texts: &Texts, bytes: &'a [u8]) -> Result<(u16, &'a [u8]), ReadError>
-    ensures gives { Gives (λ x. (x.0, x.1.now)) result (form_at is_field_name texts.now bytes.now) }
-    ensures text { IfOk result (λ x. is_text (entry_of texts.now x.0) ≡ true) }
-{
-    let (index, rest) = text_at(texts.pool(), bytes)?;
-    wants(
-        texts.mark(index).field_name,
-        Fault::BadDescriptor(bytes.len()),
-    )?;
-    Ok((index, rest))
+/// The form of a name or a descriptor.
+#[derive(Clone, Copy)]
+pub enum Form {
+    /// A field's name (JVMS 4.2.2).
+    FieldName,
+    /// A field's descriptor (JVMS 4.3.2).
+    FieldType,
+    /// A method's name (JVMS 4.2.2).
+    MethodName,
+    /// A method's descriptor, at these access flags (JVMS 4.3.3).
+    MethodType(u16),
 }
 
-/// An index that names a field's descriptor (JVMS 4.3.2).
-#[tactic(auto, unfolding(crate::specs::Indices::form_at))]
-pub fn field_type_at<'a>(texts: &Texts, bytes: &'a [u8]) -> Result<(u16, &'a [u8]), ReadError>
-    ensures gives { Gives (λ x. (x.0, x.1.now)) result (form_at is_field_type texts.now bytes.now) }
-    ensures text { IfOk result (λ x. is_text (entry_of texts.now x.0) ≡ true) }
+fn has_form(texts: &Texts, form: Form, index: u16) -> bool
+    ensures { result ≡ has_form form (entry_of texts.now index) }
 {
-    let (index, rest) = text_at(texts.pool(), bytes)?;
-    wants(
-        texts.mark(index).field_type,
-        Fault::BadDescriptor(bytes.len()),
-    )?;
-    Ok((index, rest))
+    let mark = texts.mark(index);
+    match form {
+        Form::FieldName => mark.field_name,
+        Form::FieldType => mark.field_type,
+        Form::MethodName => mark.method_name,
+        Form::MethodType(flags) => has_room(own_units(flags), mark.argument_units),
+    }
 }
 
-/// An index that names a method's name (JVMS 4.2.2).
+/// An index that names a text of this form.
 #[tactic(auto, unfolding(crate::specs::Indices::form_at))]
-pub fn method_name_at<'a>(texts: &Texts, bytes: &'a [u8]) -> Result<(u16, &'a [u8]), ReadError>
-    ensures gives { Gives (λ x. (x.0, x.1.now)) result (form_at is_method_name texts.now bytes.now) }
+pub fn form_at<'a>(texts: &Texts, form: Form, bytes: &'a [u8]) -> Result<(u16, &'a [u8]), ReadError>
+    ensures gives { Gives (λ x. (x.0, x.1.now)) result (form_at (has_form form) texts.now bytes.now) }
     ensures text { IfOk result (λ x. is_text (entry_of texts.now x.0) ≡ true) }
 {
     let (index, rest) = text_at(texts.pool(), bytes)?;
     wants(
-        texts.mark(index).method_name,
-        Fault::BadDescriptor(bytes.len()),
-    )?;
-    Ok((index, rest))
-}
-
-/// An index that names a method's descriptor, at these access flags (JVMS 4.3.3).
-#[tactic(auto, unfolding(crate::specs::Indices::form_at))]
-pub fn method_type_at<'a>(
-    texts: &Texts,
-    flags: u16,
-    bytes: &'a [u8],
-) -> Result<(u16, &'a [u8]), ReadError>
-    ensures gives { Gives (λ x. (x.0, x.1.now)) result (form_at (is_method_type flags) texts.now bytes.now) }
-    ensures text { IfOk result (λ x. is_text (entry_of texts.now x.0) ≡ true) }
-{
-    let (index, rest) = text_at(texts.pool(), bytes)?;
-    wants(
-        is_method_type(texts, flags, index),
+        has_form(texts, form, index),
         Fault::BadDescriptor(bytes.len()),
     )?;
     Ok((index, rest))

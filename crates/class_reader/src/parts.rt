@@ -8,7 +8,7 @@ use et_base::Items;
 use std::marker::Model;
 
 /// A row of a handler table (JVMS 4.7.3).
-#[derive(Clone, Copy, Debug, PartialEq, Eq)]
+#[derive(Clone, Copy)]
 pub struct RawHandler {
     /// Where its range begins.
     pub from: u16,
@@ -21,7 +21,7 @@ pub struct RawHandler {
 }
 
 /// A verification type of a stack map (JVMS 4.7.4).
-#[derive(Clone, Copy, Debug, PartialEq, Eq)]
+#[derive(Clone, Copy)]
 pub struct MapType {
     /// Its tag, 0 to 8.
     pub tag: u8,
@@ -30,7 +30,7 @@ pub struct MapType {
 }
 
 /// An entry of a stack map (JVMS 4.7.4).
-#[derive(Debug, Drop)]
+#[derive(Drop)]
 pub struct MapFrame {
     /// Its tag.
     pub tag: u8,
@@ -43,7 +43,7 @@ pub struct MapFrame {
 }
 
 /// A stack map (JVMS 4.7.4).
-#[derive(Debug, Drop)]
+#[derive(Drop)]
 pub struct MapPart {
     /// The number of entries that it says.
     pub count: u16,
@@ -54,7 +54,7 @@ pub struct MapPart {
 }
 
 /// A Code attribute (JVMS 4.7.3).
-#[derive(Debug, Drop)]
+#[derive(Drop)]
 pub struct CodePart {
     /// The depth that the operand stack may have.
     pub max_stack: u16,
@@ -69,7 +69,7 @@ pub struct CodePart {
 }
 
 /// A field or method (JVMS 4.5 and 4.6).
-#[derive(Debug, Drop)]
+#[derive(Drop)]
 pub struct MemberPart {
     /// Its access flags.
     pub flags: u16,
@@ -84,7 +84,7 @@ pub struct MemberPart {
 }
 
 /// A class file without the attributes that are skipped (JVMS 4.1).
-#[derive(Debug, Drop)]
+#[derive(Drop)]
 pub struct ClassParts {
     /// The minor version.
     pub minor: u16,
@@ -107,7 +107,7 @@ pub struct ClassParts {
 }
 
 /// A class file that some bytes spell. Contracts see it as its parts.
-#[derive(Debug, Drop)]
+#[derive(Drop)]
 pub struct ClassFile {
     parts: ClassParts,
 }

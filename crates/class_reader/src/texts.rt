@@ -21,7 +21,7 @@ use std::collections::{HashMap, HashSet};
 use std::marker::Model;
 
 /// What tests say of a slot's text.
-#[derive(Clone, Copy, Debug)]
+#[derive(Clone, Copy)]
 pub struct Mark {
     /// Whether it is a field's name.
     pub field_name: bool,
@@ -104,7 +104,7 @@ fn marks_of(alloc: Global, slots: &[Option<Entry>]) -> Result<Vec<Mark>, ReadErr
 }
 
 /// A pool with a mark for each slot. Contracts see it as the pool's slots from index 1 on.
-#[derive(Debug, Drop)]
+#[derive(Drop)]
 pub struct Texts<'a> {
     pool: &'a Pool,
     marks: Vec<Mark>,

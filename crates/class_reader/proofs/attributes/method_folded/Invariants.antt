@@ -1,8 +1,0 @@
-use Rattle.std.proofs.Common.{◌≡◌, ◌-◌, None}
-use Rattle.class_pool.specs.Loops.{folded}
-use Rattle.class_reader.specs.Names.{is_code}
-use Rattle.class_reader.specs.Class.{code_attribute_at, attribute_at}
-use Rattle.class_reader.proofs.attributes.method_folded.Given as goal
-
-abbrev pub invariant-loop-i : goal.invariant-loop-i
-invariant-loop-i l = folded (λ found b. attribute_at is_code (code_attribute_at l.method l.pool) l.pool found b) l.found (l.count - l.i) l.rest ≡ folded (λ found b. attribute_at is_code (code_attribute_at l.method l.pool) l.pool found b) None l.count l.bytes
