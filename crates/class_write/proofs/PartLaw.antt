@@ -4,7 +4,7 @@ use Rattle.std.specs.Prelude.{slice_index_or, unwrap_or}
 use Rattle.std.specs.List.{flat_map}
 use Rattle.std.proofs.lemmas.List.{append-nil, length-append}
 use Rattle.class_pool.specs.declared.pool.Entry.{Entry}
-use Rattle.class_pool.specs.declared.pool.Entry.TheVariants.{Utf8, Integer, Float, Long, Double, Class, Str, Field, Method, InterfaceMethod, NameAndType, MethodHandle, MethodType, InvokeDynamic}
+use Rattle.class_pool.specs.declared.pool.Entry.TheVariants.{Utf8}
 use Rattle.class_pool.specs.Pool.{entry_of, is_text}
 use Rattle.class_pool.specs.Grammar.{Then, Joined, Counted, Chain}
 use Rattle.class_pool.proofs.Laws.{picked_bool}
@@ -82,21 +82,8 @@ first_in (slot ∷ slots) text i (suc j) h = picked_bool (is_text_of text slot)
     record { k = suc r.k; found = ap (λ b. cond b (Some i) (first_from (i + 1) slots text)) no ∙ r.found ∙ ap Some (omega arith); within = omega (arith, r.within); is = r.is })
 
 text_is : (text : List ℕ) (entry : Option Entry) → is_text_of text entry ≡ true → is_text entry ≡ true
-text_is text None h = h
 text_is text (Some (Utf8 units)) h = refl
-text_is text (Some (Integer n)) h = h
-text_is text (Some (Float n)) h = h
-text_is text (Some (Long n)) h = h
-text_is text (Some (Double n)) h = h
-text_is text (Some (Class name)) h = h
-text_is text (Some (Str s)) h = h
-text_is text (Some (Field class pair)) h = h
-text_is text (Some (Method class pair)) h = h
-text_is text (Some (InterfaceMethod class pair)) h = h
-text_is text (Some (NameAndType name descriptor)) h = h
-text_is text (Some (MethodHandle kind index)) h = h
-text_is text (Some (MethodType descriptor)) h = h
-text_is text (Some (InvokeDynamic bootstrap pair)) h = h
+text_is text _ h = h
 
 -- The index names the text.
 pub record Names (wanted : Option Entry → Bool) (slots : Slots) (index : ℕ) : Type 0 where

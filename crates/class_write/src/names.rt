@@ -8,7 +8,7 @@ use class_pool::{Entry, Pool};
 use et_base::is_ascii_text;
 
 /// The pool indices of the names of the attributes that are written; 0 where the pool lacks one.
-#[derive(Clone, Copy, Debug)]
+#[derive(Clone, Copy)]
 pub struct Names {
     /// `ConstantValue`.
     pub constant_value: u16,

@@ -12,7 +12,7 @@ use code_decode::{Shape, takes_local};
 use et_base::NoMemory;
 
 /// How one operand is written.
-#[derive(Clone, Copy, Debug, PartialEq, Eq)]
+#[derive(Clone, Copy)]
 pub enum Form {
     /// A number of one byte.
     Byte,
