@@ -1,7 +1,7 @@
 -- The program that is assembled of class files, whatever bodies its methods have: which records stand where.
-use Rattle.std.proofs.Common.{◌≡◌, ◌⊎◌, ℕ, zero, suc, ◌+◌, ◌<◌, List, [], ◌∷◌, ◌++◌, length, map, get_or, slice_get, ◌-◌, refl, ◌∙◌, ap, subst, inl, inr, arith, Some}
+use Rattle.std.proofs.Common.{◌≡◌, ◌⊎◌, ℕ, zero, suc, ◌+◌, ◌<◌, List, [], ◌∷◌, ◌++◌, length, get_or, slice_get, ◌-◌, refl, sym, ◌∙◌, ap, inl, inr, arith, Some}
 use Rattle.std.proofs.lemmas.Bool.{cases_lt}
-use Rattle.std.proofs.lemmas.List.{length-append, take_at}
+use Rattle.std.proofs.lemmas.List.{length-append, take_at, get_or-append-add}
 use Rattle.std.proofs.lemmas.Option.{slice_get_within, get_or_from_slice_get}
 use Rattle.class_reader.specs.declared.parts.ClassParts.{ClassParts}
 use Rattle.class_reader.specs.declared.parts.MemberPart.{MemberPart}
@@ -18,7 +18,7 @@ use Rattle.jvm_model.specs.Linked.{IsClass, IsField, IsMethod, HoldsBuiltins}
 use Rattle.class_link.specs.ClassNames.{all_names}
 use Rattle.class_link.specs.Literals.{literals}
 use Rattle.class_link.specs.Assembly.{class_rec, class_recs, field_rec, field_recs, method_rec, method_recs, assembled}
-use Rattle.class_link.proofs.Blocks.{at_place, right_place, before, Block, blocks, block_at, block_of}
+use Rattle.class_link.proofs.Blocks.{at_place, before, GivenMember, member_at, member_cases}
 
 -- the numbers of the built-in classes, fields and methods
 pub counts : (length builtin_classes ≡ builtin_count) × (length builtin_fields ≡ 2) × (length builtin_methods ≡ 102)
@@ -58,14 +58,6 @@ make_field texts c n x = field_rec texts c.pool n x
 abbrev pub make_method : (ClassParts → CodePart → Body) → ClassParts → ℕ → MemberPart → MethodRec
 make_method body c n x = method_rec (body c) c.pool n x
 
-field_blocks : (texts : List (List ℕ)) (n : ℕ) (cs : List ClassParts) → field_recs texts n cs ≡ blocks (make_field texts) own_fields n cs
-field_blocks texts n [] = refl
-field_blocks texts n (c ∷ cs) = ap (λ (xs : List FieldRec). map (field_rec texts c.pool n) c.fields ++ xs) (field_blocks texts (n + 1) cs)
-
-method_blocks : (body : ClassParts → CodePart → Body) (n : ℕ) (cs : List ClassParts) → method_recs body n cs ≡ blocks (make_method body) own_methods n cs
-method_blocks body n [] = refl
-method_blocks body n (c ∷ cs) = ap (λ (xs : List MethodRec). map (method_rec (body c) c.pool n) c.methods ++ xs) (method_blocks body (n + 1) cs)
-
 -- ---- the program
 
 -- the class is that of a class file
@@ -74,16 +66,6 @@ pub record Given (cs : List ClassParts) (c : ℕ) : Type 0 where
   pub parts : ClassParts
   pub number : c ≡ builtin_count + index
   pub there : slice_get cs index ≡ Some parts
-
--- the number is that of a member of a class file; so many members are built in
-pub record GivenMember (members : ClassParts → List MemberPart) (first : ℕ) (cs : List ClassParts) (j : ℕ) : Type 0 where
-  pub block : ℕ
-  pub number : j ≡ first + block
-  pub of : Block members cs block
-
--- what stands at a place behind other things
-beyond : {X : Type 0} (xs ys : List X) (n i : ℕ) (x d : X) → length xs ≡ n → slice_get ys i ≡ Some x → get_or (xs ++ ys) (n + i) d ≡ x
-beyond xs ys n i x d e h = let q : slice_get (xs ++ ys) (length xs + i) ≡ Some x = right_place xs ys i ∙ h in get_or_from_slice_get (xs ++ ys) (n + i) x d (subst (λ k. slice_get (xs ++ ys) (k + i) ≡ Some x) e q)
 
 module _ (body : ClassParts → CodePart → Body) (cs : List ClassParts) (tests : List TestEntry) (files : List (List ℕ × List ℕ)) where
   abbrev p : Program
@@ -101,61 +83,44 @@ module _ (body : ClassParts → CodePart → Body) (cs : List ClassParts) (tests
   unfolding assembled
   class_count = let a = length-append builtin_classes (class_recs (all_names cs) (length builtin_fields) (length builtin_methods) cs) in let b = length_recs (all_names cs) (length builtin_fields) (length builtin_methods) cs in let c = counts.0 in omega arith
 
-  field_count : length p.fields ≡ length builtin_fields + length (blocks (make_field (literals cs)) own_fields builtin_count cs)
-  unfolding assembled
-  field_count = length-append builtin_fields (field_recs (literals cs) builtin_count cs) ∙ ap (λ (xs : List FieldRec). length builtin_fields + length xs) (field_blocks (literals cs) builtin_count cs)
-
-  method_count : length p.methods ≡ length builtin_methods + length (blocks (make_method body) own_methods builtin_count cs)
-  unfolding assembled
-  method_count = length-append builtin_methods (method_recs body builtin_count cs) ∙ ap (λ (xs : List MethodRec). length builtin_methods + length xs) (method_blocks body builtin_count cs)
-
-  -- the records of what is given
+  -- the classes of the class files, behind the built-in ones
   pub class_given : (i : ℕ) (c : ClassParts) → slice_get cs i ≡ Some c →
       class_at p (builtin_count + i) ≡ class_rec (all_names cs) (length builtin_fields + before own_fields cs i) (length builtin_methods + before own_methods cs i) c
   unfolding assembled
-  class_given i c h = beyond builtin_classes (class_recs (all_names cs) (length builtin_fields) (length builtin_methods) cs) builtin_count i _ no_class counts.0 (rec_at (all_names cs) (length builtin_fields) (length builtin_methods) cs i c h)
+  class_given i c h =
+      let recs = class_recs (all_names cs) (length builtin_fields) (length builtin_methods) cs in
+      ap (λ (n : ℕ). get_or (builtin_classes ++ recs) (n + i) no_class) (sym counts.0) ∙ get_or-append-add builtin_classes recs i no_class
+      ∙ get_or_from_slice_get recs i _ no_class (rec_at (all_names cs) (length builtin_fields) (length builtin_methods) cs i c h)
 
-  pub field_given : (i k : ℕ) (c : ClassParts) (x : MemberPart) → slice_get cs i ≡ Some c → slice_get c.fields k ≡ Some x →
-      field_at p (length builtin_fields + (before own_fields cs i + k)) ≡ field_rec (literals cs) c.pool (builtin_count + i) x
-  unfolding assembled
-  field_given i k c x h g =
-      let q : slice_get (field_recs (literals cs) builtin_count cs) (before own_fields cs i + k) ≡ Some (field_rec (literals cs) c.pool (builtin_count + i) x) =
-      ap (λ (xs : List FieldRec). slice_get xs (before own_fields cs i + k)) (field_blocks (literals cs) builtin_count cs) ∙ block_at (make_field (literals cs)) own_fields builtin_count cs i k c x h g in
-      beyond builtin_fields (field_recs (literals cs) builtin_count cs) (length builtin_fields) (before own_fields cs i + k) _ no_field refl q
-
-  pub method_given : (i k : ℕ) (c : ClassParts) (x : MemberPart) → slice_get cs i ≡ Some c → slice_get c.methods k ≡ Some x →
-      method_at p (length builtin_methods + (before own_methods cs i + k)) ≡ method_rec (body c) c.pool (builtin_count + i) x
-  unfolding assembled
-  method_given i k c x h g =
-      let q : slice_get (method_recs body builtin_count cs) (before own_methods cs i + k) ≡ Some (method_rec (body c) c.pool (builtin_count + i) x) =
-      ap (λ (xs : List MethodRec). slice_get xs (before own_methods cs i + k)) (method_blocks body builtin_count cs) ∙ block_at (make_method body) own_methods builtin_count cs i k c x h g in
-      beyond builtin_methods (method_recs body builtin_count cs) (length builtin_methods) (before own_methods cs i + k) _ no_method refl q
-
-  -- each number is built in or given
   pub class_cases : (c : ℕ) → IsClass p c → (c < builtin_count) ⊎ Given cs c
   class_cases c h = elim (cases_lt c builtin_count) [
     | inl g ↦ inl g
     | inr g ↦ let n = class_count in let a = at_place cs (c - builtin_count) (omega arith) in inr (record { index = c - builtin_count; parts = a.item; number = omega arith; there = a.there })
   ]
 
-  pub field_cases : (f : ℕ) → IsField p f → (f < 2) ⊎ GivenMember own_fields (length builtin_fields) cs f
-  field_cases f h = elim (cases_lt f 2) [
-    | inl g ↦ inl g
-    | inr g ↦ let n = field_count in let b = counts.1 in inr (record { block = f - length builtin_fields; number = omega arith; of = block_of (make_field (literals cs)) own_fields builtin_count cs (f - length builtin_fields) (omega arith) })
-  ]
-
-  pub method_cases : (m : ℕ) → IsMethod p m → (m < 102) ⊎ GivenMember own_methods (length builtin_methods) cs m
-  method_cases m h = elim (cases_lt m 102) [
-    | inl g ↦ inl g
-    | inr g ↦ let n = method_count in let b = counts.2 in inr (record { block = m - length builtin_methods; number = omega arith; of = block_of (make_method body) own_methods builtin_count cs (m - length builtin_methods) (omega arith) })
-  ]
-
-  -- and what is given has a number
   pub given_class_is : (i : ℕ) (c : ClassParts) → slice_get cs i ≡ Some c → IsClass p (builtin_count + i)
   given_class_is i c h = let n = class_count in let g = slice_get_within cs i c h in omega arith
 
-  pub given_field_is : (i k : ℕ) (c : ClassParts) (x : MemberPart) → slice_get cs i ≡ Some c → slice_get c.fields k ≡ Some x → IsField p (length builtin_fields + (before own_fields cs i + k))
-  given_field_is i k c x h g = let n = field_count in let q = slice_get_within (blocks (make_field (literals cs)) own_fields builtin_count cs) _ _ (block_at (make_field (literals cs)) own_fields builtin_count cs i k c x h g) in omega arith
+  -- fields and methods
+  abbrev pub GivenField : ℕ → Type 0
+  GivenField f = GivenMember (make_field (literals cs)) own_fields (length builtin_fields) cs f (field_at p f)
 
-  pub given_method_is : (i k : ℕ) (c : ClassParts) (x : MemberPart) → slice_get cs i ≡ Some c → slice_get c.methods k ≡ Some x → IsMethod p (length builtin_methods + (before own_methods cs i + k))
-  given_method_is i k c x h g = let n = method_count in let q = slice_get_within (blocks (make_method body) own_methods builtin_count cs) _ _ (block_at (make_method body) own_methods builtin_count cs i k c x h g) in omega arith
+  abbrev pub GivenMethod : ℕ → Type 0
+  GivenMethod m = GivenMember (make_method body) own_methods (length builtin_methods) cs m (method_at p m)
+
+  pub field_cases : (f : ℕ) → IsField p f → (f < 2) ⊎ GivenField f
+  unfolding assembled
+  field_cases f h = elim (member_cases (make_field (literals cs)) own_fields builtin_fields no_field cs f h) [ inl g ↦ let n = counts.1 in inl (omega arith) | inr g ↦ inr g ]
+
+  pub method_cases : (m : ℕ) → IsMethod p m → (m < 102) ⊎ GivenMethod m
+  unfolding assembled
+  method_cases m h = elim (member_cases (make_method body) own_methods builtin_methods no_method cs m h) [ inl g ↦ let n = counts.2 in inl (omega arith) | inr g ↦ inr g ]
+
+  pub field_given : (i k : ℕ) (c : ClassParts) (x : MemberPart) → slice_get cs i ≡ Some c → slice_get c.fields k ≡ Some x → IsField p ((length builtin_fields + before own_fields cs i) + k)
+  unfolding assembled
+  field_given i k c x h g = (member_at (make_field (literals cs)) own_fields builtin_fields no_field cs i k c x h g).0
+
+  pub method_given : (i k : ℕ) (c : ClassParts) (x : MemberPart) → slice_get cs i ≡ Some c → slice_get c.methods k ≡ Some x → let m = (length builtin_methods + before own_methods cs i) + k in
+      IsMethod p m × (method_at p m ≡ method_rec (body c) c.pool (builtin_count + i) x)
+  unfolding assembled
+  method_given i k c x h g = member_at (make_method body) own_methods builtin_methods no_method cs i k c x h g

@@ -19,7 +19,7 @@ use Rattle.class_reader.specs.declared.parts.RawHandler.{RawHandler}
 use Rattle.class_reader.proofs.PartFacts.{HandlerFacts, PartFacts}
 use Rattle.et_base.specs.Names.{starts_array}
 use Rattle.jvm_model.specs.declared.values.Value.{Value}
-use Rattle.jvm_model.specs.declared.values.Value.TheVariants.{Int, Long, Null, Lit, Obj}
+use Rattle.jvm_model.specs.declared.values.Value.TheVariants.{Obj}
 use Rattle.jvm_model.specs.declared.values.Base.{Base}
 use Rattle.jvm_model.specs.declared.values.Kind.{Kind}
 use Rattle.jvm_model.specs.declared.values.Kind.TheVariants as kind
@@ -27,69 +27,19 @@ use Rattle.jvm_model.specs.declared.instr.Instr.TheVariants as form
 use Rattle.jvm_model.specs.declared.program.Program.{Program}
 use Rattle.jvm_model.specs.declared.program.Body.{Body}
 use Rattle.jvm_model.specs.declared.program.Placed.{Placed}
-use Rattle.jvm_model.specs.Lookup.{find_field, find_method, lacks_method}
-use Rattle.jvm_model.specs.Selection.{named_class}
 use Rattle.jvm_model.specs.Linked.{IsForm, IsPlace, IsHandler, IsBody, KeysAscend, Ascends, place_listed, dims_of}
-use Rattle.code_forms.specs.declared.references.Target.{Target}
 use Rattle.code_forms.specs.declared.references.Target.TheVariants as target
-use Rattle.class_link.specs.ClassNames.{text_at, name_at, class_number, base_of, array_kind, kind_of}
-use Rattle.class_link.specs.References.{Setting, field_target, method_target, target_of}
+use Rattle.class_link.specs.ClassNames.{text_at, class_number, base_of, array_kind, kind_of}
+use Rattle.class_link.specs.References.{Setting, target_of}
 use Rattle.code_forms.specs.Operands.{number_in, index_in}
 use Rattle.code_forms.specs.Forms as forms
 use Rattle.code_forms.specs.Forms.{form_of}
 use Rattle.class_link.specs.Bodies.{placed, handler_rec, linked_body}
 use Rattle.code_forms.proofs.FormCases.{form_case, field_case, method_case, type_case}
-use Rattle.code_forms.proofs.FormFacts.{MakesNested, plain_form}
+use Rattle.code_forms.proofs.FormFacts.{IsConstant, IsTarget, MakesNested, plain_form}
 use Rattle.code_forms.proofs.ShapeFacts.{branch_args, null_args, far_args, table_args, look_up_args, nested_args, first_index}
 
--- ---- what entries stand for
-
--- a constant that is no object
-abbrev pub NoObject : Target → Type 0
-NoObject (target.Constant (Obj o)) = ⊥
-NoObject _ = Unit {0}
-
-mapped_type : (k : Option Kind) → IfSome (option_map (λ k. target.Type k) k) NoObject
-mapped_type None = tt
-mapped_type (Some k) = tt
-
-mapped_field : (c : ℕ) (f : Option ℕ) → IfSome (option_map (λ f. target.Field c f) f) NoObject
-mapped_field c None = tt
-mapped_field c (Some f) = tt
-
-mapped_method : (k : Kind) (m : Option ℕ) → IfSome (option_map (λ m. target.Method k m) m) NoObject
-mapped_method k None = tt
-mapped_method k (Some m) = tt
-
-field_no_object : (s : Setting) (k : Option Kind) (pair : List ℕ × List ℕ) → IfSome (field_target s k pair) NoObject
-field_no_object s None pair = tt
-field_no_object s (Some k) pair = mapped_field (named_class k) (find_field s.program (named_class k) pair.0 pair.1)
-
-unless_holds : (b : Bool) (o : Option Target) → IfSome o NoObject → IfSome (cond b None o) NoObject
-unless_holds true o h = tt
-unless_holds false o h = h
-
-method_no_object : (s : Setting) (k : Option Kind) (pair : List ℕ × List ℕ) → IfSome (method_target s k pair) NoObject
-method_no_object s None pair = tt
-method_no_object s (Some k) pair = unless_holds (lacks_method k pair.0) _ (mapped_method k (find_method s.program (named_class k) pair.0 pair.1))
-
-pub no_object : (s : Setting) (slots : List (Option Entry)) (e : Option Entry) → IfSome (target_of s slots e) NoObject
-unfolding target_of
-no_object s slots None = tt
-no_object s slots (Some (entry.Integer n)) = tt
-no_object s slots (Some (entry.Long n)) = tt
-no_object s slots (Some (entry.Str text)) = tt
-no_object s slots (Some (entry.Class name)) = mapped_type (kind_of s.names (text_at slots name))
-no_object s slots (Some (entry.Field class pair)) = field_no_object s (kind_of s.names (name_at slots class)) _
-no_object s slots (Some (entry.Method class pair)) = method_no_object s (kind_of s.names (name_at slots class)) _
-no_object s slots (Some (entry.InterfaceMethod class pair)) = method_no_object s (kind_of s.names (name_at slots class)) _
-no_object s slots (Some (entry.Utf8 units)) = tt
-no_object s slots (Some (entry.Float bits)) = tt
-no_object s slots (Some (entry.Double bits)) = tt
-no_object s slots (Some (entry.NameAndType n d)) = tt
-no_object s slots (Some (entry.MethodHandle n d)) = tt
-no_object s slots (Some (entry.MethodType n)) = tt
-no_object s slots (Some (entry.InvokeDynamic n d)) = tt
+-- ---- arrays of several dimensions
 
 -- an array's kind has the dimensions of its name
 array_dims : (d : ℕ) (b : Option Base) (k : Kind) → option_map (λ b. kind.Array d b) b ≡ Some k → dims_of k ≡ d
@@ -121,25 +71,12 @@ typed_only (Some k) j e = cc
 pub type_dims : (s : Setting) (slots : List (Option Entry)) (e : Option Entry) (k : Kind) → 0 < dimensions (class_name slots e) → target_of s slots e ≡ Some (target.Type k) → dims_of k ≡ dimensions (class_name slots e)
 unfolding target_of
 type_dims s slots (Some (entry.Class name)) k some e = kind_dims s.names (text_at slots name) k some (typed_only (kind_of s.names (text_at slots name)) k e)
-type_dims s slots None k some e = absurd (omega (arith, some))
-type_dims s slots (Some (entry.Utf8 units)) k some e = absurd (omega (arith, some))
-type_dims s slots (Some (entry.Integer n)) k some e = absurd (omega (arith, some))
-type_dims s slots (Some (entry.Float bits)) k some e = absurd (omega (arith, some))
-type_dims s slots (Some (entry.Long n)) k some e = absurd (omega (arith, some))
-type_dims s slots (Some (entry.Double bits)) k some e = absurd (omega (arith, some))
-type_dims s slots (Some (entry.Str text)) k some e = absurd (omega (arith, some))
-type_dims s slots (Some (entry.Field class pair)) k some e = absurd (omega (arith, some))
-type_dims s slots (Some (entry.Method class pair)) k some e = absurd (omega (arith, some))
-type_dims s slots (Some (entry.InterfaceMethod class pair)) k some e = absurd (omega (arith, some))
-type_dims s slots (Some (entry.NameAndType n d)) k some e = absurd (omega (arith, some))
-type_dims s slots (Some (entry.MethodHandle n d)) k some e = absurd (omega (arith, some))
-type_dims s slots (Some (entry.MethodType n)) k some e = absurd (omega (arith, some))
-type_dims s slots (Some (entry.InvokeDynamic n d)) k some e = absurd (omega (arith, some))
+type_dims s slots _ k some e = absurd (omega (arith, some))
 
 -- multianewarray makes one dimension at least, and no more than its type has
 pub makes_nested : (s : Setting) (slots : List (Option Entry)) (ops : List RawOp) (total : ℕ) (o : RawOp) → OpFacts slots ops total o → MakesNested o (target_of s slots (entry_of slots (index_in o)))
-makes_nested s slots ops total o facts typed a b c d k is =
-    let n : IndexCount (MakesArrays slots) o.args = nested_args slots ops total o facts typed a b c d in
+makes_nested s slots ops total o facts typed single k is =
+    let n : IndexCount (MakesArrays slots) o.args = nested_args slots ops total o facts typed single in
     let index : index_in o ≡ n.index = first_index o n.index (pos n.count ∷ []) n.is n.small in
     let count : number_in o 1 ≡ n.count = ap (λ (args : List ℤ). cast_unsigned w32 (get_or args 1 (pos 0))) n.is in
     let few : n.count < 2 ^ 8 = n.few in
@@ -196,22 +133,15 @@ lookup_form ops total b xs has t =
     subst (λ xs. IsForm b (form.Lookup (forms.pairs (drop 1 xs)) (cast_unsigned w32 (get_or xs 0 (pos 0))))) (sym t.is)
     (subst (λ rows. IsForm b (form.Lookup rows (cast_unsigned w32 t.other))) (sym (rows_of t.pairs)) whole)
 
-constant_form : (b : Body) (v : Value) → NoObject (target.Constant v) → IsForm b (form.Const v)
-constant_form b (Int n) h = tt
-constant_form b (Long n) h = tt
-constant_form b Null h = tt
-constant_form b (Lit n) h = tt
-constant_form b (Obj o) h = h
+constant_form : (p : Program) (b : Body) (v : Value) → IsConstant p v → IsForm b (form.Const v)
+constant_form p b (Obj o) h = h
+constant_form p b _ h = tt
 
--- a program without classes
-abbrev no_program : Program
-no_program = record { classes = []; fields = []; methods = []; literals = []; tests = []; files = [] }
-
--- an instruction's form is as the grammar asks
-pub is_form : (s : Setting) (slots : List (Option Entry)) (ops : List RawOp) (total : ℕ) (b : Body) (o : RawOp) → HasPlaces ops b → OpFacts slots ops total o → IsForm b (form_of (target_of s slots (entry_of slots (index_in o))) o)
-is_form s slots ops total b o has facts = let t = target_of s slots (entry_of slots (index_in o)) in form_case (IsForm b) t o (record {
-  plain = λ f is. (plain_form b no_program 0 f is).0;
-  constant = λ _ _ v is. constant_form b v (subst (λ u. IfSome u NoObject) is (no_object s slots (entry_of slots (index_in o))));
+-- an instruction's form is as the grammar asks, where its target is in a program
+pub is_form : (p : Program) (s : Setting) (slots : List (Option Entry)) (ops : List RawOp) (total : ℕ) (b : Body) (o : RawOp) → HasPlaces ops b → OpFacts slots ops total o → IfSome (target_of s slots (entry_of slots (index_in o))) (IsTarget p) → IsForm b (form_of (target_of s slots (entry_of slots (index_in o))) o)
+is_form p s slots ops total b o has facts there = form_case (IsForm b) (target_of s slots (entry_of slots (index_in o))) o (record {
+  plain = λ f is. (plain_form b p 0 f is).0;
+  constant = λ _ _ v is. constant_form p b v (subst (λ t. IfSome t (IsTarget p)) is there);
   if_zero = λ low high. first_place ops total b o has (branch_args slots ops total o facts low (omega (arith, high)));
   if_ints = λ low high. first_place ops total b o has (branch_args slots ops total o facts (omega (arith, low)) (omega (arith, high)));
   if_refs = λ low high. first_place ops total b o has (branch_args slots ops total o facts (omega (arith, low)) (omega (arith, high)));
@@ -225,7 +155,7 @@ is_form s slots ops total b o has facts = let t = target_of s slots (entry_of sl
   field = λ _ _ c f _. field_case (IsForm b) o.opcode c f (λ _. tt) (λ _. tt) (λ _. tt) (λ _ _ _. tt);
   method = λ _ _ k m _. method_case (IsForm b) o.opcode k m (λ _. tt) (λ _. tt) (λ _. tt) (λ _ _ _. tt);
   numbers = λ _. tt;
-  type = λ typed k is. type_case (IsForm b) o k (λ _. tt) (λ _. tt) (λ _. tt) (λ _. tt) (λ a c d e. makes_nested s slots ops total o facts typed a c d e k is);
+  type = λ typed k is. type_case (IsForm b) o k tt tt tt tt (λ single. makes_nested s slots ops total o facts typed single k is);
 })
 
 -- ---- the body
@@ -253,9 +183,9 @@ handler_is s slots code b h has len facts = record {
   at = has h.at facts.at.begins;
 }
 
-pub is_body : (s : Setting) (slots : List (Option Entry)) (code : CodePart) → PartFacts slots code → IsBody (linked_body s slots code)
+pub is_body : (p : Program) (s : Setting) (slots : List (Option Entry)) (code : CodePart) → PartFacts slots code → ((o : RawOp) → IfSome (target_of s slots (entry_of slots (index_in o))) (IsTarget p)) → IsBody (linked_body s slots code)
 unfolding linked_body
-is_body s slots code facts =
+is_body p s slots code facts there =
     let b = linked_body s slots code in
     let ops = code.code.ops in
     let c : CodeFacts slots code.code = facts.code in
@@ -267,6 +197,6 @@ is_body s slots code facts =
       ascending = ascends_same s slots 0 ops c.ascend;
       within = All-map (λ x. x.pc < code.code.length) (placed s slots) ops (All-weaker (OpFacts slots ops code.code.length) (λ o. o.pc < code.code.length) (λ o h. h.inside) ops c.each);
       short = c.short;
-      forms = All-map (λ x. IsForm b x.form) (placed s slots) ops (All-weaker (OpFacts slots ops code.code.length) (λ o. IsForm b (placed s slots o).form) (λ o h. is_form s slots ops code.code.length b o has h) ops c.each);
+      forms = All-map (λ x. IsForm b x.form) (placed s slots) ops (All-weaker (OpFacts slots ops code.code.length) (λ o. IsForm b (placed s slots o).form) (λ o h. is_form p s slots ops code.code.length b o has h (there o)) ops c.each);
       handlers = All-map (IsHandler b) (handler_rec s.names slots) code.handlers (All-weaker (HandlerFacts slots code.code) (λ h. IsHandler b (handler_rec s.names slots h)) (λ h f. handler_is s slots code b h has refl f) code.handlers facts.handlers);
     }

@@ -1,5 +1,6 @@
 -- The table of targets serves for looking up each entry.
 use Rattle.std.proofs.Common.{◌≡◌, ℕ, zero, suc, List, [], ◌∷◌, Option, None, Bool, map, refl, sym, ap, ◌∙◌, slice_index_or}
+use Rattle.std.proofs.Math.ListN.{get_or-map}
 use Rattle.class_pool.specs.declared.pool.Entry.{Entry}
 use Rattle.class_pool.specs.Pool.{entry_of}
 use Rattle.code_decode.specs.declared.instructions.RawOp.{RawOp}
@@ -13,18 +14,13 @@ use Rattle.class_link.specs.References.{Setting, target_of}
 use Rattle.code_forms.specs.Operands.{index_in}
 use Rattle.class_link.specs.Bodies.{targets, target_in, placed, placed_by, handler_rec, frame_recs, is_cut, linked_body}
 
-mapped_at : {A B : Type 0} (f : A → B) (xs : List A) (i : ℕ) (d : A) → slice_index_or (map f xs) i (f d) ≡ f (slice_index_or xs i d)
-mapped_at f [] i d = refl
-mapped_at f (x ∷ xs) zero d = refl
-mapped_at f (x ∷ xs) (suc i) d = mapped_at f xs i d
-
 nothing_for : (s : Setting) (slots : List (Option Entry)) → target_of s slots None ≡ None
 unfolding target_of
 nothing_for s slots = refl
 
 pub target_in-targets : (s : Setting) (slots : List (Option Entry)) (i : ℕ) → target_in (targets s slots) i ≡ target_of s slots (entry_of slots i)
 target_in-targets s slots zero = sym (nothing_for s slots)
-target_in-targets s slots (suc i) = ap (slice_index_or (map (target_of s slots) slots) i) (sym (nothing_for s slots)) ∙ mapped_at (target_of s slots) slots i None
+target_in-targets s slots (suc i) = ap (slice_index_or (map (target_of s slots) slots) i) (sym (nothing_for s slots)) ∙ get_or-map (target_of s slots) slots i None
 
 pub same_code : (s : Setting) (slots : List (Option Entry)) (ops : List RawOp) → map (λ o. placed_by (target_in (targets s slots) (index_in o)) o) ops ≡ map (placed s slots) ops
 same_code s slots [] = refl

@@ -11,10 +11,6 @@ use Rattle.class_link.specs.Link.{unless}
 next_index : (i n : ℕ) → i < n → range_with_len i (n - i) ≡ i ∷ range_with_len (i + 1) (n - (i + 1))
 next_index i n h = let e : n - i ≡ suc (n - (i + 1)) = omega arith in ap (λ k. range_with_len i k) e
 
-or_first : Option LinkFault → Option LinkFault → Option LinkFault
-or_first None b = b
-or_first (Some y) b = Some y
-
 no_fault : (f : ℕ → Option LinkFault) (i : ℕ) (o : Option LinkFault) (is : List ℕ) → f i ≡ o → unless o ≡ Ok tt → first_some f (i ∷ is) ≡ first_some f is
 no_fault f i None is e u = ap (λ x. elim x as (λ _. Option LinkFault) [ Some y ↦ Some y | None ↦ first_some f is ]) e
 no_fault f i (Some y) is e u = absurd (cc)
@@ -25,13 +21,8 @@ next_first f i n u h = ap (λ is. first_some f is) (next_index i n h) ∙ no_fau
 
 -- a fault where there is none is want of memory
 only_memory : (e : LinkFault) (given : Result (Unit {0}) LinkFault) → Fails e (unless None) → Fails e given
-only_memory (fault.Duplicate c) given u = absurd (cc)
-only_memory (fault.Missing c n) given u = absurd (cc)
-only_memory (fault.Cycle c) given u = absurd (cc)
-only_memory (fault.NoMember c i) given u = absurd (cc)
-only_memory (fault.WrongKind c i) given u = absurd (cc)
-only_memory (fault.NotATest t) given u = absurd (cc)
 only_memory fault.NoMemory given u = tt
+only_memory _ given u = absurd (cc)
 
 fails_cons : (f : ℕ → Option LinkFault) (i : ℕ) (o : Option LinkFault) (is : List ℕ) (e : LinkFault) → f i ≡ o → Fails e (unless o) → Fails e (unless (first_some f (i ∷ is)))
 fails_cons f i None is e q u = only_memory e (unless (first_some f (i ∷ is))) u

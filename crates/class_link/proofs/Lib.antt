@@ -2,18 +2,14 @@
 pub mod Blocks
 pub mod Assembled
 pub mod AssemblyLaws
-pub mod FillLaws
 pub mod ClassSizes
 -- texts, names and string constants
 pub mod TextLaws
-pub mod NameLaws
-pub mod LiteralLaws
 pub mod MentionLaws
 pub mod Numbered
 pub mod Pools
 -- what the program without bodies and the whole one have alike
 pub mod SkeletonFacts
-pub mod FitsAlike
 -- entries: what they stand for, how they are used, their faults
 pub mod TargetFacts
 pub mod Referenced
@@ -21,7 +17,6 @@ pub mod FaultLaws
 pub mod MarkLaws
 -- look-up: what is found is there, and whose it is
 pub mod Found
-pub mod Owners
 -- what Linked asks, field by field
 pub mod Records
 pub mod Tables

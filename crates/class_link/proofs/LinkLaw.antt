@@ -1,5 +1,5 @@
 -- What linking answers is a linked program.
-use Rattle.std.proofs.Common.{◌≡◌, ℕ, ◌+◌, ◌≤◌, List, [], length, slice_get, Bool, true, is_none, refl, sym, subst, inl, inr, arith, Option, Some, None, IfSome, Result, Ok, Err, All}
+use Rattle.std.proofs.Common.{◌≡◌, ℕ, ◌+◌, ◌≤◌, List, [], length, slice_get, Bool, true, is_none, refl, sym, subst, inl, inr, arith, Option, Some, None, IfSome, IfOk, Result, Ok, Err, All}
 use Rattle.std.specs.Prelude.{option_map}
 use Rattle.std.specs.List.{list_all}
 use Rattle.std.proofs.lemmas.List.Elements.{All-nil}
@@ -9,9 +9,7 @@ use Rattle.class_reader.specs.declared.parts.CodePart.{CodePart}
 use Rattle.class_reader.specs.ClassGrammar as grammar
 use Rattle.class_reader.proofs.ClassFacts.{class_facts}
 use Rattle.class_reader.proofs.MemberFacts.{MethodFacts}
-use Rattle.class_reader.proofs.PartFacts.{PartFacts, HandlerFacts}
-use Rattle.code_decode.specs.declared.instructions.RawOp.{RawOp}
-use Rattle.code_decode.proofs.CodeFacts.{OpFacts}
+use Rattle.class_reader.proofs.PartFacts.{PartFacts}
 use Rattle.jvm_model.specs.declared.program.Program.{Program}
 use Rattle.jvm_model.specs.declared.program.MethodRec.{MethodRec}
 use Rattle.jvm_model.specs.declared.program.Body.{Body}
@@ -29,23 +27,21 @@ use Rattle.class_link.specs.Bodies.{linked_body}
 use Rattle.class_link.specs.Faults.{first_some, duplicate_fault, supertypes_fault, all_references_fault}
 use Rattle.member_lookup.specs.Ancestors.{IsFirstCycle}
 use Rattle.et_base.specs.Answers.{◌>>=◌}
-use Rattle.class_link.specs.Link.{setting, unless, cycle_fault, tests_of, program_of, link_by, AreLines, AreDifferent}
+use Rattle.class_link.specs.Link.{setting, unless, cycle_fault, tests_of, program_of, link_by, Links, AreLines, AreDifferent}
 use Rattle.class_link.proofs.Assembled.{holds_builtins, class_count, method_cases}
-use Rattle.class_link.proofs.Records.{class_numbers, field_class, method_class, method_record}
+use Rattle.class_link.proofs.Records.{class_numbers, field_class, method_class}
 use Rattle.class_link.proofs.Listed.{AllKnown, all_there, is_listed}
 use Rattle.class_link.proofs.Distinct.{is_distinct}
 use Rattle.class_link.proofs.Openings.{has_openings}
 use Rattle.class_link.proofs.SkeletonFacts.{ancestor_same}
 use Rattle.class_link.proofs.ClassKinds.{class_kinds}
 use Rattle.class_link.proofs.SuiteTests.{IsGood, all_good}
-use Rattle.class_link.proofs.Owners.{static_owner}
-use Rattle.class_link.proofs.LinkedCode.{CodeRules, names_body, body_kind, body_found}
-use Rattle.code_forms.proofs.ShapeFacts.{calls_by_sort}
-use Rattle.class_link.proofs.BodyFacts.{makes_nested, is_body}
+use Rattle.class_link.proofs.Found.{static_owner}
+use Rattle.class_link.proofs.LinkedCode.{names_body, body_kind, body_found, body_is}
 
--- the code of each class file is as its rules say
+-- what is known of the code of each class file
 abbrev pub AllCoded : List ClassParts → Type 0
-AllCoded cs = (i k : ℕ) (c : ClassParts) (x : MemberPart) (code : CodePart) → slice_get cs i ≡ Some c → slice_get c.methods k ≡ Some x → x.code ≡ Some code → CodeRules (setting cs) c.pool code
+AllCoded cs = (i k : ℕ) (c : ClassParts) (x : MemberPart) (code : CodePart) → slice_get cs i ≡ Some c → slice_get c.methods k ≡ Some x → x.code ≡ Some code → PartFacts c.pool code
 
 -- a built-in method has no code
 no_body : MethodRec → Bool
@@ -77,9 +73,8 @@ module _ (cs : List ClassParts) (ts : List TestEntry) (files : List (List ℕ ×
   each_body Q f m h = elim (method_cases body cs ts files m h) [
     | inl g ↦ none_holds (λ b. Q (method_at p m).class b) (method_at p m).body (method_keeps p (holds_builtins body cs ts files) no_body no_bodies m g)
     | inr g ↦
-        let b = g.of in
-        subst (λ (r : MethodRec). IfSome r.body (λ y. Q r.class y)) (sym (method_record body cs ts files m g))
-        (mapped_holds (λ y. Q (builtin_count + b.class) y) (body b.parts) b.member.code (λ code e. f b.class b.index b.parts b.member code b.has_class b.has_member e))
+        subst (λ (r : MethodRec). IfSome r.body (λ y. Q r.class y)) (sym g.is)
+        (mapped_holds (λ y. Q (builtin_count + g.class) y) (body g.parts) g.member.code (λ code e. f g.class g.index g.parts g.member code g.has_class g.has_member e))
   ]
 
   module _ (known : AllKnown cs) (coded : AllCoded cs) (different : duplicate_fault cs ≡ None) (headed : first_some (supertypes_fault (setting cs)) cs ≡ None) (acyclic : IsFirstCycle (skeleton cs) None)
@@ -111,7 +106,7 @@ module _ (cs : List ClassParts) (ts : List TestEntry) (files : List (List ℕ ×
       };
       distinct = is_distinct body cs ts files known different (subst (λ fs. AreDifferent fs ([], []) (λ x. x.0)) (sym same_files) are.files);
       listed = is_listed body cs ts files known;
-      bodies = each_body (λ c b. IsBody b) (λ i k c x code h g e. (coded i k c x code h g e).body);
+      bodies = each_body (λ c b. IsBody b) (λ i k c x code h g e. body_is cs ts files resolved owners i k c x code h g e (coded i k c x code h g e));
       members = record { bodies = each_body (λ c b. All (λ y. IsFormFound p y.form) b.code) (λ i k c x code h g e. body_found cs ts files resolved owners i k c x code h g e (coded i k c x code h g e)) };
       openings = has_openings body cs ts files known;
       tests = λ j d h. (good.0 j d h).0;
@@ -136,21 +131,13 @@ no_cycle cs (Some i) h e = absurd (cc)
 known_from : (cs : List ClassParts) → All (λ c. grammar.IsClass c) cs → AllKnown cs
 known_from cs h i c e = class_facts c (all_there (λ x. grammar.IsClass x) cs i c h e)
 
--- the rules of code, from what is known of a class file
 coded_from : (cs : List ClassParts) → AllKnown cs → AllCoded cs
 coded_from cs known i k c x code h g e =
     let m : MethodFacts c.pool x = all_there (MethodFacts c.pool) c.methods k x (known i c h).methods.each g in
-    let f : PartFacts c.pool code = subst (λ o. IfSome o (PartFacts c.pool)) e m.code in
-    let op : (j : ℕ) (o : RawOp) → slice_get code.code.ops j ≡ Some o → OpFacts c.pool code.code.ops code.code.length o = λ j o q. all_there (OpFacts c.pool code.code.ops code.code.length) code.code.ops j o f.code.each q in
-    record {
-      nested = λ j o q. makes_nested (setting cs) c.pool code.code.ops code.code.length o (op j o q);
-      sorts = λ j o q. calls_by_sort c.pool code.code.ops code.code.length o (op j o q);
-      caught = λ j r q. (all_there (HandlerFacts c.pool code.code) code.handlers j r f.handlers q).caught;
-      body = is_body (setting cs) c.pool code f;
-    }
+    subst (λ o. IfSome o (PartFacts c.pool)) e m.code
 
 -- What linking answers is a linked program, where the first cycle is known at least if names differ and supertypes have no fault.
-pub linked_by : (cs : List ClassParts) (lines : TestLines) (cycle : Option ℕ) (p : Program) → length cs ≤ 1024 → All (λ c. grammar.IsClass c) cs → AreLines lines
+linked_by : (cs : List ClassParts) (lines : TestLines) (cycle : Option ℕ) (p : Program) → length cs ≤ 1024 → All (λ c. grammar.IsClass c) cs → AreLines lines
     → (duplicate_fault cs ≡ None → first_some (supertypes_fault (setting cs)) cs ≡ None → IsFirstCycle (skeleton cs) cycle) → link_by cycle cs lines ≡ Ok p → Linked p
 unfolding link_by
 linked_by cs lines cycle p few classes are first e =
@@ -168,6 +155,7 @@ linked_by cs lines cycle p few classes are first e =
     let resolved = unless_none (all_references_fault s builtin_count cs) d.0 d.1 in
     subst Linked q (program_linked cs t.0 lines.files known (coded_from cs known) different headed acyclic resolved lines are few t.1 refl)
 
--- the same, where it is known
-pub linked : (cs : List ClassParts) (lines : TestLines) (cycle : Option ℕ) (p : Program) → length cs ≤ 1024 → All (λ c. grammar.IsClass c) cs → AreLines lines → IsFirstCycle (skeleton cs) cycle → link_by cycle cs lines ≡ Ok p → Linked p
-linked cs lines cycle p few classes are first e = linked_by cs lines cycle p few classes are (λ _ _. first) e
+-- what linking says of an answer makes its program a linked one
+pub links_linked : (cs : List ClassParts) (lines : TestLines) (answer : Result Program LinkFault) → length cs ≤ 1024 → All (λ c. grammar.IsClass c) cs → AreLines lines → Links cs lines answer → IfOk answer Linked
+links_linked cs lines (Ok q) few classes are (cycle, (first, e)) = linked_by cs lines cycle q few classes are first (sym e)
+links_linked cs lines (Err f) few classes are l = tt

@@ -53,12 +53,7 @@ link_same cs lines a b h = same_after (duplicate_fault cs) _ _ (λ d. same_after
 said : (cs : List ClassParts) (lines : TestLines) (answer : Result Program LinkFault) → (answer ≡ Err fault.NoMemory → ⊥) → Links cs lines answer → (cycle : Option ℕ) × LinksBy cycle cs lines answer
 said cs lines (Ok p) m l = l
 said cs lines (Err fault.NoMemory) m l = absurd (m refl)
-said cs lines (Err (fault.Duplicate class)) m l = l
-said cs lines (Err (fault.Missing class name)) m l = l
-said cs lines (Err (fault.Cycle class)) m l = l
-said cs lines (Err (fault.NoMember class index)) m l = l
-said cs lines (Err (fault.WrongKind class index)) m l = l
-said cs lines (Err (fault.NotATest test)) m l = l
+said cs lines (Err _) m l = l
 
 -- what links in two ways is one answer
 pub links_by_once : (cs : List ClassParts) (lines : TestLines) (a b : Option ℕ) (x y : Result Program LinkFault) → LinksBy a cs lines x → LinksBy b cs lines y → x ≡ y

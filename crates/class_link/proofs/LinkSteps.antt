@@ -8,9 +8,11 @@ use Rattle.jvm_model.specs.Builtin.{builtin_count}
 use Rattle.jvm_model.specs.Library.{builtin_classes}
 use Rattle.class_link.specs.declared.fault.LinkFault.{LinkFault}
 use Rattle.class_link.specs.declared.fault.LinkFault.TheVariants as fault
+use Rattle.class_link.specs.declared.lines.TestLine.{TestLine}
 use Rattle.class_link.specs.declared.lines.TestLines.{TestLines}
 use Rattle.class_link.specs.Answers.{Fails}
 use Rattle.class_link.specs.Assembly.{skeleton, bare_body}
+use Rattle.class_link.specs.References.{Setting}
 use Rattle.class_link.specs.Faults.{first_some, duplicate_fault, supertypes_fault, all_references_fault}
 use Rattle.member_lookup.specs.Ancestors.{IsFirstCycle}
 use Rattle.et_base.specs.Answers.{◌>>=◌}
@@ -32,50 +34,36 @@ skeleton_few p cs is few =
 -- an answer that is an error is that of linking, unless it is want of memory
 said : (cs : List ClassParts) (lines : TestLines) (f : LinkFault) {X : Type 0} (given : Result X LinkFault) → Fails f given → (given ≡ Err f → (cycle : Option ℕ) × LinksBy cycle cs lines (Err f)) → Links cs lines (Err f)
 said cs lines fault.NoMemory given h k = tt
-said cs lines (fault.Duplicate c) given h k = k h
-said cs lines (fault.Missing c n) given h k = k h
-said cs lines (fault.Cycle c) given h k = k h
-said cs lines (fault.NoMember c i) given h k = k h
-said cs lines (fault.WrongKind c i) given h k = k h
-said cs lines (fault.NotATest n) given h k = k h
+said cs lines _ given h k = k h
 
 abbrev failed : LinkFault → Result (Unit {0}) LinkFault
 failed f = Err f
 
 itself : (f : LinkFault) → Fails f (failed f)
 itself fault.NoMemory = tt
-itself (fault.Duplicate c) = refl
-itself (fault.Missing c n) = refl
-itself (fault.Cycle c) = refl
-itself (fault.NoMember c i) = refl
-itself (fault.WrongKind c i) = refl
-itself (fault.NotATest n) = refl
+itself _ = refl
 
 unless_some : (o : Option LinkFault) (f : LinkFault) → unless o ≡ Err f → o ≡ None → ⊥
 unless_some None f e h = absurd cc
 unless_some (Some g) f e h = absurd cc
-
-unless_tt : (o : Option LinkFault) (u : Unit {0}) → unless o ≡ Ok u → unless o ≡ Ok tt
-unless_tt None u e = refl
-unless_tt (Some g) u e = absurd cc
 
 -- an answer that passes a fault on
 pub passes_on : (cs : List ClassParts) (lines : TestLines) (result : Result Program LinkFault) (f : LinkFault) → IsErrAnd result (λ x. x ≡ f) → Links cs lines (Err f) → Links cs lines result
 passes_on cs lines (Ok p) f h k = absurd h
 passes_on cs lines (Err g) f h k = subst (λ x. Links cs lines (Err x)) (sym h) k
 
-module _ (cs : List ClassParts) (lines : TestLines) where
+module _ (cs : List ClassParts) (lines : TestLines) (s : Setting) (is : s ≡ setting cs) where
   abbrev names : Result (Unit {0}) LinkFault
   names = unless (duplicate_fault cs)
 
   abbrev supertypes : Result (Unit {0}) LinkFault
-  supertypes = unless (first_some (supertypes_fault (setting cs)) cs)
+  supertypes = unless (first_some (supertypes_fault s) cs)
 
   abbrev references : Result (Unit {0}) LinkFault
-  references = unless (all_references_fault (setting cs) builtin_count cs)
+  references = unless (all_references_fault s builtin_count cs)
 
   abbrev tests : Result (List TestEntry) LinkFault
-  tests = tests_of (setting cs) lines.budget [] lines.tests
+  tests = tests_of s lines.budget [] lines.tests
 
   abbrev after_tests : Result (List TestEntry) LinkFault → Result Program LinkFault
   after_tests t = t >>= (λ ts. Ok (program_of cs ts lines.files))
@@ -85,7 +73,7 @@ module _ (cs : List ClassParts) (lines : TestLines) where
 
   linked_is : (cycle : Option ℕ) → link_by cycle cs lines ≡ after_all names supertypes (unless (cycle_fault cs cycle)) references tests
   unfolding link_by
-  linked_is cycle = refl
+  linked_is cycle = ap (λ (z : Setting). after_all names (unless (first_some (supertypes_fault z) cs)) (unless (cycle_fault cs cycle)) (unless (all_references_fault z builtin_count cs)) (tests_of z lines.budget [] lines.tests)) (sym is)
 
   pub names_said : (f : LinkFault) → Fails f names → Links cs lines (Err f)
   names_said f h = said cs lines f names h (λ e. (
@@ -100,7 +88,7 @@ module _ (cs : List ClassParts) (lines : TestLines) where
   supertypes_said f n h = said cs lines f supertypes h (λ e. (
     None,
     (
-      (λ _ none. absurd (unless_some (first_some (supertypes_fault (setting cs)) cs) f e none)),
+      (λ _ none. absurd (unless_some (first_some (supertypes_fault (setting cs)) cs) f (ap (λ (z : Setting). unless (first_some (supertypes_fault z) cs)) (sym is) ∙ e) none)),
       sym (linked_is None ∙ (λ i. after_all (n i) (e i) (unless (cycle_fault cs None)) references tests)),
     ),
   ))
@@ -109,7 +97,7 @@ module _ (cs : List ClassParts) (lines : TestLines) where
   erred f = Err f
 
   cycle_known : (f : LinkFault) → names ≡ Ok tt → supertypes ≡ Ok tt → IsCycleFault cs f → (cycle : Option ℕ) × LinksBy cycle cs lines (Err f)
-  cycle_known f n h (i, first, is) = (Some i, ((λ _ _. first), sym (linked_is (Some i) ∙ (λ j. after_all (n j) (h j) (unless (cycle_fault cs (Some i))) references tests) ∙ ap erred (sym is))))
+  cycle_known f n h (i, first, at) = (Some i, ((λ _ _. first), sym (linked_is (Some i) ∙ (λ j. after_all (n j) (h j) (unless (cycle_fault cs (Some i))) references tests) ∙ ap erred (sym at))))
 
   pub cycles_said : (f : LinkFault) → names ≡ Ok tt → supertypes ≡ Ok tt → (f ≡ fault.NoMemory) ⊎ IsCycleFault cs f → Links cs lines (Err f)
   cycles_said f n h (inl none) = subst (λ g. Links cs lines (Err g)) (sym none) tt
@@ -124,17 +112,17 @@ module _ (cs : List ClassParts) (lines : TestLines) where
     ),
   ))
 
-  pub tests_said : (f : LinkFault) → names ≡ Ok tt → supertypes ≡ Ok tt → IsFirstCycle (skeleton cs) None → references ≡ Ok tt → Fails f tests → Links cs lines (Err f)
-  tests_said f n h first r t = said cs lines f tests t (λ e. (
-    None,
-    (
-      (λ _ _. first),
-      sym (linked_is None ∙ (λ i. after_all (n i) (h i) (Ok tt) (r i) (e i))),
-    ),
-  ))
+  module _ (n : names ≡ Ok tt) (h : supertypes ≡ Ok tt) (first : IsFirstCycle (skeleton cs) None) (r : references ≡ Ok tt) (xs : List TestLine) (same : xs ≡ lines.tests) where
+    pub tests_said : (f : LinkFault) → Fails f (tests_of s lines.budget [] xs) → Links cs lines (Err f)
+    tests_said f t = said cs lines f tests (subst (λ ys. Fails f (tests_of s lines.budget [] ys)) same t) (λ e. (
+      None,
+      (
+        (λ _ _. first),
+        sym (linked_is None ∙ (λ i. after_all (n i) (h i) (Ok tt) (r i) (e i))),
+      ),
+    ))
 
-  pub linked_so : (ts : List TestEntry) → names ≡ Ok tt → supertypes ≡ Ok tt → references ≡ Ok tt → tests ≡ Ok ts → link_by None cs lines ≡ Ok (program_of cs ts lines.files)
-  linked_so ts n h r t = linked_is None ∙ (λ i. after_all (n i) (h i) (Ok tt) (r i) (t i))
-
-  pub program_said : (p : Program) (ts : List TestEntry) → p ≡ program_of cs ts lines.files → names ≡ Ok tt → supertypes ≡ Ok tt → IsFirstCycle (skeleton cs) None → references ≡ Ok tt → tests ≡ Ok ts → Links cs lines (Ok p)
-  program_said p ts is n h first r t = (None, ((λ _ _. first), (λ i. Ok (is i)) ∙ sym (linked_so ts n h r t)))
+    pub program_said : (p : Program) (ts : List TestEntry) → p ≡ program_of cs ts lines.files → tests_of s lines.budget [] xs ≡ Ok ts → Links cs lines (Ok p)
+    program_said p ts made t =
+        let told : tests ≡ Ok ts = ap (tests_of s lines.budget []) (sym same) ∙ t in
+        (None, ((λ _ _. first), (λ i. Ok (made i)) ∙ sym (linked_is None ∙ (λ i. after_all (n i) (h i) (Ok tt) (r i) (told i)))))

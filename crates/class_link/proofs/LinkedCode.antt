@@ -1,8 +1,8 @@
 -- The instructions and handlers of linked bodies: their numbers name entries, what they name is of its kind, and members are
 -- those that the look-up finds.
-use Rattle.std.proofs.Common.{◌≡◌, ◌⊎◌, ℕ, ◌+◌, ◌<◌, List, [], length, get_or, slice_get, Bool, true, false, nat_eq, nat_le, cond, refl, sym, ◌∙◌, ap, subst, inl, inr, arith, Option, Some, None, IfSome, All}
+use Rattle.std.proofs.Common.{◌≡◌, ℕ, ◌+◌, ◌<◌, List, [], length, get_or, slice_get, Bool, true, false, nat_eq, nat_le, cond, refl, sym, ◌∙◌, ap, subst, inl, inr, arith, Option, Some, None, IfSome, All}
 use Rattle.std.specs.Prelude.{option_map, unwrap_or, drop}
-use Rattle.std.proofs.lemmas.Bool.{cases_Bool, cond-true, cond-false, eq-eqb}
+use Rattle.std.proofs.lemmas.Bool.{eq-eqb, cond_both}
 use Rattle.std.proofs.lemmas.List.Elements.{All-map}
 use Rattle.std.proofs.lemmas.Option.{slice_get-get_or}
 use Rattle.class_pool.specs.declared.pool.Entry.{Entry}
@@ -11,12 +11,13 @@ use Rattle.class_pool.specs.Pool.{entry_of, class_name_of}
 use Rattle.class_pool.proofs.EntryFacts.{NamesClass}
 use Rattle.code_decode.specs.declared.instructions.RawOp.{RawOp}
 use Rattle.code_decode.specs.Judging.{dimensions}
+use Rattle.code_decode.proofs.CodeFacts.{OpFacts}
 use Rattle.class_reader.specs.declared.parts.ClassParts.{ClassParts}
 use Rattle.class_reader.specs.declared.parts.MemberPart.{MemberPart}
 use Rattle.class_reader.specs.declared.parts.CodePart.{CodePart}
 use Rattle.class_reader.specs.declared.parts.RawHandler.{RawHandler}
+use Rattle.class_reader.proofs.PartFacts.{HandlerFacts, PartFacts}
 use Rattle.et_base.specs.Names.{starts_array}
-use Rattle.jvm_model.specs.declared.values.Value.TheVariants.{Int, Long, Null, Lit, Obj}
 use Rattle.jvm_model.specs.declared.values.Kind.{Kind}
 use Rattle.jvm_model.specs.declared.values.Kind.TheVariants as kind
 use Rattle.jvm_model.specs.declared.program.Program.{Program}
@@ -32,7 +33,7 @@ use Rattle.jvm_model.specs.Linked.{IsClass, NamesForm, NamesBody, IsFormKind, Is
 use Rattle.code_forms.specs.declared.references.Use.TheVariants as used
 use Rattle.code_forms.specs.declared.references.Target.{Target}
 use Rattle.code_forms.specs.declared.references.Target.TheVariants as target
-use Rattle.class_link.specs.ClassNames.{text_at, name_at, all_names, class_number, number_or_first, base_of, array_kind, kind_of}
+use Rattle.class_link.specs.ClassNames.{text_at, name_at, all_names, class_number, number_or_first, base_of, kind_of}
 use Rattle.class_link.specs.Assembly.{skeleton}
 use Rattle.class_link.specs.References.{Setting, target_of}
 use Rattle.code_forms.specs.Operands.{index_in}
@@ -43,36 +44,15 @@ use Rattle.class_link.specs.Faults.{all_references_fault, references_fault}
 use Rattle.class_link.specs.Link.{setting, program_of}
 use Rattle.class_link.proofs.Assembled.{class_count}
 use Rattle.class_link.proofs.Numbered.{if_some, number_class}
-use Rattle.class_link.proofs.SkeletonFacts.{below_same}
-use Rattle.class_link.proofs.TargetFacts.{IsTarget, target_is}
+use Rattle.class_link.proofs.SkeletonFacts.{below_same, fits_same}
+use Rattle.class_link.proofs.Listed.{all_there}
+use Rattle.class_link.proofs.TargetFacts.{target_is}
+use Rattle.class_link.proofs.BodyFacts.{makes_nested, is_body}
 use Rattle.class_link.proofs.Referenced.{use_fits, op_used, handler_used, no_fault}
-use Rattle.class_link.proofs.FitsAlike.{fits_same}
-use Rattle.code_forms.proofs.FormFacts.{NamesTarget, FindsTarget, MakesNested, FitsUse, CallsBySort, OwnsStatics, names_form, found_form, kind_form}
-
--- what is known of the code of a class file, beside its references
-pub record CodeRules (s : Setting) (slots : List (Option Entry)) (code : CodePart) : Type 0 where
-  pub nested : (j : ℕ) (o : RawOp) → slice_get code.code.ops j ≡ Some o → MakesNested o (target_of s slots (entry_of slots (index_in o)))
-  pub sorts : (j : ℕ) (o : RawOp) → slice_get code.code.ops j ≡ Some o → CallsBySort o (entry_of slots (index_in o))
-  pub caught : (j : ℕ) (h : RawHandler) → slice_get code.handlers j ≡ Some h → (h.catch_class ≡ 0) ⊎ NamesClass slots h.catch_class
-  pub body : IsBody (linked_body s slots code)
+use Rattle.code_forms.proofs.FormFacts.{IsTarget, IsRight, FitsUse, OwnsStatics, form_right}
+use Rattle.code_forms.proofs.ShapeFacts.{calls_by_sort}
 
 -- ---- targets
-
-names_target : (p : Program) (t : Target) → IsTarget p t → NamesTarget p t
-names_target p (target.Constant (Int n)) h = tt
-names_target p (target.Constant (Long n)) h = tt
-names_target p (target.Constant Null) h = tt
-names_target p (target.Constant (Lit n)) h = h
-names_target p (target.Constant (Obj o)) h = tt
-names_target p (target.Type k) h = h
-names_target p (target.Field c f) h = (h.0, h.1)
-names_target p (target.Method k m) h = (h.0, h.1)
-
-finds_target : (p : Program) (t : Target) → IsTarget p t → FindsTarget p t
-finds_target p (target.Constant v) h = tt
-finds_target p (target.Type k) h = tt
-finds_target p (target.Field c f) h = h.2
-finds_target p (target.Method k m) h = h.2
 
 -- what stands for something is there
 some_entry : (s : Setting) (slots : List (Option Entry)) (e : Option Entry) (t : Target) → target_of s slots e ≡ Some t → (x : Entry) × (e ≡ Some x)
@@ -90,22 +70,17 @@ mapped f (Some x) y e = (x, refl, (let q : Some (f x) ≡ Some y = e in cc))
 -- a class's kind is made of its number
 class_kind : (names : List (List ℕ)) (name : List ℕ) (d : ℕ) → kind_of names name ≡ Some (kind.Class d) → class_number names name ≡ Some d
 unfolding kind_of
-class_kind names name d e = elim (cases_Bool (starts_array name)) [
-  | inr f ↦ let m = mapped (λ c. kind.Class c) (class_number names name) (kind.Class d) (sym (cond-false (starts_array name) (array_kind names name) (option_map (λ c. kind.Class c) (class_number names name)) f) ∙ e) in
-      let q : m.0 ≡ d = (let z : kind.Class m.0 ≡ kind.Class d = m.2 in cc) in m.1 ∙ ap (λ (n : ℕ). Some n) q
-  | inl t ↦ no_array (sym (cond-true (starts_array name) (array_kind names name) (option_map (λ c. kind.Class c) (class_number names name)) t) ∙ e)
-]
-  where
-    no_array : array_kind names name ≡ Some (kind.Class d) → class_number names name ≡ Some d
-    no_array q = elim (cases_Bool (nat_le (dimensions name) 255)) [
-      | inl l ↦ let m = mapped (λ b. kind.Array (dimensions name) b) (base_of names (drop (dimensions name) name)) (kind.Class d)
-          (sym (cond-true (nat_le (dimensions name) 255) (option_map (λ b. kind.Array (dimensions name) b) (base_of names (drop (dimensions name) name))) None l) ∙ q) in absurd (let z = m.2 in cc)
-      | inr l ↦ absurd (let z = sym (cond-false (nat_le (dimensions name) 255) (option_map (λ b. kind.Array (dimensions name) b) (base_of names (drop (dimensions name) name))) None l) ∙ q in cc)
-    ]
+class_kind names name d = cond_both (starts_array name) _ _ (λ o. o ≡ Some (kind.Class d) → class_number names name ≡ Some d)
+    (λ _. cond_both (nat_le (dimensions name) 255) _ _ (λ o. o ≡ Some (kind.Class d) → class_number names name ≡ Some d)
+    (λ _ e. absurd (let z = (mapped (λ b. kind.Array (dimensions name) b) (base_of names (drop (dimensions name) name)) (kind.Class d) e).2 in cc))
+    (λ _ e. absurd (cc)))
+    (λ _ e.
+    let m = mapped (λ c. kind.Class c) (class_number names name) (kind.Class d) e in
+    let q : m.0 ≡ d = (let z : kind.Class m.0 ≡ kind.Class d = m.2 in cc) in m.1 ∙ ap (λ (n : ℕ). Some n) q)
 
 module _ (cs : List ClassParts) (tests : List TestEntry) (files : List (List ℕ × List ℕ)) (resolved : all_references_fault (setting cs) builtin_count cs ≡ None)
     (owners : (c : ℕ) (name descriptor : List ℕ) (m : ℕ) → find_method (program_of cs tests files) c name descriptor ≡ Some m → is_static (method_at (program_of cs tests files) m).flags ≡ true → is_interface_at (program_of cs tests files) (method_at (program_of cs tests files) m).class ≡ true → is_interface_at (program_of cs tests files) c ≡ true)
-    (i k : ℕ) (c : ClassParts) (x : MemberPart) (code : CodePart) (has_class : slice_get cs i ≡ Some c) (has_method : slice_get c.methods k ≡ Some x) (has_code : x.code ≡ Some code) (rules : CodeRules (setting cs) c.pool code) where
+    (i k : ℕ) (c : ClassParts) (x : MemberPart) (code : CodePart) (has_class : slice_get cs i ≡ Some c) (has_method : slice_get c.methods k ≡ Some x) (has_code : x.code ≡ Some code) (facts : PartFacts c.pool code) where
   abbrev p : Program
   p = program_of cs tests files
 
@@ -120,6 +95,9 @@ module _ (cs : List ClassParts) (tests : List TestEntry) (files : List (List ℕ
 
   is_there : (n : ℕ) (t : Target) → target_of (setting cs) c.pool (entry_of c.pool n) ≡ Some t → IsTarget p t
   is_there n t e = target_is body cs tests files i c n t has_class e
+
+  targets_there : (o : RawOp) → IfSome (at_op o) (IsTarget p)
+  targets_there o = if_some (IsTarget p) (at_op o) (is_there (index_in o))
 
   clean : references_fault (setting cs) (builtin_count + i) c ≡ None
   clean = no_fault (setting cs) builtin_count cs i c resolved has_class
@@ -137,14 +115,11 @@ module _ (cs : List ClassParts) (tests : List TestEntry) (files : List (List ℕ
 
   -- ---- instructions
 
-  op_names : (j : ℕ) (o : RawOp) → slice_get code.code.ops j ≡ Some o → NamesForm p (form_of (at_op o) o)
-  op_names j o e = names_form p (at_op o) o some_class (if_some (NamesTarget p) (at_op o) (λ t at. names_target p t (is_there (index_in o) t at))) (rules.nested j o e)
-
-  op_found : (o : RawOp) → IsFormFound p (form_of (at_op o) o)
-  op_found o = found_form p (at_op o) o (if_some (FindsTarget p) (at_op o) (λ t at. finds_target p t (is_there (index_in o) t at)))
-
-  op_kind : (j : ℕ) (o : RawOp) → slice_get code.code.ops j ≡ Some o → IsFormKind p (builtin_count + i) (form_of (at_op o) o)
-  op_kind j o e = kind_form p (builtin_count + i) (entry_of c.pool (index_in o)) (at_op o) o (fits_use j o e) (rules.sorts j o e) (owns o)
+  op_right : (j : ℕ) (o : RawOp) → slice_get code.code.ops j ≡ Some o → IsRight p (builtin_count + i) (form_of (at_op o) o)
+  op_right j o e =
+      let op = all_there (OpFacts c.pool code.code.ops code.code.length) code.code.ops j o facts.code.each e in
+      form_right p (builtin_count + i) (entry_of c.pool (index_in o)) (at_op o) o some_class (targets_there o) (makes_nested (setting cs) c.pool code.code.ops code.code.length o op) (fits_use j o e)
+      (calls_by_sort c.pool code.code.ops code.code.length o op) (owns o)
 
   -- ---- handlers
 
@@ -169,14 +144,11 @@ module _ (cs : List ClassParts) (tests : List TestEntry) (files : List (List ℕ
   caught_below : (n name : ℕ) (t : Target) → entry_of c.pool n ≡ Some (entry.Class name) → target_of (setting cs) c.pool (entry_of c.pool n) ≡ Some t → fits (skeleton cs) (builtin_count + i) (entry_of c.pool n) t used.Caught ≡ true →
       is_below p (number_or_first (all_names cs) (name_at c.pool n)) throwable_class ≡ true
   unfolding fits
-  caught_below n name (target.Constant v) is at h = absurd (cc)
   caught_below n name (target.Type (kind.Class d)) is at h = ap (λ (e : ℕ). is_below p e throwable_class) (caught_number n name d is at) ∙ (below_same body cs tests files d throwable_class ∙ h)
-  caught_below n name (target.Type (kind.Array e b)) is at h = absurd (cc)
-  caught_below n name (target.Field d f) is at h = absurd (cc)
-  caught_below n name (target.Method d m) is at h = absurd (cc)
+  caught_below n name _ is at h = absurd (cc)
 
   handler_kind : (j : ℕ) (h : RawHandler) → slice_get code.handlers j ≡ Some h → IfSome (caught (all_names cs) c.pool h.catch_class) (λ d. is_below p d throwable_class ≡ true)
-  handler_kind j h e = elim (rules.caught j h e) [
+  handler_kind j h e = elim (all_there (HandlerFacts c.pool code.code) code.handlers j h facts.handlers e).caught [
     | inl z ↦ let q : nat_eq h.catch_class 0 ≡ true = eq-eqb h.catch_class 0 z in rw q tt
     | inr n ↦ by_test (nat_eq h.catch_class 0) refl n
   ]
@@ -189,23 +161,23 @@ module _ (cs : List ClassParts) (tests : List TestEntry) (files : List (List ℕ
 
   -- ---- the body
 
-  at_place : {A : Type 0} (xs : List A) (j : ℕ) (d : A) → j < length xs → slice_get xs j ≡ Some (get_or xs j d)
-  at_place xs j d h = slice_get-get_or xs j d h
-
   pub names_body : NamesBody p (linked_body (setting cs) c.pool code)
   unfolding linked_body
   names_body = record {
-    forms = All-map (λ (y : Placed). NamesForm p y.form) (placed (setting cs) c.pool) code.code.ops (λ j d h. op_names j (get_or code.code.ops j d) (at_place code.code.ops j d h));
+    forms = All-map (λ (y : Placed). NamesForm p y.form) (placed (setting cs) c.pool) code.code.ops (λ j d h. (op_right j (get_or code.code.ops j d) (slice_get-get_or code.code.ops j d h)).0);
     handlers = All-map (λ (y : Handler). IfSome y.catches (λ d. IsClass p d)) (handler_rec (all_names cs) c.pool) code.handlers (λ j d h. caught_named (get_or code.handlers j d).catch_class);
   }
 
   pub body_kind : IsBodyKind p (builtin_count + i) (linked_body (setting cs) c.pool code)
   unfolding linked_body
   body_kind = record {
-    forms = All-map (λ (y : Placed). IsFormKind p (builtin_count + i) y.form) (placed (setting cs) c.pool) code.code.ops (λ j d h. op_kind j (get_or code.code.ops j d) (at_place code.code.ops j d h));
-    handlers = All-map (λ (y : Handler). IfSome y.catches (λ d. is_below p d throwable_class ≡ true)) (handler_rec (all_names cs) c.pool) code.handlers (λ j d h. handler_kind j (get_or code.handlers j d) (at_place code.handlers j d h));
+    forms = All-map (λ (y : Placed). IsFormKind p (builtin_count + i) y.form) (placed (setting cs) c.pool) code.code.ops (λ j d h. (op_right j (get_or code.code.ops j d) (slice_get-get_or code.code.ops j d h)).1);
+    handlers = All-map (λ (y : Handler). IfSome y.catches (λ d. is_below p d throwable_class ≡ true)) (handler_rec (all_names cs) c.pool) code.handlers (λ j d h. handler_kind j (get_or code.handlers j d) (slice_get-get_or code.handlers j d h));
   }
 
   pub body_found : All (λ (y : Placed). IsFormFound p y.form) (linked_body (setting cs) c.pool code).code
   unfolding linked_body
-  body_found = All-map (λ (y : Placed). IsFormFound p y.form) (placed (setting cs) c.pool) code.code.ops (λ j d h. op_found (get_or code.code.ops j d))
+  body_found = All-map (λ (y : Placed). IsFormFound p y.form) (placed (setting cs) c.pool) code.code.ops (λ j d h. (op_right j (get_or code.code.ops j d) (slice_get-get_or code.code.ops j d h)).2)
+
+  pub body_is : IsBody (linked_body (setting cs) c.pool code)
+  body_is = is_body p (setting cs) c.pool code facts targets_there

@@ -1,14 +1,16 @@
 -- Members are listed once, by their own classes, and names are in their forms.
 use Rattle.std.proofs.Common.{◌≡◌, ℕ, zero, suc, ◌+◌, ◌*◌, ◌/◌, ◌%◌, ◌<◌, ◌≤◌, List, [], length, get_or, slice_get, Bool, true, false, cond, nat_eq, nat_lt, nat_le, refl, sym, ◌∙◌, ap, subst, inl, inr, arith, Option, Some, None, IfSome, All}
-use Rattle.std.specs.Prelude.{is_some, is_none, option_map, unwrap_or, bit_and, ◌==◌, if◌then◌else◌}
-use Rattle.std.specs.List.{list_all, range_with_len}
+use Rattle.std.specs.Prelude.{is_some, is_none, option_map, unwrap_or, bit_and, ◌&&◌, ◌||◌, ◌==◌, if◌then◌else◌}
+use Rattle.std.specs.List.{range_with_len}
 use Rattle.std.proofs.lemmas.Bool.{and_parts, cases_order, or_cases, ltb-true, le-leb, eqb-true, eqb-false, ne_eqb, eq-eqb}
+use Rattle.std.proofs.lemmas.List.{get_or_append_left}
 use Rattle.std.proofs.lemmas.Nat.Bits.{and_pow}
 use Rattle.std.proofs.lemmas.Option.{slice_get_within, get_or_from_slice_get}
 use Rattle.class_pool.specs.declared.pool.Entry.{Entry}
 use Rattle.class_pool.proofs.EntryFacts.{NamesText, units_are}
 use Rattle.class_reader.specs.declared.parts.ClassParts.{ClassParts}
 use Rattle.class_reader.specs.declared.parts.CodePart.{CodePart}
+use Rattle.class_reader.specs.declared.parts.MemberPart.{MemberPart}
 use Rattle.class_reader.proofs.ClassFacts.{ClassFacts, own_name_is}
 use Rattle.class_reader.specs.Names.{own_units}
 use Rattle.class_reader.proofs.MemberFacts.{FieldFacts, MethodFacts, HasRoom}
@@ -25,14 +27,15 @@ use Rattle.jvm_model.specs.Library.{builtin_classes, builtin_fields, builtin_met
 use Rattle.jvm_model.specs.Classes.{class_at, field_at, method_at, no_class, no_field, no_method, is_static, clinit_name}
 use Rattle.jvm_model.specs.Driver.{no_arguments}
 use Rattle.jvm_model.specs.Linked.{IsClass, IsField, IsMethod, count, has_room, IsInitialiser, IsListed}
-use Rattle.jvm_model.proofs.BuiltinRules.{all_at, builtin_class, builtin_field, builtin_method, builtin_class_name, builtin_field_forms, builtin_method_forms, builtin_method_room}
+use Rattle.jvm_model.proofs.BuiltinRules.{all_at, builtin_class, builtin_method, builtin_class_name, builtin_field_forms, builtin_method_forms, builtin_method_room}
 use Rattle.class_link.specs.ClassNames.{text_at, own_name}
-use Rattle.class_link.specs.Assembly.{initialiser_from, method_rec, assembled}
-use Rattle.class_link.proofs.Blocks.{at_place, before}
-use Rattle.class_link.proofs.Assembled.{counts, own_fields, own_methods, holds_builtins, class_given, field_given, method_given, class_cases, field_cases, method_cases}
-use Rattle.class_link.proofs.Numbered.{units_true, if_some, all_range}
-use Rattle.class_link.proofs.Records.{initialiser_is, field_record, method_record}
-use Rattle.class_link.proofs.Tables.{all_from_at, own_field, own_method, lists_own, classes_own, method_listed, methods_listed, field_listed, fields_listed, top}
+use Rattle.class_link.specs.Literals.{literals}
+use Rattle.class_link.specs.Assembly.{initialiser_from, member_recs, method_rec, assembled}
+use Rattle.class_link.proofs.Blocks.{before, all_members, member_at, member_cases, all_numbers}
+use Rattle.class_link.proofs.Assembled.{counts, own_fields, own_methods, make_field, make_method, holds_builtins, class_given, method_given, class_cases, field_cases, method_cases}
+use Rattle.class_link.proofs.Numbered.{units_true, if_some}
+use Rattle.class_link.proofs.Records.{initialiser_is}
+use Rattle.class_link.proofs.Tables.{all_from, all_from_at, owns_members, fields_owned, methods_owned, is_once, fields_once, methods_once, is_under, classes_under, top}
 
 -- ---- a number stands once in a range
 
@@ -81,219 +84,178 @@ room_of flags slots i t r =
 abbrev pub AllKnown : List ClassParts → Type 0
 AllKnown cs = (i : ℕ) (c : ClassParts) → slice_get cs i ≡ Some c → ClassFacts c
 
--- ---- the laws
+-- ---- members of one sort
 
-module _ (body : ClassParts → CodePart → Body) (cs : List ClassParts) (tests : List TestEntry) (files : List (List ℕ × List ℕ)) (known : AllKnown cs) where
+module _ (body : ClassParts → CodePart → Body) (cs : List ClassParts) (tests : List TestEntry) (files : List (List ℕ × List ℕ)) where
   abbrev p : Program
   p = assembled body cs tests files
 
-  table_class : (c : ℕ) → c < builtin_count → lists_own c (class_at p c) ≡ true
-  table_class c g =
-      let n = counts.0 in
-      let z : 0 + c ≡ c = omega arith in
-      let q : lists_own (0 + c) (get_or builtin_classes c no_class) ≡ true = all_from_at lists_own 0 builtin_classes c no_class classes_own (omega arith) in
-      ap (lists_own c) (builtin_class p (holds_builtins body cs tests files) c g) ∙ rw z at q
+  -- fields or methods, by how a class lists them
+  module _ {X : Type 0} (make : ClassParts → ℕ → MemberPart → X) (members : ClassParts → List MemberPart) (built_in : List X) (none : X) (class : X → ℕ) (list : ClassRec → List ℕ)
+      (made : (c : ClassParts) (n : ℕ) (x : MemberPart) → class (make c n x) ≡ n)
+      (listed : (i : ℕ) (c : ClassParts) → slice_get cs i ≡ Some c → list (class_at p (builtin_count + i)) ≡ range_with_len (length built_in + before members cs i) (length (members c))) where
+    abbrev at : ℕ → X
+    at j = get_or (all_members make members built_in none cs) j none
 
-  fields_once : (f : ℕ) → IsField p f → count f (class_at p (field_at p f).class).fields ≡ 1
-  fields_once f h = elim (field_cases body cs tests files f h) [
-    | inl g ↦
-        let b = holds_builtins body cs tests files in
-        let n = counts.1 in
-        let x = get_or builtin_fields f no_field in
-        let z : 0 + f ≡ f = omega arith in
-        let s : field_listed (0 + f) x ≡ true = all_from_at field_listed 0 builtin_fields f no_field fields_listed (omega arith) in
-        let t : field_listed f x ≡ true = rw z at s in
-        let q = and_parts (nat_lt x.class builtin_count) _ t in
-        ap (λ (y : FieldRec). count f (class_at p y.class).fields) (builtin_field p b f g)
-        ∙ (ap (λ (y : ClassRec). count f y.fields) (builtin_class p b x.class (ltb-true x.class builtin_count q.0))
-        ∙ eqb-true _ 1 q.1)
-    | inr g ↦
-        let o = g.of in
-        let e : f ≡ length builtin_fields + (before own_fields cs o.class + o.index) = g.number ∙ ap (λ (n : ℕ). length builtin_fields + n) o.place in
-        let w = slice_get_within (own_fields o.parts) o.index o.member o.has_member in
-        ap (λ (y : FieldRec). count f (class_at p y.class).fields) (field_record body cs tests files f g)
-        ∙ (ap (λ (y : ClassRec). count f y.fields) (class_given body cs tests files o.class o.parts o.has_class)
-        ∙ count_range f (length builtin_fields + before own_fields cs o.class) (length o.parts.fields) (omega arith) (omega arith))
-  ]
+    built_in_at : (j : ℕ) → j < length built_in → at j ≡ get_or built_in j none
+    built_in_at j h = get_or_append_left built_in (member_recs make members builtin_count cs) none j h
 
-  methods_once : (m : ℕ) → IsMethod p m → count m (class_at p (method_at p m).class).methods ≡ 1
-  methods_once m h = elim (method_cases body cs tests files m h) [
-    | inl g ↦
-        let b = holds_builtins body cs tests files in
-        let n = counts.2 in
-        let x = get_or builtin_methods m no_method in
-        let z : 0 + m ≡ m = omega arith in
-        let s : method_listed (0 + m) x ≡ true = all_from_at method_listed 0 builtin_methods m no_method methods_listed (omega arith) in
-        let t : method_listed m x ≡ true = rw z at s in
-        let q = and_parts (nat_lt x.class builtin_count) _ t in
-        ap (λ (y : MethodRec). count m (class_at p y.class).methods) (builtin_method p b m g)
-        ∙ (ap (λ (y : ClassRec). count m y.methods) (builtin_class p b x.class (ltb-true x.class builtin_count q.0))
-        ∙ eqb-true _ 1 q.1)
-    | inr g ↦
-        let o = g.of in
-        let e : m ≡ length builtin_methods + (before own_methods cs o.class + o.index) = g.number ∙ ap (λ (n : ℕ). length builtin_methods + n) o.place in
-        let w = slice_get_within (own_methods o.parts) o.index o.member o.has_member in
-        ap (λ (y : MethodRec). count m (class_at p y.class).methods) (method_record body cs tests files m g)
-        ∙ (ap (λ (y : ClassRec). count m y.methods) (class_given body cs tests files o.class o.parts o.has_class)
-        ∙ count_range m (length builtin_methods + before own_methods cs o.class) (length o.parts.methods) (omega arith) (omega arith))
-  ]
-
-  -- ---- members are those of their class
-
-  own_fields_of : (c : ℕ) → IsClass p c → All (λ f. (field_at p f).class ≡ c) (class_at p c).fields
-  own_fields_of c h = elim (class_cases body cs tests files c h) [
-    | inl g ↦
-        let q = and_parts (list_all (own_field c) (class_at p c).fields) _ (and_parts _ _ (table_class c g)).0 in
-        λ k d l.
-        let f = get_or (class_at p c).fields k d in
-        let r = and_parts (nat_lt f 2) _ (all_at (own_field c) (class_at p c).fields k d q.0 l) in
-        ap (λ (y : FieldRec). y.class) (builtin_field p (holds_builtins body cs tests files) f (ltb-true f 2 r.0)) ∙ eqb-true _ c r.1
-    | inr g ↦
-        let own : All (λ f. (field_at p f).class ≡ builtin_count + g.index) (range_with_len (length builtin_fields + before own_fields cs g.index) (length g.parts.fields)) =
-        all_range (λ f. (field_at p f).class ≡ builtin_count + g.index) (length builtin_fields + before own_fields cs g.index) (length g.parts.fields) (λ k l.
-        let a = at_place g.parts.fields k l in
-        let z : (length builtin_fields + before own_fields cs g.index) + k ≡ length builtin_fields + (before own_fields cs g.index + k) = omega arith in
-        ap (λ (n : ℕ). (field_at p n).class) z ∙ ap (λ (y : FieldRec). y.class) (field_given body cs tests files g.index k g.parts a.item g.there a.there)) in
-        subst (λ n. All (λ f. (field_at p f).class ≡ n) (class_at p n).fields) (sym g.number)
-        (subst (λ (y : ClassRec). All (λ f. (field_at p f).class ≡ builtin_count + g.index) y.fields) (sym (class_given body cs tests files g.index g.parts g.there)) own)
-  ]
-
-  own_methods_of : (c : ℕ) → IsClass p c → All (λ m. (method_at p m).class ≡ c) (class_at p c).methods
-  own_methods_of c h = elim (class_cases body cs tests files c h) [
-    | inl g ↦
-        let q = and_parts (list_all (own_field c) (class_at p c).fields) _ (and_parts _ _ (table_class c g)).0 in
-        λ k d l.
-        let m = get_or (class_at p c).methods k d in
-        let r = and_parts (nat_lt m 102) _ (all_at (own_method c) (class_at p c).methods k d q.1 l) in
-        ap (λ (y : MethodRec). y.class) (builtin_method p (holds_builtins body cs tests files) m (ltb-true m 102 r.0)) ∙ eqb-true _ c r.1
-    | inr g ↦
-        let own : All (λ m. (method_at p m).class ≡ builtin_count + g.index) (range_with_len (length builtin_methods + before own_methods cs g.index) (length g.parts.methods)) =
-        all_range (λ m. (method_at p m).class ≡ builtin_count + g.index) (length builtin_methods + before own_methods cs g.index) (length g.parts.methods) (λ k l.
-        let a = at_place g.parts.methods k l in
-        let z : (length builtin_methods + before own_methods cs g.index) + k ≡ length builtin_methods + (before own_methods cs g.index + k) = omega arith in
-        ap (λ (n : ℕ). (method_at p n).class) z ∙ ap (λ (y : MethodRec). y.class) (method_given body cs tests files g.index k g.parts a.item g.there a.there)) in
-        subst (λ n. All (λ m. (method_at p m).class ≡ n) (class_at p n).methods) (sym g.number)
-        (subst (λ (y : ClassRec). All (λ m. (method_at p m).class ≡ builtin_count + g.index) y.methods) (sym (class_given body cs tests files g.index g.parts g.there)) own)
-  ]
-
-  -- ---- names
-
-  named_class : (c : ℕ) → IsClass p c → is_class_name (class_at p c).name ≡ true
-  named_class c h = elim (class_cases body cs tests files c h) [
-    | inl g ↦ builtin_class_name p (holds_builtins body cs tests files) c g
-    | inr g ↦
-        let o = (known g.index g.parts g.there).this_class in
-        let e : own_name g.parts ≡ o.text.units = ap (λ (x : Option (List ℕ)). unwrap_or x []) (own_name_is g.parts.pool g.parts.this_class o) in
-        ap (λ (n : ℕ). is_class_name (class_at p n).name) g.number
-        ∙ (ap (λ (y : ClassRec). is_class_name y.name) (class_given body cs tests files g.index g.parts g.there) ∙ (ap is_class_name e ∙ o.text.fits))
-  ]
-
-  named_field : (f : ℕ) → IsField p f → (is_unqualified (field_at p f).name ≡ true) × (is_field_descriptor (field_at p f).descriptor ≡ true)
-  named_field f h = elim (field_cases body cs tests files f h) [
-    | inl g ↦ builtin_field_forms p (holds_builtins body cs tests files) f g
-    | inr g ↦
-        let o = g.of in
-        let x : FieldFacts o.parts.pool o.member = all_there (FieldFacts o.parts.pool) o.parts.fields o.index o.member (known o.class o.parts o.has_class).fields.each o.has_member in
-        subst (λ (y : FieldRec). (is_unqualified y.name ≡ true) × (is_field_descriptor y.descriptor ≡ true)) (sym (field_record body cs tests files f g))
-        (text_fits is_unqualified o.parts.pool o.member.name x.name, text_fits is_field_descriptor o.parts.pool o.member.descriptor x.descriptor)
-  ]
-
-  named_method : (m : ℕ) → IsMethod p m → (is_method_name (method_at p m).name ≡ true) × (is_method_descriptor (method_at p m).descriptor ≡ true)
-  named_method m h = elim (method_cases body cs tests files m h) [
-    | inl g ↦ builtin_method_forms p (holds_builtins body cs tests files) m g
-    | inr g ↦
-        let o = g.of in
-        let x : MethodFacts o.parts.pool o.member = all_there (MethodFacts o.parts.pool) o.parts.methods o.index o.member (known o.class o.parts o.has_class).methods.each o.has_member in
-        subst (λ (y : MethodRec). (is_method_name y.name ≡ true) × (is_method_descriptor y.descriptor ≡ true)) (sym (method_record body cs tests files m g))
-        (text_fits is_method_name o.parts.pool o.member.name x.name, text_fits is_method_descriptor o.parts.pool o.member.descriptor x.descriptor)
-  ]
-
-  roomy_method : (m : ℕ) → IsMethod p m → has_room (method_at p m).flags (argument_units (method_at p m).descriptor) ≡ true
-  roomy_method m h = elim (method_cases body cs tests files m h) [
-    | inl g ↦ builtin_method_room p (holds_builtins body cs tests files) m g
-    | inr g ↦
-        let o = g.of in
-        let x : MethodFacts o.parts.pool o.member = all_there (MethodFacts o.parts.pool) o.parts.methods o.index o.member (known o.class o.parts o.has_class).methods.each o.has_member in
-        subst (λ (y : MethodRec). has_room y.flags (argument_units y.descriptor) ≡ true) (sym (method_record body cs tests files m g))
-        (room_of o.member.flags o.parts.pool o.member.descriptor x.descriptor x.room)
-  ]
-
-  -- ---- superclasses, initialisers and built-in methods
-
-  root_is : (c : ℕ) → IsClass p c → (class_at p c).superclass ≡ None → c ≡ object_class
-  root_is c h e = elim (class_cases body cs tests files c h) [
-    | inl g ↦ elim (or_cases (is_some (class_at p c).superclass) (nat_eq c 0) (and_parts _ _ (and_parts _ _ (table_class c g)).1).1) [
-      | inl s ↦ absurd (let z : is_some (class_at p c).superclass ≡ false = rw e refl in cc)
-      | inr z ↦ eqb-true c 0 z
+    -- a member is listed once, by its class
+    once : all_from (is_once class list) 0 built_in ≡ true → (j : ℕ) → j < length (all_members make members built_in none cs) → count j (list (class_at p (class (at j)))) ≡ 1
+    once table j h = elim (member_cases make members built_in none cs j h) [
+      | inl g ↦
+          let x = get_or built_in j none in
+          let q = and_parts (nat_lt (class x) builtin_count) _ (all_from_at (is_once class list) built_in j none table g) in
+          ap (λ y. count j (list (class_at p (class y)))) (built_in_at j g)
+          ∙ ap (λ (r : ClassRec). count j (list r)) (builtin_class p (holds_builtins body cs tests files) (class x) (ltb-true (class x) builtin_count q.0))
+          ∙ eqb-true _ 1 q.1
+      | inr g ↦
+          let w = slice_get_within (members g.parts) g.index g.member g.has_member in
+          let e = g.place in
+          ap (λ y. count j (list (class_at p (class y)))) g.is ∙ ap (λ n. count j (list (class_at p n))) (made g.parts (builtin_count + g.class) g.member) ∙ ap (count j) (listed g.class g.parts g.has_class)
+          ∙ count_range j (length built_in + before members cs g.class) (length (members g.parts)) (omega arith) (omega arith)
     ]
-    | inr g ↦
-        let s : (class_at p c).superclass ≡ Some _ = ap (λ (n : ℕ). (class_at p n).superclass) g.number ∙ ap (λ (y : ClassRec). y.superclass) (class_given body cs tests files g.index g.parts g.there) in
-        absurd (cc)
-  ]
 
-  top_is : (class_at p object_class).superclass ≡ None
-  top_is = ap (λ (y : ClassRec). y.superclass) (builtin_class p (holds_builtins body cs tests files) 0 (omega arith)) ∙ top
+    -- and a class lists its own
+    own : all_from (owns_members class list built_in none) 0 builtin_classes ≡ true → (c : ℕ) → IsClass p c → All (λ j. class (at j) ≡ c) (list (class_at p c))
+    own table c h = elim (class_cases body cs tests files c h) [
+      | inl g ↦
+          let n = counts.0 in
+          let t : owns_members class list built_in none c (class_at p c) ≡ true =
+          ap (owns_members class list built_in none c) (builtin_class p (holds_builtins body cs tests files) c g) ∙ all_from_at (owns_members class list built_in none) builtin_classes c no_class table (omega arith) in
+          λ k d l.
+          let j = get_or (list (class_at p c)) k d in
+          let q = and_parts (nat_lt j (length built_in)) _ (all_at (λ j. nat_lt j (length built_in) && nat_eq (class (get_or built_in j none)) c) (list (class_at p c)) k d t l) in
+          ap class (built_in_at j (ltb-true j (length built_in) q.0)) ∙ eqb-true _ c q.1
+      | inr g ↦
+          subst (λ n. All (λ j. class (at j) ≡ n) (list (class_at p n))) (sym g.number)
+          (subst (λ js. All (λ j. class (at j) ≡ builtin_count + g.index) js) (sym (listed g.index g.parts g.there))
+          (all_numbers make members built_in none cs (λ j. class (at j) ≡ builtin_count + g.index) g.index g.parts (λ k x there. ap class (member_at make members built_in none cs g.index k g.parts x g.there there).1 ∙ made g.parts (builtin_count + g.index) x)))
+    ]
 
-  initialiser_made : (i : ℕ) (c : ClassParts) → slice_get cs i ≡ Some c → (m : ℕ) → initialiser_from (length builtin_methods + before own_methods cs i) c.pool c.methods ≡ Some m → IsInitialiser p (builtin_count + i) m
-  initialiser_made i c h m e =
-      let r = initialiser_is (length builtin_methods + before own_methods cs i) c.pool c.methods m e in
-      let x = r.member in
-      let z : m ≡ length builtin_methods + (before own_methods cs i + r.index) = (let k = r.number in omega arith) in
-      let y : method_at p m ≡ method_rec (body c) c.pool (builtin_count + i) x = ap (λ (n : ℕ). method_at p n) z ∙ method_given body cs tests files i r.index c x h r.there in
-      let a = and_parts (is_static x.flags) _ r.is in
-      let b = and_parts (bytes_eq (text_at c.pool x.name) clinit_name) _ a.1 in
-      let d = and_parts (bytes_eq (text_at c.pool x.descriptor) no_arguments) (is_some x.code) b.1 in
-      record {
-        own = ap (λ (y : MethodRec). y.class) y;
-        static = ap (λ (y : MethodRec). is_static y.flags) y ∙ a.0;
-        name = ap (λ (y : MethodRec). y.name) y ∙ units_true _ _ b.0;
-        descriptor = ap (λ (y : MethodRec). y.descriptor) y ∙ units_true _ _ d.0;
-        code = ap (λ (y : MethodRec). is_some y.body) y ∙ mapped x.code d.1;
-      }
-    where
-      mapped : (o : Option CodePart) → is_some o ≡ true → is_some (option_map (body c) o) ≡ true
-      mapped None q = q
-      mapped (Some x) q = refl
+  -- ---- the laws
 
-  initialisers_are : (c : ℕ) → IsClass p c → IfSome (class_at p c).initialiser (λ m. IsInitialiser p c m)
-  initialisers_are c h = elim (class_cases body cs tests files c h) [
-    | inl g ↦ no_value (class_at p c).initialiser (λ m. IsInitialiser p c m) (and_parts _ _ (and_parts _ _ (table_class c g)).1).0
-    | inr g ↦
-        subst (λ n. IfSome (class_at p n).initialiser (λ m. IsInitialiser p n m)) (sym g.number)
-        (subst (λ (y : ClassRec). IfSome y.initialiser (λ m. IsInitialiser p (builtin_count + g.index) m)) (sym (class_given body cs tests files g.index g.parts g.there))
-        (if_some (λ m. IsInitialiser p (builtin_count + g.index) m) (initialiser_from (length builtin_methods + before own_methods cs g.index) g.parts.pool g.parts.methods) (initialiser_made g.index g.parts g.there)))
-  ]
-    where
-      no_value : (o : Option ℕ) (Q : ℕ → Type 0) → is_none o ≡ true → IfSome o Q
-      no_value None Q q = tt
-      no_value (Some x) Q q = absurd (cc)
+  module _ (known : AllKnown cs) where
+    -- ---- names
 
-  no_natives : (m : ℕ) → IsMethod p m → builtin_count ≤ (method_at p m).class → (method_at p m).native ≡ None
-  no_natives m h l = elim (method_cases body cs tests files m h) [
-    | inl g ↦
-        let n = counts.2 in
-        let x = get_or builtin_methods m no_method in
-        let z : 0 + m ≡ m = omega arith in
-        let s : method_listed (0 + m) x ≡ true = all_from_at method_listed 0 builtin_methods m no_method methods_listed (omega arith) in
-        let t : method_listed m x ≡ true = rw z at s in
-        let w : x.class < builtin_count = ltb-true x.class builtin_count (and_parts (nat_lt x.class builtin_count) _ t).0 in
-        let e : (method_at p m).class ≡ x.class = ap (λ (y : MethodRec). y.class) (builtin_method p (holds_builtins body cs tests files) m g) in
-        absurd (omega arith)
-    | inr g ↦ ap (λ (y : MethodRec). y.native) (method_record body cs tests files m g)
-  ]
+    named_class : (c : ℕ) → IsClass p c → is_class_name (class_at p c).name ≡ true
+    named_class c h = elim (class_cases body cs tests files c h) [
+      | inl g ↦ builtin_class_name p (holds_builtins body cs tests files) c g
+      | inr g ↦
+          let o = (known g.index g.parts g.there).this_class in
+          let e : own_name g.parts ≡ o.text.units = ap (λ (x : Option (List ℕ)). unwrap_or x []) (own_name_is g.parts.pool g.parts.this_class o) in
+          ap (λ (n : ℕ). is_class_name (class_at p n).name) g.number
+          ∙ (ap (λ (y : ClassRec). is_class_name y.name) (class_given body cs tests files g.index g.parts g.there) ∙ (ap is_class_name e ∙ o.text.fits))
+    ]
 
-  pub is_listed : IsListed p
-  is_listed = record {
-    fields = fields_once;
-    methods = methods_once;
-    own_fields = own_fields_of;
-    own_methods = own_methods_of;
-    class_names = named_class;
-    field_names = named_field;
-    method_names = named_method;
-    arguments = roomy_method;
-    root = root_is;
-    top = top_is;
-    initialisers = initialisers_are;
-    natives = no_natives;
-  }
+    named_field : (f : ℕ) → IsField p f → (is_unqualified (field_at p f).name ≡ true) × (is_field_descriptor (field_at p f).descriptor ≡ true)
+    named_field f h = elim (field_cases body cs tests files f h) [
+      | inl g ↦ builtin_field_forms p (holds_builtins body cs tests files) f g
+      | inr g ↦
+          let x : FieldFacts g.parts.pool g.member = all_there (FieldFacts g.parts.pool) g.parts.fields g.index g.member (known g.class g.parts g.has_class).fields.each g.has_member in
+          subst (λ (y : FieldRec). (is_unqualified y.name ≡ true) × (is_field_descriptor y.descriptor ≡ true)) (sym g.is)
+          (text_fits is_unqualified g.parts.pool g.member.name x.name, text_fits is_field_descriptor g.parts.pool g.member.descriptor x.descriptor)
+    ]
+
+    named_method : (m : ℕ) → IsMethod p m → (is_method_name (method_at p m).name ≡ true) × (is_method_descriptor (method_at p m).descriptor ≡ true)
+    named_method m h = elim (method_cases body cs tests files m h) [
+      | inl g ↦ builtin_method_forms p (holds_builtins body cs tests files) m g
+      | inr g ↦
+          let x : MethodFacts g.parts.pool g.member = all_there (MethodFacts g.parts.pool) g.parts.methods g.index g.member (known g.class g.parts g.has_class).methods.each g.has_member in
+          subst (λ (y : MethodRec). (is_method_name y.name ≡ true) × (is_method_descriptor y.descriptor ≡ true)) (sym g.is)
+          (text_fits is_method_name g.parts.pool g.member.name x.name, text_fits is_method_descriptor g.parts.pool g.member.descriptor x.descriptor)
+    ]
+
+    roomy_method : (m : ℕ) → IsMethod p m → has_room (method_at p m).flags (argument_units (method_at p m).descriptor) ≡ true
+    roomy_method m h = elim (method_cases body cs tests files m h) [
+      | inl g ↦ builtin_method_room p (holds_builtins body cs tests files) m g
+      | inr g ↦
+          let x : MethodFacts g.parts.pool g.member = all_there (MethodFacts g.parts.pool) g.parts.methods g.index g.member (known g.class g.parts g.has_class).methods.each g.has_member in
+          subst (λ (y : MethodRec). has_room y.flags (argument_units y.descriptor) ≡ true) (sym g.is)
+          (room_of g.member.flags g.parts.pool g.member.descriptor x.descriptor x.room)
+    ]
+
+    -- ---- superclasses, initialisers and built-in methods
+
+    under : (c : ℕ) → c < builtin_count → is_under c (class_at p c) ≡ true
+    under c h = let n = counts.0 in ap (is_under c) (builtin_class p (holds_builtins body cs tests files) c h) ∙ all_from_at is_under builtin_classes c no_class classes_under (omega arith)
+
+    root_is : (c : ℕ) → IsClass p c → (class_at p c).superclass ≡ None → c ≡ object_class
+    root_is c h e = elim (class_cases body cs tests files c h) [
+      | inl g ↦ elim (or_cases (is_some (class_at p c).superclass) (nat_eq c 0) (and_parts (is_none (class_at p c).initialiser) _ (under c g)).1) [
+        | inl s ↦ absurd (let z : is_some (class_at p c).superclass ≡ false = rw e refl in cc)
+        | inr z ↦ eqb-true c 0 z
+      ]
+      | inr g ↦
+          let s : (class_at p c).superclass ≡ Some _ = ap (λ (n : ℕ). (class_at p n).superclass) g.number ∙ ap (λ (y : ClassRec). y.superclass) (class_given body cs tests files g.index g.parts g.there) in
+          absurd (cc)
+    ]
+
+    top_is : (class_at p object_class).superclass ≡ None
+    top_is = ap (λ (y : ClassRec). y.superclass) (builtin_class p (holds_builtins body cs tests files) 0 (omega arith)) ∙ top
+
+    initialiser_made : (i : ℕ) (c : ClassParts) → slice_get cs i ≡ Some c → (m : ℕ) → initialiser_from (length builtin_methods + before own_methods cs i) c.pool c.methods ≡ Some m → IsInitialiser p (builtin_count + i) m
+    initialiser_made i c h m e =
+        let r = initialiser_is (length builtin_methods + before own_methods cs i) c.pool c.methods m e in
+        let x = r.member in
+        let y : method_at p m ≡ method_rec (body c) c.pool (builtin_count + i) x = ap (λ (n : ℕ). method_at p n) r.number ∙ (method_given body cs tests files i r.index c x h r.there).1 in
+        let a = and_parts (is_static x.flags) _ r.is in
+        let b = and_parts (bytes_eq (text_at c.pool x.name) clinit_name) _ a.1 in
+        let d = and_parts (bytes_eq (text_at c.pool x.descriptor) no_arguments) (is_some x.code) b.1 in
+        record {
+          own = ap (λ (y : MethodRec). y.class) y;
+          static = ap (λ (y : MethodRec). is_static y.flags) y ∙ a.0;
+          name = ap (λ (y : MethodRec). y.name) y ∙ units_true _ _ b.0;
+          descriptor = ap (λ (y : MethodRec). y.descriptor) y ∙ units_true _ _ d.0;
+          code = ap (λ (y : MethodRec). is_some y.body) y ∙ mapped x.code d.1;
+        }
+      where
+        mapped : (o : Option CodePart) → is_some o ≡ true → is_some (option_map (body c) o) ≡ true
+        mapped None q = q
+        mapped (Some x) q = refl
+
+    initialisers_are : (c : ℕ) → IsClass p c → IfSome (class_at p c).initialiser (λ m. IsInitialiser p c m)
+    initialisers_are c h = elim (class_cases body cs tests files c h) [
+      | inl g ↦ no_value (class_at p c).initialiser (λ m. IsInitialiser p c m) (and_parts _ (is_some (class_at p c).superclass || nat_eq c 0) (under c g)).0
+      | inr g ↦
+          subst (λ n. IfSome (class_at p n).initialiser (λ m. IsInitialiser p n m)) (sym g.number)
+          (subst (λ (y : ClassRec). IfSome y.initialiser (λ m. IsInitialiser p (builtin_count + g.index) m)) (sym (class_given body cs tests files g.index g.parts g.there))
+          (if_some (λ m. IsInitialiser p (builtin_count + g.index) m) (initialiser_from (length builtin_methods + before own_methods cs g.index) g.parts.pool g.parts.methods) (initialiser_made g.index g.parts g.there)))
+    ]
+      where
+        no_value : (o : Option ℕ) (Q : ℕ → Type 0) → is_none o ≡ true → IfSome o Q
+        no_value None Q q = tt
+        no_value (Some x) Q q = absurd (cc)
+
+    no_natives : (m : ℕ) → IsMethod p m → builtin_count ≤ (method_at p m).class → (method_at p m).native ≡ None
+    no_natives m h l = elim (method_cases body cs tests files m h) [
+      | inl g ↦
+          let n = counts.2 in
+          let x = get_or builtin_methods m no_method in
+          let w : x.class < builtin_count = ltb-true x.class builtin_count (and_parts (nat_lt x.class builtin_count) _ (all_from_at (is_once (λ (y : MethodRec). y.class) (λ r. r.methods)) builtin_methods m no_method methods_once (omega arith))).0 in
+          let e : (method_at p m).class ≡ x.class = ap (λ (y : MethodRec). y.class) (builtin_method p (holds_builtins body cs tests files) m g) in
+          absurd (omega arith)
+      | inr g ↦ ap (λ (y : MethodRec). y.native) g.is
+    ]
+
+    pub is_listed : IsListed p
+    unfolding assembled
+    is_listed =
+        let fields : FieldRec → ℕ = λ x. x.class in
+        let methods : MethodRec → ℕ = λ x. x.class in
+        let field_lists = λ (i : ℕ) (c : ClassParts) (h : slice_get cs i ≡ Some c). ap (λ (r : ClassRec). r.fields) (class_given body cs tests files i c h) in
+        let method_lists = λ (i : ℕ) (c : ClassParts) (h : slice_get cs i ≡ Some c). ap (λ (r : ClassRec). r.methods) (class_given body cs tests files i c h) in
+        record {
+          fields = once (make_field (literals cs)) own_fields builtin_fields no_field fields (λ r. r.fields) (λ c n x. refl) field_lists fields_once;
+          methods = once (make_method body) own_methods builtin_methods no_method methods (λ r. r.methods) (λ c n x. refl) method_lists methods_once;
+          own_fields = own (make_field (literals cs)) own_fields builtin_fields no_field fields (λ r. r.fields) (λ c n x. refl) field_lists fields_owned;
+          own_methods = own (make_method body) own_methods builtin_methods no_method methods (λ r. r.methods) (λ c n x. refl) method_lists methods_owned;
+          class_names = named_class;
+          field_names = named_field;
+          method_names = named_method;
+          arguments = roomy_method;
+          root = root_is;
+          top = top_is;
+          initialisers = initialisers_are;
+          natives = no_natives;
+        }

@@ -1,6 +1,7 @@
 -- The marks of entries say of each how it is used.
 use Rattle.std.proofs.Common.{◌≡◌, ℕ, zero, suc, ◌+◌, ◌-◌, ◌<◌, ◌≤◌, List, [], ◌∷◌, length, replicate, Bool, true, false, ◌&&◌, cond, nat_eq, slice_set, slice_index_or, refl, sym, ◌∙◌, ap, subst, arith, Option, Some, None, Ok}
 use Rattle.std.specs.List.{list_all, range_with_len}
+use Rattle.std.proofs.Math.Bool.{and-true, and_assoc}
 use Rattle.std.proofs.lemmas.Bool.{eqb-true, eq-eqb, ne_eqb}
 use Rattle.std.proofs.lemmas.List.{get_or-set_same, get_or-set_other, get_or-replicate, length-set, length-replicate}
 use Rattle.class_pool.specs.declared.pool.Entry.{Entry}
@@ -24,17 +25,9 @@ abbrev after : (Use → Bool) → Option Bool → List Use → Option Bool
 after f o [] = o
 after f o (u ∷ us) = after f (marked_with o (f u)) us
 
-and_true : (b : Bool) → b ≡ (b && true)
-and_true true = refl
-and_true false = refl
-
-and_joined : (a b c : Bool) → ((a && b) && c) ≡ (a && (b && c))
-and_joined true b c = refl
-and_joined false b c = refl
-
 after_some : (f : Use → Bool) (b : Bool) (us : List Use) → after f (Some b) us ≡ Some (b && list_all f us)
-after_some f b [] = ap (λ a. Some a) (and_true b)
-after_some f b (u ∷ us) = after_some f (b && f u) us ∙ ap (λ a. Some a) (and_joined b (f u) (list_all f us))
+after_some f b [] = ap (λ a. Some a) (sym (and-true b))
+after_some f b (u ∷ us) = after_some f (b && f u) us ∙ ap (λ a. Some a) (and_assoc b (f u) (list_all f us))
 
 after_none : (f : Use → Bool) (us : List Use) → after f None us ≡ mark_of f us
 after_none f [] = refl

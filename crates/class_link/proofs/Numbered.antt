@@ -1,11 +1,9 @@
 -- Names to numbers: a class's number names an entry of the program, and that entry has the name.
 use Rattle.std.proofs.Common.{◌≡◌, ℕ, ◌+◌, ◌-◌, ◌<◌, List, [], ◌∷◌, ◌++◌, length, map, get_or, true, refl, sym, ◌∙◌, ap, subst, arith, Option, Some, None, IfSome, All}
-use Rattle.std.specs.Prelude.{flat_map, option_and_then, unwrap_or}
-use Rattle.std.specs.List.{range_with_len}
+use Rattle.std.specs.Prelude.{flat_map, unwrap_or}
 use Rattle.std.proofs.lemmas.List.{length-map, map-append, get_or-map}
-use Rattle.std.proofs.lemmas.List.Elements.{All-nil, All-cons, All-head, All-tail, All-append, All-filter, All-from_get_or}
+use Rattle.std.proofs.lemmas.List.Elements.{All-nil, All-cons, All-head, All-tail, All-append, All-filter}
 use Rattle.std.proofs.lemmas.Slice.Eq.{bytes_eq-Decides}
-use Rattle.std.proofs.lemmas.List.FromFn.{length-range_with_len, get_or-range_with_len}
 use Rattle.std.proofs.lemmas.List.Quantifiers.{position-Some}
 use Rattle.class_reader.specs.declared.parts.ClassParts.{ClassParts}
 use Rattle.class_reader.specs.declared.parts.CodePart.{CodePart}
@@ -20,7 +18,6 @@ use Rattle.jvm_model.specs.Classes.{class_at, no_class, first_mentions}
 use Rattle.jvm_model.specs.Linked.{IsClass}
 use Rattle.class_link.specs.ClassNames.{own_name, all_names, class_number, number_or_first}
 use Rattle.class_link.specs.Assembly.{class_recs, assembled}
-use Rattle.std.specs.Option.{option_to_list}
 use Rattle.class_link.proofs.Assembled.{class_count}
 
 -- ---- units
@@ -36,9 +33,6 @@ units_same x y e = (bytes_eq-Decides x y).1 e
 pub if_some : {A : Type 0} (P : A → Type 0) (o : Option A) → ((x : A) → o ≡ Some x → P x) → IfSome o P
 if_some P None f = tt
 if_some P (Some x) f = f x refl
-
-pub all_range : (P : ℕ → Type 0) (a n : ℕ) → ((k : ℕ) → k < n → P (a + k)) → All P (range_with_len a n)
-all_range P a n f = All-from_get_or P (range_with_len a n) 0 (λ i h. let l = length-range_with_len a n in let g : i < n = omega arith in subst P (sym (get_or-range_with_len a n i 0 g)) (f i g))
 
 pub all_flat : {A : Type 0} (P : ℕ → Type 0) (f : A → List ℕ) (xs : List A) → ((x : A) → All P (f x)) → All P (flat_map f xs)
 all_flat P f [] h = All-nil P

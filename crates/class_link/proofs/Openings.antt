@@ -1,6 +1,7 @@
 -- Fields open with values of their types.
 use Rattle.std.proofs.Common.{◌≡◌, ℕ, suc, ◌<◌, ◌≤◌, ◌-◌, ◌%◌, ℤ, pos, negsuc, List, [], ◌∷◌, length, slice_get, true, false, ◌&&◌, nat_eq, nat_le, nat_lt, refl, sym, ◌∙◌, ap, subst, inl, inr, arith, Option, Some, None, IfSome, codes}
 use Rattle.std.specs.Prelude.{FitsSigned, int_le, int_lt}
+use Rattle.std.specs.List.{AllByRecursion}
 use Rattle.std.proofs.lemmas.Bool.{cases_Bool, or_cases, and_from, eqb-true, ne_eqb, lt-ltb, le-leb}
 use Rattle.std.specs.Int.{w8, w16, int_wrap, int_rem_euclid}
 use Rattle.std.proofs.lemmas.Int.{ints, SFits-int_wrap}
@@ -29,36 +30,25 @@ use Rattle.class_link.specs.ClassNames.{text_at}
 use Rattle.class_link.specs.Literals.{literals, literal_number}
 use Rattle.class_link.specs.Assembly.{constant_opening, static_opening, opening, assembled}
 use Rattle.class_link.proofs.Assembled.{holds_builtins, field_cases}
-use Rattle.class_link.proofs.Records.{field_record}
 use Rattle.class_link.proofs.Tables.{instance_opening}
 use Rattle.class_link.proofs.Listed.{AllKnown, all_there, text_is, text_fits}
 use Rattle.class_link.proofs.Pools.{literal_within}
 
+-- what holds of each of these numbers holds of one of them
+member_holds : (P : ℕ → Type 0) (xs : List ℕ) (u : ℕ) → AllByRecursion P xs → member u xs ≡ true → P u
+member_holds P [] u a h = absurd (cc)
+member_holds P (x ∷ xs) u a h = elim (or_cases (nat_eq u x) (member u xs) h) [ inl e ↦ subst P (sym (eqb-true u x e)) a.0 | inr m ↦ member_holds P xs u a.1 m ]
+
 -- ---- defaults
 
+abbrev bases : List ℕ
+bases = 66 ∷ 67 ∷ 68 ∷ 70 ∷ 73 ∷ 74 ∷ 83 ∷ 90 ∷ []
+
+base_member : (u : ℕ) → is_base u ≡ true → member u bases ≡ true
+base_member u h = grind arith
+
 base_opens : (p : Program) (u : ℕ) (us : List ℕ) → is_base u ≡ true → opens p (u ∷ us) (default_of (u ∷ us)) ≡ true
-base_opens p u us h = elim (or_cases _ (nat_eq u 90) h) [
-  | inl h ↦ elim (or_cases _ (nat_eq u 83) h) [
-    | inl h ↦ elim (or_cases _ (nat_eq u 74) h) [
-      | inl h ↦ elim (or_cases _ (nat_eq u 73) h) [
-        | inl h ↦ elim (or_cases _ (nat_eq u 70) h) [
-          | inl h ↦ elim (or_cases _ (nat_eq u 68) h) [
-            | inl h ↦ elim (or_cases _ (nat_eq u 67) h) [
-              | inl h ↦ let q = eqb-true u 66 h in rw q refl
-              | inr e ↦ let q = eqb-true u 67 e in rw q refl
-            ]
-            | inr e ↦ let q = eqb-true u 68 e in rw q refl
-          ]
-          | inr e ↦ let q = eqb-true u 70 e in rw q refl
-        ]
-        | inr e ↦ let q = eqb-true u 73 e in rw q refl
-      ]
-      | inr e ↦ let q = eqb-true u 74 e in rw q refl
-    ]
-    | inr e ↦ let q = eqb-true u 83 e in rw q refl
-  ]
-  | inr e ↦ let q = eqb-true u 90 e in rw q refl
-]
+base_opens p u us h = member_holds (λ v. opens p (v ∷ us) (default_of (v ∷ us)) ≡ true) bases u (refl, (refl, (refl, (refl, (refl, (refl, (refl, (refl, tt)))))))) (base_member u h)
 
 element_opens : (p : Program) (u : ℕ) (us : List ℕ) → ends (after_element (u ∷ us)) ≡ true → opens p (u ∷ us) (default_of (u ∷ us)) ≡ true
 unfolding after_element
@@ -102,22 +92,8 @@ smalls = 66 ∷ 67 ∷ 73 ∷ 83 ∷ 90 ∷ []
 -- a narrowed int is one of its type
 pub narrowed_fits : (u : ℕ) (n : ℤ) → member u smalls ≡ true → fits_int u (narrow_int u n) ≡ true
 unfolding i2b i2s i2c
-narrowed_fits u n h = elim (or_cases (nat_eq u 66) _ h) [
-  | inl e ↦ let q = eqb-true u 66 e in rw q (byte_fits (int_wrap w8 n) (SFits-int_wrap w8 n))
-  | inr h ↦ elim (or_cases (nat_eq u 67) _ h) [
-    | inl e ↦ let q = eqb-true u 67 e in rw q (remainder_fits n 65536 (omega arith))
-    | inr h ↦ elim (or_cases (nat_eq u 73) _ h) [
-      | inl e ↦ let q = eqb-true u 73 e in rw q refl
-      | inr h ↦ elim (or_cases (nat_eq u 83) _ h) [
-        | inl e ↦ let q = eqb-true u 83 e in rw q (short_fits (int_wrap w16 n) (SFits-int_wrap w16 n))
-        | inr h ↦ elim (or_cases (nat_eq u 90) false h) [
-          | inl e ↦ let q = eqb-true u 90 e in rw q (remainder_fits n 2 (omega arith))
-          | inr e ↦ absurd (cc)
-        ]
-      ]
-    ]
-  ]
-]
+narrowed_fits u n h = member_holds (λ v. fits_int v (narrow_int v n) ≡ true) smalls u
+    (byte_fits (int_wrap w8 n) (SFits-int_wrap w8 n), (remainder_fits n 65536 (omega arith), (refl, (short_fits (int_wrap w16 n) (SFits-int_wrap w16 n), (remainder_fits n 2 (omega arith), tt))))) h
 
 texts_are : (units text : List ℕ) → is_text_of text (Some (Utf8 units)) ≡ true → units ≡ text
 texts_are units text h = (bytes_eq-Decides units text).0 h
@@ -189,18 +165,16 @@ module _ (body : ClassParts → CodePart → Body) (cs : List ClassParts) (tests
     values = λ f h. (elim (field_cases body cs tests files f h) [
       | inl g ↦ builtin_opens p (holds_builtins body cs tests files) f g
       | inr g ↦
-          let b = g.of in
-          let x : FieldFacts b.parts.pool b.member = all_there (FieldFacts b.parts.pool) b.parts.fields b.index b.member (known b.class b.parts b.has_class).fields.each b.has_member in
-          subst (λ (y : FieldRec). opens p y.descriptor y.opening ≡ true) (sym (field_record body cs tests files f g)) (opening_fits b.class b.parts b.has_class b.member x)
+          let x : FieldFacts g.parts.pool g.member = all_there (FieldFacts g.parts.pool) g.parts.fields g.index g.member (known g.class g.parts g.has_class).fields.each g.has_member in
+          subst (λ (y : FieldRec). opens p y.descriptor y.opening ≡ true) (sym g.is) (opening_fits g.class g.parts g.has_class g.member x)
     ]);
     defaults = λ f h s. (elim (field_cases body cs tests files f h) [
       | inl g ↦
           let e = builtin_field p (holds_builtins body cs tests files) f g in
           subst (λ (y : FieldRec). y.opening ≡ default_of y.descriptor) (sym e) (instance_opening f g (ap (λ (y : FieldRec). is_static y.flags) (sym e) ∙ s))
       | inr g ↦
-          let b = g.of in
-          let e = field_record body cs tests files f g in
-          let n : is_static b.member.flags ≡ false = ap (λ (y : FieldRec). is_static y.flags) (sym e) ∙ s in
+          let e = g.is in
+          let n : is_static g.member.flags ≡ false = ap (λ (y : FieldRec). is_static y.flags) (sym e) ∙ s in
           subst (λ (y : FieldRec). y.opening ≡ default_of y.descriptor) (sym e) (rw n refl)
     ]);
   }

@@ -1,11 +1,9 @@
 -- Each number in a record of a class, a field or a method names an entry.
-use Rattle.std.proofs.Common.{◌≡◌, ℕ, suc, ◌+◌, ◌<◌, List, [], ◌∷◌, length, slice_get, true, refl, sym, ◌∙◌, ap, subst, inl, inr, arith, Option, Some, All}
+use Rattle.std.proofs.Common.{◌≡◌, ℕ, suc, ◌+◌, List, [], ◌∷◌, length, slice_get, true, refl, sym, ◌∙◌, subst, inl, inr, arith, Option, Some}
 use Rattle.std.specs.Prelude.{flat_map}
 use Rattle.std.proofs.lemmas.Bool.{cases_Bool, cond-true, cond-false}
 use Rattle.std.proofs.lemmas.List.Elements.{All-map, All-filter}
-use Rattle.std.proofs.lemmas.Option.{slice_get_within}
 use Rattle.class_pool.specs.declared.pool.Entry.{Entry}
-use Rattle.class_pool.specs.declared.pool.Entry.TheVariants as entry
 use Rattle.class_reader.specs.declared.parts.ClassParts.{ClassParts}
 use Rattle.class_reader.specs.declared.parts.MemberPart.{MemberPart}
 use Rattle.class_reader.specs.declared.parts.CodePart.{CodePart}
@@ -16,15 +14,15 @@ use Rattle.jvm_model.specs.declared.program.Body.{Body}
 use Rattle.jvm_model.specs.declared.program.TestEntry.{TestEntry}
 use Rattle.jvm_model.specs.Builtin.{builtin_count}
 use Rattle.jvm_model.specs.Library.{builtin_fields, builtin_methods}
-use Rattle.jvm_model.specs.Classes.{class_at, field_at, method_at, member}
+use Rattle.jvm_model.specs.Classes.{class_at, field_at, method_at, no_field, no_method, member}
 use Rattle.jvm_model.specs.Linked.{IsClass, IsField, IsMethod, NamesClass}
 use Rattle.jvm_model.proofs.BuiltinRules.{builtin_names, builtin_field_class, builtin_method_class}
 use Rattle.class_link.specs.ClassNames.{name_at, all_names, number_or_first}
 use Rattle.class_link.specs.Literals.{literals}
-use Rattle.class_link.specs.Assembly.{mentioned_by, given_classes, is_initialiser, initialiser_from, class_rec, field_rec, method_rec, assembled}
-use Rattle.class_link.proofs.Blocks.{at_place, before}
-use Rattle.class_link.proofs.Assembled.{own_fields, own_methods, GivenMember, holds_builtins, class_given, field_given, method_given, class_cases, field_cases, method_cases, given_class_is, given_field_is, given_method_is}
-use Rattle.class_link.proofs.Numbered.{if_some, all_range, number_class, given_number}
+use Rattle.class_link.specs.Assembly.{mentioned_by, given_classes, is_initialiser, initialiser_from, class_rec, assembled}
+use Rattle.class_link.proofs.Blocks.{before, all_range, all_numbers}
+use Rattle.class_link.proofs.Assembled.{own_fields, own_methods, make_field, make_method, holds_builtins, class_given, field_given, method_given, class_cases, field_cases, method_cases, given_class_is}
+use Rattle.class_link.proofs.Numbered.{if_some, number_class, given_number}
 
 -- the initialiser's number is that of a method which is one
 pub record Initialiser (m : ℕ) (slots : List (Option Entry)) (xs : List MemberPart) (n : ℕ) : Type 0 where
@@ -49,27 +47,15 @@ module _ (body : ClassParts → CodePart → Body) (cs : List ClassParts) (tests
   p = assembled body cs tests files
 
   module _ (i : ℕ) (c : ClassParts) (h : slice_get cs i ≡ Some c) where
-    field_number : (k : ℕ) → k < length c.fields → IsField p ((length builtin_fields + before own_fields cs i) + k)
-    field_number k g =
-        let a = at_place c.fields k g in
-        let e : (length builtin_fields + before own_fields cs i) + k ≡ length builtin_fields + (before own_fields cs i + k) = omega arith in
-        subst (λ n. IsField p n) (sym e) (given_field_is body cs tests files i k c a.item h a.there)
-
-    method_number : (k : ℕ) → k < length c.methods → IsMethod p ((length builtin_methods + before own_methods cs i) + k)
-    method_number k g =
-        let a = at_place c.methods k g in
-        let e : (length builtin_methods + before own_methods cs i) + k ≡ length builtin_methods + (before own_methods cs i + k) = omega arith in
-        subst (λ n. IsMethod p n) (sym e) (given_method_is body cs tests files i k c a.item h a.there)
-
     rec_numbers : NamesClass p (class_rec (all_names cs) (length builtin_fields + before own_fields cs i) (length builtin_methods + before own_methods cs i) c)
     rec_numbers = record {
       superclass = number_class body cs tests files (name_at c.pool c.super_class);
       interfaces = All-map (λ d. IsClass p d) (λ k. number_or_first (all_names cs) (name_at c.pool k)) c.interfaces (λ k d g. number_class body cs tests files (name_at c.pool _));
-      fields = all_range (λ f. IsField p f) (length builtin_fields + before own_fields cs i) (length c.fields) field_number;
-      methods = all_range (λ m. IsMethod p m) (length builtin_methods + before own_methods cs i) (length c.methods) method_number;
+      fields = all_numbers (make_field (literals cs)) own_fields builtin_fields no_field cs (λ f. IsField p f) i c (λ k x g. field_given body cs tests files i k c x h g);
+      methods = all_numbers (make_method body) own_methods builtin_methods no_method cs (λ m. IsMethod p m) i c (λ k x g. (method_given body cs tests files i k c x h g).0);
       initialiser = if_some (λ m. IsMethod p m) (initialiser_from (length builtin_methods + before own_methods cs i) c.pool c.methods) (λ n e.
           let r = initialiser_is _ c.pool c.methods n e in
-          subst (λ m. IsMethod p m) (sym r.number) (method_number r.index (slice_get_within c.methods r.index r.member r.there)));
+          subst (λ m. IsMethod p m) (sym r.number) (method_given body cs tests files i r.index c r.member h r.there).0);
       mentions = All-filter (λ d. member d (flat_map (mentioned_by (all_names cs) c.pool) c.pool)) (λ d. IsClass p d) (given_classes (all_names cs)) (all_range (λ d. IsClass p d) builtin_count _ (given_number body cs tests files));
     }
 
@@ -82,27 +68,14 @@ module _ (body : ClassParts → CodePart → Body) (cs : List ClassParts) (tests
     | inr g ↦ subst (λ n. NamesClass p (class_at p n)) (sym g.number) (class_numbers_given g.index g.parts g.there)
   ]
 
-  -- the record of a given member, by its block
-  pub field_record : (f : ℕ) (g : GivenMember own_fields (length builtin_fields) cs f) → field_at p f ≡ field_rec (literals cs) g.of.parts.pool (builtin_count + g.of.class) g.of.member
-  field_record f g =
-      let b = g.of in
-      let e : f ≡ length builtin_fields + (before own_fields cs b.class + b.index) = g.number ∙ ap (λ (n : ℕ). length builtin_fields + n) b.place in
-      ap (λ (n : ℕ). field_at p n) e ∙ field_given body cs tests files b.class b.index b.parts b.member b.has_class b.has_member
-
-  pub method_record : (m : ℕ) (g : GivenMember own_methods (length builtin_methods) cs m) → method_at p m ≡ method_rec (body g.of.parts) g.of.parts.pool (builtin_count + g.of.class) g.of.member
-  method_record m g =
-      let b = g.of in
-      let e : m ≡ length builtin_methods + (before own_methods cs b.class + b.index) = g.number ∙ ap (λ (n : ℕ). length builtin_methods + n) b.place in
-      ap (λ (n : ℕ). method_at p n) e ∙ method_given body cs tests files b.class b.index b.parts b.member b.has_class b.has_member
-
   pub field_class : (f : ℕ) → IsField p f → IsClass p (field_at p f).class
   field_class f h = elim (field_cases body cs tests files f h) [
     | inl g ↦ builtin_field_class p (holds_builtins body cs tests files) f g
-    | inr g ↦ subst (λ (r : FieldRec). IsClass p r.class) (sym (field_record f g)) (given_class_is body cs tests files g.of.class g.of.parts g.of.has_class)
+    | inr g ↦ subst (λ (r : FieldRec). IsClass p r.class) (sym g.is) (given_class_is body cs tests files g.class g.parts g.has_class)
   ]
 
   pub method_class : (m : ℕ) → IsMethod p m → IsClass p (method_at p m).class
   method_class m h = elim (method_cases body cs tests files m h) [
     | inl g ↦ builtin_method_class p (holds_builtins body cs tests files) m g
-    | inr g ↦ subst (λ (r : MethodRec). IsClass p r.class) (sym (method_record m g)) (given_class_is body cs tests files g.of.class g.of.parts g.of.has_class)
+    | inr g ↦ subst (λ (r : MethodRec). IsClass p r.class) (sym g.is) (given_class_is body cs tests files g.class g.parts g.has_class)
   ]

@@ -1,7 +1,8 @@
 -- A linked program and the skeleton that its references were resolved in: the classes and fields are the same, and the
 -- methods but for their bodies.
-use Rattle.std.proofs.Common.{◌≡◌, ℕ, zero, suc, ◌+◌, List, [], ◌∷◌, ◌++◌, map, get_or, Bool, refl, sym, ◌∙◌, ap, Option, Some, None}
+use Rattle.std.proofs.Common.{◌≡◌, ℕ, ◌+◌, List, [], ◌∷◌, ◌++◌, map, get_or, Bool, refl, sym, ◌∙◌, ap, Option, Some, None}
 use Rattle.std.specs.Prelude.{is_some, option_map}
+use Rattle.std.proofs.Math.ListN.{get_or-map}
 use Rattle.std.proofs.lemmas.List.{map-append}
 use Rattle.class_pool.specs.declared.pool.Entry.{Entry}
 use Rattle.class_reader.specs.declared.parts.ClassParts.{ClassParts}
@@ -10,9 +11,9 @@ use Rattle.class_reader.specs.declared.parts.CodePart.{CodePart}
 use Rattle.jvm_model.specs.declared.program.Program.{Program}
 use Rattle.jvm_model.specs.declared.program.Body.{Body}
 use Rattle.jvm_model.specs.declared.program.TestEntry.{TestEntry}
-use Rattle.jvm_model.specs.Builtin.{builtin_count}
+use Rattle.jvm_model.specs.Builtin.{builtin_count, throwable_class}
 use Rattle.jvm_model.specs.Library.{builtin_methods}
-use Rattle.jvm_model.specs.Classes.{class_at, field_at, method_at, no_method, is_below}
+use Rattle.jvm_model.specs.Classes.{class_at, method_at, no_method, is_below, is_static}
 use Rattle.jvm_model.specs.Lookup.{find_field, find_method}
 use Rattle.jvm_model.specs.Driver.{plain_method_in}
 use Rattle.jvm_model.specs.Linked.{IsAncestor, direct, further, test_method}
@@ -20,6 +21,13 @@ use Rattle.class_link.specs.ClassNames.{text_at}
 use Rattle.class_link.specs.Assembly.{bare_body, method_rec, method_recs, assembled, skeleton}
 use Rattle.member_lookup.proofs.Alike as alike
 use Rattle.member_lookup.proofs.Alike.{Outline, outline}
+use Rattle.jvm_model.specs.declared.values.Kind.{Kind}
+use Rattle.jvm_model.specs.declared.values.Kind.TheVariants as kind
+use Rattle.code_forms.specs.declared.references.Use.{Use}
+use Rattle.code_forms.specs.declared.references.Use.TheVariants as used
+use Rattle.code_forms.specs.declared.references.Target.{Target}
+use Rattle.code_forms.specs.declared.references.Target.TheVariants as target
+use Rattle.code_forms.specs.Uses.{method_fits, type_fits, fits}
 
 mapped_some : {A B : Type 0} (f g : A → B) (o : Option A) → is_some (option_map f o) ≡ is_some (option_map g o)
 mapped_some f g None = refl
@@ -43,11 +51,6 @@ recs_same b d n (c ∷ cs) =
     ∙ (ap (λ (xs : List Outline). map outline (map (method_rec (d c) c.pool n) c.methods) ++ xs) (recs_same b d (n + 1) cs)
     ∙ sym (map-append outline (map (method_rec (d c) c.pool n) c.methods) (method_recs d (n + 1) cs))))
 
-mapped_at : {A B : Type 0} (f : A → B) (xs : List A) (i : ℕ) (d : A) → get_or (map f xs) i (f d) ≡ f (get_or xs i d)
-mapped_at f [] i d = refl
-mapped_at f (x ∷ xs) zero d = refl
-mapped_at f (x ∷ xs) (suc i) d = mapped_at f xs i d
-
 module _ (body : ClassParts → CodePart → Body) (cs : List ClassParts) (tests : List TestEntry) (files : List (List ℕ × List ℕ)) where
   abbrev p : Program
   p = assembled body cs tests files
@@ -63,15 +66,11 @@ module _ (body : ClassParts → CodePart → Body) (cs : List ClassParts) (tests
       ∙ sym (map-append outline builtin_methods (method_recs (λ c code. bare_body code) builtin_count cs)))
 
   pub outline_same : (m : ℕ) → outline (method_at p m) ≡ outline (method_at q m)
-  outline_same m = sym (mapped_at outline p.methods m no_method) ∙ (ap (λ (xs : List Outline). get_or xs m (outline no_method)) outlines_same ∙ mapped_at outline q.methods m no_method)
+  outline_same m = sym (get_or-map outline p.methods m no_method) ∙ (ap (λ (xs : List Outline). get_or xs m (outline no_method)) outlines_same ∙ get_or-map outline q.methods m no_method)
 
   pub class_same : (c : ℕ) → class_at p c ≡ class_at q c
   unfolding assembled
   class_same c = refl
-
-  pub field_same : (f : ℕ) → field_at p f ≡ field_at q f
-  unfolding assembled
-  field_same f = refl
 
   pub below_same : (c d : ℕ) → is_below p c d ≡ is_below q c d
   unfolding assembled
@@ -98,3 +97,29 @@ module _ (body : ClassParts → CodePart → Body) (cs : List ClassParts) (tests
   unfolding assembled
   ancestor_same (direct e) = direct e
   ancestor_same (further e a) = further e (ancestor_same a)
+
+  -- ---- what fits in both
+
+  static_same : (m : ℕ) → is_static (method_at p m).flags ≡ is_static (method_at q m).flags
+  static_same m = ap (λ (r : Outline). is_static r.flags) (outline_same m)
+
+  type_fits_same : (u : Use) (k : Kind) → type_fits p u k ≡ type_fits q u k
+  type_fits_same used.Type k = refl
+  type_fits_same used.Caught (kind.Class d) = below_same d throwable_class
+  type_fits_same used.Caught (kind.Array d b) = refl
+  type_fits_same u k = refl
+
+  method_fits_same : (c : ℕ) (e : Option Entry) (u : Use) (k : Kind) (m : ℕ) → method_fits p c e u k m ≡ method_fits q c e u k m
+  unfolding assembled
+  method_fits_same c e used.Virtual k m = let a = static_same m in rw a refl
+  method_fits_same c e used.Interface k m = let a = static_same m in rw a refl
+  method_fits_same c e used.Special k m = let a = static_same m in rw a refl
+  method_fits_same c e used.StaticCall k m = let a = static_same m in rw a refl
+  method_fits_same c e u k m = refl
+
+  pub fits_same : (c : ℕ) (e : Option Entry) (t : Target) (u : Use) → fits p c e t u ≡ fits q c e t u
+  unfolding fits assembled
+  fits_same c e (target.Constant v) u = refl
+  fits_same c e (target.Type k) u = type_fits_same u k
+  fits_same c e (target.Field d f) u = refl
+  fits_same c e (target.Method k m) u = method_fits_same c e u k m

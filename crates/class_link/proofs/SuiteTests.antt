@@ -2,7 +2,7 @@
 use Rattle.std.proofs.Common.{◌≡◌, ℕ, suc, ◌+◌, ◌<◌, ◌≤◌, List, [], ◌∷◌, ◌++◌, length, true, false, ◌||◌, nat_eq, nat_le, cond, refl, sym, ◌∙◌, ap, subst, inl, inr, arith, Option, Some, None, Result, Ok, Err, All}
 use Rattle.std.specs.Prelude.{is_some, option_and_then}
 use Rattle.std.specs.List.{list_all}
-use Rattle.std.proofs.lemmas.Bool.{cases_Bool, and_parts, or_cases, not-true, leb-true, cond-true, cond-false}
+use Rattle.std.proofs.lemmas.Bool.{and_parts, or_cases, not-true, leb-true, cond_both}
 use Rattle.std.proofs.lemmas.List.{length_push}
 use Rattle.std.proofs.lemmas.List.Elements.{All-push}
 use Rattle.class_reader.specs.declared.parts.ClassParts.{ClassParts}
@@ -70,17 +70,11 @@ module _ (body : ClassParts → CodePart → Body) (cs : List ClassParts) (tests
       ]
 
   class_good : (x : TestLine) (c : ℕ) (t : TestEntry) → is_test_name x ≡ true → class_number (all_names cs) x.class ≡ Some c → test_in q budget x c ≡ Some t → IsGood t
-  class_good x c t w e h = elim (cases_Bool (holds_tests q c)) [
-    | inr f ↦ absurd (let z = sym (cond-false (holds_tests q c) _ (None) f) ∙ h in cc)
-    | inl g ↦ by_method (test_method q c x.method) refl (sym (cond-true (holds_tests q c) _ (None) g) ∙ h) g
-  ]
+  class_good x c t w e = cond_both (holds_tests q c) _ _ (λ o. o ≡ Some t → IsGood t) (λ g. by_method (test_method q c x.method) refl g) (λ _ h. absurd (cc))
     where
-      by_method : (o : Option ℕ) → test_method q c x.method ≡ o → option_and_then (λ m. cond (is_test_method q c m) (Some (entry_with budget x c m)) None) o ≡ Some t → holds_tests q c ≡ true → IsGood t
-      by_method None k z g = absurd (cc)
-      by_method (Some m) k z g = elim (cases_Bool (is_test_method q c m)) [
-        | inr f ↦ absurd (let y = sym (cond-false (is_test_method q c m) (Some (entry_with budget x c m)) None f) ∙ z in cc)
-        | inl l ↦ let y : Some (entry_with budget x c m) ≡ Some t = sym (cond-true (is_test_method q c m) (Some (entry_with budget x c m)) None l) ∙ z in let j : entry_with budget x c m ≡ t = cc in subst IsGood j (method_good x c m w e g k l)
-      ]
+      by_method : (o : Option ℕ) → test_method q c x.method ≡ o → holds_tests q c ≡ true → option_and_then (λ m. cond (is_test_method q c m) (Some (entry_with budget x c m)) None) o ≡ Some t → IsGood t
+      by_method None k g = λ z. absurd (cc)
+      by_method (Some m) k g = cond_both (is_test_method q c m) _ _ (λ o. o ≡ Some t → IsGood t) (λ l z. let j : entry_with budget x c m ≡ t = cc in subst IsGood j (method_good x c m w e g k l)) (λ _ z. absurd (cc))
 
   entry_good : (x : TestLine) (t : TestEntry) → is_test_name x ≡ true → test_entry (setting cs) budget x ≡ Some t → IsGood t
   unfolding test_entry

@@ -1,5 +1,5 @@
 -- What the tables of the built-in classes, fields and methods keep, entry by entry: tests that are computed.
-use Rattle.std.proofs.Common.{◌≡◌, ℕ, zero, suc, ◌+◌, ◌<◌, List, [], ◌∷◌, length, get_or, Bool, true, false, not, ◌&&◌, ◌||◌, nat_eq, nat_lt, refl, arith, None}
+use Rattle.std.proofs.Common.{◌≡◌, ℕ, zero, suc, ◌+◌, ◌<◌, List, [], ◌∷◌, length, get_or, Bool, true, false, not, ◌&&◌, ◌||◌, nat_eq, nat_lt, refl, subst, arith, None, map}
 use Rattle.std.specs.Prelude.{is_some, is_none}
 use Rattle.std.specs.List.{list_all, list_any}
 use Rattle.std.proofs.lemmas.Bool.{and_parts, not-true, or_parts}
@@ -11,7 +11,8 @@ use Rattle.jvm_model.specs.Builtin.{builtin_count}
 use Rattle.jvm_model.specs.Library.{builtin_defs, builtin_classes, builtin_fields, builtin_methods}
 use Rattle.jvm_model.specs.Classes.{no_class, no_field, no_method, is_static, default_of}
 use Rattle.jvm_model.specs.Linked.{count}
-use Rattle.jvm_model.proofs.Builtins.{class_names_differ, builtin_methods_differ}
+use Rattle.jvm_model.proofs.Builtins.{builtin_methods_differ}
+use Rattle.class_link.specs.Literals.{noted}
 
 -- ---- tests of each entry
 
@@ -20,10 +21,13 @@ abbrev pub all_from : {X : Type 0} → (ℕ → X → Bool) → ℕ → List X �
 all_from test n [] = true
 all_from test n (x ∷ xs) = test n x && all_from test (n + 1) xs
 
-pub all_from_at : {X : Type 0} (test : ℕ → X → Bool) (n : ℕ) (xs : List X) (i : ℕ) (d : X) → all_from test n xs ≡ true → i < length xs → test (n + i) (get_or xs i d) ≡ true
-all_from_at test n [] i d e h = absurd (omega arith)
-all_from_at test n (x ∷ xs) zero d e h = let z : n + 0 ≡ n = omega arith in rw z (and_parts (test n x) (all_from test (n + 1) xs) e).0
-all_from_at test n (x ∷ xs) (suc i) d e h = let z : n + suc i ≡ (n + 1) + i = omega arith in rw z (all_from_at test (n + 1) xs i d (and_parts (test n x) (all_from test (n + 1) xs) e).1 (omega arith))
+all_behind : {X : Type 0} (test : ℕ → X → Bool) (n : ℕ) (xs : List X) (i : ℕ) (d : X) → all_from test n xs ≡ true → i < length xs → test (n + i) (get_or xs i d) ≡ true
+all_behind test n [] i d e h = absurd (omega arith)
+all_behind test n (x ∷ xs) zero d e h = let z : n + 0 ≡ n = omega arith in rw z (and_parts (test n x) (all_from test (n + 1) xs) e).0
+all_behind test n (x ∷ xs) (suc i) d e h = let z : n + suc i ≡ (n + 1) + i = omega arith in rw z (all_behind test (n + 1) xs i d (and_parts (test n x) (all_from test (n + 1) xs) e).1 (omega arith))
+
+pub all_from_at : {X : Type 0} (test : ℕ → X → Bool) (xs : List X) (i : ℕ) (d : X) → all_from test 0 xs ≡ true → i < length xs → test i (get_or xs i d) ≡ true
+all_from_at test xs i d e h = let z : 0 + i ≡ i = omega arith in subst (λ n. test n (get_or xs i d) ≡ true) z (all_behind test 0 xs i d e h)
 
 -- no two entries are the same
 abbrev pub all_differ : {X : Type 0} → (X → X → Bool) → List X → Bool
@@ -43,53 +47,57 @@ all_differ_at same (x ∷ xs) (suc i) (suc j) d e h g = all_differ_at same xs i 
 
 -- ---- the tables
 
-abbrev pub own_field : ℕ → ℕ → Bool
-own_field c f = nat_lt f 2 && nat_eq (get_or builtin_fields f no_field).class c
+-- each number in a class's list is that of a built-in member of the class
+abbrev pub owns_members : {X : Type 0} → (X → ℕ) → (ClassRec → List ℕ) → List X → X → ℕ → ClassRec → Bool
+owns_members class members xs none c r = list_all (λ j. nat_lt j (length xs) && nat_eq (class (get_or xs j none)) c) (members r)
 
-abbrev pub own_method : ℕ → ℕ → Bool
-own_method c m = nat_lt m 102 && nat_eq (get_or builtin_methods m no_method).class c
-
--- a class lists its own members, has no initialiser, and if it isn't the first a superclass
-abbrev pub lists_own : ℕ → ClassRec → Bool
-lists_own c x = (list_all (own_field c) x.fields && list_all (own_method c) x.methods) && (is_none x.initialiser && (is_some x.superclass || nat_eq c 0))
-
-pub classes_own : all_from lists_own 0 builtin_classes ≡ true
-unfolding builtin_classes builtin_fields builtin_methods builtin_defs
-classes_own = refl
-
--- a method is one of a built-in class, which lists it once
-abbrev pub method_listed : ℕ → MethodRec → Bool
-method_listed m x = nat_lt x.class builtin_count && nat_eq (count m (get_or builtin_classes x.class no_class).methods) 1
-
-pub methods_listed : all_from method_listed 0 builtin_methods ≡ true
-unfolding builtin_classes builtin_methods builtin_defs
-methods_listed = refl
-
-abbrev pub field_listed : ℕ → FieldRec → Bool
-field_listed f x = nat_lt x.class builtin_count && nat_eq (count f (get_or builtin_classes x.class no_class).fields) 1
-
-pub fields_listed : all_from field_listed 0 builtin_fields ≡ true
+pub fields_owned : all_from (owns_members (λ x. x.class) (λ r. r.fields) builtin_fields no_field) 0 builtin_classes ≡ true
 unfolding builtin_classes builtin_fields builtin_defs
-fields_listed = refl
+fields_owned = refl
 
-abbrev pub same_name : ClassRec → ClassRec → Bool
-same_name c d = bytes_eq c.name d.name
+pub methods_owned : all_from (owns_members (λ x. x.class) (λ r. r.methods) builtin_methods no_method) 0 builtin_classes ≡ true
+unfolding builtin_classes builtin_methods builtin_defs
+methods_owned = refl
 
-pub names_differ : all_differ same_name builtin_classes ≡ true
-names_differ = class_names_differ
+-- a member is one of a built-in class, which lists it once
+abbrev pub is_once : {X : Type 0} → (X → ℕ) → (ClassRec → List ℕ) → ℕ → X → Bool
+is_once class members j x = nat_lt (class x) builtin_count && nat_eq (count j (members (get_or builtin_classes (class x) no_class))) 1
 
-abbrev pub same_method : MethodRec → MethodRec → Bool
-same_method m n = nat_eq m.class n.class && (bytes_eq m.name n.name && bytes_eq m.descriptor n.descriptor)
+pub fields_once : all_from (is_once (λ x. x.class) (λ r. r.fields)) 0 builtin_fields ≡ true
+unfolding builtin_classes builtin_fields builtin_defs
+fields_once = refl
 
-pub methods_differ : all_differ same_method builtin_methods ≡ true
-methods_differ = builtin_methods_differ
+pub methods_once : all_from (is_once (λ x. x.class) (λ r. r.methods)) 0 builtin_methods ≡ true
+unfolding builtin_classes builtin_methods builtin_defs
+methods_once = refl
 
-abbrev pub same_class : FieldRec → FieldRec → Bool
-same_class f g = nat_eq f.class g.class
+-- a class has no initialiser, and if it isn't the first a superclass
+abbrev pub is_under : ℕ → ClassRec → Bool
+is_under c x = is_none x.initialiser && (is_some x.superclass || nat_eq c 0)
 
-pub fields_differ : all_differ same_class builtin_fields ≡ true
+pub classes_under : all_from is_under 0 builtin_classes ≡ true
+unfolding builtin_classes builtin_defs
+classes_under = refl
+
+-- members of one class, name and descriptor
+abbrev pub Tag : Type 0
+Tag = ℕ × List ℕ × List ℕ
+
+abbrev pub same_tag : Tag → Tag → Bool
+same_tag s t = nat_eq s.0 t.0 && (bytes_eq s.1 t.1 && bytes_eq s.2 t.2)
+
+abbrev pub field_tag : FieldRec → Tag
+field_tag x = (x.class, x.name, x.descriptor)
+
+abbrev pub method_tag : MethodRec → Tag
+method_tag x = (x.class, x.name, x.descriptor)
+
+pub fields_differ : all_differ (λ x y. same_tag (field_tag x) (field_tag y)) builtin_fields ≡ true
 unfolding builtin_fields builtin_defs
 fields_differ = refl
+
+pub methods_differ : all_differ (λ x y. same_tag (method_tag x) (method_tag y)) builtin_methods ≡ true
+methods_differ = builtin_methods_differ
 
 -- Object has no superclass
 pub top : (get_or builtin_classes 0 no_class).superclass ≡ None
@@ -102,3 +110,8 @@ unfolding builtin_fields builtin_defs
 instance_opening zero h e = absurd (cc)
 instance_opening (suc zero) h e = refl
 instance_opening (suc (suc f)) h e = absurd (omega arith)
+
+-- the names of the built-in classes differ
+pub builtins_differ : noted [] (map (λ c. c.name) builtin_classes) ≡ map (λ c. c.name) builtin_classes
+unfolding builtin_classes builtin_defs
+builtins_differ = refl

@@ -1,9 +1,9 @@
 -- What an entry stands for is in the program: each number names an entry, and members are those that the look-up finds.
-use Rattle.std.proofs.Common.{◌≡◌, ℕ, ◌+◌, ◌<◌, List, [], ◌∷◌, drop, Bool, true, false, nat_eq, nat_le, cond, refl, sym, ap, ◌∙◌, subst, inl, inr, arith, slice_get, Option, Some, None}
+use Rattle.std.proofs.Common.{◌≡◌, ℕ, ◌+◌, ◌<◌, List, [], ◌∷◌, drop, Bool, true, false, nat_eq, nat_le, cond, refl, ap, ◌∙◌, subst, arith, slice_get, Option, Some, None}
 use Rattle.std.specs.Prelude.{option_map}
 use Rattle.std.specs.List.{prefix_len}
 use Rattle.std.proofs.lemmas.List.Folds.{length-prefix_len}
-use Rattle.std.proofs.lemmas.Bool.{cases_Bool, leb-true, cond-true, cond-false}
+use Rattle.std.proofs.lemmas.Bool.{leb-true, cond_both}
 use Rattle.class_pool.specs.declared.pool.Entry.{Entry}
 use Rattle.class_pool.specs.declared.pool.Entry.TheVariants as entry
 use Rattle.class_pool.specs.Pool.{entry_of}
@@ -15,17 +15,17 @@ use Rattle.jvm_model.specs.declared.values.Base.{Base}
 use Rattle.jvm_model.specs.declared.values.Base.TheVariants as base
 use Rattle.jvm_model.specs.declared.values.Kind.{Kind}
 use Rattle.jvm_model.specs.declared.values.Kind.TheVariants as kind
-use Rattle.jvm_model.specs.declared.values.Value.{Value}
-use Rattle.jvm_model.specs.declared.values.Value.TheVariants.{Int, Long, Null, Lit, Obj}
+use Rattle.jvm_model.specs.declared.values.Value.TheVariants.{Int, Long, Lit}
 use Rattle.jvm_model.specs.declared.program.Program.{Program}
 use Rattle.jvm_model.specs.declared.program.Body.{Body}
 use Rattle.jvm_model.specs.declared.program.TestEntry.{TestEntry}
 use Rattle.jvm_model.specs.Selection.{named_class}
 use Rattle.jvm_model.specs.Lookup.{find_field, find_method, lacks_method}
-use Rattle.jvm_model.specs.Linked.{IsClass, IsField, IsMethod, IsLiteral, IsBase, IsKind, IsFoundIn, IsFoundField}
+use Rattle.jvm_model.specs.Linked.{IsClass, IsLiteral, IsBase, IsKind}
 use Rattle.code_forms.specs.declared.references.Target.{Target}
 use Rattle.code_forms.specs.declared.references.Target.TheVariants as target
-use Rattle.class_link.specs.ClassNames.{text_at, name_at, all_names, class_number, within_type, base_of, array_kind, kind_of}
+use Rattle.code_forms.proofs.FormFacts.{IsTarget}
+use Rattle.class_link.specs.ClassNames.{text_at, name_at, all_names, class_number, within_type, base_of, kind_of}
 use Rattle.class_link.specs.Literals.{literals, literal_number}
 use Rattle.class_link.specs.Assembly.{assembled, skeleton}
 use Rattle.class_link.specs.References.{pair_of, field_target, method_target, target_of}
@@ -36,21 +36,6 @@ use Rattle.class_link.proofs.Records.{class_numbers}
 use Rattle.class_link.proofs.Pools.{literal_within}
 use Rattle.class_link.proofs.SkeletonFacts.{find_field_same, find_method_same}
 use Rattle.class_link.proofs.Found.{field_again, method_again}
-
--- a constant that code may push
-abbrev pub IsConstant : Program → Value → Type 0
-IsConstant p (Int n) = Unit {0}
-IsConstant p (Long n) = Unit {0}
-IsConstant p Null = Unit {0}
-IsConstant p (Lit n) = IsLiteral p n
-IsConstant p (Obj o) = ⊥
-
--- the target is in the program
-abbrev pub IsTarget : Program → Target → Type 0
-IsTarget p (target.Constant v) = IsConstant p v
-IsTarget p (target.Type k) = IsKind p k
-IsTarget p (target.Field c f) = IsClass p c × IsField p f × IsFoundField p c f
-IsTarget p (target.Method k m) = IsKind p k × IsMethod p m × IsFoundIn p k m
 
 -- what an optional value is made to
 mapped : {A B : Type 0} (Q : B → Type 0) (f : A → B) (o : Option A) (y : B) → option_map f o ≡ Some y → ((x : A) → o ≡ Some x → Q (f x)) → Q y
@@ -91,19 +76,12 @@ module _ (body : ClassParts → CodePart → Body) (cs : List ClassParts) (tests
 
   pub kind_is : (name : List ℕ) (k : Kind) → kind_of (all_names cs) name ≡ Some k → IsKind p k
   unfolding kind_of
-  kind_is name k e = elim (cases_Bool (starts_array name)) [
-    | inl t ↦ array_is t (sym (cond-true (starts_array name) (array_kind (all_names cs) name) (option_map (λ c. kind.Class c) (class_number (all_names cs) name)) t) ∙ e)
-    | inr f ↦ mapped (IsKind p) (λ c. kind.Class c) (class_number (all_names cs) name) k (sym (cond-false (starts_array name) (array_kind (all_names cs) name) (option_map (λ c. kind.Class c) (class_number (all_names cs) name)) f) ∙ e)
-        (λ c q. (number_is body cs tests files name c q).0)
-  ]
-    where
-      array_is : starts_array name ≡ true → array_kind (all_names cs) name ≡ Some k → IsKind p k
-      array_is t q = elim (cases_Bool (nat_le (dimensions name) 255)) [
-        | inl l ↦ mapped (IsKind p) (λ b. kind.Array (dimensions name) b) (base_of (all_names cs) (drop (dimensions name) name)) k
-            (sym (cond-true (nat_le (dimensions name) 255) (option_map (λ b. kind.Array (dimensions name) b) (base_of (all_names cs) (drop (dimensions name) name))) None l) ∙ q)
-            (λ b z. (array_dimensions name t, leb-true (dimensions name) 255 l, base_is (drop (dimensions name) name) b z))
-        | inr l ↦ absurd (let z = sym (cond-false (nat_le (dimensions name) 255) (option_map (λ b. kind.Array (dimensions name) b) (base_of (all_names cs) (drop (dimensions name) name))) None l) ∙ q in cc)
-      ]
+  kind_is name k = cond_both (starts_array name) _ _ (λ o. o ≡ Some k → IsKind p k)
+      (λ t. cond_both (nat_le (dimensions name) 255) _ _ (λ o. o ≡ Some k → IsKind p k)
+      (λ l e. mapped (IsKind p) (λ b. kind.Array (dimensions name) b) (base_of (all_names cs) (drop (dimensions name) name)) k e
+      (λ b z. (array_dimensions name t, leb-true (dimensions name) 255 l, base_is (drop (dimensions name) name) b z)))
+      (λ _ e. absurd (cc)))
+      (λ _ e. mapped (IsKind p) (λ c. kind.Class c) (class_number (all_names cs) name) k e (λ c q. (number_is body cs tests files name c q).0))
 
   pub named_is : (k : Kind) → IsKind p k → IsClass p (named_class k)
   named_is (kind.Class c) h = h

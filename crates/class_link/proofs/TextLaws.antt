@@ -4,6 +4,7 @@ use Rattle.std.specs.List.{list_any, prefix_len}
 use Rattle.std.specs.Cmp.Lexicographic.{pointwise}
 use Rattle.std.proofs.lemmas.List.{map-append, length-map}
 use Rattle.std.specs.Str.{bytes_eq}
+use Rattle.class_link.specs.Literals.{noted}
 
 -- a test of items, and one of what they are mapped to, which agree
 any_mapped : {A B : Type 0} (f : A → B) (p : A → Bool) (q : B → Bool) → ((x : A) → p x ≡ q (f x)) → (xs : List A) → list_any p xs ≡ list_any q (map f xs)
@@ -27,3 +28,8 @@ text_among f text ks = any_mapped f (λ k. pointwise nat_eq text (f k)) (bytes_e
 
 pub text_place : {A : Type 0} (f : A → List ℕ) (text : List ℕ) (ks : List A) → position (λ k. pointwise nat_eq text (f k)) ks ≡ position (bytes_eq text) (map f ks)
 text_place f text ks = position_mapped f (λ k. pointwise nat_eq text (f k)) (bytes_eq text) (λ k. refl) ks
+
+-- texts that are noted one after another
+pub noted_append : (seen xs ys : List (List ℕ)) → noted seen (xs ++ ys) ≡ noted (noted seen xs) ys
+noted_append seen [] ys = refl
+noted_append seen (x ∷ xs) ys = noted_append (cond (list_any (bytes_eq x) seen) seen (seen ++ x ∷ [])) xs ys

@@ -90,19 +90,23 @@ opening texts slots x = cond (is_static x.flags) (static_opening texts slots (te
 abbrev pub field_rec : List (List ℕ) → List (Option Entry) → ℕ → MemberPart → FieldRec
 field_rec texts slots n x = record { class = n; name = text_at slots x.name; descriptor = text_at slots x.descriptor; flags = x.flags; opening = opening texts slots x }
 
--- the fields of these classes, the first of which has the number n
-abbrev pub field_recs : List (List ℕ) → ℕ → List ClassParts → List FieldRec
-field_recs texts n [] = []
-field_recs texts n (c ∷ cs) = map (field_rec texts c.pool n) c.fields ++ field_recs texts (n + 1) cs
-
 -- ---- methods
 
 abbrev pub method_rec : (CodePart → Body) → List (Option Entry) → ℕ → MemberPart → MethodRec
 method_rec body slots n x = record { class = n; name = text_at slots x.name; descriptor = text_at slots x.descriptor; flags = x.flags; native = None; body = option_map body x.code }
 
+-- ---- members of several classes
+
+-- what is made of the members of these classes, the first of which has the number n
+abbrev pub member_recs : {X : Type 0} → (ClassParts → ℕ → MemberPart → X) → (ClassParts → List MemberPart) → ℕ → List ClassParts → List X
+member_recs make members n [] = []
+member_recs make members n (c ∷ cs) = map (make c n) (members c) ++ member_recs make members (n + 1) cs
+
+abbrev pub field_recs : List (List ℕ) → ℕ → List ClassParts → List FieldRec
+field_recs texts n cs = member_recs (λ c. field_rec texts c.pool) (λ c. c.fields) n cs
+
 abbrev pub method_recs : (ClassParts → CodePart → Body) → ℕ → List ClassParts → List MethodRec
-method_recs body n [] = []
-method_recs body n (c ∷ cs) = map (method_rec (body c) c.pool n) c.methods ++ method_recs body (n + 1) cs
+method_recs body n cs = member_recs (λ c. method_rec (body c) c.pool) (λ c. c.methods) n cs
 
 -- ---- the program
 

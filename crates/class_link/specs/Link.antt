@@ -1,5 +1,5 @@
 -- Linking: the program of class files and tests, or the first fault (JVMS 5.3 and 5.4.3; the order of faults is this project's).
-use Rattle.std.specs.Prelude.{◌≡◌, ℕ, zero, suc, pos, ◌+◌, ◌<◌, ◌≤◌, List, [], ◌∷◌, ◌++◌, length, get_or, Option, Some, None, Result, Ok, Err, Bool, true, ◌&&◌, ◌||◌, nat_eq}
+use Rattle.std.specs.Prelude.{◌≡◌, ℕ, zero, suc, ◌+◌, ◌<◌, ◌≤◌, List, [], ◌∷◌, ◌++◌, length, get_or, Option, Some, None, Result, Ok, Err, Bool, true, ◌&&◌, ◌||◌, nat_eq}
 use Rattle.std.specs.List.{list_all}
 use Rattle.et_base.specs.Answers.{◌>>=◌}
 use Rattle.class_reader.specs.declared.parts.ClassParts.{ClassParts}
@@ -81,9 +81,6 @@ IsCycleFault cs f = (i : ℕ) × IsFirstCycle (skeleton cs) (Some i) × (f ≡ f
 
 abbrev pub AreDifferent : {A : Type 0} → List A → A → (A → List ℕ) → Type 0
 AreDifferent xs d key = (i j : ℕ) → i < length xs → j < length xs → key (get_or xs i d) ≡ key (get_or xs j d) → i ≡ j
-
-abbrev pub no_line : TestLine
-no_line = record { class = []; method = []; clock = pos 0; seed = 0 }
 
 -- a test's class and method are words, the class's joined by slashes (this project's)
 abbrev pub is_test_name : TestLine → Bool

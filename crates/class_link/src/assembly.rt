@@ -40,7 +40,7 @@ fn set_body(methods: &mut Vec<MethodRec>, place: usize, body: Option<Body>)
 }
 
 // Gives the methods from the first given one on these bodies, in order.
-#[tactic(auto, using(crate::proofs::FillLaws::filled_more))]
+#[tactic(auto, using(crate::proofs::AssemblyLaws::filled_more))]
 fn fill(methods: &mut Vec<MethodRec>, bodies: Vec<Option<Body>>)
     ensures { methods.new.items ≡ filled 102 bodies.items methods.old.items }
 {

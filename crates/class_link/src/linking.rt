@@ -1,9 +1,10 @@
 //! Linking as a whole.
 
-ghost use Rattle.std.specs.Prelude.{◌≡◌, ◌≤◌, ◌⊎◌, Option, Some, None, IfOk, IfErr, OnOk, length};
-ghost use Rattle.std.specs.List.{AllByRecursion};
+ghost use Rattle.std.specs.Prelude.{◌≡◌, ◌≤◌, ◌⊎◌, Option, Some, None, IfOk, IfErr, OnOk, length, map};
+ghost use Rattle.std.specs.List.{All};
 ghost use Rattle.class_reader.specs.ClassGrammar as grammar;
 ghost use Rattle.class_link.specs.Assembly as assembly;
+ghost use Rattle.class_link.specs.Bodies as bodies;
 ghost use Rattle.member_lookup.specs.Ancestors.{IsFirstCycle};
 ghost use Rattle.class_link.specs.Link as links;
 ghost use Rattle.jvm_model.specs.Linked.{Linked};
@@ -17,10 +18,11 @@ use crate::lines::TestLines;
 use crate::reference_faults::check_all_references;
 use crate::setting::Setting;
 use crate::supertypes::check_all_supertypes;
+use crate::targets::Targets;
 use crate::tests_of::tests_of;
 use class_reader::ClassFile;
 use et_base::{Items, NoMemory, Units};
-use jvm_model::Program;
+use jvm_model::{Program, TestEntry};
 use member_lookup::first_cycle;
 use std::alloc::Global;
 
@@ -68,11 +70,29 @@ fn check_cycles(alloc: Global, setting: &Setting, classes: &[ClassFile]) -> Resu
 
 // Each class file is spelled by some bytes.
 fn know(classes: &[ClassFile])
-    ensures { AllByRecursion (λ c. grammar.IsClass c) classes.now }
+    ensures { All (λ c. grammar.IsClass c) classes.now }
 {
     for class in classes {
         class.parts();
     }
+}
+
+// The program of class files whose pool entries stand for these targets, with these tests and files.
+fn program_of(
+    alloc: Global,
+    setting: Setting,
+    targets: &[Targets],
+    classes: &[ClassFile],
+    tests: Items<TestEntry>,
+    files: &[(Units, Units)],
+) -> Result<Program, NoMemory>
+    requires setting { setting ≡ links.setting classes.now }
+    requires targets { targets.now ≡ map (λ c. bodies.targets setting c.pool) classes.now }
+    ensures { IfOk result (λ p. p ≡ links.program_of classes.now tests files.now) }
+{
+    let bodies = bodies_of(alloc, &setting, targets, classes)?;
+    let files = copies(alloc, files)?;
+    Ok(with_bodies(setting.program, bodies, tests, files))
 }
 
 /// The program of class files, tests and opening files, its references resolved; or the first fault of linking.
@@ -95,8 +115,14 @@ pub fn link(alloc: Global, classes: &[ClassFile], lines: &TestLines) -> Result<P
     check_cycles(alloc, &setting, classes)?;
     let targets = check_all_references(alloc, &setting, classes)?;
     let tests = tests_of(alloc, &setting, lines.budget, lines.tests.as_slice())?;
-    let bodies = bodies_of(alloc, &setting, targets.as_slice(), classes)?;
-    let files = copies(alloc, lines.files.as_slice())?;
+    let program = program_of(
+        alloc,
+        setting,
+        targets.as_slice(),
+        classes,
+        tests,
+        lines.files.as_slice(),
+    )?;
     know(classes);
-    Ok(with_bodies(setting.program, bodies, tests, files))
+    Ok(program)
 }

@@ -65,7 +65,7 @@ fn note_slot(
 }
 
 // Notes the texts of a pool's String entries.
-#[tactic(auto, using(crate::proofs::LiteralLaws::noted_append))]
+#[tactic(auto, using(crate::proofs::TextLaws::noted_append))]
 fn note_strings(alloc: Global, texts: &mut TextSet, slots: &[Option<Entry>]) -> Result<(), NoMemory>
     requires { length texts.old + length slots.now < 4294967295 }
     ensures noted { OnOk result (texts.new ≡ noted texts.old (strings_of slots.now)) }
@@ -78,7 +78,7 @@ fn note_strings(alloc: Global, texts: &mut TextSet, slots: &[Option<Entry>]) -> 
 }
 
 /// The string constants of class files, each content once.
-#[tactic(auto, using(crate::proofs::LiteralLaws::noted_append), unfolding(crate::specs::Literals::literals))]
+#[tactic(auto, using(crate::proofs::TextLaws::noted_append), unfolding(crate::specs::Literals::literals))]
 pub(crate) fn literals_of(alloc: Global, classes: &[ClassFile]) -> Result<Literals, NoMemory>
     requires { length classes.now ≤ 1024 }
     ensures { IfOk result (λ texts. texts ≡ literals classes.now) }

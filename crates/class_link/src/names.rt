@@ -214,7 +214,7 @@ fn note_classes(alloc: Global, names: &mut TextSet, classes: &[ClassFile]) -> Re
 
 /// The names of the built-in classes, whose records these are, and of the class files behind them; or the first class file
 /// whose name is that of a built-in class or of an earlier one.
-#[tactic(auto, using(crate::proofs::NameLaws::builtins_differ), unfolding(crate::specs::ClassNames::all_names))]
+#[tactic(auto, using(crate::proofs::Tables::builtins_differ), unfolding(crate::specs::ClassNames::all_names))]
 pub(crate) fn names_of(
     alloc: Global,
     builtin: &[ClassRec],

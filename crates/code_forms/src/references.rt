@@ -6,7 +6,7 @@ ghost use Rattle.jvm_model.specs.Selection as selection;
 use jvm_model::{Kind, OBJECT, Value};
 
 /// How an instruction or a handler uses an entry of the pool (JVMS 6.5 and 4.7.3).
-#[derive(Clone, Copy, Debug, PartialEq, Eq)]
+#[derive(Clone, Copy)]
 pub enum Use {
     /// getstatic and putstatic.
     StaticField,
@@ -23,7 +23,7 @@ pub enum Use {
 }
 
 /// What an entry of the pool stands for in the program.
-#[derive(Clone, Copy, Debug, PartialEq, Eq)]
+#[derive(Clone, Copy)]
 pub enum Target {
     Constant(Value),
     Type(Kind),

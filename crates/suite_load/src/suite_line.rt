@@ -4,7 +4,7 @@ use crate::suite_text::TestLine;
 use et_base::{Text, Units};
 
 /// What a line says. A file has its name and what it contains.
-#[derive(Debug, Drop)]
+#[derive(Drop)]
 pub enum SuiteLine {
     Header,
     Budget(u64),

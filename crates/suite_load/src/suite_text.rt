@@ -6,7 +6,7 @@ ghost use Rattle.suite_load.specs.declared.suite_text.SuiteRefusal.TheVariants a
 use et_base::{Items, NoMemory, Text, Units};
 
 /// What a suite text says, each list in the order of the text.
-#[derive(Debug, Drop)]
+#[derive(Drop)]
 pub struct SuiteText {
     /// The units that a test may take.
     pub budget: u64,
@@ -19,7 +19,7 @@ pub struct SuiteText {
 }
 
 /// A file that stands when a test begins.
-#[derive(Debug, Drop)]
+#[derive(Drop)]
 pub struct FileLine {
     /// Its name.
     pub name: Units,
@@ -28,7 +28,7 @@ pub struct FileLine {
 }
 
 /// A test.
-#[derive(Debug, Drop)]
+#[derive(Drop)]
 pub struct TestLine {
     /// The number of its line, from 1.
     pub line: u32,

@@ -1,6 +1,6 @@
-use Rattle.std.proofs.Common.{◌≡◌, ◌++◌, drop}
+use Rattle.std.proofs.Common.{◌≡◌, take}
 use Rattle.class_link.proofs.linking.copies.Given as goal
 
--- the copies so far and what is left
+-- the copies so far
 abbrev pub invariant-loop-file : goal.invariant-loop-file
-invariant-loop-file l = l.made ++ drop l.file-index l.files ≡ l.files
+invariant-loop-file l = l.made ≡ take l.file-index l.files

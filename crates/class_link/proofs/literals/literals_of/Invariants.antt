@@ -1,10 +1,10 @@
-use Rattle.std.proofs.Common.{◌≡◌, ◌≤◌, ◌*◌, length, drop, []}
-use Rattle.class_link.specs.Literals.{noted, strings_of}
-use Rattle.std.specs.List.{flat_map}
+use Rattle.std.proofs.Common.{◌≡◌, ◌≤◌, ◌*◌, [], length, take, flat_map}
+use Rattle.class_link.specs.Literals.{strings_of, noted}
 use Rattle.class_link.proofs.literals.literals_of.Given as goal
 
+-- the texts of the classes so far
 abbrev pub invariant-loop-class : goal.invariant-loop-class
 invariant-loop-class l = record {
-  rest : noted l.texts (flat_map (λ c. strings_of c.pool) (drop l.class-index l.classes)) ≡ noted [] (flat_map (λ c. strings_of c.pool) l.classes);
+  texts : l.texts ≡ noted [] (flat_map (λ c. strings_of c.pool) (take l.class-index l.classes));
   few : length l.texts ≤ 65536 * l.class-index;
 }

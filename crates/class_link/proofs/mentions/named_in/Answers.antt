@@ -1,8 +1,8 @@
-use Rattle.std.proofs.Common.{◌∙◌, ap, sym, subst, take, length, ◌++◌, ◌∷◌, []}
+use Rattle.std.proofs.Common.{◌∙◌, ap, subst, take, length, ◌++◌}
 use Rattle.std.specs.List.{flat_map}
-use Rattle.std.proofs.lemmas.List.{flat_map_more, take_more}
 use Rattle.class_link.specs.Assembly.{mentioned_by}
 use Rattle.class_link.specs.Marks.{Lists}
+use Rattle.class_link.proofs.Blocks.{flat_at}
 use Rattle.class_link.proofs.mentions.named_in.Goals as goal
 
 pub loop-slot-preserved : goal.loop-slot-preserved
@@ -14,7 +14,5 @@ loop-slot-preserved c =
     let count = length c.args.names.now in
     subst (λ is. Lists c.list.new.table.items count is)
     (ap (λ is. flat_map f (take i slots) ++ is) c.mentioned_by.ensures
-    ∙ flat_map_more f [] (take i slots) slot
-    ∙ ap (λ x. flat_map f (take i slots ++ x ∷ [])) c.slot-item.is
-    ∙ ap (flat_map f) (sym (take_more slots i slot c.loop-slot-test.true)))
+    ∙ flat_at f slots i slot c.loop-slot-test.true c.slot-item.is)
     (c.list.ensures count _ c.loop-slot.invariant)
