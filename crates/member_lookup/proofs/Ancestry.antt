@@ -1,9 +1,9 @@
 -- The search for the ancestors of a class.
-use Rattle.std.proofs.Common.{◌≡◌, ◌⊎◌, ℕ, zero, suc, ◌+◌, ◌<◌, ◌≤◌, List, [], ◌∷◌, ◌++◌, length, get_or, take, Bool, true, false, ◌||◌, ◌&&◌, if◌then◌else◌, nat_eq, nat_lt, refl, sym, ◌∙◌, ap, subst, inl, inr, arith, Option, Some, None}
+use Rattle.std.proofs.Common.{◌≡◌, ◌⊎◌, ℕ, zero, suc, ◌+◌, ◌<◌, ◌≤◌, List, [], ◌∷◌, ◌++◌, append-nil, append_assoc, length, get_or, take, Bool, true, false, ◌||◌, ◌&&◌, if◌then◌else◌, nat_eq, nat_lt, refl, sym, ◌∙◌, ap, subst, inl, inr, arith, Option, Some, None}
 use Rattle.std.specs.List.{list_all}
 use Rattle.std.proofs.lemmas.Bool.{and_parts, or_cases, or_left, or_right, eqb-true, eq-eqb, ltb-true, cases_lt}
 use Rattle.std.proofs.lemmas.List.Folds.{list_any-append}
-use Rattle.std.proofs.lemmas.List.{get_or-take, get_or_past}
+use Rattle.std.proofs.lemmas.List.{get_or-take, get_or_past, get_or_append_left, length-append}
 use Rattle.indexmap.specs.IndexSet.{insert_key, insert_all}
 use Rattle.jvm_model.specs.declared.program.Program.{Program}
 use Rattle.jvm_model.specs.declared.program.ClassRec.{ClassRec}
@@ -22,10 +22,6 @@ any_append d xs ys = list_any-append (nat_eq d) xs ys
 pub member_self : (d : ℕ) → member d (d ∷ []) ≡ true
 member_self d = rw (eq-eqb d d refl) refl
 
-if_kept : (b : Bool) (ks : List ℕ) (x d : ℕ) → member d ks ≡ true → member d (if b then ks else ks ++ x ∷ []) ≡ true
-if_kept true ks x d m = m
-if_kept false ks x d m = any_append d ks (x ∷ []) ∙ or_left (member d ks) (member d (x ∷ [])) m
-
 if_there : (b : Bool) (ks : List ℕ) (x : ℕ) → member x ks ≡ b → member x (if b then ks else ks ++ x ∷ []) ≡ true
 if_there true ks x e = e
 if_there false ks x e = any_append x ks (x ∷ []) ∙ or_right (member x ks) (member x (x ∷ [])) (member_self x)
@@ -34,9 +30,20 @@ if_from : (b : Bool) (ks : List ℕ) (x d : ℕ) → member d (if b then ks else
 if_from true ks x d m = inl m
 if_from false ks x d m = or_cases (member d ks) (member d (x ∷ [])) (sym (any_append d ks (x ∷ [])) ∙ m)
 
+-- what was noted before stays in front
+if_grows : (b : Bool) (ks : List ℕ) (x : ℕ) → (more : List ℕ) × ((if b then ks else ks ++ x ∷ []) ≡ ks ++ more)
+if_grows true ks x = ([], sym (append-nil ks))
+if_grows false ks x = (x ∷ [], refl)
+
+insert_grows : (ks xs : List ℕ) → (more : List ℕ) × (insert_all nat_eq ks xs ≡ ks ++ more)
+insert_grows ks [] = ([], sym (append-nil ks))
+insert_grows ks (x ∷ xs) =
+    let one = if_grows (member x ks) ks x in
+    let rest = insert_grows (insert_key nat_eq ks x) xs in
+    (one.0 ++ rest.0, rest.1 ∙ ap (λ ls. ls ++ rest.0) one.1 ∙ append_assoc ks one.0 rest.0)
+
 pub member_kept : (ks xs : List ℕ) (d : ℕ) → member d ks ≡ true → member d (insert_all nat_eq ks xs) ≡ true
-member_kept ks [] d m = m
-member_kept ks (x ∷ xs) d m = member_kept (insert_key nat_eq ks x) xs d (if_kept (member x ks) ks x d m)
+member_kept ks xs d m = let g = insert_grows ks xs in ap (member d) g.1 ∙ any_append d ks g.0 ∙ or_left (member d ks) (member d g.0) m
 
 pub member_there : (ks xs : List ℕ) (d : ℕ) → member d xs ≡ true → member d (insert_all nat_eq ks xs) ≡ true
 member_there ks [] d m = absurd (cc)
@@ -56,28 +63,11 @@ pub member_from : (ks xs : List ℕ) (d : ℕ) → member d (insert_all nat_eq k
 member_from ks [] d m = inl m
 member_from ks (x ∷ xs) d m = from_cons ks xs x d (member_from (insert_key nat_eq ks x) xs d m)
 
--- what was noted before stays in its place
-get_front : (xs ys : List ℕ) (j : ℕ) → j < length xs → get_or (xs ++ ys) j 0 ≡ get_or xs j 0
-get_front [] ys j h = absurd (omega arith)
-get_front (x ∷ xs) ys zero h = refl
-get_front (x ∷ xs) ys (suc j) h = get_front xs ys j (omega arith)
-
-if_get : (b : Bool) (ks : List ℕ) (x j : ℕ) → j < length ks → get_or (if b then ks else ks ++ x ∷ []) j 0 ≡ get_or ks j 0
-if_get true ks x j h = refl
-if_get false ks x j h = get_front ks (x ∷ []) j h
-
-length_push : (ks : List ℕ) (x j : ℕ) → j < length ks → j < length (ks ++ x ∷ [])
-length_push [] x j h = absurd (omega arith)
-length_push (k ∷ ks) x zero h = omega arith
-length_push (k ∷ ks) x (suc j) h = let q = length_push ks x j (omega arith) in omega arith
-
-if_length : (b : Bool) (ks : List ℕ) (x j : ℕ) → j < length ks → j < length (if b then ks else ks ++ x ∷ [])
-if_length true ks x j h = h
-if_length false ks x j h = length_push ks x j h
-
 insert_get : (ks xs : List ℕ) (j : ℕ) → j < length ks → get_or (insert_all nat_eq ks xs) j 0 ≡ get_or ks j 0
-insert_get ks [] j h = refl
-insert_get ks (x ∷ xs) j h = insert_get (insert_key nat_eq ks x) xs j (if_length (member x ks) ks x j h) ∙ if_get (member x ks) ks x j h
+insert_get ks xs j h = let g = insert_grows ks xs in ap (λ ls. get_or ls j 0) g.1 ∙ get_or_append_left ks g.0 0 j h
+
+length_insert : (ks xs : List ℕ) → length ks ≤ length (insert_all nat_eq ks xs)
+length_insert ks xs = let g = insert_grows ks xs in omega (arith, ap length g.1, length-append ks g.0)
 
 pub member_get : (ks : List ℕ) (j : ℕ) → j < length ks → member (get_or ks j 0) ks ≡ true
 member_get [] j h = absurd (omega arith)
@@ -127,15 +117,6 @@ searches_none p c = record {
   closed = λ j h d m. absurd (omega arith);
   within = omega arith;
 }
-
-length_if : (b : Bool) (ks : List ℕ) (x : ℕ) → length ks ≤ length (if b then ks else ks ++ x ∷ [])
-length_if true ks x = omega arith
-length_if false [] x = omega arith
-length_if false (k ∷ ks) x = let q = length_if false ks x in omega arith
-
-length_insert : (ks xs : List ℕ) → length ks ≤ length (insert_all nat_eq ks xs)
-length_insert ks [] = omega arith
-length_insert ks (x ∷ xs) = let q = length_insert (insert_key nat_eq ks x) xs in let r = length_if (member x ks) ks x in omega arith
 
 closed_more : (p : Program) (c place : ℕ) (keys : List ℕ) → Searches p c place keys → place < length keys → (j : ℕ) → j < place + 1 → (d : ℕ) → member d (directs p (get_or (insert_all nat_eq keys (directs p (get_or keys place 0))) j 0)) ≡ true → member d (insert_all nat_eq keys (directs p (get_or keys place 0))) ≡ true
 closed_more p c place keys s h j g d m =

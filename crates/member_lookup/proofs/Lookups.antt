@@ -2,6 +2,8 @@
 use Rattle.std.proofs.Common.{◌≡◌, ℕ, zero, suc, ◌+◌, ◌-◌, ◌<◌, List, [], ◌∷◌, ◌++◌, append-nil, add-one, length, get_or, take, drop, filter, find, flat_map, Bool, true, false, not, ◌||◌, ◌&&◌, cond, nat_eq, refl, sym, ◌∙◌, ap, arith, lit<, is_some, slice_get, Option, Some, None}
 use Rattle.std.specs.List.{list_any}
 use Rattle.std.specs.Option.{option_or}
+use Rattle.std.proofs.Math.Path.{fun_ext}
+use Rattle.std.proofs.Math.Bool.{or-false, or_comm}
 use Rattle.std.proofs.lemmas.List.Concat.{flat_map-append}
 use Rattle.std.proofs.lemmas.List.Elements.{filter_agree, filter_more, filter-append}
 use Rattle.std.proofs.lemmas.List.Folds.{find-append}
@@ -21,46 +23,37 @@ use Rattle.member_lookup.proofs.MentionFacts.{find_mentions, flat_mentions, filt
 
 -- ---- the paths of look-ups are walks
 
-flat_same : (f g : ℕ → List ℕ) (xs : List ℕ) → ((x : ℕ) → f x ≡ g x) → flat_map f xs ≡ flat_map g xs
-flat_same f g [] e = refl
-flat_same f g (x ∷ xs) e = ap (λ l. l ++ flat_map f xs) (e x) ∙ ap (λ l. g x ++ l) (flat_same f g xs e)
+one_flat : (f : ℕ → List ℕ) (o : Option ℕ) → elim o as (λ _. List ℕ) [ None ↦ [] | Some d ↦ f d ] ≡ flat_map f (option_to_list o)
+one_flat f None = refl
+one_flat f (Some d) = sym (append-nil (f d))
 
-above_same : (p : Program) (k : ℕ) (o : Option ℕ) → ((c : ℕ) → field_path_in p k c ≡ walk p true k c) → elim o as (λ _. List ℕ) [ None ↦ [] | Some d ↦ field_path_in p k d ] ≡ flat_map (λ d. walk p true k d) (option_to_list o)
-above_same p k None e = refl
-above_same p k (Some d) e = e d ∙ sym (append-nil (walk p true k d))
-
-field_walk : (p : Program) (k c : ℕ) → field_path_in p k c ≡ walk p true k c
-field_walk p zero c = refl
-field_walk p (suc k) c =
+field_walk : (p : Program) (k : ℕ) → field_path_in p k ≡ walk p true k
+field_walk p zero = refl
+field_walk p (suc k) = fun_ext (λ c.
     let up = class_at p c in
-    ap (λ l. c ∷ l) (ap (λ l. flat_map (λ i. field_path_in p k i) up.interfaces ++ l) (above_same p k up.superclass (λ d. field_walk p k d))
-    ∙ ap (λ l. l ++ flat_map (λ d. walk p true k d) (option_to_list up.superclass)) (flat_same (λ i. field_path_in p k i) (λ i. walk p true k i) up.interfaces (λ i. field_walk p k i))
-    ∙ sym (flat_map-append (λ d. walk p true k d) up.interfaces (option_to_list up.superclass)))
+    ap (λ (f : ℕ → List ℕ). c ∷ (flat_map f up.interfaces ++ (elim up.superclass as (λ _. List ℕ) [ None ↦ [] | Some d ↦ f d ]))) (field_walk p k)
+    ∙ ap (λ l. c ∷ (flat_map (walk p true k) up.interfaces ++ l)) (one_flat (walk p true k) up.superclass)
+    ∙ ap (λ l. c ∷ l) (sym (flat_map-append (walk p true k) up.interfaces (option_to_list up.superclass))))
 
 pub path_walk : (p : Program) (c : ℕ) → field_path p c ≡ walk p true class_bound c
 unfolding field_path
-path_walk p c = field_walk p class_bound c
+path_walk p c = ap (λ (f : ℕ → List ℕ). f c) (field_walk p class_bound)
 
-pedigree_walk : (p : Program) (k i : ℕ) → pedigree_in p k i ≡ walk p false k i
-pedigree_walk p zero i = refl
-pedigree_walk p (suc k) i =
+pedigree_walk : (p : Program) (k : ℕ) → pedigree_in p k ≡ walk p false k
+pedigree_walk p zero = refl
+pedigree_walk p (suc k) = fun_ext (λ i.
     let above = (class_at p i).interfaces in
-    ap (λ l. i ∷ l) (flat_same (λ j. pedigree_in p k j) (λ j. walk p false k j) above (λ j. pedigree_walk p k j) ∙ ap (λ (xs : List ℕ). flat_map (λ j. walk p false k j) xs) (sym (append-nil above)))
+    ap (λ (f : ℕ → List ℕ). i ∷ flat_map f above) (pedigree_walk p k) ∙ ap (λ (xs : List ℕ). i ∷ flat_map (walk p false k) xs) (sym (append-nil above)))
 
 pub superinterfaces_walk : (p : Program) (c : ℕ) → superinterfaces p c ≡ flat_map (λ d. above_class p d) (upwards p c)
 unfolding superinterfaces
-superinterfaces_walk p c = flat_same (λ d. flat_map (λ i. pedigree_in p class_bound i) (class_at p d).interfaces) (λ d. above_class p d) (upwards p c)
-    (λ d. flat_same (λ i. pedigree_in p class_bound i) (λ i. walk p false class_bound i) (class_at p d).interfaces (λ i. pedigree_walk p class_bound i))
+superinterfaces_walk p c = ap (λ (f : ℕ → List ℕ). flat_map (λ d. flat_map f (class_at p d).interfaces) (upwards p c)) (pedigree_walk p class_bound)
 
 member_flat : (d : ℕ) (f g : ℕ → List ℕ) (xs : List ℕ) → ((x : ℕ) → member d (f x) ≡ member d (g x)) → member d (flat_map f xs) ≡ member d (flat_map g xs)
-member_flat d f g [] e = refl
-member_flat d f g (x ∷ xs) e = any_append d (f x) (flat_map f xs) ∙ ap (λ b. b || member d (flat_map f xs)) (e x) ∙ ap (λ b. member d (g x) || b) (member_flat d f g xs e) ∙ sym (any_append d (g x) (flat_map g xs))
+member_flat d f g xs e = sym (any_flat d f xs) ∙ ap (λ (test : ℕ → Bool). list_any test xs) (fun_ext e) ∙ any_flat d g xs
 
 or_moved : (a b : Bool) → (a || (b || false)) ≡ (b || a)
-or_moved true true = refl
-or_moved true false = refl
-or_moved false true = refl
-or_moved false false = refl
+or_moved a b = ap (λ x. a || x) (or-false b) ∙ or_comm a b
 
 lineage_walk : (p : Program) (d k i : ℕ) → member d (lineage_in p k i) ≡ member d (walk p false k i)
 lineage_walk p d zero i = refl
@@ -91,23 +84,16 @@ pub chain_step : (p : Program) (k c : ℕ) → 0 < k → chain p k (Some c) ≡ 
 chain_step p zero c h = absurd (omega arith)
 chain_step p (suc k) c h = let e : k ≡ suc k - 1 = omega arith in ap (λ l. c ∷ l) (chain_above p k (class_at p c).superclass) ∙ ap (λ n. c ∷ chain p n (class_at p c).superclass) e
 
-pub declared_step : (p : Program) (name descriptor : List ℕ) (k c : ℕ) → 0 < k → find_declared p name descriptor (chain p k (Some c)) ≡ option_or (find (λ n. is_method p name descriptor n) (class_at p c).methods) (find_declared p name descriptor (chain p (k - 1) (class_at p c).superclass))
-declared_step p name descriptor k c h = ap (λ cs. find_declared p name descriptor cs) (chain_step p k c h) ∙ find-append (λ n. is_method p name descriptor n) (class_at p c).methods (flat_map (λ d. (class_at p d).methods) (chain p (k - 1) (class_at p c).superclass))
-
 -- ---- methods of superinterfaces
 
 -- what is chosen among methods
 abbrev pub chosen : Program → List ℕ → Option ℕ
 chosen p ms = one_or_first (filter (λ m. is_kept p (first_mentions (flat_map (λ n. above_class p (method_at p n).class) ms)) m) ms) ms
 
-any_same : (f g : ℕ → Bool) (xs : List ℕ) → ((x : ℕ) → f x ≡ g x) → list_any f xs ≡ list_any g xs
-any_same f g [] e = refl
-any_same f g (x ∷ xs) e = ap (λ b. b || list_any f xs) (e x) ∙ ap (λ b. g x || b) (any_same f g xs e)
-
 redeclared_is : (p : Program) (x : ℕ) (ms : List ℕ) → list_any (λ n. redeclares p n x) ms ≡ member (method_at p x).class (first_mentions (flat_map (λ n. above_class p (method_at p n).class) (first_mentions ms)))
 redeclared_is p x ms =
     let c = (method_at p x).class in
-    any_same (λ n. redeclares p n x) (λ n. member c (above_class p (method_at p n).class)) ms (λ n. own_walk p c (method_at p n).class)
+    ap (λ (test : ℕ → Bool). list_any test ms) (fun_ext (λ n. own_walk p c (method_at p n).class))
     ∙ any_flat c (λ n. above_class p (method_at p n).class) ms
     ∙ sym (member_mentions c (flat_map (λ n. above_class p (method_at p n).class) ms))
     ∙ ap (λ l. member c l) (sym (flat_mentions (λ n. above_class p (method_at p n).class) ms))
@@ -181,9 +167,6 @@ pub record Climbs {S : Type 0} (p : Program) (c k : ℕ) (next : Option ℕ) (ol
   pub walked : IsWalked p false seen
 
 module _ {S : Type 0} (p : Program) (c : ℕ) where
-  pub climbs_none : (old : IndexMap ℕ ℕ S) → IsWalked p false old → Climbs p c class_bound (Some c) old old
-  climbs_none old w = record { noted = refl; walked = w }
-
   pub climbs_more : (k b d : ℕ) (xs : List ℕ) (above : Option ℕ) (old mid new : IndexMap ℕ ℕ S) → 0 < k → b ≡ class_bound → xs ≡ (class_at p d).interfaces → above ≡ (class_at p d).superclass → Climbs p c k (Some d) old mid
       → Visits p false (flat_map (λ i. walk p false b i) xs) mid new → Climbs p c (k - 1) above old new
   climbs_more k b d xs above old mid new h l e f m v =
@@ -197,41 +180,21 @@ module _ {S : Type 0} (p : Program) (c : ℕ) where
         walked = v.walked;
       }
 
-  pub climbs_all : (k : ℕ) (next : Option ℕ) (old new : IndexMap ℕ ℕ S) → chain p k next ≡ [] → Climbs p c k next old new → Visits p false (flat_map (λ d. above_class p d) (upwards p c)) old new
-  climbs_all k next old new e m = record {
-    noted = sym (ap (λ cs. insert_all nat_eq (keys new) (flat_map (λ x. above_class p x) cs)) e) ∙ m.noted;
-    walked = m.walked;
-  }
-
-pub chain_over : (p : Program) (k : ℕ) (o : Option ℕ) → k ≡ 0 → chain p k o ≡ []
-chain_over p k o e = ap (λ n. chain p n o) e ∙ none_left o
-  where
-    none_left : (x : Option ℕ) → chain p 0 x ≡ []
-    none_left None = refl
-    none_left (Some c) = refl
-
 -- ---- a search through classes, step by step
 
 module _ (p : Program) (name descriptor : List ℕ) where
-  pub field_here : (cs : List ℕ) (i f : ℕ) (r : Option ℕ) → i < length cs → Some f ≡ find (λ n. is_field p name descriptor n) (class_at p (get_or cs i 0)).fields
-      → find (λ n. is_field p name descriptor n) (flat_map (λ d. (class_at p d).fields) (drop i cs)) ≡ r → Some f ≡ r
-  field_here cs i f r h e g =
-      ap (λ o. option_or o (find (λ n. is_field p name descriptor n) (flat_map (λ d. (class_at p d).fields) (drop (i + 1) cs)))) e ∙ sym (find_next (λ n. is_field p name descriptor n) (λ d. (class_at p d).fields) cs i h) ∙ g
+  pub field_step : (cs : List ℕ) (i : ℕ) (o r : Option ℕ) → i < length cs → o ≡ find (λ n. is_field p name descriptor n) (class_at p (get_or cs i 0)).fields
+      → find (λ n. is_field p name descriptor n) (flat_map (λ d. (class_at p d).fields) (drop i cs)) ≡ r → option_or o (find (λ n. is_field p name descriptor n) (flat_map (λ d. (class_at p d).fields) (drop (i + 1) cs))) ≡ r
+  field_step cs i o r h e g =
+      ap (λ x. option_or x (find (λ n. is_field p name descriptor n) (flat_map (λ d. (class_at p d).fields) (drop (i + 1) cs)))) e ∙ sym (find_next (λ n. is_field p name descriptor n) (λ d. (class_at p d).fields) cs i h) ∙ g
 
-  pub field_on : (cs : List ℕ) (i : ℕ) (r : Option ℕ) → i < length cs → None ≡ find (λ n. is_field p name descriptor n) (class_at p (get_or cs i 0)).fields
-      → find (λ n. is_field p name descriptor n) (flat_map (λ d. (class_at p d).fields) (drop i cs)) ≡ r → find (λ n. is_field p name descriptor n) (flat_map (λ d. (class_at p d).fields) (drop (i + 1) cs)) ≡ r
-  field_on cs i r h e g =
-      ap (λ o. option_or o (find (λ n. is_field p name descriptor n) (flat_map (λ d. (class_at p d).fields) (drop (i + 1) cs)))) e ∙ sym (find_next (λ n. is_field p name descriptor n) (λ d. (class_at p d).fields) cs i h) ∙ g
-
-  pub declared_here : (k c m : ℕ) (next r : Option ℕ) → 0 < k → next ≡ Some c → Some m ≡ find (λ n. is_method p name descriptor n) (class_at p c).methods → find_declared p name descriptor (chain p k next) ≡ r → Some m ≡ r
-  declared_here k c m next r h n e g =
-      ap (λ o. option_or o (find_declared p name descriptor (chain p (k - 1) (class_at p c).superclass))) e ∙ sym (declared_step p name descriptor k c h) ∙ ap (λ o. find_declared p name descriptor (chain p k o)) (sym n) ∙ g
-
-  pub declared_on : (k c : ℕ) (next above r : Option ℕ) → 0 < k → next ≡ Some c → above ≡ (class_at p c).superclass → None ≡ find (λ n. is_method p name descriptor n) (class_at p c).methods
-      → find_declared p name descriptor (chain p k next) ≡ r → find_declared p name descriptor (chain p (k - 1) above) ≡ r
-  declared_on k c next above r h n a e g =
-      ap (λ o. find_declared p name descriptor (chain p (k - 1) o)) a
-      ∙ ap (λ o. option_or o (find_declared p name descriptor (chain p (k - 1) (class_at p c).superclass))) e ∙ sym (declared_step p name descriptor k c h) ∙ ap (λ o. find_declared p name descriptor (chain p k o)) (sym n) ∙ g
+  pub declared_step : (k c : ℕ) (o next above r : Option ℕ) → 0 < k → next ≡ Some c → above ≡ (class_at p c).superclass → o ≡ find (λ n. is_method p name descriptor n) (class_at p c).methods
+      → find_declared p name descriptor (chain p k next) ≡ r → option_or o (find_declared p name descriptor (chain p (k - 1) above)) ≡ r
+  declared_step k c o next above r h n a e g =
+      let rest = chain p (k - 1) (class_at p c).superclass in
+      let step : find_declared p name descriptor (chain p k (Some c)) ≡ option_or (find (λ n. is_method p name descriptor n) (class_at p c).methods) (find_declared p name descriptor rest) =
+      ap (λ cs. find_declared p name descriptor cs) (chain_step p k c h) ∙ find-append (λ n. is_method p name descriptor n) (class_at p c).methods (flat_map (λ d. (class_at p d).methods) rest) in
+      ap (λ x. option_or o (find_declared p name descriptor (chain p (k - 1) x))) a ∙ ap (λ x. option_or x (find_declared p name descriptor rest)) e ∙ sym step ∙ ap (λ x. find_declared p name descriptor (chain p k x)) (sym n) ∙ g
 
 pub first_get : (ms : List ℕ) → slice_get ms 0 ≡ one_or_first [] ms
 first_get [] = refl

@@ -72,9 +72,6 @@ filter_flat h g (x ∷ xs) = filter-append h (g x) (flat_map g xs) ∙ ap (λ l.
 
 -- ---- numbers noted once each are the first mentions
 
-unless_noted : List ℕ → ℕ → Bool
-unless_noted ks y = not (member y ks)
-
 noted_step : (b : Bool) (ks : List ℕ) (x : ℕ) (xs : List ℕ) → member x ks ≡ b
     → ((ls : List ℕ) → insert_all nat_eq ls xs ≡ ls ++ filter (λ y. not (member y ls)) (first_mentions xs))
     → insert_all nat_eq (if b then ks else ks ++ x ∷ []) xs ≡ ks ++ cond (not b) (x ∷ filter (λ y. not (member y ks)) (but x (first_mentions xs))) (filter (λ y. not (member y ks)) (but x (first_mentions xs)))

@@ -3,7 +3,7 @@ use Rattle.std.proofs.Common.{◌≡◌, ℕ, zero, suc, ◌+◌, ◌-◌, ◌<�
 use Rattle.std.proofs.lemmas.Bool.{or_cases, or_left, or_right, eqb-true, eq-eqb, leb-true}
 use Rattle.std.proofs.lemmas.List.{take_more}
 use Rattle.std.proofs.lemmas.List.Concat.{flat_map-append}
-use Rattle.std.specs.Map.{keys_of, lookup}
+use Rattle.std.specs.Map.{keys_of}
 use Rattle.indexmap.specs.IndexMap.{IndexMap, get, keys}
 use Rattle.indexmap.specs.IndexSet.{insert_key, insert_all}
 use Rattle.jvm_model.specs.declared.program.Program.{Program}
@@ -30,9 +30,6 @@ insert_known ks (x ∷ xs) f =
 -- ---- more steps reach more
 
 module _ (p : Program) (supers : Bool) where
-  walks : ℕ → List ℕ → List ℕ
-  walks k cs = flat_map (λ d. walk p supers k d) cs
-
   all_more : (k n d : ℕ) (cs : List ℕ) → ((c : ℕ) → member d (walk p supers k c) ≡ true → member d (walk p supers n c) ≡ true) → member d (flat_map (λ x. walk p supers k x) cs) ≡ true → member d (flat_map (λ x. walk p supers n x) cs) ≡ true
   all_more k n d [] f m = m
   all_more k n d (c ∷ cs) f m = any_append d (walk p supers n c) (flat_map (λ x. walk p supers n x) cs) ∙ elim (or_cases (member d (walk p supers k c)) (member d (flat_map (λ x. walk p supers k x) cs)) (sym (any_append d (walk p supers k c) (flat_map (λ x. walk p supers k x) cs)) ∙ m)) [
@@ -106,14 +103,12 @@ module _ (p : Program) (supers : Bool) where
           walked = walked_with k c mid last u n (λ d m. subst (λ ks. member d ks ≡ true) (sym done) (member_there (keys old) (walk p supers k c) d m)) v.walked;
         }
 
-    -- one class more
-    pub visits_more : (k i : ℕ) (cs : List ℕ) (old mid new : IndexMap ℕ ℕ S) → i < length cs → Visits p supers (flat_map (λ d. walk p supers k d) (take i cs)) old mid → Visits p supers (walk p supers k (get_or cs i 0)) mid new
-        → Visits p supers (flat_map (λ d. walk p supers k d) (take (i + 1) cs)) old new
-    visits_more k i cs old mid new h v w =
+    -- one list more
+    pub visits_more : (g : ℕ → List ℕ) (i : ℕ) (cs : List ℕ) (old mid new : IndexMap ℕ ℕ S) → i < length cs → Visits p supers (flat_map g (take i cs)) old mid → Visits p supers (g (get_or cs i 0)) mid new → Visits p supers (flat_map g (take (i + 1) cs)) old new
+    visits_more g i cs old mid new h v w =
         let c = get_or cs i 0 in
-        let joined : flat_map (λ d. walk p supers k d) (take (i + 1) cs) ≡ flat_map (λ d. walk p supers k d) (take i cs) ++ walk p supers k c =
-        ap (λ xs. flat_map (λ d. walk p supers k d) xs) (take_more cs i 0 h) ∙ flat_map-append (λ d. walk p supers k d) (take i cs) (c ∷ []) ∙ ap (λ xs. flat_map (λ d. walk p supers k d) (take i cs) ++ xs) (append-nil (walk p supers k c)) in
-        subst (λ xs. Visits p supers xs old new) (sym joined) (visits_append (flat_map (λ d. walk p supers k d) (take i cs)) (walk p supers k c) old mid new v w)
+        let joined : flat_map g (take (i + 1) cs) ≡ flat_map g (take i cs) ++ g c = ap (λ xs. flat_map g xs) (take_more cs i 0 h) ∙ flat_map-append g (take i cs) (c ∷ []) ∙ ap (λ xs. flat_map g (take i cs) ++ xs) (append-nil (g c)) in
+        subst (λ xs. Visits p supers xs old new) (sym joined) (visits_append (flat_map g (take i cs)) (g c) old mid new v w)
 
     -- the superinterfaces and then the superclass
     pub visits_nexts : (k c : ℕ) (xs : List ℕ) (old mid new : IndexMap ℕ ℕ S) → xs ≡ (class_at p c).interfaces → Visits p supers (flat_map (λ d. walk p supers k d) xs) old mid
@@ -124,20 +119,6 @@ module _ (p : Program) (supers : Bool) where
         flat_map-append (λ d. walk p supers k d) (class_at p c).interfaces above ∙ ap (λ (ys : List ℕ). flat_map (λ d. walk p supers k d) ys ++ flat_map (λ d. walk p supers k d) above) (sym e) in
         subst (λ ys. Visits p supers ys old new) (sym joined) (visits_append (flat_map (λ d. walk p supers k d) xs) (flat_map (λ d. walk p supers k d) above) old mid new v w)
 
-    -- no class is noted
-    pub walked_none : (m : IndexMap ℕ ℕ S) → m.entries ≡ [] → IsWalked p supers m
-    walked_none m e c k g d w = let q : lookup (nat_eq c) [] ≡ Some k = subst (λ (es : List (ℕ × ℕ)). lookup (nat_eq c) es ≡ Some k) e g in absurd (cc)
-
-    pub keys_none : (m : IndexMap ℕ ℕ S) → m.entries ≡ [] → keys m ≡ []
-    keys_none m e = ap keys_of e
-
     -- what a walk from nothing notes
     pub visits_all : (xs : List ℕ) (old new : IndexMap ℕ ℕ S) → old.entries ≡ [] → Visits p supers xs old new → keys new ≡ insert_all nat_eq [] xs
-    visits_all xs old new e v = v.noted ∙ ap (λ ks. insert_all nat_eq ks xs) (keys_none old e)
-
-    -- one list more
-    pub visits_flat : (g : ℕ → List ℕ) (i : ℕ) (cs : List ℕ) (old mid new : IndexMap ℕ ℕ S) → i < length cs → Visits p supers (flat_map g (take i cs)) old mid → Visits p supers (g (get_or cs i 0)) mid new → Visits p supers (flat_map g (take (i + 1) cs)) old new
-    visits_flat g i cs old mid new h v w =
-        let c = get_or cs i 0 in
-        let joined : flat_map g (take (i + 1) cs) ≡ flat_map g (take i cs) ++ g c = ap (λ xs. flat_map g xs) (take_more cs i 0 h) ∙ flat_map-append g (take i cs) (c ∷ []) ∙ ap (λ xs. flat_map g (take i cs) ++ xs) (append-nil (g c)) in
-        subst (λ xs. Visits p supers xs old new) (sym joined) (visits_append (flat_map g (take i cs)) (g c) old mid new v w)
+    visits_all xs old new e v = v.noted ∙ ap (λ ks. insert_all nat_eq ks xs) (ap keys_of e)

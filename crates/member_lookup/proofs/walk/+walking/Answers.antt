@@ -1,5 +1,6 @@
 use Rattle.std.proofs.Common.{nat_eq, arith, sym, ap, ◌∙◌}
 use Rattle.std.specs.Map.{keys_of}
+use Rattle.member_lookup.specs.Walks.{walk}
 use Rattle.indexmap.proofs.SetLemmas.{keys_insert_entry}
 use Rattle.member_lookup.proofs.Walking.{visits_none, visits_known, walked_start, visits_walk, visits_more, visits_nexts}
 use Rattle.member_lookup.proofs.walk.+walking.Goals as goal
@@ -25,7 +26,7 @@ pub visit_all-visit-requires : goal.visit_all-visit-requires
 visit_all-visit-requires t c = (omega arith, c.loop-class.invariant.walked)
 
 pub visit_all-loop-class-preserved : goal.visit_all-loop-class-preserved
-visit_all-loop-class-preserved t c = visits_more _ _ _ _ _ _ _ _ c.loop-class-test.true c.loop-class.invariant c.in_ok-visit.ensures
+visit_all-loop-class-preserved t c = visits_more _ _ (λ d. walk c.args.p.now c.args.supers c.args.steps d) _ _ _ _ _ c.loop-class-test.true c.loop-class.invariant c.in_ok-visit.ensures
 
 pub visit_nexts-visit_all-requires : goal.visit_nexts-visit_all-requires
 visit_nexts-visit_all-requires t c = (omega arith, c.requires)
