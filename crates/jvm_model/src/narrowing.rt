@@ -41,6 +41,10 @@ impl Value {
     pub fn narrow(self, unit: u16) -> Value
         ensures { result ≡ narrowing.narrow unit self }
     {
+        // Most are ints, and what the value is isn't asked for then.
+        if unit == INT {
+            return self;
+        }
         match self {
             Value::Int(n) => Value::Int(narrow_int(unit, n)),
             Value::Long(_) | Value::Null | Value::Lit(_) | Value::Obj(_) => self,
