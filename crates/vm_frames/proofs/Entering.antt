@@ -1,20 +1,17 @@
 -- Entries that are pushed and popped.
-use Rattle.std.proofs.Common.{◌≡◌, ℕ, zero, suc, ◌<◌, ◌≤◌, ◌-◌, ◌+◌, ◌^◌, List, [], ◌∷◌, ◌++◌, length, get_or, take, drop, map, reverse, refl, sym, ap, ◌∙◌, arith, length-append, false, subst}
+use Rattle.std.proofs.Common.{◌≡◌, ℕ, zero, suc, ◌<◌, ◌≤◌, ◌-◌, ◌+◌, ◌^◌, List, [], ◌∷◌, ◌++◌, length, get_or, set, take, drop, map, reverse, refl, sym, ap, ◌∙◌, arith, length-append, false, subst}
 use Rattle.std.proofs.lemmas.List.{reverse-append, take-take, take_at, drop_at, drop_more, take_more, drop-append-le, append-nil, length-take-le, nil_from_length, length-map, length-reverse, drop-take, drop_all}
 use Rattle.std.proofs.lemmas.Bool.Decides.{nat_tests}
 use Rattle.jvm_model.specs.declared.values.Value.{Value}
 use Rattle.jvm_model.specs.declared.values.Value.TheVariants.{Null}
 use Rattle.jvm_model.specs.declared.state.EntryKind.{EntryKind}
 use Rattle.jvm_model.specs.declared.state.EntryKind.TheVariants.{Absent, InMethod, InClass}
-use Rattle.jvm_model.specs.Entries.{Entry, Entries, with_stack, with_entry, popped_entry, all_entries, is_full, filled, slots_of}
+use Rattle.jvm_model.specs.Entries.{Entry, Entries, entries_of, with_stack, with_entry, popped_entry, all_entries, is_full, filled, slots_of}
 use Rattle.vm_frames.specs.declared.extent.Extent.{Extent}
-use Rattle.vm_frames.specs.Stack.{frame_with, called_with}
-use Rattle.vm_frames.specs.Extents.{downwards, upwards, entry_of, entries_at, saved_by, IsWithin, AreStacked, IsStanding, HasFrame}
+use Rattle.vm_frames.specs.Stack.{HasRoom, frame_with, called_with}
+use Rattle.vm_frames.specs.Extents.{downwards, upwards, entry_of, entries_at, saved_by, no_extent, IsTaken, IsWithin, AreStacked, IsStanding, HasFrame}
 use Rattle.vm_frames.proofs.Lower.{entry_same, below_same, take_lower}
-use Rattle.vm_frames.proofs.Tops.{downwards_none, length_downwards, standing-move}
-
-abbrev pub no_extent : Extent
-no_extent = record { kind = Absent; number = 0; pc = 0; base = 0; first = 0; top = 0 }
+use Rattle.vm_frames.proofs.Tops.{downwards_none, length_downwards, top_is, entries-push, standing-move, standing-raised}
 
 abbrev pub frame_at : ℕ → ℕ → ℕ → Extent
 frame_at m base first = record { kind = InMethod; number = m; pc = 0; base = base; first = first; top = first }
@@ -29,16 +26,38 @@ stacked-grow n n' b b' (e ∷ es) h k w = (record { locals = w.0.locals; operand
 
 -- a pop
 
-pub entries-popped : (xs : List Value) (e c : Extent) (saved rest : List Extent) → saved ≡ rest ++ e ∷ [] → entries_at xs e rest ≡ popped_entry (entries_at xs c saved)
-entries-popped xs e c saved rest q = rw (q, reverse-append rest (e ∷ [])) refl
+pub taken_some : (e : Extent) (saved rest : List Extent) → saved ≡ rest ++ e ∷ [] → IsTaken saved rest e
+taken_some e [] rest q = let none : ⊥ = omega (arith, ap length q, length-append rest (e ∷ [])) in absurd none
+taken_some e (f ∷ fs) rest q = q
 
-pub entries-emptied : (xs : List Value) (c : Extent) (saved rest : List Extent) → length saved ≡ 0 → length rest ≡ 0 → entries_at xs no_extent rest ≡ popped_entry (entries_at xs c saved)
-entries-emptied xs c saved rest h k = rw (nil_from_length saved h, nil_from_length rest k) refl
+pub taken_none : (saved rest : List Extent) → length saved ≡ 0 → length rest ≡ 0 → IsTaken saved rest no_extent
+taken_none [] rest h k = (nil_from_length rest k, refl)
+taken_none (f ∷ fs) rest h k = let none : ⊥ = omega arith in absurd none
 
-pub standing-popped : (n : ℕ) (e c : Extent) (saved rest : List Extent) → saved ≡ rest ++ e ∷ [] → IsStanding n c saved → IsStanding n e rest
-standing-popped n e c saved rest q w =
-    let turned : reverse saved ≡ e ∷ reverse rest = rw (q, reverse-append rest (e ∷ [])) refl in
-    let below : AreStacked n c.base (e ∷ reverse rest) = rw turned at w.below in
+turned : (e : Extent) (saved rest : List Extent) → saved ≡ rest ++ e ∷ [] → reverse saved ≡ e ∷ reverse rest
+turned e saved rest q = ap reverse q ∙ reverse-append rest (e ∷ [])
+
+pub entries-popped : (xs : List Value) (e c : Extent) (saved rest : List Extent) → IsTaken saved rest e → entries_at xs e rest ≡ popped_entry (entries_at xs c saved)
+entries-popped xs e c [] rest q = rw (q.0, q.1) refl
+entries-popped xs e c (f ∷ fs) rest q = ap (λ (es : List Extent). entries_of (map (entry_of xs) es)) (sym (turned e (f ∷ fs) rest q))
+
+-- the extent that is taken stands below the one above it
+pub taken-under : (n : ℕ) (e c : Extent) (saved rest : List Extent) → IsTaken saved rest e → IsStanding n c saved → e.top ≤ c.base
+taken-under n e c [] rest q w = rw q.1 (omega arith)
+taken-under n e c (f ∷ fs) rest q w =
+    let below : AreStacked n c.base (e ∷ reverse rest) = rw (turned e (f ∷ fs) rest q) at w.below in
+    below.0.under
+
+pub standing-popped : (n : ℕ) (e c : Extent) (saved rest : List Extent) → IsTaken saved rest e → IsStanding n c saved → IsStanding n e rest
+standing-popped n e c [] rest q w =
+    rw (q.0, q.1) (record {
+      here = record { locals = omega arith; operands = omega arith; limited = omega arith; room = omega arith; under = omega arith };
+      below = tt;
+      depth = omega arith;
+      few = w.few;
+    })
+standing-popped n e c (f ∷ fs) rest q w =
+    let below : AreStacked n c.base (e ∷ reverse rest) = rw (turned e (f ∷ fs) rest q) at w.below in
     record {
       here = record { locals = below.0.locals; operands = below.0.operands; limited = below.0.limited; room = below.0.room; under = omega (arith, below.0, w.here) };
       below = below.1;
@@ -46,16 +65,26 @@ standing-popped n e c saved rest q w =
       few = w.few;
     }
 
-pub standing-emptied : (n : ℕ) (c : Extent) (saved rest : List Extent) → IsStanding n c saved → length rest ≡ 0 → IsStanding n no_extent rest
-standing-emptied n c saved rest w h =
-    rw (nil_from_length rest h) (record {
-      here = record { locals = omega arith; operands = omega arith; limited = omega arith; room = omega arith; under = omega arith };
-      below = tt;
-      depth = omega arith;
-      few = w.few;
-    })
+pub ruleset popping = (entries-popped, standing-popped)
 
-pub ruleset popping = (entries-popped, entries-emptied, standing-popped, standing-emptied)
+-- the top operand of the entry that is popped goes to the one below
+pub entries-handed : (xs : List Value) (e c : Extent) (saved rest : List Extent) (s : Entries) → IsTaken saved rest e → IsStanding (length xs) c saved → entries_at xs c saved ≡ s → 0 < length s.top.stack
+    → entries_at (set xs e.top (get_or xs (c.top - 1) Null)) (record e { top = e.top + 1 }) rest ≡ with_stack (popped_entry s) (get_or s.top.stack 0 Null ∷ (popped_entry s).top.stack)
+entries-handed xs e c saved rest s q w r some =
+    let operand : 0 < length (downwards xs c.top (c.top - c.first)) = subst (λ (t : Entries). 0 < length t.top.stack) (sym r) some in
+    let count : length (downwards xs c.top (c.top - c.first)) ≡ c.top - c.first = length_downwards xs c.top (c.top - c.first) (omega arith) in
+    let top : get_or (downwards xs c.top (c.top - c.first)) 0 Null ≡ get_or xs (c.top - 1) Null = top_is xs c.top (c.top - c.first) (omega arith) (omega arith) in
+    let within : e.top < length xs = omega (arith, w.here, taken-under (length xs) e c saved rest q w) in
+    let pushed : entries_at (set xs e.top (get_or xs (c.top - 1) Null)) (record e { top = e.top + 1 }) rest ≡ with_stack (entries_at xs e rest) (get_or xs (c.top - 1) Null ∷ (entries_at xs e rest).top.stack) = entries-push xs e rest (length xs) (get_or xs (c.top - 1) Null) (standing-popped (length xs) e c saved rest q w) within in
+    let old : Entries = entries_at xs c saved in
+    pushed
+    ∙ (ap (λ (t : Entries). with_stack t (get_or xs (c.top - 1) Null ∷ t.top.stack)) (entries-popped xs e c saved rest q)
+    ∙ (ap (λ (v : Value). with_stack (popped_entry old) (v ∷ (popped_entry old).top.stack)) (sym top)
+    ∙ ap (λ (t : Entries). with_stack (popped_entry t) (get_or t.top.stack 0 Null ∷ (popped_entry t).top.stack)) r))
+
+pub standing-handed : (xs : List Value) (i : ℕ) (v : Value) (e c : Extent) (saved rest : List Extent) (s : Entries) → IsTaken saved rest e → IsStanding (length xs) c saved → entries_at xs c saved ≡ s → HasRoom 1 (popped_entry s) → IsStanding (length (set xs i v)) (record e { top = e.top + 1 }) rest
+standing-handed xs i v e c saved rest s q w r room =
+    standing-raised xs i v e rest (popped_entry s) (standing-popped (length xs) e c saved rest q w) (entries-popped xs e c saved rest q ∙ ap popped_entry r) room
 
 -- the entries that stand once the top one is saved
 saved_all_by : (xs : List Value) (k : EntryKind) (e : Extent) (saved : List Extent) → map (entry_of xs) (reverse (saved ++ saved_by k e)) ≡ elim k [ Absent ↦ map (entry_of xs) (reverse saved) | InMethod ↦ entry_of xs e ∷ map (entry_of xs) (reverse saved) | InClass b ↦ entry_of xs e ∷ map (entry_of xs) (reverse saved) ]

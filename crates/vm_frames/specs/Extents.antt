@@ -60,6 +60,15 @@ saved_by Absent e = []
 saved_by InMethod e = e ∷ []
 saved_by (InClass b) e = e ∷ []
 
+-- no entry
+abbrev pub no_extent : Extent
+no_extent = record { kind = Absent; number = 0; pc = 0; base = 0; first = 0; top = 0 }
+
+-- the extent that was saved last is taken, and no entry where none is saved
+abbrev pub IsTaken : List Extent → List Extent → Extent → Type 0
+IsTaken [] rest e = (rest ≡ []) × (e ≡ no_extent)
+IsTaken (f ∷ fs) rest e = f ∷ fs ≡ rest ++ e ∷ []
+
 -- Of the new slots those up to `first` are the old ones up to `base` and the locals of a frame that is entered with these
 -- arguments; above them there is room for its operands.
 pub record HasFrame (old new : List Value) (base max_locals : ℕ) (args : List Value) (first : ℕ) : Type 0 where

@@ -1,7 +1,7 @@
 //! Where an entry stands in the slots.
 
 ghost use Rattle.std.specs.Prelude.{◌≡◌, ◌++◌, ◌∷◌, [], OnOk, OnErr, false};
-ghost use Rattle.vm_frames.specs.Extents.{saved_by};
+ghost use Rattle.vm_frames.specs.Extents.{saved_by, IsTaken};
 
 use et_base::NoMemory;
 use jvm_model::EntryKind;
@@ -86,6 +86,34 @@ pub fn save(saved: &mut Vec<Extent>, below: Extent) -> Result<(), NoMemory>
     }
 }
 
+/// Takes the extent that was saved last, and no entry where none is saved.
+#[inline(always)]
+#[tactic(auto, using(crate::proofs::Entering::taken_some, crate::proofs::Entering::taken_none))]
+pub fn take_saved(saved: &mut Vec<Extent>) -> Extent
+    ensures { IsTaken saved.old.items saved.new.items result }
+{
+    match saved.pop() {
+        Some(
+            Extent {
+                kind,
+                number,
+                pc,
+                base,
+                first,
+                top,
+            },
+        ) => Extent {
+            kind,
+            number,
+            pc,
+            base,
+            first,
+            top,
+        },
+        None => Extent::NONE,
+    }
+}
+
 /// Puts an extent on others. After a refusal they are as before.
 #[inline(always)]
 fn push(saved: &mut Vec<Extent>, below: Extent) -> Result<(), NoMemory>
@@ -98,18 +126,48 @@ fn push(saved: &mut Vec<Extent>, below: Extent) -> Result<(), NoMemory>
     }
     let alloc = *saved.allocator();
     let mut moved = mem::replace(saved, Vec::new(alloc));
-    let grown = push_apart(&mut moved, below);
+    let grown = push_apart(
+        &mut moved,
+        below.kind,
+        below.number,
+        below.pc,
+        below.base,
+        below.first,
+        below.top,
+    );
     *saved = moved;
     grown
 }
 
-/// The same, apart.
+/// The same apart, by the parts of the extent: so its address isn't handed on either.
 #[cold]
 #[inline(never)]
-fn push_apart(saved: &mut Vec<Extent>, below: Extent) -> Result<(), NoMemory>
-    ensures saved { OnOk result (saved.new.items ≡ saved.old.items ++ below ∷ []) }
+fn push_apart(
+    saved: &mut Vec<Extent>,
+    kind: EntryKind,
+    number: u32,
+    pc: u32,
+    base: usize,
+    first: usize,
+    top: usize,
+) -> Result<(), NoMemory>
+    ensures saved { OnOk result (saved.new.items ≡ saved.old.items ++ record {
+      kind = kind;
+      number = number;
+      pc = pc;
+      base = base;
+      first = first;
+      top = top;
+    } ∷ []) }
     ensures kept { OnErr result (saved.new.items ≡ saved.old.items) }
 {
-    saved.push(below)?;
+    saved.push(Extent {
+        kind,
+        number,
+        pc,
+        base,
+        first,
+        top,
+    })?;
     Ok(())
 }

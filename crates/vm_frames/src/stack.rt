@@ -8,7 +8,7 @@ ghost use Rattle.jvm_model.specs.Initialise.{with_entered};
 ghost use Rattle.jvm_model.specs.RowsMoves.{with_local, is_long};
 ghost use Rattle.vm_frames.specs.Stack.{HasRoom, HasIntOnTop, HasLongOnTop, frame_with, called_with, stored_local};
 
-use crate::extent::{Extent, save};
+use crate::extent::{Extent, save, take_saved};
 use crate::fault::PushFault;
 use crate::locals::{frame_of_operands, frame_of_receiver};
 use crate::slots::Slots;
@@ -111,6 +111,17 @@ impl FrameStack {
         self.current.kind
     }
 
+    /// What the entry below the top one is: Absent where there is none.
+    #[inline(always)]
+    pub fn kind_below(&self) -> EntryKind
+        ensures { result ≡ (popped_entry self.now).top.kind }
+    {
+        match self.saved.last() {
+            Some(extent) => extent.kind,
+            None => EntryKind::Absent,
+        }
+    }
+
     /// The number of the top entry's method or class.
     pub fn number(&self) -> u32
         ensures { result ≡ self.now.top.number }
@@ -160,6 +171,17 @@ impl FrameStack {
         ensures { slice_get self.now.top.stack k ≡ Some result }
     {
         self.slots.get(self.current.top - 1 - k as usize)
+    }
+
+    /// The operand below so many others. An entry has at most 65,535.
+    #[tactic(auto, using(crate::proofs::Tops::tops))]
+    #[inline(always)]
+    pub fn operand(&self, below: usize) -> Value
+        requires { below < length self.now.top.stack }
+        ensures found { slice_get self.now.top.stack below ≡ Some result }
+        ensures few { below < 65535 }
+    {
+        self.slots.get(self.current.top - 1 - below)
     }
 
     /// Puts an operand on top.
@@ -274,10 +296,22 @@ impl FrameStack {
     pub fn pop(&mut self)
         ensures { self.new ≡ popped_entry self.old }
     {
-        match self.saved.pop() {
-            Some(below) => self.current = below,
-            None => self.current = Extent::NONE,
-        }
+        self.current = take_saved(&mut self.saved);
+    }
+
+    /// Pops the top entry, and its top operand goes to the frame below (JVMS 6.5, ireturn and the others).
+    #[tactic(auto, using(crate::proofs::Entering::popping))]
+    #[inline(always)]
+    pub fn pop_to_caller(&mut self)
+        requires operand { 0 < length self.old.top.stack }
+        requires room { HasRoom 1 (popped_entry self.old) }
+        ensures { self.new ≡ with_stack (popped_entry self.old)
+            (get_or self.old.top.stack 0 Null ∷ (popped_entry self.old).top.stack) }
+    {
+        let from = self.current.top - 1;
+        self.current = take_saved(&mut self.saved);
+        self.slots.copy(from, self.current.top);
+        self.current.top += 1;
     }
 }
 
