@@ -1,4 +1,5 @@
 pub mod Ancestors
+pub mod FieldUnits
 pub mod Gathering
 pub mod Laid
 pub mod Places

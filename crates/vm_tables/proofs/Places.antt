@@ -1,19 +1,17 @@
 -- The numbers of instructions by byte place.
-use Rattle.std.proofs.Common.{inl, inr, ◌≡◌, ◌≢◌, ℕ, zero, suc, ◌<◌, ◌≤◌, ◌+◌, ◌-◌, List, [], ◌∷◌, ◌++◌, length, get_or, set, take, drop, cond, eqb, Bool, true, false, Option, Some, None, slice_get, refl, sym, ap, ◌∙◌, arith, subst, get_or-set_other, get_or-set_same}
+use Rattle.std.proofs.Common.{inl, inr, ◌≡◌, ◌≢◌, ℕ, zero, suc, ◌<◌, ◌≤◌, ◌+◌, ◌-◌, List, [], ◌∷◌, ◌++◌, length, get_or, set, take, drop, cond, eqb, Bool, true, false, Option, Some, None, IsSome, slice_get, refl, sym, ap, ◌∙◌, arith, subst, get_or-set_other, get_or-set_same}
 use Rattle.std.proofs.lemmas.List.Elements.{All-get_or}
 use Rattle.std.proofs.lemmas.Bool.{eqb-true, eqb-false, eq-eqb, ne_eqb, cases_lt}
-use Rattle.std.proofs.lemmas.List.{take_more, length-take-le, get_or-take, get_or_append_left, get_or_past, drop_all, length_push}
+use Rattle.std.proofs.lemmas.List.{get_or_default, take_more, length-take-le, get_or-take, get_or_append_left, get_or_past, drop_all, length_push}
 use Rattle.std.proofs.Math.Seq.{get_or-append_seam}
 use Rattle.jvm_model.specs.declared.instr.Instr.{Instr}
 use Rattle.jvm_model.specs.declared.program.Placed.{Placed}
 use Rattle.jvm_model.specs.declared.program.Body.{Body}
 use Rattle.jvm_model.specs.declared.program.MethodRec.{MethodRec}
 use Rattle.jvm_model.specs.declared.program.Program.{Program}
-use Rattle.jvm_model.specs.Descriptors.{parameters, return_type}
-use Rattle.jvm_model.specs.RowsCalls.{argument_count}
-use Rattle.jvm_model.specs.Classes.{layout, no_method, method_at, Found, found_in, found_of, form_at, next_place, place_after}
+use Rattle.jvm_model.specs.Classes.{layout, method_at, Found, found_in, found_of, form_at, next_place, place_after}
 use Rattle.jvm_model.specs.Linked.{Ascends, IsBody}
-use Rattle.vm_tables.specs.Numbers.{AreReturns, return_unit, AreCells, code_of, one_later, number_in, number_of, ArePlaces, AreArguments, AreNexts, AllNexts, after_or, next_of, no_placed, instruction, instruction_of, less_one}
+use Rattle.vm_tables.specs.Numbers.{AreCells, AreNumbers, code_of, one_later, number_in, number_of, ArePlaces, AreNexts, AllNexts, after_or, next_of, no_placed, instruction, instruction_of, less_one}
 
 -- what stands at a number of a table
 abbrev by_number : List Placed → ℕ → ℕ → Option Found
@@ -111,20 +109,6 @@ number_found p q m pc n tables h e r =
 pub less_one_some : (n : ℕ) → 0 < n → less_one n ≡ Some (n - 1)
 less_one_some zero h = let none : ⊥ = omega arith in absurd none
 less_one_some (suc n) h = let back : suc n - 1 ≡ n = omega arith in rw back refl
-
--- a method that the program lacks has no arguments
-pub arguments_all : (p : Program) (counts : List ℕ) → length p.methods ≤ length counts → length counts ≤ length p.methods → ((m : ℕ) → m < length counts → get_or counts m 0 ≡ argument_count p m) → (m : ℕ) → get_or counts m 0 ≡ argument_count p m
-unfolding argument_count parameters
-arguments_all p counts l g h m =
-    elim (cases_lt m (length counts)) [
-      | inl low ↦ h m low
-      | inr high ↦
-          let past : get_or p.methods m no_method ≡ no_method = get_or_past p.methods m no_method (omega arith) in
-          rw (past, get_or_past counts m 0 high) refl
-    ]
-
-pub argument_found : (p q : Program) (m : ℕ) (counts : List ℕ) → AreArguments p counts → p ≡ q → get_or counts m 0 ≡ argument_count q m
-argument_found p q m counts h e = subst (λ (w : Program). get_or counts m 0 ≡ argument_count w m) e (h m)
 
 -- The run of a code: an instruction's own place has its number, so the place after it has the next one.
 pub number_in-place : (n : ℕ) (code : List Placed) (i : ℕ) (d : Placed) → Ascends n code → i < length code → number_in code (get_or code i d).pc ≡ i + 1
@@ -270,16 +254,64 @@ tables_more P old new x i e l h q m g =
 pub length_more : (old new : List (List ℕ)) (x : List ℕ) (i : ℕ) → new ≡ old ++ x ∷ [] → length old ≡ i → length new ≡ i + 1
 length_more old new x i e l = ap (length {A = List ℕ}) e ∙ (length_push old x ∙ ap (λ n. n + 1) l)
 
--- a method that the program lacks returns nothing
-pub returns_all : (p : Program) (units : List ℕ) → length p.methods ≤ length units → length units ≤ length p.methods → ((m : ℕ) → m < length units → get_or units m 0 ≡ return_unit p m) → (m : ℕ) → get_or units m 0 ≡ return_unit p m
-unfolding return_type
-returns_all p units l g h m =
-    elim (cases_lt m (length units)) [
-      | inl low ↦ h m low
-      | inr high ↦
-          let past : get_or p.methods m no_method ≡ no_method = get_or_past p.methods m no_method (omega arith) in
-          rw (past, get_or_past units m 0 high) refl
-    ]
+-- ---- the number of an instruction that is found
 
-pub return_found : (p q : Program) (m : ℕ) (units : List ℕ) → AreReturns p units → p ≡ q → get_or units m 0 ≡ return_unit q m
-return_found p q m units h e = subst (λ (w : Program). get_or units m 0 ≡ return_unit w m) e (h m)
+later_there : (x : Placed) (xs : List Placed) (pc i n : ℕ) → number_in xs pc ≡ n → ((j : ℕ) → number_in xs pc ≡ suc j → (get_or xs j no_placed).pc ≡ pc) → one_later n ≡ suc i → (get_or (x ∷ xs) i no_placed).pc ≡ pc
+later_there x xs pc i zero e h g = absurd (cc)
+later_there x xs pc i (suc k) e h g = let z : i ≡ suc k = omega arith in rw z (h k e)
+
+there_or_later : (b : Bool) (x : Placed) (xs : List Placed) (pc i : ℕ) → eqb x.pc pc ≡ b → ((j : ℕ) → number_in xs pc ≡ suc j → (get_or xs j no_placed).pc ≡ pc) → cond b 1 (one_later (number_in xs pc)) ≡ suc i → (get_or (x ∷ xs) i no_placed).pc ≡ pc
+there_or_later true x xs pc i e h g = let z : i ≡ 0 = omega arith in rw z (eqb-true x.pc pc e)
+there_or_later false x xs pc i e h g = later_there x xs pc i (number_in xs pc) refl h g
+
+number_there : (code : List Placed) (pc i : ℕ) → number_in code pc ≡ suc i → (get_or code i no_placed).pc ≡ pc
+number_there [] pc i e = absurd (cc)
+number_there (x ∷ xs) pc i e = there_or_later (eqb x.pc pc) x xs pc i refl (number_there xs pc) e
+
+number_of-there : (body : Option Body) (pc n : ℕ) → number_of body pc ≡ n → 0 < n → (get_or (code_of body) (n - 1) no_placed).pc ≡ pc
+number_of-there body pc zero e l = let none : ⊥ = omega arith in absurd none
+number_of-there None pc (suc i) e l = absurd (cc)
+number_of-there (Some b) pc (suc i) e l = let back : suc i - 1 ≡ i = omega arith in rw back (number_there b.code pc i e)
+
+form_zero : (p : Program) (m pc : ℕ) (numbers : List ℕ) → ArePlaces (method_at p m).body numbers → get_or numbers pc 0 ≡ 0 → IsSome (form_at p m pc) → ⊥
+form_zero p m pc numbers h e g =
+    let none : form_at p m pc ≡ None = form_none p m pc (found_number (method_at p m).body numbers pc h ∙ ap (λ n. instruction_of (method_at p m).body (less_one n)) e) in
+    let bad : IsSome {T = Instr} None = subst (λ (o : Option Instr). IsSome o) none g in absurd (cc)
+
+some_past : (numbers : List ℕ) (pc : ℕ) → 0 < get_or numbers pc 0 → pc < length numbers
+some_past numbers pc h = elim (cases_lt pc (length numbers)) [
+  | inl l ↦ l
+  | inr l ↦ (let z : get_or numbers pc 0 ≡ 0 = get_or_past numbers pc 0 l in let none : ⊥ = omega arith in absurd none)
+]
+
+table_past : (tables : List (List ℕ)) (m pc : ℕ) → 0 < get_or (get_or tables m []) pc 0 → m < length tables
+table_past tables m pc h = elim (cases_lt m (length tables)) [
+  | inl l ↦ l
+  | inr l ↦ (let z : get_or (get_or tables m []) pc 0 ≡ 0 = ap (λ (ns : List ℕ). get_or ns pc 0) (get_or_past tables m [] l) in let none : ⊥ = omega arith in absurd none)
+]
+
+-- a table that was looked up
+pub table_read : (tables read : List (List ℕ)) (m : ℕ) (x own : List ℕ) → m < length tables → read ≡ tables → x ≡ get_or read m x → own ≡ x → get_or tables m [] ≡ own
+table_read tables read m x own l e f g = get_or_default tables m [] x l ∙ (ap (λ (ts : List (List ℕ)). get_or ts m x) (sym e) ∙ (sym f ∙ sym g))
+
+module _ (p q : Program) (m pc : ℕ) (tables : List (List ℕ)) (h : AreNumbers p tables) (same : p ≡ q) (some : IsSome (form_at q m pc)) where
+  abbrev pub entry : ℕ
+  entry = get_or (get_or tables m []) pc 0
+
+  pub index_has : 0 < entry
+  index_has = elim (cases_lt 0 entry) [
+    | inl l ↦ l
+    | inr l ↦ absurd (form_zero p m pc (get_or tables m []) (h m) (let z : entry ≡ 0 = omega arith in z) (subst (λ (w : Program). IsSome (form_at w m pc)) (sym same) some))
+  ]
+
+  pub index_table : m < length tables
+  index_table = table_past tables m pc index_has
+
+  pub index_place : pc < length (get_or tables m [])
+  index_place = some_past (get_or tables m []) pc index_has
+
+  pub index_within : entry - 1 < length (code_of (method_at q m).body)
+  index_within = let l = number_inside p q m pc entry tables h same refl in let s = index_has in omega arith
+
+  pub index_there : (get_or (code_of (method_at q m).body) (entry - 1) no_placed).pc ≡ pc
+  index_there = subst (λ (w : Program). (get_or (code_of (method_at w m).body) (entry - 1) no_placed).pc ≡ pc) same (number_of-there (method_at p m).body pc entry (sym (h m pc)) index_has)

@@ -1,4 +1,4 @@
--- Default interfaces, trivial classes and parts of all class numbers.
+-- Default interfaces, trivial classes, parts and methods' facts of all numbers.
 use Rattle.std.proofs.Common.{◌≡◌, ℕ, ◌+◌, ◌<◌, ◌≤◌, List, [], ◌∷◌, ◌++◌, append_assoc, length, get_or, take, filter, map, Bool, true, false, refl, sym, ◌∙◌, ap, subst, inl, inr, arith}
 use Rattle.std.proofs.lemmas.Bool.{cases_lt}
 use Rattle.std.proofs.lemmas.List.{get_or_past, map-append, take_more}
@@ -6,7 +6,11 @@ use Rattle.std.proofs.lemmas.List.Elements.{filter-append}
 use Rattle.jvm_model.specs.declared.program.Program.{Program}
 use Rattle.jvm_model.specs.Classes.{class_at, no_class, class_bound, own_interfaces, default_interfaces, is_interface, is_trivial}
 use Rattle.jvm_model.specs.Initialise.{Part as Before, parts_of, superclass_part}
+use Rattle.jvm_model.specs.Classes.{method_at, no_method}
+use Rattle.jvm_model.specs.Descriptors.{parameters, return_type}
+use Rattle.vm_tables.specs.declared.methods.MethodFacts.{MethodFacts}
 use Rattle.vm_tables.specs.declared.parts.Part.{Part}
+use Rattle.vm_tables.specs.Methods.{AreFacts, facts_of, no_facts}
 use Rattle.vm_tables.specs.Interfaces.{AreDefaults}
 use Rattle.vm_tables.specs.Starts.{AreTrivial, AreParts, part_of, interface_part, is_started}
 
@@ -45,6 +49,15 @@ module _ (p q : Program) (n : ℕ) (e : q ≡ p) (k : length p.classes ≤ n) wh
 
   pub parts_all : (xs : List (List Part)) → length xs ≡ n → ((c : ℕ) → c < n → map part_of (get_or xs c []) ≡ parts_of p c) → AreParts q xs
   parts_all xs l g = let all : AreParts p xs = table_all (map part_of) (parts_of p) [] xs (length p.classes) n l k g (λ c h. parts_past p c h) in subst (λ w. AreParts w xs) (sym e) all
+
+-- ---- methods
+
+facts_past : (p : Program) (m : ℕ) → length p.methods ≤ m → facts_of p m ≡ no_facts
+unfolding parameters return_type
+facts_past p m h = let past : method_at p m ≡ no_method = get_or_past p.methods m no_method h in rw past (refl {a = no_facts})
+
+pub facts_all : (p q : Program) (n : ℕ) → q ≡ p → length p.methods ≤ n → (xs : List MethodFacts) → length xs ≡ n → ((m : ℕ) → m < n → get_or xs m no_facts ≡ facts_of p m) → AreFacts q xs
+facts_all p q n e k xs l g = let all : AreFacts p xs = table_all (λ x. x) (facts_of p) no_facts xs (length p.methods) n l k g (λ m h. facts_past p m h) in subst (λ w. AreFacts w xs) (sym e) all
 
 -- ---- parts
 

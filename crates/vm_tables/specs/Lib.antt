@@ -1,5 +1,7 @@
 pub mod Above
 pub mod FieldPlaces
+pub mod FieldUnits
 pub mod Interfaces
+pub mod Methods
 pub mod Numbers
 pub mod Starts

@@ -4,10 +4,8 @@ use Rattle.jvm_model.specs.declared.instr.Instr.TheVariants as form
 use Rattle.jvm_model.specs.declared.program.Program.{Program}
 use Rattle.jvm_model.specs.declared.program.Body.{Body}
 use Rattle.jvm_model.specs.declared.program.Placed.{Placed}
-use Rattle.jvm_model.specs.Descriptors.{return_type}
-use Rattle.jvm_model.specs.Linked.{first_or}
-use Rattle.jvm_model.specs.RowsCalls.{argument_count}
 use Rattle.jvm_model.specs.Classes.{layout, Found, found_of, place_after, method_at}
+use Rattle.vm_tables.specs.FieldUnits.{AreUnits}
 
 abbrev pub one_later : ℕ → ℕ
 one_later zero = 0
@@ -66,26 +64,16 @@ AreNumbers p tables = (m : ℕ) → ArePlaces (method_at p m).body (get_or table
 abbrev pub AllNexts : Program → List (List ℕ) → Type 0
 AllNexts p tables = (m : ℕ) → AreNexts (method_at p m).body (get_or tables m [])
 
-abbrev pub AreArguments : Program → List ℕ → Type 0
-AreArguments p counts = (m : ℕ) → get_or counts m 0 ≡ argument_count p m
-
--- the first unit of the type that a method returns, 0 where its descriptor lacks one
-abbrev pub return_unit : Program → ℕ → ℕ
-return_unit p m = first_or 0 (return_type (method_at p m).descriptor)
-
-abbrev pub AreReturns : Program → List ℕ → Type 0
-AreReturns p units = (m : ℕ) → get_or units m 0 ≡ return_unit p m
-
 abbrev pub AreCells : Program → List ℕ → Type 0
 AreCells p counts = (c : ℕ) → get_or counts c 0 ≡ length (layout p c)
 
--- the tables of a program, of which the last four are seen as their programs
-pub record AreTables (p : Program) (tables afters : List (List ℕ)) (counts units sizes : List ℕ) (q r s t : Program) : Type 0 where
+-- the tables of a program, of which the last five are seen as their programs
+pub record AreTables (p : Program) (tables afters : List (List ℕ)) (sizes firsts : List ℕ) (o q r s t : Program) : Type 0 where
   pub numbers : AreNumbers p tables
   pub nexts : AllNexts p afters
-  pub arguments : AreArguments p counts
-  pub returns : AreReturns p units
   pub cells : AreCells p sizes
+  pub units : AreUnits p firsts
+  pub methods : o ≡ p
   pub defaults : q ≡ p
   pub trivial : r ≡ p
   pub parts : s ≡ p

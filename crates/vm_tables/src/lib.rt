@@ -4,11 +4,13 @@
 mod above;
 mod field_places;
 mod interfaces;
+mod methods;
 mod numbers;
 mod parts;
 mod tables;
 mod trivial;
 
 pub use field_places::FieldPlaces;
+pub use methods::Entrance;
 pub use parts::Part;
 pub use tables::Tables;

@@ -1,36 +1,40 @@
 //! The tables of a program.
 
-ghost use Rattle.std.specs.Prelude.{◌≡◌, ◌<◌, IfOk, IfSome, length, map, get_or, option_copied, []};
+ghost use Rattle.std.specs.Prelude.{◌≡◌, ◌<◌, IfOk, IfSome, IsSome, length, map, get_or, option_copied, []};
+ghost use Rattle.std.specs.Str.{bytes_eq};
 ghost use Rattle.jvm_model.specs.Classes as classes;
 ghost use Rattle.jvm_model.specs.Classes.{found_of, method_at, layout};
 ghost use Rattle.jvm_model.specs.Initialise.{parts_of};
 ghost use Rattle.jvm_model.specs.RowsCalls.{argument_count};
-ghost use Rattle.jvm_model.specs.Linked.{IsBody, Linked, first_or};
+ghost use Rattle.jvm_model.specs.Linked.{IsBody, Linked};
 ghost use Rattle.jvm_model.specs.Kinds as kinds;
 ghost use Rattle.jvm_model.specs.Selection.{all_interfaces};
-ghost use Rattle.vm_tables.specs.Numbers.{code_of, instruction_of, AllNexts, AreArguments, AreCells, AreNexts, AreNumbers, ArePlaces, AreReturns, return_unit};
+ghost use Rattle.vm_tables.specs.FieldUnits.{field_unit, AreUnits};
+ghost use Rattle.vm_tables.specs.Methods.{entrance_of, return_unit};
+ghost use Rattle.vm_tables.specs.Numbers.{code_of, instruction_of, no_placed, AllNexts, AreCells, AreNexts, AreNumbers, ArePlaces};
 ghost use Rattle.vm_tables.specs.Starts.{part_of};
 
 use crate::above::Above;
 use crate::interfaces::DefaultInterfaces;
+use crate::methods::{Entrance, MethodTable, first_unit};
 use crate::numbers::{nexts_of, numbers_of};
 use crate::parts::{Part, Parts};
 use crate::trivial::TrivialClasses;
 use et_base::{Items, NoMemory};
-use jvm_model::{Instr, Kind, MethodRec, Program, parameter_count, return_type};
+use jvm_model::{Instr, Kind, MethodRec, Program};
 use std::alloc::Global;
 use std::marker::Model;
 use std::snapshot::Snapshot;
 
-/// What a step asks of a program, made once: instructions by byte place, counts of arguments and of cells, and what starts
-/// with a class. Contracts see the program.
+/// What a step asks of a program, made once: instructions by byte place, what calls ask of methods, counts of cells, the
+/// first units of fields' descriptors, and what starts with a class. Contracts see the program.
 #[derive(Drop)]
 pub struct Tables {
     numbers: Items<Items<u16>>,
     nexts: Items<Items<u16>>,
-    arguments: Items<usize>,
-    returns: Items<u16>,
     cells: Items<usize>,
+    units: Items<u16>,
+    methods: MethodTable,
     defaults: DefaultInterfaces,
     trivial: TrivialClasses,
     parts: Parts,
@@ -46,7 +50,7 @@ impl Model for Tables {
 
     ghost view = { λ t. t.program.value };
 
-    ghost invariant = { λ t. AreTables t.program.value t.numbers t.nexts t.arguments t.returns t.cells t.defaults t.trivial t.parts t.above };
+    ghost invariant = { λ t. AreTables t.program.value t.numbers t.nexts t.cells t.units t.methods t.defaults t.trivial t.parts t.above };
 }
 
 impl Tables {
@@ -63,9 +67,9 @@ impl Tables {
         Ok(Tables {
             numbers,
             nexts,
-            arguments: all_arguments(alloc, p)?,
-            returns: all_returns(alloc, p)?,
             cells: all_cells(alloc, p)?,
+            units: all_units(alloc, p)?,
+            methods: MethodTable::of(alloc, p, &trivial)?,
             defaults,
             trivial,
             parts,
@@ -75,26 +79,37 @@ impl Tables {
     }
 
     /// How many arguments a method's descriptor asks for, the receiver left aside: a long is one.
-    #[tactic(auto, using(crate::proofs::Places::argument_found))]
+    #[inline(always)]
+    #[tactic(auto, unfolding(jvm_model::specs::RowsCalls::argument_count))]
     pub fn arguments(&self, method: u32) -> usize
         ensures { result ≡ argument_count self.now method }
     {
-        match self.arguments.get(method as usize) {
-            None => 0,
-            Some(count) => *count,
-        }
+        self.methods.get(method).arguments
     }
 
     /// The first unit of the type that a method returns (JVMS 4.3.3), to which a returned value is narrowed; 0 where its
     /// descriptor lacks one.
-    #[tactic(auto, using(crate::proofs::Places::return_found))]
+    #[inline(always)]
     pub fn return_unit(&self, method: u32) -> u16
         ensures { result ≡ return_unit self.now method }
     {
-        match self.returns.get(method as usize) {
-            None => 0,
-            Some(unit) => *unit,
-        }
+        self.methods.get(method).return_unit
+    }
+
+    /// Whether a method's name is `<init>` (JVMS 2.9.1).
+    #[inline(always)]
+    pub fn is_initialiser(&self, method: u32) -> bool
+        ensures { result ≡ bytes_eq (method_at self.now method).name classes.init_name }
+    {
+        self.methods.get(method).is_initialiser
+    }
+
+    /// What entering a method takes, None of a built-in one and one without code.
+    #[inline(always)]
+    pub fn entrance(&self, method: u32) -> Option<Entrance>
+        ensures { result ≡ entrance_of self.now method }
+    {
+        self.methods.get(method).entrance
     }
 
     /// How many cells an instance of a class has: one for each instance field, those of superclasses too.
@@ -105,6 +120,19 @@ impl Tables {
         match self.cells.get(class as usize) {
             None => 0,
             Some(count) => *count,
+        }
+    }
+
+    /// The first unit of a field's descriptor (JVMS 4.3.2), to which a value that it gets is narrowed; 0 where the program
+    /// lacks the field or its descriptor a unit.
+    #[inline(always)]
+    #[tactic(auto, using(crate::proofs::FieldUnits::unit_found, crate::proofs::Places::get_some, crate::proofs::Places::get_none))]
+    pub fn field_unit(&self, field: u32) -> u16
+        ensures { result ≡ field_unit self.now field }
+    {
+        match self.units.get(field as usize) {
+            None => 0,
+            Some(unit) => *unit,
         }
     }
 
@@ -186,6 +214,16 @@ impl Tables {
             0 => None,
             next => Some(u32::from(next) - 1),
         }
+    }
+
+    /// The number of the instruction that begins at a byte place of a method's code, from 0, where one does.
+    #[inline(always)]
+    pub fn index(&self, method: u32, pc: u32) -> usize
+        requires { IsSome (classes.form_at self.now method pc) }
+        ensures within { result < length (code_of (method_at self.now method).body) }
+        ensures there { (get_or (code_of (method_at self.now method).body) result no_placed).pc ≡ pc }
+    {
+        self.numbers.as_slice()[method as usize].as_slice()[pc as usize] as usize - 1
     }
 
     /// The form at a byte place of a method's code.
@@ -272,40 +310,6 @@ fn places_of(alloc: Global, method: &MethodRec) -> Result<(Items<u16>, Items<u16
     }
 }
 
-/// Each method's number of arguments.
-#[tactic(auto, using(crate::proofs::Places::arguments_all), unfolding(jvm_model::specs::RowsCalls::argument_count))]
-fn all_arguments(alloc: Global, p: &Program) -> Result<Items<usize>, NoMemory>
-    ensures { IfOk result (λ arguments. AreArguments p.now arguments) }
-{
-    let mut arguments = Items::new(alloc);
-    for method in p.methods.as_slice() {
-        arguments.push(parameter_count(method.descriptor.as_slice()))?;
-    }
-    Ok(arguments)
-}
-
-/// The first unit of a descriptor, 0 of none.
-fn first_unit(descriptor: &[u16]) -> u16
-    ensures { result ≡ first_or 0 descriptor.now }
-{
-    match descriptor {
-        [] => 0,
-        [unit, ..] => *unit,
-    }
-}
-
-/// The first unit of the type that each method returns.
-#[tactic(auto, using(crate::proofs::Places::returns_all))]
-fn all_returns(alloc: Global, p: &Program) -> Result<Items<u16>, NoMemory>
-    ensures { IfOk result (λ units. AreReturns p.now units) }
-{
-    let mut units = Items::new(alloc);
-    for method in p.methods.as_slice() {
-        units.push(first_unit(return_type(method.descriptor.as_slice())))?;
-    }
-    Ok(units)
-}
-
 /// Each class's number of cells.
 fn all_cells(alloc: Global, p: &Program) -> Result<Items<usize>, NoMemory>
     requires { Linked p.now }
@@ -317,4 +321,15 @@ fn all_cells(alloc: Global, p: &Program) -> Result<Items<usize>, NoMemory>
         cells.push(fields.len())?;
     }
     Ok(cells)
+}
+
+/// The first unit of each field's descriptor.
+fn all_units(alloc: Global, p: &Program) -> Result<Items<u16>, NoMemory>
+    ensures { IfOk result (λ units. AreUnits p.now units) }
+{
+    let mut units = Items::new(alloc);
+    for field in p.fields.as_slice() {
+        units.push(first_unit(field.descriptor.as_slice()))?;
+    }
+    Ok(units)
 }

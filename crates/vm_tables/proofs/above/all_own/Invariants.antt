@@ -1,4 +1,4 @@
-use Rattle.std.proofs.Common.{◌≡◌, ℕ, ◌<◌, [], false, get_or, length}
+use Rattle.std.proofs.Common.{◌≡◌, ℕ, ◌<◌, [], get_or, length}
 use Rattle.jvm_model.specs.Classes.{own_interfaces}
 use Rattle.vm_tables.proofs.above.all_own.Given as goal
 
