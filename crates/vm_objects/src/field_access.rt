@@ -7,9 +7,10 @@ ghost use Rattle.vm_mem.specs.Meets.{IsReady, IsNext, Meets, Tells};
 ghost use Rattle.vm_objects.specs.Forms.{field_row};
 
 use et_base::NoMemory;
-use jvm_model::{Instr, NULL_POINTER_EXCEPTION, Next, Program, Value};
+use jvm_model::{Instr, NULL_POINTER_EXCEPTION, Next, Value};
 use vm_frames::FrameStack;
 use vm_mem::Memory;
+use vm_tables::Tables;
 
 /// Makes the step of `getfield` or `putfield`, with the byte place of the next instruction. It touches the field and
 /// costs 1; null throws a NullPointerException, which counts nothing.
@@ -18,12 +19,12 @@ use vm_mem::Memory;
 pub fn fields<M: Memory>(
     stack: &mut FrameStack,
     memory: &mut M,
-    program: &Program,
+    tables: &Tables,
     form: &Instr,
     next: u32,
     left: &mut u64,
 ) -> Result<Next, NoMemory>
-    requires program { program.now ≡ M.program memory.old }
+    requires tables { tables.now ≡ M.program memory.old }
     requires row { IsReady (field_row form.now)
         (M.program memory.old) (M.world memory.old) stack.old }
     requires place { IsNext (M.program memory.old) stack.old next }
@@ -37,7 +38,7 @@ pub fn fields<M: Memory>(
 {
     match form {
         Instr::GetField { field, .. } => get_field(stack, memory, *field, next, left),
-        Instr::PutField { field, .. } => put_field(stack, memory, program, *field, next, left),
+        Instr::PutField { field, .. } => put_field(stack, memory, tables, *field, next, left),
         _ => unreachable!(),
     }
 }
@@ -82,15 +83,16 @@ pub fn get_field<M: Memory>(
 
 /// Takes a value and an object and gives its field the value, narrowed to the field's type (`putfield`).
 #[inline(always)]
+#[tactic(auto, using(vm_tables::proofs::FieldUnits::field_narrowed), unfolding(jvm_model::specs::RowsFields::row_fields))]
 pub fn put_field<M: Memory>(
     stack: &mut FrameStack,
     memory: &mut M,
-    program: &Program,
+    tables: &Tables,
     field: u32,
     next: u32,
     left: &mut u64,
 ) -> Result<Next, NoMemory>
-    requires program { program.now ≡ M.program memory.old }
+    requires tables { tables.now ≡ M.program memory.old }
     requires row { IsReady (field_row (form.PutField 0 field))
         (M.program memory.old) (M.world memory.old) stack.old }
     requires place { IsNext (M.program memory.old) stack.old next }
@@ -108,7 +110,7 @@ pub fn put_field<M: Memory>(
     let v = stack.pop_value();
     match stack.pop_value() {
         Value::Obj(object) => {
-            memory.put_field(object, field, v.narrowed(program.field_descriptor(field)))?;
+            memory.put_field(object, field, v.narrow(tables.field_unit(field)))?;
             stack.set_pc(next);
             *left -= 1;
             Ok(Next::Go)

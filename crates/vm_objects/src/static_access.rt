@@ -144,7 +144,7 @@ pub fn put_static<M: Memory>(
     ensures of { OnOk result (M.program memory.new ≡ M.program memory.old) }
 {
     match begin_use(stack, memory, tables, program.field_class(field), left)? {
-        Use::Ready => write_static(stack, memory, program, field, next, left),
+        Use::Ready => write_static(stack, memory, tables, field, next, left),
         Use::Begun => Ok(Next::Go),
         Use::Fault { class } => Ok(Next::Fault { class }),
         Use::Over => Ok(Next::Over),
@@ -153,16 +153,16 @@ pub fn put_static<M: Memory>(
 
 // A static field whose class may be used gets a value.
 #[inline(always)]
-#[tactic(auto, unfolding(jvm_model::specs::RowsStatics::write_static))]
+#[tactic(auto, using(vm_tables::proofs::FieldUnits::field_narrowed), unfolding(jvm_model::specs::RowsStatics::write_static))]
 fn write_static<M: Memory>(
     stack: &mut FrameStack,
     memory: &mut M,
-    program: &Program,
+    tables: &Tables,
     field: u32,
     next: u32,
     left: &mut u64,
 ) -> Result<Next, NoMemory>
-    requires program { program.now ≡ M.program memory.old }
+    requires tables { tables.now ≡ M.program memory.old }
     requires row { IsReady (write_row field)
         (M.program memory.old) (M.world memory.old) stack.old }
     requires place { IsNext (M.program memory.old) stack.old next }
@@ -178,7 +178,7 @@ fn write_static<M: Memory>(
         return Ok(Next::Over);
     }
     let v = stack.pop_value();
-    memory.put_static(field, v.narrowed(program.field_descriptor(field)))?;
+    memory.put_static(field, v.narrow(tables.field_unit(field)))?;
     stack.set_pc(next);
     *left -= 1;
     Ok(Next::Go)
