@@ -1,5 +1,5 @@
 -- Methods that classes declare, class by class, and those that are kept.
-use Rattle.std.proofs.Common.{◌≡◌, ℕ, zero, suc, ◌-◌, ◌<◌, List, [], ◌∷◌, ◌++◌, append-nil, filter, find, flat_map, Bool, true, false, not, ◌&&◌, cond, nat_eq, refl, sym, ◌∙◌, ap, subst, arith, sub-one, Option, Some, None}
+use Rattle.std.proofs.Common.{◌≡◌, ℕ, zero, suc, ◌-◌, ◌<◌, List, [], ◌∷◌, ◌++◌, append-nil, filter, find, flat_map, Bool, true, false, not, ◌&&◌, cond, nat_eq, refl, sym, ◌∙◌, ap, arith, sub-one, Option, Some, None}
 use Rattle.std.specs.List.{list_any}
 use Rattle.std.specs.Option.{option_or}
 use Rattle.std.proofs.lemmas.List.Elements.{filter_agree}
@@ -7,8 +7,8 @@ use Rattle.std.proofs.lemmas.List.Folds.{find-append}
 use Rattle.indexmap.specs.IndexSet.{insert_all}
 use Rattle.jvm_model.specs.declared.program.Program.{Program}
 use Rattle.jvm_model.specs.Builtin.{object_class}
-use Rattle.jvm_model.specs.Classes.{class_at, class_bound, method_at, member, is_interface, upwards_in, upwards, own_interfaces}
-use Rattle.jvm_model.specs.Selection.{declared_in, special_path, is_like, is_open_like, candidates, all_interfaces, kept_of, redeclares, has_code, one_with_code, kept_method}
+use Rattle.jvm_model.specs.Classes.{class_at, class_bound, method_at, member, is_interface, upwards_in, upwards}
+use Rattle.jvm_model.specs.Selection.{declared_in, special_path, is_open_like, candidates, all_interfaces, kept_of, redeclares, has_code, one_with_code, kept_method}
 use Rattle.member_lookup.specs.Walks.{is_kept}
 use Rattle.member_lookup.proofs.MentionFacts.{filter_both, filter_flat, first_is, member_mentions, any_flat}
 use Rattle.vm_calls.specs.Choices.{above_of}

@@ -1,10 +1,8 @@
 -- Calls touch nothing, and where there is a call there are its arguments.
-use Rattle.std.proofs.Common.{◌≡◌, ℕ, zero, suc, List, [], ◌∷◌, ◌+◌, ◌<◌, ◌≤◌, length, ◌^◌, Bool, true, false, cond, nat_le, slice_get, Option, Some, None, refl, ap, sym, ◌∙◌, inl, inr, arith}
-use Rattle.std.proofs.lemmas.Bool.{cases_Bool, leb-true}
+use Rattle.std.proofs.Common.{◌≡◌, ℕ, zero, suc, List, [], ◌∷◌, ◌<◌, ◌≤◌, length, Bool, true, false, cond, nat_le, slice_get, Option, Some, None, refl, arith}
+use Rattle.std.proofs.lemmas.Bool.{leb-true}
 use Rattle.jvm_model.specs.declared.values.Value.{Value}
 use Rattle.jvm_model.specs.declared.values.Touch.{Touch}
-use Rattle.jvm_model.specs.declared.state.EntryKind.{EntryKind}
-use Rattle.jvm_model.specs.declared.state.EntryKind.TheVariants.{Absent, InMethod, InClass}
 use Rattle.jvm_model.specs.declared.library.Native.{Native}
 use Rattle.jvm_model.specs.declared.program.Body.{Body}
 use Rattle.jvm_model.specs.declared.program.Program.{Program}
@@ -18,7 +16,6 @@ use Rattle.jvm_model.specs.Selection.{Selected, chosen, failing}
 use Rattle.jvm_model.specs.View.{touched, IsSafe, IsRow}
 use Rattle.jvm_model.specs.declared.values.Kind.{Kind}
 use Rattle.vm_calls.specs.Calls.{object_row}
-use Rattle.vm_frames.specs.Stack.{operand_limit}
 
 either_untouched : {A : Type 0} (b : Bool) (t u : Access A) (w : World) (ts : List Touch) → touched t w ts ≡ ts → touched u w ts ≡ ts → touched (cond b t u) w ts ≡ ts
 either_untouched true t u w ts g h = g
@@ -47,12 +44,6 @@ either_there false t u w f h = f h
 pub calls_there : (p : Program) (m n : ℕ) (s : Entries) (w : World) → IsSafe IsRow (calls p m n s) w → n ≤ length s.top.stack
 unfolding calls
 calls_there p m n s w h = leb-true n (length s.top.stack) (either_there (nat_le n (length s.top.stack)) _ _ w (λ x. absurd x) h)
-
--- an entry with room for an operand has fewer than the most
-pub few_operands : (k : EntryKind) (n : ℕ) → n + 1 ≤ operand_limit k → n < 65535
-few_operands Absent n h = absurd (let none : ⊥ = omega arith in none)
-few_operands InMethod n h = omega arith
-few_operands (InClass b) n h = absurd (let none : ⊥ = omega arith in none)
 
 -- ---- receivers
 

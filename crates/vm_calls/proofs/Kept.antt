@@ -1,5 +1,5 @@
 -- Answers that are kept.
-use Rattle.std.proofs.Common.{◌≡◌, ℕ, zero, suc, ◌<◌, List, length, slice_get, get_or, set, replicate, Bool, true, false, nat_eq, refl, sym, ◌∙◌, ap, subst, inl, inr, arith, Option, Some, None, IfSome, get_or-set_other, get_or-set_same}
+use Rattle.std.proofs.Common.{◌≡◌, ℕ, zero, suc, ◌<◌, List, length, slice_get, get_or, set, replicate, nat_eq, refl, sym, ◌∙◌, ap, subst, inl, inr, Option, Some, None, IfSome, get_or-set_other, get_or-set_same}
 use Rattle.std.proofs.lemmas.Bool.{cases_Bool, eqb-true, eqb-false}
 use Rattle.std.proofs.lemmas.Option.{get_or_from_slice_get}
 use Rattle.jvm_model.specs.declared.program.Program.{Program}

@@ -1,5 +1,5 @@
 -- Returns touch nothing, and take the value on top.
-use Rattle.std.proofs.Common.{◌≡◌, ℕ, List, [], ◌∷◌, ◌<◌, length, slice_get, Option, Some, None, refl, sym, ◌∙◌, ap, arith}
+use Rattle.std.proofs.Common.{◌≡◌, ℕ, List, [], ◌∷◌, ◌<◌, length, get_or, drop, Option, Some, None, refl, sym, ◌∙◌, ap, arith}
 use Rattle.jvm_model.specs.declared.values.Value.{Value}
 use Rattle.jvm_model.specs.declared.values.Value.TheVariants.{Int, Long, Null, Lit, Obj}
 use Rattle.jvm_model.specs.declared.values.Touch.{Touch}
@@ -12,13 +12,13 @@ use Rattle.jvm_model.specs.World.{World}
 use Rattle.jvm_model.specs.Access.{Access}
 use Rattle.jvm_model.specs.Classes.{method_at}
 use Rattle.jvm_model.specs.Descriptors.{return_type}
-use Rattle.jvm_model.specs.Entries.{Entries, popped_entry}
-use Rattle.jvm_model.specs.Linked.{first_or}
+use Rattle.jvm_model.specs.Entries.{Entries, popped_entry, with_stack}
 use Rattle.jvm_model.specs.Narrow.{narrow, narrowed}
 use Rattle.jvm_model.specs.Rows.{Answer, popping}
 use Rattle.jvm_model.specs.RowsReturn.{row_return, hands_on, handed_on}
 use Rattle.jvm_model.specs.View.{touched, IsSafe, IsRow}
-use Rattle.vm_tables.specs.Numbers.{return_unit}
+use Rattle.vm_tables.specs.Methods.{return_unit}
+use Rattle.vm_tables.proofs.FieldUnits.{narrow_first}
 
 handed_touches : (k : EntryKind) (p : Program) (vs : List Value) (s : Entries) (w : World) (ts : List Touch) → touched (handed_on k p vs s) w ts ≡ ts
 handed_touches Absent p vs s w ts = refl
@@ -48,26 +48,35 @@ pub value_there : (p : Program) (x : Sort) (s : Entries) (w : World) → IsSafe 
 unfolding row_return
 value_there p x s w h = there s.top.stack _ w h
 
-narrow_first : (d : List ℕ) (v : Value) → narrow (first_or 0 d) v ≡ narrowed d v
-unfolding narrow
-narrow_first [] (Int n) = refl
-narrow_first [] (Long n) = refl
-narrow_first [] Null = refl
-narrow_first [] (Lit n) = refl
-narrow_first [] (Obj o) = refl
-narrow_first (u ∷ us) v = refl
-
-taken : (vs : List Value) (v : Value) (k : Value → Access (Answer Entries)) → slice_get vs 0 ≡ Some v → popping vs (λ u us. k u) ≡ k v
-taken [] v k e = absurd (cc)
-taken (u ∷ us) v k e = let same : u ≡ v = cc in ap k same
+taken : (vs : List Value) (k : Value → Access (Answer Entries)) → 0 < length vs → popping vs (λ u us. k u) ≡ k (get_or vs 0 Null)
+taken [] k h = let none : ⊥ = omega arith in absurd none
+taken (u ∷ us) k h = refl
 
 -- the value on top is narrowed and handed on
-pub value_handed : (p : Program) (x : Sort) (s : Entries) (v : Value) → slice_get s.top.stack 0 ≡ Some v → row_return p (form.Return (Some x)) s ≡ hands_on p (narrow (return_unit p s.top.number) v ∷ []) s
+pub value_handed : (p : Program) (x : Sort) (s : Entries) → 0 < length s.top.stack → row_return p (form.Return (Some x)) s ≡ hands_on p (narrow (return_unit p s.top.number) (get_or s.top.stack 0 Null) ∷ []) s
 unfolding row_return
-value_handed p x s v e =
-    taken s.top.stack v (λ u. hands_on p (narrowed (return_type (method_at p s.top.number).descriptor) u ∷ []) s) e
-    ∙ ap (λ u. hands_on p (u ∷ []) s) (sym (narrow_first (return_type (method_at p s.top.number).descriptor) v))
+value_handed p x s h =
+    taken s.top.stack (λ u. hands_on p (narrowed (return_type (method_at p s.top.number).descriptor) u ∷ []) s) h
+    ∙ ap (λ u. hands_on p (u ∷ []) s) (sym (narrow_first (return_type (method_at p s.top.number).descriptor) (get_or s.top.stack 0 Null)))
 
 pub none_handed : (p : Program) (s : Entries) → row_return p (form.Return None) s ≡ hands_on p [] s
 unfolding row_return
 none_handed p s = refl
+
+-- 73 is the letter of int
+narrow_int_kept : (v : Value) → narrow 73 v ≡ v
+unfolding narrow
+narrow_int_kept (Int n) = refl
+narrow_int_kept (Long n) = refl
+narrow_int_kept Null = refl
+narrow_int_kept (Lit n) = refl
+narrow_int_kept (Obj o) = refl
+
+apart : (vs : List Value) → 0 < length vs → get_or vs 0 Null ∷ drop 1 vs ≡ vs
+apart [] h = let none : ⊥ = omega arith in absurd none
+apart (v ∷ vs) h = refl
+
+-- what goes to an int stays as it is
+pub int_kept : (s : Entries) (u : ℕ) → u ≡ 73 → 0 < length s.top.stack → s ≡ with_stack s (narrow u (get_or s.top.stack 0 Null) ∷ drop 1 s.top.stack)
+int_kept s u e h =
+    ap (with_stack s) (sym (ap (λ (v : Value). v ∷ drop 1 s.top.stack) (ap (λ (n : ℕ). narrow n (get_or s.top.stack 0 Null)) e ∙ narrow_int_kept (get_or s.top.stack 0 Null)) ∙ apart s.top.stack h))

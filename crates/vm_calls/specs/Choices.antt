@@ -1,5 +1,5 @@
 -- Which method a call enters, as the code finds it.
-use Rattle.std.specs.Prelude.{◌≡◌, ℕ, List, [], Bool, true, false, not, ◌&&◌, ◌||◌, cond, get_or, Option, Some, None, IfSome, find}
+use Rattle.std.specs.Prelude.{◌≡◌, ℕ, List, Bool, not, ◌&&◌, ◌||◌, cond, get_or, Option, Some, None, IfSome, find}
 use Rattle.std.specs.Str.{bytes_eq}
 use Rattle.jvm_model.specs.declared.program.Program.{Program}
 use Rattle.jvm_model.specs.Classes.{class_at, method_at, is_private, init_name, own_interfaces}

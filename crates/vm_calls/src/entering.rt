@@ -1,15 +1,18 @@
 //! Methods are entered.
 
-ghost use Rattle.std.specs.Prelude.{◌≡◌, ◌≤◌, ◌<◌, IfOk, Some, length, slice_get};
+ghost use Rattle.std.specs.Prelude.{◌≡◌, ◌≤◌, ◌<◌, ℕ, IfOk, None, Some, length};
+ghost use Rattle.jvm_model.specs.Entries.{Entries};
 ghost use Rattle.jvm_model.specs.World.{World};
 ghost use Rattle.vm_mem.specs.Meets.{Meets};
+ghost use Rattle.vm_tables.specs.Methods.{entrance_of};
 ghost use Rattle.vm_calls.specs.Calls.{method_row, selected_row};
 ghost use Rattle.vm_calls.specs.Choices.{selected_of};
 
 use crate::choice::Choice;
 use et_base::NoMemory;
-use jvm_model::{ABSTRACT_METHOD_ERROR, Next, Program, STACK_OVERFLOW_ERROR, Value};
+use jvm_model::{ABSTRACT_METHOD_ERROR, Next, Program, STACK_OVERFLOW_ERROR};
 use vm_frames::{FrameStack, PushFault};
+use vm_tables::Tables;
 
 /// Enters a method with so many of the topmost operands as its arguments, the receiver among them: its frame is on top, and
 /// its cost and the 1 of the step are counted. A full list of entries faults with StackOverflowError, a method without code
@@ -19,37 +22,29 @@ use vm_frames::{FrameStack, PushFault};
 pub(crate) fn enter_method(
     stack: &mut FrameStack,
     p: &Program,
+    tables: &Tables,
     method: u32,
     arguments: usize,
     left: &mut u64,
 ) -> Result<Next, NoMemory>
+    requires tables { tables.now ≡ p.now }
     requires arguments { arguments ≤ length stack.old.top.stack }
     ensures { IfOk result (λ x. (w : World) → Meets (method_row method arguments)
         p.now w stack.old left.old x stack.new w left.new) }
 {
-    let Some(record) = p.method(method) else {
-        return Ok(Next::Fault {
-            class: ABSTRACT_METHOD_ERROR,
-        });
-    };
-    if record.native.is_some() {
-        return Ok(Next::Enter { method });
-    }
-    let Some(body) = &record.body else {
-        return Ok(Next::Fault {
-            class: ABSTRACT_METHOD_ERROR,
-        });
+    let Some(entrance) = tables.entrance(method) else {
+        return Ok(without_entrance(p, method));
     };
     if stack.is_full() {
         return Ok(Next::Fault {
             class: STACK_OVERFLOW_ERROR,
         });
     }
-    let cost = u64::from(body.max_stack) + u64::from(body.max_locals) + 1;
+    let cost = u64::from(entrance.cost);
     if *left < cost {
         return Ok(Next::Over);
     }
-    match stack.enter(method, body.max_locals, arguments) {
+    match stack.enter(method, entrance.max_locals, arguments) {
         Ok(()) => {}
         Err(PushFault::Deep) => unreachable!(),
         Err(PushFault::NoMemory) => return Err(NoMemory {}),
@@ -58,36 +53,41 @@ pub(crate) fn enter_method(
     Ok(Next::Enter { method })
 }
 
+/// What the call of a method answers that is built-in or has no code.
+#[inline(never)]
+#[tactic(auto, unfolding(jvm_model::specs::RowsCalls::calls))]
+fn without_entrance(p: &Program, method: u32) -> Next
+    requires { entrance_of p.now method ≡ None }
+    ensures { (n left : ℕ) (s : Entries) (w : World) → n ≤ length s.top.stack
+        → Meets (method_row method n) p.now w s left result s w left }
+{
+    if let Some(record) = p.method(method) {
+        if record.native.is_some() {
+            return Next::Enter { method };
+        }
+    }
+    Next::Fault {
+        class: ABSTRACT_METHOD_ERROR,
+    }
+}
+
 /// Enters the method that a call selected, or throws the error that it selected.
 #[inline(always)]
 pub(crate) fn enter_choice(
     stack: &mut FrameStack,
     p: &Program,
+    tables: &Tables,
     choice: Choice,
     arguments: usize,
     left: &mut u64,
 ) -> Result<Next, NoMemory>
+    requires tables { tables.now ≡ p.now }
     requires arguments { arguments ≤ length stack.old.top.stack }
     ensures { IfOk result (λ x. (w : World) → Meets (selected_row (selected_of choice) arguments)
         p.now w stack.old left.old x stack.new w left.new) }
 {
     match choice {
-        Choice::Chosen { method } => enter_method(stack, p, method, arguments, left),
+        Choice::Chosen { method } => enter_method(stack, p, tables, method, arguments, left),
         Choice::Failing { class } => Ok(Next::Fault { class }),
     }
-}
-
-/// The operand below so many others. An entry has fewer than 65,536 operands, as is seen from the room that taking the top
-/// one leaves.
-#[inline(always)]
-#[tactic(auto, using(crate::proofs::Entered::few_operands))]
-pub(crate) fn receiver(stack: &mut FrameStack, arguments: usize) -> Value
-    requires { arguments < length stack.old.top.stack }
-    ensures same { stack.new ≡ stack.old }
-    ensures found { slice_get stack.old.top.stack arguments ≡ Some result }
-    ensures few { arguments < 65535 }
-{
-    let top = stack.pop_value();
-    stack.push_value(top);
-    stack.peek(arguments as u16)
 }

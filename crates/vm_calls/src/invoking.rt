@@ -1,14 +1,16 @@
 //! The four invoke forms (JVMS 6.5).
 #![tactic(auto, unfolding(jvm_model::specs::RowsCalls::row_calls))]
 
-ghost use Rattle.std.specs.Prelude.{◌≡◌, ◌<◌, IfOk, OnOk, length};
+ghost use Rattle.std.specs.Prelude.{◌≡◌, ◌≢◌, ◌<◌, IfOk, OnOk, length};
+ghost use Rattle.jvm_model.specs.Classes.{method_at};
 ghost use Rattle.jvm_model.specs.World.{World};
+ghost use Rattle.class_init.specs.Uses.{IsUsable, MeetsUse, TellsUse};
 ghost use Rattle.jvm_model.specs.RowsCalls.{argument_count};
 ghost use Rattle.jvm_model.specs.declared.instr.Instr.TheVariants as form;
 ghost use Rattle.vm_mem.specs.Meets.{IsReady, Meets, Tells};
 ghost use Rattle.vm_calls.specs.Calls.{call_row, kind_row, object_row};
 
-use crate::entering::{enter_choice, enter_method, receiver};
+use crate::entering::{enter_choice, enter_method};
 use crate::selections::Selections;
 use class_init::{Use, begin_use};
 use et_base::NoMemory;
@@ -84,12 +86,48 @@ pub fn invoke_static<M: Memory>(
         x M.follows memory.old memory.new) }
     ensures of { OnOk result (M.program memory.new ≡ M.program memory.old) }
 {
-    match begin_use(stack, memory, tables, p.method_class(method), left)? {
-        Use::Ready => enter_method(stack, p, method, tables.arguments(method), left),
+    match begin_method_use(stack, memory, p, tables, method, left)? {
+        Use::Ready => {
+            let arguments = tables.arguments(method);
+            enter_method(stack, p, tables, method, arguments, left)
+        }
         Use::Begun => Ok(Next::Go),
         Use::Fault { class } => Ok(Next::Fault { class }),
         Use::Over => Ok(Next::Over),
     }
+}
+
+/// Begins the initialisation of the class of a method, where none was begun. A class without an initialisation state is told
+/// by the method's own entry in the tables.
+#[inline(always)]
+#[tactic(auto, unfolding(jvm_model::specs::Rows::begin))]
+fn begin_method_use<M: Memory>(
+    stack: &mut FrameStack,
+    memory: &mut M,
+    p: &Program,
+    tables: &Tables,
+    method: u32,
+    left: &mut u64,
+) -> Result<Use, NoMemory>
+    requires program { p.now ≡ M.program memory.old }
+    requires tables { tables.now ≡ M.program memory.old }
+    requires safe { IsUsable (method_at p.now method).class
+        (M.program memory.old) (M.world memory.old) stack.old }
+    ensures meets { IfOk result (λ u. MeetsUse (method_at p.now method).class
+        (M.program memory.old) (M.world memory.old) stack.old left.old
+        u stack.new (M.world memory.new) left.new) }
+    ensures told { IfOk result (λ u. TellsUse (method_at p.now method).class
+        (M.program memory.old) (M.world memory.old) stack.old
+        u M.follows memory.old memory.new) }
+    ensures entries { IfOk result (λ u. u ≢ Use.Begun → stack.new ≡ stack.old) }
+    ensures of { OnOk result (M.program memory.new ≡ M.program memory.old) }
+{
+    if let Some(entrance) = tables.entrance(method) {
+        if entrance.is_trivial {
+            return Ok(Use::Ready);
+        }
+    }
+    begin_use(stack, memory, tables, p.method_class(method), left)
 }
 
 /// Enters the method that is selected on an instance of a kind.
@@ -114,7 +152,7 @@ fn enter_selected(
     ensures kept { selections.new ≡ selections.old }
 {
     let choice = selections.dispatch(alloc, p, tables, interface, method, kind.class())?;
-    enter_choice(stack, p, choice, tables.arguments(method) + 1, left)
+    enter_choice(stack, p, tables, choice, tables.arguments(method) + 1, left)
 }
 
 /// Calls a method on the object below the arguments; an interface is named by invokeinterface.
@@ -145,7 +183,7 @@ fn invoke_on_object<M: Memory>(
     ensures of { OnOk result (M.program memory.new ≡ M.program memory.old) }
     ensures kept { selections.new ≡ selections.old }
 {
-    match receiver(stack, tables.arguments(method)) {
+    match stack.operand(tables.arguments(method)) {
         Value::Obj(object) => {
             let head = memory.head(object)?;
             enter_selected(
@@ -264,11 +302,11 @@ pub fn invoke_special<M: Memory>(
     ensures kept { selections.new ≡ selections.old }
 {
     let arguments = tables.arguments(method);
-    match receiver(stack, arguments) {
+    match stack.operand(arguments) {
         Value::Obj(_) | Value::Lit(_) => {
             let current = p.method_class(stack.number());
             let choice = selections.dispatch_special(alloc, p, tables, current, named, method)?;
-            enter_choice(stack, p, choice, arguments + 1, left)
+            enter_choice(stack, p, tables, choice, arguments + 1, left)
         }
         Value::Null => Ok(Next::Fault {
             class: NULL_POINTER_EXCEPTION,

@@ -1,13 +1,17 @@
 //! Returns (JVMS 6.5).
 
-ghost use Rattle.std.specs.Prelude.{◌≡◌, ◌<◌, ◌∷◌, [], IfOk, OnOk};
+ghost use Rattle.std.specs.Prelude.{◌≡◌, ◌<◌, ◌∷◌, [], drop, get_or, length, IfOk, OnOk};
 ghost use Rattle.jvm_model.specs.World.{World};
+ghost use Rattle.jvm_model.specs.Entries.{with_stack};
+ghost use Rattle.jvm_model.specs.Narrow.{narrow};
 ghost use Rattle.jvm_model.specs.declared.instr.Instr.TheVariants as form;
+ghost use Rattle.jvm_model.specs.declared.values.Value.TheVariants.{Null};
 ghost use Rattle.vm_mem.specs.Meets.{IsReady, Meets, Tells};
 ghost use Rattle.vm_calls.specs.Calls.{HasRoomBelow, hands_row, return_row};
 
 use et_base::NoMemory;
-use jvm_model::{EntryKind, Next, Sort, Value};
+use et_base::letters::INT;
+use jvm_model::{EntryKind, Next, Sort};
 use vm_frames::FrameStack;
 use vm_mem::Memory;
 use vm_tables::Tables;
@@ -39,9 +43,8 @@ pub fn give_back<M: Memory>(
     match of {
         None => Ok(hand_nothing(stack, tables, left)),
         Some(_) => {
-            let v = stack.peek(0);
-            let narrow = v.narrow(tables.return_unit(stack.number()));
-            Ok(hand_value(stack, tables, narrow, left))
+            let unit = tables.return_unit(stack.number());
+            Ok(hand_top(stack, tables, unit, left))
         }
     }
 }
@@ -68,26 +71,50 @@ fn hand_nothing(stack: &mut FrameStack, tables: &Tables, left: &mut u64) -> Next
     }
 }
 
-/// Pops the entry at the top, and a value goes to the one below.
+/// Pops the entry at the top, and its top operand, narrowed to a type by the first unit of its descriptor, goes to the one
+/// below.
 #[inline(always)]
 #[tactic(auto, unfolding(jvm_model::specs::RowsReturn::hands_on))]
-fn hand_value(stack: &mut FrameStack, tables: &Tables, v: Value, left: &mut u64) -> Next
-    requires { HasRoomBelow stack.old }
-    ensures { (w : World) → Meets (hands_row (v ∷ [])) tables.now w stack.old left.old result stack.new w left.new }
+fn hand_top(stack: &mut FrameStack, tables: &Tables, unit: u16, left: &mut u64) -> Next
+    requires operand { 0 < length stack.old.top.stack }
+    requires room { HasRoomBelow stack.old }
+    ensures { (w : World)
+        → Meets (hands_row (narrow unit (get_or stack.old.top.stack 0 Null) ∷ []))
+        tables.now w stack.old left.old result stack.new w left.new }
 {
     if *left == 0 {
         return Next::Over;
     }
     *left -= 1;
-    stack.pop();
-    match stack.kind() {
-        EntryKind::Absent => Next::Leave,
+    match stack.kind_below() {
+        EntryKind::Absent => {
+            stack.pop();
+            Next::Leave
+        }
         EntryKind::InMethod => {
+            narrow_top(stack, unit);
+            stack.pop_to_caller();
             let next = tables.next_place(stack.number(), stack.pc());
-            stack.push_value(v);
             stack.set_pc(next);
             Next::Go
         }
-        EntryKind::InClass { .. } => Next::Go,
+        EntryKind::InClass { .. } => {
+            stack.pop();
+            Next::Go
+        }
+    }
+}
+
+/// Narrows the top operand to a type by the first unit of its descriptor. Where that is an int the operand isn't looked at.
+#[inline(always)]
+#[tactic(auto, using(crate::proofs::Returned::int_kept))]
+fn narrow_top(stack: &mut FrameStack, unit: u16)
+    requires { 0 < length stack.old.top.stack }
+    ensures { stack.new ≡ with_stack stack.old
+        (narrow unit (get_or stack.old.top.stack 0 Null) ∷ drop 1 stack.old.top.stack) }
+{
+    if unit != INT {
+        let v = stack.pop_value();
+        stack.push_value(v.narrow(unit));
     }
 }

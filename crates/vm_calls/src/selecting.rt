@@ -12,7 +12,7 @@ use crate::choice::Choice;
 use et_base::{Items, NoMemory};
 use indexmap::IndexSet;
 use jvm_model::{
-    ABSTRACT_METHOD_ERROR, INCOMPATIBLE_CLASS_CHANGE_ERROR, INIT, OBJECT, Program, class_bound,
+    ABSTRACT_METHOD_ERROR, INCOMPATIBLE_CLASS_CHANGE_ERROR, OBJECT, Program, class_bound,
 };
 use std::alloc::Global;
 use vm_tables::Tables;
@@ -225,7 +225,7 @@ fn select_from(
     requires { tables.now ≡ p.now }
     ensures { IfOk result (λ x. selected_of x ≡ special_from p.now method class) }
 {
-    if p.method_name(method) == &INIT[..] {
+    if tables.is_initialiser(method) {
         return Ok(Choice::Chosen { method });
     }
     let found = declared_special(p, method, class);

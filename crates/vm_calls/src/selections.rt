@@ -158,6 +158,7 @@ impl Selections {
 
     /// What invokespecial of a method of the named type selects in a method of the current class (JVMS 6.5). The only
     /// error is want of memory.
+    #[inline(always)]
     #[tactic(auto, unfolding(jvm_model::specs::Selection::select_special))]
     pub fn dispatch_special(
         &mut self,
@@ -173,6 +174,9 @@ impl Selections {
         ensures gives { IfOk result (λ x. selected_of x ≡ selection.select_special self.old current (selection.named_class named) method) }
         ensures kept { self.new ≡ self.old }
     {
+        if tables.is_initialiser(method) {
+            return Ok(Choice::Chosen { method });
+        }
         let start = special_start(p, tables, current, named_class(named));
         self.choose(alloc, p, tables, true, method, start)
     }
