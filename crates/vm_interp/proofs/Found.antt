@@ -2,7 +2,6 @@
 use Rattle.std.proofs.Common.{◌≡◌, ◌<◌, ℕ, suc, List, Bool, cond, refl, sym, ap, ◌∙◌, subst, arith, Option, Some, None, true, false, nat_le, ◌-◌}
 use Rattle.jvm_model.specs.declared.values.Touch.{Touch}
 use Rattle.jvm_model.specs.declared.instr.Instr.{Instr}
-use Rattle.jvm_model.specs.declared.instr.Instr.TheVariants as form
 use Rattle.jvm_model.specs.declared.outcome.Next.TheVariants.{Go}
 use Rattle.jvm_model.specs.declared.program.Program.{Program}
 use Rattle.jvm_model.specs.declared.state.EntryKind.TheVariants.{InMethod}
@@ -11,7 +10,6 @@ use Rattle.jvm_model.specs.Access.{Access, done, spend, bind}
 use Rattle.jvm_model.specs.Classes.{next_place, form_at}
 use Rattle.jvm_model.specs.Entries.{Entries, with_place}
 use Rattle.jvm_model.specs.Rows.{Answer, answer}
-use Rattle.jvm_model.specs.RowsBranches.{row_branches}
 use Rattle.jvm_model.specs.State.{State, Turn}
 use Rattle.jvm_model.specs.Step.{group_of, row, row_here, row_or_none, after_row}
 use Rattle.jvm_model.specs.View.{counted, touched, IsSafe, IsRow, IsTurn}
@@ -23,35 +21,37 @@ use Rattle.vm_mem.specs.Story.{Story}
 use Rattle.vm_arith.proofs.Rows.{has_row}
 use Rattle.check_sound.specs.ReachLaw.{puts}
 use Rattle.vm_interp.specs.Reaching.{CanStep}
-use Rattle.vm_interp.specs.Gliding.{CanGo, CanGlide, Goes}
+use Rattle.vm_interp.specs.Gliding.{CanGo, CanGlide}
 use Rattle.vm_interp.specs.Rows.{form_row}
 use Rattle.vm_interp.proofs.Quiet.{grows}
 
+-- the row of a form goes on, where this is the place of the next instruction
+record Goes (i : Instr) (next : ℕ) (s u : Entries) : Type 0 where
+  pub frame : u.top.kind ≡ s.top.kind
+  pub number : u.top.number ≡ s.top.number
+  pub row : (p : Program) → next_place p s.top.number s.top.pc ≡ next → row p i s ≡ done (answer Go u)
+
 -- a form that goes on at the next instruction
-pub goes : (i : Instr) (n : ℕ) (s u : Entries) → GoesOn i s u → Goes i n s (with_place u n)
+goes : (i : Instr) (n : ℕ) (s u : Entries) → GoesOn i s u → Goes i n s (with_place u n)
 goes i n s u h = record { frame = h.frame.kind; number = h.frame.number; row = λ p e. h.row p s.top.pc ∙ ap (λ m. done (answer Go (with_place u m))) e }
 
 -- a branch
-pub branches : (i : ℕ → Instr) (b : Bool) (to n : ℕ) (s u : Entries) → Branches i b s u → Goes (i to) n s (with_place u (cond b to n))
+branches : (i : ℕ → Instr) (b : Bool) (to n : ℕ) (s u : Entries) → Branches i b s u → Goes (i to) n s (with_place u (cond b to n))
 branches i b to n s u h = record { frame = h.frame.kind; number = h.frame.number; row = λ p e. h.row to p s.top.pc ∙ ap (λ m. done (answer Go (with_place u (cond b to m)))) e }
-
-pub jumps : (to n : ℕ) (s : Entries) → Goes (form.Goto to) n s (with_place s to)
-unfolding row row_branches
-jumps to n s = record { frame = refl; number = refl; row = λ p e. refl }
 
 -- the row of such a form
 module _ (p : Program) (s : Entries) (w : World) (i : Instr) (n : ℕ) (u : Entries) (place : next_place p s.top.number s.top.pc ≡ n) (h : Goes i n s u) where
-  pub quick_meets : (left left1 : ℕ) → left ≡ suc left1 → Meets (form_row i) p w s left Go u w left1
+  quick_meets : (left left1 : ℕ) → left ≡ suc left1 → Meets (form_row i) p w s left Go u w left1
   quick_meets left left1 e = ap (λ (a : Access (Answer Entries)). counted (spend 1 a) w left) (h.row p place) ∙
       (let d : left - 1 ≡ left1 = omega arith in let k : nat_le 1 left ≡ true = grind arith in rw (k, d) refl)
 
-  pub quick_touches : (ts : List Touch) → touched (row p i s) w ts ≡ ts
+  quick_touches : (ts : List Touch) → touched (row p i s) w ts ≡ ts
   quick_touches ts = ap (λ (a : Access (Answer Entries)). touched a w ts) (h.row p place)
 
-  pub went_meets : (left : ℕ) → 0 < left → Meets (form_row i) p w s left Go u w (left - 1)
+  went_meets : (left : ℕ) → 0 < left → Meets (form_row i) p w s left Go u w (left - 1)
   went_meets left l = quick_meets left (left - 1) (omega arith)
 
-  pub went_tells : {M : Type 0} (follows : M → Story → List Touch → Type 0) (m : M) → Tells (form_row i) p w s Go follows m m
+  went_tells : {M : Type 0} (follows : M → Story → List Touch → Type 0) (m : M) → Tells (form_row i) p w s Go follows m m
   went_tells follows m o h ts k = subst (λ (us : List Touch). follows m h us) (sym (quick_touches ts)) k
 
 pub branch_meets : (p : Program) (w : World) (i : ℕ → Instr) (b : Bool) (to n : ℕ) (s u : Entries) (left : ℕ) → Branches i b s u → next_place p s.top.number s.top.pc ≡ n → 0 < left → Meets (form_row (i to)) p w s left Go (with_place u (cond b to n)) w (left - 1)
@@ -85,6 +85,3 @@ straight_meets p w i n s u left h e l = went_meets p s w i n (with_place u n) e 
 
 pub straight_tells : {M : Type 0} (follows : M → Story → List Touch → Type 0) (m : M) (p : Program) (w : World) (i : Instr) (s u : Entries) → GoesOn i s u → Tells (form_row i) p w s Go follows m m
 straight_tells follows m p w i s u h = went_tells p s w i (next_place p s.top.number s.top.pc) (with_place u (next_place p s.top.number s.top.pc)) refl (goes i (next_place p s.top.number s.top.pc) s u h) follows m
-
-pub jumps_at : (i : Instr) (to n : ℕ) (s v : Entries) → i ≡ form.Goto to → v ≡ with_place s to → Goes i n s v
-jumps_at i to n s v e f = rw (e, f) (jumps to n s)

@@ -1,12 +1,14 @@
 -- The instructions of a code by number.
-use Rattle.std.proofs.Common.{◌≡◌, ℕ, zero, suc, ◌<◌, ◌+◌, List, [], ◌∷◌, length, get_or, drop, eqb, Bool, true, false, cond, refl, sym, ap, ◌∙◌, subst, arith, Option, Some, None, IfSome, slice_get, ◌≤◌, All}
-use Rattle.std.proofs.lemmas.Bool.{eq-eqb, ne_eqb}
+use Rattle.std.proofs.Common.{◌≡◌, ℕ, zero, suc, ◌<◌, ◌+◌, List, [], ◌∷◌, length, get_or, take, drop, ◌-◌, eqb, Bool, true, false, cond, refl, sym, ap, ◌∙◌, subst, arith, Option, Some, None, IfSome, IsSome, slice_get, ◌≤◌, All}
+use Rattle.std.proofs.lemmas.Bool.{eq-eqb, eqb-true, ne_eqb}
+use Rattle.std.proofs.lemmas.List.{length-drop, take_all}
 use Rattle.std.proofs.lemmas.List.Elements.{All-head, All-tail}
 use Rattle.std.proofs.Math.Nat.{lt_of_not-le}
 use Rattle.jvm_model.specs.declared.instr.Instr.{Instr}
 use Rattle.jvm_model.specs.declared.program.Placed.{Placed}
 use Rattle.jvm_model.specs.declared.program.Body.{Body}
 use Rattle.jvm_model.specs.declared.program.Program.{Program}
+use Rattle.jvm_model.specs.declared.state.EntryKind.TheVariants.{InMethod}
 use Rattle.jvm_model.specs.Classes.{Found, found_in, found_of, form_at, next_place, place_after, method_at}
 use Rattle.jvm_model.specs.Entries.{Entries}
 use Rattle.jvm_model.specs.Linked.{Ascends, IsBody, Linked}
@@ -14,9 +16,11 @@ use Rattle.jvm_model.specs.Step.{row_here, row_or_none}
 use Rattle.jvm_model.specs.View.{IsRow, IsSafe}
 use Rattle.jvm_model.specs.World.{World}
 use Rattle.vm_tables.specs.Numbers.{instruction, instruction_of, after_or, no_placed}
-use Rattle.vm_tables.proofs.Places.{ascending_number, form_some, get_some, place_at, place_past}
+use Rattle.vm_tables.proofs.Places.{ascending_number, form_bare, form_some, get_some, place_at, place_past}
 use Rattle.check_sound.proofs.Arrive.{has_number}
-use Rattle.vm_interp.specs.Gliding.{IsNumber, Stands}
+use Rattle.vm_interp.specs.Gliding.{IsAtForm, IsIn, IsInCode, IsLeft, IsRest, Stands, StaysAt}
+use Rattle.vm_interp.specs.declared.went.Went.{Went}
+use Rattle.vm_interp.specs.declared.went.Went.TheVariants.{On, Aside, Into, By}
 
 chosen : (b c : Bool) (o f : Option Found) → b ≡ c → (elim b as (λ _. Option Found) [ true ↦ o | false ↦ f ]) ≡ cond c o f
 chosen true c o f e = subst (λ (x : Bool). o ≡ cond x o f) e refl
@@ -37,8 +41,13 @@ within [] i x e = absurd (cc)
 within (y ∷ ys) zero x e = omega arith
 within (y ∷ ys) (suc i) x e = let h = within ys i x e in omega arith
 
+-- the instruction of this number is found at a place of a code
+pub record IsNumber (b : Body) (pc i : ℕ) : Type 0 where
+  pub found : found_of (Some b) pc ≡ instruction_of (Some b) (Some i)
+  pub within : i < length b.code
+
 -- an instruction that stands at the place is the one that is found
-pub number_of_guess : (b : Body) (i pc : ℕ) (x : Placed) → IsBody b → Some x ≡ slice_get b.code i → x.pc ≡ pc → IsNumber b pc i
+number_of_guess : (b : Body) (i pc : ℕ) (x : Placed) → IsBody b → Some x ≡ slice_get b.code i → x.pc ≡ pc → IsNumber b pc i
 number_of_guess b i pc x h e q =
     let here : get_or b.code i no_placed ≡ x = get_some b.code i x no_placed (sym e) in
     let there : (get_or b.code i no_placed).pc ≡ pc = ap (λ (y : Placed). y.pc) here ∙ q in
@@ -68,49 +77,73 @@ looked_up [] i x l e = let none : ⊥ = omega arith in absurd none
 looked_up (y ∷ ys) zero x l e = ap (λ (z : Placed). Some z) e
 looked_up (y ∷ ys) (suc i) x l e = looked_up ys i x (omega arith) e
 
--- the place of an instruction
-pub here_some : (code : List Placed) (i end : ℕ) (x : Placed) → Some x ≡ slice_get code i → x.pc ≡ place_after (drop i code) end
-here_some code i end x e = sym (place_at code i end no_placed (within code i x (sym e)) ∙ ap (λ (y : Placed). y.pc) (get_some code i x no_placed (sym e)))
+-- the place of the first instruction of a list, and that of the next one
+place_first : (rest : List Placed) (end : ℕ) (x : Placed) → Some x ≡ slice_get rest 0 → place_after rest end ≡ x.pc
+place_first [] end x e = absurd (cc)
+place_first (y ∷ ys) end x e = cc
 
-past : (code : List Placed) (i : ℕ) → slice_get code i ≡ None → length code ≤ i
-past [] i e = omega arith
-past (x ∷ xs) zero e = absurd (cc)
-past (x ∷ xs) (suc i) e = let h = past xs i e in omega arith
+pub after_some : (rest : List Placed) (end : ℕ) (x : Placed) → Some x ≡ slice_get rest 1 → x.pc ≡ place_after (drop 1 rest) end
+after_some [] end x e = absurd (cc)
+after_some (y ∷ ys) end x e = sym (place_first ys end x e)
 
-pub here_none : (code : List Placed) (i end : ℕ) → None ≡ slice_get code i → end ≡ place_after (drop i code) end
-here_none code i end e = sym (place_past code i end (past code i (sym e)))
+pub after_none : (rest : List Placed) (end : ℕ) → None ≡ slice_get rest 1 → end ≡ place_after (drop 1 rest) end
+after_none [] end e = refl
+after_none (y ∷ []) end e = refl
+after_none (y ∷ z ∷ zs) end e = absurd (cc)
 
--- the place after an instruction
-pub after_some : (code : List Placed) (i end : ℕ) (x : Placed) → Some x ≡ slice_get code (i + 1) → x.pc ≡ place_after (drop (suc i) code) end
-after_some code i end x e =
-    let one : i + 1 ≡ suc i = omega arith in
-    here_some code (suc i) end x (subst (λ (n : ℕ). Some x ≡ slice_get code n) one e)
+-- all behind the first of a list
+pub rest_all : (xs : List Placed) → take (length xs - 1) (drop 1 xs) ≡ drop 1 xs
+rest_all xs = take_all (length xs - 1) (drop 1 xs) (let l = length-drop 1 xs in omega arith)
 
-pub after_none : (code : List Placed) (i end : ℕ) → None ≡ slice_get code (i + 1) → end ≡ place_after (drop (suc i) code) end
-after_none code i end e =
-    let one : i + 1 ≡ suc i = omega arith in
-    here_none code (suc i) end (subst (λ (n : ℕ). None ≡ slice_get code n) one e)
+-- the instructions of a code from one of them on
+first_of : (code : List Placed) (i : ℕ) → slice_get (drop i code) 0 ≡ slice_get code i
+first_of code zero = refl
+first_of [] (suc i) = refl
+first_of (x ∷ xs) (suc i) = first_of xs i
+
+drop_one : (code : List Placed) (i : ℕ) → drop 1 (drop i code) ≡ drop (suc i) code
+drop_one code zero = refl
+drop_one [] (suc i) = refl
+drop_one (x ∷ xs) (suc i) = drop_one xs i
+
+pub rest_some : (b : Body) (rest : List Placed) → IsRest b rest → 0 < length rest
+rest_some b rest h = subst (λ (xs : List Placed). 0 < length xs) (sym h.all) (let l = length-drop h.from b.code in let k = h.within in omega arith)
+
+pub stands_there : (p : Program) (b : Body) (s : Entries) (i : ℕ) → IsInCode p b s → i < length b.code → (get_or b.code i no_placed).pc ≡ s.top.pc → Stands p b (drop i b.code) s
+stands_there p b s i h l e = record { code = h; placed = record { of = record { from = i; within = l; all = refl }; place = sym (place_at b.code i b.length no_placed l ∙ e) } }
+
+-- a row that left the frame of a method left that of its code
+in_code : (p : Program) (b : Body) (m : ℕ) (s : Entries) → (method_at p m).body ≡ Some b → IsIn m s → IsInCode p b s
+in_code p b m s e h = record { frame = h.frame; own = subst (λ (n : ℕ). (method_at p n).body ≡ Some b) (sym h.number) e }
+
+pub left_in : (p : Program) (b : Body) (m n : ℕ) (s : Entries) (x : Went) → (method_at p m).body ≡ Some b → IsLeft x m n s → StaysAt p b x n s
+left_in p b m n s On e h = (in_code p b m s e h.0, h.1)
+left_in p b m n s Aside e h = in_code p b m s e h
+left_in p b m n s (Into k) e h = tt
+left_in p b m n s (By y) e h = tt
 
 -- the instruction of a number stands at its place
 pub form_here : (p : Program) (m i : ℕ) (b : Body) (x : Placed) → IsBody b → (method_at p m).body ≡ Some b → Some x ≡ slice_get b.code i → form_at p m x.pc ≡ Some x.form
 form_here p m i b x h own e = form_numbered p m x.pc i b own (number_of_guess b i x.pc x h e refl) ∙ ap (λ (y : Placed). Some y.form) (get_some b.code i x no_placed (sym e))
 
--- a frame that is at the instruction of a number
-module _ (p : Program) (m : ℕ) (b : Body) (i : ℕ) (s : Entries) (x : Placed) (linked : Linked p) (h : Stands p m b i s) (at : Some x ≡ slice_get b.code i) where
+-- a frame that is at the first of these instructions
+module _ (p : Program) (b : Body) (rest : List Placed) (s : Entries) (x : Placed) (linked : Linked p) (h : Stands p b rest s) (at : Some x ≡ slice_get rest 0) where
+  here : Some x ≡ slice_get b.code h.placed.of.from
+  here = at ∙ (ap (λ (xs : List Placed). slice_get xs 0) h.placed.of.all ∙ first_of b.code h.placed.of.from)
+
   pub stands_pc : s.top.pc ≡ x.pc
-  stands_pc = h.placed.place ∙ sym (here_some b.code i b.length x at)
+  stands_pc = h.placed.place ∙ place_first rest b.length x at
 
   body : IsBody b
-  body = is_body p m b linked h.own
+  body = is_body p s.top.number b linked h.code.own
 
   pub stands_form : form_at p s.top.number s.top.pc ≡ Some x.form
-  stands_form = subst (λ (n : ℕ). form_at p n s.top.pc ≡ Some x.form) (sym h.number)
-      (subst (λ (n : ℕ). form_at p m n ≡ Some x.form) (sym stands_pc) (form_here p m i b x body h.own at))
+  stands_form = subst (λ (n : ℕ). form_at p s.top.number n ≡ Some x.form) (sym stands_pc) (form_here p s.top.number h.placed.of.from b x body h.code.own here)
 
-  pub stands_next : next_place p s.top.number s.top.pc ≡ place_after (drop (suc i) b.code) b.length
-  stands_next = subst (λ (n : ℕ). next_place p n s.top.pc ≡ place_after (drop (suc i) b.code) b.length) (sym h.number)
-      (subst (λ (n : ℕ). next_place p m n ≡ place_after (drop (suc i) b.code) b.length) (sym stands_pc)
-      (next_numbered p m x.pc i b h.own (number_of_guess b i x.pc x body at refl)))
+  pub stands_next : next_place p s.top.number s.top.pc ≡ place_after (drop 1 rest) b.length
+  stands_next = subst (λ (n : ℕ). next_place p s.top.number n ≡ place_after (drop 1 rest) b.length) (sym stands_pc)
+      (next_numbered p s.top.number x.pc h.placed.of.from b h.code.own (number_of_guess b h.placed.of.from x.pc x body here refl)
+      ∙ ap (λ (xs : List Placed). place_after xs b.length) (sym (ap (λ (xs : List Placed). drop 1 xs) h.placed.of.all ∙ drop_one b.code h.placed.of.from)))
 
 -- no instruction stands behind the last one
 none_past : (code : List Placed) (end pc : ℕ) → All (λ x. x.pc < end) code → end ≤ pc → found_in code end pc ≡ None
@@ -128,9 +161,47 @@ stuck : (p : Program) (s : Entries) (w : World) → form_at p s.top.number s.top
 unfolding row_here
 stuck p s w e h = subst (λ (o : Option Instr). IsSafe IsRow (row_or_none p o s) w) e h
 
+-- where an instruction is found, the method has code
+pub has_body : (p : Program) (m pc : ℕ) → IsSome (form_at p m pc) → (method_at p m).body ≡ None → ⊥
+has_body p m pc h e = let bad : IsSome {T = Instr} None = subst (λ (o : Option Instr). IsSome o) (form_bare p m pc None (ap (λ (o : Option Body). found_of o pc) e ∙ sym (ap (λ (o : Option Body). instruction_of o None) e)) e) h in absurd (cc)
+
+-- where an instruction is found at the start of a code, it's the first
+none_low : (n : ℕ) (code : List Placed) (end : ℕ) → 0 < n → Ascends n code → found_in code end 0 ≡ None
+none_low n [] end l a = refl
+none_low n (x ∷ xs) end l a =
+    chosen (eqb x.pc 0) false (Some (record { form = x.form; after = place_after xs end })) (found_in xs end 0) (ne_eqb x.pc 0 (λ e. (let low = a.0 in let none : ⊥ = omega arith in none)))
+    ∙ none_low (x.pc + 1) xs end (omega arith) a.1
+
+starts_at : (x : Placed) (xs : List Placed) (end : ℕ) (b : Bool) → eqb x.pc 0 ≡ b → Ascends 0 (x ∷ xs) → (found_in (x ∷ xs) end 0 ≡ None → ⊥) → 0 ≡ x.pc
+starts_at x xs end true e a h = sym (eqb-true x.pc 0 e)
+starts_at x xs end false e a h = absurd (h (chosen (eqb x.pc 0) false (Some (record { form = x.form; after = place_after xs end })) (found_in xs end 0) e ∙ none_low (x.pc + 1) xs end (omega arith) a.1))
+
+starts : (code : List Placed) (end : ℕ) → Ascends 0 code → (found_in code end 0 ≡ None → ⊥) → (0 < length code) × (0 ≡ place_after code end)
+starts [] end a h = absurd (h refl)
+starts (x ∷ xs) end a h = (omega arith, starts_at x xs end (eqb x.pc 0) refl a h)
+
+-- a frame at the start of its code stands there
+pub stands_first : (p : Program) (m : ℕ) (b : Body) (s : Entries) → Linked p → s.top.kind ≡ InMethod → s.top.number ≡ m → (method_at p m).body ≡ Some b → s.top.pc ≡ 0 → IsAtForm p s → Stands p b b.code s
+stands_first p m b s linked k n own z h =
+    let own' : (method_at p s.top.number).body ≡ Some b = ap (λ (i : ℕ). (method_at p i).body) n ∙ own in
+    let first = starts b.code b.length (is_body p m b linked own).ascending
+    (λ e. (let none = form_none p s.top.number s.top.pc b own' (ap (λ (i : ℕ). found_in b.code b.length i) z ∙ e) in
+    let bad : IsSome {T = Instr} None = subst (λ (o : Option Instr). IsSome o) none (h k) in absurd (cc))) in
+    record { code = record { frame = k; own = own' }; placed = record { of = record { from = 0; within = first.0; all = refl }; place = z ∙ first.1 } }
+
 -- so a frame whose row is safe isn't there
-pub goes_more : (p : Program) (m : ℕ) (b : Body) (i : ℕ) (s : Entries) (w : World) → Linked p → (method_at p m).body ≡ Some b → s.top.number ≡ m → s.top.pc ≡ place_after (drop (suc i) b.code) b.length → IsSafe IsRow (row_here p s) w → suc i < length b.code
-goes_more p m b i s w linked own n q safe = lt_of_not-le (λ l.
-    (let end : s.top.pc ≡ b.length = q ∙ place_past b.code (suc i) b.length l in
-    let none : form_at p m s.top.pc ≡ None = form_none p m s.top.pc b own (none_past b.code b.length s.top.pc (is_body p m b linked own).within (omega (arith, end))) in
-    stuck p s w (ap (λ (k : ℕ). form_at p k s.top.pc) n ∙ none) safe))
+some_or : (p : Program) (s : Entries) (w : World) (o : Option Instr) → form_at p s.top.number s.top.pc ≡ o → IsSafe IsRow (row_here p s) w → IsSome o
+some_or p s w None e h = absurd (stuck p s w e h)
+some_or p s w (Some i) e h = refl
+
+pub has_form : (p : Program) (s : Entries) (w : World) → IsSafe IsRow (row_here p s) w → IsSome (form_at p s.top.number s.top.pc)
+has_form p s w h = some_or p s w (form_at p s.top.number s.top.pc) refl h
+
+pub stands_next_to : (p : Program) (b : Body) (rest : List Placed) (s : Entries) → Linked p → IsRest b rest → StaysAt p b On (place_after (drop 1 rest) b.length) s → IsAtForm p s → Stands p b (drop 1 rest) s
+stands_next_to p b rest s linked h at some =
+    let one : drop 1 rest ≡ drop (suc h.from) b.code = ap (λ (xs : List Placed). drop 1 xs) h.all ∙ drop_one b.code h.from in
+    let within : suc h.from < length b.code = lt_of_not-le (λ l.
+    (let end : s.top.pc ≡ b.length = at.1 ∙ (ap (λ (xs : List Placed). place_after xs b.length) one ∙ place_past b.code (suc h.from) b.length l) in
+    let none : form_at p s.top.number s.top.pc ≡ None = form_none p s.top.number s.top.pc b at.0.own (none_past b.code b.length s.top.pc (is_body p s.top.number b linked at.0.own).within (omega (arith, end))) in
+    let bad : IsSome {T = Instr} None = subst (λ (o : Option Instr). IsSome o) none (some at.0.frame) in absurd (cc))) in
+    record { code = at.0; placed = record { of = record { from = suc h.from; within = within; all = one }; place = at.1 } }

@@ -1,25 +1,28 @@
 -- Steps of a test one after the other, as the code makes them.
-use Rattle.std.proofs.Common.{◌≡◌, ◌≢◌, ◌≤◌, ◌<◌, ℕ, suc, List, length, drop, not, refl, sym, ap, ◌∙◌, subst, arith, Option, None, Some, is_some}
+use Rattle.std.proofs.Common.{◌≡◌, ◌≢◌, ◌≤◌, ◌<◌, ◌-◌, ℕ, List, [], ◌∷◌, length, nat_le, true, not, refl, sym, ap, ◌∙◌, subst, arith, Option, None, Some, is_some}
 use Rattle.jvm_model.specs.declared.values.Touch.{Touch}
-use Rattle.jvm_model.specs.declared.program.Body.{Body}
 use Rattle.jvm_model.specs.declared.values.Value.{Value}
 use Rattle.jvm_model.specs.declared.library.Native.{Native}
+use Rattle.jvm_model.specs.declared.library.Native.TheVariants as native
 use Rattle.jvm_model.specs.declared.outcome.Next.{Next}
 use Rattle.jvm_model.specs.declared.outcome.Next.TheVariants.{Go, Fault, Raise, Enter, Leave, Over as Spent}
 use Rattle.jvm_model.specs.declared.program.Program.{Program}
 use Rattle.jvm_model.specs.declared.state.EntryKind.TheVariants.{InMethod}
 use Rattle.jvm_model.specs.World.{World}
-use Rattle.jvm_model.specs.Access.{Access, done}
-use Rattle.jvm_model.specs.Classes.{method_at, place_after}
-use Rattle.jvm_model.specs.Linked.{Linked}
-use Rattle.jvm_model.specs.Entries.{Entries, with_place}
+use Rattle.jvm_model.specs.Access.{Access, bind, done, spend}
+use Rattle.jvm_model.specs.Classes.{method_at, next_place}
+use Rattle.jvm_model.specs.Entries.{Entries, with_place, with_stack}
+use Rattle.jvm_model.specs.Natives.{row_native}
+use Rattle.jvm_model.specs.NativesObject.{native_object}
+use Rattle.jvm_model.specs.Rows.{popping}
 use Rattle.jvm_model.specs.State.{State, Turn, next, with_entries}
-use Rattle.jvm_model.specs.Step.{entered, row_here, step}
+use Rattle.jvm_model.specs.Step.{after_native, entered, row_here, step}
 use Rattle.jvm_model.specs.View.{counted, ended, paid, touched, IsSafe, IsTurn}
+use Rattle.jvm_model.specs.Working.{answers}
 use Rattle.jvm_model.proofs.Steps.{step_runs}
 use Rattle.vm_mem.specs.Meets.{Meets, Tells}
 use Rattle.vm_mem.specs.Story.{Story}
-use Rattle.vm_interp.specs.Gliding.{Steps, here, on, StepsOn, Advances, Rolls, EndsWithRow, IsIn}
+use Rattle.vm_interp.specs.Gliding.{Steps, here, on, StepsOn, Advances, Rolls, EndsInit, EndsWithRow, HasObject, IsAtForm}
 use Rattle.vm_interp.specs.Reaching.{AllSafe, HasRoomAfter}
 use Rattle.vm_interp.specs.Seen.{seen}
 use Rattle.vm_interp.specs.Turns.{after, by_row, turned}
@@ -28,7 +31,7 @@ use Rattle.vm_interp.specs.declared.turned.Turned.{Turned}
 use Rattle.vm_interp.specs.declared.turned.Turned.TheVariants.{Over}
 use Rattle.vm_interp.proofs.NoEntry.{room_then}
 use Rattle.vm_interp.proofs.Found.{fits, row_safe}
-use Rattle.vm_interp.proofs.Numbered.{goes_more}
+use Rattle.vm_interp.proofs.Numbered.{has_form}
 use Rattle.vm_interp.proofs.Stepped.{row_over, row_fit, row_counted, row_touches}
 use Rattle.vm_interp.proofs.Whole.{IsRest, goes_by, step_falls}
 
@@ -68,6 +71,51 @@ not_spent p (Fault c) h = absurd h
 not_spent p (Raise v) h = absurd h
 not_spent p Leave h = absurd h
 not_spent p Spent h = absurd h
+
+-- The step whose row answered this and left these, in this world then: it touches no more, and the test goes on over
+-- these entries.
+pub record IsEnded (p : Program) (s : Kept) (x : Next) (t : Entries) (n : ℕ) (v : Entries) (l : ℕ) (w : World) : Type 0 where
+  pub spent : x ≢ Spent
+  pub goes : counted (after x p (record (seen s) { entries = t })) w n ≡ ended (next (record (seen s) { entries = v })) w l
+  pub still : (ts : List Touch) → touched (after x p (record (seen s) { entries = t })) w ts ≡ ts
+
+pub ended_with_row : (p : Program) (s : Kept) (x : Next) (t : Entries) (n : ℕ) (w : World) → s.raised ≡ None → EndsWithRow p x → IsEnded p s x t n t n w
+ended_with_row p s x t n w quiet h = record {
+  spent = not_spent p x h;
+  goes = ap (λ (a : Access Turn). counted a w n) (after_row_ends p (record (seen s) { entries = t }) x h) ∙ ap (λ (o : Option Value). ended (next (record (seen s) { entries = t; raised = o })) w n) (sym quiet);
+  still = λ ts. ap (λ (a : Access Turn). touched a w ts) (after_row_ends p (record (seen s) { entries = t }) x h);
+}
+
+-- the constructor of Object, over these entries
+init_after : (p : Program) (s : State) (m : ℕ) → (method_at p m).native ≡ Some native.ObjectInit → after (Enter m) p s ≡ spend 1 (bind (row_native p native.ObjectInit (record { entries = s.entries; own = s.own })) (after_native p s))
+init_after p s m h = ap (λ (o : Option Native). paid (not (not (is_some o))) (entered p s o s.entries)) h
+
+init_row : (p : Program) (s : State) (o : Value) (vs : List Value) → s.entries.top.stack ≡ o ∷ vs →
+    bind (row_native p native.ObjectInit (record { entries = s.entries; own = s.own })) (after_native p s) ≡ done (next (record s { entries = with_place (with_stack s.entries vs) (next_place p s.entries.top.number s.entries.top.pc) }))
+unfolding row_native native_object
+init_row p s o vs e = ap (λ (xs : List Value). bind (popping xs (λ r ys. answers p (record { entries = s.entries; own = s.own }) ys)) (after_native p s)) e
+
+empty_or : (p : Program) (s : State) (w : World) (xs : List Value) → s.entries.top.stack ≡ xs → IsSafe IsTurn (bind (row_native p native.ObjectInit (record { entries = s.entries; own = s.own })) (after_native p s)) w → 0 < length xs
+unfolding row_native native_object
+empty_or p s w [] e h = absurd (subst (λ (ys : List Value). IsSafe IsTurn (bind (popping ys (λ r zs. answers p (record { entries = s.entries; own = s.own }) zs)) (after_native p s)) w) e h)
+empty_or p s w (x ∷ xs) e h = omega arith
+
+object_there : (p : Program) (s : State) (t : Entries) (w : World) (m : ℕ) → (method_at p m).native ≡ Some native.ObjectInit → IsSafe IsTurn (after (Enter m) p (record s { entries = t })) w → 0 < length t.top.stack
+object_there p s t w m h safe = empty_or p (record s { entries = t }) w t.top.stack refl (subst (λ (a : Access Turn). IsSafe IsTurn a w) (init_after p (record s { entries = t }) m h) safe)
+
+pub ended_with_init : (p : Program) (s : Kept) (x : Next) (t : Entries) (n : ℕ) (v : Entries) (l : ℕ) (w : World) → EndsInit p x t n v l → IsEnded p s x t n v l w
+ended_with_init p s x t n v l w h =
+    let z = record (seen s) { entries = t } in
+    let runs : after x p z ≡ spend 1 (done (next (record z { entries = v }))) =
+    ap (λ (y : Next). after y p z) h.enters ∙ init_after p z h.method h.native
+    ∙ ap (λ (a : Access Turn). spend 1 a) (init_row p z h.object h.popped.top.stack (ap (λ (e : Entries). e.top.stack) h.before))
+    ∙ ap (λ (e : Entries). spend 1 (done (next (record z { entries = e }))))
+    (ap (λ (e : Entries). with_place (with_stack e h.popped.top.stack) (next_place p t.top.number t.top.pc)) h.before ∙ sym h.after) in
+    record {
+      spent = λ e. (let bad : Enter h.method ≡ Spent = sym h.enters ∙ e in cc);
+      goes = ap (λ (a : Access Turn). counted a w n) runs ∙ (let c = h.counted in let d : n - 1 ≡ l = omega arith in let k : nat_le 1 n ≡ true = grind arith in rw (k, d) refl);
+      still = λ ts. ap (λ (a : Access Turn). touched a w ts) runs;
+    }
 
 module _ {M : Type 0} (world : M → World) (follows : M → Story → List Touch → Type 0) (p q : Program) (same : q ≡ p) where
   module _ (m0 m1 : M) (s : Kept) (left : ℕ) (x : Turned) (s' : Kept) (left' : ℕ) where
@@ -115,35 +163,35 @@ module _ {M : Type 0} (world : M → World) (follows : M → Story → List Touc
       pub rolled : Rolls p world follows m0 m2 s n0 x t n'
       rolled = record { last = e; there = world m1; units = n; so_far = f; steps = g; frame = k; meets = same_meets; told = λ o h ts l. same_tells o h (f ts) (told h ts l) }
 
-      -- its step ends with it
-      module _ (ends : EndsWithRow p x) where
-        rest : Access Turn
-        rest = done (next (with_entries (record at { entries = t }) t))
-
-        row_goes : counted (step p at) (world m1) n ≡ ended (next (record (seen s) { entries = t })) (world m2) n'
+      -- its step ends over these entries
+      module _ (v : Entries) (l : ℕ) (ends : IsEnded p s x t n' v l (world m2)) where
+        row_goes : counted (step p at) (world m1) n ≡ ended (next (record (seen s) { entries = v })) (world m2) l
         row_goes = ap (λ (a : Access Turn). counted a (world m1) n) (step_runs p at k quiet)
-            ∙ row_counted row_here p (world m1) at n t (world m2) n' x (not_spent p x ends) same_meets
-            ∙ ap (λ (a : Access Turn). counted a (world m2) n') (after_row_ends p (record at { entries = t }) x ends)
-            ∙ ap (λ (o : Option Value). ended (next (record (seen s) { entries = t; raised = o })) (world m2) n') (sym quiet)
+            ∙ row_counted row_here p (world m1) at n t (world m2) n' x ends.spent same_meets ∙ ends.goes
 
         touches : (ts : List Touch) → touched (step p at) (world m1) ts ≡ touched (row_here p e) (world m1) ts
         touches ts = ap (λ (a : Access Turn). touched a (world m1) ts) (step_runs p at k quiet)
-            ∙ row_touches row_here p (world m1) at n t (world m2) n' x (not_spent p x ends) same_meets ts
-            ∙ ap (λ (a : Access Turn). touched a (world m2) (touched (row_here p e) (world m1) ts)) (after_row_ends p (record at { entries = t }) x ends)
+            ∙ row_touches row_here p (world m1) at n t (world m2) n' x ends.spent same_meets ts
+            ∙ ends.still (touched (row_here p e) (world m1) ts)
 
-        pub row_on : Steps p (seen s) (world m0) n0 (record (seen s) { entries = t }) (world m2) n' (λ ts. touched (step p at) (world m1) (f ts))
-        row_on = on at (world m1) n f (record (seen s) { entries = t }) (world m2) n' g row_goes
+        pub row_on : Steps p (seen s) (world m0) n0 (record (seen s) { entries = v }) (world m2) l (λ ts. touched (step p at) (world m1) (f ts))
+        row_on = on at (world m1) n f (record (seen s) { entries = v }) (world m2) l g row_goes
 
         pub row_told : (h : Story) (ts : List Touch) → follows m0 h ts → follows m2 h (touched (step p at) (world m1) (f ts))
-        row_told h ts l = subst (λ (us : List Touch). follows m2 h us) (sym (touches (f ts))) (same_tells (not_spent p x ends) h (f ts) (told h ts l))
+        row_told h ts j = subst (λ (us : List Touch). follows m2 h us) (sym (touches (f ts))) (same_tells ends.spent h (f ts) (told h ts j))
 
-        -- where it goes on behind an instruction, that one isn't the last of its code
-        pub row_more : StepsOn p (seen s) (world m0) n0 → Linked p → (m i : ℕ) (b : Body) → (method_at p m).body ≡ Some b → IsIn m t → t.top.pc ≡ place_after (drop (suc i) b.code) b.length → suc i < length b.code
-        row_more can linked m i b own h place = goes_more p m b i t (world m2) linked own h.number place
-            (row_safe p (record (seen s) { entries = t }) (world m2) (can (record (seen s) { entries = t }) (world m2) n' (λ ts. touched (step p at) (world m1) (f ts)) row_on) h.frame quiet)
+        -- where the test goes on in a method, an instruction stands there
+        pub row_there : StepsOn p (seen s) (world m0) n0 → IsAtForm p v
+        row_there can h = has_form p v (world m2)
+            (row_safe p (record (seen s) { entries = v }) (world m2) (can (record (seen s) { entries = v }) (world m2) l (λ ts. touched (step p at) (world m1) (f ts)) row_on) h quiet)
 
-        pub row_falls : n' < n
-        row_falls = step_falls p at (world m1) n (next (record (seen s) { entries = t })) (world m2) n' row_goes
+        pub row_falls : l < n
+        row_falls = step_falls p at (world m1) n (next (record (seen s) { entries = v })) (world m2) l row_goes
+
+      -- where it enters the constructor of Object, its object is there
+      pub row_object : StepsOn p (seen s) (world m0) n0 → HasObject p x t
+      row_object can m e h = object_there p at t (world m2) m h (subst (λ (y : Next). IsSafe IsTurn (after y p (record at { entries = t })) (world m2)) e
+          (row_fit row_here p (world m1) at n t (world m2) n' x (λ z. let bad : Enter m ≡ Spent = sym e ∙ z in cc) same_meets (fits p at (world m1) (can at (world m1) n f g) k quiet)))
 
   -- steps and a row, over which a state stands
   module _ (m0 m1 m2 : M) (s : Kept) (quiet : s.raised ≡ None) (left : ℕ) (x : Next) (z : Kept) (left1 : ℕ) (stands : z ≡ record s { frames = z.frames })

@@ -1,24 +1,24 @@
 -- Steps of a test, one after the other.
-use Rattle.std.specs.Prelude.{◌≡◌, ◌≢◌, ◌<◌, ℕ, List, length, drop, Bool, true, false, Some, None}
+use Rattle.std.specs.Prelude.{◌≡◌, ◌≢◌, ◌<◌, ℕ, suc, List, ◌∷◌, length, drop, Bool, true, false, Some, None, IsSome}
+use Rattle.jvm_model.specs.declared.library.Native.TheVariants as native
 use Rattle.jvm_model.specs.declared.values.Touch.{Touch}
+use Rattle.jvm_model.specs.declared.values.Value.{Value}
 use Rattle.jvm_model.specs.declared.instr.Instr.{Instr}
 use Rattle.jvm_model.specs.declared.outcome.Next.{Next}
 use Rattle.jvm_model.specs.declared.outcome.Next.TheVariants.{Go, Fault, Raise, Enter, Leave, Over as Spent}
 use Rattle.jvm_model.specs.declared.program.Body.{Body}
+use Rattle.jvm_model.specs.declared.program.Placed.{Placed}
 use Rattle.jvm_model.specs.declared.program.Program.{Program}
 use Rattle.jvm_model.specs.declared.state.EntryKind.TheVariants.{InMethod}
 use Rattle.jvm_model.specs.World.{World}
-use Rattle.jvm_model.specs.Access.{done}
-use Rattle.jvm_model.specs.Classes.{found_of, method_at, next_place, place_after}
-use Rattle.jvm_model.specs.Entries.{Entries}
-use Rattle.jvm_model.specs.Rows.{answer}
+use Rattle.jvm_model.specs.Classes.{form_at, method_at, next_place, place_after}
+use Rattle.jvm_model.specs.Entries.{Entries, with_place, with_stack}
 use Rattle.jvm_model.specs.State.{State, next}
-use Rattle.jvm_model.specs.Step.{group_of, row, row_here, step}
+use Rattle.jvm_model.specs.Step.{group_of, row_here, step}
 use Rattle.jvm_model.specs.View.{counted, ended, touched}
 use Rattle.vm_frames.specs.Stack.{HasRoom}
 use Rattle.vm_mem.specs.Meets.{Meets}
 use Rattle.vm_mem.specs.Story.{Story}
-use Rattle.vm_tables.specs.Numbers.{instruction_of}
 use Rattle.vm_arith.specs.Pure.{HasRow, is_pure, growth}
 use Rattle.vm_interp.specs.Reaching.{CanStep}
 use Rattle.vm_interp.specs.Seen.{seen}
@@ -26,7 +26,7 @@ use Rattle.vm_interp.specs.Turns.{turned}
 use Rattle.vm_interp.specs.declared.state.State.{State as Kept}
 use Rattle.vm_interp.specs.declared.turned.Turned.{Turned}
 use Rattle.vm_interp.specs.declared.went.Went.{Went}
-use Rattle.vm_interp.specs.declared.went.Went.TheVariants.{On, Aside, By}
+use Rattle.vm_interp.specs.declared.went.Went.TheVariants.{On, Aside, Into, By}
 use Rattle.vm_interp.specs.declared.turned.Turned.TheVariants.{Over}
 
 -- so many steps, after each of which the test goes on; the function adds their touches to those before
@@ -71,11 +71,22 @@ EndsWithRow p (Raise v) = ⊥
 EndsWithRow p Leave = ⊥
 EndsWithRow p Spent = ⊥
 
--- a row that answered this left an instruction of a method at the top
-pub record StaysIn (m : ℕ) (x : Next) (s : Entries) : Type 0 where
-  pub goes : x ≡ Go
-  pub frame : s.top.kind ≡ InMethod
-  pub number : s.top.number ≡ m
+-- The step of a row that answered this ends with the built-in constructor of Object, which takes its object from the
+-- operands and touches nothing: it goes on at the next instruction, and 1 is counted.
+pub record EndsInit (p : Program) (x : Next) (s : Entries) (left : ℕ) (t : Entries) (left' : ℕ) : Type 0 where
+  pub method : ℕ
+  pub enters : x ≡ Enter method
+  pub native : (method_at p method).native ≡ Some native.ObjectInit
+  pub popped : Entries
+  pub object : Value
+  pub before : s ≡ with_stack popped (object ∷ popped.top.stack)
+  pub frame : t.top.kind ≡ InMethod
+  pub after : t ≡ with_place popped (next_place p s.top.number s.top.pc)
+  pub counted : left ≡ suc left'
+
+-- where it enters this constructor, there is the object
+abbrev pub HasObject : Program → Next → Entries → Type 0
+HasObject p x s = (m : ℕ) → x ≡ Enter m → (method_at p m).native ≡ Some native.ObjectInit → 0 < length s.top.stack
 
 -- what a form asks of the entries, where it touches nothing
 abbrev pub CanGo : Bool → Instr → Entries → Type 0
@@ -85,22 +96,30 @@ CanGo false i s = Unit {0}
 abbrev pub CanGlide : Instr → Entries → Type 0
 CanGlide i s = CanGo (is_pure (group_of i)) i s
 
--- the instruction of this number is found at a place of a code
-pub record IsNumber (b : Body) (pc i : ℕ) : Type 0 where
-  pub found : found_of (Some b) pc ≡ instruction_of (Some b) (Some i)
-  pub within : i < length b.code
+-- these are the instructions of a code from one of them on
+pub record IsRest (b : Body) (rest : List Placed) : Type 0 where
+  pub from : ℕ
+  pub within : from < length b.code
+  pub all : rest ≡ drop from b.code
 
--- the instruction of this number stands at a place of a code
-pub record IsPlaced (b : Body) (i pc : ℕ) : Type 0 where
-  pub within : i < length b.code
-  pub place : pc ≡ place_after (drop i b.code) b.length
+-- the first of these instructions stands at a place of a code
+pub record IsPlaced (b : Body) (rest : List Placed) (pc : ℕ) : Type 0 where
+  pub of : IsRest b rest
+  pub place : pc ≡ place_after rest b.length
 
--- the top frame is of this method, whose code this is, and at the instruction of this number
-pub record Stands (p : Program) (m : ℕ) (b : Body) (i : ℕ) (s : Entries) : Type 0 where
+-- the top frame is of a method whose code this is
+pub record IsInCode (p : Program) (b : Body) (s : Entries) : Type 0 where
   pub frame : s.top.kind ≡ InMethod
-  pub number : s.top.number ≡ m
-  pub own : (method_at p m).body ≡ Some b
-  pub placed : IsPlaced b i s.top.pc
+  pub own : (method_at p s.top.number).body ≡ Some b
+
+-- and is at the first of these instructions
+pub record Stands (p : Program) (b : Body) (rest : List Placed) (s : Entries) : Type 0 where
+  pub code : IsInCode p b s
+  pub placed : IsPlaced b rest s.top.pc
+
+-- an instruction stands at the place of the top frame
+abbrev pub IsAtForm : Program → Entries → Type 0
+IsAtForm p s = s.top.kind ≡ InMethod → IsSome (form_at p s.top.number s.top.pc)
 
 -- the top frame is of this method
 pub record IsIn (m : ℕ) (s : Entries) : Type 0 where
@@ -111,16 +130,19 @@ pub record IsIn (m : ℕ) (s : Entries) : Type 0 where
 abbrev pub IsLeft : Went → ℕ → ℕ → Entries → Type 0
 IsLeft On m n s = IsIn m s × (s.top.pc ≡ n)
 IsLeft Aside m n s = IsIn m s
+IsLeft (Into k) m n s = Unit {0}
 IsLeft (By x) m n s = Unit {0}
 
--- the row of a form goes on, where this is the place of the next instruction
-pub record Goes (i : Instr) (next : ℕ) (s u : Entries) : Type 0 where
-  pub frame : u.top.kind ≡ s.top.kind
-  pub number : u.top.number ≡ s.top.number
-  pub row : (p : Program) → next_place p s.top.number s.top.pc ≡ next → row p i s ≡ done (answer Go u)
+-- how a row left the frame of a method with this code
+abbrev pub StaysAt : Program → Body → Went → ℕ → Entries → Type 0
+StaysAt p b On n s = IsInCode p b s × (s.top.pc ≡ n)
+StaysAt p b Aside n s = IsInCode p b s
+StaysAt p b (Into m) n s = Unit {0}
+StaysAt p b (By x) n s = Unit {0}
 
 -- what the row answered
 abbrev pub next_of : Went → Next
 next_of On = Go
 next_of Aside = Go
+next_of (Into m) = Enter m
 next_of (By x) = x

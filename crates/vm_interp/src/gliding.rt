@@ -1,15 +1,17 @@
 //! Steps of a test, one after the other.
 
-ghost use Rattle.std.specs.Prelude.{◌≡◌, ◌<◌, ℕ, true, None, Some, IfOk, OnOk, drop, length, suc, IfSome};
+ghost use Rattle.std.specs.Prelude.{◌≡◌, ◌<◌, ℕ, true, false, None, Some, IfOk, OnOk, drop, IfSome, IsSome};
 ghost use Rattle.jvm_model.specs.declared.state.EntryKind.TheVariants.{InMethod};
 ghost use Rattle.jvm_model.specs.Classes as classes;
-ghost use Rattle.jvm_model.specs.Classes.{method_at};
+ghost use Rattle.jvm_model.specs.Entries.{Entries};
+ghost use Rattle.jvm_model.specs.Classes.{form_at, method_at};
+ghost use Rattle.jvm_model.specs.declared.library.Native.TheVariants as native;
 ghost use Rattle.jvm_model.specs.Linked.{Linked};
 ghost use Rattle.jvm_model.specs.Step as steps;
 ghost use Rattle.vm_mem.specs.Meets.{Meets, Tells};
-ghost use Rattle.vm_interp.specs.Gliding.{Advances, EndsWithRow, IsLeft, IsPlaced, Rolls, Stands, StaysIn, StepsOn, next_of};
-ghost use Rattle.vm_interp.specs.Reaching.{CanStep};
+ghost use Rattle.vm_interp.specs.Gliding.{Advances, EndsInit, EndsWithRow, HasObject, IsAtForm, IsInCode, IsRest, Rolls, Stands, StaysAt, StepsOn, next_of};
 ghost use Rattle.vm_interp.specs.declared.went.Went.TheVariants.{On};
+ghost use Rattle.vm_interp.specs.Reaching.{CanStep};
 ghost use Rattle.vm_interp.specs.Seen.{seen};
 ghost use Rattle.vm_interp.specs.Turns.{as_turned};
 
@@ -20,7 +22,7 @@ use crate::stepping::step_safe;
 use crate::turned::Turned;
 use crate::went::Went;
 use et_base::NoMemory;
-use jvm_model::{Body, EntryKind, Next, Placed, Program, Verdict};
+use jvm_model::{Body, EntryKind, Native, Next, Placed, Program, Verdict};
 use std::alloc::Global;
 use std::mem;
 use vm_calls::Selections;
@@ -83,79 +85,37 @@ fn glide<M: Memory>(
             Ok(turned)
         }
         Some(stand) => glide_in(
-            alloc,
-            state,
-            memory,
-            p,
-            tables,
-            selections,
-            stand.number,
-            stand.body,
-            stand.at,
-            left,
+            alloc, state, memory, p, tables, selections, stand.body, stand.rest, left,
         ),
     }
 }
 
 /// The instruction at the top, where the next step is that of an instruction.
 fn running_at<'p>(state: &State, p: &'p Program, tables: &Tables) -> Option<Stand<'p>>
+    requires tables { tables.now ≡ p.now }
+    requires there { state.now.raised ≡ None → IsAtForm p.now state.now.frames }
     ensures { IfSome result (λ x. (state.now.raised ≡ None)
-        × Stands p.now x.number x.body.now x.at state.now.frames) }
+        × Stands p.now x.body.now x.rest.now state.now.frames) }
 {
     if state.raised.is_some() {
         return None;
     }
-    let body = body_at_top(&state.frames, p)?;
-    stand_in(&state.frames, p, tables, body)
+    stand_on_top(&state.frames, p, tables)
 }
 
-/// The code of the method at the top, where a method with code is.
-fn body_at_top<'p>(stack: &FrameStack, p: &'p Program) -> Option<&'p Body>
-    ensures { IfSome result (λ b. (stack.now.top.kind ≡ InMethod)
-        × ((method_at p.now stack.now.top.number).body ≡ Some b.now)) }
+/// The code of the method at the top, at an instruction of it.
+#[inline(always)]
+fn body_at_top<'p>(stack: &FrameStack, p: &'p Program) -> &'p Body
+    requires { IsSome (form_at p.now stack.now.top.number stack.now.top.pc) }
+    ensures { (method_at p.now stack.now.top.number).body ≡ Some result.now }
 {
-    match stack.kind() {
-        EntryKind::Absent | EntryKind::InClass { .. } => None,
-        EntryKind::InMethod => match p.method(stack.number()) {
-            None => None,
-            Some(record) => record.body.as_ref(),
-        },
-    }
-}
-
-/// Whether a row that answered this left an instruction of this method at the top.
-fn stays_in(went: &Next, stack: &FrameStack, method: u32) -> bool
-    ensures { result ≡ true → StaysIn method went.now stack.now }
-{
-    match went {
-        Next::Go => match stack.kind() {
-            EntryKind::InMethod => stack.number() == method,
-            EntryKind::Absent | EntryKind::InClass { .. } => false,
-        },
-        _ => false,
-    }
-}
-
-/// Whether the step of a row that answered this ends with it, and the test goes on.
-fn ends_with_row(went: &Next, p: &Program) -> bool
-    ensures { result ≡ true → EndsWithRow p.now went.now }
-{
-    match went {
-        Next::Go => true,
-        Next::Enter { method } => native_of(p, *method).is_none(),
-        _ => false,
-    }
-}
-
-/// The code of the method that a row left at the top, where the next step is that of an instruction of it.
-fn body_after<'p>(went: &Next, stack: &FrameStack, p: &'p Program) -> Option<&'p Body>
-    ensures { IfSome result (λ b. EndsWithRow p.now went.now × ((stack.now.top.kind ≡ InMethod)
-        × ((method_at p.now stack.now.top.number).body ≡ Some b.now))) }
-{
-    if !ends_with_row(went, p) {
-        return None;
-    }
-    body_at_top(stack, p)
+    let Some(record) = p.method(stack.number()) else {
+        unreachable!();
+    };
+    let Some(body) = &record.body else {
+        unreachable!();
+    };
+    body
 }
 
 /// Makes such steps in the code of the method at the top and of those that it calls or returns to, and the step of the row
@@ -167,16 +127,15 @@ fn glide_in<M: Memory>(
     p: &Program,
     tables: &Tables,
     selections: &mut Selections,
-    number: u32,
     body: &Body,
-    at: usize,
+    rest: &[Placed],
     left: &mut u64,
 ) -> Result<Turned, NoMemory>
     requires program { p.now ≡ M.program memory.old }
     requires tables { tables.now ≡ M.program memory.old }
     requires selections { selections.old ≡ M.program memory.old }
     requires linked { Linked p.now }
-    requires stands { Stands p.now number body.now at state.old.frames }
+    requires stands { Stands p.now body.now rest.now state.old.frames }
     requires quiet { state.old.raised ≡ None }
     requires can { StepsOn p.now (seen state.old) (M.world memory.old) left.old }
     ensures made { IfOk result (λ x. Advances p.now M.world M.follows memory.old memory.new
@@ -185,7 +144,7 @@ fn glide_in<M: Memory>(
     ensures kept { selections.new ≡ selections.old }
 {
     let next = roll(
-        alloc, state, memory, p, tables, selections, number, body, at, left,
+        alloc, state, memory, p, tables, selections, body, rest, left,
     )?;
     if let Next::Over = next {
         return Ok(Turned::Over);
@@ -203,16 +162,15 @@ fn roll<M: Memory>(
     p: &Program,
     tables: &Tables,
     selections: &mut Selections,
-    number: u32,
     body: &Body,
-    at: usize,
+    rest: &[Placed],
     left: &mut u64,
 ) -> Result<Next, NoMemory>
     requires program { p.now ≡ M.program memory.old }
     requires tables { tables.now ≡ M.program memory.old }
     requires selections { selections.old ≡ M.program memory.old }
     requires linked { Linked p.now }
-    requires stands { Stands p.now number body.now at state.old.frames }
+    requires stands { Stands p.now body.now rest.now state.old.frames }
     requires quiet { state.old.raised ≡ None }
     requires can { StepsOn p.now (seen state.old) (M.world memory.old) left.old }
     ensures made { IfOk result (λ x. Rolls p.now M.world M.follows memory.old memory.new
@@ -223,10 +181,8 @@ fn roll<M: Memory>(
 {
     let mut frames = mem::replace(&mut state.frames, FrameStack::new(alloc));
     let mut units = *left;
-    let mut number = number;
     let mut body = body;
-    let mut code = body.code.as_slice();
-    let mut at = at;
+    let mut rest = rest;
     while units > 0 {
         let went = row_at(
             alloc,
@@ -235,22 +191,28 @@ fn roll<M: Memory>(
             p,
             tables,
             selections,
-            number,
             body,
-            code,
-            at,
+            rest,
             &mut units,
             state,
         )?;
-        let Some(stand) = stand_after(went, &frames, p, tables, number, body, code, at) else {
-            state.frames = frames;
-            *left = units;
-            return Ok(went.next());
-        };
-        number = stand.number;
-        body = stand.body;
-        code = stand.code;
-        at = stand.at;
+        match stand_after(went, &frames, p, tables, body, rest) {
+            Some(stand) => {
+                body = stand.body;
+                rest = stand.rest;
+            }
+            None => match stand_past_init(went, &mut frames, p, tables, &mut units) {
+                Some(stand) => {
+                    body = stand.body;
+                    rest = stand.rest;
+                }
+                None => {
+                    state.frames = frames;
+                    *left = units;
+                    return Ok(went.next());
+                }
+            },
+        }
     }
     frames.set_pc(0);
     state.frames = frames;
@@ -258,7 +220,7 @@ fn roll<M: Memory>(
     Ok(Next::Over)
 }
 
-/// Makes the row of the instruction of a number in the code of the method at the top.
+/// Makes the row of the instruction at the top, the first of these of its method's code.
 #[inline(always)]
 fn row_at<M: Memory>(
     alloc: Global,
@@ -267,10 +229,8 @@ fn row_at<M: Memory>(
     p: &Program,
     tables: &Tables,
     selections: &mut Selections,
-    number: u32,
     body: &Body,
-    code: &[Placed],
-    at: usize,
+    rest: &[Placed],
     left: &mut u64,
     _state: &State,
 ) -> Result<Went, NoMemory>
@@ -278,8 +238,7 @@ fn row_at<M: Memory>(
     requires tables { tables.now ≡ M.program memory.old }
     requires selections { selections.old ≡ M.program memory.old }
     requires linked { Linked p.now }
-    requires code { code.now ≡ body.now.code }
-    requires stands { Stands p.now number body.now at stack.old }
+    requires stands { Stands p.now body.now rest.now stack.old }
     requires quiet { _state.now.raised ≡ None }
     requires can { CanStep p.now (M.world memory.old)
         (record (seen _state.now) { entries = stack.old }) }
@@ -290,12 +249,12 @@ fn row_at<M: Memory>(
     ensures told { IfOk result (λ x. Tells steps.row_here
         (M.program memory.old) (M.world memory.old) stack.old
         (next_of x) M.follows memory.old memory.new) }
-    ensures left { IfOk result (λ x. IsLeft x number
-        (classes.place_after (drop (suc at) body.now.code) body.now.length) stack.new) }
+    ensures left { IfOk result (λ x. StaysAt p.now body.now x
+        (classes.place_after (drop 1 rest.now) body.now.length) stack.new) }
     ensures of { OnOk result (M.program memory.new ≡ M.program memory.old) }
     ensures kept { selections.new ≡ selections.old }
 {
-    let placed = &code[at];
+    let placed = &rest[0];
     stack.set_pc(placed.pc);
     let end = &body.length;
     let went = quick_row(
@@ -306,8 +265,7 @@ fn row_at<M: Memory>(
         tables,
         selections,
         &placed.form,
-        code,
-        at,
+        rest,
         end,
         left,
     )?;
@@ -321,112 +279,187 @@ fn stand_after<'p>(
     stack: &FrameStack,
     p: &'p Program,
     tables: &Tables,
-    number: u32,
     body: &'p Body,
-    code: &'p [Placed],
-    at: usize,
+    rest: &'p [Placed],
 ) -> Option<Stand<'p>>
-    requires own { (method_at p.now number).body ≡ Some body.now }
-    requires code { code.now ≡ body.now.code }
-    requires within { at < length body.now.code }
-    requires more { went ≡ On → suc at < length body.now.code }
-    requires left { IsLeft went number
-        (classes.place_after (drop (suc at) body.now.code) body.now.length) stack.now }
+    requires tables { tables.now ≡ p.now }
+    requires linked { Linked p.now }
+    requires of { IsRest body.now rest.now }
+    requires there { EndsWithRow p.now (next_of went) → IsAtForm p.now stack.now }
+    requires left { StaysAt p.now body.now went
+        (classes.place_after (drop 1 rest.now) body.now.length) stack.now }
     ensures stands { IfSome result (λ x. EndsWithRow p.now (next_of went)
-        × Stands p.now x.number x.body.now x.at stack.now) }
-    ensures code { IfSome result (λ x. x.code.now ≡ x.body.now.code) }
+        × Stands p.now x.body.now x.rest.now stack.now) }
 {
-    let here = Stand {
-        number,
-        body,
-        code,
-        at,
-    };
     match went {
         Went::On => Some(Stand {
-            at: one_more(code, at),
-            ..here
+            body,
+            rest: behind_first(rest, p, body, stack),
         }),
-        Went::Aside => {
-            let at = number_there(tables, body, number, stack.pc())?;
-            Some(Stand { at, ..here })
-        }
-        Went::By(next) => {
-            if stays_in(&next, stack, number) {
-                let at = number_there(tables, body, number, stack.pc())?;
-                return Some(Stand { at, ..here });
-            }
-            let body = body_after(&next, stack, p)?;
-            stand_in(stack, p, tables, body)
-        }
+        Went::Aside => Some(Stand {
+            body,
+            rest: rest_there(tables, p, body, stack),
+        }),
+        Went::Into { method } => { stand_at_start(stack, p, method) }
+        Went::By(Next::Go) => stand_on_top(stack, p, tables),
+        Went::By(_) => None,
     }
 }
 
-/// The number after that of an instruction of a code.
+/// The first instruction of a method that was entered, None of a built-in one. That the entry at the top is its frame is
+/// known where this is inlined, and the tests of it are left out.
 #[inline(always)]
-fn one_more(_code: &[Placed], at: usize) -> usize
-    requires { at < length _code.now }
-    ensures { result ≡ suc at }
+fn stand_at_start<'p>(stack: &FrameStack, p: &'p Program, method: u32) -> Option<Stand<'p>>
+    requires linked { Linked p.now }
+    requires there { (method_at p.now method).native ≡ None → IsAtForm p.now stack.now }
+    ensures { IfSome result (λ x. ((method_at p.now method).native ≡ None)
+        × Stands p.now x.body.now x.rest.now stack.now) }
 {
-    at + 1
-}
-
-/// The instruction at the top in the code of its method.
-fn stand_in<'p>(
-    stack: &FrameStack,
-    _p: &Program,
-    tables: &Tables,
-    body: &'p Body,
-) -> Option<Stand<'p>>
-    requires frame { stack.now.top.kind ≡ InMethod }
-    requires own { (method_at _p.now stack.now.top.number).body ≡ Some body.now }
-    ensures stands { IfSome result (λ x. Stands _p.now x.number x.body.now x.at stack.now) }
-    ensures code { IfSome result (λ x. x.code.now ≡ x.body.now.code) }
-{
-    let number = stack.number();
-    let at = number_there(tables, body, number, stack.pc())?;
+    let record = p.method(method)?;
+    if record.native.is_some() {
+        return None;
+    }
+    let body = record.body.as_ref()?;
+    if !is_frame(stack) || stack.number() != method || stack.pc() != 0 {
+        return None;
+    }
     Some(Stand {
-        number,
         body,
-        code: body.code.as_slice(),
-        at,
+        rest: body.code.as_slice(),
     })
 }
 
-/// An instruction by its number in the code of a method.
+/// The instruction after one that calls the built-in constructor of `Object`: the step ends, over the frame of the caller,
+/// whose operands lose the object. Where the row answered anything else, or no unit is left, it is None and all stays.
+#[inline(always)]
+fn stand_past_init<'p>(
+    went: Went,
+    stack: &mut FrameStack,
+    p: &'p Program,
+    tables: &Tables,
+    left: &mut u64,
+) -> Option<Stand<'p>>
+    requires tables { tables.now ≡ p.now }
+    requires object { HasObject p.now (next_of went) stack.old }
+    requires there { (s : Entries) (n : ℕ) → EndsInit p.now (next_of went) stack.old left.old s n
+        → IsAtForm p.now s }
+    ensures ended { IfSome result (λ x.
+        EndsInit p.now (next_of went) stack.old left.old stack.new left.new
+        × Stands p.now x.body.now x.rest.now stack.new) }
+    ensures kept { result ≡ None → (stack.new ≡ stack.old) × (left.new ≡ left.old) }
+{
+    if !ends_object_init(went, stack, p, tables, left) {
+        return None;
+    }
+    Some(stand_in_method(stack, p, tables))
+}
+
+/// Whether the step of an instruction that called a method ends with the built-in constructor of `Object`: then it does.
+#[inline(always)]
+fn ends_object_init(
+    went: Went,
+    stack: &mut FrameStack,
+    p: &Program,
+    tables: &Tables,
+    left: &mut u64,
+) -> bool
+    requires tables { tables.now ≡ p.now }
+    requires object { HasObject p.now (next_of went) stack.old }
+    ensures ended { result ≡ true
+        → EndsInit p.now (next_of went) stack.old left.old stack.new left.new }
+    ensures kept { result ≡ false → (stack.new ≡ stack.old) × (left.new ≡ left.old) }
+{
+    let Went::Into { method } = went else {
+        return false;
+    };
+    if !is_object_init(p, method) || *left == 0 || !is_frame(stack) {
+        return false;
+    }
+    let next = tables.next_place(stack.number(), stack.pc());
+    stack.pop_value();
+    stack.set_pc(next);
+    *left -= 1;
+    true
+}
+
+/// Whether a method is the built-in constructor of `Object`.
+#[inline(always)]
+fn is_object_init(p: &Program, method: u32) -> bool
+    ensures { result ≡ true → (method_at p.now method).native ≡ Some native.ObjectInit }
+{
+    matches!(native_of(p, method), Some(Native::ObjectInit))
+}
+
+/// The instructions behind the first of these, where the top stands at the next one.
+#[inline(always)]
+fn behind_first<'p>(
+    rest: &'p [Placed],
+    _p: &Program,
+    _body: &Body,
+    _stack: &FrameStack,
+) -> &'p [Placed]
+    requires linked { Linked _p.now }
+    requires of { IsRest _body.now rest.now }
+    requires at { StaysAt _p.now _body.now On
+        (classes.place_after (drop 1 rest.now) _body.now.length) _stack.now }
+    requires there { IsAtForm _p.now _stack.now }
+    ensures { Stands _p.now _body.now result.now _stack.now }
+{
+    &rest[1..]
+}
+
+/// The instruction at the top in the code of its method, where a method is.
+#[inline(always)]
+fn stand_on_top<'p>(stack: &FrameStack, p: &'p Program, tables: &Tables) -> Option<Stand<'p>>
+    requires tables { tables.now ≡ p.now }
+    requires there { IsAtForm p.now stack.now }
+    ensures { IfSome result (λ x. Stands p.now x.body.now x.rest.now stack.now) }
+{
+    if !is_frame(stack) {
+        return None;
+    }
+    Some(stand_in_method(stack, p, tables))
+}
+
+/// The instruction at the top in the code of its method.
+#[inline(always)]
+fn stand_in_method<'p>(stack: &FrameStack, p: &'p Program, tables: &Tables) -> Stand<'p>
+    requires tables { tables.now ≡ p.now }
+    requires frame { stack.now.top.kind ≡ InMethod }
+    requires there { IsAtForm p.now stack.now }
+    ensures { Stands p.now result.body.now result.rest.now stack.now }
+{
+    let body = body_at_top(stack, p);
+    let rest = rest_there(tables, p, body, stack);
+    Stand { body, rest }
+}
+
+/// Whether the frame of a method is at the top.
+#[inline(always)]
+fn is_frame(stack: &FrameStack) -> bool
+    ensures { result ≡ true → stack.now.top.kind ≡ InMethod }
+{
+    match stack.kind() {
+        EntryKind::InMethod => true,
+        EntryKind::Absent | EntryKind::InClass { .. } => false,
+    }
+}
+
+/// An instruction of a method's code, the first of the rest of it.
 #[derive(Clone, Copy)]
 struct Stand<'p> {
-    number: u32,
     body: &'p Body,
-    code: &'p [Placed],
-    at: usize,
+    rest: &'p [Placed],
 }
 
-/// The number of the instruction at a place of a method's code, if the table has it.
-fn number_there(tables: &Tables, body: &Body, method: u32, pc: u32) -> Option<usize>
-    ensures { IfSome result (λ i. IsPlaced body.now i pc) }
-{
-    let code = body.code.as_slice();
-    if stands_at(code, 0, pc) {
-        return Some(0);
-    }
-    let number = tables.number(method, pc)? as usize;
-    if stands_at(code, number, pc) {
-        Some(number)
-    } else {
-        None
-    }
-}
-
-/// Whether the instruction of a number stands at a place.
+/// The instruction at the top in this code, and those behind it.
 #[inline(always)]
-#[tactic(auto, using(crate::proofs::Numbered::here_some, crate::proofs::Numbered::within))]
-fn stands_at(code: &[Placed], at: usize, pc: u32) -> bool
-    ensures within { result ≡ true → at < length code.now }
-    ensures place { result ≡ true → (end : ℕ) → pc ≡ classes.place_after (drop at code.now) end }
+fn rest_there<'p>(tables: &Tables, _p: &Program, body: &'p Body, stack: &FrameStack) -> &'p [Placed]
+    requires tables { tables.now ≡ _p.now }
+    requires code { IsInCode _p.now body.now stack.now }
+    requires there { IsAtForm _p.now stack.now }
+    ensures { Stands _p.now body.now result.now stack.now }
 {
-    match code.get(at) {
-        None => false,
-        Some(placed) => placed.pc == pc,
-    }
+    let at = tables.index(stack.number(), stack.pc());
+    &body.code.as_slice()[at..]
 }

@@ -1,10 +1,10 @@
-//! The rows of instructions in one flat match: of branches, fields and arrays, and apart of the others.
+//! The rows of instructions in one flat match, so that one jump finds each: those that run often, and apart the others.
 
-ghost use Rattle.std.specs.Prelude.{◌≡◌, ◌<◌, ◌-◌, IfOk, OnOk, Some, cond, drop, length, suc, true, false};
+ghost use Rattle.std.specs.Prelude.{◌≡◌, ◌<◌, ◌-◌, ℕ, IfOk, OnOk, Some, cond, drop, length};
 ghost use Rattle.jvm_model.specs.declared.instr.Instr.TheVariants as form;
 ghost use Rattle.jvm_model.specs.Classes as classes;
 ghost use Rattle.jvm_model.specs.Classes.{form_at};
-ghost use Rattle.jvm_model.specs.Entries.{with_place};
+ghost use Rattle.jvm_model.specs.Entries.{Entries, with_place};
 ghost use Rattle.jvm_model.specs.Step as steps;
 ghost use Rattle.vm_frames.specs.Stack.{HasRoom};
 ghost use Rattle.vm_mem.specs.Meets.{IsReady, IsNext, Meets, Tells};
@@ -16,13 +16,15 @@ ghost use Rattle.vm_interp.specs.Reaching.{HasPlaceBelow, HasSpace};
 ghost use Rattle.vm_interp.specs.Rows.{form_row};
 
 use crate::rows::{return_nothing, row_of};
-use crate::straight::straight_form;
+use crate::straight::{
+    add_ints, and_ints, load_local, multiply_ints, push_constant, store_local, subtract_ints,
+};
 use crate::went::Went;
 use et_base::NoMemory;
-use jvm_model::{Cell, EntryKind, Instr, Next, Placed, Program};
+use jvm_model::{Cell, EntryKind, Instr, Next, Op, Placed, Program};
 use std::alloc::Global;
 use std::mem;
-use vm_arith::{if_ints, if_null, if_refs, if_zero};
+use vm_arith::{compare, convert, dup, if_ints, if_null, if_refs, if_zero, increase, pop};
 use vm_calls::{Selections, give_back, invoke_special, invoke_static, invoke_virtual};
 use vm_frames::FrameStack;
 use vm_mem::Memory;
@@ -32,7 +34,7 @@ use vm_objects::{
 };
 use vm_tables::Tables;
 
-/// Makes the row of an instruction that was found, by its number in the code of its method. Those that run often are made
+/// Makes the row of an instruction that was found, the first of these of its method's code. Those that run often are made
 /// here, and the others apart. The place of the next one is read only where it's asked for.
 #[inline(always)]
 #[tactic(auto, unfolding(jvm_model::specs::Step::row_here))]
@@ -44,8 +46,7 @@ pub fn quick_row<M: Memory>(
     tables: &Tables,
     selections: &mut Selections,
     form: &Instr,
-    code: &[Placed],
-    at: usize,
+    rest: &[Placed],
     end: &u32,
     left: &mut u64,
 ) -> Result<Went, NoMemory>
@@ -54,9 +55,9 @@ pub fn quick_row<M: Memory>(
     requires selections { selections.old ≡ M.program memory.old }
     requires found { form_at (M.program memory.old) stack.old.top.number stack.old.top.pc
         ≡ Some form.now }
-    requires within { at < length code.now }
+    requires within { 0 < length rest.now }
     requires place { IsNext (M.program memory.old) stack.old
-        (classes.place_after (drop (suc at) code.now) end.now) }
+        (classes.place_after (drop 1 rest.now) end.now) }
     requires space { HasSpace (M.program memory.old) stack.old }
     requires row { IsReady steps.row_here (M.program memory.old) (M.world memory.old) stack.old }
     requires can { CanGlide form.now stack.old }
@@ -69,12 +70,12 @@ pub fn quick_row<M: Memory>(
         (M.program memory.old) (M.world memory.old) stack.old
         (next_of x) M.follows memory.old memory.new) }
     ensures left { IfOk result (λ x. IsLeft x stack.old.top.number
-        (classes.place_after (drop (suc at) code.now) end.now) stack.new) }
+        (classes.place_after (drop 1 rest.now) end.now) stack.new) }
     ensures of { OnOk result (M.program memory.new ≡ M.program memory.old) }
     ensures kept { selections.new ≡ selections.old }
 {
     quick_form(
-        alloc, stack, memory, p, tables, selections, form, code, at, end, left,
+        alloc, stack, memory, p, tables, selections, form, rest, end, left,
     )
 }
 
@@ -89,17 +90,16 @@ fn quick_form<M: Memory>(
     tables: &Tables,
     selections: &mut Selections,
     form: &Instr,
-    code: &[Placed],
-    at: usize,
+    rest: &[Placed],
     end: &u32,
     left: &mut u64,
 ) -> Result<Went, NoMemory>
     requires program { p.now ≡ M.program memory.old }
     requires tables { tables.now ≡ M.program memory.old }
     requires selections { selections.old ≡ M.program memory.old }
-    requires within { at < length code.now }
+    requires within { 0 < length rest.now }
     requires place { IsNext (M.program memory.old) stack.old
-        (classes.place_after (drop (suc at) code.now) end.now) }
+        (classes.place_after (drop 1 rest.now) end.now) }
     requires room { HasRoom (puts form.now) stack.old }
     requires below { HasPlaceBelow form.now stack.old }
     requires row { IsReady (form_row form.now)
@@ -114,39 +114,86 @@ fn quick_form<M: Memory>(
         (M.program memory.old) (M.world memory.old) stack.old
         (next_of x) M.follows memory.old memory.new) }
     ensures left { IfOk result (λ x. IsLeft x stack.old.top.number
-        (classes.place_after (drop (suc at) code.now) end.now) stack.new) }
+        (classes.place_after (drop 1 rest.now) end.now) stack.new) }
     ensures of { OnOk result (M.program memory.new ≡ M.program memory.old) }
     ensures kept { selections.new ≡ selections.old }
 {
-    if straight_form(stack, form) {
-        let next = place_after(code, at, end);
-        step_to(stack, next, left);
-        return Ok(Went::On);
-    }
     match form {
+        Instr::Const(v) => {
+            push_constant(stack, v);
+            Ok(onward(stack, rest, end, left))
+        }
+        Instr::Load { of, local } => {
+            load_local(stack, *of, *local);
+            Ok(onward(stack, rest, end, left))
+        }
+        Instr::Store { of, local } => {
+            store_local(stack, *of, *local);
+            Ok(onward(stack, rest, end, left))
+        }
+        Instr::Dup => {
+            dup(stack);
+            Ok(onward(stack, rest, end, left))
+        }
+        Instr::Pop => {
+            pop(stack);
+            Ok(onward(stack, rest, end, left))
+        }
+        Instr::Inc { local, by } => {
+            increase(stack, *local, *by);
+            Ok(onward(stack, rest, end, left))
+        }
+        Instr::Convert { to } => {
+            convert(stack, *to);
+            Ok(onward(stack, rest, end, left))
+        }
+        Instr::Compare => {
+            compare(stack);
+            Ok(onward(stack, rest, end, left))
+        }
+        Instr::Binary {
+            op: Op::Add,
+            wide: false,
+        } => {
+            add_ints(stack);
+            Ok(onward(stack, rest, end, left))
+        }
+        Instr::Binary {
+            op: Op::Sub,
+            wide: false,
+        } => {
+            subtract_ints(stack);
+            Ok(onward(stack, rest, end, left))
+        }
+        Instr::Binary {
+            op: Op::Mul,
+            wide: false,
+        } => {
+            multiply_ints(stack);
+            Ok(onward(stack, rest, end, left))
+        }
+        Instr::Binary {
+            op: Op::And,
+            wide: false,
+        } => {
+            and_ints(stack);
+            Ok(onward(stack, rest, end, left))
+        }
         Instr::IfZero { test, to } => {
             let taken = if_zero(stack, *test);
-            let next = place_after(code, at, end);
-            step_to(stack, target(taken, *to, next), left);
-            Ok(aside_if(taken))
+            Ok(branch(stack, taken, *to, rest, end, left))
         }
         Instr::IfInts { test, to } => {
             let taken = if_ints(stack, *test);
-            let next = place_after(code, at, end);
-            step_to(stack, target(taken, *to, next), left);
-            Ok(aside_if(taken))
+            Ok(branch(stack, taken, *to, rest, end, left))
         }
         Instr::IfRefs { same, to } => {
             let taken = if_refs(stack, *same);
-            let next = place_after(code, at, end);
-            step_to(stack, target(taken, *to, next), left);
-            Ok(aside_if(taken))
+            Ok(branch(stack, taken, *to, rest, end, left))
         }
         Instr::IfNull { null, to } => {
             let taken = if_null(stack, *null);
-            let next = place_after(code, at, end);
-            step_to(stack, target(taken, *to, next), left);
-            Ok(aside_if(taken))
+            Ok(branch(stack, taken, *to, rest, end, left))
         }
         Instr::Goto { to } => {
             step_to(stack, *to, left);
@@ -154,79 +201,69 @@ fn quick_form<M: Memory>(
         }
         Instr::GetField { field, .. } => {
             let method = stack.number();
-            let next = place_after(code, at, end);
+            let next = place_after(rest, end);
             let went = get_field(stack, memory, *field, next, left)?;
             Ok(left_at(went, stack, method, next))
         }
         Instr::PutField { field, .. } => {
             let method = stack.number();
-            let next = place_after(code, at, end);
-            let went = put_field(stack, memory, p, *field, next, left)?;
+            let next = place_after(rest, end);
+            let went = put_field(stack, memory, tables, *field, next, left)?;
             Ok(left_at(went, stack, method, next))
         }
         Instr::ArrayLength => {
             let method = stack.number();
-            let next = place_after(code, at, end);
+            let next = place_after(rest, end);
             let went = array_length(stack, memory, next, left)?;
             Ok(left_at(went, stack, method, next))
         }
         Instr::ArrayLoad { .. } => {
             let method = stack.number();
-            let next = place_after(code, at, end);
+            let next = place_after(rest, end);
             let went = array_load(stack, memory, next, left)?;
             Ok(left_at(went, stack, method, next))
         }
-        Instr::ArrayStore { of: Cell::Int } => {
+        Instr::ArrayStore {
+            of: Cell::Int | Cell::Byte | Cell::Char,
+        } => {
             let method = stack.number();
-            let next = place_after(code, at, end);
-            let went = array_store_number(stack, memory, next, left)?;
-            Ok(left_at(went, stack, method, next))
-        }
-        Instr::ArrayStore { of: Cell::Byte } => {
-            let method = stack.number();
-            let next = place_after(code, at, end);
-            let went = array_store_number(stack, memory, next, left)?;
-            Ok(left_at(went, stack, method, next))
-        }
-        Instr::ArrayStore { of: Cell::Char } => {
-            let method = stack.number();
-            let next = place_after(code, at, end);
+            let next = place_after(rest, end);
             let went = array_store_number(stack, memory, next, left)?;
             Ok(left_at(went, stack, method, next))
         }
         Instr::GetStatic { field } => {
             let method = stack.number();
-            let next = place_after(code, at, end);
+            let next = place_after(rest, end);
             let went = get_static(stack, memory, p, tables, *field, next, left)?;
             Ok(left_at(went, stack, method, next))
         }
         Instr::PutStatic { field } => {
             let method = stack.number();
-            let next = place_after(code, at, end);
+            let next = place_after(rest, end);
             let went = put_static(stack, memory, p, tables, *field, next, left)?;
             Ok(left_at(went, stack, method, next))
         }
         Instr::New { class } => {
             let method = stack.number();
-            let next = place_after(code, at, end);
+            let next = place_after(rest, end);
             let went = new_object(stack, memory, p, tables, *class, next, left)?;
             Ok(left_at(went, stack, method, next))
         }
         Instr::InvokeStatic { method } => {
             let went = invoke_static(stack, memory, p, tables, *method, left)?;
-            Ok(Went::By(went))
+            Ok(called(went))
         }
         Instr::InvokeSpecial { named, method } => {
             let went = invoke_special(
                 alloc, stack, memory, p, tables, selections, *named, *method, left,
             )?;
-            Ok(Went::By(went))
+            Ok(called(went))
         }
         Instr::InvokeVirtual { named, method } => {
             let went = invoke_virtual(
                 alloc, stack, memory, p, tables, selections, *named, *method, left,
             )?;
-            Ok(Went::By(went))
+            Ok(called(went))
         }
         Instr::Return { of: Some(of) } => {
             let went = give_back(stack, memory, tables, Some(*of), left)?;
@@ -236,14 +273,44 @@ fn quick_form<M: Memory>(
             let went = return_nothing(stack, memory, tables, left)?;
             Ok(Went::By(went))
         }
-        _ => {
-            let next = place_after(code, at, end);
-            let went = row_apart(
-                alloc, stack, memory, p, tables, selections, form, next, left,
-            )?;
-            Ok(Went::By(went))
-        }
+        _ => row_apart(
+            alloc, stack, memory, p, tables, selections, form, rest, end, left,
+        ),
     }
+}
+
+/// Goes on at the next instruction, and counts the step.
+#[inline(always)]
+fn onward(stack: &mut FrameStack, rest: &[Placed], end: &u32, left: &mut u64) -> Went
+    requires { 0 < left.old }
+    ensures went { result ≡ On }
+    ensures place { stack.new ≡ with_place stack.old (classes.place_after (drop 1 rest.now) end.now) }
+    ensures counted { left.new ≡ left.old - 1 }
+{
+    let next = place_after(rest, end);
+    step_to(stack, next, left);
+    Went::On
+}
+
+/// Goes on at the target of a branch that is taken, else at the next instruction, and counts the step.
+#[inline(always)]
+fn branch(
+    stack: &mut FrameStack,
+    taken: bool,
+    to: u32,
+    rest: &[Placed],
+    end: &u32,
+    left: &mut u64,
+) -> Went
+    requires { 0 < left.old }
+    ensures went { result ≡ cond taken Aside On }
+    ensures place { stack.new ≡ with_place stack.old
+        (cond taken to (classes.place_after (drop 1 rest.now) end.now)) }
+    ensures counted { left.new ≡ left.old - 1 }
+{
+    let next = place_after(rest, end);
+    step_to(stack, target(taken, to, next), left);
+    aside_if(taken)
 }
 
 /// How a branch left the entry.
@@ -275,6 +342,18 @@ fn left_at(went: Next, stack: &FrameStack, method: u32, next: u32) -> Went
     }
 }
 
+/// How a call left the entries that answered this.
+#[inline(always)]
+fn called(went: Next) -> Went
+    ensures answered { next_of result ≡ went }
+    ensures left { (method next : ℕ) (s : Entries) → IsLeft result method next s }
+{
+    match went {
+        Next::Enter { method } => Went::Into { method },
+        _ => Went::By(went),
+    }
+}
+
 /// Makes the row of an instruction on a copy of the entries and of the units left, so that no address of theirs is handed
 /// on.
 #[inline(always)]
@@ -286,26 +365,30 @@ fn row_apart<M: Memory>(
     tables: &Tables,
     selections: &mut Selections,
     form: &Instr,
-    next: u32,
+    rest: &[Placed],
+    end: &u32,
     left: &mut u64,
-) -> Result<Next, NoMemory>
+) -> Result<Went, NoMemory>
     requires program { p.now ≡ M.program memory.old }
     requires tables { tables.now ≡ M.program memory.old }
     requires selections { selections.old ≡ M.program memory.old }
-    requires place { IsNext (M.program memory.old) stack.old next }
+    requires place { IsNext (M.program memory.old) stack.old
+        (classes.place_after (drop 1 rest.now) end.now) }
     requires room { HasRoom (puts form.now) stack.old }
     requires below { HasPlaceBelow form.now stack.old }
     requires row { IsReady (form_row form.now)
         (M.program memory.old) (M.world memory.old) stack.old }
     ensures meets { IfOk result (λ x. Meets (form_row form.now)
         (M.program memory.old) (M.world memory.old) stack.old left.old
-        x stack.new (M.world memory.new) left.new) }
+        (next_of x) stack.new (M.world memory.new) left.new) }
     ensures told { IfOk result (λ x. Tells (form_row form.now)
         (M.program memory.old) (M.world memory.old) stack.old
-        x M.follows memory.old memory.new) }
+        (next_of x) M.follows memory.old memory.new) }
+    ensures left { IfOk result (λ x. (method next : ℕ) (s : Entries) → IsLeft x method next s) }
     ensures of { OnOk result (M.program memory.new ≡ M.program memory.old) }
     ensures kept { selections.new ≡ selections.old }
 {
+    let next = place_after(rest, end);
     let mut moved = mem::replace(stack, FrameStack::new(alloc));
     let mut units = *left;
     let went = row_of(
@@ -313,7 +396,7 @@ fn row_apart<M: Memory>(
     )?;
     *stack = moved;
     *left = units;
-    Ok(went)
+    Ok(Went::By(went))
 }
 
 /// Goes on at a place of the code, and counts the step.
@@ -334,14 +417,13 @@ fn target(taken: bool, to: u32, next: u32) -> u32
     if taken { to } else { next }
 }
 
-/// The place of the instruction after that of a number, or the end of the code behind the last one.
+/// The place of the instruction after the first of these, or the end of the code behind the last one.
 #[inline(always)]
 #[tactic(auto, using(crate::proofs::Numbered::after_some, crate::proofs::Numbered::after_none))]
-fn place_after(code: &[Placed], at: usize, end: &u32) -> u32
-    requires { at < length code.now }
-    ensures { result ≡ classes.place_after (drop (suc at) code.now) end.now }
+fn place_after(rest: &[Placed], end: &u32) -> u32
+    ensures { result ≡ classes.place_after (drop 1 rest.now) end.now }
 {
-    match code.get(at + 1) {
+    match rest.get(1) {
         None => *end,
         Some(placed) => placed.pc,
     }

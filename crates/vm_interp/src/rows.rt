@@ -94,8 +94,8 @@ pub fn row_of<M: Memory>(
     match form {
         Instr::GetStatic { field } => get_static(stack, memory, p, tables, *field, next, left),
         Instr::PutStatic { field } => put_static(stack, memory, p, tables, *field, next, left),
-        Instr::GetField { .. } => fields(stack, memory, p, form, next, left),
-        Instr::PutField { .. } => fields(stack, memory, p, form, next, left),
+        Instr::GetField { .. } => fields(stack, memory, tables, form, next, left),
+        Instr::PutField { .. } => fields(stack, memory, tables, form, next, left),
         Instr::New { class } => new_object(stack, memory, p, tables, *class, next, left),
         Instr::NewArray { kind } => new_array(stack, memory, *kind, next, left),
         Instr::MultiNewArray { kind, dims } => {

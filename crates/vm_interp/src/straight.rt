@@ -1,58 +1,55 @@
-//! Rows that touch nothing and go on at the next instruction.
+//! Rows of a constant and of operations on ints that run often, but for the frame's place.
 
-ghost use Rattle.std.specs.Prelude.{◌≡◌, true, false};
+ghost use Rattle.std.specs.Prelude.{◌≡◌, false};
 ghost use Rattle.jvm_model.specs.declared.instr.Instr.TheVariants as form;
 ghost use Rattle.jvm_model.specs.declared.instr.Op.TheVariants as op;
 ghost use Rattle.vm_arith.specs.Pure.{GoesOn, HasRow};
-ghost use Rattle.vm_interp.specs.Gliding.{CanGlide};
+ghost use Rattle.vm_frames.specs.Stack.{HasRoom};
 
 use et_base::{add32, mul32, sub32};
-use jvm_model::{Instr, Op};
-use vm_arith::{compare, constant, convert, dup, increase, load, pop, store};
+use jvm_model::{Sort, Value};
+use vm_arith::{constant, load, store};
 use vm_frames::FrameStack;
 
-/// Makes the row of a constant, a load or store, an operation or a conversion, but for the frame's place, or none of another
-/// form.
+/// Puts a constant on top (`bipush`, `ldc` and the others).
 #[inline(always)]
 #[tactic(auto, unfolding(jvm_model::specs::Step::row, jvm_model::specs::RowsMoves::row_moves))]
-pub fn straight_form(stack: &mut FrameStack, form: &Instr) -> bool
-    requires { CanGlide form.now stack.old }
-    ensures went { result ≡ true → GoesOn form.now stack.old stack.new }
-    ensures stays { result ≡ false → stack.new ≡ stack.old }
+pub fn push_constant(stack: &mut FrameStack, v: &Value)
+    requires { HasRoom 1 stack.old }
+    ensures { GoesOn (form.Const v.now) stack.old stack.new }
 {
-    match form {
-        Instr::Const(v) => constant(stack, *v),
-        Instr::Load { local, .. } => load(stack, *local),
-        Instr::Store { local, .. } => store(stack, *local),
-        Instr::Dup => dup(stack),
-        Instr::Pop => pop(stack),
-        Instr::Inc { local, by } => increase(stack, *local, *by),
-        Instr::Binary {
-            op: Op::Add,
-            wide: false,
-        } => add_ints(stack),
-        Instr::Binary {
-            op: Op::Sub,
-            wide: false,
-        } => subtract_ints(stack),
-        Instr::Binary {
-            op: Op::Mul,
-            wide: false,
-        } => multiply_ints(stack),
-        Instr::Binary {
-            op: Op::And,
-            wide: false,
-        } => and_ints(stack),
-        Instr::Convert { to } => convert(stack, *to),
-        Instr::Compare => compare(stack),
-        _ => return false,
+    // Most constants are ints, and a test costs less than a jump by what it is.
+    if let Value::Int(n) = v {
+        stack.push_int(*n);
+    } else {
+        constant(stack, *v);
     }
-    true
+}
+
+/// Puts the local of a slot on top (`iload` and the others).
+#[inline(always)]
+#[tactic(auto, unfolding(jvm_model::specs::Step::row, jvm_model::specs::RowsMoves::row_moves))]
+pub fn load_local(stack: &mut FrameStack, _of: Sort, local: u16)
+    requires row { HasRow (form.Load _of local) stack.old }
+    requires room { HasRoom 1 stack.old }
+    ensures { GoesOn (form.Load _of local) stack.old stack.new }
+{
+    load(stack, local);
+}
+
+/// Takes the operand on top into the local of a slot (`istore` and the others).
+#[inline(always)]
+#[tactic(auto, unfolding(jvm_model::specs::Step::row, jvm_model::specs::RowsMoves::row_moves))]
+pub fn store_local(stack: &mut FrameStack, _of: Sort, local: u16)
+    requires { HasRow (form.Store _of local) stack.old }
+    ensures { GoesOn (form.Store _of local) stack.old stack.new }
+{
+    store(stack, local);
 }
 
 /// Adds the two ints on top (`iadd`).
 #[tactic(auto, unfolding(jvm_model::specs::Step::row, jvm_model::specs::RowsArith::row_arith))]
-fn add_ints(stack: &mut FrameStack)
+pub fn add_ints(stack: &mut FrameStack)
     requires { HasRow (form.Binary op.Add false) stack.old }
     ensures { GoesOn (form.Binary op.Add false) stack.old stack.new }
 {
@@ -63,7 +60,7 @@ fn add_ints(stack: &mut FrameStack)
 
 /// Subtracts the upper one of the two ints on top from the lower one (`isub`).
 #[tactic(auto, unfolding(jvm_model::specs::Step::row, jvm_model::specs::RowsArith::row_arith))]
-fn subtract_ints(stack: &mut FrameStack)
+pub fn subtract_ints(stack: &mut FrameStack)
     requires { HasRow (form.Binary op.Sub false) stack.old }
     ensures { GoesOn (form.Binary op.Sub false) stack.old stack.new }
 {
@@ -74,7 +71,7 @@ fn subtract_ints(stack: &mut FrameStack)
 
 /// Multiplies the two ints on top (`imul`).
 #[tactic(auto, unfolding(jvm_model::specs::Step::row, jvm_model::specs::RowsArith::row_arith))]
-fn multiply_ints(stack: &mut FrameStack)
+pub fn multiply_ints(stack: &mut FrameStack)
     requires { HasRow (form.Binary op.Mul false) stack.old }
     ensures { GoesOn (form.Binary op.Mul false) stack.old stack.new }
 {
@@ -85,7 +82,7 @@ fn multiply_ints(stack: &mut FrameStack)
 
 /// The bits that both ints on top have (`iand`).
 #[tactic(auto, unfolding(jvm_model::specs::Step::row, jvm_model::specs::RowsArith::row_arith))]
-fn and_ints(stack: &mut FrameStack)
+pub fn and_ints(stack: &mut FrameStack)
     requires { HasRow (form.Binary op.And false) stack.old }
     ensures { GoesOn (form.Binary op.And false) stack.old stack.new }
 {

@@ -1,10 +1,19 @@
-use Rattle.std.proofs.Common.{sym, subst}
+use Rattle.std.proofs.Common.{◌∙◌, sym, subst}
 use Rattle.jvm_model.specs.declared.program.Program.{Program}
 use Rattle.vm_interp.specs.Gliding.{here}
 use Rattle.vm_interp.specs.Reaching.{CanStep}
 use Rattle.vm_interp.specs.Seen.{seen}
+use Rattle.vm_interp.proofs.Found.{row_safe}
+use Rattle.vm_interp.proofs.Numbered.{has_form}
 use Rattle.vm_interp.proofs.Onward.{alone}
 use Rattle.vm_interp.proofs.gliding.glide.Goals as goal
+
+pub running_at-requires : goal.running_at-requires
+running_at-requires g c = record {
+  tables = c.requires.tables ∙ sym c.requires.program;
+  there = λ q k. has_form c.args.p.now c.args.state.now.frames (g.M.Memory.world c.args.memory.now)
+      (row_safe c.args.p.now (seen c.args.state.now) (g.M.Memory.world c.args.memory.now) (c.requires.can (seen c.args.state.now) (g.M.Memory.world c.args.memory.now) c.args.left.now (λ ts. ts) here) k q);
+}
 
 pub step_safe-requires-clause-can : goal.step_safe-requires-clause-can
 step_safe-requires-clause-can g c = subst (λ (q : Program). CanStep q (g.M.Memory.world c.args.memory.now) (seen c.args.state.now)) c.requires.program

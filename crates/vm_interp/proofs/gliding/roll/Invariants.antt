@@ -5,14 +5,13 @@ use Rattle.vm_interp.specs.Gliding.{Stands, Steps}
 use Rattle.vm_interp.specs.Seen.{seen}
 use Rattle.vm_interp.proofs.gliding.roll.Given as goal
 
--- such steps were made up to these entries, and the test is at this instruction of this method
+-- such steps were made up to these entries, and the test is at the first of these instructions
 abbrev pub invariant-loop-units : goal.invariant-loop-units
 invariant-loop-units g l = record {
   program : l.p ≡ g.M.Memory.program l.memory;
   kept : l.selections ≡ l.fn.selections;
   others : l.state ≡ record l.fn.state { frames = l.state.frames };
-  code : l.code ≡ l.body.code;
-  stands : Stands l.p l.number l.body l.at l.frames;
+  stands : Stands l.p l.body l.rest l.frames;
   so_far : List Touch → List Touch;
   steps : Steps l.p (seen l.fn.state) (g.M.Memory.world l.fn.memory) l.fn.left (record (seen l.fn.state) { entries = l.frames }) (g.M.Memory.world l.memory) l.units so_far;
   told : (h : Story) (ts : List Touch) → g.M.Memory.follows l.fn.memory h ts → g.M.Memory.follows l.memory h (so_far ts);

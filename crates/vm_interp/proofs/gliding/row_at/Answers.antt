@@ -1,55 +1,51 @@
-use Rattle.std.proofs.Common.{◌≡◌, ◌∙◌, ◌<◌, ℕ, List, Some, slice_get, length, drop, suc, ap, sym, subst}
-use Rattle.jvm_model.specs.declared.program.Placed.{Placed}
+use Rattle.std.proofs.Common.{◌≡◌, Some, drop, sym, subst}
 use Rattle.jvm_model.specs.declared.program.Program.{Program}
 use Rattle.jvm_model.specs.declared.state.EntryKind.TheVariants.{InMethod}
-use Rattle.jvm_model.specs.Classes.{form_at, next_place, place_after}
+use Rattle.jvm_model.specs.Classes.{form_at, method_at, next_place, place_after}
 use Rattle.jvm_model.specs.Entries.{Entries}
 use Rattle.jvm_model.specs.Step.{row_here}
 use Rattle.vm_mem.specs.Meets.{IsReady, Meets, Tells}
-use Rattle.vm_interp.specs.Gliding.{CanGlide, IsLeft, next_of}
+use Rattle.vm_interp.specs.Gliding.{CanGlide, next_of}
 use Rattle.vm_interp.specs.Reaching.{HasSpace}
 use Rattle.vm_interp.specs.Seen.{seen}
 use Rattle.vm_interp.proofs.Found.{can_glide, row_safe}
-use Rattle.vm_interp.proofs.Numbered.{looked_up, stands_form, stands_next, stands_pc}
+use Rattle.vm_interp.proofs.Numbered.{left_in, looked_up, rest_some, stands_form, stands_next, stands_pc}
 use Rattle.vm_interp.proofs.Onward.{placed_again}
 use Rattle.vm_interp.proofs.gliding.row_at.Goals as goal
 
 pub quick_row-requires : goal.quick_row-requires
 quick_row-requires g c =
-    let there = looked_up c.args.code.now c.args.at c.index-code-at.result (subst (λ (xs : List Placed). c.args.at < length xs) (sym c.requires.code) c.requires.stands.placed.within) c.index-code-at.is ∙ ap (λ (xs : List Placed). slice_get xs c.args.at) c.requires.code in
-    let same = placed_again c.args.stack.now c.set_pc.new.self c.index-code-at.result.pc c.set_pc.ensures (stands_pc c.args.p.now c.args.number c.args.body.now c.args.at c.args.stack.now c.index-code-at.result c.requires.linked c.requires.stands there) in
-    let place = ap (λ (xs : List Placed). place_after (drop (suc c.args.at) xs) c.args.body.now.length) c.requires.code in
-    let found = stands_form c.args.p.now c.args.number c.args.body.now c.args.at c.args.stack.now c.index-code-at.result c.requires.linked c.requires.stands there in
+    let there = looked_up c.args.rest.now 0 c.index-rest-0.result (rest_some c.args.body.now c.args.rest.now c.requires.stands.placed.of) c.index-rest-0.is in
+    let same = placed_again c.args.stack.now c.set_pc.new.self c.index-rest-0.result.pc c.set_pc.ensures (stands_pc c.args.p.now c.args.body.now c.args.rest.now c.args.stack.now c.index-rest-0.result c.requires.linked c.requires.stands there) in
+    let found = stands_form c.args.p.now c.args.body.now c.args.rest.now c.args.stack.now c.index-rest-0.result c.requires.linked c.requires.stands there in
     record {
       program = c.requires.program;
       tables = c.requires.tables;
       selections = c.requires.selections;
-      within = subst (λ (xs : List Placed). c.args.at < length xs) (sym c.requires.code) c.requires.stands.placed.within;
-      found = subst (λ (e : Entries). form_at (g.M.Memory.program c.args.memory.now) e.top.number e.top.pc ≡ Some c.index-code-at.result.form) (sym same)
-          (subst (λ (q : Program). form_at q c.args.stack.now.top.number c.args.stack.now.top.pc ≡ Some c.index-code-at.result.form) c.requires.program found);
-      place = subst (λ (e : Entries). next_place (g.M.Memory.program c.args.memory.now) e.top.number e.top.pc ≡ (place_after (drop (suc c.args.at) c.args.code.now) c.args.body.now.length)) (sym same)
-          (subst (λ (q : Program). next_place q c.args.stack.now.top.number c.args.stack.now.top.pc ≡ (place_after (drop (suc c.args.at) c.args.code.now) c.args.body.now.length)) c.requires.program (stands_next c.args.p.now c.args.number c.args.body.now c.args.at c.args.stack.now c.index-code-at.result c.requires.linked c.requires.stands there ∙ sym place));
+      within = rest_some c.args.body.now c.args.rest.now c.requires.stands.placed.of;
+      found = subst (λ (e : Entries). form_at (g.M.Memory.program c.args.memory.now) e.top.number e.top.pc ≡ Some c.index-rest-0.result.form) (sym same)
+          (subst (λ (q : Program). form_at q c.args.stack.now.top.number c.args.stack.now.top.pc ≡ Some c.index-rest-0.result.form) c.requires.program found);
+      place = subst (λ (e : Entries). next_place (g.M.Memory.program c.args.memory.now) e.top.number e.top.pc ≡ (place_after (drop 1 c.args.rest.now) c.args.body.now.length)) (sym same)
+          (subst (λ (q : Program). next_place q c.args.stack.now.top.number c.args.stack.now.top.pc ≡ (place_after (drop 1 c.args.rest.now) c.args.body.now.length)) c.requires.program (stands_next c.args.p.now c.args.body.now c.args.rest.now c.args.stack.now c.index-rest-0.result c.requires.linked c.requires.stands there));
       space = subst (λ (e : Entries). HasSpace (g.M.Memory.program c.args.memory.now) e) (sym same)
-          (subst (λ (q : Program). HasSpace q c.args.stack.now) c.requires.program (c.requires.can.space c.requires.stands.frame c.requires.quiet));
+          (subst (λ (q : Program). HasSpace q c.args.stack.now) c.requires.program (c.requires.can.space c.requires.stands.code.frame c.requires.quiet));
       row = subst (λ (e : Entries). IsReady row_here (g.M.Memory.program c.args.memory.now) (g.M.Memory.world c.args.memory.now) e) (sym same)
-          (subst (λ (q : Program). IsReady row_here q (g.M.Memory.world c.args.memory.now) c.args.stack.now) c.requires.program (row_safe c.args.p.now (record (seen c.args._state.now) { entries = c.args.stack.now }) (g.M.Memory.world c.args.memory.now) c.requires.can c.requires.stands.frame c.requires.quiet));
-      can = subst (λ (e : Entries). CanGlide c.index-code-at.result.form e) (sym same)
-          (can_glide c.args.p.now (record (seen c.args._state.now) { entries = c.args.stack.now }) (g.M.Memory.world c.args.memory.now) c.requires.can c.requires.stands.frame c.requires.quiet c.index-code-at.result.form found);
-      frame = subst (λ (e : Entries). e.top.kind ≡ InMethod) (sym same) c.requires.stands.frame;
+          (subst (λ (q : Program). IsReady row_here q (g.M.Memory.world c.args.memory.now) c.args.stack.now) c.requires.program (row_safe c.args.p.now (record (seen c.args._state.now) { entries = c.args.stack.now }) (g.M.Memory.world c.args.memory.now) c.requires.can c.requires.stands.code.frame c.requires.quiet));
+      can = subst (λ (e : Entries). CanGlide c.index-rest-0.result.form e) (sym same)
+          (can_glide c.args.p.now (record (seen c.args._state.now) { entries = c.args.stack.now }) (g.M.Memory.world c.args.memory.now) c.requires.can c.requires.stands.code.frame c.requires.quiet c.index-rest-0.result.form found);
+      frame = subst (λ (e : Entries). e.top.kind ≡ InMethod) (sym same) c.requires.stands.code.frame;
       units = c.requires.units;
     }
 
 pub returns : goal.returns
 returns g c =
-    let there = looked_up c.args.code.now c.args.at c.index-code-at.result (subst (λ (xs : List Placed). c.args.at < length xs) (sym c.requires.code) c.requires.stands.placed.within) c.index-code-at.is ∙ ap (λ (xs : List Placed). slice_get xs c.args.at) c.requires.code in
-    let same = placed_again c.args.stack.now c.set_pc.new.self c.index-code-at.result.pc c.set_pc.ensures (stands_pc c.args.p.now c.args.number c.args.body.now c.args.at c.args.stack.now c.index-code-at.result c.requires.linked c.requires.stands there) in
-    let place = ap (λ (xs : List Placed). place_after (drop (suc c.args.at) xs) c.args.body.now.length) c.requires.code in
-    let number = ap (λ (e : Entries). e.top.number) same ∙ c.requires.stands.number in
+    let there = looked_up c.args.rest.now 0 c.index-rest-0.result (rest_some c.args.body.now c.args.rest.now c.requires.stands.placed.of) c.index-rest-0.is in
+    let same = placed_again c.args.stack.now c.set_pc.new.self c.index-rest-0.result.pc c.set_pc.ensures (stands_pc c.args.p.now c.args.body.now c.args.rest.now c.args.stack.now c.index-rest-0.result c.requires.linked c.requires.stands there) in
+    let own = subst (λ (e : Entries). (method_at c.args.p.now e.top.number).body ≡ Some c.args.body.now) (sym same) c.requires.stands.code.own in
     record {
       meets = subst (λ (e : Entries). Meets row_here (g.M.Memory.program c.args.memory.now) (g.M.Memory.world c.args.memory.now) e c.args.left.now (next_of c.in_ok-went.went) c.quick_row.new.stack (g.M.Memory.world c.quick_row.new.memory) c.quick_row.new.left) same c.in_ok-went.ensures.meets;
       told = subst (λ (e : Entries). Tells row_here (g.M.Memory.program c.args.memory.now) (g.M.Memory.world c.args.memory.now) e (next_of c.in_ok-went.went) g.M.Memory.follows c.args.memory.now c.quick_row.new.memory) same c.in_ok-went.ensures.told;
-      left = subst (λ (n : ℕ). IsLeft c.in_ok-went.went c.args.number n c.quick_row.new.stack) place
-          (subst (λ (m : ℕ). IsLeft c.in_ok-went.went m (place_after (drop (suc c.args.at) c.args.code.now) c.args.body.now.length) c.quick_row.new.stack) number c.in_ok-went.ensures.left);
+      left = left_in c.args.p.now c.args.body.now c.set_pc.new.self.top.number (place_after (drop 1 c.args.rest.now) c.args.body.now.length) c.quick_row.new.stack c.in_ok-went.went own c.in_ok-went.ensures.left;
       of = c.in_ok-went.ensures.of;
       kept = c.quick_row.ensures.kept;
     }
