@@ -46,7 +46,8 @@ use Rattle.check_sound.proofs.Ready.{Ends, Row, Ready, here, rest, operands, on}
 use Rattle.check_sound.proofs.Ends.{fault_typed}
 use Rattle.check_sound.proofs.Thrown.{null_pointer_thrown, array_index_thrown, array_store_thrown}
 use Rattle.check_sound.proofs.CallSides.{Result, push}
-use Rattle.check_sound.proofs.DeclaredValues.{smalls, narrowed_fits, declared_result}
+use Rattle.jvm_model.proofs.NarrowedFits.{narrowed_fits, smalls}
+use Rattle.check_sound.proofs.DeclaredValues.{declared_result}
 use Rattle.check_sound.proofs.CastRows.{constant_is_kind}
 use Rattle.check_sound.proofs.KindNames.{kind_instance}
 use Rattle.check_sound.proofs.ArrayKinds.{Plain, Refs, array_below, array_kind, plain_cells, ref_cells}

@@ -1,10 +1,6 @@
 -- Values of a declared type: as operands, and as what is stored of an operand.
-use Rattle.std.proofs.Common.{◌≡◌, ℕ, ℤ, pos, negsuc, ◌<◌, ◌≤◌, ◌-◌, ◌%◌, List, [], ◌∷◌, ◌++◌, Bool, true, false, ◌&&◌, nat_eq, Option, Some, None, refl, sym, subst, arith, inl, inr, append-nil}
-use Rattle.std.specs.Prelude.{FitsSigned, int_le, int_lt}
-use Rattle.std.proofs.lemmas.Bool.{cases_Bool, or_cases, and_from, eqb-true, lt-ltb, le-leb}
-use Rattle.std.specs.Int.{w8, w16, int_wrap, int_rem_euclid}
-use Rattle.std.proofs.lemmas.Int.{ints, SFits-int_wrap}
-use Rattle.et_base.specs.Numbers.{i2b, i2s, i2c}
+use Rattle.std.proofs.Common.{◌≡◌, ℕ, ℤ, List, [], ◌∷◌, ◌++◌, Bool, true, false, nat_eq, Option, Some, None, refl, sym, subst, arith, inl, inr, append-nil}
+use Rattle.std.proofs.lemmas.Bool.{cases_Bool, or_cases, eqb-true}
 use Rattle.et_base.specs.Names.{after_type, ends, is_field_descriptor}
 use Rattle.jvm_model.specs.declared.values.Value.{Value}
 use Rattle.jvm_model.specs.declared.values.Value.TheVariants as value
@@ -12,9 +8,10 @@ use Rattle.jvm_model.specs.declared.program.Program.{Program}
 use Rattle.jvm_model.specs.World.{World}
 use Rattle.jvm_model.specs.Access.{Access}
 use Rattle.jvm_model.specs.Classes.{member}
-use Rattle.jvm_model.specs.Narrow.{narrow_int, narrow, narrowed}
+use Rattle.jvm_model.specs.Narrow.{narrow, narrowed}
 use Rattle.jvm_model.specs.Rows.{Answer, popping}
 use Rattle.jvm_model.specs.Linked.{fits_int}
+use Rattle.jvm_model.proofs.NarrowedFits.{narrowed_fits, smalls}
 use Rattle.type_frames.specs.declared.vtype.VType.{VType}
 use Rattle.type_frames.specs.declared.vtype.VType.TheVariants.{Top, Int, Long, Null, Object, UninitThis, Uninit}
 use Rattle.type_frames.specs.declared.sides.Need.{Need}
@@ -30,42 +27,6 @@ use Rattle.check_sound.proofs.Ready.{HasPlain}
 use Rattle.check_sound.proofs.CallSides.{Result}
 use Rattle.check_sound.proofs.ParameterTexts.{IsText}
 use Rattle.check_sound.proofs.Arguments.{Argument, Arguments, take_args}
-
--- ---- narrowed ints
-
-byte_fits : (n : ℤ) → FitsSigned w8 n → (int_le (negsuc 127) n && int_lt n (pos 128)) ≡ true
-byte_fits (pos a) h = let q : a < 128 = omega (arith, ints) in lt-ltb a 128 q
-byte_fits (negsuc a) h = let q : a ≤ 127 = omega (arith, ints) in let e = le-leb a 127 q in rw e refl
-
-short_fits : (n : ℤ) → FitsSigned w16 n → (int_le (negsuc 32767) n && int_lt n (pos 32768)) ≡ true
-short_fits (pos a) h = let q : a < 32768 = omega (arith, ints) in lt-ltb a 32768 q
-short_fits (negsuc a) h = let q : a ≤ 32767 = omega (arith, ints) in let e = le-leb a 32767 q in rw e refl
-
-remainder_fits : (n : ℤ) (d : ℕ) → 0 < d → (int_le (pos 0) (int_rem_euclid n (pos d)) && int_lt (int_rem_euclid n (pos d)) (pos d)) ≡ true
-remainder_fits (pos a) d h = let q : a % d < d = omega arith in and_from _ _ (le-leb 0 (a % d) (omega arith)) (lt-ltb (a % d) d q)
-remainder_fits (negsuc a) d h = let q : d - 1 - a % d < d = omega arith in and_from _ _ (le-leb 0 (d - 1 - a % d) (omega arith)) (lt-ltb (d - 1 - a % d) d q)
-
-abbrev pub smalls : List ℕ
-smalls = 66 ∷ 67 ∷ 73 ∷ 83 ∷ 90 ∷ []
-
-pub narrowed_fits : (u : ℕ) (n : ℤ) → member u smalls ≡ true → fits_int u (narrow_int u n) ≡ true
-unfolding i2b i2s i2c
-narrowed_fits u n h = elim (or_cases (nat_eq u 66) _ h) [
-  | inl e ↦ let q = eqb-true u 66 e in rw q (byte_fits (int_wrap w8 n) (SFits-int_wrap w8 n))
-  | inr h ↦ elim (or_cases (nat_eq u 67) _ h) [
-    | inl e ↦ let q = eqb-true u 67 e in rw q (remainder_fits n 65536 (omega arith))
-    | inr h ↦ elim (or_cases (nat_eq u 73) _ h) [
-      | inl e ↦ let q = eqb-true u 73 e in rw q refl
-      | inr h ↦ elim (or_cases (nat_eq u 83) _ h) [
-        | inl e ↦ let q = eqb-true u 83 e in rw q (short_fits (int_wrap w16 n) (SFits-int_wrap w16 n))
-        | inr h ↦ elim (or_cases (nat_eq u 90) false h) [
-          | inl e ↦ let q = eqb-true u 90 e in rw q (remainder_fits n 2 (omega arith))
-          | inr e ↦ absurd (cc)
-        ]
-      ]
-    ]
-  ]
-]
 
 -- ---- texts of fields
 

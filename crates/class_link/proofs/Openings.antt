@@ -1,12 +1,7 @@
 -- Fields open with values of their types.
-use Rattle.std.proofs.Common.{◌≡◌, ℕ, suc, ◌<◌, ◌≤◌, ◌-◌, ◌%◌, ℤ, pos, negsuc, List, [], ◌∷◌, length, slice_get, true, false, ◌&&◌, nat_eq, nat_le, nat_lt, refl, sym, ◌∙◌, ap, subst, inl, inr, arith, Option, Some, None, IfSome, codes}
-use Rattle.std.specs.Prelude.{FitsSigned, int_le, int_lt}
-use Rattle.std.specs.List.{AllByRecursion}
-use Rattle.std.proofs.lemmas.Bool.{cases_Bool, or_cases, and_from, eqb-true, ne_eqb, lt-ltb, le-leb}
-use Rattle.std.specs.Int.{w8, w16, int_wrap, int_rem_euclid}
-use Rattle.std.proofs.lemmas.Int.{ints, SFits-int_wrap}
-use Rattle.et_base.specs.Numbers.{i2b, i2s, i2c}
-use Rattle.jvm_model.specs.Narrow.{narrow_int, narrow, narrowed}
+use Rattle.std.proofs.Common.{◌≡◌, ℕ, suc, ◌≤◌, ℤ, List, [], ◌∷◌, length, slice_get, true, false, nat_eq, nat_le, nat_lt, refl, sym, ◌∙◌, ap, subst, inl, inr, arith, Option, Some, None, IfSome, codes}
+use Rattle.std.proofs.lemmas.Bool.{cases_Bool, or_cases, eqb-true, ne_eqb, lt-ltb, le-leb}
+use Rattle.jvm_model.specs.Narrow.{narrow, narrowed}
 use Rattle.et_base.specs.Names.{is_base, after_element, after_type, ends, is_field_descriptor}
 use Rattle.std.proofs.lemmas.Slice.Eq.{bytes_eq-Decides}
 use Rattle.class_pool.specs.declared.pool.Entry.{Entry}
@@ -24,8 +19,9 @@ use Rattle.jvm_model.specs.declared.program.TestEntry.{TestEntry}
 use Rattle.jvm_model.specs.declared.values.Value.TheVariants.{Int, Lit}
 use Rattle.jvm_model.specs.declared.program.Program.{Program}
 use Rattle.jvm_model.specs.Classes.{member, is_static, default_of}
-use Rattle.jvm_model.specs.Linked.{fits_int, opens, HasOpenings}
+use Rattle.jvm_model.specs.Linked.{opens, HasOpenings}
 use Rattle.jvm_model.proofs.BuiltinRules.{builtin_field, builtin_opens}
+use Rattle.jvm_model.proofs.NarrowedFits.{member_holds, narrowed_fits, smalls}
 use Rattle.class_link.specs.ClassNames.{text_at}
 use Rattle.class_link.specs.Literals.{literals, literal_number}
 use Rattle.class_link.specs.Assembly.{constant_opening, static_opening, opening, assembled}
@@ -33,11 +29,6 @@ use Rattle.class_link.proofs.Assembled.{holds_builtins, field_cases}
 use Rattle.class_link.proofs.Tables.{instance_opening}
 use Rattle.class_link.proofs.Listed.{AllKnown, all_there, text_is, text_fits}
 use Rattle.class_link.proofs.Pools.{literal_within}
-
--- what holds of each of these numbers holds of one of them
-member_holds : (P : ℕ → Type 0) (xs : List ℕ) (u : ℕ) → AllByRecursion P xs → member u xs ≡ true → P u
-member_holds P [] u a h = absurd (cc)
-member_holds P (x ∷ xs) u a h = elim (or_cases (nat_eq u x) (member u xs) h) [ inl e ↦ subst P (sym (eqb-true u x e)) a.0 | inr m ↦ member_holds P xs u a.1 m ]
 
 -- ---- defaults
 
@@ -73,27 +64,6 @@ default_opens p (u ∷ us) h = elim (cases_Bool (nat_eq u 91)) [
 ]
 
 -- ---- constants
-
-byte_fits : (n : ℤ) → FitsSigned w8 n → (int_le (negsuc 127) n && int_lt n (pos 128)) ≡ true
-byte_fits (pos a) h = let q : a < 128 = omega (arith, ints) in lt-ltb a 128 q
-byte_fits (negsuc a) h = let q : a ≤ 127 = omega (arith, ints) in let e = le-leb a 127 q in rw e refl
-
-short_fits : (n : ℤ) → FitsSigned w16 n → (int_le (negsuc 32767) n && int_lt n (pos 32768)) ≡ true
-short_fits (pos a) h = let q : a < 32768 = omega (arith, ints) in lt-ltb a 32768 q
-short_fits (negsuc a) h = let q : a ≤ 32767 = omega (arith, ints) in let e = le-leb a 32767 q in rw e refl
-
-remainder_fits : (n : ℤ) (d : ℕ) → 0 < d → (int_le (pos 0) (int_rem_euclid n (pos d)) && int_lt (int_rem_euclid n (pos d)) (pos d)) ≡ true
-remainder_fits (pos a) d h = let q : a % d < d = omega arith in and_from _ _ (le-leb 0 (a % d) (omega arith)) (lt-ltb (a % d) d q)
-remainder_fits (negsuc a) d h = let q : d - 1 - a % d < d = omega arith in and_from _ _ (le-leb 0 (d - 1 - a % d) (omega arith)) (lt-ltb (d - 1 - a % d) d q)
-
-abbrev pub smalls : List ℕ
-smalls = 66 ∷ 67 ∷ 73 ∷ 83 ∷ 90 ∷ []
-
--- a narrowed int is one of its type
-pub narrowed_fits : (u : ℕ) (n : ℤ) → member u smalls ≡ true → fits_int u (narrow_int u n) ≡ true
-unfolding i2b i2s i2c
-narrowed_fits u n h = member_holds (λ v. fits_int v (narrow_int v n) ≡ true) smalls u
-    (byte_fits (int_wrap w8 n) (SFits-int_wrap w8 n), (remainder_fits n 65536 (omega arith), (refl, (short_fits (int_wrap w16 n) (SFits-int_wrap w16 n), (remainder_fits n 2 (omega arith), tt))))) h
 
 texts_are : (units text : List ℕ) → is_text_of text (Some (Utf8 units)) ≡ true → units ≡ text
 texts_are units text h = (bytes_eq-Decides units text).0 h

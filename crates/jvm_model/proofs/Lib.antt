@@ -19,6 +19,7 @@ pub mod DescriptorLemmas
 pub mod Interfaces
 pub mod Pointwise
 pub mod Standing
+pub mod NarrowedFits
 pub mod OnLiterals
 pub mod ExampleParts
 pub mod Examples

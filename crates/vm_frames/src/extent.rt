@@ -92,6 +92,7 @@ pub fn save(saved: &mut Vec<Extent>, below: Extent) -> Result<(), NoMemory>
 pub fn take_saved(saved: &mut Vec<Extent>) -> Extent
     ensures { IsTaken saved.old.items saved.new.items result }
 {
+    // part by part: an extent that no address stands for can stay in registers
     match saved.pop() {
         Some(
             Extent {
