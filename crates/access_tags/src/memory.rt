@@ -2,7 +2,6 @@
 
 ghost use Rattle.std.specs.Prelude.{◌≡◌, ℕ, ◌+◌, ◌<◌, List, [], ◌∷◌, length, get_or, slice_get, false, true, None, Some, IfOk, OnOk};
 ghost use Rattle.jvm_model.specs.declared.values.Touch.{Touch};
-ghost use Rattle.jvm_model.specs.Access.{given_by};
 ghost use Rattle.vm_mem.specs.Stores.{place_in};
 ghost use Rattle.jvm_model.specs.Linked.{Linked};
 ghost use Rattle.jvm_model.specs.Suite as suite;
@@ -194,15 +193,6 @@ impl TaggedMemory {
     }
 }
 
-fn given(v: Value) -> Option<u64>
-    ensures { result ≡ given_by v }
-{
-    match v {
-        Value::Obj(object) => Some(object),
-        _ => None,
-    }
-}
-
 impl Memory for TaggedMemory {
     ghost program = { λ m. m.memory.program };
 
@@ -224,7 +214,7 @@ impl Memory for TaggedMemory {
 
     fn get_static(&mut self, field: u32) -> Result<Value, NoMemory> {
         let v = self.memory.get_static(field)?;
-        self.note(Spot::Static { field }, false, given(v), None)?;
+        self.note(Spot::Static { field }, false, v.object(), None)?;
         Ok(v)
     }
 
@@ -254,7 +244,7 @@ impl Memory for TaggedMemory {
 
     fn get_field(&mut self, object: u64, field: u32) -> Result<Value, NoMemory> {
         let v = self.memory.get_field(object, field)?;
-        self.note(Spot::Field { object, field }, false, given(v), None)?;
+        self.note(Spot::Field { object, field }, false, v.object(), None)?;
         Ok(v)
     }
 
@@ -266,7 +256,7 @@ impl Memory for TaggedMemory {
 
     fn get_elem(&mut self, object: u64, index: u32) -> Result<Value, NoMemory> {
         let v = self.memory.get_elem(object, index)?;
-        self.note(Spot::Elem { object, index }, false, given(v), None)?;
+        self.note(Spot::Elem { object, index }, false, v.object(), None)?;
         Ok(v)
     }
 

@@ -1,14 +1,13 @@
 -- Whether a number is among what lists lead to.
-use Rattle.std.proofs.Common.{◌≡◌, ℕ, zero, suc, ◌-◌, ◌<◌, sub-one, arith, List, [], ◌∷◌, true, false, not, ◌||◌, nat_eq, refl, ◌∙◌, ap, inl, inr, sym}
+use Rattle.std.proofs.Common.{◌≡◌, ℕ, ◌-◌, List, [], ◌∷◌, true, false, not, ◌||◌, nat_eq, refl, ◌∙◌, ap, inl, inr, sym}
 use Rattle.std.specs.Prelude.{flat_map}
 use Rattle.std.specs.List.{list_any}
 use Rattle.std.proofs.lemmas.Bool.{cases_Bool, eqb-true, eq-eqb}
-use Rattle.std.proofs.Math.Bool.{or-false}
 use Rattle.std.proofs.lemmas.List.Concat.{flat_map-cons}
 use Rattle.std.proofs.lemmas.List.Folds.{list_any-append}
 use Rattle.std.proofs.lemmas.Map.Views.{any-filter_same}
 use Rattle.jvm_model.specs.declared.program.Program.{Program}
-use Rattle.jvm_model.specs.Classes.{class_at, class_bound, member, first_mentions, lineage_in, own_interfaces, implements, upwards}
+use Rattle.jvm_model.specs.Classes.{class_at, class_bound, member, first_mentions, lineage_in, own_interfaces}
 
 pub member-flat_map : {X : Type 0} (n : ℕ) (f : X → List ℕ) (xs : List X) → member n (flat_map f xs) ≡ list_any (λ x. member n (f x)) xs
 member-flat_map n f [] = refl
@@ -25,17 +24,6 @@ member-first_mentions n (x ∷ xs) = elim (cases_Bool (nat_eq n x)) [
   | inr e ↦ rw e (any-filter_same (nat_eq n) (λ y. not (nat_eq x y)) true (kept n x e) (first_mentions xs) ∙ member-first_mentions n xs)
 ]
 
--- an interface is above a class that has steps left, or is it
-pub lineage_step : (p : Program) (i k c : ℕ) → 0 < k → member i (lineage_in p k c) ≡ (list_any (λ j. member i (lineage_in p (k - 1) j)) (class_at p c).interfaces || nat_eq i c)
-lineage_step p i zero c h = absurd (omega arith)
-lineage_step p i (suc k) c h =
-    rw sub-one (list_any-append (nat_eq i) (flat_map (λ j. lineage_in p k j) (class_at p c).interfaces) (c ∷ [])
-    ∙ (ap (λ b. b || (nat_eq i c || false)) (member-flat_map i (λ j. lineage_in p k j) (class_at p c).interfaces) ∙ ap (λ b. list_any (λ j. member i (lineage_in p k j)) (class_at p c).interfaces || b) (or-false (nat_eq i c))))
-
 pub reached : (p : Program) (i c : ℕ) → member i (own_interfaces p c) ≡ list_any (λ j. member i (lineage_in p class_bound j)) (class_at p c).interfaces
 unfolding own_interfaces
 reached p i c = member-first_mentions i _ ∙ member-flat_map i (λ j. lineage_in p class_bound j) (class_at p c).interfaces
-
-pub implemented : (p : Program) (i c : ℕ) → implements p c i ≡ list_any (λ d. member i (own_interfaces p d)) (upwards p c)
-unfolding implements
-implemented p i c = member-flat_map i (λ d. own_interfaces p d) (upwards p c)

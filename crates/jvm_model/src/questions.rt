@@ -1,18 +1,16 @@
-//! What can be asked of a program, of its classes, fields and methods, and of kinds of objects. Only `layout` takes memory.
+//! What can be asked of a program, of its classes, fields and methods, of values and of kinds of objects. Only `layout` takes memory.
 
 ghost use Rattle.std.specs.Prelude.{◌≡◌, ◌++◌, IfOk, OnOk, ◌<◌, ◌∷◌, [], flat_map, get_or, is_some, slice_get, option_copied, unwrap_or};
-ghost use Rattle.std.specs.List.{list_any};
 ghost use Rattle.jvm_model.specs.Classes as classes;
-ghost use Rattle.jvm_model.specs.Classes.{layout_in, plain_fields, class_at, field_at, method_at, no_class, no_field, no_method, literal_at, member, upwards_in, lineage_in};
+ghost use Rattle.jvm_model.specs.Classes.{layout_in, plain_fields, class_at, field_at, method_at, no_class, no_field, no_method, literal_at, member, upwards_in};
 ghost use Rattle.jvm_model.specs.Kinds as kinds;
 ghost use Rattle.jvm_model.specs.Selection.{has_code};
-ghost use Rattle.jvm_model.specs.RowsCalls.{argument_count};
+ghost use Rattle.jvm_model.specs.Access.{given_by};
 ghost use Rattle.jvm_model.specs.Rows.{constant_kind};
 
 use crate::builtin::{OBJECT, PRINT_STREAM, STRING};
-use crate::descriptors::parameter_count;
 use crate::program::{ClassRec, FieldRec, MethodRec, Program};
-use crate::values::{Base, Kind};
+use crate::values::{Base, Kind, Value};
 use et_base::{Items, NoMemory};
 use std::alloc::Global;
 
@@ -359,128 +357,17 @@ impl Program {
         self.push_layout(class_bound(), class, &mut fields)?;
         Ok(fields)
     }
-
-    /// How many arguments a method's descriptor asks for, the receiver left aside: a long is one.
-    #[tactic(auto, unfolding(crate::specs::RowsCalls::argument_count))]
-    pub fn argument_count(&self, method: u32) -> usize
-        ensures { result ≡ argument_count self.now method }
-    {
-        parameter_count(self.method_descriptor(method))
-    }
-
-    // An interface is among these and those above them, at most so many steps up.
-    #[cycle(lineage)]
-    fn are_above_in(&self, steps: u32, interfaces: &[u32], interface: u32) -> bool
-        ensures { result ≡ list_any (λ j. member interface (lineage_in self.now steps j)) interfaces.now }
-    {
-        for next in interfaces {
-            if self.is_above_in(steps, *next, interface) {
-                return true;
-            }
-        }
-        false
-    }
-
-    // An interface is another one or above it, at most so many steps up.
-    #[cycle(lineage)]
-    #[tactic(auto, using(crate::proofs::Interfaces::lineage_step))]
-    fn is_above_in(&self, steps: u32, class: u32, interface: u32) -> bool
-        ensures { result ≡ member interface (lineage_in self.now steps class) }
-    {
-        if steps == 0 {
-            return false;
-        }
-        self.are_above_in(steps - 1, self.interfaces(class), interface) || interface == class
-    }
-
-    // A class's own entries reach an interface.
-    #[tactic(auto, using(crate::proofs::Interfaces::reached))]
-    fn reaches(&self, class: u32, interface: u32) -> bool
-        ensures { result ≡ member interface (classes.own_interfaces self.now class) }
-    {
-        self.are_above_in(class_bound(), self.interfaces(class), interface)
-    }
-
-    // The entries of a class or of one above it reach an interface, at most so many steps up.
-    fn implements_in(&self, steps: u32, class: u32, interface: u32) -> bool
-        ensures { result ≡ list_any (λ d. member interface (classes.own_interfaces self.now d)) (upwards_in self.now steps class) }
-    {
-        if steps == 0 {
-            return false;
-        }
-        if self.reaches(class, interface) {
-            return true;
-        }
-        match self.superclass(class) {
-            None => false,
-            Some(next) => self.implements_in(steps - 1, next, interface),
-        }
-    }
-
-    /// Whether a class or one above it implements an interface (JVMS 6.5, instanceof). The time it takes grows with the
-    /// number of ways that lead upwards.
-    #[tactic(auto, using(crate::proofs::Interfaces::implemented))]
-    pub fn implements(&self, class: u32, interface: u32) -> bool
-        ensures { result ≡ classes.implements self.now class interface }
-    {
-        self.implements_in(class_bound(), class, interface)
-    }
-
-    /// Whether an instance of a class or interface is one of another: that is the same, above it, or implemented by it
-    /// (JVMS 6.5, checkcast).
-    #[tactic(auto, unfolding(crate::specs::Kinds::class_fits))]
-    pub fn class_fits(&self, class: u32, other: u32) -> bool
-        ensures { result ≡ kinds.class_fits self.now class other }
-    {
-        self.is_below(class, other) || self.implements(class, other)
-    }
-
-    // Innermost element types of arrays of as many dimensions.
-    fn base_fits(&self, base: Base, other: Base) -> bool
-        ensures { result ≡ kinds.base_fits self.now base other }
-    {
-        match (base, other) {
-            (Base::Class(class), Base::Class(above)) => self.class_fits(class, above),
-            (Base::Class(_), _) => false,
-            (_, Base::Class(_)) => false,
-            _ => base == other,
-        }
-    }
-
-    /// Whether an object of one kind is an instance of another (JVMS 6.5, instanceof and aastore). At run time an array
-    /// implements no interface.
-    #[tactic(auto, unfolding(crate::specs::Kinds::kind_fits))]
-    pub fn kind_fits(&self, kind: Kind, other: Kind) -> bool
-        ensures { result ≡ kinds.kind_fits self.now kind other }
-    {
-        match (kind, other) {
-            (Kind::Class(class), Kind::Class(above)) => self.class_fits(class, above),
-            (Kind::Class(_), Kind::Array { .. }) => false,
-            (Kind::Array { .. }, Kind::Class(above)) => above == OBJECT,
-            (
-                Kind::Array { dims, base },
-                Kind::Array {
-                    dims: fewer,
-                    base: above,
-                },
-            ) => {
-                if dims == fewer {
-                    self.base_fits(base, above)
-                } else {
-                    fewer < dims && is_object(above)
-                }
-            }
-        }
-    }
 }
 
-// The innermost element type is Object.
-fn is_object(base: Base) -> bool
-    ensures { result ≡ kinds.is_object base }
-{
-    match base {
-        Base::Class(class) => class == OBJECT,
-        _ => false,
+impl Value {
+    /// The object that a value refers to, if it does.
+    pub fn object(self) -> Option<u64>
+        ensures { result ≡ given_by self }
+    {
+        match self {
+            Value::Obj(object) => Some(object),
+            _ => None,
+        }
     }
 }
 

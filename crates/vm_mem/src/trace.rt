@@ -1,5 +1,5 @@
 ghost use Rattle.std.specs.Prelude.{◌≡◌, ◌≤◌, List, [], ◌∷◌, ◌++◌, length, map, true, None, IfOk, OnOk};
-ghost use Rattle.jvm_model.specs.Access.{given_by, made, fields_made, elems_made};
+ghost use Rattle.jvm_model.specs.Access.{made, fields_made, elems_made};
 ghost use Rattle.jvm_model.specs.Linked.{Linked};
 ghost use Rattle.jvm_model.specs.Suite as suite;
 ghost use Rattle.jvm_model.specs.declared.values.Touch.{Touch};
@@ -137,15 +137,6 @@ fn note_made(noted: &mut Items<Noted>, test: u32, object: u64, new: &Object) -> 
     note_elems(noted, test, object, new.elems(), new.head().length)
 }
 
-fn given(v: Value) -> Option<u64>
-    ensures { result ≡ given_by v }
-{
-    match v {
-        Value::Obj(object) => Some(object),
-        _ => None,
-    }
-}
-
 impl Memory for TraceMemory {
     ghost program = { λ m. m.plain.program };
 
@@ -160,7 +151,7 @@ impl Memory for TraceMemory {
 
     fn get_static(&mut self, field: u32) -> Result<Value, NoMemory> {
         let v = self.plain.get_static(field)?;
-        self.note(false, Location::Static { field }, given(v))?;
+        self.note(false, Location::Static { field }, v.object())?;
         Ok(v)
     }
 
@@ -188,7 +179,7 @@ impl Memory for TraceMemory {
 
     fn get_field(&mut self, object: u64, field: u32) -> Result<Value, NoMemory> {
         let v = self.plain.get_field(object, field)?;
-        self.note(false, Location::Field { object, field }, given(v))?;
+        self.note(false, Location::Field { object, field }, v.object())?;
         Ok(v)
     }
 
@@ -199,7 +190,7 @@ impl Memory for TraceMemory {
 
     fn get_elem(&mut self, object: u64, index: u32) -> Result<Value, NoMemory> {
         let v = self.plain.get_elem(object, index)?;
-        self.note(false, Location::Elem { object, index }, given(v))?;
+        self.note(false, Location::Elem { object, index }, v.object())?;
         Ok(v)
     }
 
