@@ -81,7 +81,7 @@ pub fn quick_row<M: Memory>(
 
 /// The same by its form alone.
 #[inline(always)]
-#[tactic(auto, using(crate::proofs::Found::branch_meets, crate::proofs::Found::branch_tells, crate::proofs::Found::straight_meets, crate::proofs::Found::straight_tells), unfolding(jvm_model::specs::Step::row, jvm_model::specs::RowsBranches::row_branches, jvm_model::specs::RowsFields::row_fields, jvm_model::specs::RowsArrays::row_arrays))]
+#[tactic(auto, using(crate::proofs::Found::branch_meets, crate::proofs::Found::branch_tells, crate::proofs::Found::straight_meets, crate::proofs::Found::straight_tells), unfolding(jvm_model::specs::Step::row, jvm_model::specs::RowsMoves::row_moves, jvm_model::specs::RowsBranches::row_branches, jvm_model::specs::RowsFields::row_fields, jvm_model::specs::RowsArrays::row_arrays))]
 fn quick_form<M: Memory>(
     alloc: Global,
     stack: &mut FrameStack,
@@ -123,12 +123,12 @@ fn quick_form<M: Memory>(
             push_constant(stack, v);
             Ok(onward(stack, rest, end, left))
         }
-        Instr::Load { of, local } => {
-            load_local(stack, *of, *local);
+        Instr::Load { local, .. } => {
+            load_local(stack, *local);
             Ok(onward(stack, rest, end, left))
         }
-        Instr::Store { of, local } => {
-            store_local(stack, *of, *local);
+        Instr::Store { local, .. } => {
+            store_local(stack, *local);
             Ok(onward(stack, rest, end, left))
         }
         Instr::Dup => {

@@ -3,11 +3,12 @@
 ghost use Rattle.std.specs.Prelude.{◌≡◌, false};
 ghost use Rattle.jvm_model.specs.declared.instr.Instr.TheVariants as form;
 ghost use Rattle.jvm_model.specs.declared.instr.Op.TheVariants as op;
+ghost use Rattle.jvm_model.specs.declared.instr.Sort.TheVariants as sort;
 ghost use Rattle.vm_arith.specs.Pure.{GoesOn, HasRow};
 ghost use Rattle.vm_frames.specs.Stack.{HasRoom};
 
 use et_base::{add32, mul32, sub32};
-use jvm_model::{Sort, Value};
+use jvm_model::Value;
 use vm_arith::{constant, load, store};
 use vm_frames::FrameStack;
 
@@ -26,23 +27,23 @@ pub fn push_constant(stack: &mut FrameStack, v: &Value)
     }
 }
 
-/// Puts the local of a slot on top (`iload` and the others).
+/// Puts the local of a slot on top (`iload`; `lload` and `aload` have the same row).
 #[inline(always)]
 #[tactic(auto, unfolding(jvm_model::specs::Step::row, jvm_model::specs::RowsMoves::row_moves))]
-pub fn load_local(stack: &mut FrameStack, _of: Sort, local: u16)
-    requires row { HasRow (form.Load _of local) stack.old }
+pub fn load_local(stack: &mut FrameStack, local: u16)
+    requires row { HasRow (form.Load sort.Int local) stack.old }
     requires room { HasRoom 1 stack.old }
-    ensures { GoesOn (form.Load _of local) stack.old stack.new }
+    ensures { GoesOn (form.Load sort.Int local) stack.old stack.new }
 {
     load(stack, local);
 }
 
-/// Takes the operand on top into the local of a slot (`istore` and the others).
+/// Takes the operand on top into the local of a slot (`istore`; `lstore` and `astore` have the same row).
 #[inline(always)]
 #[tactic(auto, unfolding(jvm_model::specs::Step::row, jvm_model::specs::RowsMoves::row_moves))]
-pub fn store_local(stack: &mut FrameStack, _of: Sort, local: u16)
-    requires { HasRow (form.Store _of local) stack.old }
-    ensures { GoesOn (form.Store _of local) stack.old stack.new }
+pub fn store_local(stack: &mut FrameStack, local: u16)
+    requires { HasRow (form.Store sort.Int local) stack.old }
+    ensures { GoesOn (form.Store sort.Int local) stack.old stack.new }
 {
     store(stack, local);
 }
