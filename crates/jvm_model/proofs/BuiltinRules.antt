@@ -43,7 +43,7 @@ if_none P (Some x) e = absurd (cc)
 taken_short : {X : Type 0} (n : ℕ) (xs ys : List X) → take n xs ≡ ys → length ys ≡ n → n ≤ length xs
 taken_short n xs ys e h = let a = length-take n xs in let b : length (take n xs) ≡ length ys = ap length e in omega arith
 
-lengths : (length builtin_classes ≡ builtin_count) × (length builtin_fields ≡ 2) × (length builtin_methods ≡ 102)
+pub lengths : (length builtin_classes ≡ builtin_count) × (length builtin_fields ≡ 2) × (length builtin_methods ≡ 102)
 unfolding builtin_classes builtin_fields builtin_methods builtin_defs
 lengths = (refl, refl, refl)
 

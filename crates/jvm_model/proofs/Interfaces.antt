@@ -1,13 +1,20 @@
--- Whether a number is among what lists lead to.
-use Rattle.std.proofs.Common.{◌≡◌, ℕ, ◌-◌, List, [], ◌∷◌, true, false, not, ◌||◌, nat_eq, refl, ◌∙◌, ap, inl, inr, sym}
+-- Whether a number is listed, and among what lists lead to.
+use Rattle.std.proofs.Common.{◌≡◌, ℕ, suc, List, [], ◌∷◌, length, true, false, not, ◌||◌, nat_eq, refl, ◌∙◌, ap, inl, inr, sym, arith}
 use Rattle.std.specs.Prelude.{flat_map}
 use Rattle.std.specs.List.{list_any}
-use Rattle.std.proofs.lemmas.Bool.{cases_Bool, eqb-true, eq-eqb}
+use Rattle.std.proofs.lemmas.Bool.{cases_Bool, eqb-true, eq-eqb, or_left}
 use Rattle.std.proofs.lemmas.List.Concat.{flat_map-cons}
 use Rattle.std.proofs.lemmas.List.Folds.{list_any-append}
 use Rattle.std.proofs.lemmas.Map.Views.{any-filter_same}
 use Rattle.jvm_model.specs.declared.program.Program.{Program}
 use Rattle.jvm_model.specs.Classes.{class_at, class_bound, member, first_mentions, lineage_in, own_interfaces}
+
+pub member_first : (n : ℕ) (xs : List ℕ) → member n (n ∷ xs) ≡ true
+member_first n xs = or_left (nat_eq n n) (member n xs) (eq-eqb n n refl)
+
+pub none_listed : (n : ℕ) (xs : List ℕ) → nat_eq (length xs) 0 ≡ true → member n xs ≡ true → ⊥
+none_listed n [] e h = absurd (cc)
+none_listed n (x ∷ xs) e h = absurd (let q : suc (length xs) ≡ 0 = eqb-true (suc (length xs)) 0 e in omega arith)
 
 pub member-flat_map : {X : Type 0} (n : ℕ) (f : X → List ℕ) (xs : List X) → member n (flat_map f xs) ≡ list_any (λ x. member n (f x)) xs
 member-flat_map n f [] = refl

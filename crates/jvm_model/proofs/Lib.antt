@@ -5,6 +5,7 @@ pub mod Steps
 pub mod Locations
 pub mod Fuel
 pub mod Ranges
+pub mod Options
 pub mod Budgets
 pub mod Detection
 pub mod Runs

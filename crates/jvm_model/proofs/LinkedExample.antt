@@ -8,14 +8,16 @@ use Rattle.jvm_model.specs.declared.program.Program.{Program}
 use Rattle.jvm_model.specs.declared.program.Placed.{Placed}
 use Rattle.jvm_model.specs.declared.instr.Instr.TheVariants as form
 use Rattle.std.specs.Str.{bytes_eq}
-use Rattle.std.proofs.lemmas.Slice.Eq.{bytes_eq-Decides}
 use Rattle.jvm_model.specs.Builtin.{object_class}
 use Rattle.jvm_model.specs.Library.{builtin_defs, builtin_classes, builtin_fields, builtin_methods}
 use Rattle.jvm_model.specs.Classes.{no_class, class_at, field_at, method_at, class_bound, is_static, default_of, member}
 use Rattle.jvm_model.specs.Suite.{suite_limit}
+use Rattle.et_base.proofs.Texts.{units_same}
 use Rattle.et_base.specs.Names.{is_class_name, is_unqualified, is_method_name, is_field_descriptor, is_method_descriptor, after_class, after_element, after_type, argument, arguments, argument_units}
 use Rattle.jvm_model.specs.Linked.{IsClass, IsField, IsMethod, IsGiven, HoldsBuiltins, NamesClass, NamesForm, NamesBody, NamesEntries, IsDirect, IsAncestor, direct, further, IsClassKind, IsFormKind, IsBodyKind, HasKinds, IsDistinct, count, has_room, IsInitialiser, IsListed, IsForm, IsBody, IsFormFound, FindsMembers, opens, HasOpenings, IsTest, Linked}
 use Rattle.std.proofs.lemmas.List.{get_or_past}
+use Rattle.jvm_model.proofs.BuiltinRules.{all_at}
+use Rattle.jvm_model.proofs.Interfaces.{none_listed}
 use Rattle.jvm_model.proofs.ExampleParts.{body, returns, test}
 use Rattle.jvm_model.proofs.Examples.{return_suite}
 
@@ -82,13 +84,8 @@ opt_all : (n : ℕ) (o : Option ℕ) → opt_below n o ≡ true → IfSome o (λ
 opt_all n None e = tt
 opt_all n (Some x) e = ltb-true x n e
 
-list_at : {X : Type 0} (f : X → Bool) (xs : List X) (i : ℕ) (d : X) → list_all f xs ≡ true → i < length xs → f (get_or xs i d) ≡ true
-list_at f [] i d e h = absurd (omega arith)
-list_at f (x ∷ xs) zero d e h = (and_parts (f x) (list_all f xs) e).0
-list_at f (x ∷ xs) (suc i) d e h = list_at f xs i d (and_parts (f x) (list_all f xs) e).1 (omega arith)
-
 all_of : (n : ℕ) (xs : List ℕ) → list_all (λ x. nat_lt x n) xs ≡ true → All (λ x. x < n) xs
-all_of n xs e k d g = ltb-true (get_or xs k d) n (list_at (λ x. nat_lt x n) xs k d e g)
+all_of n xs e k d g = ltb-true (get_or xs k d) n (all_at (λ x. nat_lt x n) xs k d e g)
 
 abbrev names_rule : ClassRec → Bool
 names_rule c = opt_below 33 c.superclass && (list_all (λ x. nat_lt x 33) c.interfaces && (list_all (λ x. nat_lt x 2) c.fields && (list_all (λ x. nat_lt x 103) c.methods && (opt_below 103 c.initialiser && list_all (λ x. nat_lt x 33) c.mentions))))
@@ -178,16 +175,12 @@ lower_rules : below 33 (λ c. lower c (class_at p c).superclass && nat_eq (lengt
 unfolding builtin_classes builtin_defs
 lower_rules = refl
 
-no_interface : (d : ℕ) (xs : List ℕ) → nat_eq (length xs) 0 ≡ true → member d xs ≡ true → ⊥
-no_interface d [] e h = absurd (cc)
-no_interface d (x ∷ xs) e h = absurd (let q : suc (length xs) ≡ 0 = eqb-true (suc (length xs)) 0 e in omega arith)
-
 direct_lower : (c d : ℕ) → IsClass p c → IsDirect p c d → d < c
 direct_lower c d h x =
     let t = and_parts (lower c (class_at p c).superclass) _ (holds_at 33 (λ z. lower z (class_at p z).superclass && nat_eq (length (class_at p z).interfaces) 0) c lower_rules (in_classes c h)) in
     elim x [
       | inl e ↦ ltb-true d c (subst (λ (o : Option ℕ). lower c o ≡ true) e t.0)
-      | inr e ↦ absurd (no_interface d (class_at p c).interfaces t.1 e)
+      | inr e ↦ absurd (none_listed d (class_at p c).interfaces t.1 e)
     ]
 
 -- beyond the classes nothing is above
@@ -232,9 +225,6 @@ kinds = record {
 }
 
 -- what has to differ differs
-units_same : (x y : List ℕ) → x ≡ y → bytes_eq x y ≡ true
-units_same x y e = (bytes_eq-Decides x y).1 e
-
 class_apart : apart 33 (λ c d. bytes_eq (class_at p c).name (class_at p d).name) ≡ true
 unfolding builtin_classes builtin_defs
 class_apart = refl
@@ -324,8 +314,8 @@ listed : IsListed p
 listed = record {
   fields = λ f h. eqb-true _ 1 (field_rule f h).0;
   methods = λ m h. eqb-true _ 1 (method_rule m h).0;
-  own_fields = λ c h k d g. eqb-true _ c (list_at (λ f. nat_eq (field_at p f).class c) (class_at p c).fields k d (lists_own c h).fields g);
-  own_methods = λ c h k d g. eqb-true _ c (list_at (λ m. nat_eq (method_at p m).class c) (class_at p c).methods k d (lists_own c h).methods g);
+  own_fields = λ c h k d g. eqb-true _ c (all_at (λ f. nat_eq (field_at p f).class c) (class_at p c).fields k d (lists_own c h).fields g);
+  own_methods = λ c h k d g. eqb-true _ c (all_at (λ m. nat_eq (method_at p m).class c) (class_at p c).methods k d (lists_own c h).methods g);
   class_names = λ c h. (lists_own c h).named;
   field_names = λ f h. and_parts _ _ (field_rule f h).1;
   method_names = λ m h. and_parts _ _ (method_rule m h).1;

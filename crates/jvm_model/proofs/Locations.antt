@@ -2,7 +2,6 @@
 use Rattle.std.proofs.Common.{◌≡◌, ◌≢◌, ◌⊎◌, ℕ, zero, suc, ◌≤◌, Bool, true, false, List, [], ◌∷◌, ◌++◌, length, get_or, set, refl, sym, ◌∙◌, ap, subst, inl, inr, arith, rules, eqb, nat_eq, Some, None, get_or-set_same}
 use Rattle.std.proofs.lemmas.Bool.{cases_eq, cases_Bool, eqb-true, eq-eqb, and_parts, and_from, ltb-true, false_from_ne_true}
 use Rattle.std.proofs.lemmas.List.{get_or_past}
-use Rattle.std.proofs.lemmas.Slice.Eq.{bytes_eq-Decides}
 use Rattle.std.proofs.Math.Seq.{get_or-append_seam}
 use Rattle.std.proofs.lemmas.Grind.{common_steps, elements}
 use Rattle.jvm_model.specs.declared.values.Value.TheVariants.{Null}
@@ -10,14 +9,8 @@ use Rattle.jvm_model.specs.declared.values.InitState.TheVariants.{Idle}
 use Rattle.jvm_model.specs.declared.values.Location.{Location}
 use Rattle.jvm_model.specs.declared.values.Location.TheVariants as place
 use Rattle.std.specs.Str.{bytes_eq}
+use Rattle.et_base.proofs.Texts.{units_true, units_refl}
 use Rattle.jvm_model.specs.World.{Content, Object, World, no_object, size, object_at, put_at, look, keep, text_or_empty, at, with_object, put, make_object, place_of, has, part, same}
-
--- texts by their test
-units_true : (x y : List ℕ) → bytes_eq x y ≡ true → x ≡ y
-units_true x y e = (bytes_eq-Decides x y).0 e
-
-units_refl : (x : List ℕ) → bytes_eq x x ≡ true
-units_refl x = (bytes_eq-Decides x x).1 refl
 
 pub same_true : (L M : Location) → same L M ≡ true → L ≡ M
 same_true (place.Static f) (place.Static g) e = ap place.Static (eqb-true f g e)

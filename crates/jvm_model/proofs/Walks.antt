@@ -1,6 +1,6 @@
 -- Walks up the superclasses and superinterfaces of a linked program come to their end within the bound: the classes on a way
 -- up differ, and there are fewer than the bound.
-use Rattle.std.proofs.Common.{◌≡◌, ℕ, zero, suc, ◌+◌, ◌≤◌, List, [], ◌∷◌, ◌++◌, length, true, false, nat_eq, eqb, refl, sym, ◌∙◌, ap, subst, inl, inr, arith, Option, Some, None, IfSome, All}
+use Rattle.std.proofs.Common.{◌≡◌, ℕ, zero, suc, ◌+◌, ◌≤◌, List, [], ◌∷◌, ◌++◌, length, true, false, nat_eq, eqb, refl, sym, ◌∙◌, ap, subst, inl, inr, arith, Option, Some, None, All}
 use Rattle.std.specs.Prelude.{flat_map}
 use Rattle.std.specs.List.{IsDistinct, AllByRecursion}
 use Rattle.std.proofs.lemmas.Bool.{eqb-true, eq-eqb, false_from_ne_true, or_cases, or_right}
@@ -9,9 +9,10 @@ use Rattle.jvm_model.specs.declared.program.Program.{Program}
 use Rattle.jvm_model.specs.Classes.{class_at, class_bound, member, lineage_in}
 use Rattle.jvm_model.specs.Lookup.{field_path_in, pedigree_in}
 use Rattle.jvm_model.specs.Linked.{IsClass, IsDirect, IsAncestor, direct, further, Linked}
+use Rattle.jvm_model.proofs.Upwards.{superclass_is}
 
 -- what holds of each entry holds of each member
-all_member : (P : ℕ → Type 0) (xs : List ℕ) → All P xs → (d : ℕ) → member d xs ≡ true → P d
+pub all_member : (P : ℕ → Type 0) (xs : List ℕ) → All P xs → (d : ℕ) → member d xs ≡ true → P d
 all_member P [] h d m = absurd (cc)
 all_member P (x ∷ xs) h d m = elim (or_cases (nat_eq d x) _ m) [
   | inl q ↦ subst P (sym (eqb-true d x q)) (h 0 0 (omega arith))
@@ -36,7 +37,7 @@ module _ (p : Program) where
 
   module _ (l : Linked p) where
     direct_class : (c d : ℕ) → IsClass p c → IsDirect p c d → IsClass p d
-    direct_class c d h (inl e) = let q : IfSome (class_at p c).superclass (λ x. IsClass p x) = (l.numbers.classes c h).superclass in subst (λ o. IfSome o (λ x. IsClass p x)) e q
+    direct_class c d h (inl e) = superclass_is p l c d h e
     direct_class c d h (inr e) = all_member (λ x. IsClass p x) (class_at p c).interfaces (l.numbers.classes c h).interfaces d e
 
     apart : (ws : List ℕ) (c d : ℕ) → Way ws c → IsDirect p c d → (y : ℕ) → member y (c ∷ ws) ≡ true → eqb d y ≡ false
