@@ -2,7 +2,7 @@
 use Rattle.std.proofs.Common.{◌≡◌, ℕ, zero, suc, ◌<◌, ◌-◌, ◌+◌, List, [], ◌∷◌, ◌++◌, ◌⊎◌, length, map, get_or, slice_get, Bool, true, false, not, ◌||◌, cond, nat_eq, nat_lt, pos, Some, None, refl, sym, ◌∙◌, ap, subst, arith, inl, inr}
 use Rattle.std.specs.Prelude.{filter}
 use Rattle.std.specs.List.{list_all}
-use Rattle.std.proofs.lemmas.Bool.{cases_Bool, or_cases, eqb-true, eq-eqb, ltb-true, ltb-false}
+use Rattle.std.proofs.lemmas.Bool.{cases_Bool, not-true, or_cases, eqb-true, eq-eqb, ltb-true, ltb-false}
 use Rattle.std.proofs.lemmas.List.{length-replicate, get_or-replicate}
 use Rattle.std.proofs.lemmas.Option.{slice_get-get_or}
 use Rattle.jvm_model.specs.declared.values.Value.{Value}
@@ -39,10 +39,6 @@ whole_fields : list_all (λ f. not (is_float f.descriptor)) builtin_fields ≡ t
 unfolding builtin_fields builtin_defs
 whole_fields = refl
 
-not_true : (b : Bool) → not b ≡ true → b ≡ false
-not_true false e = refl
-not_true true e = absurd (cc)
-
 served : (c : ClassRec) (x : FieldRec) → unsupported_field c x ≡ None → is_float x.descriptor ≡ false
 served c x e = elim (cases_Bool (is_float x.descriptor)) [ inr q ↦ q | inl q ↦ absurd (let z : unsupported_field c x ≡ None = e in let y = rw q at z in cc) ]
 
@@ -56,7 +52,7 @@ module _ (p : Program) (ty : IsTyped p) where
       elim (cases_Bool (nat_lt c builtin_count)) [
         | inl q ↦
             let m = ltb-true f 2 (all_at_index (λ x. nat_lt x 2) (class_at p c).fields k.0 f (class_keeps p lk.builtins (λ c. list_all (λ x. nat_lt x 2) c.fields) own_fields c (ltb-true c builtin_count q)) k.1) in
-            not_true _ (field_keeps p lk.builtins (λ x. not (is_float x.descriptor)) whole_fields f m)
+            not-true _ (field_keeps p lk.builtins (λ x. not (is_float x.descriptor)) whole_fields f m)
         | inr q ↦ by c q i k
       ]
     where
@@ -173,7 +169,7 @@ module _ (p : Program) (ty : IsTyped p) where
         let q = filtered (λ g. not (is_static (field_at p g).flags)) f (class_at p c).fields r in
         let i = member_index f (class_at p c).fields q.0 in
         let n = ty.linked.numbers.classes c (k c (front (nat_eq c c) (member c cs) (eq-eqb c c refl))) in
-        record { is_field = subst (λ (y : ℕ). IsField p y) i.2 (n.fields i.0 0 i.1); plain = not_true _ q.1 }
+        record { is_field = subst (λ (y : ℕ). IsField p y) i.2 (n.fields i.0 0 i.1); plain = not-true _ q.1 }
   ]
     where
       more : (a b : Bool) → b ≡ true → (a || b) ≡ true

@@ -4,6 +4,7 @@ use Rattle.std.specs.Prelude.{slice_index_or}
 use Rattle.std.proofs.lemmas.List.{length-append, length-reverse}
 use Rattle.std.specs.Str.{bytes_eq}
 use Rattle.std.proofs.lemmas.Bool.{and_parts, eqb-true, leb-true}
+use Rattle.std.proofs.lemmas.Option.{same_Some}
 use Rattle.jvm_model.specs.declared.values.Value.{Value}
 use Rattle.jvm_model.specs.declared.values.Value.TheVariants as value
 use Rattle.jvm_model.specs.declared.values.Kind.{Kind}
@@ -115,15 +116,12 @@ module _ (p : Program) (lk : Linked p) where
   unfolding sides
   call_of e k x f m c h g q = by x.form c q
     where
-      some_is : {a b : ℕ} → Some a ≡ Some b → a ≡ b
-      some_is z = cc
-
       by : (i : Instr) → called_by i ≡ Some m → Kept p e k x f (sides p e x.pc f i) → CallSides p e f (sides p e x.pc f i) (method_at p m)
-      by (form.InvokeVirtual t n) c q = subst (λ (y : ℕ). CallSides p e f (sides p e x.pc f (form.InvokeVirtual t n)) (method_at p y)) (some_is c) (plain_call e f (method_at p n) _)
-      by (form.InvokeStatic n) c q = subst (λ (y : ℕ). CallSides p e f (sides p e x.pc f (form.InvokeStatic n)) (method_at p y)) (some_is c) (plain_call e f (method_at p n) _)
-      by (form.InvokeInterface t n) c q = subst (λ (y : ℕ). CallSides p e f (sides p e x.pc f (form.InvokeInterface t n)) (method_at p y)) (some_is c) (plain_call e f (method_at p n) _)
+      by (form.InvokeVirtual t n) c q = subst (λ (y : ℕ). CallSides p e f (sides p e x.pc f (form.InvokeVirtual t n)) (method_at p y)) (same_Some _ _ c) (plain_call e f (method_at p n) _)
+      by (form.InvokeStatic n) c q = subst (λ (y : ℕ). CallSides p e f (sides p e x.pc f (form.InvokeStatic n)) (method_at p y)) (same_Some _ _ c) (plain_call e f (method_at p n) _)
+      by (form.InvokeInterface t n) c q = subst (λ (y : ℕ). CallSides p e f (sides p e x.pc f (form.InvokeInterface t n)) (method_at p y)) (same_Some _ _ c) (plain_call e f (method_at p n) _)
       by (form.InvokeSpecial t n) c q =
-          let z : n ≡ m = some_is c in
+          let z : n ≡ m = same_Some _ _ c in
           subst (λ (y : ℕ). CallSides p e f (sides p e x.pc f (form.InvokeSpecial t n)) (method_at p y)) z
           (special_call e f t (method_at p n) (subst (λ (y : ℕ). IsClass p (method_at p y).class) (sym z) h) g q.seven (leb-true _ _ (and_parts _ _ q.one).0) q.two)
       by _ c q = absurd (cc)

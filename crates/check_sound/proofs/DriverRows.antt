@@ -4,6 +4,7 @@ use Rattle.std.specs.Prelude.{flat_map}
 use Rattle.std.specs.List.{IsDistinct}
 use Rattle.std.specs.Str.{bytes_eq}
 use Rattle.std.proofs.lemmas.Bool.{or_left, or_right, eq-eqb}
+use Rattle.std.proofs.lemmas.Option.{same_Some}
 use Rattle.jvm_model.specs.declared.values.Value.{Value}
 use Rattle.jvm_model.specs.declared.values.Value.TheVariants as value
 use Rattle.jvm_model.specs.declared.values.Kind.{Kind}
@@ -33,6 +34,7 @@ use Rattle.jvm_model.specs.Rows.{ready, begun, refused, begun_at, begin}
 use Rattle.jvm_model.specs.State.{State, Turn, ended, no_turn, no_test, test_at}
 use Rattle.jvm_model.proofs.Locations.{at_put_same, size_make}
 use Rattle.jvm_model.proofs.Upwards.{below_same}
+use Rattle.jvm_model.proofs.Interfaces.{member_first}
 use Rattle.type_frames.specs.declared.vtype.VType.{VType}
 use Rattle.type_frames.specs.declared.vtype.VType.TheVariants.{UninitThis, Object}
 use Rattle.type_frames.specs.Frames.{spread}
@@ -40,7 +42,7 @@ use Rattle.type_frames.specs.Descriptors.{types_of, name_of}
 use Rattle.type_frames.specs.Given.{is_constructor}
 use Rattle.type_frames.specs.Typing.{IsTyped}
 use Rattle.type_frames.specs.TypedState.{kind_at, IsInstance, is_class_with, RefersTo, HaveTypes, Goes, IsTop, IsBelow, AllBelow, IsThrowable, IsOfClass, HasObject, HasStage}
-use Rattle.type_frames.proofs.Units.{units_true}
+use Rattle.et_base.proofs.Texts.{units_true}
 use Rattle.check_sound.proofs.Tree.{IsSpot, typed_done, typed_read, typed_mark, typed_make, typed_spend, Over}
 use Rattle.check_sound.proofs.Grow.{Ranged, throwable_over}
 use Rattle.check_sound.proofs.Ready.{TypedEntries, Rest, closed}
@@ -52,7 +54,7 @@ use Rattle.check_sound.proofs.Instances.{below_is}
 use Rattle.check_sound.proofs.Ends.{Local, TurnsTo, Step, tested, throws-typed, new_kind, stage_over}
 use Rattle.check_sound.proofs.Arguments.{EntersWith, entered_frame}
 use Rattle.check_sound.proofs.CallRows.{this_type, this_is}
-use Rattle.check_sound.proofs.SelectLaws.{found, declares, of_classes, first_of}
+use Rattle.check_sound.proofs.SelectLaws.{found, declares, of_classes}
 use Rattle.check_sound.proofs.LibraryTypes.{string_name, message_spot, message_got}
 
 -- ---- no entry stands
@@ -89,16 +91,13 @@ plain_in : (p : Program) (name : List ℕ) (ms : List ℕ) (m : ℕ) → plain_m
 plain_in p name [] m e = absurd (cc)
 plain_in p name (x ∷ ms) m e = by (is_static (method_at p x).flags) (bytes_eq (method_at p x).name name) (bytes_eq (method_at p x).descriptor no_arguments) refl refl e (plain_in p name ms m)
   where
-    some_is : {a b : ℕ} → Some a ≡ Some b → a ≡ b
-    some_is z = cc
-
     more : (plain_method_in p name ms ≡ Some m → (member m ms ≡ true) × PlainMethod p name m) → plain_method_in p name ms ≡ Some m → (member m (x ∷ ms) ≡ true) × PlainMethod p name m
     more k e = let r = k e in (or_right (nat_eq m x) (member m ms) r.0, r.1)
 
     by : (a b c : Bool) → is_static (method_at p x).flags ≡ a → bytes_eq (method_at p x).descriptor no_arguments ≡ c → cond (not a && (b && c)) (Some x) (plain_method_in p name ms) ≡ Some m
         → (plain_method_in p name ms ≡ Some m → (member m ms ≡ true) × PlainMethod p name m) → (member m (x ∷ ms) ≡ true) × PlainMethod p name m
     by false true true q d e k =
-        let z : x ≡ m = some_is e in
+        let z : x ≡ m = same_Some _ _ e in
         (or_left (nat_eq m x) (member m ms) (eq-eqb m x (sym z)), subst (λ (y : ℕ). PlainMethod p name y) z (record { plain = q; descriptor = units_true (method_at p x).descriptor no_arguments d }))
     by true b c q d e k = more k e
     by false false c q d e k = more k e
@@ -119,7 +118,7 @@ plain_of p name (c ∷ cs) m e = by (plain_method_in p name (class_at p c).metho
     by (Some n) q e k =
         let z : n ≡ m = cc in
         let r = plain_in p name (class_at p c).methods m (q ∙ ap {B = Option ℕ} (λ y. Some y) z) in
-        record { plain = r.1; class = c; listed = first_of c cs; declared = r.0 }
+        record { plain = r.1; class = c; listed = member_first c cs; declared = r.0 }
     by None q e k = let r = k e in record { plain = r.plain; class = r.class; listed = or_right (nat_eq r.class c) (member r.class cs) r.listed; declared = r.declared }
 
 -- ---- what the driver enters methods with

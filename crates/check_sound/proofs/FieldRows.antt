@@ -1,5 +1,5 @@
 -- The rows of getfield and putfield. An instance of the class that is named has the field, and no constant is one.
-use Rattle.std.proofs.Common.{◌≡◌, ◌≢◌, ◌⊎◌, ℕ, zero, suc, ◌<◌, ◌≤◌, List, [], ◌∷◌, length, filter, get_or, Bool, true, false, not, ◌&&◌, ◌||◌, cond, nat_eq, Option, Some, None, IfSome, refl, sym, ◌∙◌, ap, subst, arith, inl, inr}
+use Rattle.std.proofs.Common.{◌≡◌, ◌≢◌, ◌⊎◌, ℕ, zero, suc, ◌<◌, ◌≤◌, List, [], ◌∷◌, length, filter, get_or, Bool, true, false, not, ◌&&◌, ◌||◌, cond, nat_eq, Option, Some, None, refl, sym, ◌∙◌, ap, subst, arith, inl, inr}
 use Rattle.std.specs.Prelude.{flat_map}
 use Rattle.std.proofs.lemmas.Bool.{cases_lt, and_parts, or_cases, or_left, or_right, eqb-true}
 use Rattle.std.proofs.lemmas.List.Folds.{list_any-append}
@@ -26,7 +26,7 @@ use Rattle.check_sound.proofs.Arguments.{Argument}
 use Rattle.jvm_model.specs.Linked.{Linked, IsClass, count, IsField, IsKind, IsPlainField, IsFoundField, is_interface_at}
 use Rattle.jvm_model.proofs.Interfaces.{member-flat_map}
 use Rattle.jvm_model.proofs.BuiltinRules.{builtin_class}
-use Rattle.jvm_model.proofs.Upwards.{below_same, below_trans, upwards_step}
+use Rattle.jvm_model.proofs.Upwards.{superclass_is, below_same, below_trans, upwards_step}
 use Rattle.type_frames.specs.declared.vtype.VType.{VType}
 use Rattle.type_frames.specs.declared.vtype.VType.TheVariants.{Object, UninitThis}
 use Rattle.type_frames.specs.declared.sides.Need.TheVariants.{Fits}
@@ -113,7 +113,7 @@ module _ (p : Program) (lk : Linked p) where
       super : (o : Option ℕ) → (class_at p c).superclass ≡ o → ((e : ℕ) → IsClass p e → member d (field_path_in p k e) ≡ true → is_below p e d ≡ true) → member d (elim o as (λ x. List ℕ) [ None ↦ [] | Some e ↦ field_path_in p k e ]) ≡ true → is_below p c d ≡ true
       super None e f m = absurd cc
       super (Some x) e f m =
-          let y : IsClass p x = subst (λ (o : Option ℕ). IfSome o (λ z. IsClass p z)) e (lk.numbers.classes c h).superclass in
+          let y = superclass_is p lk c x h e in
           below_trans p lk c x d h (up_one c x h e) (f x y m)
 
   owned : (named f : ℕ) → IsClass p named → IsField p f → IsPlainField p f → IsFoundField p named f → Owned named f

@@ -17,7 +17,7 @@ use Rattle.type_frames.specs.Assign.{assignable}
 use Rattle.type_frames.specs.Rules.{fit_all, turned_one}
 use Rattle.type_frames.specs.TypedState.{kind_at, IsInRange, IsInstance, RefersTo, HasType, HaveTypes, HasOnTop, HaveStackTypes}
 use Rattle.type_frames.proofs.AssignLaws.{assignable_trans}
-use Rattle.type_frames.proofs.Units.{units_true}
+use Rattle.et_base.proofs.Texts.{units_true}
 use Rattle.check_sound.proofs.Tree.{Over}
 use Rattle.check_sound.proofs.Grow.{Ranged, type_over, types_over, stack_over, range_over, ranged_over}
 

@@ -22,7 +22,8 @@ use Rattle.jvm_model.specs.Rows.{Answer}
 use Rattle.jvm_model.specs.RowsCalls.{enters_body, enters_native, calls, calls_selected, argument_count, on_receiver, receiver, call_special, row_calls}
 use Rattle.jvm_model.specs.Selection.{Selected, chosen, failing, is_like, is_open_like, declared_in, all_interfaces, candidates, kept_of, redeclares, has_code, one_with_code, kept_method, or_kept, select, select_virtual, select_interface, select_special, named_class, special_start, special_path}
 use Rattle.jvm_model.specs.Classes.{implements}
-use Rattle.check_sound.proofs.SelectLaws.{found, filtered, first_of}
+use Rattle.jvm_model.proofs.Interfaces.{member_first}
+use Rattle.check_sound.proofs.SelectLaws.{found, filtered}
 use Rattle.check_sound.proofs.Paced.{either, paced_done, paced_spend, IsLight, LeavesFor, PacedRow, on_reference-paced, with_kind-paced}
 use Rattle.check_sound.proofs.Light.{native_trivial, light, null_light}
 use Rattle.check_sound.proofs.PacedRows.{none, one, using-paced}
@@ -47,7 +48,7 @@ module _ (p : Program) (lk : Linked p) where
 
   one-open : (xs : List ℕ) → ((n : ℕ) → member n xs ≡ true → IsOpen p n) → OpenOf p (one_with_code xs)
   one-open [] r = light p lk abstract_method_error (omega arith)
-  one-open (n ∷ []) r = r n (first_of n [])
+  one-open (n ∷ []) r = r n (member_first n [])
   one-open (n ∷ k ∷ ns) r = light p lk class_change_error (omega arith)
 
   kept-open : (m c : ℕ) → OpenOf p (kept_method p m c)

@@ -4,6 +4,7 @@ use Rattle.std.specs.Prelude.{flat_map}
 use Rattle.std.specs.List.{list_any, IsDistinct}
 use Rattle.std.proofs.lemmas.Bool.{and_parts, or_left, or_right, eq-eqb}
 use Rattle.std.proofs.lemmas.List.Elements.{All-nil}
+use Rattle.std.proofs.lemmas.Option.{same_Some}
 use Rattle.jvm_model.specs.declared.values.Value.{Value}
 use Rattle.jvm_model.specs.declared.values.Value.TheVariants as value
 use Rattle.jvm_model.specs.declared.values.Kind.{Kind}
@@ -102,9 +103,6 @@ catching p b e f c pc to (h ∷ hs) ih ic a q =
     by (covers h pc) refl (catches p h.catches c) refl
     (catching p b e f c pc to hs (λ k d g. ih (suc k) d (omega arith)) (λ k d g. ic (suc k) d (omega arith)) (and_parts (handles p e pc f h) (all_handle p e pc f hs) a).1)
   where
-    some_is : {x y : ℕ} → Some x ≡ Some y → x ≡ y
-    some_is z = cc
-
     joined : (x y z : Bool) → x ≡ (y && z) → (t : Bool) → (y && (z && t)) ≡ (x && t)
     joined x true true g t = ap (λ k. k && t) (sym g)
     joined x true false g t = ap (λ k. k && t) (sym g)
@@ -119,7 +117,7 @@ catching p b e f c pc to (h ∷ hs) ih ic a q =
         let g = or_second (covers h pc) (nat_lt 0 e.body.max_stack && (not (e.starts && f.flag) && fits_at p e (thrown p f h) h.at)) ex (and_parts (handles p e pc f h) (all_handle p e pc f hs) a).0 in
         record {
           handler = h;
-          to_is = some_is z;
+          to_is = same_Some _ _ z;
           catches_it = ey;
           fits = (and_parts (not (e.starts && f.flag)) (fits_at p e (thrown p f h) h.at) (and_parts (nat_lt 0 e.body.max_stack) (not (e.starts && f.flag) && fits_at p e (thrown p f h) h.at) g).1).1;
           place = (ih 0 h (omega arith)).at;

@@ -29,6 +29,7 @@ use Rattle.type_frames.specs.declared.sides.Sides.{Sides}
 use Rattle.type_frames.specs.declared.sides.Need.TheVariants.{One}
 use Rattle.std.specs.Prelude.{slice_index_or}
 use Rattle.std.proofs.lemmas.List.{length-append}
+use Rattle.std.proofs.lemmas.Option.{same_Some}
 use Rattle.type_frames.specs.Frames.{Slots, same}
 use Rattle.type_frames.specs.Environment.{Environment}
 use Rattle.type_frames.specs.Descriptors.{types_of, class_name}
@@ -185,11 +186,8 @@ module _ (p : Program) (ty : IsTyped p) (limits : HasStackLimits p) (gs : Groups
   ready_at : (w : World) (s : State) (i : Instr) → TypedState p w s → s.entries.top.kind ≡ InMethod → s.raised ≡ None → form_at p s.entries.top.number s.entries.top.pc ≡ Some i → Ready p w s.entries i
   ready_at w s i t k n f =
       let r = ready p ty s.entries k (entries_of_state w s t n) in
-      let e : r.0 ≡ i = some_is (sym r.1 ∙ f) in
+      let e : r.0 ≡ i = same_Some _ _ (sym r.1 ∙ f) in
       subst (λ (j : Instr). Ready p w s.entries j) e r.2
-    where
-      some_is : {a b : Instr} → Some a ≡ Some b → a ≡ b
-      some_is z = cc
 
   pub instruction_room : (w : World) (s : State) (i : Instr) → TypedState p w s → s.entries.top.kind ≡ InMethod → s.raised ≡ None → form_at p s.entries.top.number s.entries.top.pc ≡ Some i → length s.entries.top.stack + puts i ≤ most_operands
   instruction_room w s i t k n f = room p ty limits s.entries i (ready_at w s i t k n f)

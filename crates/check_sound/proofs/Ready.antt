@@ -4,7 +4,6 @@ use Rattle.std.proofs.Common.{◌≡◌, ℕ, suc, ◌+◌, ◌<◌, ◌≤◌, 
 use Rattle.std.specs.Prelude.{flat_map, reverse}
 use Rattle.std.specs.List.{list_any, list_all, IsDistinct}
 use Rattle.std.proofs.lemmas.Bool.{and_parts, leb-true, or_cases, eqb-true}
-use Rattle.std.proofs.lemmas.Option.{slice_get_within, get_or_from_slice_get}
 use Rattle.std.proofs.lemmas.List.Elements.{All-nil, All-cons}
 use Rattle.jvm_model.specs.declared.values.Value.{Value}
 use Rattle.jvm_model.specs.declared.values.Value.TheVariants as value
@@ -29,6 +28,7 @@ use Rattle.jvm_model.specs.Descriptors.{parameters, return_type}
 use Rattle.jvm_model.specs.Entries.{Entry, Entries, all_entries, entry_limit, no_entries, with_stack, with_place}
 use Rattle.jvm_model.specs.Linked.{IsPlace, IsForm, NamesForm, NamesBody, IsFormKind, IsBodyKind, IsFormFound}
 use Rattle.jvm_model.specs.Rows.{Answer, answer, no_row, goes_on, goes_to}
+use Rattle.jvm_model.proofs.Ranges.{all_there}
 use Rattle.type_frames.specs.declared.vtype.VType.{VType}
 use Rattle.type_frames.specs.declared.vtype.VType.TheVariants.{Int, Long, Object}
 use Rattle.type_frames.specs.declared.vtype.Frame.{Frame}
@@ -267,9 +267,6 @@ Ends p w no_row = ⊥
 abbrev pub Row : Program → World → Access (Answer Entries) → Type 0
 Row p w t = Tree p (Ends p) w t
 
-pub all_placed : {X : Type 0} (P : X → Type 0) (xs : List X) (k : ℕ) (x : X) → All P xs → slice_get xs k ≡ Some x → P x
-all_placed P xs k x a e = subst P (get_or_from_slice_get xs k x x e) (a k x (slice_get_within xs k x e))
-
 any_all : (n : ℕ) (ks : List ℕ) (f : ℕ → Bool) → list_any (λ m. nat_eq m n) ks ≡ true → list_all f ks ≡ true → f n ≡ true
 any_all n [] f l h = absurd (cc)
 any_all n (k ∷ ks) f l h = elim (or_cases (nat_eq k n) (list_any (λ m. nat_eq m n) ks) l) [
@@ -369,17 +366,17 @@ module _ (p : Program) (ty : IsTyped p) {w : World} {s : Entries} {i : Instr} (r
   on fl hl hv = typed_done (next_typed fl hl hv)
 
   pub is_form : IsForm r.body i
-  is_form = all_placed (λ x. IsForm r.body x.form) r.body.code r.index (record { pc = s.top.pc; form = i }) (is_body p ty s.top.number r.body r.given r.has_code r.has_frames).forms r.there
+  is_form = all_there (λ x. IsForm r.body x.form) r.body.code r.index (record { pc = s.top.pc; form = i }) (is_body p ty s.top.number r.body r.given r.has_code r.has_frames).forms r.there
 
   -- what the program says of the instruction: the numbers in it, their kinds, and what the look-up finds
   pub names_form : NamesForm p i
-  names_form = all_placed (λ x. NamesForm p x.form) r.body.code r.index (record { pc = s.top.pc; form = i }) (subst (λ (o : Option Body). IfSome o (λ b. NamesBody p b)) r.has_code (ty.linked.numbers.bodies s.top.number (has_number p s.top.number r.body r.has_code))).forms r.there
+  names_form = all_there (λ x. NamesForm p x.form) r.body.code r.index (record { pc = s.top.pc; form = i }) (subst (λ (o : Option Body). IfSome o (λ b. NamesBody p b)) r.has_code (ty.linked.numbers.bodies s.top.number (has_number p s.top.number r.body r.has_code))).forms r.there
 
   pub form_kind : IsFormKind p (method_at p s.top.number).class i
-  form_kind = all_placed (λ x. IsFormKind p (method_at p s.top.number).class x.form) r.body.code r.index (record { pc = s.top.pc; form = i }) (subst (λ (o : Option Body). IfSome o (λ b. IsBodyKind p (method_at p s.top.number).class b)) r.has_code (ty.linked.kinds.bodies s.top.number (has_number p s.top.number r.body r.has_code))).forms r.there
+  form_kind = all_there (λ x. IsFormKind p (method_at p s.top.number).class x.form) r.body.code r.index (record { pc = s.top.pc; form = i }) (subst (λ (o : Option Body). IfSome o (λ b. IsBodyKind p (method_at p s.top.number).class b)) r.has_code (ty.linked.kinds.bodies s.top.number (has_number p s.top.number r.body r.has_code))).forms r.there
 
   pub form_found : IsFormFound p i
-  form_found = all_placed (λ x. IsFormFound p x.form) r.body.code r.index (record { pc = s.top.pc; form = i }) (subst (λ (o : Option Body). IfSome o (λ b. All (λ x. IsFormFound p x.form) b.code)) r.has_code (ty.linked.members.bodies s.top.number (has_number p s.top.number r.body r.has_code))) r.there
+  form_found = all_there (λ x. IsFormFound p x.form) r.body.code r.index (record { pc = s.top.pc; form = i }) (subst (λ (o : Option Body). IfSome o (λ b. All (λ x. IsFormFound p x.form) b.code)) r.has_code (ty.linked.members.bodies s.top.number (has_number p s.top.number r.body r.has_code))) r.there
 
   -- the frame goes on at a place that the instruction leads to
   pub at_typed : {vs : List Value} (to : ℕ) → list_any (λ m. nat_eq m to) (leads i) ≡ true → IsPlace r.body to → Locals p w (here r) (then r).locals s.top.locals → Held p w (here r) (then r).stack vs

@@ -2,6 +2,7 @@
 use Rattle.std.proofs.Common.{◌≡◌, ℕ, ◌+◌, ◌-◌, ◌≤◌, List, [], ◌∷◌, ◌++◌, length, drop, Bool, true, ◌&&◌, nat_le, Option, Some, None, IfSome, slice_get, refl, sym, ◌∙◌, ap, subst, arith}
 use Rattle.std.proofs.lemmas.Bool.{and_parts, leb-true}
 use Rattle.std.proofs.lemmas.List.{length-drop}
+use Rattle.std.proofs.lemmas.Option.{same_Some}
 use Rattle.check_sound.proofs.Grow.{Ranged}
 use Rattle.jvm_model.specs.declared.values.Value.{Value}
 use Rattle.jvm_model.specs.declared.values.Value.TheVariants as value
@@ -23,6 +24,7 @@ use Rattle.jvm_model.specs.Narrow.{narrowed}
 use Rattle.jvm_model.specs.Rows.{goes_on}
 use Rattle.jvm_model.specs.RowsReturn.{handed_on, hands_on, row_return}
 use Rattle.jvm_model.specs.Step.{group_of, returns}
+use Rattle.jvm_model.proofs.Ranges.{all_there}
 use Rattle.type_frames.specs.declared.vtype.VType.{VType}
 use Rattle.type_frames.specs.declared.vtype.VType.TheVariants.{Int, Long, Object}
 use Rattle.type_frames.specs.Descriptors.{types_of}
@@ -35,7 +37,7 @@ use Rattle.check_sound.proofs.Tree.{typed_done}
 use Rattle.check_sound.proofs.Held.{Is, Locals, Held}
 use Rattle.check_sound.proofs.Operands.{Operands, popping-fits, popping-long}
 use Rattle.check_sound.proofs.Arrive.{has_number, kept_at, arrived_next}
-use Rattle.check_sound.proofs.Ready.{TypedEntries, stub, Rest, IsEntry, closed, all_placed, HasPlain, Ends, Row, Ready, here, rest, operands}
+use Rattle.check_sound.proofs.Ready.{TypedEntries, stub, Rest, IsEntry, closed, HasPlain, Ends, Row, Ready, here, rest, operands}
 use Rattle.check_sound.proofs.CallSides.{values_few, on_stack_length, call_of, Result, narrowed_plain, narrowed_range, push}
 use Rattle.check_sound.proofs.RaiseRows.{Beneath, beneath, none_typed}
 
@@ -55,9 +57,6 @@ sort_of _ early None e = absurd (cc)
 sort_of _ early (Some sort.Int) e = absurd (cc)
 sort_of _ early (Some sort.Long) e = absurd (cc)
 sort_of _ early (Some sort.Ref) e = absurd (cc)
-
-some_is : {a b : ℕ} → Some a ≡ Some b → a ≡ b
-some_is z = cc
 
 no_more : (p : Program) (w : World) (v u : Value) (vs : List Value) (ts : List VType) → Result p w ts (v ∷ u ∷ vs) → ⊥
 no_more p w v u vs [] q = cc
@@ -84,10 +83,10 @@ module _ (p : Program) (ty : IsTyped p) where
   home n h = ty.linked.numbers.methods n h
 
   pub named_class : (i : Instr) (m : ℕ) → called_by i ≡ Some m → NamesForm p i → IsClass p (method_at p m).class
-  named_class (form.InvokeVirtual t n) m c h = subst (λ (y : ℕ). IsClass p (method_at p y).class) (some_is c) (home n h.1)
-  named_class (form.InvokeSpecial t n) m c h = subst (λ (y : ℕ). IsClass p (method_at p y).class) (some_is c) (home n h.1)
-  named_class (form.InvokeInterface t n) m c h = subst (λ (y : ℕ). IsClass p (method_at p y).class) (some_is c) (home n h.1)
-  named_class (form.InvokeStatic n) m c h = subst (λ (y : ℕ). IsClass p (method_at p y).class) (some_is c) (home n h)
+  named_class (form.InvokeVirtual t n) m c h = subst (λ (y : ℕ). IsClass p (method_at p y).class) (same_Some _ _ c) (home n h.1)
+  named_class (form.InvokeSpecial t n) m c h = subst (λ (y : ℕ). IsClass p (method_at p y).class) (same_Some _ _ c) (home n h.1)
+  named_class (form.InvokeInterface t n) m c h = subst (λ (y : ℕ). IsClass p (method_at p y).class) (same_Some _ _ c) (home n h.1)
+  named_class (form.InvokeStatic n) m c h = subst (λ (y : ℕ). IsClass p (method_at p y).class) (same_Some _ _ c) (home n h)
   named_class _ m c h = absurd (cc)
 
   -- the frame below goes on after its call
@@ -98,7 +97,7 @@ module _ (p : Program) (ty : IsTyped p) where
       let x : Placed = record { pc = f.pc; form = st.instruction.form } in
       let th : slice_get st.body.code st.index ≡ Some x = st.there ∙ ap {B = Option Placed} (λ q. Some (record { pc = q; form = st.instruction.form })) st.place in
       let kept = kept_at p ty f.number st.body st.given st.has_code st.has_frames st.index x st.types th st.known in
-      let names = all_placed (λ y. NamesForm p y.form) st.body.code st.index st.instruction (subst (λ (o : Option Body). IfSome o (λ b. NamesBody p b)) st.has_code (ty.linked.numbers.bodies f.number (has_number p f.number st.body st.has_code))).forms st.there in
+      let names = all_there (λ y. NamesForm p y.form) st.body.code st.index st.instruction (subst (λ (o : Option Body). IfSome o (λ b. NamesBody p b)) st.has_code (ty.linked.numbers.bodies f.number (has_number p f.number st.body st.has_code))).forms st.there in
       let c = call_of p ty.linked e st.index x st.types h.named h.call (named_class st.instruction.form h.named h.call names) (home f.number (has_number p f.number st.body st.has_code)) kept in
       let ls : Locals p w e st.types.locals f.locals = record { types = st.locals; range = b.locals } in
       let ws : Held p w e (drop (length (sides p e f.pc st.types st.instruction.form).takes) st.types.stack) f.stack = record { types = h.operands; range = b.stack } in
@@ -118,7 +117,7 @@ module _ (p : Program) (ty : IsTyped p) where
       let x : Placed = record { pc = f.pc; form = st.instruction.form } in
       let th : slice_get st.body.code st.index ≡ Some x = st.there ∙ ap {B = Option Placed} (λ q. Some (record { pc = q; form = st.instruction.form })) st.place in
       let kept = kept_at p ty f.number st.body st.given st.has_code st.has_frames st.index x st.types th st.known in
-      let names = all_placed (λ y. NamesForm p y.form) st.body.code st.index st.instruction (subst (λ (o : Option Body). IfSome o (λ b. NamesBody p b)) st.has_code (ty.linked.numbers.bodies f.number (has_number p f.number st.body st.has_code))).forms st.there in
+      let names = all_there (λ y. NamesForm p y.form) st.body.code st.index st.instruction (subst (λ (o : Option Body). IfSome o (λ b. NamesBody p b)) st.has_code (ty.linked.numbers.bodies f.number (has_number p f.number st.body st.has_code))).forms st.there in
       let c = call_of p ty.linked e st.index x st.types h.named h.call (named_class st.instruction.form h.named h.call names) (home f.number (has_number p f.number st.body st.has_code)) kept in
       let o = sides p e f.pc st.types st.instruction.form in
       let r = leb-true _ _ (and_parts (nat_le (length o.takes) (length st.types.stack)) (nat_le (length o.gives + (length st.types.stack - length o.takes)) st.body.max_stack) kept.one).1 in

@@ -1,6 +1,6 @@
 -- What a selected method is: it has the name and descriptor of the one that a call names, and the receiver is an instance of
 -- its class. Where none is selected, a throwable is thrown.
-use Rattle.std.proofs.Common.{◌≡◌, ◌⊎◌, ℕ, zero, suc, ◌≤◌, List, [], ◌∷◌, ◌++◌, length, get_or, filter, Bool, true, false, not, ◌&&◌, ◌||◌, cond, nat_eq, Option, Some, None, IfSome, refl, sym, ◌∙◌, subst, arith, inl, inr, All}
+use Rattle.std.proofs.Common.{◌≡◌, ℕ, zero, suc, ◌≤◌, List, [], ◌∷◌, ◌++◌, length, get_or, filter, Bool, true, false, not, ◌&&◌, ◌||◌, cond, nat_eq, Option, Some, None, refl, sym, ◌∙◌, subst, arith, inl, inr, All}
 use Rattle.std.specs.Prelude.{flat_map}
 use Rattle.std.specs.List.{find, list_any, list_all}
 use Rattle.std.specs.Str.{bytes_eq}
@@ -17,14 +17,15 @@ use Rattle.jvm_model.specs.Lookup.{is_method, find_method, find_declared, find_i
 use Rattle.jvm_model.specs.Selection.{Selected, chosen, failing, is_like, is_open_like, declared_in, all_interfaces, candidates, kept_of, has_code, one_with_code, kept_method, or_kept, select, select_virtual, select_interface, named_class, above_or, special_start, special_path, select_special}
 use Rattle.jvm_model.specs.Linked.{Linked, IsClass, IsMethod, IsKind, IsPlainMethod, IsFound, IsFoundIn, is_interface_at}
 use Rattle.std.proofs.lemmas.List.Folds.{list_any-append}
-use Rattle.jvm_model.proofs.Interfaces.{member-flat_map, member-first_mentions, reached}
+use Rattle.jvm_model.proofs.Interfaces.{member_first, none_listed, member-flat_map, member-first_mentions, reached}
+use Rattle.jvm_model.proofs.Options.{or_else_cases}
 use Rattle.jvm_model.proofs.BuiltinRules.{class_keeps}
-use Rattle.jvm_model.proofs.Upwards.{member_class, upwards_step, below_same}
+use Rattle.jvm_model.proofs.Upwards.{superclass_is, member_class, upwards_step, below_same}
 use Rattle.type_frames.specs.declared.vtype.VType.TheVariants.{Object}
 use Rattle.type_frames.specs.Descriptors.{name_of, kind_name}
 use Rattle.type_frames.specs.Assign.{assignable}
 use Rattle.type_frames.specs.TypedState.{IsInstance}
-use Rattle.type_frames.proofs.Units.{units_true}
+use Rattle.et_base.proofs.Texts.{units_true}
 use Rattle.type_frames.proofs.AssignLaws.{assignable_trans}
 use Rattle.check_sound.proofs.Ready.{IsThrown}
 use Rattle.check_sound.proofs.Thrown.{builtin_is, abstract_thrown, class_change_thrown}
@@ -83,9 +84,6 @@ pub filtered : (f : ℕ → Bool) (xs : List ℕ) (n : ℕ) → member n (filter
 filtered f [] n e = absurd cc
 filtered f (x ∷ xs) n e = filtered_by f x n xs (f x) refl (filtered f xs n) e
 
-pub first_of : (n : ℕ) (xs : List ℕ) → member n (n ∷ xs) ≡ true
-first_of n xs = or_left (nat_eq n n) (member n xs) (eq-eqb n n refl)
-
 module _ (p : Program) (lk : Linked p) where
   -- ---- methods and their classes
 
@@ -126,10 +124,6 @@ module _ (p : Program) (lk : Linked p) where
   no_interfaces : list_all (λ (x : ClassRec). nat_eq (length x.interfaces) 0) builtin_classes ≡ true
   unfolding builtin_classes builtin_defs
   no_interfaces = refl
-
-  none_listed : (i : ℕ) (xs : List ℕ) → nat_eq (length xs) 0 ≡ true → member i xs ≡ true → ⊥
-  none_listed i [] e m = absurd cc
-  none_listed i (x ∷ xs) e m = let q = eqb-true (length (x ∷ xs)) 0 e in absurd (omega arith)
 
   no_entries_past : (cs : List ClassRec) (c n : ℕ) → length cs ≤ c → member n (get_or cs c no_class).interfaces ≡ false
   no_entries_past [] c n h = refl
@@ -238,7 +232,7 @@ module _ (p : Program) (lk : Linked p) where
 
   one_of : (x : Kind) (m : ℕ) (ms : List ℕ) → ((n : ℕ) → member n ms ≡ true → SelectedOf p m x (chosen n)) → SelectedOf p m x (one_with_code ms)
   one_of x m [] f = abstract_thrown p lk
-  one_of x m (n ∷ []) f = f n (first_of n [])
+  one_of x m (n ∷ []) f = f n (member_first n [])
   one_of x m (n ∷ k ∷ ks) f = class_change_thrown p lk
 
   kept : (x : Kind) (m c : ℕ) → SelectedOf p m x (kept_method p m c)
@@ -264,10 +258,6 @@ module _ (p : Program) (lk : Linked p) where
 
   named_of : (x : Kind) (m : ℕ) (cs : List ℕ) (f : ℕ → Bool) → find f (flat_map (λ d. (class_at p d).methods) cs) ≡ Some m → ((d : ℕ) → member d cs ≡ true → IsInstance p x (name_of p d)) → IsInstance p x (name_of p (method_at p m).class)
   named_of x m cs f e h = owned x cs m (of_classes cs m (found f _ m e).listed) h
-
-  or_else_cases : (a b : Option ℕ) (m : ℕ) → or_else a b ≡ Some m → (a ≡ Some m) ⊎ (b ≡ Some m)
-  or_else_cases None b m e = inr e
-  or_else_cases (Some n) b m e = inl e
 
   one_or_first_of : (m : ℕ) (ns ms : List ℕ) → ((n : ℕ) → member n ns ≡ true → member n ms ≡ true) → one_or_first ns ms ≡ Some m → member m ms ≡ true
   one_or_first_of m (n ∷ []) ms h e = let is : n ≡ m = cc in h m (or_left (nat_eq m n) false (eq-eqb m n (sym is)))
@@ -355,8 +345,7 @@ module _ (p : Program) (lk : Linked p) where
 
   super_of : (c d : ℕ) → IsClass p c → (class_at p c).superclass ≡ Some d → IsClass p d × (member d (upwards p c) ≡ true)
   super_of c d h e =
-      let s : IsClass p d = subst (λ (o : Option ℕ). IfSome o (λ k. IsClass p k)) e (lk.numbers.classes c h).superclass in
-      (s, subst (λ (xs : List ℕ). member d xs ≡ true) (sym (upwards_step p lk c d h e)) (or_right (nat_eq d c) (member d (upwards p d)) (own_first d)))
+      (superclass_is p lk c d h e, subst (λ (xs : List ℕ). member d xs ≡ true) (sym (upwards_step p lk c d h e)) (or_right (nat_eq d c) (member d (upwards p d)) (own_first d)))
 
   -- where the search starts is a class of which the receiver is an instance
   start_of : (x : Kind) (current : ℕ) (named : Kind) → IsClass p current → IsKind p named → assignable p (Object (name_of p current)) (Object (kind_name p named)) ≡ true → IsInstance p x (name_of p current)

@@ -38,7 +38,7 @@ use Rattle.type_frames.specs.Descriptors.{types_of, class_name, is_float, name_o
 use Rattle.type_frames.specs.Typing.{IsTyped}
 use Rattle.type_frames.specs.TypedState.{TypedWorld, IsInstance, IsReferenceOf, IsDeclared}
 use Rattle.type_frames.proofs.Started.{started_law}
-use Rattle.type_frames.proofs.Units.{units_true}
+use Rattle.et_base.proofs.Texts.{units_true}
 use Rattle.check_sound.specs.TestLaw.{IsEnd}
 use Rattle.check_sound.proofs.Tree.{Tree, typed_done}
 use Rattle.check_sound.proofs.TreeRuns.{alike_itself, tree_safe, tree_leaves}

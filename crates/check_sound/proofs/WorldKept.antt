@@ -1,6 +1,7 @@
 -- A typed world stays typed over writes and new objects.
 use Rattle.std.proofs.Common.{◌≡◌, ◌≢◌, ℕ, ◌<◌, [], length, true, refl, sym, ◌∙◌, ap, subst, inl, inr, arith, Some}
 use Rattle.std.proofs.lemmas.Bool.{cases_Bool}
+use Rattle.std.proofs.lemmas.Option.{same_Some}
 use Rattle.std.proofs.Math.Seq.{get_or-append_seam}
 use Rattle.jvm_model.specs.declared.values.Value.{Value}
 use Rattle.jvm_model.specs.declared.values.Kind.{Kind}
@@ -172,14 +173,8 @@ module _ (p : Program) where
   pub make_over : (w : World) (x : Object) → Over w (make_object w x)
   make_over w x = record {
     sizes = (let s = size_make w x in omega arith);
-    heads = λ o h. at_make_other w x (place.Head o) (λ q. let e : o ≡ size w = some_is q in omega arith);
+    heads = λ o h. at_make_other w x (place.Head o) (λ q. let e : o ≡ size w = same_Some _ _ q in omega arith);
   }
-    where
-      some_is : {a b : ℕ} → Some a ≡ Some b → a ≡ b
-      some_is e = cc
-
-  some_is : {a b : ℕ} → Some a ≡ Some b → a ≡ b
-  some_is e = cc
 
   before : (w : World) (x : Object) (o : ℕ) → (o ≡ size w → ⊥) → o < size (make_object w x) → o < size w
   before w x o n h = let s = size_make w x in let m : o ≢ size w = n in omega arith
@@ -208,17 +203,17 @@ module _ (p : Program) where
     new_there (place.Init c) o i = absurd (cc)
     new_there (place.File n) o i = tt
     new_there (place.Prop n) o i = tt
-    new_there (place.Head a) o i = inside a (some_is o)
-    new_there (place.Text a) o i = inside a (some_is o)
+    new_there (place.Head a) o i = inside a (same_Some _ _ o)
+    new_there (place.Text a) o i = inside a (same_Some _ _ o)
     new_there (place.Field a f) o i =
-        let e = newest a (some_is o) in
+        let e = newest a (same_Some _ _ o) in
         let k = (d.fields i.0 f (sym (ap (λ (z : Object). z.head.kind) e) ∙ i.2) i.3).0 in
-        (inside a (some_is o), subst (λ (z : Object). member f (keys z.fields) ≡ true) (sym e) k)
+        (inside a (same_Some _ _ o), subst (λ (z : Object). member f (keys z.fields) ≡ true) (sym e) k)
     new_there (place.Elem a j) o i =
-        let e = newest a (some_is o) in
+        let e = newest a (same_Some _ _ o) in
         let lt : j < x.head.length = subst (λ (z : Object). j < z.head.length) e i.4 in
         let k = (d.elems i.0 j i.1 (sym (ap (λ (z : Object). z.head.kind) e) ∙ i.3) lt).0 in
-        (inside a (some_is o), subst (λ (z : Object). j < length z.elems) (sym e) k)
+        (inside a (same_Some _ _ o), subst (λ (z : Object). j < length z.elems) (sym e) k)
 
     new_fits : (l : Location) → IsOf l (size w) → IsSpot p (make_object w x) l → FitsSpot p (make_object w x) l (part x l)
     new_fits (place.Static f) o i = absurd (cc)
@@ -226,12 +221,12 @@ module _ (p : Program) where
     new_fits (place.File n) o i = tt
     new_fits (place.Prop n) o i = tt
     new_fits (place.Text a) o i = tt
-    new_fits (place.Head a) o i = (sym (ap (λ (z : Object). z.head) (newest a (some_is o))), d.is_kind)
+    new_fits (place.Head a) o i = (sym (ap (λ (z : Object). z.head) (newest a (same_Some _ _ o))), d.is_kind)
     new_fits (place.Field a f) o i =
-        let e = newest a (some_is o) in
+        let e = newest a (same_Some _ _ o) in
         declared_over p w (make_object w x) (make_over w x) (field_at p f).descriptor (part x (place.Field a f)) (d.fields i.0 f (sym (ap (λ (z : Object). z.head.kind) e) ∙ i.2) i.3).1
     new_fits (place.Elem a j) o i =
-        let e = newest a (some_is o) in
+        let e = newest a (same_Some _ _ o) in
         let lt : j < x.head.length = subst (λ (z : Object). j < z.head.length) e i.4 in
         subst (λ (z : Object). IsDeclared p (make_object w x) (element_text p z.head.kind) (part x (place.Elem a j))) (sym e)
         (declared_over p w (make_object w x) (make_over w x) (element_text p x.head.kind) (part x (place.Elem a j)) (d.elems i.0 j i.1 (sym (ap (λ (z : Object). z.head.kind) e) ∙ i.3) lt).1)

@@ -23,7 +23,7 @@ use Rattle.type_frames.specs.declared.vtype.VType.TheVariants.{Top, Int, Long, N
 use Rattle.type_frames.specs.Descriptors.{class_name, name_of}
 use Rattle.type_frames.specs.Assign.{class_named, takes_any, extends, class_fits, element_fits, is_array, object_fits, assignable}
 use Rattle.type_frames.specs.AssignLaws.{InForm, IsReference, ItselfLaw, TransitiveLaw, ReferenceLaw}
-use Rattle.type_frames.proofs.Units.{units_refl, units_true}
+use Rattle.et_base.proofs.Texts.{units_refl, units_true}
 
 -- ---- each type may stand for itself
 

@@ -1,4 +1,3 @@
-pub mod Units
 pub mod PlaceLemmas
 pub mod MapLemmas
 pub mod AssignLaws
