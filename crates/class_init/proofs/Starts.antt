@@ -25,7 +25,7 @@ pub start_there : (p : Program) (i : Option ℕ) (n : ℕ) (s : Entries) (w : Wo
 start_there p None n s w h = tt
 start_there p (Some m) n s w h = body_there (method_at p m).body m n s w h
 
-either_untouched : {A : Type 0} (b : Bool) (t u : Access A) (w : World) (ts : List Touch) → touched t w ts ≡ ts → touched u w ts ≡ ts → touched (cond b t u) w ts ≡ ts
+pub either_untouched : {A : Type 0} (b : Bool) (t u : Access A) (w : World) (ts : List Touch) → touched t w ts ≡ ts → touched u w ts ≡ ts → touched (cond b t u) w ts ≡ ts
 either_untouched true t u w ts g h = g
 either_untouched false t u w ts g h = h
 

@@ -16,10 +16,12 @@ use Rattle.jvm_model.specs.Classes.{class_at, method_at, class_bound, member, fi
 use Rattle.jvm_model.specs.Selection.{kept_of, has_code, redeclares}
 use Rattle.jvm_model.specs.Lookup.{is_field, is_method, field_path_in, field_path, find_field, pedigree_in, superinterfaces, interface_methods, one_or_first, find_in_interfaces, find_declared}
 use Rattle.std.specs.Option.{option_to_list}
+use Rattle.jvm_model.proofs.Interfaces.{member-first_mentions}
+use Rattle.jvm_model.proofs.Upwards.{chain}
 use Rattle.member_lookup.specs.Walks.{IsWalked, Visits, above_class, is_kept, is_open, nexts, walk}
 use Rattle.member_lookup.proofs.Ancestry.{any_append}
 use Rattle.member_lookup.proofs.Walking.{insert_append, visits_all}
-use Rattle.member_lookup.proofs.MentionFacts.{find_mentions, flat_mentions, filter_mentions, filter_both, filter_flat, first_is, member_mentions, any_flat}
+use Rattle.member_lookup.proofs.MentionFacts.{find_mentions, flat_mentions, filter_mentions, filter_both, filter_flat, first_is, any_flat}
 
 -- ---- the paths of look-ups are walks
 
@@ -64,17 +66,12 @@ lineage_walk p d (suc k) i =
 
 pub own_walk : (p : Program) (d c : ℕ) → member d (own_interfaces p c) ≡ member d (above_class p c)
 unfolding own_interfaces
-own_walk p d c = member_mentions d (flat_map (λ j. lineage_in p class_bound j) (class_at p c).interfaces) ∙ member_flat d (λ j. lineage_in p class_bound j) (λ j. walk p false class_bound j) (class_at p c).interfaces (λ j. lineage_walk p d class_bound j)
+own_walk p d c = member-first_mentions d (flat_map (λ j. lineage_in p class_bound j) (class_at p c).interfaces) ∙ member_flat d (λ j. lineage_in p class_bound j) (λ j. walk p false class_bound j) (class_at p c).interfaces (λ j. lineage_walk p d class_bound j)
 
 -- ---- a search through classes
 
 pub find_next : (f : ℕ → Bool) (g : ℕ → List ℕ) (cs : List ℕ) (i : ℕ) → i < length cs → find f (flat_map g (drop i cs)) ≡ option_or (find f (g (get_or cs i 0))) (find f (flat_map g (drop (i + 1) cs)))
 find_next f g cs i h = rw (add-one, drop-cons cs i 0) (find-append f (g (get_or cs i 0)) (flat_map g (drop (suc i) cs)))
-
--- the chain from a class upwards, where there is one
-abbrev pub chain : Program → ℕ → Option ℕ → List ℕ
-chain p k None = []
-chain p k (Some c) = upwards_in p k c
 
 chain_above : (p : Program) (k : ℕ) (o : Option ℕ) → elim o as (λ _. List ℕ) [ None ↦ [] | Some d ↦ upwards_in p k d ] ≡ chain p k o
 chain_above p k None = refl
@@ -95,7 +92,7 @@ redeclared_is p x ms =
     let c = (method_at p x).class in
     ap (λ (test : ℕ → Bool). list_any test ms) (fun_ext (λ n. own_walk p c (method_at p n).class))
     ∙ any_flat c (λ n. above_class p (method_at p n).class) ms
-    ∙ sym (member_mentions c (flat_map (λ n. above_class p (method_at p n).class) ms))
+    ∙ sym (member-first_mentions c (flat_map (λ n. above_class p (method_at p n).class) ms))
     ∙ ap (λ l. member c l) (sym (flat_mentions (λ n. above_class p (method_at p n).class) ms))
 
 kept_is : (p : Program) (ms : List ℕ) → first_mentions (filter (λ n. has_code p n) (kept_of p ms)) ≡ filter (λ m. is_kept p (first_mentions (flat_map (λ n. above_class p (method_at p n).class) (first_mentions ms))) m) (first_mentions ms)

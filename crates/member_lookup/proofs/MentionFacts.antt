@@ -1,5 +1,5 @@
 -- Lists without later mentions, and what looks the same in them.
-use Rattle.std.proofs.Common.{◌≡◌, ℕ, List, [], ◌∷◌, ◌++◌, append-nil, append_assoc, filter, find, flat_map, Bool, true, false, not, ◌||◌, ◌&&◌, cond, if◌then◌else◌, nat_eq, refl, sym, ◌∙◌, ap, subst, inl, inr, Option, Some, None}
+use Rattle.std.proofs.Common.{◌≡◌, ℕ, List, [], ◌∷◌, ◌++◌, append-nil, append_assoc, filter, find, flat_map, Bool, true, false, not, ◌||◌, ◌&&◌, cond, if◌then◌else◌, nat_eq, refl, sym, ◌∙◌, ap, subst, Option, Some, None}
 use Rattle.std.specs.List.{list_any}
 use Rattle.std.proofs.Math.Bool.{and_comm}
 use Rattle.std.specs.Option.{option_or}
@@ -8,7 +8,7 @@ use Rattle.std.proofs.lemmas.List.Elements.{filter-append, filter_agree}
 use Rattle.std.proofs.lemmas.List.Folds.{find-append}
 use Rattle.indexmap.specs.IndexSet.{insert_all}
 use Rattle.jvm_model.specs.Classes.{member, first_mentions}
-use Rattle.member_lookup.proofs.Ancestry.{any_append, member_kept, member_there, member_from}
+use Rattle.member_lookup.proofs.Ancestry.{any_append, member_kept, member_there}
 use Rattle.member_lookup.proofs.Walking.{insert_append, insert_known}
 
 -- ---- tests
@@ -87,12 +87,6 @@ insert_is (x ∷ xs) ks = noted_step (member x ks) ks x xs refl (λ ls. insert_i
 
 pub first_is : (xs : List ℕ) → insert_all nat_eq [] xs ≡ first_mentions xs
 first_is xs = insert_is xs [] ∙ filter_all (first_mentions xs)
-
-member_noted : (d : ℕ) (xs : List ℕ) → member d (insert_all nat_eq [] xs) ≡ member d xs
-member_noted d xs = same_test (member d (insert_all nat_eq [] xs)) (member d xs) (λ m. elim (member_from [] xs d m) [ inl q ↦ absurd (cc) | inr q ↦ q ]) (λ m. member_there [] xs d m)
-
-pub member_mentions : (d : ℕ) (xs : List ℕ) → member d (first_mentions xs) ≡ member d xs
-member_mentions d xs = ap (λ l. member d l) (sym (first_is xs)) ∙ member_noted d xs
 
 -- ---- searches
 

@@ -10,7 +10,8 @@ use Rattle.jvm_model.specs.Builtin.{object_class}
 use Rattle.jvm_model.specs.Classes.{class_at, class_bound, method_at, member, is_interface, upwards_in, upwards}
 use Rattle.jvm_model.specs.Selection.{declared_in, special_path, is_open_like, candidates, all_interfaces, kept_of, redeclares, has_code, one_with_code, kept_method}
 use Rattle.member_lookup.specs.Walks.{is_kept}
-use Rattle.member_lookup.proofs.MentionFacts.{filter_both, filter_flat, first_is, member_mentions, any_flat}
+use Rattle.jvm_model.proofs.Interfaces.{member-first_mentions}
+use Rattle.member_lookup.proofs.MentionFacts.{filter_both, filter_flat, first_is, any_flat}
 use Rattle.vm_calls.specs.Choices.{above_of}
 
 -- ---- a walk upwards
@@ -61,7 +62,7 @@ redeclared : (p : Program) (ms above : List ℕ) (x : ℕ) → above ≡ insert_
 redeclared p ms above x e =
     let c = (method_at p x).class in
     any_flat c (λ n. above_of p n) ms
-    ∙ (sym (member_mentions c (flat_map (λ n. above_of p n) ms)) ∙ ap (λ l. member c l) (sym (e ∙ first_is (flat_map (λ n. above_of p n) ms))))
+    ∙ (sym (member-first_mentions c (flat_map (λ n. above_of p n) ms)) ∙ ap (λ l. member c l) (sym (e ∙ first_is (flat_map (λ n. above_of p n) ms))))
 
 kept_same : (p : Program) (ms above : List ℕ) → above ≡ insert_all nat_eq [] (flat_map (λ n. above_of p n) ms) → filter (λ n. is_kept p above n) ms ≡ filter (λ n. has_code p n) (kept_of p ms)
 kept_same p ms above e =

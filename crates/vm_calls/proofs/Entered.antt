@@ -15,11 +15,8 @@ use Rattle.jvm_model.specs.RowsCalls.{on_receiver, receiver, argument_count, cal
 use Rattle.jvm_model.specs.Selection.{Selected, chosen, failing}
 use Rattle.jvm_model.specs.View.{touched, IsSafe, IsRow}
 use Rattle.jvm_model.specs.declared.values.Kind.{Kind}
+use Rattle.class_init.proofs.Starts.{either_untouched}
 use Rattle.vm_calls.specs.Calls.{object_row}
-
-either_untouched : {A : Type 0} (b : Bool) (t u : Access A) (w : World) (ts : List Touch) → touched t w ts ≡ ts → touched u w ts ≡ ts → touched (cond b t u) w ts ≡ ts
-either_untouched true t u w ts g h = g
-either_untouched false t u w ts g h = h
 
 body_touches : (b : Option Body) (m n : ℕ) (s : Entries) (w : World) (ts : List Touch) → touched (enters_body b m n s) w ts ≡ ts
 body_touches None m n s w ts = refl

@@ -1,18 +1,14 @@
 -- Answers that are kept.
-use Rattle.std.proofs.Common.{◌≡◌, ℕ, zero, suc, ◌<◌, List, length, slice_get, get_or, set, replicate, nat_eq, refl, sym, ◌∙◌, ap, subst, inl, inr, Option, Some, None, IfSome, get_or-set_other, get_or-set_same}
+use Rattle.std.proofs.Common.{◌≡◌, ℕ, ◌<◌, List, length, slice_get, get_or, set, replicate, nat_eq, sym, ◌∙◌, ap, subst, inl, inr, Option, Some, None, IfSome, get_or-set_other, get_or-set_same}
 use Rattle.std.proofs.lemmas.Bool.{cases_Bool, eqb-true, eqb-false}
 use Rattle.std.proofs.lemmas.Option.{get_or_from_slice_get}
 use Rattle.jvm_model.specs.declared.program.Program.{Program}
+use Rattle.jvm_model.proofs.Ranges.{default_in}
 use Rattle.vm_calls.specs.declared.selections.Known.{Known}
 use Rattle.vm_calls.specs.Choices.{IsKnown, AreKnown}
 
-same_at : {A : Type 0} (n i : ℕ) (a : A) → get_or (replicate n a) i a ≡ a
-same_at zero i a = refl
-same_at (suc n) zero a = refl
-same_at (suc n) (suc i) a = same_at n i a
-
 pub none_known : (p : Program) (n : ℕ) → AreKnown p (replicate n None)
-none_known p n i = subst (λ (o : Option Known). IfSome o (λ k. IsKnown p k)) (sym (same_at n i None)) tt
+none_known p n i = subst (λ (o : Option Known). IfSome o (λ k. IsKnown p k)) (sym (default_in n i None)) tt
 
 -- one more answer is kept
 pub known_more : (p : Program) (places : List (Option Known)) (i : ℕ) (k : Known) → i < length places → IsKnown p k → AreKnown p places → AreKnown p (set places i (Some k))

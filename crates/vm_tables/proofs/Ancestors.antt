@@ -1,6 +1,6 @@
 -- What stands above a class are classes; tables of it for all class numbers.
 use Rattle.std.proofs.Common.{replicate, set, take, get_or-set_other, get_or-set_same, ◌≡◌, ℕ, zero, suc, ◌+◌, ◌<◌, ◌≤◌, List, [], ◌∷◌, length, get_or, flat_map, All, Bool, true, false, ◌||◌, nat_eq, refl, sym, ◌∙◌, ap, subst, inl, inr, arith}
-use Rattle.std.proofs.lemmas.Bool.{cases_Bool, cases_lt, or_cases, or_left, or_right, eqb-true, eqb-false, eq-eqb}
+use Rattle.std.proofs.lemmas.Bool.{cases_Bool, cases_lt, or_cases, or_left, or_right, eqb-true, eqb-false}
 use Rattle.std.proofs.Math.Bool.{or-false, or-true}
 use Rattle.std.proofs.lemmas.List.{get_or_past, take_more}
 use Rattle.std.proofs.lemmas.List.Elements.{All-from_get_or}
@@ -8,15 +8,13 @@ use Rattle.jvm_model.specs.declared.program.Program.{Program}
 use Rattle.jvm_model.specs.Classes.{class_at, no_class, class_bound, member, upwards, lineage_in, own_interfaces, implements, is_below}
 use Rattle.jvm_model.specs.Linked.{IsClass, Linked}
 use Rattle.jvm_model.specs.Selection.{all_interfaces}
+use Rattle.jvm_model.proofs.Interfaces.{member_first, member-first_mentions}
+use Rattle.jvm_model.proofs.Ranges.{default_in}
 use Rattle.jvm_model.proofs.Upwards.{member_class}
+use Rattle.jvm_model.proofs.Walks.{all_member}
 use Rattle.member_lookup.proofs.Ancestry.{any_append, member_get}
-use Rattle.member_lookup.proofs.MentionFacts.{member_mentions}
 use Rattle.vm_tables.specs.Above.{AreOwn, AreInterfaces, AreImplemented, AreBelow}
-use Rattle.vm_tables.proofs.Laid.{all_member}
 use Rattle.vm_tables.proofs.Started.{table_all}
-
-itself : (x : ℕ) (xs : List ℕ) → member x (x ∷ xs) ≡ true
-itself x xs = or_left (nat_eq x x) (member x xs) (eq-eqb x x refl)
 
 -- what holds of each member holds of each entry
 all_from : (P : ℕ → Type 0) (xs : List ℕ) → ((d : ℕ) → member d xs ≡ true → P d) → All P xs
@@ -26,7 +24,7 @@ all_from P xs f = All-from_get_or P xs 0 (λ i h. f (get_or xs i 0) (member_get 
 led : (P : Type 0) (g : ℕ → List ℕ) (xs : List ℕ) (e : ℕ) → ((d : ℕ) → member d xs ≡ true → member e (g d) ≡ true → P) → member e (flat_map g xs) ≡ true → P
 led P g [] e f m = absurd (cc)
 led P g (x ∷ xs) e f m = elim (or_cases (member e (g x)) (member e (flat_map g xs)) (sym (any_append e (g x) (flat_map g xs)) ∙ m)) [
-  | inl q ↦ f x (itself x xs) q
+  | inl q ↦ f x (member_first x xs) q
   | inr q ↦ led P g xs e (λ d n r. f d (or_right (nat_eq d x) (member d xs) n) r) q
 ]
 
@@ -44,19 +42,19 @@ module _ (p : Program) (l : Linked p) where
   unfolding own_interfaces
   own_class c e h m =
       led (IsClass p e) (λ j. lineage_in p class_bound j) (class_at p c).interfaces e (λ d n r. lineage_class class_bound d e (all_member (λ x. IsClass p x) _ (l.numbers.classes c h).interfaces d n) r)
-      (sym (member_mentions e (flat_map (λ j. lineage_in p class_bound j) (class_at p c).interfaces)) ∙ m)
+      (sym (member-first_mentions e (flat_map (λ j. lineage_in p class_bound j) (class_at p c).interfaces)) ∙ m)
 
   pub interfaces_there : (c : ℕ) → IsClass p c → All (λ n. n < length p.classes) (all_interfaces p c)
   interfaces_there c h = all_from (λ n. n < length p.classes) (all_interfaces p c) (λ e m.
       led (IsClass p e) (λ d. own_interfaces p d) (upwards p c) e (λ d n r. own_class d e (member_class p l class_bound c d h n) r)
-      (sym (member_mentions e (flat_map (λ d. own_interfaces p d) (upwards p c))) ∙ m))
+      (sym (member-first_mentions e (flat_map (λ d. own_interfaces p d) (upwards p c))) ∙ m))
 
   pub upwards_there : (c : ℕ) → IsClass p c → All (λ n. n < length p.classes) (upwards p c)
   upwards_there c h = all_from (λ n. n < length p.classes) (upwards p c) (λ e m. member_class p l class_bound c e h m)
 
 pub implemented_is : (p : Program) (c i : ℕ) → member i (all_interfaces p c) ≡ implements p c i
 unfolding implements
-implemented_is p c i = member_mentions i (flat_map (λ d. own_interfaces p d) (upwards p c))
+implemented_is p c i = member-first_mentions i (flat_map (λ d. own_interfaces p d) (upwards p c))
 
 -- ---- a number past the classes
 
@@ -113,9 +111,7 @@ module _ (p : Program) (n : ℕ) (k : length p.classes ≤ n) where
 -- ---- flags
 
 pub none_set : (n i : ℕ) → get_or (replicate n false) i false ≡ false
-none_set zero i = refl
-none_set (suc n) zero = refl
-none_set (suc n) (suc i) = none_set n i
+none_set n i = default_in n i false
 
 flag_at : (flags : List Bool) (n x : ℕ) (m b : Bool) → nat_eq n x ≡ b → x < length flags → get_or flags n false ≡ m → get_or (set flags x true) n false ≡ (m || (b || false))
 flag_at flags n x m true e l h = rw (eqb-true n x e) (get_or-set_same flags x true false l ∙ sym (or-true m))

@@ -1,5 +1,5 @@
 -- The layout of a class begins with that of each class above it, so a field has one place.
-use Rattle.std.proofs.Common.{◌≡◌, ℕ, zero, suc, ◌+◌, ◌<◌, ◌≤◌, List, [], ◌∷◌, ◌++◌, length, get_or, set, drop, filter, take, All, Bool, true, false, not, ◌||◌, cond, nat_eq, refl, sym, ◌∙◌, ap, subst, inl, inr, arith, add-one, add-zero, Option, Some, None, IfSome, get_or-set_other, get_or-set_same}
+use Rattle.std.proofs.Common.{◌≡◌, ℕ, zero, suc, ◌+◌, ◌<◌, ◌≤◌, List, [], ◌∷◌, ◌++◌, length, get_or, set, drop, filter, take, All, Bool, true, false, not, ◌||◌, cond, nat_eq, refl, sym, ◌∙◌, ap, subst, inl, inr, arith, add-one, add-zero, Option, Some, None, get_or-set_other, get_or-set_same}
 use Rattle.std.proofs.lemmas.Bool.{cases_Bool, cases_lt, eqb-true, eqb-false, or_cases, or_left, or_right}
 use Rattle.std.proofs.lemmas.List.{get_or_past}
 use Rattle.std.proofs.lemmas.List.Elements.{All-from_get_or}
@@ -7,7 +7,8 @@ use Rattle.std.proofs.Math.Seq.{drop-cons, take-append_seam}
 use Rattle.jvm_model.specs.declared.program.Program.{Program}
 use Rattle.jvm_model.specs.Classes.{class_at, field_at, no_class, class_bound, is_static, member, upwards_in, plain_fields, layout_in, layout}
 use Rattle.jvm_model.specs.Linked.{IsClass, IsField, Linked}
-use Rattle.jvm_model.proofs.Upwards.{upwards_step, upwards_root}
+use Rattle.jvm_model.proofs.Upwards.{superclass_is, upwards_step, upwards_root}
+use Rattle.jvm_model.proofs.Walks.{all_member}
 use Rattle.member_lookup.proofs.Ancestry.{any_append, member_get}
 use Rattle.vm_tables.specs.FieldPlaces.{place, AreFieldPlaces, IsHeld, HaveEntries}
 
@@ -46,14 +47,6 @@ member_filter : (q : ℕ → Bool) (n : ℕ) (xs : List ℕ) → member n (filte
 member_filter q n [] m = m
 member_filter q n (x ∷ xs) m = member_cond (q x) n x (filter q xs) xs (λ r. member_filter q n xs r) m
 
--- what holds of each entry holds of each member
-pub all_member : (P : ℕ → Type 0) (xs : List ℕ) → All P xs → (d : ℕ) → member d xs ≡ true → P d
-all_member P [] h d m = absurd (cc)
-all_member P (x ∷ xs) h d m = elim (or_cases (nat_eq d x) (member d xs) m) [
-  | inl q ↦ subst P (sym (eqb-true d x q)) (h 0 0 (omega arith))
-  | inr q ↦ all_member P xs (λ k e g. h (suc k) e (omega arith)) d q
-]
-
 -- A field of a class's objects stands where it stands in the objects of its own class.
 pub record Stands (p : Program) (c f : ℕ) : Type 0 where
   pub there : member f (layout p c) ≡ true
@@ -74,9 +67,6 @@ module _ (p : Program) (l : Linked p) where
   unfolding layout
   layout_step c None g s = ap (layout_in p) (upwards_root p l c s)
   layout_step c (Some d) g s = ap (layout_in p) (upwards_step p l c d g s)
-
-  above_class : (c d : ℕ) → IsClass p c → (class_at p c).superclass ≡ Some d → IsClass p d
-  above_class c d g s = let q : IfSome (class_at p c).superclass (λ x. IsClass p x) = (l.numbers.classes c g).superclass in subst (λ o. IfSome o (λ x. IsClass p x)) s q
 
   -- a field that a class declares itself
   own : (c f : ℕ) → IsClass p c → member f (plain_fields p c) ≡ true → Stands p c f
@@ -103,7 +93,7 @@ module _ (p : Program) (l : Linked p) where
 
   from_above : (k c f : ℕ) (o : Option ℕ) → IsClass p c → (class_at p c).superclass ≡ o → ((d : ℕ) → IsClass p d → member f (layout_in p (upwards_in p k d)) ≡ true → Stands p d f) → member f (above p k o) ≡ true → Stands p c f
   from_above k c f None g s h m = absurd (cc)
-  from_above k c f (Some d) g s h m = below c d f g s (h d (above_class c d g s) m)
+  from_above k c f (Some d) g s h m = below c d f g s (h d (superclass_is p l c d g s) m)
 
   above_is : (k : ℕ) (o : Option ℕ) → layout_in p (elim o as (λ _. List ℕ) [ None ↦ [] | Some d ↦ upwards_in p k d ]) ≡ above p k o
   above_is k None = refl

@@ -188,7 +188,7 @@ nexts_all b numbers nexts n h m e g pc = elim (cases_lt pc n) [
   | inr i ↦ get_or_past nexts pc pc (omega arith) ∙ sym (next_past b numbers pc h (omega arith))
 ]
 
-next_found : (o : Option Found) (pc : ℕ) → (elim o as (λ _. ℕ) [ None ↦ pc | Some x ↦ x.after ]) ≡ after_or pc o
+pub next_found : (o : Option Found) (pc : ℕ) → (elim o as (λ _. ℕ) [ None ↦ pc | Some x ↦ x.after ]) ≡ after_or pc o
 next_found None pc = refl
 next_found (Some x) pc = refl
 

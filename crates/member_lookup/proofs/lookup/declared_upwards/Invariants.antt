@@ -1,7 +1,7 @@
 use Rattle.std.proofs.Common.{◌≡◌}
 use Rattle.jvm_model.specs.Classes.{upwards}
 use Rattle.jvm_model.specs.Lookup.{find_declared}
-use Rattle.member_lookup.proofs.Lookups.{chain}
+use Rattle.jvm_model.proofs.Upwards.{chain}
 use Rattle.member_lookup.proofs.lookup.declared_upwards.Given as goal
 
 abbrev pub invariant-loop-next : goal.invariant-loop-next
