@@ -9,7 +9,7 @@ use Rattle.jvm_model.specs.declared.values.Value.{Value}
 use Rattle.jvm_model.specs.World.{Object, World, Content, put, put_at, keep, object_at, no_object, size, make_object}
 use Rattle.jvm_model.specs.Classes.{member}
 use Rattle.jvm_model.specs.View.{keys, Exists}
-use Rattle.vm_mem.proofs.Entries.{put_at_set}
+use Rattle.jvm_model.proofs.Ranges.{put_at_is_set}
 use Rattle.access_tags.specs.Worlds.{parts, all_parts, statics_of, states_of, cells_of, width, bases, bases_of, ChangesLaw}
 use Rattle.access_tags.proofs.Spread.{length-parts, length-statics, length-states}
 
@@ -43,7 +43,7 @@ keys_kept (x ∷ xs) f v h = elim (cases_Bool (nat_eq f x.0)) [
 ]
 
 pub length-put_at : {A : Type 0} (d : A) (xs : List A) (i : ℕ) (v : A) → i < length xs → length (put_at d xs i v) ≡ length xs
-length-put_at d xs i v h = ap (λ ys. length ys) (put_at_set d xs i v h) ∙ length-set xs i v
+length-put_at d xs i v h = ap (λ ys. length ys) (put_at_is_set d xs i v h) ∙ length-set xs i v
 
 -- the locations by how many statics and states there are, and the objects
 abbrev by_counts : ℕ → ℕ → List Object → List Location

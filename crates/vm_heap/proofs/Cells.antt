@@ -17,7 +17,7 @@ use Rattle.vm_heap.specs.Entries.{Entry}
 use Rattle.vm_heap.specs.Objects.{field_numbers, new_cells, cell_count, object_of, objects_of, IsWhole}
 use Rattle.vm_tables.specs.FieldPlaces.{place, IsHeld}
 use Rattle.vm_heap.specs.Held.{Held}
-use Rattle.vm_mem.proofs.Entries.{put_at_set}
+use Rattle.jvm_model.proofs.Ranges.{put_at_is_set}
 use Rattle.vm_heap.proofs.Objects.{before, own_cells, object_there, cell_set, start_at, cells_within, length-objects_of, with_text, text_set, made_last, whole_last}
 
 -- a vector's length is a machine's number, and the list's
@@ -101,7 +101,7 @@ field_made x ks s f w m h =
 
 elem_made : (x : Entry) (ks : List ℕ) (s : List Value) (i : ℕ) (w : Value) → ks ≡ [] → i < length s →
     made_of x (zip ks (set s i w)) (drop (length ks) (set s i w)) ≡ made_of x (zip ks s) (put_at Null (drop (length ks) s) i w)
-elem_made x ks s i w e h = rw e (ap (λ t. made_of x [] t) (sym (put_at_set Null s i w h)))
+elem_made x ks s i w e h = rw e (ap (λ t. made_of x [] t) (sym (put_at_is_set Null s i w h)))
 
 length-own : (p : Program) (xs : List Entry) (cs : List Value) (o : ℕ) (x : Entry) → IsWhole p xs cs → o < length xs → x ≡ get_or xs o x → length (own_cells p x (before p xs o) cs) ≡ cell_count p x.head
 length-own p xs cs o x h w q =

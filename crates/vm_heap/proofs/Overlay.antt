@@ -2,7 +2,7 @@
 use Rattle.std.proofs.Common.{◌≡◌, ℕ, List, [], ◌∷◌, true, false, ◌||◌, cond, Option, Some, None, Result, Ok, Err, OnOk, OnErr, MatchOption, Bor, refl, sym, ap, ◌∙◌, inl, inr}
 use Rattle.std.specs.Str.{bytes_eq}
 use Rattle.std.proofs.lemmas.Bool.{cases_Bool, false_from_ne_true}
-use Rattle.std.proofs.lemmas.Slice.Eq.{bytes_eq-Decides}
+use Rattle.et_base.proofs.Texts.{units_true, units_refl}
 use Rattle.jvm_model.specs.World.{look, keep}
 use Rattle.sim_store.specs.Stored.{Stored, Named}
 use Rattle.sim_store.specs.Parts.{in_part, with_part}
@@ -10,21 +10,15 @@ use Rattle.sim_store.specs.declared.store.Part.{Part}
 use Rattle.sim_store.specs.declared.store.Part.TheVariants.{File, Prop}
 use Rattle.vm_heap.specs.Changes.{changed_by, is_named, AreApart, Changing}
 
-same_name : (m n : List ℕ) → bytes_eq m n ≡ true → m ≡ n
-same_name m n e = (bytes_eq-Decides m n).0 e
-
-name_itself : (m : List ℕ) → bytes_eq m m ≡ true
-name_itself m = (bytes_eq-Decides m m).1 refl
-
 other_name : (m n k : List ℕ) → bytes_eq m k ≡ true → bytes_eq n m ≡ false → bytes_eq n k ≡ false
-other_name m n k e h = let q = same_name m k e in ap (bytes_eq n) (sym q) ∙ h
+other_name m n k e h = let q = units_true m k e in ap (bytes_eq n) (sym q) ∙ h
 
 look_keep : (es : List Named) (m n : List ℕ) (v : Option (List ℕ)) → look bytes_eq None (keep bytes_eq es m v) n ≡ cond (bytes_eq n m) v (look bytes_eq None es n)
 look_keep [] m n v = refl
 look_keep (e ∷ es) m n v = elim (cases_Bool (bytes_eq m e.0)) [
-  | inl a ↦ let q = same_name m e.0 a in rw (a, q) (elim (bytes_eq n e.0) as (λ b. cond b v (look bytes_eq None es n) ≡ cond b v (cond b e.1 (look bytes_eq None es n))) [ true ↦ refl | false ↦ refl ])
+  | inl a ↦ let q = units_true m e.0 a in rw (a, q) (elim (bytes_eq n e.0) as (λ b. cond b v (look bytes_eq None es n) ≡ cond b v (cond b e.1 (look bytes_eq None es n))) [ true ↦ refl | false ↦ refl ])
   | inr a ↦ elim (cases_Bool (bytes_eq n e.0)) [
-    | inl b ↦ let q = same_name n e.0 b in let r : bytes_eq n m ≡ false = false_from_ne_true (bytes_eq n m) (λ t. let s = same_name n m t in let u : bytes_eq m e.0 ≡ true = ap (λ y. bytes_eq y e.0) (sym s) ∙ b in (cc)) in rw (a, b, r) refl
+    | inl b ↦ let q = units_true n e.0 b in let r : bytes_eq n m ≡ false = false_from_ne_true (bytes_eq n m) (λ t. let s = units_true n m t in let u : bytes_eq m e.0 ≡ true = ap (λ y. bytes_eq y e.0) (sym s) ∙ b in (cc)) in rw (a, b, r) refl
     | inr b ↦ rw (a, b) (look_keep es m n v)
   ]
 ]
@@ -40,12 +34,12 @@ pub apart_keep : (es : List Named) (n : List ℕ) (v : Option (List ℕ)) → Ar
 apart_keep [] n v h = (refl, tt)
 apart_keep (e ∷ es) n v h = elim (cases_Bool (bytes_eq n e.0)) [
   | inl a ↦ rw a h
-  | inr a ↦ let b : bytes_eq e.0 n ≡ false = false_from_ne_true (bytes_eq e.0 n) (λ t. let s = same_name e.0 n t in let u : bytes_eq n e.0 ≡ true = ap (λ y. bytes_eq y e.0) (sym s) ∙ name_itself e.0 in (cc)) in
+  | inr a ↦ let b : bytes_eq e.0 n ≡ false = false_from_ne_true (bytes_eq e.0 n) (λ t. let s = units_true e.0 n t in let u : bytes_eq n e.0 ≡ true = ap (λ y. bytes_eq y e.0) (sym s) ∙ units_refl e.0 in (cc)) in
       rw a (named_keep es n e.0 v b ∙ h.0, apart_keep es n v h.1)
 ]
 
 keep_again : (es : List Named) (n : List ℕ) (u v : Option (List ℕ)) → keep bytes_eq (keep bytes_eq es n u) n v ≡ keep bytes_eq es n v
-keep_again [] n u v = rw (name_itself n) refl
+keep_again [] n u v = rw (units_refl n) refl
 keep_again (e ∷ es) n u v = elim (cases_Bool (bytes_eq n e.0)) [
   | inl a ↦ rw (a, a) refl
   | inr a ↦ rw (a, a) (ap (λ t. e ∷ t) (keep_again es n u v))
@@ -72,7 +66,7 @@ named_kept (e ∷ es) m n v h = elim (cases_Bool (bytes_eq m e.0)) [
 ]
 
 named_itself : (es : List Named) (n : List ℕ) (v : Option (List ℕ)) → is_named n (keep bytes_eq es n v) ≡ true
-named_itself [] n v = rw (name_itself n) refl
+named_itself [] n v = rw (units_refl n) refl
 named_itself (e ∷ es) n v = elim (cases_Bool (bytes_eq n e.0)) [ inl a ↦ rw (a, a) refl | inr a ↦ rw (a, a) (named_itself es n v) ]
 
 -- a change at a name that no later change has
@@ -87,7 +81,7 @@ past_changes xs (e ∷ es) n v h d = elim (cases_Bool (bytes_eq n e.0)) [
 pub keep_changed : (xs es : List Named) (n : List ℕ) (v : Option (List ℕ)) → AreApart es → changed_by xs (keep bytes_eq es n v) ≡ keep bytes_eq (changed_by xs es) n v
 keep_changed xs [] n v h = refl
 keep_changed xs (e ∷ es) n v h = elim (cases_Bool (bytes_eq n e.0)) [
-  | inl a ↦ let q = same_name n e.0 a in
+  | inl a ↦ let q = units_true n e.0 a in
       let d : is_named n es ≡ false = ap (λ y. is_named y es) q ∙ h.0 in
       let p : is_named n (keep bytes_eq xs e.0 e.1) ≡ true = ap (λ y. is_named y (keep bytes_eq xs e.0 e.1)) q ∙ named_itself xs e.0 e.1 in
       let k : keep bytes_eq (keep bytes_eq xs e.0 e.1) n v ≡ keep bytes_eq xs e.0 v = ap (λ y. keep bytes_eq (keep bytes_eq xs e.0 e.1) y v) q ∙ keep_again xs e.0 e.1 v in
@@ -101,7 +95,7 @@ look_changed xs [] n h = refl
 look_changed xs (e ∷ es) n h =
     look_changed (keep bytes_eq xs e.0 e.1) es n h.1 ∙ ap (cond (is_named n es) (look bytes_eq None es n)) (look_keep xs e.0 n e.1)
     ∙ (elim (cases_Bool (bytes_eq n e.0)) [
-      | inl a ↦ let q = same_name n e.0 a in let d : is_named n es ≡ false = ap (λ y. is_named y es) q ∙ h.0 in rw (a, d) refl
+      | inl a ↦ let q = units_true n e.0 a in let d : is_named n es ≡ false = ap (λ y. is_named y es) q ∙ h.0 in rw (a, d) refl
       | inr a ↦ rw a refl
     ])
 

@@ -88,7 +88,7 @@ impl Memory for RegionMemory {
         Ok(self.statics[field as usize])
     }
 
-    #[tactic(auto, using(vm_mem::proofs::Entries::put_at_set))]
+    #[tactic(auto, using(jvm_model::proofs::Ranges::put_at_is_set))]
     fn put_static(&mut self, field: u32, v: Value) -> Result<(), NoMemory> {
         self.statics[field as usize] = v;
         Ok(())
@@ -98,7 +98,7 @@ impl Memory for RegionMemory {
         Ok(self.states[class as usize])
     }
 
-    #[tactic(auto, using(vm_mem::proofs::Entries::put_at_set))]
+    #[tactic(auto, using(jvm_model::proofs::Ranges::put_at_is_set))]
     fn put_init(&mut self, class: u32, s: InitState) -> Result<(), NoMemory> {
         self.states[class as usize] = s;
         Ok(())

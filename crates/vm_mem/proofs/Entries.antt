@@ -1,17 +1,11 @@
--- Entries by number, and a place that is set.
-use Rattle.std.proofs.Common.{◌≡◌, ℕ, zero, suc, ◌<◌, List, [], ◌∷◌, ◌++◌, length, get_or, set, take, drop, nat_eq, true, refl, sym, ap, ◌∙◌, arith, drop-cons}
+-- Entries by number.
+use Rattle.std.proofs.Common.{◌≡◌, ℕ, suc, ◌<◌, List, [], ◌∷◌, ◌++◌, length, get_or, set, take, drop, nat_eq, true, refl, sym, ap, ◌∙◌, drop-cons}
 use Rattle.std.proofs.lemmas.Bool.{eq-eqb}
 use Rattle.std.proofs.lemmas.List.{set_split}
 use Rattle.jvm_model.specs.declared.values.Value.{Value}
 use Rattle.jvm_model.specs.Classes.{member}
 use Rattle.jvm_model.specs.View.{keys}
-use Rattle.jvm_model.specs.World.{keep, put_at}
-
--- a place within a list is set
-pub put_at_set : {A : Type 0} (d : A) (xs : List A) (i : ℕ) (v : A) → i < length xs → put_at d xs i v ≡ set xs i v
-put_at_set d [] i v h = absurd (omega arith)
-put_at_set d (x ∷ xs) zero v h = refl
-put_at_set d (x ∷ xs) (suc i) v h = ap (λ t. x ∷ t) (put_at_set d xs i v (omega arith))
+use Rattle.jvm_model.specs.World.{keep}
 
 -- what is kept where the first i entries haven't the number
 pub record Passed (xs : List (ℕ × Value)) (i f : ℕ) (v : Value) : Type 0 where

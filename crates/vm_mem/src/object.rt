@@ -90,7 +90,7 @@ impl Object {
     }
 
     /// Gives an element another value.
-    #[tactic(auto, using(crate::proofs::Entries::put_at_set))]
+    #[tactic(auto, using(jvm_model::proofs::Ranges::put_at_is_set))]
     pub fn set_elem(&mut self, index: u32, v: Value)
         requires { index < length self.old.elems }
         ensures { self.new ≡ record self.old { elems = put_at Null self.old.elems index v } }

@@ -109,7 +109,7 @@ impl Memory for PlainMemory {
         Ok(self.statics[field as usize])
     }
 
-    #[tactic(auto, using(crate::proofs::Entries::put_at_set))]
+    #[tactic(auto, using(jvm_model::proofs::Ranges::put_at_is_set))]
     fn put_static(&mut self, field: u32, v: Value) -> Result<(), NoMemory> {
         self.statics[field as usize] = v;
         Ok(())
@@ -119,7 +119,7 @@ impl Memory for PlainMemory {
         Ok(self.states[class as usize])
     }
 
-    #[tactic(auto, using(crate::proofs::Entries::put_at_set))]
+    #[tactic(auto, using(jvm_model::proofs::Ranges::put_at_is_set))]
     fn put_init(&mut self, class: u32, s: InitState) -> Result<(), NoMemory> {
         self.states[class as usize] = s;
         Ok(())
