@@ -12,18 +12,14 @@ use Rattle.jvm_model.specs.declared.program.TestEntry.{TestEntry}
 use Rattle.jvm_model.specs.declared.program.FieldRec.{FieldRec}
 use Rattle.jvm_model.specs.declared.program.MethodRec.{MethodRec}
 use Rattle.jvm_model.specs.Builtin.{builtin_count}
-use Rattle.jvm_model.specs.Library.{builtin_defs, builtin_classes, builtin_fields, builtin_methods}
+use Rattle.jvm_model.specs.Library.{builtin_classes, builtin_fields, builtin_methods}
 use Rattle.jvm_model.specs.Classes.{no_class, no_field, no_method, class_at, field_at, method_at}
 use Rattle.jvm_model.specs.Linked.{IsClass, IsField, IsMethod, HoldsBuiltins}
+use Rattle.jvm_model.proofs.BuiltinRules.{lengths}
 use Rattle.class_link.specs.ClassNames.{all_names}
 use Rattle.class_link.specs.Literals.{literals}
 use Rattle.class_link.specs.Assembly.{class_rec, class_recs, field_rec, field_recs, method_rec, method_recs, assembled}
 use Rattle.class_link.proofs.Blocks.{at_place, before, GivenMember, member_at, member_cases}
-
--- the numbers of the built-in classes, fields and methods
-pub counts : (length builtin_classes ≡ builtin_count) × (length builtin_fields ≡ 2) × (length builtin_methods ≡ 102)
-unfolding builtin_classes builtin_fields builtin_methods builtin_defs
-counts = (refl, refl, refl)
 
 abbrev pub own_fields : ClassParts → List MemberPart
 own_fields c = c.fields
@@ -74,14 +70,14 @@ module _ (body : ClassParts → CodePart → Body) (cs : List ClassParts) (tests
   pub holds_builtins : HoldsBuiltins p
   unfolding assembled
   holds_builtins = record {
-    classes = take_at builtin_classes (class_recs (all_names cs) (length builtin_fields) (length builtin_methods) cs) builtin_count counts.0;
+    classes = take_at builtin_classes (class_recs (all_names cs) (length builtin_fields) (length builtin_methods) cs) builtin_count lengths.0;
     fields = take_at builtin_fields (field_recs (literals cs) builtin_count cs) (length builtin_fields) refl;
     methods = take_at builtin_methods (method_recs body builtin_count cs) (length builtin_methods) refl;
   }
 
   pub class_count : length p.classes ≡ builtin_count + length cs
   unfolding assembled
-  class_count = let a = length-append builtin_classes (class_recs (all_names cs) (length builtin_fields) (length builtin_methods) cs) in let b = length_recs (all_names cs) (length builtin_fields) (length builtin_methods) cs in let c = counts.0 in omega arith
+  class_count = let a = length-append builtin_classes (class_recs (all_names cs) (length builtin_fields) (length builtin_methods) cs) in let b = length_recs (all_names cs) (length builtin_fields) (length builtin_methods) cs in let c = lengths.0 in omega arith
 
   -- the classes of the class files, behind the built-in ones
   pub class_given : (i : ℕ) (c : ClassParts) → slice_get cs i ≡ Some c →
@@ -89,7 +85,7 @@ module _ (body : ClassParts → CodePart → Body) (cs : List ClassParts) (tests
   unfolding assembled
   class_given i c h =
       let recs = class_recs (all_names cs) (length builtin_fields) (length builtin_methods) cs in
-      ap (λ (n : ℕ). get_or (builtin_classes ++ recs) (n + i) no_class) (sym counts.0) ∙ get_or-append-add builtin_classes recs i no_class
+      ap (λ (n : ℕ). get_or (builtin_classes ++ recs) (n + i) no_class) (sym lengths.0) ∙ get_or-append-add builtin_classes recs i no_class
       ∙ get_or_from_slice_get recs i _ no_class (rec_at (all_names cs) (length builtin_fields) (length builtin_methods) cs i c h)
 
   pub class_cases : (c : ℕ) → IsClass p c → (c < builtin_count) ⊎ Given cs c
@@ -110,11 +106,11 @@ module _ (body : ClassParts → CodePart → Body) (cs : List ClassParts) (tests
 
   pub field_cases : (f : ℕ) → IsField p f → (f < 2) ⊎ GivenField f
   unfolding assembled
-  field_cases f h = elim (member_cases (make_field (literals cs)) own_fields builtin_fields no_field cs f h) [ inl g ↦ let n = counts.1 in inl (omega arith) | inr g ↦ inr g ]
+  field_cases f h = elim (member_cases (make_field (literals cs)) own_fields builtin_fields no_field cs f h) [ inl g ↦ let n = lengths.1 in inl (omega arith) | inr g ↦ inr g ]
 
   pub method_cases : (m : ℕ) → IsMethod p m → (m < 102) ⊎ GivenMethod m
   unfolding assembled
-  method_cases m h = elim (member_cases (make_method body) own_methods builtin_methods no_method cs m h) [ inl g ↦ let n = counts.2 in inl (omega arith) | inr g ↦ inr g ]
+  method_cases m h = elim (member_cases (make_method body) own_methods builtin_methods no_method cs m h) [ inl g ↦ let n = lengths.2 in inl (omega arith) | inr g ↦ inr g ]
 
   pub field_given : (i k : ℕ) (c : ClassParts) (x : MemberPart) → slice_get cs i ≡ Some c → slice_get c.fields k ≡ Some x → IsField p ((length builtin_fields + before own_fields cs i) + k)
   unfolding assembled

@@ -6,7 +6,7 @@ use Rattle.jvm_model.specs.declared.program.ClassRec.{ClassRec}
 use Rattle.jvm_model.specs.Library.{builtin_classes, builtin_fields, builtin_methods}
 use Rattle.class_link.specs.ClassNames.{all_names}
 use Rattle.class_link.specs.Literals.{literals}
-use Rattle.class_link.proofs.Assembled.{counts}
+use Rattle.jvm_model.proofs.BuiltinRules.{lengths}
 use Rattle.class_link.specs.Assembly.{assembled, skeleton, class_recs, field_recs, method_recs, bare_body, method_rec, bodies_of}
 use Rattle.std.proofs.lemmas.List.{length-map, append-nil}
 use Rattle.class_pool.specs.declared.pool.Entry.{Entry}
@@ -18,7 +18,7 @@ use Rattle.jvm_model.specs.declared.program.TestEntry.{TestEntry}
 use Rattle.class_link.specs.Filling.{filled, with_body}
 
 numbered : (names : List (List ℕ)) (cs : List ClassParts) → class_recs names 2 102 cs ≡ class_recs names (length builtin_fields) (length builtin_methods) cs
-numbered names cs = ap (λ (f : ℕ). class_recs names f 102 cs) (sym counts.1) ∙ ap (λ (m : ℕ). class_recs names (length builtin_fields) m cs) (sym counts.2)
+numbered names cs = ap (λ (f : ℕ). class_recs names f 102 cs) (sym lengths.1) ∙ ap (λ (m : ℕ). class_recs names (length builtin_fields) m cs) (sym lengths.2)
 
 abbrev pub put_together : List ClassParts → List ClassRec → Program
 put_together cs classes = record {
@@ -71,4 +71,4 @@ filled_classes bare whole c (x ∷ cs) front n e =
 pub filled_program : (p : Program) (body : ClassParts → CodePart → Body) (cs : List ClassParts) (tests : List TestEntry) (files : List (List ℕ × List ℕ)) → p ≡ skeleton cs
     → record p { methods = filled 102 (bodies_of body cs) p.methods; tests = tests; files = files } ≡ assembled body cs tests files
 unfolding assembled
-filled_program p body cs tests files is = rw is (ap (λ (ms : List MethodRec). record (skeleton cs) { methods = ms; tests = tests; files = files }) (filled_classes (λ c code. bare_body code) body 32 cs builtin_methods 102 (sym counts.2)))
+filled_program p body cs tests files is = rw is (ap (λ (ms : List MethodRec). record (skeleton cs) { methods = ms; tests = tests; files = files }) (filled_classes (λ c code. bare_body code) body 32 cs builtin_methods 102 (sym lengths.2)))

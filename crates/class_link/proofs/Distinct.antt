@@ -23,6 +23,7 @@ use Rattle.std.specs.Str.{bytes_eq}
 use Rattle.jvm_model.specs.Library.{builtin_classes, builtin_fields, builtin_methods}
 use Rattle.jvm_model.specs.Classes.{class_at, field_at, method_at, no_field, no_method}
 use Rattle.jvm_model.specs.Linked.{IsClass, IsField, IsMethod, IsDistinct}
+use Rattle.jvm_model.proofs.Ranges.{all_there}
 use Rattle.class_link.specs.ClassNames.{text_at, own_name, all_names}
 use Rattle.class_link.specs.Literals.{strings_of, noted, literals}
 use Rattle.class_link.specs.Assembly.{member_recs, assembled}
@@ -30,9 +31,10 @@ use Rattle.class_link.specs.Faults.{duplicate, duplicate_fault}
 use Rattle.class_link.specs.Link.{AreDifferent}
 use Rattle.class_link.proofs.Blocks.{before, GivenMember, all_members, member_cases}
 use Rattle.class_link.proofs.Assembled.{own_fields, own_methods, make_field, make_method}
-use Rattle.class_link.proofs.Numbered.{units_same, names_length, name_of_class}
+use Rattle.et_base.proofs.Texts.{units_same}
+use Rattle.class_link.proofs.Numbered.{names_length, name_of_class}
 use Rattle.class_link.proofs.Tables.{all_from_at, none_at, all_differ, all_differ_at, is_once, fields_once, methods_once, Tag, same_tag, field_tag, method_tag, fields_differ, methods_differ, builtins_differ}
-use Rattle.class_link.proofs.Listed.{AllKnown, all_there, text_is}
+use Rattle.class_link.proofs.Listed.{AllKnown, text_is}
 
 -- ---- entries that differ
 

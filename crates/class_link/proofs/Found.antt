@@ -1,6 +1,6 @@
 -- A member that a look-up finds is one of the program, and has the name and descriptor that were asked for; a static method of
 -- an interface is found from an interface alone.
-use Rattle.std.proofs.Common.{◌≡◌, ◌⊎◌, ℕ, ◌≤◌, List, [], ◌∷◌, length, filter, Bool, true, not, ◌&&◌, sym, ◌∙◌, subst, inl, inr, Option, Some, None, All, zero, suc, ◌<◌, false, nat_lt, refl, ap, IfSome}
+use Rattle.std.proofs.Common.{◌≡◌, ℕ, ◌≤◌, List, [], ◌∷◌, length, filter, Bool, true, not, ◌&&◌, sym, ◌∙◌, subst, inl, inr, Option, Some, None, All, zero, suc, ◌<◌, false, nat_lt, refl, ap, IfSome}
 use Rattle.std.specs.Prelude.{find, flat_map}
 use Rattle.std.proofs.lemmas.Bool.{cases_Bool, cases_lt, and_parts, cond-true, cond-false, not-true, ltb-true}
 use Rattle.std.proofs.lemmas.List.{get_or_past}
@@ -13,7 +13,9 @@ use Rattle.jvm_model.specs.Classes.{class_at, field_at, method_at, no_class, is_
 use Rattle.jvm_model.specs.Selection.{kept_of, has_code}
 use Rattle.jvm_model.specs.Lookup.{is_field, is_method, field_path, find_field, superinterfaces, interface_methods, one_or_first, find_in_interfaces, or_else, find_declared, find_in_object, find_method}
 use Rattle.jvm_model.specs.Linked.{IsClass, IsField, IsMethod, NamesClass, IsFound, IsFoundField, IsGiven, HoldsBuiltins, is_interface_at, IsClassKind}
-use Rattle.class_link.proofs.Numbered.{units_true, all_flat, all_mentions}
+use Rattle.jvm_model.proofs.Options.{or_else_cases}
+use Rattle.et_base.proofs.Texts.{units_true}
+use Rattle.class_link.proofs.Numbered.{all_flat, all_mentions}
 use Rattle.std.specs.List.{list_all}
 use Rattle.jvm_model.specs.Library.{builtin_defs, builtin_classes}
 use Rattle.jvm_model.proofs.BuiltinRules.{class_keeps}
@@ -32,10 +34,6 @@ one_of Q [] (y ∷ ys) n h g e = let k : y ≡ n = cc in subst Q k (All-head Q y
 one_of Q (x ∷ []) ys n h g e = let k : x ≡ n = cc in subst Q k (All-head Q x [] h)
 one_of Q (x ∷ z ∷ xs) [] n h g e = absurd (cc)
 one_of Q (x ∷ z ∷ xs) (y ∷ ys) n h g e = let k : y ≡ n = cc in subst Q k (All-head Q y ys g)
-
-pub or_else_cases : (a b : Option ℕ) (n : ℕ) → or_else a b ≡ Some n → (a ≡ Some n) ⊎ (b ≡ Some n)
-or_else_cases None b n e = inr e
-or_else_cases (Some x) b n e = inl e
 
 module _ (p : Program) (numbered : (c : ℕ) → IsClass p c → NamesClass p (class_at p c)) where
   pub nothing_past : (c : ℕ) → length p.classes ≤ c → class_at p c ≡ no_class

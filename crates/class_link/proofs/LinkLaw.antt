@@ -20,6 +20,7 @@ use Rattle.jvm_model.specs.Classes.{method_at, is_static}
 use Rattle.jvm_model.specs.Lookup.{find_method}
 use Rattle.jvm_model.specs.Linked.{IsMethod, NamesBody, IsBodyKind, IsBody, IsFormFound, is_interface_at, Linked}
 use Rattle.jvm_model.proofs.BuiltinRules.{method_keeps}
+use Rattle.jvm_model.proofs.Ranges.{all_there}
 use Rattle.class_link.specs.declared.fault.LinkFault.{LinkFault}
 use Rattle.class_link.specs.declared.lines.TestLines.{TestLines}
 use Rattle.class_link.specs.Assembly.{assembled, skeleton}
@@ -30,7 +31,7 @@ use Rattle.et_base.specs.Answers.{◌>>=◌}
 use Rattle.class_link.specs.Link.{setting, unless, cycle_fault, tests_of, program_of, link_by, Links, AreLines, AreDifferent}
 use Rattle.class_link.proofs.Assembled.{holds_builtins, class_count, method_cases}
 use Rattle.class_link.proofs.Records.{class_numbers, field_class, method_class}
-use Rattle.class_link.proofs.Listed.{AllKnown, all_there, is_listed}
+use Rattle.class_link.proofs.Listed.{AllKnown, is_listed}
 use Rattle.class_link.proofs.Distinct.{is_distinct}
 use Rattle.class_link.proofs.Openings.{has_openings}
 use Rattle.class_link.proofs.SkeletonFacts.{ancestor_same}

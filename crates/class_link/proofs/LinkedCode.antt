@@ -33,6 +33,7 @@ use Rattle.jvm_model.specs.Linked.{IsClass, NamesForm, NamesBody, IsFormKind, Is
 use Rattle.code_forms.specs.declared.references.Use.TheVariants as used
 use Rattle.code_forms.specs.declared.references.Target.{Target}
 use Rattle.code_forms.specs.declared.references.Target.TheVariants as target
+use Rattle.jvm_model.proofs.Ranges.{all_there}
 use Rattle.class_link.specs.ClassNames.{text_at, name_at, all_names, class_number, number_or_first, base_of, kind_of}
 use Rattle.class_link.specs.Assembly.{skeleton}
 use Rattle.class_link.specs.References.{Setting, target_of}
@@ -45,7 +46,6 @@ use Rattle.class_link.specs.Link.{setting, program_of}
 use Rattle.class_link.proofs.Assembled.{class_count}
 use Rattle.class_link.proofs.Numbered.{if_some, number_class}
 use Rattle.class_link.proofs.SkeletonFacts.{below_same, fits_same}
-use Rattle.class_link.proofs.Listed.{all_there}
 use Rattle.class_link.proofs.TargetFacts.{target_is}
 use Rattle.class_link.proofs.BodyFacts.{makes_nested, is_body}
 use Rattle.class_link.proofs.Referenced.{use_fits, op_used, handler_used, no_fault}

@@ -5,7 +5,7 @@ use Rattle.std.specs.List.{range_with_len}
 use Rattle.std.proofs.lemmas.Bool.{and_parts, cases_order, or_cases, ltb-true, le-leb, eqb-true, eqb-false, ne_eqb, eq-eqb}
 use Rattle.std.proofs.lemmas.List.{get_or_append_left}
 use Rattle.std.proofs.lemmas.Nat.Bits.{and_pow}
-use Rattle.std.proofs.lemmas.Option.{slice_get_within, get_or_from_slice_get}
+use Rattle.std.proofs.lemmas.Option.{slice_get_within}
 use Rattle.class_pool.specs.declared.pool.Entry.{Entry}
 use Rattle.class_pool.proofs.EntryFacts.{NamesText, units_are}
 use Rattle.class_reader.specs.declared.parts.ClassParts.{ClassParts}
@@ -27,13 +27,15 @@ use Rattle.jvm_model.specs.Library.{builtin_classes, builtin_fields, builtin_met
 use Rattle.jvm_model.specs.Classes.{class_at, field_at, method_at, no_class, no_field, no_method, is_static, clinit_name}
 use Rattle.jvm_model.specs.Driver.{no_arguments}
 use Rattle.jvm_model.specs.Linked.{IsClass, IsField, IsMethod, count, has_room, IsInitialiser, IsListed}
-use Rattle.jvm_model.proofs.BuiltinRules.{all_at, builtin_class, builtin_method, builtin_class_name, builtin_field_forms, builtin_method_forms, builtin_method_room}
+use Rattle.jvm_model.proofs.BuiltinRules.{all_at, lengths, builtin_class, builtin_method, builtin_class_name, builtin_field_forms, builtin_method_forms, builtin_method_room}
+use Rattle.jvm_model.proofs.Ranges.{all_there}
 use Rattle.class_link.specs.ClassNames.{text_at, own_name}
 use Rattle.class_link.specs.Literals.{literals}
 use Rattle.class_link.specs.Assembly.{initialiser_from, member_recs, method_rec, assembled}
 use Rattle.class_link.proofs.Blocks.{before, all_members, member_at, member_cases, all_numbers}
-use Rattle.class_link.proofs.Assembled.{counts, own_fields, own_methods, make_field, make_method, holds_builtins, class_given, method_given, class_cases, field_cases, method_cases}
-use Rattle.class_link.proofs.Numbered.{units_true, if_some}
+use Rattle.class_link.proofs.Assembled.{own_fields, own_methods, make_field, make_method, holds_builtins, class_given, method_given, class_cases, field_cases, method_cases}
+use Rattle.et_base.proofs.Texts.{units_true}
+use Rattle.class_link.proofs.Numbered.{if_some}
 use Rattle.class_link.proofs.Records.{initialiser_is}
 use Rattle.class_link.proofs.Tables.{all_from, all_from_at, owns_members, fields_owned, methods_owned, is_once, fields_once, methods_once, is_under, classes_under, top}
 
@@ -54,10 +56,6 @@ count_range n a (suc k) h g = elim (cases_order n a) [
 ]
 
 -- ---- facts of class files
-
--- what holds of each item holds at a place
-pub all_there : {X : Type 0} (P : X → Type 0) (xs : List X) (k : ℕ) (x : X) → All P xs → slice_get xs k ≡ Some x → P x
-all_there P xs k x h e = subst P (get_or_from_slice_get xs k x x e) (h k x (slice_get_within xs k x e))
 
 pub text_is : (test : List ℕ → Bool) (slots : List (Option Entry)) (i : ℕ) (t : NamesText test slots i) → text_at slots i ≡ t.units
 text_is test slots i t = ap (λ (o : Option (List ℕ)). unwrap_or o []) (units_are test slots i t)
@@ -120,7 +118,7 @@ module _ (body : ClassParts → CodePart → Body) (cs : List ClassParts) (tests
     own : all_from (owns_members class list built_in none) 0 builtin_classes ≡ true → (c : ℕ) → IsClass p c → All (λ j. class (at j) ≡ c) (list (class_at p c))
     own table c h = elim (class_cases body cs tests files c h) [
       | inl g ↦
-          let n = counts.0 in
+          let n = lengths.0 in
           let t : owns_members class list built_in none c (class_at p c) ≡ true =
           ap (owns_members class list built_in none c) (builtin_class p (holds_builtins body cs tests files) c g) ∙ all_from_at (owns_members class list built_in none) builtin_classes c no_class table (omega arith) in
           λ k d l.
@@ -178,7 +176,7 @@ module _ (body : ClassParts → CodePart → Body) (cs : List ClassParts) (tests
     -- ---- superclasses, initialisers and built-in methods
 
     under : (c : ℕ) → c < builtin_count → is_under c (class_at p c) ≡ true
-    under c h = let n = counts.0 in ap (is_under c) (builtin_class p (holds_builtins body cs tests files) c h) ∙ all_from_at is_under builtin_classes c no_class classes_under (omega arith)
+    under c h = let n = lengths.0 in ap (is_under c) (builtin_class p (holds_builtins body cs tests files) c h) ∙ all_from_at is_under builtin_classes c no_class classes_under (omega arith)
 
     root_is : (c : ℕ) → IsClass p c → (class_at p c).superclass ≡ None → c ≡ object_class
     root_is c h e = elim (class_cases body cs tests files c h) [
@@ -230,7 +228,7 @@ module _ (body : ClassParts → CodePart → Body) (cs : List ClassParts) (tests
     no_natives : (m : ℕ) → IsMethod p m → builtin_count ≤ (method_at p m).class → (method_at p m).native ≡ None
     no_natives m h l = elim (method_cases body cs tests files m h) [
       | inl g ↦
-          let n = counts.2 in
+          let n = lengths.2 in
           let x = get_or builtin_methods m no_method in
           let w : x.class < builtin_count = ltb-true x.class builtin_count (and_parts (nat_lt x.class builtin_count) _ (all_from_at (is_once (λ (y : MethodRec). y.class) (λ r. r.methods)) builtin_methods m no_method methods_once (omega arith))).0 in
           let e : (method_at p m).class ≡ x.class = ap (λ (y : MethodRec). y.class) (builtin_method p (holds_builtins body cs tests files) m g) in

@@ -1,9 +1,9 @@
 -- Names to numbers: a class's number names an entry of the program, and that entry has the name.
-use Rattle.std.proofs.Common.{◌≡◌, ℕ, ◌+◌, ◌-◌, ◌<◌, List, [], ◌∷◌, ◌++◌, length, map, get_or, true, refl, sym, ◌∙◌, ap, subst, arith, Option, Some, None, IfSome, All}
+use Rattle.std.proofs.Common.{◌≡◌, ℕ, ◌+◌, ◌-◌, ◌<◌, List, [], ◌∷◌, ◌++◌, length, map, get_or, refl, sym, ◌∙◌, ap, subst, arith, Option, Some, None, IfSome, All}
 use Rattle.std.specs.Prelude.{flat_map, unwrap_or}
 use Rattle.std.proofs.lemmas.List.{length-map, map-append, get_or-map}
 use Rattle.std.proofs.lemmas.List.Elements.{All-nil, All-cons, All-head, All-tail, All-append, All-filter}
-use Rattle.std.proofs.lemmas.Slice.Eq.{bytes_eq-Decides}
+use Rattle.et_base.proofs.Texts.{units_true}
 use Rattle.std.proofs.lemmas.List.Quantifiers.{position-Some}
 use Rattle.class_reader.specs.declared.parts.ClassParts.{ClassParts}
 use Rattle.class_reader.specs.declared.parts.CodePart.{CodePart}
@@ -19,14 +19,6 @@ use Rattle.jvm_model.specs.Linked.{IsClass}
 use Rattle.class_link.specs.ClassNames.{own_name, all_names, class_number, number_or_first}
 use Rattle.class_link.specs.Assembly.{class_recs, assembled}
 use Rattle.class_link.proofs.Assembled.{class_count}
-
--- ---- units
-
-pub units_true : (x y : List ℕ) → bytes_eq x y ≡ true → x ≡ y
-units_true x y e = (bytes_eq-Decides x y).0 e
-
-pub units_same : (x y : List ℕ) → x ≡ y → bytes_eq x y ≡ true
-units_same x y e = (bytes_eq-Decides x y).1 e
 
 -- ---- lists
 

@@ -22,12 +22,13 @@ use Rattle.jvm_model.specs.Classes.{member, is_static, default_of}
 use Rattle.jvm_model.specs.Linked.{opens, HasOpenings}
 use Rattle.jvm_model.proofs.BuiltinRules.{builtin_field, builtin_opens}
 use Rattle.jvm_model.proofs.NarrowedFits.{member_holds, narrowed_fits, smalls}
+use Rattle.jvm_model.proofs.Ranges.{all_there}
 use Rattle.class_link.specs.ClassNames.{text_at}
 use Rattle.class_link.specs.Literals.{literals, literal_number}
 use Rattle.class_link.specs.Assembly.{constant_opening, static_opening, opening, assembled}
 use Rattle.class_link.proofs.Assembled.{holds_builtins, field_cases}
 use Rattle.class_link.proofs.Tables.{instance_opening}
-use Rattle.class_link.proofs.Listed.{AllKnown, all_there, text_is, text_fits}
+use Rattle.class_link.proofs.Listed.{AllKnown, text_is, text_fits}
 use Rattle.class_link.proofs.Pools.{literal_within}
 
 -- ---- defaults
