@@ -6,6 +6,7 @@ use Rattle.jvm_model.specs.World.{World}
 use Rattle.jvm_model.specs.State.{test_at}
 use Rattle.jvm_model.specs.Suite.{opening, Given, one_test, with_first, runs_on, runs, all_tests, units_of, suite_limit, within_limit, is_detected, SuiteFault, fault_of, fault_on, suite_fault}
 use Rattle.jvm_model.proofs.Budgets.{one_test_within, one_test_units}
+use Rattle.jvm_model.proofs.Runs.{runs_after}
 
 -- the tests give something, and their units keep to the rest
 record RunsWithin (p : Program) (w : World) (r : ℕ) (l : List ℕ) : Type 0 where
@@ -16,9 +17,6 @@ record RunsWithin (p : Program) (w : World) (r : ℕ) (l : List ℕ) : Type 0 wh
 -- a test that gives x, and the rest of the list after it
 abbrev fault_after : Program → ℕ → ℕ → List ℕ → Option Given → Option SuiteFault
 fault_after p t r l o = elim o [ None ↦ Some (fault_of p t r) | Some x ↦ fault_on p x.world (r - x.outcome.units) l ]
-
-abbrev runs_after : Program → List ℕ → Option Given → Option (List Given)
-runs_after p l o = elim o [ None ↦ None | Some x ↦ with_first x (runs_on p x.world l) ]
 
 by_first : (p : Program) (w : World) (r t : ℕ) (l : List ℕ) (o : Option Given) →
     ((v : World) (q : ℕ) → fault_on p v q l ≡ None → RunsWithin p v q l) →

@@ -26,7 +26,8 @@ pub split_rest : (p : Program) (w : World) (t : ℕ) (l : List ℕ) (xs : List G
 split_rest p w t l xs x None e f g = absurd (cc)
 split_rest p w t l xs x (Some ys) e f g = record { first = x; others = ys; first_is = e; others_are = f; whole = (cc) }
 
-abbrev runs_after : Program → List ℕ → Option Given → Option (List Given)
+-- a test that gives x, and the rest of the list after it
+abbrev pub runs_after : Program → List ℕ → Option Given → Option (List Given)
 runs_after p l o = elim o [ None ↦ None | Some x ↦ with_first x (runs_on p x.world l) ]
 
 split_by : (p : Program) (w : World) (t : ℕ) (l : List ℕ) (xs : List Given) (o : Option Given) → one_test p w t (test_at p t).budget ≡ o → runs_after p l o ≡ Some xs → Split p w t l xs
