@@ -11,7 +11,7 @@ mod tables;
 
 use et_base::{Items, NoMemory, Units};
 use jvm_model::{ClassDef, Native};
-pub use records::{BuiltinRecords, builtin_records};
+pub use records::{BuiltinRecords, builtin_records, numbers};
 use std::alloc::Global;
 use tables::class_rows;
 

@@ -30,8 +30,8 @@ pub struct BuiltinRecords {
     pub methods: Items<MethodRec>,
 }
 
-// So many numbers, from the given one on.
-fn numbers(alloc: Global, from: u32, count: u32) -> Result<Items<u32>, NoMemory>
+/// So many numbers, from the given one on.
+pub fn numbers(alloc: Global, from: u32, count: u32) -> Result<Items<u32>, NoMemory>
     requires in_range { from + count < 4294967296 }
     ensures { IfOk result (λ made. made ≡ range_with_len from count) }
 {

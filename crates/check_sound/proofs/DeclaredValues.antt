@@ -1,7 +1,8 @@
 -- Values of a declared type: as operands, and as what is stored of an operand.
-use Rattle.std.proofs.Common.{◌≡◌, ℕ, ℤ, List, [], ◌∷◌, ◌++◌, Bool, true, false, nat_eq, Option, Some, None, refl, sym, subst, arith, inl, inr, append-nil}
+use Rattle.std.proofs.Common.{◌≡◌, ℕ, ℤ, List, [], ◌∷◌, ◌++◌, Bool, true, false, nat_eq, refl, sym, subst, arith, inl, inr, append-nil}
 use Rattle.std.proofs.lemmas.Bool.{cases_Bool, or_cases, eqb-true}
-use Rattle.et_base.specs.Names.{after_type, ends, is_field_descriptor}
+use Rattle.et_base.specs.Names.{after_type, is_field_descriptor}
+use Rattle.et_base.proofs.Cases.{ends_some}
 use Rattle.jvm_model.specs.declared.values.Value.{Value}
 use Rattle.jvm_model.specs.declared.values.Value.TheVariants as value
 use Rattle.jvm_model.specs.declared.program.Program.{Program}
@@ -29,11 +30,6 @@ use Rattle.check_sound.proofs.ParameterTexts.{IsText}
 use Rattle.check_sound.proofs.Arguments.{Argument, Arguments, take_args}
 
 -- ---- texts of fields
-
-ends_some : (o : Option (List ℕ)) → ends o ≡ true → o ≡ Some []
-ends_some None h = absurd cc
-ends_some (Some []) h = refl
-ends_some (Some (u ∷ us)) h = absurd cc
 
 pub text_of_field : (d : List ℕ) → is_field_descriptor d ≡ true → IsText d
 unfolding is_field_descriptor

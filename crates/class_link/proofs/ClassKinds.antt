@@ -5,6 +5,7 @@ use Rattle.std.proofs.lemmas.List.Elements.{All-map}
 use Rattle.std.proofs.lemmas.List.Folds.{list_any_at}
 use Rattle.std.proofs.lemmas.List.FromFn.{length-range_with_len, get_or-range_with_len}
 use Rattle.std.proofs.lemmas.Option.{slice_get_within, slice_get-get_or}
+use Rattle.et_base.proofs.Cases.{implied}
 use Rattle.class_pool.specs.declared.pool.Entry.{Entry}
 use Rattle.class_pool.specs.declared.pool.Entry.TheVariants.{Class}
 use Rattle.class_pool.specs.Pool.{entry_of}
@@ -61,15 +62,11 @@ supertype_right s c i e h g t =
 abbrev number : Setting → ClassParts → ℕ → ℕ
 number s c i = number_or_first s.names (name_at c.pool i)
 
-either : (a b : Bool) → (not a || b) ≡ true → a ≡ true → b ≡ true
-either true b h e = h
-either false b h e = absurd (cc)
-
 super_fits : (s : Setting) (c : ClassParts) → ClassFacts c → supertypes_fault s c ≡ None → superclass_fits s.program c (number s c c.super_class) ≡ true
 super_fits s c f h =
     let k = f.super_class.class in
     let t = supertype_right s c c.super_class (Class k.name) h k.entry (or_left (nat_eq c.super_class c.super_class) (member c.super_class c.interfaces) (eq-eqb c.super_class c.super_class refl)) in
-    either (nat_eq c.super_class c.super_class) (superclass_fits s.program c (number s c c.super_class)) (and_parts _ _ (and_parts _ _ t).1).0 (eq-eqb c.super_class c.super_class refl)
+    implied (nat_eq c.super_class c.super_class) (superclass_fits s.program c (number s c c.super_class)) (and_parts _ _ (and_parts _ _ t).1).0 (eq-eqb c.super_class c.super_class refl)
 
 interface_fits : (s : Setting) (c : ClassParts) → ClassFacts c → supertypes_fault s c ≡ None → (k d : ℕ) → k < length c.interfaces → is_interface_at s.program (number s c (get_or c.interfaces k d)) ≡ true
 interface_fits s c f h k d w =
@@ -77,7 +74,7 @@ interface_fits s c f h k d w =
     let n = (f.interfaces k d w).class in
     let m : member i c.interfaces ≡ true = list_any_at (nat_eq i) c.interfaces k d w (eq-eqb i i refl) in
     let t = supertype_right s c i (Class n.name) h n.entry (or_right (nat_eq i c.super_class) (member i c.interfaces) m) in
-    either (member i c.interfaces) (is_interface_at s.program (number s c i)) (and_parts _ _ (and_parts _ _ t).1).1 m
+    implied (member i c.interfaces) (is_interface_at s.program (number s c i)) (and_parts _ _ (and_parts _ _ t).1).1 m
 
 module _ (body : ClassParts → CodePart → Body) (cs : List ClassParts) (tests : List TestEntry) (files : List (List ℕ × List ℕ)) (known : AllKnown cs)
     (headed : first_some (supertypes_fault (setting cs)) cs ≡ None) where
@@ -115,7 +112,7 @@ module _ (body : ClassParts → CodePart → Body) (cs : List ClassParts) (tests
         opened = subst (λ o. IfSome o (λ n. (builtin_count ≤ n) ⊎ ((n ≡ object_class) ⊎ (is_below p n throwable_class ≡ true)))) (sym super) (opened_by d b.0);
         interface = λ e. (
             let z : is_interface c.flags ≡ true = ap (λ (y : ClassRec). is_interface y.flags) (sym r) ∙ e in
-            let o : d ≡ object_class = eqb-true d object_class (either (is_interface c.flags) (nat_eq d object_class) b.1 z) in
+            let o : d ≡ object_class = eqb-true d object_class (implied (is_interface c.flags) (nat_eq d object_class) b.1 z) in
             super ∙ ap (λ (n : ℕ). Some n) o);
         interfaces = subst (λ (y : ClassRec). All (λ n. is_interface_at p n ≡ true) y.interfaces) (sym r) above;
       }

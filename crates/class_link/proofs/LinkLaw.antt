@@ -117,7 +117,7 @@ module _ (cs : List ClassParts) (ts : List TestEntry) (files : List (List ℕ ×
 
 -- ---- from the answer
 
-bound : {A B : Type 0} (r : Result A LinkFault) (f : A → Result B LinkFault) (y : B) → (r >>= f) ≡ Ok y → (x : A) × (r ≡ Ok x) × (f x ≡ Ok y)
+pub bound : {A B : Type 0} (r : Result A LinkFault) (f : A → Result B LinkFault) (y : B) → (r >>= f) ≡ Ok y → (x : A) × (r ≡ Ok x) × (f x ≡ Ok y)
 bound (Ok x) f y e = (x, refl, e)
 bound (Err z) f y e = absurd (cc)
 

@@ -10,7 +10,7 @@ use Rattle.std.proofs.lemmas.List.Elements.{filter-append}
 use Rattle.std.proofs.lemmas.List.Folds.{list_any-append}
 use Rattle.jvm_model.specs.Builtin.{builtin_count}
 use Rattle.jvm_model.specs.Classes.{member}
-use Rattle.builtin_lib.proofs.Counts.{range_more}
+use Rattle.et_base.proofs.Ranges.{range_more}
 use Rattle.class_link.specs.Marks.{Lists}
 
 -- ---- a number more is listed

@@ -1,7 +1,6 @@
 //! The records of classes.
 
 ghost use Rattle.std.specs.Prelude.{◌≡◌, ◌<◌, ◌+◌, ◌*◌, ◌≤◌, ◌++◌, length, map, IfOk, OnOk};
-ghost use Rattle.std.specs.List.{range_with_len};
 ghost use Rattle.class_link.specs.ClassNames.{name_at, number_or_first};
 ghost use Rattle.class_link.specs.Assembly.{is_initialiser, initialiser_from, class_rec, class_recs};
 
@@ -9,23 +8,12 @@ use crate::entries::{name_at, text_at};
 use crate::members::is_static;
 use crate::mentions::mentions;
 use crate::names::ClassNames;
+use builtin_lib::numbers;
 use class_pool::Entry;
 use class_reader::{ClassFile, ClassParts, MemberPart};
 use et_base::{Items, NoMemory, is_ascii_text};
 use jvm_model::ClassRec;
 use std::alloc::Global;
-
-// So many numbers from the first on.
-fn numbers(alloc: Global, from: u32, count: u32) -> Result<Items<u32>, NoMemory>
-    requires { from + count < 4294967296 }
-    ensures { IfOk result (λ made. made ≡ range_with_len from count) }
-{
-    let mut made = Items::new(alloc);
-    for i in 0..count {
-        made.push(from + i)?;
-    }
-    Ok(made)
-}
 
 // The numbers of the classes that these indices name.
 fn numbers_at(

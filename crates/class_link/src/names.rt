@@ -2,7 +2,6 @@
 
 ghost use Rattle.std.specs.Prelude.{◌≡◌, ◌≤◌, ◌<◌, ◌+◌, [], ◌∷◌, ◌++◌, length, map, Some, None, cond, IfOk, OnOk, option_copied};
 ghost use Rattle.std.specs.List.{list_any};
-ghost use Rattle.code_decode.specs.Judging.{dimensions};
 ghost use Rattle.et_base.specs.Names.{starts_array};
 ghost use Rattle.std.specs.Str.{bytes_eq};
 ghost use Rattle.jvm_model.specs.Library.{builtin_classes};
@@ -17,6 +16,7 @@ use crate::entries::name_at;
 use crate::fault::LinkFault;
 use crate::text_set::TextSet;
 use class_reader::ClassFile;
+use code_decode::dimensions;
 use et_base::letters::{ARRAY, BOOLEAN, BYTE, CHAR, CLASS, INT, LONG, SHORT};
 use et_base::{Items, NoMemory, Units};
 use jvm_model::{Base, ClassRec, Kind};
@@ -68,13 +68,6 @@ pub(crate) fn starts_array(name: &[u16]) -> bool
         [] => false,
         [unit, ..] => *unit == ARRAY,
     }
-}
-
-// How many brackets [ stand in front.
-fn dimensions(name: &[u16]) -> usize
-    ensures { result ≡ dimensions name.now }
-{
-    name.iter().take_while(|unit| **unit == ARRAY).count()
 }
 
 // A name without its last unit.

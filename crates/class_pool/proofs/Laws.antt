@@ -310,10 +310,6 @@ pub picked : {A : Type 0} {X : Type 0} (b : Bool) (r q y : Result A Fault) → c
 picked true r q y e first second = first refl e
 picked false r q y e first second = second refl e
 
-pub picked_bool : {X : Type 0} (b : Bool) → (b ≡ true → X) → (b ≡ false → X) → X
-picked_bool true first second = first refl
-picked_bool false first second = second refl
-
 pub chosen : {X : Type 0} (b : Bool) (S T : Type 0) → cond b S T → ((b ≡ true) → S → X) → ((b ≡ false) → T → X) → X
 chosen true S T h first second = first refl h
 chosen false S T h first second = second refl h

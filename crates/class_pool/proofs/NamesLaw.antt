@@ -1,7 +1,7 @@
 -- Argument types one after the other, as a loop takes them.
 use Rattle.std.proofs.lemmas.Bool.{lt-ltb}
 use Rattle.std.specs.List.{list_all}
-use Rattle.class_pool.proofs.Laws.{picked_bool}
+use Rattle.et_base.proofs.Cases.{by_test}
 use Rattle.std.proofs.Common.{Bool, true, false, cond, eqb, ltb, ◌&&◌, ◌||◌, [], ◌∷◌, ◌≡◌, ℕ, suc, ◌-◌, ◌+◌, ◌≤◌, ◌<◌, List, Option, Some, None, sym, ap, ◌∙◌, arith, length, refl}
 use Rattle.std.specs.Option.{option_and_then}
 use Rattle.et_base.specs.Names.{is_plain, is_unqualified, parts_of, is_class_name, argument, after_close, closed, arguments, grown}
@@ -45,7 +45,7 @@ on_parts begun (part ∷ parts) = ((begun || ltb 0 (length part)) && list_all is
 
 parts_some : (us : List ℕ) → (part : List ℕ) × (parts : List (List ℕ)) × (parts_of us ≡ part ∷ parts)
 parts_some [] = ([], [], refl)
-parts_some (u ∷ us) = let p = parts_some us in picked_bool (eqb u 47) (λ h. ([], parts_of us, rw h refl)) (λ h. (u ∷ p.0, p.1, rw (h, p.2) refl))
+parts_some (u ∷ us) = let p = parts_some us in by_test (eqb u 47) (λ h. ([], parts_of us, rw h refl)) (λ h. (u ∷ p.0, p.1, rw (h, p.2) refl))
 
 on_slash : (begun : Bool) (us : List ℕ) → on_parts false (parts_of us) ≡ list_all is_unqualified (parts_of us)
 on_slash begun us = let p = parts_some us in rw p.2 refl
@@ -65,7 +65,7 @@ named_parts [] true = refl
 named_parts [] false = refl
 named_parts (u ∷ us) begun =
     let p = parts_some us in
-    picked_bool (eqb u 47)
+    by_test (eqb u 47)
     (λ h. let e : is_named_on begun (u ∷ us) ≡ (begun && is_named_on false us) = rw h refl in
     let f : on_parts begun (parts_of (u ∷ us)) ≡ (((begun || false) && true) && list_all is_unqualified (parts_of us)) = rw h refl in
     e ∙ ap (λ b. begun && b) (named_parts us false ∙ on_slash false us) ∙ started begun _ ∙ sym f)

@@ -11,7 +11,7 @@ use Rattle.std.proofs.lemmas.Bool.{eqb-true, ltb-true, lt-ltb, leb-true, le-leb,
 use Rattle.std.proofs.lemmas.List.{take_at, drop_at, length-append, append-nil, length-replicate}
 use Rattle.et_base.specs.Names.{is_plain, is_class_name, is_base, after_class, after_element, after_type, ends, is_field_descriptor, after_close, closed, argument, arguments, argument_units, is_return, units_of_type}
 use Rattle.class_pool.specs.NamesGrammar.{IsElement, IsFieldType, IsMethodType}
-use Rattle.class_pool.proofs.Laws.{picked_bool}
+use Rattle.et_base.proofs.Cases.{by_test, ends_some}
 use Rattle.class_pool.proofs.NamesLaw.{is_named_on, named_from}
 
 -- ---- the first unit that passes a test
@@ -27,7 +27,7 @@ record Found (p : ℕ → Bool) (us : List ℕ) (n : ℕ) : Type 0 where
 
 found_within : (p : ℕ → Bool) (us : List ℕ) → position_or_len p us < length us → Found p us (position_or_len p us)
 found_within p [] lt = absurd (omega arith)
-found_within p (u ∷ us) lt = picked_bool (p u)
+found_within p (u ∷ us) lt = by_test (p u)
     (λ h. record { before = []; first = u; rest = us; parts = refl; passes = h; none = tt; place = ap (λ b. cond (not b) (1 + position_or_len p us) 0) h })
     (λ h. let e : position_or_len p (u ∷ us) ≡ 1 + position_or_len p us = ap (λ b. cond (not b) (1 + position_or_len p us) 0) h in
     let f = found_within p us (omega (arith, e)) in
@@ -58,11 +58,11 @@ position_at p before first rest none passes =
 
 units_no_semicolon : (begun : Bool) (us : List ℕ) → is_named_on begun us ≡ true → AllByRecursion (λ u. eqb u 59 ≡ false) us
 units_no_semicolon begun [] h = tt
-units_no_semicolon begun (u ∷ us) h = picked_bool (eqb u 47)
+units_no_semicolon begun (u ∷ us) h = by_test (eqb u 47)
     (λ slash. let r : (begun && is_named_on false us) ≡ true = sym (ap (λ b. cond b (begun && is_named_on false us) (is_plain u && is_named_on true us)) slash) ∙ h in
     (ap (λ k. eqb k 59) (eqb-true u 47 slash), units_no_semicolon false us (and_parts _ _ r).1))
     (λ slash. let r : (is_plain u && is_named_on true us) ≡ true = sym (ap (λ b. cond b (begun && is_named_on false us) (is_plain u && is_named_on true us)) slash) ∙ h in
-    (picked_bool (eqb u 59) (λ semicolon. absurd (let e : is_plain u ≡ false = ap is_plain (eqb-true u 59 semicolon) in let f : is_plain u ≡ true = (and_parts _ _ r).0 in cc)) (λ none. none), units_no_semicolon true us (and_parts _ _ r).1))
+    (by_test (eqb u 59) (λ semicolon. absurd (let e : is_plain u ≡ false = ap is_plain (eqb-true u 59 semicolon) in let f : is_plain u ≡ true = (and_parts _ _ r).0 in cc)) (λ none. none), units_no_semicolon true us (and_parts _ _ r).1))
 
 some_is : (x y : List ℕ) (o : Option (List ℕ)) → o ≡ Some x → o ≡ Some y → x ≡ y
 some_is x y o e f = cc
@@ -102,11 +102,11 @@ class_again name rest h =
 element_taken : (us rest : List ℕ) → after_element us ≡ Some rest → (type : List ℕ) × (us ≡ type ++ rest) × IsElement type
 unfolding after_element
 element_taken [] rest e = absurd cc
-element_taken (u ∷ us) rest e = picked_bool (is_base u)
+element_taken (u ∷ us) rest e = by_test (is_base u)
     (λ h. let r : Some us ≡ Some rest = sym (ap (λ b. cond b (Some us) (cond (eqb u 76) (after_class us) None)) h) ∙ e in
     (u ∷ [], ap (λ (x : List ℕ). u ∷ x) (some_is us rest (Some us) refl r), inl (u, refl, h)))
     (λ h. let r : cond (eqb u 76) (after_class us) None ≡ Some rest = sym (ap (λ b. cond b (Some us) (cond (eqb u 76) (after_class us) None)) h) ∙ e in
-    picked_bool (eqb u 76)
+    by_test (eqb u 76)
     (λ k. let s : after_class us ≡ Some rest = sym (ap (λ b. cond b (after_class us) None) k) ∙ r in
     let c = class_taken us rest s in
     (76 ∷ c.0 ++ 59 ∷ [], ap (λ n. n ∷ us) (eqb-true u 76 k) ∙ ap (λ (x : List ℕ). 76 ∷ x) (c.1 ∙ sym (append_assoc c.0 (59 ∷ []) rest)), inr (c.0, refl, c.2)))
@@ -155,7 +155,7 @@ record Starts (P : ℕ → Type 0) (us : List ℕ) : Type 0 where
   is : P first
 
 base_is_not : (c k : ℕ) → is_base c ≡ true → is_base k ≡ false → eqb c k ≡ false
-base_is_not c k h n = picked_bool (eqb c k) (λ e. absurd (let s : is_base c ≡ is_base k = ap is_base (eqb-true c k e) in cc)) (λ e. e)
+base_is_not c k h n = by_test (eqb c k) (λ e. absurd (let s : is_base c ≡ is_base k = ap is_base (eqb-true c k e) in cc)) (λ e. e)
 
 element_starts : (k : ℕ) → is_base k ≡ false → eqb 76 k ≡ false → (type : List ℕ) → IsElement type → Starts (λ u. eqb u k ≡ false) type
 element_starts k base other type (inl (c, is, h)) = record { first = c; rest = []; parts = is; is = base_is_not c k h base }
@@ -182,11 +182,6 @@ type_again type rest t =
     ap (option_and_then (λ n. cond (leb n 255) (after_element (drop n (type ++ rest))) None)) place
     ∙ ap (λ b. cond b (after_element (drop t.dimensions (type ++ rest))) None) (le-leb _ _ t.few)
     ∙ ap after_element back ∙ element_again t.element rest t.ends
-
-ends_some : (o : Option (List ℕ)) → ends o ≡ true → o ≡ Some []
-ends_some None e = absurd cc
-ends_some (Some []) e = refl
-ends_some (Some (u ∷ us)) e = absurd cc
 
 pub field_taken : (us : List ℕ) → is_field_descriptor us ≡ true → IsFieldType us
 unfolding is_field_descriptor
@@ -244,7 +239,7 @@ record Arguments (so_far : ℕ) (us : List ℕ) (x : ℕ × List ℕ) : Type 0 w
 
 closed_cases : {X : Type 0} (so_far : ℕ) (us : List ℕ) (more : Option (ℕ × List ℕ)) (x : ℕ × List ℕ) → closed so_far (after_close us) more ≡ Some x → ((us ≡ 41 ∷ x.1) → (x.0 ≡ so_far) → X) → (more ≡ Some x → X) → X
 closed_cases so_far [] more x e first second = second e
-closed_cases so_far (u ∷ us) more x e first second = picked_bool (eqb u 41)
+closed_cases so_far (u ∷ us) more x e first second = by_test (eqb u 41)
     (λ h. let r : Some (so_far, us) ≡ Some x = sym (ap (λ b. closed so_far (cond b (Some us) None) more) h) ∙ e in
     let s : (so_far, us) ≡ x = pair_is (so_far, us) x r in
     first (ap (λ n. n ∷ us) (eqb-true u 41 h) ∙ ap (λ (z : ℕ × List ℕ). 41 ∷ z.1) s) (sym (ap (λ (z : ℕ × List ℕ). z.0) s)))
@@ -304,7 +299,7 @@ cond_number false m n e = absurd cc
 pub method_taken : (us : List ℕ) (n : ℕ) → argument_units us ≡ Some n → IsMethodType us n
 unfolding argument_units
 method_taken [] n e = absurd cc
-method_taken (u ∷ us) n e = picked_bool (eqb u 40)
+method_taken (u ∷ us) n e = by_test (eqb u 40)
     (λ h. let r : option_and_then (λ x. cond (is_return x.1) (Some x.0) None) (arguments (length us) 0 us) ≡ Some n =
     sym (ap (λ b. cond b (option_and_then (λ x. cond (is_return x.1) (Some x.0) None) (arguments (length us) 0 us)) None) h) ∙ e in
     let a = and_then_number (arguments (length us) 0 us) (λ x. cond (is_return x.1) (Some x.0) None) n r in

@@ -1,6 +1,6 @@
 -- What is known of an entry of a pool.
 use Rattle.std.proofs.Common.{◌≡◌, ℕ, zero, suc, Bool, true, false, List, length, Option, Some, None, refl, subst, inl, inr, All, ◌<◌, is_some, is_none, not, take, slice_index_or, append_assoc, ◌∷◌, ◌++◌, [], arith, sym, ap, ◌∙◌, add-one, ◌-◌, Bor, option_copied}
-use Rattle.std.proofs.lemmas.Bool.{cases_lt}
+use Rattle.std.proofs.lemmas.Bool.{cases_lt, not-true}
 use Rattle.std.proofs.lemmas.List.{get_or_past, append-nil, take_more}
 use Rattle.class_pool.specs.declared.pool.Entry.{Entry}
 use Rattle.class_pool.specs.declared.pool.Entry.TheVariants.{Class, Field, Method, InterfaceMethod}
@@ -77,17 +77,13 @@ none_some (Some e) = refl
 pub entry_some : (slots : List (Option Entry)) (i : ℕ) → IsPool slots → i < length slots → is_some (entry_of slots (suc i)) ≡ not (is_wide (entry_of slots i))
 entry_some slots i h lt = none_some (entry_of slots (suc i)) ∙ ap not (laid_second [] slots i h.laid lt ∙ second_after slots i lt)
 
-not_true : (b : Bool) → not b ≡ true → b ≡ false
-not_true true e = absurd cc
-not_true false e = refl
-
 back : (i : ℕ) → suc i - 1 ≡ i
 back i = omega arith
 
 pub named_from_some : (slots : List (Option Entry)) (index : ℕ) → IsPool slots → is_some (entry_of slots index) ≡ true → NamesEntry slots index
 named_from_some slots zero h e = absurd cc
 named_from_some slots (suc i) h e = elim (cases_lt i (length slots)) [
-  | inl lt ↦ record { some = omega arith; within = omega arith; first = ap (λ k. is_wide (entry_of slots k)) (back i) ∙ not_true (is_wide (entry_of slots i)) (sym (entry_some slots i h lt) ∙ e) }
+  | inl lt ↦ record { some = omega arith; within = omega arith; first = ap (λ k. is_wide (entry_of slots k)) (back i) ∙ not-true (is_wide (entry_of slots i)) (sym (entry_some slots i h lt) ∙ e) }
   | inr le ↦ absurd (let past : entry_of slots (suc i) ≡ None = get_or_past slots i None le in let s : is_some (entry_of slots (suc i)) ≡ false = ap is_some past in cc)
 ]
 

@@ -13,6 +13,7 @@ use Rattle.code_decode.specs.Opcodes.{shape_of, takes_local}
 use Rattle.code_decode.specs.Switches.{padding}
 use Rattle.code_decode.specs.Spelling.{number_bytes, signed_bytes, offset_bytes, pair_bytes, one_bytes, two_bytes, table_bytes, lookup_bytes, args_bytes, shaped_bytes, wide_args_bytes, op_bytes, code_spelling}
 use Rattle.code_decode.specs.CodeGrammar.{CodeText}
+use Rattle.code_decode.proofs.SpellingSwitches.{zeros_fit}
 use Rattle.code_decode.proofs.RespelledLaw.{code_respelled}
 use Rattle.class_reader.specs.declared.parts.CodePart.{CodePart}
 use Rattle.class_reader.specs.Names.{is_stack_map}
@@ -48,11 +49,6 @@ high_fits (suc k) n (suc i) = high_fits k n i
 
 number_fits : (w : Width) (n : ℕ) → IsBytes (to_be_bytes w n)
 number_fits w n = high_fits (byte_len w) n
-
-zeros_fit : (n : ℕ) → IsBytes (replicate n 0)
-zeros_fit zero i = omega arith
-zeros_fit (suc n) zero = omega arith
-zeros_fit (suc n) (suc i) = zeros_fit n i
 
 one_fits : (view : ℤ → List ℕ) → ((z : ℤ) → IsBytes (view z)) → (args : List ℤ) → IsBytes (one_bytes view args)
 one_fits view fits [] = nothing_fits

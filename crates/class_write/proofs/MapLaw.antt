@@ -7,7 +7,7 @@ use Rattle.std.proofs.lemmas.Bool.Decides.{nat_tests}
 use Rattle.std.proofs.lemmas.List.{append-nil}
 use Rattle.class_pool.specs.Grammar.{Nothing, Mapped, Never}
 use Rattle.class_pool.specs.Pool.{entry_of}
-use Rattle.class_pool.proofs.Laws.{picked_bool}
+use Rattle.et_base.proofs.Cases.{by_test}
 use Rattle.code_decode.specs.declared.decoding.Code.{Code}
 use Rattle.class_reader.specs.declared.parts.RawHandler.{RawHandler}
 use Rattle.class_reader.specs.declared.parts.MapType.{MapType}
@@ -39,20 +39,20 @@ tagged_same : (checked : Bool) (slots : Slots) (tag : ℕ) (text : List ℕ) (t 
 tagged_same checked slots tag text t s =
     let objects : List ℕ → MapType → Type 0 = Mapped (type_of tag) (Index (is_object checked) slots) in
     let offsets : List ℕ → MapType → Type 0 = Mapped (type_of tag) Short in
-    picked_bool (ltb tag 7)
+    by_test (ltb tag 7)
     (λ below.
     let w : Nothing (type_of tag 0) text t = subst (λ a. cond a (Nothing (type_of tag 0) text t) (cond (eqb tag 7) (objects text t) (cond (eqb tag 8) (offsets text t) (Never text t)))) below s in
     record { tag_is = ap (λ (t : MapType). t.tag) w.1; same = w.0 ∙ ap (λ b. cond b (short_bytes t.arg) []) (sym (below_seven tag below)) })
     (λ above.
     let w : cond (eqb tag 7) (objects text t) (cond (eqb tag 8) (offsets text t) (Never text t)) = subst (λ a. cond a (Nothing (type_of tag 0) text t) (cond (eqb tag 7) (objects text t) (cond (eqb tag 8) (offsets text t) (Never text t)))) above s in
-    picked_bool (eqb tag 7)
+    by_test (eqb tag 7)
     (λ seven.
     let u : objects text t = subst (λ a. cond a (objects text t) (cond (eqb tag 8) (offsets text t) (Never text t))) seven w in
     let test : (eqb tag 7 || eqb tag 8) ≡ true = ap (λ b. b || eqb tag 8) seven in
     record { tag_is = ap (λ (t : MapType). t.tag) u.2; same = index_same (is_object checked) slots text u.0 u.1 ∙ ap short_bytes (sym (ap (λ (t : MapType). t.arg) u.2)) ∙ ap (λ b. cond b (short_bytes t.arg) []) (sym test) })
     (λ other.
     let v : cond (eqb tag 8) (offsets text t) (Never text t) = subst (λ a. cond a (objects text t) (cond (eqb tag 8) (offsets text t) (Never text t))) other w in
-    picked_bool (eqb tag 8)
+    by_test (eqb tag 8)
     (λ eight.
     let u : offsets text t = subst (λ a. cond a (offsets text t) (Never text t)) eight v in
     let test : (eqb tag 7 || eqb tag 8) ≡ true = ap (λ b. b || eqb tag 8) other ∙ eight in

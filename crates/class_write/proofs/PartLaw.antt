@@ -3,11 +3,12 @@ use Rattle.std.proofs.Common.{◌≡◌, ℕ, zero, suc, ◌+◌, ◌^◌, ◌<�
 use Rattle.std.specs.Prelude.{slice_index_or, unwrap_or}
 use Rattle.std.specs.List.{flat_map}
 use Rattle.std.proofs.lemmas.List.{append-nil, length-append}
+use Rattle.std.proofs.lemmas.Option.{same_Some}
 use Rattle.class_pool.specs.declared.pool.Entry.{Entry}
 use Rattle.class_pool.specs.declared.pool.Entry.TheVariants.{Utf8}
 use Rattle.class_pool.specs.Pool.{entry_of, is_text}
 use Rattle.class_pool.specs.Grammar.{Then, Joined, Counted, Chain}
-use Rattle.class_pool.proofs.Laws.{picked_bool}
+use Rattle.et_base.proofs.Cases.{by_test}
 use Rattle.class_reader.specs.Indices.{Short, Index, Form}
 use Rattle.class_reader.specs.Names.{is_text_of}
 use Rattle.class_reader.specs.Texts.{first_from}
@@ -75,7 +76,7 @@ record First (slots : Slots) (text : List ℕ) (i : ℕ) : Type 0 where
 first_in : (slots : Slots) (text : List ℕ) (i j : ℕ) → is_text_of text (slice_index_or slots j None) ≡ true → First slots text i
 first_in [] text i j h = let no : false ≡ true = h in absurd cc
 first_in (slot ∷ slots) text i zero h = record { k = 0; found = ap (λ b. cond b (Some i) (first_from (i + 1) slots text)) h ∙ ap Some (omega arith); within = omega arith; is = h }
-first_in (slot ∷ slots) text i (suc j) h = picked_bool (is_text_of text slot)
+first_in (slot ∷ slots) text i (suc j) h = by_test (is_text_of text slot)
     (λ yes. record { k = 0; found = ap (λ b. cond b (Some i) (first_from (i + 1) slots text)) yes ∙ ap Some (omega arith); within = omega arith; is = yes })
     (λ no.
     let r = first_in slots text (i + 1) j h in
@@ -125,16 +126,13 @@ record Found {A : Type 0} (wanted : Option Entry → Bool) (S : List ℕ → A �
   pub spelled : S content x
   pub long : 2 + length content ≤ length text
 
-some_is : {A : Type 0} (x y : A) → Some x ≡ Some y → x ≡ y
-some_is x y e = cc
-
 found_in : {A : Type 0} (wanted : Option Entry → Bool) (S : List ℕ → A → Type 0) (slots : Slots) (n : ℕ) (text : List ℕ) (x : A) → Chain (AttributeText wanted S slots) None n text (Some x) → Found wanted S slots text x
 found_in wanted S slots zero text x s = let no = s.1 in absurd cc
 found_in {A = A} wanted S slots (suc n) text x (mid, one, more, e, (name, a, b, f, i, o), others) =
     let two : length a ≡ 2 = ap length (index_same is_text slots a name i) in
     elim (once_none (wanted (entry_of slots name)) S b mid o) [
       | inl h ↦
-          let same : x ≡ h.0 = some_is x h.0 (chain_keeps wanted S slots h.0 n more (Some x) (subst (λ m. Chain (AttributeText wanted S slots) m n more (Some x)) h.3 others)) in
+          let same : x ≡ h.0 = same_Some x h.0 (chain_keeps wanted S slots h.0 n more (Some x) (subst (λ m. Chain (AttributeText wanted S slots) m n more (Some x)) h.3 others)) in
           record { name = name; right = h.1; content = b; spelled = subst (λ y. S b y) (sym same) h.2; long = omega (arith, two, ap length e, ap length f, length-append one more, length-append a b) }
       | inr none ↦
           let r = found_in wanted S slots n more x (subst (λ m. Chain (AttributeText wanted S slots) m n more (Some x)) none others) in

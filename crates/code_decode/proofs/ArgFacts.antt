@@ -12,6 +12,7 @@ use Rattle.std.proofs.lemmas.List.FromFn.{length-enumerate_from, get_or-enumerat
 use Rattle.std.proofs.lemmas.List.Elements.{All-nil, All-push}
 use Rattle.class_pool.specs.declared.pool.Entry.{Entry}
 use Rattle.class_pool.specs.Pool.{entry_of}
+use Rattle.et_base.proofs.Cases.{implied}
 use Rattle.class_pool.proofs.GrammarFacts.{chain_counts}
 use Rattle.code_decode.specs.declared.instructions.RawOp.{RawOp}
 use Rattle.code_decode.specs.declared.judging.Fit.{Fit}
@@ -184,13 +185,9 @@ numbered_at test args i d h lt =
     let here : get_or (enumerate_from 0 args) i (0, d) ≡ (i, get_or args i d) = get_or-enumerate_from 0 args i (0, d) lt ∙ ap (λ (k : ℕ). (k, get_or args i d)) (from_zero i) in
     ap test (sym here) ∙ all_at test (enumerate_from 0 args) i (0, d) h inside
 
-place_true : (place test : Bool) → (not place || test) ≡ true → place ≡ true → test ≡ true
-place_true true test h p = h
-place_true false test h p = absurd cc
-
 place_at : (ops : List RawOp) (total : ℕ) (form : Shape) (args : List ℤ) (i : ℕ) (d : ℤ) → leads (Some form) (is_start ops total) args ≡ true → i < length args → is_place (Some form) i ≡ true → IsPlace ops total (get_or args i d)
 place_at ops total form args i d h lt there =
-    start_place ops total (get_or args i d) (place_true (is_place (Some form) i) (is_start ops total (get_or args i d)) (numbered_at (λ p. not (is_place (Some form) p.0) || is_start ops total p.1) args i d h lt) there)
+    start_place ops total (get_or args i d) (implied (is_place (Some form) i) (is_start ops total (get_or args i d)) (numbered_at (λ p. not (is_place (Some form) p.0) || is_start ops total p.1) args i d h lt) there)
 
 branch_facts : (w : Width) (view : ℕ → ℤ) (ops : List RawOp) (total : ℕ) (form : Shape) → is_place (Some form) 0 ≡ true → (text : List ℕ) (args : List ℤ) → OneText w view text args → leads (Some form) (is_start ops total) args ≡ true → OnePlace ops total args
 branch_facts w view ops total form there text args (n, s, is) h =

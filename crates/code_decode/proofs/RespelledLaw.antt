@@ -7,7 +7,7 @@ use Rattle.std.proofs.lemmas.Bool.{eqb-true, and_parts}
 use Rattle.std.proofs.lemmas.List.{length-append}
 use Rattle.class_pool.specs.declared.pool.Entry.{Entry}
 use Rattle.class_pool.specs.Pool.{entry_of}
-use Rattle.class_pool.proofs.Laws.{picked_bool}
+use Rattle.et_base.proofs.Cases.{by_test}
 use Rattle.code_decode.specs.declared.instructions.RawOp.{RawOp}
 use Rattle.code_decode.specs.declared.decoding.Code.{Code}
 use Rattle.code_decode.specs.declared.opcodes.Shape.{Shape}
@@ -76,7 +76,7 @@ abbrev plain_part : RawOp → List ℕ
 plain_part o = to_be_bytes w8 o.opcode ++ shaped_bytes o.pc (shape_of o.opcode) o.args
 
 op_again : (slots : Slots) (total pc : ℕ) (text : List ℕ) (o : RawOp) → OpText slots total pc text o → leads_to is_inside o ≡ true → Respelled (OpText slots total pc) text (op_bytes o) o
-op_again slots total pc text o (opcode, one, more, e, s, t) inside = picked_bool (eqb opcode 196)
+op_again slots total pc text o (opcode, one, more, e, s, t) inside = by_test (eqb opcode 196)
     (λ yes.
     let w : WideText pc more o = subst (λ b. cond b (WideText pc more o) (ShapedText slots total pc opcode (shape_of opcode) more o)) yes t in
     let same : text ≡ wide_part o = e ∙ ap (λ x. x ++ more) (s.0 ∙ ap (to_be_bytes w8) (eqb-true _ _ yes)) ∙ ap (λ m. to_be_bytes w8 196 ++ m) (wide_same pc more o w) in

@@ -31,7 +31,7 @@ respelled_then S T one more first second x y r t e = record {
   len = length-append first second ∙ ap (λ n. n + length second) r.len ∙ ap (λ n. length one + n) (ap length (sym e)) ∙ sym (length-append one more);
 }
 
-zeros_fit : (n : ℕ) → IsBytes (replicate n 0)
+pub zeros_fit : (n : ℕ) → IsBytes (replicate n 0)
 zeros_fit zero i = omega arith
 zeros_fit (suc n) zero = omega arith
 zeros_fit (suc n) (suc i) = zeros_fit n i

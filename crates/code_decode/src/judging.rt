@@ -13,6 +13,7 @@ use crate::place::Spot;
 use class_pool::lookup::{class_name_at, text_at};
 use class_pool::names::argument_units;
 use class_pool::{Entry, Pool, ReadError};
+use et_base::letters::{ARRAY, DOUBLE, FLOAT};
 
 /// What an operand is to its instruction.
 #[derive(Clone, Copy)]
@@ -54,17 +55,18 @@ pub fn class_name(pool: &Pool, index: u16) -> &[u16]
     }
 }
 
+/// How many dimensions the array has that a class's name names; 0 for a class that is no array.
 pub fn dimensions(name: &[u16]) -> usize
     ensures { result ≡ dimensions name.now }
 {
-    name.iter().take_while(|u| **u == 91).count()
+    name.iter().take_while(|u| **u == ARRAY).count()
 }
 
 fn is_real_array(name: &[u16]) -> bool
     ensures { result ≡ is_real_array name.now }
 {
     let element = dimensions(name);
-    0 < element && element < name.len() && (name[element] == 70 || name[element] == 68)
+    0 < element && element < name.len() && (name[element] == FLOAT || name[element] == DOUBLE)
 }
 
 fn array_fit(name: &[u16]) -> Fit

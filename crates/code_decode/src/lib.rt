@@ -14,5 +14,6 @@ mod switches;
 pub use args::Args;
 pub use decoding::{Code, CodeFault, code_at, decode};
 pub use instructions::RawOp;
+pub use judging::dimensions;
 pub use opcodes::{Constant, Named, Shape, shape_of, takes_local};
 pub use starts::Starts;

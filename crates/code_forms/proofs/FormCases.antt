@@ -98,10 +98,6 @@ conversions_plain n = grind arith
 
 -- ---- all together
 
-pub by_test : {X : Type 0} (b : Bool) → (b ≡ true → X) → (b ≡ false → X) → X
-by_test true f g = f refl
-by_test false f g = g refl
-
 within : (a b n : ℕ) → (leb a n && leb n b) ≡ true → (a ≤ n) × (n ≤ b)
 within a b n h = let c = and_parts _ _ h in (leb-true _ _ c.0, leb-true _ _ c.1)
 

@@ -26,7 +26,8 @@ use Rattle.code_forms.specs.declared.references.Target.TheVariants as target
 use Rattle.code_forms.specs.Operands.{number_in}
 use Rattle.code_forms.specs.Uses.{use_of, fits_sort, method_fits, field_fits, fits}
 use Rattle.code_forms.specs.Forms.{field_form, method_form, array_of, number_array, form_of}
-use Rattle.code_forms.proofs.FormCases.{is_plain, is_single, IsTyped, form_case, field_case, method_case, type_case, by_test}
+use Rattle.code_forms.proofs.FormCases.{is_plain, is_single, IsTyped, form_case, field_case, method_case, type_case}
+use Rattle.et_base.proofs.Cases.{by_test}
 
 -- ---- plain forms
 

@@ -17,7 +17,8 @@ use Rattle.code_decode.specs.Opcodes.{shape_of, takes_local}
 use Rattle.code_decode.proofs.ArgFacts.{OneNumber, IndexCount, CallsInterface, ArgFacts}
 use Rattle.code_decode.proofs.CodeFacts.{PlainFacts, OpFacts}
 use Rattle.code_forms.specs.Operands.{number_in, index_in}
-use Rattle.code_forms.proofs.FormCases.{is_untyped, is_single, IsTyped, by_test}
+use Rattle.code_forms.proofs.FormCases.{is_untyped, is_single, IsTyped}
+use Rattle.et_base.proofs.Cases.{by_test}
 use Rattle.code_forms.proofs.FormFacts.{CallsBySort}
 
 -- ---- the shape of an opcode

@@ -37,7 +37,7 @@ some_chosen : {A : Type 0} (b : Bool) (x y : A) (o : Option A) → cond b (Some 
 some_chosen true x y o h = inl (refl, same_Some x y h)
 some_chosen false x y o h = inr h
 
-none_chosen : {A : Type 0} (b : Bool) (o : Option A) (y : A) → cond b None o ≡ Some y → (b ≡ false) × (o ≡ Some y)
+pub none_chosen : {A : Type 0} (b : Bool) (o : Option A) (y : A) → cond b None o ≡ Some y → (b ≡ false) × (o ≡ Some y)
 none_chosen true o y h = absurd cc
 none_chosen false o y h = (refl, h)
 

@@ -2,7 +2,7 @@ mod AppendLaws
 mod CutLaws
 mod DepsLaws
 mod EdgeLaws
-mod FieldLaws
+pub mod FieldLaws
 mod FoundLaws
 mod GivenFields
 pub mod GivenLaws

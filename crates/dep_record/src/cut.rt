@@ -5,7 +5,8 @@ ghost use Rattle.std.specs.Str.{bytes_eq};
 ghost use Rattle.std.specs.Option.{option_copied};
 ghost use Rattle.dep_record.specs.Fields as field;
 
-fn place_of(separator: u8, bytes: &[u8]) -> Option<usize>
+/// Where the first separator stands, if there is one.
+pub fn place_of(separator: u8, bytes: &[u8]) -> Option<usize>
     ensures { result ≡ position (λ b. b == separator) bytes.now }
 {
     bytes.iter().position(|b| *b == separator)

@@ -11,9 +11,9 @@ use order_law::Prints;
 use sha2::{Digest, Sha256};
 use std::alloc::Global;
 
-// Takes in a file behind its length.
+/// Takes in a file behind its length.
 #[tactic(auto, unfolding(crate::specs::Hashes::sized))]
-fn add_sized(sum: &mut Sha256, bytes: &[u8])
+pub fn add_sized(sum: &mut Sha256, bytes: &[u8])
     ensures { (m : List ℕ) → Holds256 sum.old m → Holds256 sum.new (m ++ sums.sized bytes.now) }
 {
     sum.update((bytes.len() as u64).to_be_bytes());

@@ -14,8 +14,10 @@ mod refusal;
 mod report_json;
 mod report_text;
 
-pub use hashes::{digest, prints};
+pub use cut::place_of;
+pub use hashes::{add_sized, digest, prints};
 pub use laws::text_laws;
+pub use line_forms::are_printable;
 pub use numbers::number_up_to;
 pub use reading::read_record;
 pub use record_text::write_record;

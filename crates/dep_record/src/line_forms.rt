@@ -217,7 +217,8 @@ pub fn edge_of(line: &[u8]) -> Option<EdgeLine<'_>>
     })
 }
 
-fn are_printable(text: &[u8]) -> bool
+/// Whether all bytes are printable ASCII.
+pub fn are_printable(text: &[u8]) -> bool
     ensures { result ≡ list_all field.is_printable text.now }
 {
     text.iter().all(|b| *b >= 0x20 && *b <= 0x7e)

@@ -8,6 +8,7 @@ use Rattle.jvm_model.specs.declared.values.Touch.{Touch}
 use Rattle.jvm_model.specs.State.{test_at}
 use Rattle.jvm_model.specs.World.{World}
 use Rattle.jvm_model.specs.Suite.{Given, SuiteFault, over_budget, over_suite, fault_of, fault_on, suite_fault, suite_limit, opening, all_tests, one_test}
+use Rattle.et_base.proofs.Ranges.{range_more}
 use Rattle.jvm_model.proofs.Budgets.{one_test_units}
 use Rattle.vm_mem.specs.Story.{Story}
 use Rattle.test_run.specs.Lists.{RanList, RanNext}
@@ -19,13 +20,9 @@ use Rattle.detect_run.specs.declared.fault.DetectFault.{DetectFault}
 use Rattle.detect_run.specs.declared.fault.DetectFault.TheVariants as fault
 use Rattle.detect_run.specs.SuiteRun.{IsSuiteFault, IsOneRefused, RanOne, Along, over_of, tests_to, tests_after}
 
-range_suc : (a n j : ℕ) → a + n ≡ j → range_with_len a (suc n) ≡ range_with_len a n ++ (j ∷ [])
-range_suc a zero j e = let z : a ≡ j = omega arith in ap (λ (k : ℕ). k ∷ []) z
-range_suc a (suc n) j e = ap (λ (l : List ℕ). a ∷ l) (range_suc (a + 1) n j (omega arith))
-
 -- one test more
 pub to_more : (i : ℕ) → tests_to (i + 1) ≡ tests_to i ++ ((i + 1) ∷ [])
-to_more i = let z : i + 1 ≡ suc i = omega arith in ap tests_to z ∙ range_suc 1 i (i + 1) (omega arith)
+to_more i = range_more 1 i (i + 1) (omega arith)
 
 after_more : (p : Program) (i : ℕ) → i < length p.tests → tests_after p i ≡ (i + 1) ∷ tests_after p (i + 1)
 after_more p i h = ap (range_with_len (i + 1)) (let e : length p.tests - i ≡ suc (length p.tests - (i + 1)) = omega arith in e)

@@ -1,3 +1,5 @@
+pub mod Cases
+pub mod Ranges
 pub mod UtfLaws
 pub mod NumberLaws
 pub mod Utf8Laws

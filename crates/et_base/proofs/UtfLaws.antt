@@ -7,12 +7,9 @@ use Rattle.std.proofs.lemmas.List.Concat.{flat_map-append}
 use Rattle.std.proofs.lemmas.List.Elements.{All-nil, All-head, All-tail, All-append, All-push, All-from_recursion}
 use Rattle.et_base.specs.Utf.{IsUnit, IsUnits, is_one, group, utf, StartsBadly, IsFirstBad}
 use Rattle.et_base.specs.UtfReading.{is_more, is_two, is_three, two, three, third, second, unit_at, with_unit, units_after, units_from, units_read}
+use Rattle.et_base.proofs.Cases.{by_test}
 
 -- ---- one group
-
-by_test : {X : Type 0} (b : Bool) → (b ≡ true → X) → (b ≡ false → X) → X
-by_test true first second = first refl
-by_test false first second = second refl
 
 -- how many bytes a group has
 pub length-group : (u : ℕ) → length (group u) ≡ cond (is_one u) 1 (cond (ltb u 2048) 2 3)

@@ -3,13 +3,7 @@ use Rattle.std.proofs.Common.{◌≡◌, ℕ, zero, suc, ◌+◌, ◌≤◌, Lis
 use Rattle.std.proofs.lemmas.List.{append_assoc}
 use Rattle.std.proofs.lemmas.Grind.{flat_map-append}
 use Rattle.std.specs.List.{flat_map, range_with_len}
-
-range_suc : (a n j : ℕ) → a + n ≡ j → range_with_len a (suc n) ≡ range_with_len a n ++ j ∷ []
-range_suc a zero j e = ap (λ (x : ℕ). x ∷ []) (let k : a ≡ j = omega (arith, e) in k)
-range_suc a (suc n) j e = ap (λ (l : List ℕ). a ∷ l) (range_suc (a + 1) n j (omega (arith, e)))
-
-range_more : (a n j : ℕ) → a + n ≡ j → range_with_len a (n + 1) ≡ range_with_len a n ++ j ∷ []
-range_more a n j e = ap (range_with_len a) (let k : n + 1 ≡ suc n = omega arith in k) ∙ range_suc a n j e
+use Rattle.et_base.proofs.Ranges.{range_more}
 
 -- behind what was written before
 one_more : (f : ℕ → List ℕ) (front : List ℕ) (a n j : ℕ) → a + n ≡ j → (front ++ flat_map f (range_with_len a n)) ++ f j ≡ front ++ flat_map f (range_with_len a (n + 1))

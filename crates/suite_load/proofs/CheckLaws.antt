@@ -1,5 +1,5 @@
 -- Linking and the check joined.
-use Rattle.std.proofs.Common.{◌≡◌, ℕ, List, Option, Some, None, Ok, Err, refl, sym, ap, subst}
+use Rattle.std.proofs.Common.{◌≡◌, ℕ, List, Option, Some, Ok, Err, refl, sym, ap, subst}
 use Rattle.class_reader.specs.declared.parts.ClassParts.{ClassParts}
 use Rattle.jvm_model.specs.declared.program.Program.{Program}
 use Rattle.order_law.specs.declared.records.Prints.{Prints}
@@ -10,25 +10,17 @@ use Rattle.class_link.specs.Link.{Links, LinksBy}
 use Rattle.type_frames.specs.declared.fault.CheckFault.{CheckFault}
 use Rattle.type_frames.specs.declared.fault.CheckFault.TheVariants as checking
 use Rattle.type_frames.specs.Typing.{IsTyped, check_fault}
-use Rattle.type_checker.proofs.Typed.{fault_untyped}
+use Rattle.type_checker.proofs.Typed.{typed_no_fault}
 use Rattle.suite_load.specs.declared.suite_text.SuiteText.{SuiteText}
 use Rattle.suite_load.specs.declared.load_fault.LoadFault.TheVariants as fault
 use Rattle.suite_load.specs.Loading.{◌>>=◌, lines_of, link_fault, typed_answer, loaded_of, checked_of, ReadGives}
 use Rattle.suite_load.specs.LoadAnswers.{Checks, check_answer}
 
-no_fault : (p : Program) → IsTyped p → (found : Option CheckFault) → check_fault p ≡ found → found ≡ None
-no_fault p t None e = refl
-no_fault p t (Some x) e = absurd (fault_untyped p x e t)
-
--- a typed program has no fault
-typed_is_faultless : (p : Program) → IsTyped p → check_fault p ≡ None
-typed_is_faultless p t = no_fault p t (check_fault p) refl
-
 pub linked_goes : (suite : SuiteText) (classes : List ClassParts) (lines : TestLines) (p q : Program) → lines ≡ lines_of suite → Links classes lines (Ok p) → q ≡ p → IsTyped p → Checks suite classes (Ok q)
 unfolding checked_of
 linked_goes suite classes lines p q e (cycle, by) s t = λ (sums : SuiteText → Prints).
     let here = subst (λ ls. LinksBy cycle classes ls (Ok p)) e by in
-    let said = ap (λ x. typed_answer p x >>= λ typed. Ok (loaded_of suite (sums suite) typed)) (typed_is_faultless p t) in
+    let said = ap (λ x. typed_answer p x >>= λ typed. Ok (loaded_of suite (sums suite) typed)) (typed_no_fault p t) in
     subst (λ z. ReadGives sums (Ok (suite, classes)) (Ok (loaded_of suite (sums suite) z))) (sym s) (cycle, Ok p, here, sym said)
 
 untyped_goes : (sums : SuiteText → Prints) (suite : SuiteText) (classes : List ClassParts) (lines : TestLines) (p : Program) (e : CheckFault) → lines ≡ lines_of suite → Links classes lines (Ok p) → check_fault p ≡ Some e → ReadGives sums (Ok (suite, classes)) (Err (fault.Check e))

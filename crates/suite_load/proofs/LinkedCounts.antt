@@ -12,8 +12,8 @@ use Rattle.class_link.specs.declared.lines.TestLines.{TestLines}
 use Rattle.class_link.specs.Assembly.{assembled}
 use Rattle.class_link.specs.Bodies.{linked_body}
 use Rattle.class_link.proofs.Assembled.{class_count}
+use Rattle.class_link.proofs.LinkLaw.{bound}
 use Rattle.class_link.specs.Faults.{first_some, duplicate_fault, supertypes_fault, all_references_fault, test_entry}
-use Rattle.et_base.specs.Answers.{◌>>=◌}
 use Rattle.class_link.specs.Link.{setting, unless, cycle_fault, tests_of, program_of, link_by, Links}
 use Rattle.suite_load.specs.declared.suite_text.SuiteText.{SuiteText}
 use Rattle.suite_load.specs.Loading.{line_of, lines_of}
@@ -27,10 +27,6 @@ counted cs budget front (x ∷ xs) ts e = by_entry (test_entry (setting cs) budg
         ((t : TestEntry) → tests_of (setting cs) budget (front ++ t ∷ []) xs ≡ Ok ts → length ts ≡ length (front ++ t ∷ []) + length xs) → length ts ≡ length front + suc (length xs)
     by_entry None k again = absurd (cc)
     by_entry (Some t) k again = let l = length_push front t in again t k ∙ (let y : length (front ++ t ∷ []) + length xs ≡ length front + suc (length xs) = omega arith in y)
-
-bound : {A B : Type 0} (r : Result A LinkFault) (f : A → Result B LinkFault) (y : B) → (r >>= f) ≡ Ok y → (x : A) × (r ≡ Ok x) × (f x ≡ Ok y)
-bound (Ok x) f y e = (x, refl, e)
-bound (Err z) f y e = absurd (cc)
 
 tests_assembled : (cs : List ClassParts) (ts : List TestEntry) (files : List (List ℕ × List ℕ)) → (program_of cs ts files).tests ≡ ts
 unfolding assembled

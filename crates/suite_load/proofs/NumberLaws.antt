@@ -1,5 +1,5 @@
 -- What a budget can be.
-use Rattle.std.proofs.Common.{◌≡◌, ℕ, ◌+◌, ◌-◌, ◌*◌, ◌<◌, ◌≤◌, Bool, true, false, cond, eqb, List, [], ◌∷◌, length, slice_index, Option, Some, None, refl, arith}
+use Rattle.std.proofs.Common.{◌≡◌, ℕ, ◌+◌, ◌-◌, ◌*◌, ◌<◌, ◌≤◌, true, false, eqb, List, [], ◌∷◌, length, slice_index, Some, arith}
 use Rattle.std.specs.Char.{is_ascii_digit, digit_value}
 use Rattle.std.specs.Str.{all_ascii_digits}
 use Rattle.std.specs.Str.Parse.{digits_value}
@@ -7,12 +7,9 @@ use Rattle.std.proofs.lemmas.Bool.{leb-true, and_parts, or_parts}
 use Rattle.std.proofs.lemmas.Bool.Decides.{nat_tests}
 use Rattle.std.proofs.lemmas.Option.{cond_some}
 use Rattle.dep_record.specs.Fields.{digits_up_to, number_up_to}
+use Rattle.dep_record.proofs.FieldLaws.{none_chosen}
 use Rattle.dep_record.proofs.NumberLaws.{value_grows, digit_is}
 use Rattle.suite_load.specs.NumberForms.{budget_of}
-
-some_not : {A : Type 0} (b : Bool) (o : Option A) (x : A) → cond b None o ≡ Some x → (b ≡ false) × (o ≡ Some x)
-some_not true o x h = absurd cc
-some_not false o x h = (refl, h)
 
 -- digits that don't begin with a zero are more than 0
 first_counts : (bytes : List ℕ) → eqb (length bytes) 0 ≡ false → eqb (slice_index bytes 0) 48 ≡ false → all_ascii_digits bytes ≡ true → 0 < digits_value 10 bytes
@@ -27,8 +24,8 @@ first_counts (b ∷ bs) some first digits =
 pub budget_bounds : (bytes : List ℕ) (units : ℕ) → budget_of bytes ≡ Some units → (0 < units) × (units ≤ 67108864)
 unfolding budget_of number_up_to digits_up_to
 budget_bounds bytes units h =
-    let first = some_not (eqb (slice_index bytes 0) 48) _ units h in
-    let whole = some_not _ _ units first.1 in
+    let first = none_chosen (eqb (slice_index bytes 0) 48) _ units h in
+    let whole = none_chosen _ _ units first.1 in
     let digits = cond_some _ (digits_value 10 bytes) units whole.1 in
     let each = and_parts _ _ digits.0 in
     let some = or_parts _ _ whole.0 in

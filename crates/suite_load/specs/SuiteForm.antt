@@ -3,6 +3,7 @@ use Rattle.std.specs.Prelude.{◌≡◌, ℕ, ℤ, ◌+◌, ◌==◌, ◌&&◌, 
 use Rattle.std.specs.Option.{ok_or}
 use Rattle.std.specs.List.{list_all, list_any, before_last, after_last}
 use Rattle.std.specs.Str.{bytes_eq}
+use Rattle.dep_record.specs.Fields.{is_printable}
 use Rattle.suite_load.specs.declared.suite_text.SuiteText.{SuiteText}
 use Rattle.suite_load.specs.declared.suite_text.TestLine.{TestLine}
 use Rattle.suite_load.specs.declared.suite_text.SuiteRefusal.{SuiteRefusal}
@@ -198,10 +199,6 @@ line_of words.Other before rest = Err (fault before why.Form)
 -- a line by its first word
 abbrev pub worded_line : List SuiteLine → List ℕ → Result SuiteLine SuiteRefusal
 worded_line before bytes = line_of (first_word (cut 32 bytes).0) before (cut 32 bytes).1
-
--- printable ASCII
-abbrev pub is_printable : ℕ → Bool
-is_printable b = nat_le 32 b && nat_le b 126
 
 abbrev pub is_end : SuiteLine → Bool
 is_end line = place_of line == 5

@@ -1,14 +1,10 @@
 //! Cutting bytes at a separator.
 
-ghost use Rattle.std.specs.Prelude.{◌≡◌, ◌==◌, position};
+ghost use Rattle.std.specs.Prelude.{◌≡◌};
 ghost use Rattle.std.specs.Option.{option_copied};
 ghost use Rattle.suite_load.specs.LineForms.{cut};
 
-fn place_of(separator: u8, bytes: &[u8]) -> Option<usize>
-    ensures { result ≡ position (λ b. b == separator) bytes.now }
-{
-    bytes.iter().position(|b| *b == separator)
-}
+use dep_record::place_of;
 
 /// What stands before the first separator, and what follows it, if there is one.
 #[tactic(auto, unfolding(crate::specs::LineForms::cut))]

@@ -1,10 +1,10 @@
 //! SHA-256 sums of a suite, made while its files are read.
 
-ghost use Rattle.std.specs.Prelude.{◌≡◌, ◌+◌, ◌++◌, ◌∷◌, [], ℕ, List, length, OnOk};
-ghost use Rattle.sha2.specs.Hashers.{Holds256};
-ghost use Rattle.dep_record.specs.Hashes.{prints_of, sized};
+ghost use Rattle.std.specs.Prelude.{◌≡◌, ◌+◌, ◌∷◌, [], ℕ, List, length, OnOk};
+ghost use Rattle.dep_record.specs.Hashes.{prints_of};
 ghost use Rattle.suite_load.specs.Sums.{AreSums, AreMoreSums};
 
+use dep_record::add_sized;
 use et_base::{Items, NoMemory};
 use order_law::Prints;
 use sha2::{Digest, Sha256};
@@ -17,15 +17,6 @@ pub struct PrintSums {
     eager: Sha256,
     suite: [u8; 32],
     classes: Items<[u8; 32]>,
-}
-
-// Takes in a file behind its length.
-#[tactic(auto, unfolding(dep_record::specs::Hashes::sized))]
-fn add_sized(sum: &mut Sha256, bytes: &[u8])
-    ensures { (m : List ℕ) → Holds256 sum.old m → Holds256 sum.new (m ++ sized bytes.now) }
-{
-    sum.update((bytes.len() as u64).to_be_bytes());
-    sum.update(bytes);
 }
 
 impl PrintSums {

@@ -1,7 +1,6 @@
 //! Reading a suite text.
 
 ghost use Rattle.std.specs.Prelude.{◌≡◌, [], IfOk, OnOk};
-ghost use Rattle.std.specs.List.{list_all};
 ghost use Rattle.std.specs.Option.{option_copied};
 ghost use Rattle.suite_load.specs.LineForms.{rows, rest_of};
 ghost use Rattle.suite_load.specs.Reading.{Gives, same};
@@ -15,8 +14,8 @@ use crate::line_forms::{
 use crate::lines_before::LinesBefore;
 use crate::suite_line::SuiteLine;
 use crate::suite_text::{FileLine, SuiteRefusal, SuiteText, Why};
-use crate::test_line::units_of;
-use et_base::{Items, NoMemory};
+use dep_record::are_printable;
+use et_base::{Items, NoMemory, Units};
 use std::alloc::Global;
 
 /// The units that a test may take where the text gives no budget.
@@ -114,16 +113,10 @@ fn first_line(before: &LinesBefore, line: &[u8], ended: bool) -> Result<SuiteLin
     Ok(SuiteLine::Header)
 }
 
-fn is_printable(line: &[u8]) -> bool
-    ensures { result ≡ list_all form.is_printable line.now }
-{
-    line.iter().all(|b| *b >= 0x20 && *b <= 0x7e)
-}
-
 fn is_formed(before: &LinesBefore, line: &[u8], ended: bool) -> bool
     ensures { result ≡ form.is_formed before.now (record { bytes = line.now; ended = ended }) }
 {
-    ended && !before.is_ended() && is_printable(line)
+    ended && !before.is_ended() && are_printable(line)
 }
 
 // A line after the first.
@@ -195,7 +188,7 @@ fn added(alloc: Global, mut suite: SuiteText, line: SuiteLine) -> Result<SuiteTe
             Ok(suite)
         }
         SuiteLine::File(name, content) => {
-            let name = units_of(alloc, name.as_slice())?;
+            let name = Units::from_ascii(alloc, name.as_slice())?;
             suite.files.push(FileLine { name, content })?;
             Ok(suite)
         }

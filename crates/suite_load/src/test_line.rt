@@ -8,17 +8,6 @@ use crate::suite_text::TestLine;
 use et_base::{Items, NoMemory, Text, Units};
 use std::alloc::Global;
 
-/// Bytes as code units.
-pub fn units_of(alloc: Global, bytes: &[u8]) -> Result<Units, NoMemory>
-    ensures { IfOk result (λ units. units ≡ bytes.now) }
-{
-    let mut units = Items::new(alloc);
-    for b in bytes {
-        units.push(u16::from(*b))?;
-    }
-    Ok(units)
-}
-
 // A name as code units, with `/` for each dot.
 fn slashed(alloc: Global, bytes: &[u8]) -> Result<Units, NoMemory>
     ensures { IfOk result (λ units. units ≡ map form.slash_for_dot bytes.now) }
@@ -63,7 +52,7 @@ pub fn test_from(
 {
     let n = after_last_dot(name);
     let class = slashed(alloc, &name[..n.saturating_sub(1)])?;
-    let method = units_of(alloc, &name[n..])?;
+    let method = Units::from_ascii(alloc, &name[n..])?;
     let name = Text::from_slice(alloc, name)?;
     Ok(TestLine {
         line,

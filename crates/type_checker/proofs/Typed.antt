@@ -136,7 +136,7 @@ typed_none p l e =
     let h = classes_each p (given_classes p) e in
     record { linked = l; fields = λ i k n c s. (h i c s).fields k n; members = λ i k n c s. (h i c s).members k n; methods = λ i k n c s. (h i c s).methods k n }
 
-typed_no_fault : (p : Program) → IsTyped p → check_fault p ≡ None
+pub typed_no_fault : (p : Program) → IsTyped p → check_fault p ≡ None
 unfolding check_fault
 typed_no_fault p t = classes_none p (given_classes p) (λ i c s. record { fields = λ k n. t.fields i k n c s; members = λ k n. t.members i k n c s; methods = λ k n. t.methods i k n c s })
 

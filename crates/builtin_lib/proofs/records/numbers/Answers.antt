@@ -1,5 +1,5 @@
 use Rattle.std.proofs.Common.{refl, rules}
-use Rattle.builtin_lib.proofs.Counts.{range_more}
+use Rattle.et_base.proofs.Ranges.{range_more}
 use Rattle.builtin_lib.proofs.records.numbers.Goals as goal
 
 -- one more number
