@@ -2,14 +2,14 @@
 use Rattle.std.proofs.Common.{◌≡◌, ℕ, zero, suc, ◌+◌, ◌<◌, true, List, [], ◌∷◌, ◌++◌, length, get_or, set, map, refl, sym, ◌∙◌, ap, arith, nat_eq, inl, inr, Some, length-append, append_assoc}
 use Rattle.std.specs.List.{range_with_len}
 use Rattle.std.proofs.lemmas.Bool.{cases_Bool}
-use Rattle.std.proofs.lemmas.List.{length-map, length-set, append-nil}
+use Rattle.std.proofs.lemmas.List.{length-map, append-nil}
 use Rattle.jvm_model.specs.declared.values.Location.{Location}
 use Rattle.jvm_model.specs.declared.values.Location.TheVariants as place
 use Rattle.jvm_model.specs.declared.values.Value.{Value}
 use Rattle.jvm_model.specs.World.{Object, World, Content, put, put_at, keep, object_at, no_object, size, make_object}
 use Rattle.jvm_model.specs.Classes.{member}
 use Rattle.jvm_model.specs.View.{keys, Exists}
-use Rattle.jvm_model.proofs.Ranges.{put_at_is_set}
+use Rattle.jvm_model.proofs.Ranges.{length_put_at}
 use Rattle.access_tags.specs.Worlds.{parts, all_parts, statics_of, states_of, cells_of, width, bases, bases_of, ChangesLaw}
 use Rattle.access_tags.proofs.Spread.{length-parts, length-statics, length-states}
 
@@ -42,29 +42,26 @@ keys_kept (x ∷ xs) f v h = elim (cases_Bool (nat_eq f x.0)) [
   | inr e ↦ rw e (ap (λ (ks : List ℕ). x.0 ∷ ks) (keys_kept xs f v (rw e at h)))
 ]
 
-pub length-put_at : {A : Type 0} (d : A) (xs : List A) (i : ℕ) (v : A) → i < length xs → length (put_at d xs i v) ≡ length xs
-length-put_at d xs i v h = ap (λ ys. length ys) (put_at_is_set d xs i v h) ∙ length-set xs i v
-
 -- the locations by how many statics and states there are, and the objects
 abbrev by_counts : ℕ → ℕ → List Object → List Location
 by_counts n m xs = map (λ f. place.Static f) (range_with_len 0 n) ++ (map (λ c. place.Init c) (range_with_len 0 m) ++ all_parts 0 xs)
 
 pub put_cells : (w : World) (L : Location) (v : Content L) → Exists w L → cells_of (put w L v) ≡ cells_of w
-put_cells w (place.Static f) v h = ap (λ (n : ℕ). by_counts n (length w.states) w.objects) (length-put_at _ w.statics f v h)
-put_cells w (place.Init c) v h = ap (λ (n : ℕ). by_counts (length w.statics) n w.objects) (length-put_at _ w.states c v h)
+put_cells w (place.Static f) v h = ap (λ (n : ℕ). by_counts n (length w.states) w.objects) (length_put_at _ w.statics f v h)
+put_cells w (place.Init c) v h = ap (λ (n : ℕ). by_counts (length w.statics) n w.objects) (length_put_at _ w.states c v h)
 put_cells w (place.Head o) v h = ap (λ ls. statics_of w ++ (states_of w ++ ls)) (parts_set 0 w.objects o (record (object_at w o) { head = v }) h (record { fields = refl; elems = refl }))
 put_cells w (place.Field o f) v h = ap (λ ls. statics_of w ++ (states_of w ++ ls)) (parts_set 0 w.objects o (record (object_at w o) { fields = keep nat_eq (object_at w o).fields f v }) h.0 (record { fields = keys_kept (object_at w o).fields f v h.1; elems = refl }))
-put_cells w (place.Elem o i) v h = ap (λ ls. statics_of w ++ (states_of w ++ ls)) (parts_set 0 w.objects o (record (object_at w o) { elems = put_at _ (object_at w o).elems i v }) h.0 (record { fields = refl; elems = length-put_at _ (object_at w o).elems i v h.1 }))
+put_cells w (place.Elem o i) v h = ap (λ ls. statics_of w ++ (states_of w ++ ls)) (parts_set 0 w.objects o (record (object_at w o) { elems = put_at _ (object_at w o).elems i v }) h.0 (record { fields = refl; elems = length_put_at _ (object_at w o).elems i v h.1 }))
 put_cells w (place.Text o) v h = ap (λ ls. statics_of w ++ (states_of w ++ ls)) (parts_set 0 w.objects o (record (object_at w o) { text = Some v }) h (record { fields = refl; elems = refl }))
 put_cells w (place.File n) v h = refl
 put_cells w (place.Prop n) v h = refl
 
 pub put_bases : (w : World) (L : Location) (v : Content L) → Exists w L → bases_of (put w L v) ≡ bases_of w
-put_bases w (place.Static f) v h = ap (λ (n : ℕ). bases (n + length w.states) w.objects) (length-put_at _ w.statics f v h)
-put_bases w (place.Init c) v h = ap (λ (n : ℕ). bases (length w.statics + n) w.objects) (length-put_at _ w.states c v h)
+put_bases w (place.Static f) v h = ap (λ (n : ℕ). bases (n + length w.states) w.objects) (length_put_at _ w.statics f v h)
+put_bases w (place.Init c) v h = ap (λ (n : ℕ). bases (length w.statics + n) w.objects) (length_put_at _ w.states c v h)
 put_bases w (place.Head o) v h = bases_set (length w.statics + length w.states) w.objects o (record (object_at w o) { head = v }) h (record { fields = refl; elems = refl })
 put_bases w (place.Field o f) v h = bases_set (length w.statics + length w.states) w.objects o (record (object_at w o) { fields = keep nat_eq (object_at w o).fields f v }) h.0 (record { fields = keys_kept (object_at w o).fields f v h.1; elems = refl })
-put_bases w (place.Elem o i) v h = bases_set (length w.statics + length w.states) w.objects o (record (object_at w o) { elems = put_at _ (object_at w o).elems i v }) h.0 (record { fields = refl; elems = length-put_at _ (object_at w o).elems i v h.1 })
+put_bases w (place.Elem o i) v h = bases_set (length w.statics + length w.states) w.objects o (record (object_at w o) { elems = put_at _ (object_at w o).elems i v }) h.0 (record { fields = refl; elems = length_put_at _ (object_at w o).elems i v h.1 })
 put_bases w (place.Text o) v h = bases_set (length w.statics + length w.states) w.objects o (record (object_at w o) { text = Some v }) h (record { fields = refl; elems = refl })
 put_bases w (place.File n) v h = refl
 put_bases w (place.Prop n) v h = refl

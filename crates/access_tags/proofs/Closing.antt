@@ -5,6 +5,7 @@ use Rattle.std.proofs.lemmas.Bool.{cases_Bool, cases_eq, eqb-true, eq-eqb, ne_eq
 use Rattle.std.proofs.lemmas.List.{length-set, get_or-set_other}
 use Rattle.std.proofs.lemmas.List.Folds.{list_any-append, list_any_more}
 use Rattle.std.proofs.lemmas.Grind.{get_or-set_at}
+use Rattle.std.proofs.Math.Bool.{or-false}
 use Rattle.jvm_model.specs.Builtin.{builtin_count}
 use Rattle.jvm_model.specs.declared.program.Program.{Program}
 use Rattle.jvm_model.specs.declared.values.Kind.{Kind}
@@ -24,21 +25,14 @@ none_reached n h = record {
   listed = λ c. sym (get_or-defaults [] n c false);
 }
 
-pub none_has : (n c : ℕ) → get_or (replicate n false) c false ≡ false
-none_has n c = get_or-defaults [] n c false
-
 -- one class more
 module _ (ms : List Bool) (cs : List ℕ) (class : ℕ) where
   pub add_none : (is_given (length ms) class && not (get_or ms class false)) ≡ false → (c : ℕ) → get_or ms c false ≡ (get_or ms c false || (nat_eq c class && is_given (length ms) c))
   add_none e c = elim (cases_Bool (nat_eq c class)) [
     | inl h ↦ let q = eqb-true c class h in rw h (base (get_or ms c false) (is_given (length ms) c) (subst (λ (i : ℕ). (is_given (length ms) i && not (get_or ms i false)) ≡ false) (sym q) e))
-    | inr h ↦ rw h (plain (get_or ms c false))
+    | inr h ↦ rw h (sym (or-false (get_or ms c false)))
   ]
     where
-      plain : (a : Bool) → a ≡ (a || false)
-      plain true = refl
-      plain false = refl
-
       base : (a b : Bool) → (b && not a) ≡ false → a ≡ (a || b)
       base true b k = refl
       base false true k = absurd (cc)
@@ -54,12 +48,8 @@ module _ (ms : List Bool) (cs : List ℕ) (class : ℕ) where
     pub add_has : (c : ℕ) → get_or (set ms class true) c false ≡ (get_or ms c false || (nat_eq c class && is_given (length ms) c))
     add_has c = elim (cases_eq c class) [
       | inl q ↦ rw (eq-eqb c class q) (rw (get_or-set_at ms class c true false q there) (sym (or_right (get_or ms c false) (is_given (length ms) c) (ap (λ (i : ℕ). is_given (length ms) i) q ∙ given))))
-      | inr q ↦ rw (ne_eqb c class q) (get_or-set_other ms class c true false q ∙ plain (get_or ms c false))
+      | inr q ↦ rw (ne_eqb c class q) (get_or-set_other ms class c true false q ∙ sym (or-false (get_or ms c false)))
     ]
-      where
-        plain : (a : Bool) → a ≡ (a || false)
-        plain true = refl
-        plain false = refl
 
     pub add_reached : AreReached ms cs → AreReached (set ms class true) (cs ++ class ∷ [])
     add_reached r = let n = length-set ms class true in let few = r.few in record {
@@ -70,13 +60,9 @@ module _ (ms : List Bool) (cs : List ℕ) (class : ℕ) where
       ];
       listed = λ c. list_any-append (nat_eq c) cs (class ∷ []) ∙ elim (cases_eq c class) [
         | inl q ↦ rw (eq-eqb c class q) (rw (get_or-set_at ms class c true false q there) (or_right (list_any (nat_eq c) cs) true refl))
-        | inr q ↦ rw (ne_eqb c class q) (plain (list_any (nat_eq c) cs) ∙ (r.listed c ∙ sym (get_or-set_other ms class c true false q)))
+        | inr q ↦ rw (ne_eqb c class q) (or-false (list_any (nat_eq c) cs) ∙ (r.listed c ∙ sym (get_or-set_other ms class c true false q)))
       ];
     }
-      where
-        plain : (a : Bool) → (a || false) ≡ a
-        plain true = refl
-        plain false = refl
 
 -- several classes, one after another
 pub add_more : (xs : List ℕ) (i n m c df : ℕ) (a b e : Bool) → i < length xs → m ≡ n → b ≡ (a || (list_any (nat_eq c) (take i xs) && is_given n c)) → e ≡ (b || (nat_eq c (get_or xs i df) && is_given m c)) →

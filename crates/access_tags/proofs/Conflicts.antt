@@ -45,10 +45,6 @@ and_false : (a : Bool) → false ≡ (a && false)
 and_false true = refl
 and_false false = refl
 
-and_true : (a : Bool) → a ≡ (a && true)
-and_true true = refl
-and_true false = refl
-
 -- the last writer
 pub writer_is : (T : Touches) (t u : ℕ) (l : Location) → 0 < u → u ≤ t → nat_eq u (writer T t l) ≡ (written (T u) l && none_between (writes_in T) u (suc t) l)
 writer_is T zero u l o h = absurd (omega arith)

@@ -2,7 +2,7 @@
 use Rattle.std.proofs.Common.{◌≡◌, ℕ, suc, ◌+◌, ◌-◌, ◌<◌, Bool, true, false, cond, List, [], ◌∷◌, ◌++◌, length, get_or, set, max, refl, sym, ◌∙◌, ap, subst, arith, inl, inr, nat_eq, Option, None, Some, slice_get, length-append}
 use Rattle.std.proofs.Math.Seq.{get_or-append_seam}
 use Rattle.std.proofs.lemmas.Bool.{cases_eq, cases_lt}
-use Rattle.std.proofs.lemmas.List.{length-set, length-map, get_or_append_left, get_or-set_same, get_or-set_other}
+use Rattle.std.proofs.lemmas.List.{length-map, get_or_append_left, get_or-set_same, get_or-set_other}
 use Rattle.jvm_model.specs.declared.values.Head.{Head}
 use Rattle.jvm_model.specs.declared.values.Kind.{Kind}
 use Rattle.jvm_model.specs.declared.values.Kind.TheVariants as kind
@@ -17,6 +17,8 @@ use Rattle.jvm_model.specs.Access.{elems_made, fields_made, made, text_made, wri
 use Rattle.jvm_model.specs.Classes.{blank, elems_of, fields_of, member}
 use Rattle.jvm_model.specs.View.{Exists, keys}
 use Rattle.jvm_model.specs.World.{World, Object, Content, at, put, put_at, keep, size, object_at, no_object, make_object}
+use Rattle.jvm_model.proofs.Locations.{size_put}
+use Rattle.jvm_model.proofs.Ranges.{length_put_at}
 use Rattle.order_law.specs.Histories.{Touches}
 use Rattle.vm_mem.specs.Kept.{Kept}
 use Rattle.vm_mem.specs.Story.{Story, Adds}
@@ -38,7 +40,7 @@ use Rattle.access_tags.proofs.HeadNotes.{heads_made}
 use Rattle.access_tags.specs.Shelf.{count}
 use Rattle.access_tags.specs.Stands.{Stands}
 use Rattle.access_tags.specs.Worlds.{cells_of, bases_of, parts, width}
-use Rattle.access_tags.proofs.Changes.{keys_kept, length-put_at, made_bases, made_cells, put_bases, put_cells}
+use Rattle.access_tags.proofs.Changes.{keys_kept, made_bases, made_cells, put_bases, put_cells}
 use Rattle.access_tags.proofs.Spread.{length-parts}
 
 -- how many objects there are after touches
@@ -116,18 +118,8 @@ laid_put p w (place.Text a) v o c e l h = laid_set p w.objects a o _ e (record {
 laid_put p w (place.File n) v o c e l h = l o h
 laid_put p w (place.Prop n) v o c e l h = l o h
 
-pub size_put : (w : World) (L : Location) (v : Content L) → size (put w L v) ≡ size w
-size_put w (place.Static f) v = refl
-size_put w (place.Init f) v = refl
-size_put w (place.Head a) v = length-set w.objects a _
-size_put w (place.Field a f) v = length-set w.objects a _
-size_put w (place.Elem a i) v = length-set w.objects a _
-size_put w (place.Text a) v = length-set w.objects a _
-size_put w (place.File n) v = refl
-size_put w (place.Prop n) v = refl
-
 statics_put : (w : World) (L : Location) (v : Content L) → Exists w L → length (put w L v).statics ≡ length w.statics
-statics_put w (place.Static f) v h = length-put_at _ w.statics f v h
+statics_put w (place.Static f) v h = length_put_at _ w.statics f v h
 statics_put w (place.Init f) v h = refl
 statics_put w (place.Head a) v h = refl
 statics_put w (place.Field a f) v h = refl
@@ -182,11 +174,11 @@ after_read m k h ts p q f = moved m k h ts (record {
 }) f
 
 pub exists_put : (w : World) (L : Location) (v : Content L) → is_cell L ≡ true → Exists w L → Exists (put w L v) L
-exists_put w (place.Static f) v c e = let l = length-put_at Null w.statics f v e in omega arith
-exists_put w (place.Init f) v c e = let l = length-put_at Idle w.states f v e in omega arith
+exists_put w (place.Static f) v c e = let l = length_put_at Null w.statics f v e in omega arith
+exists_put w (place.Init f) v c e = let l = length_put_at Idle w.states f v e in omega arith
 exists_put w (place.Head a) v c e = absurd (cc)
 exists_put w (place.Field a f) v c e = let s = size_put w (place.Field a f) v in (omega arith, rw (get_or-set_same w.objects a _ no_object e.0) (rw (keys_kept (object_at w a).fields f v e.1) e.1))
-exists_put w (place.Elem a i) v c e = let s = size_put w (place.Elem a i) v in let l = length-put_at Null (object_at w a).elems i v e.1 in (omega arith, rw (get_or-set_same w.objects a _ no_object e.0) (omega arith))
+exists_put w (place.Elem a i) v c e = let s = size_put w (place.Elem a i) v in let l = length_put_at Null (object_at w a).elems i v e.1 in (omega arith, rw (get_or-set_same w.objects a _ no_object e.0) (omega arith))
 exists_put w (place.Text a) v c e = let s = size_put w (place.Text a) v in omega arith
 exists_put w (place.File n) v c e = tt
 exists_put w (place.Prop n) v c e = tt

@@ -4,6 +4,7 @@ use Rattle.std.proofs.lemmas.Bool.{cases_Bool, cases_eq, cases_order, eqb-true, 
 use Rattle.std.proofs.lemmas.List.{append_assoc, get_or-set_other}
 use Rattle.std.proofs.lemmas.List.Folds.{list_any-append}
 use Rattle.std.proofs.lemmas.Grind.{get_or-set_at}
+use Rattle.std.proofs.Math.Bool.{or-false}
 use Rattle.std.proofs.Math.Nat.{mul_comm}
 use Rattle.std.proofs.lemmas.Nat.{mul-add-lt}
 use Rattle.jvm_model.specs.declared.values.Kind.{Kind}
@@ -15,10 +16,6 @@ use Rattle.jvm_model.specs.Access.{write_of, made, fields_made, elems_made, text
 use Rattle.order_law.specs.Histories.{Touches}
 use Rattle.order_law.specs.Reach.{inner_class}
 use Rattle.access_tags.specs.HeadMarks.{is_class, is_head_of, touches_class, touches_so_far, is_marked, AreMarked}
-
-or_false : (a : Bool) → (a || false) ≡ a
-or_false true = refl
-or_false false = refl
 
 -- no marks and no touches
 pub heads_none : (kinds : ℕ → ℕ → Kind) (T : Touches) (n : ℕ) → AreMarked kinds T 0 [] n []
@@ -51,7 +48,7 @@ module _ (kinds : ℕ → ℕ → Kind) (T : Touches) (t : ℕ) (ts : List Touch
   more_touches : (us : List Touch) (u c : ℕ) → touches_class (kinds u) c (touches_so_far T t (ts ++ us) u) ≡ (touches_class (kinds u) c (touches_so_far T t ts u) || (nat_eq u t && touches_class (kinds u) c us))
   more_touches us u c = elim (cases_Bool (nat_eq u t)) [
     | inl e ↦ rw e (list_any-append (λ (x : Touch). is_head_of (kinds u) c x.location) ts us)
-    | inr e ↦ rw e (sym (or_false (touches_class (kinds u) c (cond (nat_lt u t) (T u) []))))
+    | inr e ↦ rw e (sym (or-false (touches_class (kinds u) c (cond (nat_lt u t) (T u) []))))
   ]
 
   pub heads_quiet : (us : List Touch) (ms : List Bool) → ((k : ℕ → Kind) (c : ℕ) → touches_class k c us ≡ false) → AreMarked kinds T t ts n ms → AreMarked kinds T t (ts ++ us) n ms
@@ -68,7 +65,7 @@ module _ (kinds : ℕ → ℕ → Kind) (T : Touches) (t : ℕ) (ts : List Touch
   heads_noted x o kind ms ns l k f m u c h = f u c h ∙ (rw (m u c h) (sym (more_touches (x ∷ []) u c ∙ ap (λ (b : Bool). touches_class (kinds u) c (touches_so_far T t ts u) || b) (here u (cases_Bool (nat_eq u t))))))
     where
       here : (u : ℕ) → (nat_eq u t ≡ true) ⊎ (nat_eq u t ≡ false) → (nat_eq u t && (is_head_of (kinds u) c x.location || false)) ≡ (nat_eq u t && is_class (inner_class kind) c)
-      here u (inl e) = rw e (or_false (is_head_of (kinds u) c x.location) ∙ (rw l (ap (λ (i : ℕ). is_class (inner_class (kinds i o)) c) (eqb-true u t e) ∙ ap (λ (z : Kind). is_class (inner_class z) c) k)))
+      here u (inl e) = rw e (or-false (is_head_of (kinds u) c x.location) ∙ (rw l (ap (λ (i : ℕ). is_class (inner_class (kinds i o)) c) (eqb-true u t e) ∙ ap (λ (z : Kind). is_class (inner_class z) c) k)))
       here u (inr e) = rw e refl
 
 -- the places of two classes among the marks differ
@@ -91,7 +88,7 @@ one_marked n ms ns t d at p k same there u c h = elim (cases_eq (u * n + c) at) 
       rw (lt-ltb c n h) (rw (eq-eqb u t q.0) (rw (eq-eqb d c (sym q.1)) (get_or-set_at ns at (u * n + c) true false e there ∙ sym (or_true (get_or ms (u * n + c) false)))))
   | inr e ↦
       let f : (nat_eq u t && nat_eq d c) ≡ false = both_false (nat_eq u t) (nat_eq d c) (λ a b. e (ap (λ (i : ℕ). i * n + c) (eqb-true u t a) ∙ (ap (λ (i : ℕ). t * n + i) (sym (eqb-true d c b)) ∙ sym p))) in
-      rw (lt-ltb c n h) (rw f (get_or-set_other ns at (u * n + c) true false e ∙ (same (u * n + c) ∙ sym (or_false (get_or ms (u * n + c) false)))))
+      rw (lt-ltb c n h) (rw f (get_or-set_other ns at (u * n + c) true false e ∙ (same (u * n + c) ∙ sym (or-false (get_or ms (u * n + c) false)))))
 ]
   where
     or_true : (a : Bool) → (a || true) ≡ true
@@ -101,9 +98,9 @@ one_marked n ms ns t d at p k same there u c h = elim (cases_eq (u * n + c) at) 
 -- classes that are looked at one after another
 pub class_more : (c d : ℕ) (m g a b e : Bool) → b ≡ (a || ((nat_lt c d && m) && g)) → (c ≡ d → m ≡ true) → e ≡ (b || (nat_eq c d && g)) → e ≡ (a || ((nat_lt c (d + 1) && m) && g))
 class_more c d m g a b e p f r = r ∙ (rw p (elim (cases_order c d) [
-  | inl q ↦ rw (le-ltb c d (omega arith)) (rw (lt-ltb c (d + 1) (omega arith)) (rw (eq-eqb c d q) (rw (f q) (ap (λ (x : Bool). x || g) (or_false a)))))
-  | inr (inl l) ↦ rw (lt-ltb c d l) (rw (lt-ltb c (d + 1) (omega arith)) (rw (ne_eqb c d (λ q. omega arith)) (or_false (a || (m && g)))))
-  | inr (inr l) ↦ rw (le-ltb c d (omega arith)) (rw (le-ltb c (d + 1) (omega arith)) (rw (ne_eqb c d (λ q. omega arith)) (or_false (a || false))))
+  | inl q ↦ rw (le-ltb c d (omega arith)) (rw (lt-ltb c (d + 1) (omega arith)) (rw (eq-eqb c d q) (rw (f q) (ap (λ (x : Bool). x || g) (or-false a)))))
+  | inr (inl l) ↦ rw (lt-ltb c d l) (rw (lt-ltb c (d + 1) (omega arith)) (rw (ne_eqb c d (λ q. omega arith)) (or-false (a || (m && g)))))
+  | inr (inr l) ↦ rw (le-ltb c d (omega arith)) (rw (le-ltb c (d + 1) (omega arith)) (rw (ne_eqb c d (λ q. omega arith)) (or-false (a || false))))
 ]))
 
 pub class_same : (c d : ℕ) (m g a b : Bool) → b ≡ (a || ((nat_lt c d && m) && g)) → (c ≡ d → m ≡ false) → b ≡ (a || ((nat_lt c (d + 1) && m) && g))

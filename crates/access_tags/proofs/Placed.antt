@@ -1,5 +1,5 @@
 -- What is shown of parts and rows, one after another, and that it is what the definition shows.
-use Rattle.std.proofs.Common.{◌≡◌, ◌⊎◌, ◌+◌, ◌-◌, ◌<◌, ◌≤◌, ℕ, zero, suc, List, [], ◌∷◌, ◌++◌, length, get_or, map, flat_map, take, min, refl, sym, ◌∙◌, ap, subst, arith, inl, inr, Option, Some, None}
+use Rattle.std.proofs.Common.{◌≡◌, ◌+◌, ◌-◌, ◌<◌, ◌≤◌, ℕ, zero, suc, List, [], ◌∷◌, ◌++◌, length, get_or, map, take, min, refl, sym, ◌∙◌, ap, subst, arith, inl, inr, Option, Some, None}
 use Rattle.std.specs.List.{range_with_len}
 use Rattle.std.proofs.lemmas.List.{append_assoc, map-append, take_all}
 use Rattle.jvm_model.specs.declared.program.Program.{Program}
@@ -15,6 +15,7 @@ use Rattle.order_law.specs.Histories.{Touches, IsTestNumber}
 use Rattle.order_law.specs.OwnRecord.{conflict_places_in, edge_of, edges_between_in}
 use Rattle.order_law.specs.Pairing.{PairedList, no_more, one_more}
 use Rattle.order_law.specs.Walk.{Walk, IsPlaceIn, IsShownIn, IsWalkText, read_text}
+use Rattle.order_law.proofs.Members.{member_either, member_flat_map}
 use Rattle.order_law.proofs.OwnRecord.{range_within}
 use Rattle.access_tags.specs.declared.hit.Spot.{Spot}
 use Rattle.access_tags.specs.declared.hit.Spot.TheVariants as spot
@@ -53,15 +54,6 @@ pub mapped_on : {A B : Type 0} (f : A → B) (zs : List B) (xs : List A) (i : �
 mapped_on {A} {B} f zs xs i d x h p = append_assoc zs (map f (take i xs)) (f x ∷ []) ∙ ap (λ (us : List B). zs ++ us) (sym (map-append f (take i xs) (x ∷ [])) ∙ ap (λ (us : List A). map f us) (ap (λ (a : A). take i xs ++ a ∷ []) p ∙ take_more xs i d h))
 
 -- members of lists
-either_edge : (xs ys : List Edge) (e : Edge) → Member e (xs ++ ys) → Member e xs ⊎ Member e ys
-either_edge [] ys e m = inr m
-either_edge (x ∷ xs) ys e (inl q) = inl (inl q)
-either_edge (x ∷ xs) ys e (inr m) = elim (either_edge xs ys e m) [ inl k ↦ inl (inr k) | inr k ↦ inr k ]
-
-from_flat : (f : ℕ → List Edge) (xs : List ℕ) (e : Edge) → Member e (flat_map f xs) → (u : ℕ) × Member u xs × Member e (f u)
-from_flat f [] e m = absurd m
-from_flat f (x ∷ xs) e m = elim (either_edge (f x) (flat_map f xs) e m) [ inl k ↦ (x, inl refl, k) | inr k ↦ let r = from_flat f xs e k in (r.0, inr r.1, r.2) ]
-
 take_member : (i : ℕ) (ls : List Location) (L : Location) → Member L (take i ls) → Member L ls
 take_member zero [] L m = absurd m
 take_member zero (M ∷ ls) L m = absurd m
@@ -83,16 +75,16 @@ module _ (p : Program) (T : Touches) (by : ℕ → ℕ × ℕ) where
 
   between_ends : (u t : ℕ) (e : Edge) → Member e (edges_between_in p T by u t) → (e.earlier ≡ u) × (e.later ≡ t)
   unfolding edges_between_in
-  between_ends u t e m = elim (either_edge (edge_of p by Raw u t (conflict_places_in T Raw u t)) _ e m) [
+  between_ends u t e m = elim (member_either (edge_of p by Raw u t (conflict_places_in T Raw u t)) _ e m) [
     | inl k ↦ edge_ends Raw u t (conflict_places_in T Raw u t) e k
-    | inr k ↦ elim (either_edge (edge_of p by Waw u t (conflict_places_in T Waw u t)) _ e k) [
+    | inr k ↦ elim (member_either (edge_of p by Waw u t (conflict_places_in T Waw u t)) _ e k) [
       | inl j ↦ edge_ends Waw u t (conflict_places_in T Waw u t) e j
       | inr j ↦ edge_ends War u t (conflict_places_in T War u t) e j
     ]
   ]
 
   at_ends : (t : ℕ) (e : Edge) → Member e (edges_at p T by t) → (0 < e.earlier) × (e.earlier < t) × (e.later ≡ t)
-  at_ends t e m = let r = from_flat (λ u. edges_between_in p T by u t) (range_with_len 1 (t - 1)) e m in
+  at_ends t e m = let r = member_flat_map (λ u. edges_between_in p T by u t) (range_with_len 1 (t - 1)) e m in
       let w = range_within (t - 1) 1 r.0 r.1 in let b = between_ends r.0 t e r.2 in
       let lo = w.0 in let hi = w.1 in let q = b.0 in (omega arith, omega arith, b.1)
 

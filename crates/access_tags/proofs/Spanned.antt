@@ -1,12 +1,13 @@
 -- The parts of stretches, one more at a time.
 use Rattle.std.proofs.Common.{◌≡◌, ℕ, zero, suc, ◌+◌, ◌-◌, ◌<◌, ◌≤◌, Bool, true, false, ◌&&◌, nat_eq, List, [], ◌∷◌, ◌++◌, length, get_or, set, take, map, flat_map, refl, sym, ◌∙◌, ap, subst, arith, inl, inr}
 use Rattle.std.specs.List.{range_with_len, list_all}
-use Rattle.std.proofs.lemmas.Bool.{cases_lt, cases_eq, eqb-true}
+use Rattle.std.proofs.lemmas.Bool.{cases_lt, cases_eq, eqb-true, and_parts}
 use Rattle.std.proofs.lemmas.Grind.{flat_map-append, get_or-set_at}
 use Rattle.std.proofs.lemmas.List.{append-nil, append_assoc, length-append, length-set, get_or_append_left, get_or-append_right, get_or-set_other, take_more}
 use Rattle.std.proofs.lemmas.List.Concat.{get_or-flat_map}
 use Rattle.std.proofs.lemmas.List.Folds.{length-flat_map-take, list_all-append, list_all_at}
 use Rattle.std.proofs.lemmas.List.FromFn.{get_or-map-range_with_len, length-map-range_with_len, map-range_with_len_more}
+use Rattle.std.proofs.Math.Bool.{and-true}
 use Rattle.std.proofs.Math.Seq.{take-length}
 use Rattle.access_tags.specs.declared.cells.Cells.{Cells}
 use Rattle.access_tags.specs.declared.hit.Spot.{Spot}
@@ -51,17 +52,12 @@ same_init e c q = ap (λ (i : ℕ). spot.Init i) (sym (eqb-true c e q))
 pub same_name : (e k : ℕ) → nat_eq k e ≡ true → spot.Named e ≡ spot.Named k
 same_name e k q = ap (λ (i : ℕ). spot.Named i) (sym (eqb-true k e q))
 
-both : (a b : Bool) → (a && b) ≡ true → (a ≡ true) × (b ≡ true)
-both true true q = (refl, refl)
-both true false q = absurd (cc)
-both false b q = absurd (cc)
-
 pub same_field : (o e p f : ℕ) → (nat_eq p o && nat_eq f e) ≡ true → spot.Field o e ≡ spot.Field p f
-same_field o e p f q = let h = both (nat_eq p o) (nat_eq f e) q in
+same_field o e p f q = let h = and_parts (nat_eq p o) (nat_eq f e) q in
     ap (λ (i : ℕ). spot.Field i e) (sym (eqb-true p o h.0)) ∙ ap (λ (i : ℕ). spot.Field p i) (sym (eqb-true f e h.1))
 
 pub same_elem : (o e p f : ℕ) → (nat_eq p o && nat_eq f e) ≡ true → spot.Elem o e ≡ spot.Elem p f
-same_elem o e p f q = let h = both (nat_eq p o) (nat_eq f e) q in
+same_elem o e p f q = let h = and_parts (nat_eq p o) (nat_eq f e) q in
     ap (λ (i : ℕ). spot.Elem i e) (sym (eqb-true p o h.0)) ∙ ap (λ (i : ℕ). spot.Elem p i) (sym (eqb-true f e h.1))
 
 -- a test of the parts
@@ -69,11 +65,7 @@ pub all_none : (f : Touched → Bool) (s : Stretch) → list_all f (parts_to s s
 all_none f s = ap (λ (ys : List Touched). list_all f ys) (to_none s)
 
 pub all_to : (f : Touched → Bool) (s : Stretch) (i : ℕ) → s.first ≤ i → list_all f (parts_to s (i + 1)) ≡ (list_all f (parts_to s i) && f (part_at s i))
-all_to f s i h = ap (λ (ys : List Touched). list_all f ys) (to_more s i h) ∙ (list_all-append f (parts_to s i) (part_at s i ∷ []) ∙ ap (λ (b : Bool). list_all f (parts_to s i) && b) (and_true (f (part_at s i))))
-  where
-    and_true : (b : Bool) → (b && true) ≡ b
-    and_true true = refl
-    and_true false = refl
+all_to f s i h = ap (λ (ys : List Touched). list_all f ys) (to_more s i h) ∙ (list_all-append f (parts_to s i) (part_at s i ∷ []) ∙ ap (λ (b : Bool). list_all f (parts_to s i) && b) (and-true (f (part_at s i))))
 
 -- the parts of all
 pub parts_more : (ss : List Stretch) (i : ℕ) (d : Stretch) → i < length ss → parts (take (i + 1) ss) ≡ parts (take i ss) ++ parts_of (get_or ss i d)

@@ -1,9 +1,10 @@
 -- Where the locations of a world stand among them.
-use Rattle.std.proofs.Common.{◌≡◌, ◌≢◌, ℕ, zero, suc, ◌+◌, ◌-◌, ◌<◌, ◌≤◌, Bool, true, false, ◌||◌, List, [], ◌∷◌, ◌++◌, length, get_or, map, refl, sym, ◌∙◌, ap, subst, arith, nat_eq, inl, inr, Option, Some, None, length-append}
+use Rattle.std.proofs.Common.{◌≡◌, ◌≢◌, ℕ, zero, suc, ◌+◌, ◌-◌, ◌<◌, ◌≤◌, Bool, true, false, ◌||◌, List, [], ◌∷◌, ◌++◌, length, get_or, map, refl, sym, ◌∙◌, ap, subst, arith, nat_eq, inl, inr, Some, length-append}
 use Rattle.std.specs.List.{list_any, range_with_len}
 use Rattle.std.proofs.lemmas.Bool.{cases_Bool, cases_eq, eqb-true, eq-eqb}
 use Rattle.std.proofs.lemmas.List.{length-map}
 use Rattle.std.proofs.lemmas.List.Folds.{list_any-append}
+use Rattle.std.proofs.lemmas.Option.{same_Some}
 use Rattle.jvm_model.specs.declared.values.Location.{Location}
 use Rattle.jvm_model.specs.declared.values.Location.TheVariants as place
 use Rattle.jvm_model.specs.declared.values.Value.{Value}
@@ -104,12 +105,9 @@ length-parts o x =
 -- another object's parts
 of_other : (L M : Location) (o a : ℕ) → place_of L ≡ Some o → place_of M ≡ Some a → o ≢ a → same L M ≡ false
 of_other L M o a e f d = elim (cases_Bool (same L M)) [
-  | inl s ↦ absurd (d (some_same (sym e ∙ (ap (λ (N : Location). place_of N) (same_true L M s) ∙ f))))
+  | inl s ↦ absurd (d (same_Some o a (sym e ∙ (ap (λ (N : Location). place_of N) (same_true L M s) ∙ f))))
   | inr s ↦ s
 ]
-  where
-    some_same : {x y : ℕ} → Some x ≡ Some y → x ≡ y
-    some_same {x} {y} q = ap (λ (z : Option ℕ). elim z [ None ↦ 0 | Some n ↦ n ]) q
 
 other_object : (L : Location) (o a : ℕ) (x : Object) → place_of L ≡ Some o → o ≢ a → list_any (same L) (parts a x) ≡ false
 other_object L o a x e d = both_false _ _ (of_other L (place.Head a) o a e refl d) (both_false _ _ (of_other L (place.Text a) o a e refl d)

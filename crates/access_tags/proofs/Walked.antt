@@ -7,6 +7,7 @@ use Rattle.std.proofs.lemmas.List.{append-nil, reverse-append, map-append}
 use Rattle.std.proofs.lemmas.List.Folds.{list_any-append}
 use Rattle.std.proofs.lemmas.Map.Keys.{IsDistinct-push}
 use Rattle.std.proofs.lemmas.Map.Steps.{length-le_from_distinct_below}
+use Rattle.std.proofs.lemmas.Option.{same_Some}
 use Rattle.jvm_model.specs.declared.values.Location.{Location}
 use Rattle.jvm_model.specs.declared.values.Touch.{Touch}
 use Rattle.order_law.specs.Walk.{first_giving, holder, Walk, from_static, through}
@@ -16,9 +17,6 @@ use Rattle.access_tags.specs.declared.meetings.Met.{Met}
 use Rattle.access_tags.specs.Numbering.{located}
 use Rattle.access_tags.specs.Meeting.{met_by, location_of, Meet}
 use Rattle.access_tags.proofs.FirstReads.{met_none}
-
-of_some : {A : Type 0} {x y : A} → Some x ≡ Some y → x ≡ y
-of_some e = cc
 
 -- what is left of a walk when these parts of it, the last one first, are known
 abbrev pub Left : List Touch → ℕ → List Spot → List Touch → Type 0
@@ -33,7 +31,7 @@ goes_first ms t object ts ys p m w = (ys, w, sym (append-nil (map location_of ys
 -- the read that first gave an object
 module _ (ms : List Met) (t : ℕ) (ts : List Touch) (m : Meet t ts ms) (p : 0 < t) where
   first_there : (o : ℕ) (x : Touch) (s : Spot) → first_giving ts o ≡ Some x → met_by ms t o ≡ Some s → located [] s ≡ x.location
-  first_there o x s f e = of_some (sym (ap (λ (z : Option Spot). option_map (located []) z) e) ∙ (m.first p o ∙ ap (λ (z : Option Touch). option_map location_of z) f))
+  first_there o x s f e = same_Some _ _ (sym (ap (λ (z : Option Spot). option_map (located []) z) e) ∙ (m.first p o ∙ ap (λ (z : Option Touch). option_map location_of z) f))
 
   never_none : (o : ℕ) (x : Touch) → first_giving ts o ≡ Some x → met_by ms t o ≡ None → ⊥
   never_none o x f e = let z : None ≡ Some x.location = sym (ap (λ (z : Option Spot). option_map (located []) z) e) ∙ (m.first p o ∙ ap (λ (z : Option Touch). option_map location_of z) f) in cc
@@ -116,6 +114,6 @@ goes_on ms t object at reads s b e n g ts ys p m w = let l = g ts ys p m w in on
     on zs (from_static {f = f} {x = x} g k) q n' = absurd (let z : Some b ≡ None = sym n ∙ (ap holder (first_there ms t ts m p at x s g (e p)) ∙ ap holder k) in cc)
     on zs (through {a = a} {x = x} {xs = xs} f h v) q n' =
         let there = first_there ms t ts m p at x s f (e p) in
-        let same : b ≡ a = of_some (sym n ∙ (ap holder there ∙ h)) in
+        let same : b ≡ a = same_Some _ _ (sym n ∙ (ap holder there ∙ h)) in
         let i = length-append xs (x ∷ []) in let j = length-append reads (s ∷ []) in
         (xs, subst (λ (o : ℕ). Walk ts o xs) (sym same) v, q ∙ read_more xs x reads s there, omega arith)

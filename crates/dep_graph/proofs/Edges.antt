@@ -3,18 +3,7 @@ use Rattle.std.proofs.Common.{◌≡◌, ◌⊎◌, ℕ, zero, suc, ◌<◌, ◌
 use Rattle.order_law.specs.declared.edges.Edge.{Edge}
 use Rattle.order_law.specs.declared.edges.EdgeKind.{EdgeKind}
 use Rattle.order_law.specs.Conflicts.{HasEdge, Before, edge, chain}
-
-pub edge_left : (R S : List Edge) (k : EdgeKind) (u t : ℕ) → HasEdge R k u t → HasEdge (R ++ S) k u t
-edge_left [] S k u t h = absurd h
-edge_left (e ∷ R) S k u t h = elim h [ inl x ↦ inl x | inr j ↦ inr (edge_left R S k u t j) ]
-
-pub edge_right : (R S : List Edge) (k : EdgeKind) (u t : ℕ) → HasEdge S k u t → HasEdge (R ++ S) k u t
-edge_right [] S k u t h = h
-edge_right (e ∷ R) S k u t h = inr (edge_right R S k u t h)
-
-pub edge_either : (R S : List Edge) (k : EdgeKind) (u t : ℕ) → HasEdge (R ++ S) k u t → HasEdge R k u t ⊎ HasEdge S k u t
-edge_either [] S k u t h = inr h
-edge_either (e ∷ R) S k u t h = elim h [ inl x ↦ inl (inl x) | inr j ↦ elim (edge_either R S k u t j) [ inl a ↦ inl (inr a) | inr b ↦ inr b ] ]
+use Rattle.order_law.proofs.Members.{edge_left, edge_right, edge_either, before_up}
 
 pub edge_taken : (i : ℕ) (R : List Edge) (k : EdgeKind) (u t : ℕ) → HasEdge (take i R) k u t → HasEdge R k u t
 edge_taken zero R k u t h = absurd h
@@ -30,10 +19,6 @@ more : (R S : List Edge) {u t : ℕ} → Before R u t → Before (R ++ S) u t
 more R S (edge k {u} {t} h) = edge k (edge_left R S k u t h)
 more R S (chain a b) = chain (more R S a) (more R S b)
 
-pub rises : (R : List Edge) → ((k : EdgeKind) (u t : ℕ) → HasEdge R k u t → u < t) → {u t : ℕ} → Before R u t → u < t
-rises R up (edge k {u} {t} h) = up k u t h
-rises R up (chain {u} {v} {t} a b) = let x : u < v = rises R up a in let y : v < t = rises R up b in omega arith
-
 pub stays_within : (R : List Edge) (n : ℕ) → ((k : EdgeKind) (u t : ℕ) → HasEdge R k u t → t ≤ n) → {u t : ℕ} → Before R u t → t ≤ n
 stays_within R n f (edge k {u} {t} h) = f k u t h
 stays_within R n f (chain a b) = stays_within R n f b
@@ -45,8 +30,8 @@ module _ (R : List Edge) (e : Edge) (up : e.earlier < e.later) (rise : (k : Edge
 
   after_last : (u v t : ℕ) → ByLast u v → (Before R v t ⊎ ByLast v t) → ⊥
   after_last u v t p q = elim q [
-    | inl b ↦ let x : v < t = rises R rise b in let y : t ≤ e.later = stays_within R e.later last b in let z = p.0 in omega arith
-    | inr c ↦ elim c.1 [ inl s ↦ let z = p.0 in omega arith | inr b ↦ let x : v < e.earlier = rises R rise b in let z = p.0 in omega arith ]
+    | inl b ↦ let x : v < t = before_up R rise b in let y : t ≤ e.later = stays_within R e.later last b in let z = p.0 in omega arith
+    | inr c ↦ elim c.1 [ inl s ↦ let z = p.0 in omega arith | inr b ↦ let x : v < e.earlier = before_up R rise b in let z = p.0 in omega arith ]
   ]
 
   joined : (u v t : ℕ) → (Before R u v ⊎ ByLast u v) → (Before R v t ⊎ ByLast v t) → Before R u t ⊎ ByLast u t

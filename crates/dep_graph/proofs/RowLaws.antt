@@ -1,7 +1,8 @@
 -- The rows after one more edge.
-use Rattle.std.proofs.Common.{◌≡◌, ◌⊎◌, ℕ, zero, suc, ◌+◌, ◌/◌, ◌%◌, ◌<◌, ◌≤◌, ◌↔◌, Bool, true, false, ◌&&◌, ◌||◌, nat_eq, List, [], ◌∷◌, ◌++◌, length, take, drop, get_or, set, refl, sym, ◌∙◌, ap, subst, inl, inr, arith}
+use Rattle.std.proofs.Common.{◌≡◌, ℕ, zero, suc, ◌+◌, ◌/◌, ◌%◌, ◌<◌, ◌≤◌, Bool, true, false, ◌&&◌, ◌||◌, nat_eq, List, [], ◌∷◌, ◌++◌, length, take, drop, get_or, set, refl, sym, ◌∙◌, ap, subst, inl, inr}
 use Rattle.std.proofs.lemmas.Bool.{and_parts, and_from, or_cases, or_left, or_right, eqb-true, eq-eqb, ne_eqb, cases_eq, true≢false}
 use Rattle.std.proofs.lemmas.List.{take_more, get_or-set_same, get_or-set_other, get_or_past}
+use Rattle.std.proofs.Math.Bool.{or-false}
 use Rattle.std.proofs.Math.Seq.{drop-cons}
 use Rattle.order_law.specs.declared.edges.Edge.{Edge}
 use Rattle.order_law.specs.declared.edges.EdgeKind.{EdgeKind}
@@ -82,10 +83,6 @@ swapped true true z = refl
 swapped true false z = refl
 swapped false y z = refl
 
-or_false : (x : Bool) → (x || false) ≡ x
-or_false true = refl
-or_false false = refl
-
 -- the row that one edge changes
 pub row_added : (rows : List TestSet) (row : TestSet) (a b : ℕ) → b < length rows →
     ((u : ℕ) → holds row u ≡ (nat_eq u a || (holds (get_or rows b nothing) u || has_row rows u a))) →
@@ -98,6 +95,6 @@ row_added rows row a b lt f u t = elim (cases_eq t b) [
       ∙ ap (λ (x : Bool). has_row rows u t || (x && (nat_eq u a || has_row rows u a))) (sym (eq-eqb t b e))
   | inr e ↦
       ap (λ (x : TestSet). holds x u) (get_or-set_other rows b t row nothing e)
-      ∙ sym (or_false (has_row rows u t))
+      ∙ sym (or-false (has_row rows u t))
       ∙ ap (λ (x : Bool). has_row rows u t || (x && (nat_eq u a || has_row rows u a))) (sym (ne_eqb t b e))
 ]

@@ -1,5 +1,5 @@
 -- The lists of raw writers after one more edge.
-use Rattle.std.proofs.Common.{◌≡◌, ◌≢◌, ◌⊎◌, ℕ, zero, suc, ◌+◌, ◌<◌, ◌≤◌, ◌↔◌, List, [], ◌∷◌, ◌++◌, length, take, drop, get_or, set, refl, sym, ◌∙◌, ap, subst, inl, inr, arith}
+use Rattle.std.proofs.Common.{◌≡◌, ℕ, zero, suc, ◌+◌, ◌<◌, List, [], ◌∷◌, ◌++◌, length, take, drop, get_or, set, refl, sym, ◌∙◌, ap, subst, inl, inr}
 use Rattle.std.proofs.lemmas.Bool.{cases_eq}
 use Rattle.std.proofs.lemmas.List.{get_or-set_same, get_or-set_other}
 use Rattle.std.proofs.Math.ListN.{length-set}
@@ -8,21 +8,9 @@ use Rattle.order_law.specs.declared.edges.EdgeKind.{EdgeKind}
 use Rattle.order_law.specs.declared.edges.EdgeKind.TheVariants.{Raw}
 use Rattle.order_law.specs.Conflicts.{Member, HasEdge}
 use Rattle.order_law.specs.Plan.{Ascending}
+use Rattle.order_law.proofs.Members.{member_left, member_right, member_either, edge_left, edge_right, edge_either}
 use Rattle.dep_graph.specs.Graphs.{AreOrdered, AreWriters, AreSources}
-use Rattle.dep_graph.proofs.Edges.{edge_taken, edge_left, edge_right, edge_either}
 use Rattle.dep_graph.proofs.RowLaws.{next_edge, one_more}
-
-pub member_either : (l m : List ℕ) (x : ℕ) → Member x (l ++ m) → Member x l ⊎ Member x m
-member_either [] m x h = inr h
-member_either (y ∷ l) m x h = elim h [ inl e ↦ inl (inl e) | inr j ↦ elim (member_either l m x j) [ inl a ↦ inl (inr a) | inr b ↦ inr b ] ]
-
-pub member_left : (l m : List ℕ) (x : ℕ) → Member x l → Member x (l ++ m)
-member_left [] m x h = absurd h
-member_left (y ∷ l) m x h = elim h [ inl e ↦ inl e | inr j ↦ inr (member_left l m x j) ]
-
-pub member_right : (l m : List ℕ) (x : ℕ) → Member x m → Member x (l ++ m)
-member_right [] m x h = h
-member_right (y ∷ l) m x h = inr (member_right l m x h)
 
 pub ascending_more : (l : List ℕ) (u : ℕ) → Ascending l → ((x : ℕ) → Member x l → x < u) → Ascending (l ++ (u ∷ []))
 ascending_more [] u a f = (λ x h. absurd h, tt)

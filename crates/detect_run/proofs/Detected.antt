@@ -2,6 +2,7 @@
 use Rattle.std.proofs.Common.{◌≡◌, ℕ, ◌+◌, List, [], ◌∷◌, map, length, slice_get, sum, Some, None, refl, sym, ◌∙◌, ap, subst, arith}
 use Rattle.std.proofs.lemmas.List.Recursion.{is_sum_by}
 use Rattle.std.proofs.lemmas.List.Sums.{sum-map}
+use Rattle.std.proofs.lemmas.Option.{slice_get_within}
 use Rattle.jvm_model.specs.declared.outcome.Outcome.{Outcome}
 use Rattle.jvm_model.specs.declared.values.Touch.{Touch}
 use Rattle.jvm_model.specs.declared.program.Program.{Program}
@@ -22,7 +23,7 @@ use Rattle.test_run.specs.Lists.{RanList}
 use Rattle.access_tags.specs.Ran.{story_to, touched_by, owner_by, HaveWalks, kinds_in}
 use Rattle.detect_run.specs.Detection.{IsOwnRun}
 use Rattle.detect_run.proofs.InOrder.{world_at, gave_all, story_all, world_last, units_listed}
-use Rattle.detect_run.proofs.Kept.{has_run, listed_below}
+use Rattle.detect_run.proofs.Kept.{has_run}
 use Rattle.detect_run.proofs.OwnRun.{owners, have_walks, reach_own}
 
 module _ (p : Program) (ty : IsTyped p) {M : Type 0} (world : M → World) (follows : M → Story → List Touch → Type 0) (m : M) (us : List ℕ) (run : IsOwnRun world follows p m us) where
@@ -62,7 +63,7 @@ module _ (p : Program) (ty : IsTyped p) {M : Type 0} (world : M → World) (foll
         ((S : Touches) → Told S → (i : ℕ) (r : Reach) → slice_get rs i ≡ Some r → IsReachIn q S (kinds_in (world m)) (i + 1) r) →
         (i : ℕ) (r : Reach) → slice_get rs i ≡ Some r → IsReachOf p (i + 1) r
     reach_found rs n f i r e =
-        let h = listed_below rs i r e in
+        let h = slice_get_within rs i r e in
         let each = reach_each rs n in
         reach_own p ty xs (has_run p run.detected).ran (world m) run.left (i + 1) r (omega arith, omega arith) (subst (λ (z : Program). IsReachIn z T (kinds_in (world m)) (i + 1) r) same (f T told_so i r e))
 

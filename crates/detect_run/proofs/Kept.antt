@@ -4,6 +4,7 @@ use Rattle.std.specs.List.{list_all}
 use Rattle.std.proofs.lemmas.Bool.{and_from, and_parts, eq-eqb, le-leb, leb-true, lt-ltb}
 use Rattle.std.proofs.lemmas.List.{length-map}
 use Rattle.std.proofs.lemmas.List.FromFn.{length-range_with_len}
+use Rattle.std.proofs.lemmas.Option.{slice_get_within}
 use Rattle.jvm_model.specs.declared.program.Program.{Program}
 use Rattle.jvm_model.specs.Builtin.{builtin_count}
 use Rattle.jvm_model.specs.State.{test_at}
@@ -53,11 +54,6 @@ all_listed : (f : Reach → Bool) (rs : List Reach) → ((i : ℕ) (r : Reach) �
 all_listed f [] h = refl
 all_listed f (r ∷ rs) h = and_from (f r) (list_all f rs) (h 0 r refl) (all_listed f rs (λ i s e. h (suc i) s e))
 
-pub listed_below : {A : Type 0} (xs : List A) (i : ℕ) (x : A) → slice_get xs i ≡ Some x → i < length xs
-listed_below [] i x e = absurd (cc)
-listed_below (y ∷ xs) zero x e = omega arith
-listed_below (y ∷ xs) (suc i) x e = let h = listed_below xs i x e in omega arith
-
 module _ (p : Program) (ty : IsTyped p) (detected : is_detected p ≡ true) where
   abbrev own_units : List ℕ
   own_units = map (λ t. units_in (seq p t)) (all_tests p)
@@ -100,7 +96,7 @@ module _ (p : Program) (ty : IsTyped p) (detected : is_detected p ≡ true) wher
       ∙ own_form (ap (λ (z : List Edge). list_all (λ e. is_place_text e.first) z) (sym g) ∙ h)
 
   each_reach : (c : ℕ) (rs : List Reach) → c ≡ length p.classes - builtin_count → length rs ≡ length p.tests → ((i : ℕ) (r : Reach) → slice_get rs i ≡ Some r → IsReachOf p (i + 1) r) → list_all (λ r. is_reach c r) rs ≡ true
-  each_reach c rs e n f = all_listed (λ r. is_reach c r) rs (λ i r g. let h = listed_below rs i r g in
+  each_reach c rs e n f = all_listed (λ r. is_reach c r) rs (λ i r g. let h = slice_get_within rs i r g in
       ap (λ (k : ℕ). is_reach k r) e ∙ reach_law p (touches_of p) (kinds_of p) (i + 1) r ty.linked (omega arith, omega arith) (f i r g))
 
   pub reach_form : (us : List ℕ) (m : More) → us ≡ own_units → length m.classes ≡ length p.classes - builtin_count → length m.reach ≡ length p.tests →

@@ -1,5 +1,5 @@
 -- How many objects a run makes, by its touches; and that the objects that it touches stand.
-use Rattle.std.proofs.Common.{◌≡◌, ℕ, suc, ◌<◌, ◌≤◌, max, List, [], ◌∷◌, ◌++◌, true, nat_lt, Option, Some, None, refl, sym, ◌∙◌, ap, append_assoc, inl, inr, arith}
+use Rattle.std.proofs.Common.{◌≡◌, ℕ, suc, ◌<◌, ◌≤◌, List, [], ◌∷◌, ◌++◌, true, nat_lt, Option, Some, None, refl, sym, ◌∙◌, ap, inl, inr, arith}
 use Rattle.std.proofs.lemmas.Bool.{and_parts, ltb-true}
 use Rattle.jvm_model.specs.declared.values.Value.{Value}
 use Rattle.jvm_model.specs.declared.values.Location.{Location}
@@ -9,7 +9,9 @@ use Rattle.jvm_model.specs.World.{Object, World, size, at, put, make_object, has
 use Rattle.jvm_model.specs.Access.{Access, done, read, write, make, spend, run, made, fields_made, elems_made, text_made}
 use Rattle.jvm_model.proofs.Locations.{size_put, size_make}
 use Rattle.order_law.specs.Conflicts.{Member}
+use Rattle.order_law.proofs.Frame.{grows}
 use Rattle.access_tags.specs.Ran.{with_head, size_after}
+use Rattle.access_tags.proofs.Following.{size_append, size_made}
 
 -- a location that is there is of an object that stands
 place_stands : (w : World) (L : Location) (o : ℕ) → has w L ≡ true → place_of L ≡ Some o → o < size w
@@ -26,28 +28,9 @@ with_head_there w (place.Text o) h = refl
 with_head_there w (place.File n) h = refl
 with_head_there w (place.Prop n) h = refl
 
--- what making an object writes behind its head
-fields_size : (n o : ℕ) (xs : List (ℕ × Value)) (ts : List Touch) → size_after n (fields_made o xs ++ ts) ≡ size_after n ts
-fields_size n o [] ts = refl
-fields_size n o (x ∷ xs) ts = fields_size n o xs ts
-
-elems_size : (n o i : ℕ) (xs : List Value) (ts : List Touch) → size_after n (elems_made o i xs ++ ts) ≡ size_after n ts
-elems_size n o i [] ts = refl
-elems_size n o i (x ∷ xs) ts = elems_size n o (suc i) xs ts
-
-text_size : (n o : ℕ) (x : Option (List ℕ)) (ts : List Touch) → size_after n (text_made o x ++ ts) ≡ size_after n ts
-text_size n o None ts = refl
-text_size n o (Some x) ts = refl
-
+-- what making an object writes, and touches after it
 made_size : (n : ℕ) (x : Object) (ts : List Touch) → size_after n (made n x ++ ts) ≡ size_after (suc n) ts
-made_size n x ts =
-    let fs = fields_made n x.fields in
-    let es = elems_made n 0 x.elems in
-    let us = text_made n x.text in
-    let one : max n (suc n) ≡ suc n = omega arith in
-    ap (λ (k : ℕ). size_after k ((fs ++ (es ++ us)) ++ ts)) one
-    ∙ ap (size_after (suc n)) (append_assoc fs (es ++ us) ts ∙ ap (λ (z : List Touch). fs ++ z) (append_assoc es us ts))
-    ∙ fields_size (suc n) n x.fields (es ++ (us ++ ts)) ∙ elems_size (suc n) n 0 x.elems (us ++ ts) ∙ text_size (suc n) n x.text ts
+made_size n x ts = size_append n (made n x) ts ∙ ap (λ (k : ℕ). size_after k ts) (size_made n x)
 
 pub run_size : {A : Type 0} (a : Access A) (w : World) → (run a w).sound ≡ true → size (run a w).world ≡ size_after (size w) (run a w).touches
 run_size (done a) w h = refl
@@ -59,13 +42,6 @@ run_size (make x k) w h =
     let ts = (run (k (size w)) (make_object w x)).touches in
     run_size (k (size w)) (make_object w x) h ∙ ap (λ (n : ℕ). size_after n ts) (size_make w x) ∙ sym (made_size (size w) x ts)
 run_size (spend n rest) w h = run_size rest w h
-
-pub run_grows : {A : Type 0} (a : Access A) (w : World) → size w ≤ size (run a w).world
-run_grows (done a) w = omega arith
-run_grows (read l k) w = run_grows (k (at w l)) w
-run_grows (write l c rest) w = let g = run_grows rest (put w l c) in let e = size_put w l c in omega arith
-run_grows (make x k) w = let g = run_grows (k (size w)) (make_object w x) in let e = size_make w x in omega arith
-run_grows (spend n rest) w = run_grows rest w
 
 -- each touched object is one of the first n
 abbrev pub AllStand : ℕ → List Touch → Type 0
@@ -103,15 +79,15 @@ pub run_stands : {A : Type 0} (a : Access A) (w : World) (n : ℕ) → (run a w)
 run_stands (done a) w n h low = tt
 run_stands (read l k) w n h low =
     let q = and_parts (has w l) _ h in
-    let g = run_grows (k (at w l)) w in
+    let g = grows (k (at w l)) w in
     (λ o e. let s = place_stands w l o q.0 e in omega arith, run_stands (k (at w l)) w n q.1 low)
 run_stands (write l c rest) w n h low =
     let q = and_parts (has w l) _ h in
-    let g = run_grows rest (put w l c) in
+    let g = grows rest (put w l c) in
     let z = size_put w l c in
     (λ o e. let s = place_stands w l o q.0 e in omega arith, run_stands rest (put w l c) n q.1 low)
 run_stands (make x k) w n h low =
-    let g = run_grows (k (size w)) (make_object w x) in
+    let g = grows (k (size w)) (make_object w x) in
     let z = size_make w x in
     stand_append n (made (size w) x) _ (made_stand n (size w) x (omega arith)) (run_stands (k (size w)) (make_object w x) n h low)
 run_stands (spend m rest) w n h low = run_stands rest w n h low

@@ -1,7 +1,7 @@
 -- How the words and a suite's loading are answered.
-use Rattle.std.proofs.Common.{◌≡◌, ◌≤◌, ℕ, List, Bool, refl, sym, ap, subst, ◌∙◌, inl, inr, arith, Option, Some, None, Result, Ok, Err, IfSome, IfErr, IsErrAnd, MatchResult}
-use Rattle.outside.specs.Counts.{Rose}
+use Rattle.std.proofs.Common.{◌≡◌, ◌≤◌, ℕ, List, Bool, refl, sym, ap, subst, ◌∙◌, Option, Some, None, Result, Ok, Err, IfSome, IfErr, IsErrAnd, MatchResult}
 use Rattle.outside.specs.Depot.{Files, DepotView, FailedAt}
+use Rattle.outside.proofs.CountLemmas.{rose_later}
 use Rattle.suite_load.specs.declared.load_fault.LoadFault.{LoadFault}
 use Rattle.suite_load.specs.declared.load_fault.LoadFault.TheVariants as fault
 use Rattle.suite_load.specs.declared.loaded.Loaded.{Loaded}
@@ -60,16 +60,12 @@ pub refuses_all : (told : Option Files) (a : Ask) (l : Loaded) (s : Status) → 
 refuses_all None a l s load r = tt
 refuses_all (Some files) a l s load r = r load
 
-rose_before : (old mid new : ℕ) → old ≤ mid → Rose mid new → Rose old new
-rose_before old mid new le (inl h) = inl (omega arith)
-rose_before old mid new le (inr h) = inr h
-
 -- a depot that failed after the suite was loaded
 pub ends_all : (a : Ask) (s : Status) (old mid new : DepotView) → old.faults ≤ mid.faults → ReportEnds a s mid new → ReportEnds a s old new
 ends_all a ends.NoMemory old mid new le r = tt
 ends_all a ends.Words old mid new le r = r
 ends_all a (ends.Input f) old mid new le r = r
-ends_all a (ends.Depot name) old mid new le r = (r.0, record { rose = rose_before old.faults mid.faults new.faults le r.1.rose; named = r.1.named })
+ends_all a (ends.Depot name) old mid new le r = (r.0, record { rose = rose_later old.faults mid.faults new.faults le r.1.rose; named = r.1.named })
 ends_all a (ends.Over f) old mid new le r = r
 ends_all a ends.Done old mid new le r = absurd r
 ends_all a ends.NotPassed old mid new le r = absurd r

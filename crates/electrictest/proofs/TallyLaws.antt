@@ -1,8 +1,9 @@
 -- A tally of one test more.
-use Rattle.std.proofs.Common.{◌≡◌, ℕ, ◌+◌, ◌<◌, ◌≤◌, List, [], ◌∷◌, ◌++◌, length, get_or, take, Bool, true, false, cond, ◌&&◌, sym, ap, ◌∙◌, refl, subst, arith, count_by, codes, Some}
+use Rattle.std.proofs.Common.{◌≡◌, ℕ, ◌+◌, ◌<◌, ◌≤◌, List, [], ◌∷◌, ◌++◌, length, get_or, take, Bool, true, cond, ◌&&◌, sym, ap, ◌∙◌, refl, subst, arith, count_by, codes, Some}
 use Rattle.std.proofs.lemmas.List.{take_more, append-nil, append_assoc, map-append, length-append, length-map, length-take-le}
 use Rattle.std.proofs.lemmas.List.Sums.{sum_by_push, count_by-le-length}
 use Rattle.std.proofs.lemmas.List.Folds.{list_all-append}
+use Rattle.std.proofs.Math.Bool.{and-true}
 use Rattle.std.specs.List.{list_all}
 use Rattle.jvm_model.specs.declared.outcome.Outcome.{Outcome}
 use Rattle.jvm_model.specs.declared.program.Names.{Names}
@@ -12,10 +13,6 @@ use Rattle.run_core.specs.Run.{Gave}
 use Rattle.electrictest.specs.declared.pool_reports.Tally.{Tally}
 use Rattle.electrictest.specs.PoolRuns.{AreGiven, outcomes}
 use Rattle.electrictest.specs.Tallies.{IsFew, IsTally, IsTallyOf, tally_with, report_text}
-
-and_true : (b : Bool) → (b && true) ≡ b
-and_true true = refl
-and_true false = refl
 
 -- ---- one more at the end
 
@@ -36,7 +33,7 @@ counted_more : (p : Outcome → Bool) (xs : List (ℕ × Outcome)) (t n : ℕ) (
 counted_more p xs t n o e = ap (λ k. k + cond (p o) 1 0) e ∙ (sym (sum_by_push (λ (x : Outcome). cond (p x) 1 0) (outcomes xs) o) ∙ ap (count_by p) (sym (outcomes_more xs t o)))
 
 all_more : (p : Outcome → Bool) (xs : List (ℕ × Outcome)) (t : ℕ) (b : Bool) (o : Outcome) → b ≡ list_all p (outcomes xs) → (b && p o) ≡ list_all p (outcomes (xs ++ (t, o) ∷ []))
-all_more p xs t b o e = ap (λ (c : Bool). c && p o) e ∙ (ap (λ (c : Bool). list_all p (outcomes xs) && c) (sym (and_true (p o))) ∙ (sym (list_all-append p (outcomes xs) (o ∷ [])) ∙ ap (list_all p) (sym (outcomes_more xs t o))))
+all_more p xs t b o e = ap (λ (c : Bool). c && p o) e ∙ (ap (λ (c : Bool). list_all p (outcomes xs) && c) (sym (and-true (p o))) ∙ (sym (list_all-append p (outcomes xs) (o ∷ [])) ∙ ap (list_all p) (sym (outcomes_more xs t o))))
 
 tally_next : (names : Names) (xs : List (ℕ × Outcome)) (t : ℕ) (o : Outcome) (y : Tally) → IsTally names xs y → IsTally names (xs ++ (t, o) ∷ []) (tally_with names t o y)
 tally_next names xs t o y h = record {

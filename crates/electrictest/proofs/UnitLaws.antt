@@ -1,12 +1,12 @@
 -- The units of the posts of a complete history are those of the tests of the set, each once.
-use Rattle.std.proofs.Common.{◌≡◌, ℕ, ◌+◌, ◌<◌, List, [], ◌∷◌, false, cond, nat_eq, sum_by, fold, refl, sym, ap, ◌∙◌, subst, arith, inl, inr}
+use Rattle.std.proofs.Common.{◌≡◌, ℕ, ◌+◌, List, [], ◌∷◌, false, cond, nat_eq, sum_by, fold, refl, sym, ap, ◌∙◌, subst, arith, inl, inr}
 use Rattle.std.proofs.lemmas.Bool.{eq-eqb, ne_eqb}
 use Rattle.std.proofs.lemmas.List.Sums.{sum_by-cons}
 use Rattle.jvm_model.specs.declared.outcome.Outcome.{Outcome}
 use Rattle.order_law.specs.Conflicts.{Member, Distinct}
 use Rattle.order_law.specs.Plan as law
 use Rattle.order_law.specs.Plan.{claim, post, Posted, PostsOnce, Ascending}
-use Rattle.order_law.proofs.Posts.{posts_more}
+use Rattle.order_law.proofs.Posts.{posts_more, ascending_distinct}
 use Rattle.run_core.specs.declared.events.Event.{Event}
 use Rattle.run_core.specs.declared.events.Event.TheVariants.{Claim, Post}
 use Rattle.run_core.specs.Run.{Gave, told, history_of}
@@ -119,12 +119,8 @@ sum_of_given C es (t ∷ ts) (x ∷ xs) once g =
     let a = sum_by-cons (units_at es) t ts in
     omega (arith, a, here, rest)
 
-distinct : (l : List ℕ) → Ascending l → Distinct l
-distinct [] a = tt
-distinct (t ∷ l) a = ((λ m. let k : t < t = a.0 t m in absurd (omega arith)), distinct l a.1)
-
 -- what all posts count is what the tests of a set count, where all that is posted is of the set
 pub units_of_posts : (C : List (List ℕ)) (h : List Event) (set : List ℕ) (xs : List (ℕ × Outcome)) → Ascending set → PostsOnce C (history_of h) → ((t : ℕ) → Posted (history_of h) t → Member t set) →
     AreGiven (history_of h) set xs → units_of h ≡ units_in (outcomes xs)
 unfolding all_units
-units_of_posts C h set xs a once within g = counted_after 0 [] h refl ∙ (sum_of_posts C (history_of h) set (distinct set a) once within ∙ sum_of_given C (history_of h) set xs once g)
+units_of_posts C h set xs a once within g = counted_after 0 [] h refl ∙ (sum_of_posts C (history_of h) set (ascending_distinct set a) once within ∙ sum_of_given C (history_of h) set xs once g)

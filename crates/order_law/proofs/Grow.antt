@@ -1,5 +1,6 @@
 -- More paired places pair more; what stands where nothing was made is paired.
 use Rattle.std.proofs.Common.{◌≡◌, ℕ, true, refl, subst, Option, Some}
+use Rattle.std.proofs.lemmas.Option.{same_Some}
 use Rattle.jvm_model.specs.declared.values.Value.{Value}
 use Rattle.jvm_model.specs.declared.values.Location.{Location}
 use Rattle.jvm_model.specs.World.{Content, no_object, part}
@@ -46,7 +47,4 @@ nothing_there n P Q root (props k) = refl
 
 pub given_place : (m : Matching) {o r : Option ℕ} (a : ℕ) → PairedOption m.place o r → o ≡ Some a → (c : ℕ) × m.place a c × (r ≡ Some c)
 given_place m a both_none e = absurd (cc)
-given_place m a (both_some {x} {y} p) e = (y, subst (λ (z : ℕ). m.place z y) (of_some e) p, refl)
-  where
-    of_some : {x y : ℕ} → Some x ≡ Some y → x ≡ y
-    of_some e = cc
+given_place m a (both_some {x} {y} p) e = (y, subst (λ (z : ℕ). m.place z y) (same_Some _ _ e) p, refl)

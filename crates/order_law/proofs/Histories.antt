@@ -17,6 +17,7 @@ use Rattle.jvm_model.specs.State.{test_at}
 use Rattle.jvm_model.specs.Suite.{End, tree, opening, Given, given_at, one_test, with_first, runs_on, runs, all_tests, outcome_in, given_by_test, seq, within_limit, is_detected}
 use Rattle.jvm_model.specs.Linked.{Linked}
 use Rattle.jvm_model.proofs.Locations.{IsOf, at_past}
+use Rattle.jvm_model.proofs.Runs.{split}
 use Rattle.order_law.specs.declared.edges.Edge.{Edge}
 use Rattle.order_law.specs.declared.edges.EdgeKind.TheVariants.{Raw}
 use Rattle.order_law.specs.Exposed.{written}
@@ -261,29 +262,6 @@ ran_as p D t x e = let r = ran_after p D t in ran_to (test_at p t).budget r.soun
 world_as : (p : Program) (D : List ℕ) (t : ℕ) (x : Given) → given_after p D t ≡ Some x → x.world ≡ after_history p (t ∷ D)
 world_as p D t x e = let f = ran_as p D t x e in sym (ap (λ (z : Given). z.world) f.is)
 
--- the tests of a list, the first and the others
-record Split (p : Program) (w : World) (t : ℕ) (l : List ℕ) (xs : List Given) : Type 0 where
-  first : Given
-  others : List Given
-  first_is : one_test p w t (test_at p t).budget ≡ Some first
-  others_are : runs_on p first.world l ≡ Some others
-  whole : xs ≡ first ∷ others
-
-abbrev runs_then : Program → List ℕ → Option Given → Option (List Given)
-runs_then p l o = elim o [ None ↦ None | Some x ↦ with_first x (runs_on p x.world l) ]
-
-split_rest : (p : Program) (w : World) (t : ℕ) (l : List ℕ) (xs : List Given) (x : Given) (o : Option (List Given)) → one_test p w t (test_at p t).budget ≡ Some x →
-    runs_on p x.world l ≡ o → with_first x o ≡ Some xs → Split p w t l xs
-split_rest p w t l xs x None e f g = absurd (cc)
-split_rest p w t l xs x (Some ys) e f g = record { first = x; others = ys; first_is = e; others_are = f; whole = (cc) }
-
-split_by : (p : Program) (w : World) (t : ℕ) (l : List ℕ) (xs : List Given) (o : Option Given) → one_test p w t (test_at p t).budget ≡ o → runs_then p l o ≡ Some xs → Split p w t l xs
-split_by p w t l xs None e g = absurd (cc)
-split_by p w t l xs (Some x) e g = split_rest p w t l xs x (runs_on p x.world l) e refl g
-
-split : (p : Program) (w : World) (t : ℕ) (l : List ℕ) (xs : List Given) → runs_on p w (t ∷ l) ≡ Some xs → Split p w t l xs
-split p w t l xs e = split_by p w t l xs (one_test p w t (test_at p t).budget) refl e
-
 -- the i-th test of the suite, in the suite's own order
 record InOrderAt (p : Program) (xs : List Given) (i t : ℕ) : Type 0 where
   given : Given
@@ -384,7 +362,7 @@ module _ (p : Program) (linked : Linked p) (R : List Edge) (is_record : RecordOf
       let n = next_test D t h hs fits low al in
       let rest = all_runs l (t ∷ D) n.here.given.world n.here.world n.holds (fits, hs) (λ x i. elim i [ inl e ↦ subst (λ (z : ℕ). IsTestNumber p z) (sym e) low | inr j ↦ al x j ]) (rest_of D l t f) in (
         n.here.given ∷ rest.0,
-        ap (λ (v : World). runs_then p l (one_test p v t (test_at p t).budget)) g ∙ ap (λ (o : Option Given). runs_then p l o) n.here.is ∙ ap (λ (o : Option (List Given)). with_first n.here.given o) rest.1,
+        ap (λ (v : World). runs_on p v (t ∷ l)) g ∙ ap (λ (o : Option Given). elim o [ None ↦ None | Some x ↦ with_first x (runs_on p x.world l) ]) n.here.is ∙ ap (λ (o : Option (List Given)). with_first n.here.given o) rest.1,
         (n.first.outcome ∙ ap (λ (o : Outcome). Some o) (sym n.here.outcome), rest.2),
       )
 

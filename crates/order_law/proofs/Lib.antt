@@ -1,6 +1,7 @@
 pub mod Pairs
 pub mod Frame
 pub mod Lists
+pub mod Members
 pub mod Programs
 pub mod Twins
 pub mod States

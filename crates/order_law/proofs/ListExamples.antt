@@ -19,6 +19,7 @@ use Rattle.order_law.specs.RecordForm.{is_record_form, is_reach, are_chains}
 use Rattle.order_law.specs.Plan.{chain_at, Ascending, AreChainsOf, AreListedChainsOf, Event, claim, post, claims, Posted, NextOf, Legal, IsComplete}
 use Rattle.order_law.proofs.OnLiterals.{records_on_literals}
 use Rattle.order_law.proofs.OrderFaults.{order_fault, lawful_list, before-true, before-from}
+use Rattle.order_law.proofs.Members.{joined_within}
 use Rattle.order_law.proofs.Posts.{ascending_from}
 use Rattle.order_law.proofs.RecordExamples.{edge_at, triple, links}
 
@@ -65,11 +66,6 @@ four = 1 ∷ 2 ∷ 3 ∷ 4 ∷ []
 
 abbrev Four : ℕ → Type 0
 Four t = Member t four
-
-joined_within : {R : List Edge} {S : ℕ → Type 0} {t u : ℕ} → Joined R S t u → S u
-joined_within (itself s) = s
-joined_within (forth j s b) = s
-joined_within (back j s b) = s
 
 links_chains : AreListedChainsOf links Four (four ∷ [])
 links_chains = record {

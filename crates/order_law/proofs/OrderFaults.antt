@@ -1,14 +1,14 @@
 -- The first fault of a list, computed: there is one exactly where the list isn't lawful, and no other.
 use Rattle.std.proofs.Common.{◌≡◌, ◌⊎◌, ℕ, zero, suc, ◌+◌, ◌<◌, Bool, true, false, not, ◌&&◌, ◌||◌, cond, nat_eq, List, [], ◌∷◌, length, get_or, slice_get, take, refl, sym, ◌∙◌, ap, subst, inl, inr, arith, Option, Some, None, is_some}
 use Rattle.std.proofs.lemmas.Bool.{cases_Bool, cases_eq, cases_order, eq-eqb, eqb-true, and_parts, and_from, or_cases, or_left, or_right, not-true, not_from_false, true≢false}
-use Rattle.std.proofs.lemmas.Option.{slice_get-get_or, slice_get_within, get_or_from_slice_get}
+use Rattle.std.proofs.lemmas.Option.{slice_get-get_or, same_Some, slice_get_within, get_or_from_slice_get}
 use Rattle.jvm_model.specs.Classes.{member}
 use Rattle.order_law.specs.declared.edges.Edge.{Edge}
 use Rattle.order_law.specs.declared.edges.EdgeKind.{EdgeKind}
 use Rattle.order_law.specs.declared.edges.EdgeKind.TheVariants.{Raw, Waw, War}
 use Rattle.order_law.specs.Conflicts.{Member, HasEdge, Before, edge, chain, Distinct, InOrder, Lawful}
 use Rattle.order_law.specs.OrderFault.{OrderFault, twice, missing_writer, inverted, IsTwice, HasWriters, IsMissing, IsInPlace, IsInverted, IsOrderFault, is_twice, is_missing, is_inverted, LawOfFaults}
-use Rattle.order_law.proofs.Posts.{member_true}
+use Rattle.order_law.proofs.Members.{member_true, true_member}
 
 -- `Before`, computed edge by edge: a path takes the first edge, or it doesn't
 abbrev pub is_before : List Edge → ℕ → ℕ → Bool
@@ -130,10 +130,6 @@ is_above : (xs : List ℕ) (x : ℕ) → Member x xs → x < above xs
 is_above [] x i = absurd i
 is_above (y ∷ xs) x i = elim i [ inl e ↦ omega arith | inr j ↦ let h = is_above xs x j in omega arith ]
 
-true_member : (x : ℕ) (l : List ℕ) → member x l ≡ true → Member x l
-true_member x [] e = absurd (cc)
-true_member x (y ∷ l) e = elim (or_cases (nat_eq x y) (member x l) e) [ inl h ↦ inl (eqb-true x y h) | inr h ↦ inr (true_member x l h) ]
-
 not_member : (x : ℕ) (l : List ℕ) → member x l ≡ false → Member x l → ⊥
 not_member x l e i = true≢false (sym (member_true x l i) ∙ e)
 
@@ -194,9 +190,6 @@ take_in [] (suc i) j x h e = absurd (cc)
 take_in (y ∷ l) (suc i) zero x h e = inl (cc)
 take_in (y ∷ l) (suc i) (suc j) x h e = inr (take_in l i j x (omega arith) e)
 
-of_some : {x y : ℕ} → Some x ≡ Some y → x ≡ y
-of_some e = cc
-
 -- a list whose test at each place doesn't stand before
 distinct_from : (l : List ℕ) → ((i j x : ℕ) → j < i → slice_get l i ≡ Some x → slice_get l j ≡ Some x → ⊥) → Distinct l
 distinct_from [] f = tt
@@ -220,7 +213,7 @@ take_get (y ∷ l) (suc n) (suc i) x e = let q = take_get l n i x e in let lt = 
 order_places : (R : List Edge) (l : List ℕ) → InOrder R l → (i : ℕ) → IsInPlace R l i
 order_places R [] o i j a b h e g r = absurd (cc)
 order_places R (y ∷ l) o zero j a b h e g r = absurd (omega arith)
-order_places R (y ∷ l) o (suc i) zero a b h e g r = o.0 a (member_get l i a e) (subst (λ (z : ℕ). Before R a z) (sym (of_some g)) r)
+order_places R (y ∷ l) o (suc i) zero a b h e g r = o.0 a (member_get l i a e) (subst (λ (z : ℕ). Before R a z) (sym (same_Some _ _ g)) r)
 order_places R (y ∷ l) o (suc i) (suc j) a b h e g r = order_places R l o.1 i j a b (omega arith) e g r
 
 order_from : (R : List Edge) (l : List ℕ) → ((i : ℕ) → IsInPlace R l i) → InOrder R l
@@ -361,7 +354,7 @@ module _ (R : List Edge) (l : List ℕ) where
       taken n i x h e = get_take l n i x h e
 
   same_at : (i j t u : ℕ) → slice_get l i ≡ Some t → slice_get l j ≡ Some u → i ≡ j → t ≡ u
-  same_at i j t u a b e = of_some (sym a ∙ ap (λ (z : ℕ). slice_get l z) e ∙ b)
+  same_at i j t u a b e = same_Some _ _ (sym a ∙ ap (λ (z : ℕ). slice_get l z) e ∙ b)
 
   earlier_missing : {t u s v : ℕ} (x : IsMissing R l t u) (y : IsMissing R l s v) → x.place < y.place → ⊥
   earlier_missing {t} {u} x y h = x.outside (y.first t (take_in l y.place x.place t h x.listed) u x.edge)

@@ -1,5 +1,5 @@
 -- The record of a program is in a record's form: units, the order of edges, and their numbers.
-use Rattle.std.proofs.Common.{◌≡◌, ◌⊎◌, ℕ, zero, suc, ◌+◌, ◌-◌, ◌<◌, ◌≤◌, Bool, true, not, ◌&&◌, nat_eq, nat_lt, nat_le, List, [], ◌∷◌, ◌++◌, map, filter, flat_map, length, slice_get, refl, sym, ◌∙◌, ap, subst, inl, inr, arith, Option, Some, None}
+use Rattle.std.proofs.Common.{◌≡◌, ℕ, zero, suc, ◌+◌, ◌-◌, ◌<◌, ◌≤◌, Bool, true, not, ◌&&◌, nat_eq, nat_lt, nat_le, List, [], ◌∷◌, ◌++◌, map, filter, flat_map, length, slice_get, refl, sym, ◌∙◌, ap, subst, inl, inr, arith, Option, Some, None}
 use Rattle.std.specs.List.{range_with_len, list_all}
 use Rattle.std.proofs.lemmas.Bool.{cases_Bool, and_from, and_parts, or_left, or_right, eq-eqb, lt-ltb, le-leb, leb-true}
 use Rattle.std.proofs.lemmas.List.{length-map}
@@ -22,6 +22,7 @@ use Rattle.order_law.specs.OwnRecord.{conflicts, first_places, places_in, confli
 use Rattle.order_law.specs.RecordForm.{kind_number, edge_before, edges_ascend, numbers_ascend}
 use Rattle.order_law.specs.Reach.{units_in, ReachesIn, own, touched, mentioned}
 use Rattle.order_law.specs.OwnForm.{UnitsLaw, IsCounted, OrderedLaw, CountedLaw, ReachLaw}
+use Rattle.order_law.proofs.Members.{member_either, member_flat_map}
 use Rattle.order_law.proofs.OwnRecord.{range_within}
 
 -- units
@@ -48,15 +49,6 @@ units_law p linked detected =
     (le-leb _ _ (omega arith))
     (all_mapped (λ t. units_in (seq p t)) (λ u. nat_le u 67108864) (all_tests p) (λ t. le-leb _ _ (within (runs p (all_tests p)) t detected)))
 
--- members of lists of edges
-either_list : (xs ys : List Edge) (e : Edge) → Member e (xs ++ ys) → Member e xs ⊎ Member e ys
-either_list [] ys e i = inr i
-either_list (x ∷ xs) ys e i = elim i [ inl g ↦ inl (inl g) | inr j ↦ elim (either_list xs ys e j) [ inl k ↦ inl (inr k) | inr k ↦ inr k ] ]
-
-from_list : (f : ℕ → List Edge) (xs : List ℕ) (e : Edge) → Member e (flat_map f xs) → (x : ℕ) × Member x xs × Member e (f x)
-from_list f [] e i = absurd i
-from_list f (x ∷ xs) e i = elim (either_list (f x) (flat_map f xs) e i) [ inl j ↦ (x, inl refl, j) | inr j ↦ let r = from_list f xs e j in (r.0, inr r.1, r.2) ]
-
 -- lists of edges of which each of the first comes before each of the second
 ascends_append : (xs ys : List Edge) → edges_ascend xs ≡ true → edges_ascend ys ≡ true → ((x y : Edge) → Member x xs → Member y ys → edge_before x y ≡ true) → edges_ascend (xs ++ ys) ≡ true
 ascends_append [] ys a b h = b
@@ -70,7 +62,7 @@ ascends_range : (f : ℕ → List Edge) (key : Edge → ℕ) (n a : ℕ) → ((x
     ((x y : ℕ) (d e : Edge) → Member d (f x) → Member e (f y) → key d < key e → edge_before d e ≡ true) → edges_ascend (flat_map f (range_with_len a n)) ≡ true
 ascends_range f key zero a g k h = refl
 ascends_range f key (suc n) a g k h = ascends_append (f a) (flat_map f (range_with_len (a + 1) n)) (g a) (ascends_range f key n (a + 1) g k h) (λ d e i j.
-    let r = from_list f (range_with_len (a + 1) n) e j in
+    let r = member_flat_map f (range_with_len (a + 1) n) e j in
     let w = range_within n (a + 1) r.0 r.1 in
     let lo = w.0 in
     let u = k a d i in
@@ -144,9 +136,9 @@ module _ (p : Program) (T : Touches) (by : ℕ → ℕ × ℕ) where
 
   between : (u t : ℕ) (e : Edge) → Member e (edges_between_in p T by u t) → IsBetween u t e
   unfolding edges_between_in
-  between u t e i = elim (either_list (of_kind Raw u t) (of_kind Waw u t ++ of_kind War u t) e i) [
+  between u t e i = elim (member_either (of_kind Raw u t) (of_kind Waw u t ++ of_kind War u t) e i) [
     | inl j ↦ between_kind Raw u t e j
-    | inr j ↦ elim (either_list (of_kind Waw u t) (of_kind War u t) e j) [ inl k ↦ between_kind Waw u t e k | inr k ↦ between_kind War u t e k ]
+    | inr j ↦ elim (member_either (of_kind Waw u t) (of_kind War u t) e j) [ inl k ↦ between_kind Waw u t e k | inr k ↦ between_kind War u t e k ]
   ]
 
   kinds_before : (k l : EdgeKind) (u t : ℕ) → kind_number k < kind_number l → (d e : Edge) → Member d (of_kind k u t) → Member e (of_kind l u t) → edge_before d e ≡ true
@@ -159,13 +151,13 @@ module _ (p : Program) (T : Touches) (by : ℕ → ℕ × ℕ) where
   unfolding edges_between_in
   between_ascends u t = ascends_append (of_kind Raw u t) (of_kind Waw u t ++ of_kind War u t) (one_edge Raw u t _)
       (ascends_append (of_kind Waw u t) (of_kind War u t) (one_edge Waw u t _) (one_edge War u t _) (kinds_before Waw War u t (omega arith)))
-      (λ d e i j. elim (either_list (of_kind Waw u t) (of_kind War u t) e j) [ inl k ↦ kinds_before Raw Waw u t (omega arith) d e i k | inr k ↦ kinds_before Raw War u t (omega arith) d e i k ])
+      (λ d e i j. elim (member_either (of_kind Waw u t) (of_kind War u t) e j) [ inl k ↦ kinds_before Raw Waw u t (omega arith) d e i k | inr k ↦ kinds_before Raw War u t (omega arith) d e i k ])
 
   abbrev to_test : ℕ → List Edge
   to_test t = flat_map (λ u. edges_between_in p T by u t) (range_with_len 1 (t - 1))
 
   to_later : (t : ℕ) (e : Edge) → Member e (to_test t) → (u : ℕ) × Member u (range_with_len 1 (t - 1)) × IsBetween u t e
-  to_later t e i = let r = from_list (λ u. edges_between_in p T by u t) (range_with_len 1 (t - 1)) e i in (r.0, r.1, between r.0 t e r.2)
+  to_later t e i = let r = member_flat_map (λ u. edges_between_in p T by u t) (range_with_len 1 (t - 1)) e i in (r.0, r.1, between r.0 t e r.2)
 
   ascends_to : (t : ℕ) → edges_ascend (to_test t) ≡ true
   ascends_to t = ascends_range (λ u. edges_between_in p T by u t) (λ e. e.earlier) (t - 1) 1 (λ u. between_ascends u t) (λ u e i. (between u t e i).earlier)
@@ -178,7 +170,7 @@ module _ (p : Program) (T : Touches) (by : ℕ → ℕ × ℕ) where
   counted : (e : Edge) → Member e (edges_in p T by) → IsCounted T (length p.tests) e
   unfolding edges_in
   counted e i =
-      let r = from_list to_test (all_tests p) e i in
+      let r = member_flat_map to_test (all_tests p) e i in
       let q = to_later r.0 e r.2 in
       let b = q.2 in
       let w = range_within (length p.tests) 1 r.0 r.1 in

@@ -1,5 +1,5 @@
 -- The computed edges are there exactly where there is a conflict.
-use Rattle.std.proofs.Common.{◌≡◌, ◌⊎◌, ℕ, zero, suc, ◌+◌, ◌-◌, ◌<◌, ◌≤◌, Bool, true, false, not, ◌&&◌, ◌||◌, cond, List, [], ◌∷◌, ◌++◌, map, filter, flat_map, length, refl, sym, ◌∙◌, ap, subst, inl, inr, arith}
+use Rattle.std.proofs.Common.{◌≡◌, ◌⊎◌, ℕ, zero, suc, ◌+◌, ◌-◌, ◌<◌, ◌≤◌, Bool, true, false, not, ◌&&◌, ◌||◌, cond, List, [], ◌∷◌, map, filter, flat_map, length, refl, sym, ◌∙◌, ap, subst, inl, inr, arith}
 use Rattle.std.specs.List.{range_with_len}
 use Rattle.std.proofs.lemmas.Bool.{cases_Bool, cases_lt, cases_eq, lt-ltb, le-ltb, and_parts, and_from, or_cases, not-true, not_from_false}
 use Rattle.jvm_model.specs.declared.values.Location.{Location}
@@ -15,6 +15,7 @@ use Rattle.order_law.specs.Exposed.{written, exposed}
 use Rattle.order_law.specs.Conflicts.{Tests, Member, NoneBetween, Conflict, HasEdge, IsRecord}
 use Rattle.order_law.specs.Histories.{Touches, touches_of, writes_in, exposed_in}
 use Rattle.order_law.specs.OwnRecord.{none_between, conflicts, first_places, places_in, conflict_places_in, owner, edge_of, edges_between_in, edges_of, edges_in, OwnLaw}
+use Rattle.order_law.proofs.Members.{edge_left, edge_right, edge_either}
 use Rattle.order_law.proofs.Histories.{law_of_order}
 
 between-true : (W : Tests) (u t : ℕ) (L : Location) → none_between W u t L ≡ true → NoneBetween W u t L
@@ -83,27 +84,15 @@ touched (x ∷ ts) L e = at_write x.write (same L x.location) (written ts L) (ex
     at_write false s a b e f g = elim e [ inl y ↦ g (inl y) | inr y ↦ elim (or_cases s b y) [ inl z ↦ f z | inr z ↦ g (inr z) ] ]
 
 -- edges of lists put together
-has_left : (xs ys : List Edge) (k : EdgeKind) (u t : ℕ) → HasEdge xs k u t → HasEdge (xs ++ ys) k u t
-has_left [] ys k u t i = absurd i
-has_left (x ∷ xs) ys k u t i = elim i [ inl e ↦ inl e | inr j ↦ inr (has_left xs ys k u t j) ]
-
-has_right : (xs ys : List Edge) (k : EdgeKind) (u t : ℕ) → HasEdge ys k u t → HasEdge (xs ++ ys) k u t
-has_right [] ys k u t i = i
-has_right (x ∷ xs) ys k u t i = inr (has_right xs ys k u t i)
-
-has_either : (xs ys : List Edge) (k : EdgeKind) (u t : ℕ) → HasEdge (xs ++ ys) k u t → HasEdge xs k u t ⊎ HasEdge ys k u t
-has_either [] ys k u t i = inr i
-has_either (x ∷ xs) ys k u t i = elim i [ inl e ↦ inl (inl e) | inr j ↦ elim (has_either xs ys k u t j) [ inl z ↦ inl (inr z) | inr z ↦ inr z ] ]
-
 gathered : (f : ℕ → List Edge) (xs : List ℕ) (k : EdgeKind) (u t : ℕ) → HasEdge (flat_map f xs) k u t → (x : ℕ) × Member x xs × HasEdge (f x) k u t
 gathered f [] k u t i = absurd i
-gathered f (x ∷ xs) k u t i = elim (has_either (f x) (flat_map f xs) k u t i) [ inl j ↦ (x, inl refl, j) | inr j ↦ let r = gathered f xs k u t j in (r.0, inr r.1, r.2) ]
+gathered f (x ∷ xs) k u t i = elim (edge_either (f x) (flat_map f xs) k u t i) [ inl j ↦ (x, inl refl, j) | inr j ↦ let r = gathered f xs k u t j in (r.0, inr r.1, r.2) ]
 
 gather_in : (f : ℕ → List Edge) (xs : List ℕ) (k : EdgeKind) (u t x : ℕ) → Member x xs → HasEdge (f x) k u t → HasEdge (flat_map f xs) k u t
 gather_in f [] k u t x i j = absurd i
 gather_in f (y ∷ xs) k u t x i j = elim i [
-  | inl g ↦ has_left (f y) (flat_map f xs) k u t (subst (λ (z : ℕ). HasEdge (f z) k u t) g j)
-  | inr m ↦ has_right (f y) (flat_map f xs) k u t (gather_in f xs k u t x m j)
+  | inl g ↦ edge_left (f y) (flat_map f xs) k u t (subst (λ (z : ℕ). HasEdge (f z) k u t) g j)
+  | inr m ↦ edge_right (f y) (flat_map f xs) k u t (gather_in f xs k u t x m j)
 ]
 
 in_range : (n a x : ℕ) → a ≤ x → x < a + n → Member x (range_with_len a n)
@@ -168,16 +157,16 @@ module _ (p : Program) (T : Touches) (by : ℕ → ℕ × ℕ) where
 
   edge_here : (k : EdgeKind) (u t : ℕ) → HasEdge (of_kind k u t) k u t → HasEdge (edges_between_in p T by u t) k u t
   unfolding edges_between_in
-  edge_here Raw u t h = has_left (of_kind Raw u t) _ Raw u t h
-  edge_here Waw u t h = has_right (of_kind Raw u t) _ Waw u t (has_left (of_kind Waw u t) _ Waw u t h)
-  edge_here War u t h = has_right (of_kind Raw u t) _ War u t (has_right (of_kind Waw u t) _ War u t h)
+  edge_here Raw u t h = edge_left (of_kind Raw u t) _ Raw u t h
+  edge_here Waw u t h = edge_right (of_kind Raw u t) _ Waw u t (edge_left (of_kind Waw u t) _ Waw u t h)
+  edge_here War u t h = edge_right (of_kind Raw u t) _ War u t (edge_right (of_kind Waw u t) _ War u t h)
 
   found_between : (k : EdgeKind) (u t u' t' : ℕ) → 0 < u' → u' < t' → t' ≤ length p.tests → HasEdge (edges_between_in p T by u' t') k u t →
       (0 < u) × (t ≤ length p.tests) × (L : Location) × Conflict (writes_in T) (exposed_in T) k u t L
   unfolding edges_between_in
-  found_between k u t u' t' o h lt i = elim (has_either (of_kind Raw u' t') _ k u t i) [
+  found_between k u t u' t' o h lt i = elim (edge_either (of_kind Raw u' t') _ k u t i) [
     | inl x ↦ found k Raw u t u' t' o h lt x
-    | inr y ↦ elim (has_either (of_kind Waw u' t') _ k u t y) [ inl x ↦ found k Waw u t u' t' o h lt x | inr x ↦ found k War u t u' t' o h lt x ]
+    | inr y ↦ elim (edge_either (of_kind Waw u' t') _ k u t y) [ inl x ↦ found k Waw u t u' t' o h lt x | inr x ↦ found k War u t u' t' o h lt x ]
   ]
 
   pub is_record : IsRecord (writes_in T) (exposed_in T) (length p.tests) (edges_in p T by)

@@ -1,6 +1,7 @@
 -- What one-to-one matchings give on locations, touches and worlds.
 use Rattle.std.proofs.Common.{◌≡◌, ◌≢◌, ℕ, zero, suc, Bool, true, false, cond, List, [], ◌∷◌, ◌++◌, get_or, refl, sym, ◌∙◌, ap, subst, inl, inr, nat_eq, Option, Some, None}
 use Rattle.std.proofs.lemmas.Bool.{cases_eq, cases_Bool, false_from_ne_true, eq-eqb, ne_eqb}
+use Rattle.std.proofs.lemmas.Option.{same_Some}
 use Rattle.jvm_model.specs.declared.values.Value.{Value}
 use Rattle.jvm_model.specs.declared.values.Value.TheVariants.{Null}
 use Rattle.jvm_model.specs.declared.values.Location.{Location}
@@ -77,16 +78,13 @@ module _ (m : Matching) (op : OneToOne m.place) (of : OneToOne m.fields) (oc : O
   place-paired (files n) = both_none
   place-paired (props n) = both_none
 
-  of_some : {x y : ℕ} → Some x ≡ Some y → x ≡ y
-  of_some e = cc
-
   of_partner : {o o' : Option ℕ} {a b : ℕ} → PairedOption m.place o o' → m.place a b → o ≡ Some a → o' ≡ Some b
   of_partner both_none p e = absurd (cc)
-  of_partner {b = b} (both_some {x = c} {y = d} q) p e = ap Some (op.from_left c d b q (subst (λ (x : ℕ). m.place x b) (of_some (sym e)) p))
+  of_partner {b = b} (both_some {x = c} {y = d} q) p e = ap Some (op.from_left c d b q (subst (λ (x : ℕ). m.place x b) (same_Some _ _ (sym e)) p))
 
   of_owner : {o o' : Option ℕ} {a b : ℕ} → PairedOption m.place o o' → m.place a b → o' ≡ Some b → o ≡ Some a
   of_owner both_none p e = absurd (cc)
-  of_owner {a = a} (both_some {x = c} {y = d} q) p e = ap Some (op.from_right c a d q (subst (λ (x : ℕ). m.place a x) (of_some (sym e)) p))
+  of_owner {a = a} (both_some {x = c} {y = d} q) p e = ap Some (op.from_right c a d q (subst (λ (x : ℕ). m.place a x) (same_Some _ _ (sym e)) p))
 
   look-paired : {xs ys : List (ℕ × Value)} {f g : ℕ} → PairedList (PairedCell m) xs ys → m.fields f g → PairedValue m (look nat_eq Null xs f) (look nat_eq Null ys g)
   look-paired no_more q = nulls

@@ -11,9 +11,10 @@ use Rattle.jvm_model.proofs.Runs.{with_last, runs_more, last_outcome_is}
 use Rattle.order_law.specs.declared.edges.Edge.{Edge}
 use Rattle.order_law.specs.declared.edges.EdgeKind.{EdgeKind}
 use Rattle.order_law.specs.declared.edges.EdgeKind.TheVariants.{Raw, Waw, War}
-use Rattle.order_law.specs.Conflicts.{Member, HasEdge, Before, edge, chain, Fits, History, ClosedUnderRaw, itself, forth, back}
+use Rattle.order_law.specs.Conflicts.{Member, HasEdge, Before, edge, Fits, History, ClosedUnderRaw, itself, forth, back}
 use Rattle.order_law.specs.Histories.{after_history, RecordOf, IsTestNumber}
 use Rattle.order_law.specs.Plan.{NextOf, PostsSequential, chain_at, Ascending, AreChainsOf, Event, claim, post, claims, posts, Posted, list_of, Legal, LawOfInterleavings}
+use Rattle.order_law.proofs.Members.{before_up}
 use Rattle.order_law.proofs.Posts.{reversed, member_mid, below_mid, posts_more, in_posts, legal_once, posted_where, one_claimer}
 use Rattle.order_law.proofs.Histories.{Holds, holds_first, next_test}
 
@@ -25,8 +26,7 @@ module _ (p : Program) (R : List Edge) (is_record : RecordOf p R) where
   edge_rises War u t i = ((is_record War u t).0 i).3.0
 
   pub before_rises : {u t : ℕ} → Before R u t → u < t
-  before_rises (edge k {u} {t} i) = edge_rises k u t i
-  before_rises (chain {u} {v} {t} a b) = let x = before_rises a in let y = before_rises b in omega arith
+  before_rises b = before_up R edge_rises b
 
 module _ (p : Program) (R : List Edge) (is_record : RecordOf p R) (S : ℕ → Type 0) (C : List (List ℕ)) (n : ℕ)
     (raw_closed : ClosedUnderRaw R S) (cs : AreChainsOf R S C) where

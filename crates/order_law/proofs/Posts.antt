@@ -1,7 +1,7 @@
 -- Legal histories by the rules of claims and posts alone: each worker's list is its chains, in the order of its claims.
 use Rattle.std.proofs.Common.{◌≡◌, ◌⊎◌, ℕ, zero, suc, ◌<◌, Bool, true, false, not, cond, nat_eq, nat_lt, nat_le, List, [], ◌∷◌, ◌++◌, append_assoc, append-nil, length, reverse, refl, sym, ◌∙◌, ap, subst, inl, inr, arith}
 use Rattle.std.specs.List.{list_all}
-use Rattle.std.proofs.lemmas.Bool.{cases_Bool, eqb-true, eq-eqb, ltb-true, and_parts, not-true, or_left, or_right}
+use Rattle.std.proofs.lemmas.Bool.{cases_Bool, eqb-true, ltb-true, and_parts, not-true}
 use Rattle.std.proofs.lemmas.List.{reverse-append}
 use Rattle.jvm_model.specs.declared.outcome.Outcome.{Outcome}
 use Rattle.jvm_model.specs.declared.program.Program.{Program}
@@ -9,6 +9,7 @@ use Rattle.jvm_model.specs.Classes.{member}
 use Rattle.order_law.specs.Conflicts.{Member, Distinct}
 use Rattle.order_law.specs.RecordForm.{no_repeats, joined, are_chains, numbers_ascend}
 use Rattle.order_law.specs.Plan.{NextOf, chain_at, Ascending, Event, claim, post, claims, posts, Posted, Legal, PostsOnce, AreApart, whole_chains, IsListOf, IsWholeThenPart, PostsInChains, LawOfHistories, FormsApart, ChainsApart}
+use Rattle.order_law.proofs.Members.{member_left, member_right, member_either, member_reversed, reversed_member, member_true}
 
 member_at : (x y : ℕ) (l : List ℕ) {b : Bool} → b ≡ true → Member x (cond b (y ∷ l) l) → (x ≡ y) ⊎ Member x l
 member_at x y l e h = subst (λ (c : Bool). Member x (cond c (y ∷ l) l)) e h
@@ -61,35 +62,11 @@ legal_once p C n (post w ls t o ∷ es) l = let m = l.0 in (m.3.open_yet, (m.0, 
 pub reversed : (t : ℕ) (D : List ℕ) → reverse (t ∷ D) ≡ reverse D ++ (t ∷ [])
 reversed t D = reverse-append (t ∷ []) D
 
--- members of two lists put together, and of a list turned round
-member_left : (xs ys : List ℕ) (x : ℕ) → Member x xs → Member x (xs ++ ys)
-member_left [] ys x i = absurd i
-member_left (y ∷ xs) ys x i = elim i [ inl e ↦ inl e | inr j ↦ inr (member_left xs ys x j) ]
-
-member_right : (xs ys : List ℕ) (x : ℕ) → Member x ys → Member x (xs ++ ys)
-member_right [] ys x i = i
-member_right (y ∷ xs) ys x i = inr (member_right xs ys x i)
-
-member_either : (xs ys : List ℕ) (x : ℕ) → Member x (xs ++ ys) → Member x xs ⊎ Member x ys
-member_either [] ys x i = inr i
-member_either (y ∷ xs) ys x i = elim i [ inl e ↦ inl (inl e) | inr j ↦ elim (member_either xs ys x j) [ inl k ↦ inl (inr k) | inr k ↦ inr k ] ]
-
-member_reversed : (l : List ℕ) (x : ℕ) → Member x l → Member x (reverse l)
-member_reversed [] x i = i
-member_reversed (y ∷ l) x i = rw (reversed y l) (elim i [ inl e ↦ member_right (reverse l) (y ∷ []) x (inl e) | inr j ↦ member_left (reverse l) (y ∷ []) x (member_reversed l x j) ])
-
-reversed_member : (l : List ℕ) (x : ℕ) → Member x (reverse l) → Member x l
-reversed_member [] x i = i
-reversed_member (y ∷ l) x i = elim (member_either (reverse l) (y ∷ []) x (subst (λ (z : List ℕ). Member x z) (reversed y l) i)) [
-  | inl j ↦ inr (reversed_member l x j)
-  | inr j ↦ elim j [ inl e ↦ inl e | inr n ↦ absurd n ]
-]
-
 distinct_mid : (f r : List ℕ) (x : ℕ) → Distinct (f ++ r) → Member x f → Member x r → ⊥
 distinct_mid [] r x d i j = i
 distinct_mid (y ∷ f) r x d i j = elim i [ inl e ↦ d.0 (member_right f r y (subst (λ (z : ℕ). Member z r) e j)) | inr k ↦ distinct_mid f r x d.1 k j ]
 
-of_cons : {x y : ℕ} {xs ys : List ℕ} → x ∷ xs ≡ y ∷ ys → (x ≡ y) × (xs ≡ ys)
+pub of_cons : {x y : ℕ} {xs ys : List ℕ} → x ∷ xs ≡ y ∷ ys → (x ≡ y) × (xs ≡ ys)
 of_cons e = ((cc), (cc))
 
 -- two fronts of one list, of which each holds what is posted and leaves what isn't
@@ -230,7 +207,7 @@ law_of_histories p C n es a l = record {
 }
 
 -- chains that are apart
-ascending_distinct : (l : List ℕ) → Ascending l → Distinct l
+pub ascending_distinct : (l : List ℕ) → Ascending l → Distinct l
 ascending_distinct [] a = tt
 ascending_distinct (t ∷ l) a = ((λ i. absurd (let h = a.0 t i in omega arith)), ascending_distinct l a.1)
 
@@ -252,10 +229,6 @@ ascending_from (t ∷ l) e = (ascending_head t l e, ascending_from l (ascending_
 
 pub chains_apart : ChainsApart
 chains_apart R S C cs = record { apart = cs.apart; once = λ i. ascending_distinct (chain_at C i) (cs.ascending i) }
-
-pub member_true : (x : ℕ) (l : List ℕ) → Member x l → member x l ≡ true
-member_true x [] i = absurd i
-member_true x (y ∷ l) i = elim i [ inl e ↦ or_left (nat_eq x y) (member x l) (eq-eqb x y e) | inr j ↦ or_right (nat_eq x y) (member x l) (member_true x l j) ]
 
 repeats_none : (l : List ℕ) → no_repeats l ≡ true → Distinct l
 repeats_none [] e = tt

@@ -3,6 +3,7 @@
 use Rattle.std.proofs.Common.{◌≡◌, ◌⊎◌, ℕ, zero, suc, ◌≤◌, List, [], ◌∷◌, ◌++◌, true, cond, nat_eq, get_or, refl, sym, ◌∙◌, ap, subst, inl, inr, arith, Option, Some, None}
 use Rattle.std.proofs.lemmas.Bool.{cases_Bool, eqb-true, eq-eqb, and_parts}
 use Rattle.std.proofs.lemmas.List.{append_assoc}
+use Rattle.std.proofs.lemmas.Option.{same_Some}
 use Rattle.jvm_model.specs.declared.values.Value.{Value}
 use Rattle.jvm_model.specs.declared.values.Value.TheVariants.{Int, Long, Null, Lit, Obj}
 use Rattle.jvm_model.specs.declared.values.Location.{Location}
@@ -75,9 +76,6 @@ text_write o (Some t) = (refl, tt)
 made_write : (o : ℕ) (x : Object) → AllWrites (made o x)
 made_write o x = (refl, writes_append (fields_made o x.fields) _ (fields_write o x.fields) (writes_append (elems_made o 0 x.elems) _ (elems_write o 0 x.elems) (text_write o x.text)))
 
-of_some : {a b : ℕ} → Some a ≡ Some b → a ≡ b
-of_some e = cc
-
 -- the run's touches are T, and it began with `base` objects
 module _ (base : ℕ) (T : List Touch) where
   -- an object is new or has a walk
@@ -142,10 +140,10 @@ module _ (base : ℕ) (T : List Touch) where
   place_known : {L M : Location} → PairedLocation m L M → (o : ℕ) → place_of L ≡ Some o → Known o
   place_known (statics e) o h = absurd (cc)
   place_known (inits e) o h = absurd (cc)
-  place_known (heads {a} p) o h = subst (λ (z : ℕ). Known z) (of_some h) p.1
-  place_known (at_field {a} p e) o h = subst (λ (z : ℕ). Known z) (of_some h) p.1
-  place_known (at_elem {a} i p) o h = subst (λ (z : ℕ). Known z) (of_some h) p.1
-  place_known (texts {a} p) o h = subst (λ (z : ℕ). Known z) (of_some h) p.1
+  place_known (heads {a} p) o h = subst (λ (z : ℕ). Known z) (same_Some _ _ h) p.1
+  place_known (at_field {a} p e) o h = subst (λ (z : ℕ). Known z) (same_Some _ _ h) p.1
+  place_known (at_elem {a} i p) o h = subst (λ (z : ℕ). Known z) (same_Some _ _ h) p.1
+  place_known (texts {a} p) o h = subst (λ (z : ℕ). Known z) (same_Some _ _ h) p.1
   place_known (files n) o h = absurd (cc)
   place_known (props n) o h = absurd (cc)
 
@@ -251,19 +249,19 @@ module _ (base : ℕ) (T : List Touch) where
   -- all that making an object touches is of it
   fields_met : (o : ℕ) (xs : List (ℕ × Value)) → base ≤ o → Met (fields_made o xs)
   fields_met o [] h = tt
-  fields_met o (x ∷ xs) h = (λ a e. inl (let g : o ≡ a = of_some e in omega arith), fields_met o xs h)
+  fields_met o (x ∷ xs) h = (λ a e. inl (let g : o ≡ a = same_Some _ _ e in omega arith), fields_met o xs h)
 
   elems_met : (o i : ℕ) (xs : List Value) → base ≤ o → Met (elems_made o i xs)
   elems_met o i [] h = tt
-  elems_met o i (x ∷ xs) h = (λ a e. inl (let g : o ≡ a = of_some e in omega arith), elems_met o (suc i) xs h)
+  elems_met o i (x ∷ xs) h = (λ a e. inl (let g : o ≡ a = same_Some _ _ e in omega arith), elems_met o (suc i) xs h)
 
   text_met : (o : ℕ) (t : Option (List ℕ)) → base ≤ o → Met (text_made o t)
   text_met o None h = tt
-  text_met o (Some t) h = (λ a e. inl (let g : o ≡ a = of_some e in omega arith), tt)
+  text_met o (Some t) h = (λ a e. inl (let g : o ≡ a = same_Some _ _ e in omega arith), tt)
 
   made_met : (o : ℕ) (x : Object) → base ≤ o → Met (made o x)
   made_met o x h = (
-    λ a e. inl (let g : o ≡ a = of_some e in omega arith),
+    λ a e. inl (let g : o ≡ a = same_Some _ _ e in omega arith),
     met_append (fields_made o x.fields) _ (fields_met o x.fields h) (met_append (elems_made o 0 x.elems) _ (elems_met o 0 x.elems h) (text_met o x.text h)),
   )
 

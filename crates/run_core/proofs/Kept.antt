@@ -1,5 +1,5 @@
 -- What a core keeps: the tables of a legal history, from the empty one on and over each event.
-use Rattle.std.proofs.Common.{◌≡◌, ◌⊎◌, ℕ, zero, suc, ◌+◌, ◌-◌, ◌^◌, ◌<◌, ◌≤◌, Bool, true, cond, nat_eq, List, [], ◌∷◌, ◌++◌, length, get_or, take, drop, set, map, replicate, reverse, sum_by, refl, sym, ◌∙◌, ap, subst, inl, inr, arith, true≢false}
+use Rattle.std.proofs.Common.{◌≡◌, ℕ, zero, suc, ◌+◌, ◌-◌, ◌^◌, ◌<◌, ◌≤◌, Bool, true, cond, nat_eq, List, [], ◌∷◌, ◌++◌, length, get_or, take, drop, set, map, replicate, reverse, sum_by, refl, sym, ◌∙◌, ap, subst, inl, inr, arith, true≢false}
 use Rattle.std.proofs.lemmas.Bool.{cases_Bool, cases_eq, cases_lt, eqb-true, eq-eqb}
 use Rattle.std.proofs.lemmas.List.{take-append-drop, take_all, length-append, length-map, length-replicate, length-set, get_or-set_same, get_or-set_other, get_or-replicate}
 use Rattle.std.proofs.lemmas.List.Folds.{fold-map}
@@ -11,7 +11,8 @@ use Rattle.jvm_model.specs.declared.program.Program.{Program}
 use Rattle.order_law.specs.Conflicts.{Member, Distinct}
 use Rattle.order_law.specs.Plan as law
 use Rattle.order_law.specs.RecordForm.{are_chains}
-use Rattle.order_law.proofs.Posts.{claims_more, posts_more, in_claims, in_posts, member_mid, reversed, law_of_histories, forms_apart}
+use Rattle.order_law.proofs.Members.{snoc_member}
+use Rattle.order_law.proofs.Posts.{claims_more, posts_more, in_claims, in_posts, member_mid, reversed, of_cons, law_of_histories, forms_apart}
 use Rattle.run_core.specs.declared.events.Event.{Event}
 use Rattle.run_core.specs.declared.events.Event.TheVariants.{Claim, Post}
 use Rattle.run_core.specs.declared.tables.Row.{Row}
@@ -20,18 +21,11 @@ use Rattle.run_core.specs.Run.{Run, before_last, last_of, told, history_of, IsIn
 use Rattle.run_core.specs.Kept.{row, row_at, hand_of, in_hand, IsClaimer, IsDone, AreTables, list_or, last_list, owed, IsKept, IsSplit, claimed, posted, rows_after, hands_after, MayEnter}
 
 -- ---- lists
-cons_parts : {x y : ℕ} {xs ys : List ℕ} → x ∷ xs ≡ y ∷ ys → (x ≡ y) × (xs ≡ ys)
-cons_parts e = ((cc), (cc))
-
 no_cons : {i : ℕ} {l : List ℕ} → [] ≡ i ∷ l → ⊥
 no_cons {i} {l} e = let h : 0 ≡ suc (length l) = ap length e in omega arith
 
 split_at : (l : List ℕ) (d : ℕ) → d < length l → l ≡ take d l ++ (get_or l d 0 ∷ drop (suc d) l)
 split_at l d h = sym (take-append-drop d l) ∙ ap (λ (z : List ℕ). take d l ++ z) (drop-cons l d 0 h)
-
-snoc_member : (xs : List ℕ) (y x : ℕ) → Member x (xs ++ (y ∷ [])) → Member x xs ⊎ (x ≡ y)
-snoc_member [] y x m = elim m [ inl e ↦ inr e | inr i ↦ absurd i ]
-snoc_member (z ∷ xs) y x m = elim m [ inl e ↦ inl (inl e) | inr i ↦ elim (snoc_member xs y x i) [ inl j ↦ inl (inr j) | inr e ↦ inr e ] ]
 
 distinct_after : (f r : List ℕ) (t : ℕ) → Distinct (f ++ (t ∷ r)) → Member t r → ⊥
 distinct_after [] r t d i = d.0 i
@@ -84,7 +78,7 @@ module _ (p : Program) (C : List (List ℕ)) (n : ℕ) where
   earlier_posted (law.claim v c ∷ es) w i j t rest l e m k = elim (cases_Bool (nat_eq v w)) [
     | inl b ↦
         let x : c ∷ law.claims es w ≡ i ∷ rest = subst (λ (z : Bool). cond z (c ∷ law.claims es w) (law.claims es w) ≡ i ∷ rest) b e in
-        let m' : Member j (law.claims es w) = subst (λ (z : List ℕ). Member j z) (sym (cons_parts x).1) m in
+        let m' : Member j (law.claims es w) = subst (λ (z : List ℕ). Member j z) (sym (of_cons x).1) m in
         l.0.4 j t (subst (λ (z : ℕ). Member j (law.claims es z)) (sym (eqb-true v w b)) m') k
     | inr b ↦ earlier_posted es w i j t rest l.1 (subst (λ (z : Bool). cond z (c ∷ law.claims es w) (law.claims es w) ≡ i ∷ rest) b e) m k
   ]

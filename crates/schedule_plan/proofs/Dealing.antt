@@ -6,7 +6,7 @@ use Rattle.std.proofs.lemmas.List.Sums.{sum_by-cons, sum_by_push, sum_by-set, su
 use Rattle.std.proofs.Math.ListN.{length-set}
 use Rattle.std.proofs.Math.Nat.{mul-le-mul_left, mul-add, suc-mul}
 use Rattle.order_law.specs.Conflicts.{Member}
-use Rattle.dep_graph.proofs.SourceLaws.{member_either, member_left, member_right}
+use Rattle.order_law.proofs.Members.{member_left, member_right, member_either}
 use Rattle.schedule_plan.specs.declared.shares.Share.{Share}
 use Rattle.schedule_plan.specs.Grouping.{at}
 use Rattle.schedule_plan.specs.Plans.{is_earlier, Falling, no_share, share_at, chains_at, load_at, load_before, IsLighter, IsPlanOf, AreBalanced, IsOrderOf, loads_of, with_chain, IsGiven, ArePlaced}

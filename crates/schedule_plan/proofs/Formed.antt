@@ -1,14 +1,14 @@
 -- Listed chains have the form of chains, and what that form says of the tests of all chains.
-use Rattle.std.proofs.Common.{◌≡◌, ℕ, zero, suc, ◌<◌, Bool, true, false, ◌&&◌, nat_eq, nat_le, List, [], ◌∷◌, ◌++◌, length, refl, sym, inl, inr, arith}
+use Rattle.std.proofs.Common.{◌≡◌, ℕ, zero, suc, ◌<◌, true, false, nat_le, List, [], ◌∷◌, ◌++◌, length, refl, sym, inl, inr, arith}
 use Rattle.std.specs.List.{list_all}
-use Rattle.std.proofs.lemmas.Bool.{cases_Bool, or_cases, eqb-true, true≢false, le-leb}
+use Rattle.std.proofs.lemmas.Bool.{cases_Bool, and_parts, true≢false, le-leb}
 use Rattle.jvm_model.specs.Classes.{member}
 use Rattle.order_law.specs.declared.edges.Edge.{Edge}
 use Rattle.order_law.specs.Conflicts.{Member, Distinct}
 use Rattle.order_law.specs.RecordForm.{no_repeats, joined, are_chains}
 use Rattle.order_law.specs.Plan.{chain_at, AreApart, AreListedChainsOf}
-use Rattle.dep_graph.proofs.SourceLaws.{member_either}
-use Rattle.schedule_plan.proofs.Places.{ascending_once}
+use Rattle.order_law.proofs.Members.{member_either, true_member}
+use Rattle.order_law.proofs.Posts.{ascending_distinct}
 
 pub joined_where : (C : List (List ℕ)) (t : ℕ) → Member t (joined C) → (i : ℕ) × Member t (chain_at C i)
 joined_where [] t m = absurd m
@@ -28,10 +28,6 @@ distinct_joined (c ∷ C) a = distinct_both c (joined C) (a.once 0)
     (distinct_joined C (record { apart = λ i j t m n. let e : suc i ≡ suc j = a.apart (suc i) (suc j) t m n in omega arith; once = λ i. a.once (suc i) }))
     (λ t m n. let p = joined_where C t n in let e : 0 ≡ suc p.0 = a.apart 0 (suc p.0) t m p.1 in absurd (omega arith))
 
-true_member : (t : ℕ) (l : List ℕ) → member t l ≡ true → Member t l
-true_member t [] e = absurd (true≢false (sym e))
-true_member t (x ∷ l) e = elim (or_cases (nat_eq t x) (member t l) e) [ inl a ↦ inl (eqb-true t x a) | inr b ↦ inr (true_member t l b) ]
-
 none_repeats : (l : List ℕ) → Distinct l → no_repeats l ≡ true
 none_repeats [] d = refl
 none_repeats (t ∷ l) d = elim (cases_Bool (member t l)) [
@@ -50,23 +46,19 @@ all_filled (c ∷ C) f = let p = f 0 (omega arith) in rw (some_long c p.0 p.1) (
 pub chains_form : (R : List Edge) (S : ℕ → Type 0) (C : List (List ℕ)) → AreListedChainsOf R S C → are_chains C ≡ true
 unfolding are_chains
 chains_form R S C cs =
-    let d = distinct_joined C (record { apart = cs.chains.apart; once = λ i. ascending_once (chain_at C i) (cs.chains.ascending i) }) in
+    let d = distinct_joined C (record { apart = cs.chains.apart; once = λ i. ascending_distinct (chain_at C i) (cs.chains.ascending i) }) in
     rw (all_filled C cs.filled) (none_repeats (joined C) d)
-
-and_both : (a b : Bool) → (a && b) ≡ true → (a ≡ true) × (b ≡ true)
-and_both true b e = (refl, e)
-and_both false b e = absurd (cc)
 
 all_long : (C : List (List ℕ)) → list_all (λ l. nat_le 1 (length l)) C ≡ true → (i : ℕ) → i < length C → 0 < length (chain_at C i)
 all_long [] e i h = absurd (omega arith)
-all_long ([] ∷ C) e i h = absurd (let p = and_both (nat_le 1 (length {A = ℕ} [])) (list_all (λ l. nat_le 1 (length l)) C) e in true≢false (sym p.0))
+all_long ([] ∷ C) e i h = absurd (let p = and_parts (nat_le 1 (length {A = ℕ} [])) (list_all (λ l. nat_le 1 (length l)) C) e in true≢false (sym p.0))
 all_long ((x ∷ c) ∷ C) e zero h = omega arith
-all_long ((x ∷ c) ∷ C) e (suc i) h = all_long C (and_both (nat_le 1 (length (x ∷ c))) (list_all (λ l. nat_le 1 (length l)) C) e).1 i (omega arith)
+all_long ((x ∷ c) ∷ C) e (suc i) h = all_long C (and_parts (nat_le 1 (length (x ∷ c))) (list_all (λ l. nat_le 1 (length l)) C) e).1 i (omega arith)
 
 -- no chain is empty
 pub filled_from : (C : List (List ℕ)) → are_chains C ≡ true → (i : ℕ) → i < length C → 0 < length (chain_at C i)
 unfolding are_chains
-filled_from C e = all_long C (and_both (list_all (λ l. nat_le 1 (length l)) C) (no_repeats (joined C)) e).0
+filled_from C e = all_long C (and_parts (list_all (λ l. nat_le 1 (length l)) C) (no_repeats (joined C)) e).0
 
 pub chain_there : (C : List (List ℕ)) (i t : ℕ) → Member t (chain_at C i) → i < length C
 chain_there [] i t m = absurd m

@@ -5,13 +5,13 @@ use Rattle.std.proofs.lemmas.List.{get_or_append_left, get_or-append_right}
 use Rattle.order_law.specs.declared.edges.Edge.{Edge}
 use Rattle.order_law.specs.Conflicts.{Member, Before, Joined, itself, forth, back}
 use Rattle.order_law.specs.Plan.{Ascending, chain_at, AreListedChainsOf}
+use Rattle.order_law.proofs.Members.{member_left, member_right, member_either, before_up, joined_within}
 use Rattle.dep_graph.specs.Graphs.{GoUp}
-use Rattle.dep_graph.proofs.Edges as edges
-use Rattle.dep_graph.proofs.SourceLaws.{member_either, member_left, member_right, ascending_more}
+use Rattle.dep_graph.proofs.SourceLaws.{ascending_more}
 use Rattle.selection_close.specs.Closed.{IsAscendingOf}
 use Rattle.schedule_plan.specs.Grouping.{at, AreLabels, AreJoined, IsClassOf, AreClasses}
 use Rattle.schedule_plan.proofs.Places.{member_get, place_of, rises, stands_before, same_place}
-use Rattle.schedule_plan.proofs.Joinings.{joined_within, joined_in}
+use Rattle.schedule_plan.proofs.Joinings.{joined_in}
 
 -- ---- the list of a class
 pub class_begun : (tests labels : List ℕ) (label : ℕ) → IsClassOf tests labels label 0 []
@@ -114,11 +114,8 @@ no_chain (c ∷ C) zero h = absurd (omega arith)
 no_chain (c ∷ C) (suc i) h = no_chain C i (omega arith)
 
 module _ (R : List Edge) (tests labels : List ℕ) (up : GoUp 1024 R) (rising : Ascending tests) (ls : AreLabels R tests labels) (js : AreJoined R tests labels (length tests)) where
-  before_rises : {u t : ℕ} → Before R u t → u < t
-  before_rises b = edges.rises R (λ k u t h. (up k u t h).1) b
-
   stepped : (a b : ℕ) → a < length tests → b < length tests → Before R (at tests a) (at tests b) → at labels a ≡ at labels b
-  stepped a b h k x = js b k a (stands_before tests rising a b h k (before_rises x)) x
+  stepped a b h k x = js b k a (stands_before tests rising a b h k (before_up R (λ k u t h. (up k u t h).1) x)) x
 
   same_label : {t u : ℕ} → Joined R (λ x. Member x tests) t u → (i j : ℕ) → i < length tests → j < length tests → at tests i ≡ t → at tests j ≡ u → at labels i ≡ at labels j
   same_label (itself s) i j h k e g = ap (λ (z : ℕ). at labels z) (same_place tests rising i j h k (e ∙ sym g))

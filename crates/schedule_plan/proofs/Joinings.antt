@@ -2,11 +2,7 @@
 use Rattle.std.proofs.Common.{ℕ, List}
 use Rattle.order_law.specs.declared.edges.Edge.{Edge}
 use Rattle.order_law.specs.Conflicts.{Joined, itself, forth, back}
-
-pub joined_within : {R : List Edge} {S : ℕ → Type 0} {t u : ℕ} → Joined R S t u → S u
-joined_within (itself s) = s
-joined_within (forth j s b) = s
-joined_within (back j s b) = s
+use Rattle.order_law.proofs.Members.{joined_within}
 
 pub joined_on : {R : List Edge} {S : ℕ → Type 0} {t u v : ℕ} → Joined R S t u → Joined R S u v → Joined R S t v
 joined_on p (itself s) = p

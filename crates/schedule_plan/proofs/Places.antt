@@ -1,7 +1,7 @@
 -- Places of lists of numbers.
 use Rattle.std.proofs.Common.{◌≡◌, ℕ, zero, suc, ◌<◌, ◌≤◌, List, [], ◌∷◌, length, get_or, refl, sym, ap, inl, inr, arith}
 use Rattle.std.proofs.lemmas.Bool.{cases_lt, cases_eq}
-use Rattle.order_law.specs.Conflicts.{Member, Distinct}
+use Rattle.order_law.specs.Conflicts.{Member}
 use Rattle.order_law.specs.Plan.{Ascending}
 
 pub member_get : (l : List ℕ) (k : ℕ) → k < length l → Member (get_or l k 0) l
@@ -34,10 +34,6 @@ same_place l a i j h k e = elim (cases_lt i j) [
   | inl x ↦ let s = rises l a i j x k in absurd (omega arith)
   | inr x ↦ elim (cases_lt j i) [ inl y ↦ let s = rises l a j i y h in absurd (omega arith) | inr y ↦ omega arith ]
 ]
-
-pub ascending_once : (l : List ℕ) → Ascending l → Distinct l
-ascending_once [] a = tt
-ascending_once (t ∷ l) a = ((λ i. absurd (let h = a.0 t i in omega arith)), ascending_once l a.1)
 
 -- where a loop ends
 pub ended : (i n : ℕ) → i ≤ n → n ≤ i → i ≡ n

@@ -5,7 +5,7 @@ use Rattle.std.proofs.lemmas.List.{take_more, take_all}
 use Rattle.std.proofs.lemmas.Option.{slice_get-get_or}
 use Rattle.order_law.specs.Conflicts.{Member, Distinct}
 use Rattle.order_law.specs.OrderFault.{IsTwice}
-use Rattle.dep_graph.proofs.SourceLaws.{member_either}
+use Rattle.order_law.proofs.Members.{member_either}
 
 pub member_at : (l : List ℕ) (q i t : ℕ) → q < i → i ≤ length l → get_or l q 0 ≡ t → Member t (take i l)
 member_at l q zero t a b e = absurd (omega arith)

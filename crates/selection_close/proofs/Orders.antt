@@ -6,7 +6,7 @@ use Rattle.std.proofs.lemmas.Option.{slice_get-get_or, get_or_from_slice_get}
 use Rattle.order_law.specs.declared.edges.Edge.{Edge}
 use Rattle.order_law.specs.Conflicts.{Member, Before, InOrder}
 use Rattle.order_law.specs.OrderFault.{IsInPlace, IsInverted}
-use Rattle.dep_graph.proofs.SourceLaws.{member_either}
+use Rattle.order_law.proofs.Members.{member_either}
 use Rattle.selection_close.specs.Faults.{IsBeforeNone, IsFirstAfter}
 use Rattle.selection_close.proofs.Lists.{member_place}
 

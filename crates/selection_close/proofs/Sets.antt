@@ -8,10 +8,10 @@ use Rattle.order_law.specs.declared.edges.EdgeKind.TheVariants.{Raw}
 use Rattle.order_law.specs.Conflicts.{Member, HasEdge}
 use Rattle.order_law.specs.OrderFault.{HasWriters, IsMissing}
 use Rattle.order_law.specs.Plan.{Ascending}
+use Rattle.order_law.proofs.Members.{member_left, member_right}
 use Rattle.dep_graph.specs.declared.sets.TestSet.{TestSet}
 use Rattle.dep_graph.specs.Sets.{holds}
 use Rattle.dep_graph.specs.Graphs.{GoUp, AreWriters}
-use Rattle.dep_graph.proofs.SourceLaws.{member_left, member_right}
 use Rattle.selection_close.specs.Faults.{HoldsList, HasAll, IsLeastOutside, gained}
 use Rattle.selection_close.proofs.Lists.{member_at, member_next, member_all}
 

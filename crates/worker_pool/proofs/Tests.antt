@@ -1,16 +1,16 @@
 -- Tests of chains are tests of the program, and what stops a plan.
-use Rattle.std.proofs.Common.{◌≡◌, ◌⊎◌, ℕ, zero, suc, ◌<◌, ◌≤◌, List, [], ◌∷◌, ◌++◌, length, get_or, reverse, All, true, None, refl, sym, subst, inl, inr, arith}
+use Rattle.std.proofs.Common.{◌≡◌, ℕ, zero, suc, ◌<◌, ◌≤◌, List, [], ◌∷◌, length, get_or, reverse, All, true, refl, sym, subst, inl, inr, arith}
 use Rattle.std.proofs.lemmas.List.{get_or_read}
 use Rattle.jvm_model.specs.declared.program.Program.{Program}
 use Rattle.jvm_model.specs.State.{test_at}
-use Rattle.jvm_model.specs.Suite.{one_test}
 use Rattle.jvm_model.specs.World.{World}
 use Rattle.order_law.specs.Conflicts.{Member}
 use Rattle.order_law.specs.Histories.{IsTestNumber}
 use Rattle.order_law.specs.Plan as law
 use Rattle.order_law.specs.RecordForm.{are_chains}
-use Rattle.order_law.proofs.Posts.{member_mid, posted_where, reversed, law_of_histories, forms_apart}
-use Rattle.test_run.specs.Running.{IsTest, IsAfter, IsRefused, Stands}
+use Rattle.order_law.proofs.Members.{reversed_member}
+use Rattle.order_law.proofs.Posts.{member_mid, posted_where, law_of_histories, forms_apart}
+use Rattle.test_run.specs.Running.{IsTest, IsRefused, Stands}
 use Rattle.test_run.specs.declared.run_fault.RunFault.{RunFault}
 use Rattle.test_run.specs.declared.run_fault.RunFault.TheVariants as run
 use Rattle.run_core.specs.Refusal.{HasOpen}
@@ -28,14 +28,6 @@ all_tests p l f k d h = f (get_or l k d) (member_at l k d h)
 -- what an index reads of chains
 pub chain_in : (p : Program) (C : List (List ℕ)) (k : ℕ) (l : List ℕ) → HaveTests p C → k < length C → l ≡ get_or C k l → AreTests p l
 chain_in p C k l f h e = subst (λ (z : List ℕ). AreTests p z) (sym (get_or_read C k l h e [])) (f k)
-
-snoc_member : (xs : List ℕ) (y x : ℕ) → Member x (xs ++ (y ∷ [])) → Member x xs ⊎ (x ≡ y)
-snoc_member [] y x m = elim m [ inl e ↦ inr e | inr i ↦ absurd i ]
-snoc_member (z ∷ xs) y x m = elim m [ inl e ↦ inl (inl e) | inr i ↦ elim (snoc_member xs y x i) [ inl j ↦ inl (inr j) | inr e ↦ inr e ] ]
-
-reversed_member : (l : List ℕ) (x : ℕ) → Member x (reverse l) → Member x l
-reversed_member [] x m = m
-reversed_member (y ∷ l) x m = elim (snoc_member (reverse l) y x (subst (λ (z : List ℕ). Member x z) (reversed y l) m)) [ inl j ↦ inr (reversed_member l x j) | inr e ↦ inl e ]
 
 -- what a worker posted, and its next test
 pub posted_tests : (p : Program) (C : List (List ℕ)) (n : ℕ) (es : List law.Event) (w : ℕ) → law.Legal p C n es → HaveTests p C → AreTests p (reverse (law.posts es w))
