@@ -1,4 +1,4 @@
-//! Tests of the top call over depots and sinks that fail, of workers in threads, and of a step by itself.
+//! Tests of the top call over depots and sinks that fail, and of workers in threads.
 #![tactic(auto)]
 
 pub mod asking;
@@ -6,8 +6,6 @@ pub mod asking;
 mod files;
 #[cfg(test)]
 mod outsides;
-#[cfg(test)]
-mod steps;
 #[cfg(test)]
 mod tests;
 #[cfg(test)]
