@@ -22,3 +22,4 @@ mod OwnAnswers
 mod OwnOrderLaws
 mod GeneratedLaws
 mod DetectedLaws
+pub mod QuietLaws

@@ -13,7 +13,7 @@ use et_base::NoMemory;
 use jvm_model::{Outcome, Own, Program, Verdict};
 use std::alloc::Global;
 use vm_calls::Selections;
-use vm_interp::{State, run};
+use vm_interp::{State, run_frames};
 use vm_mem::Memory;
 use vm_tables::Tables;
 
@@ -48,7 +48,7 @@ pub(crate) fn run_single<M: Memory>(
     memory.begin_test(test)?;
     let mut state = State::start(alloc, p, test)?;
     let mut left = budget;
-    let verdict = run(alloc, &mut state, memory, p, tables, selections, &mut left)?;
+    let verdict = run_frames(alloc, &mut state, memory, p, tables, selections, &mut left)?;
     Ok(outcome_of(verdict, state, budget.saturating_sub(left)))
 }
 

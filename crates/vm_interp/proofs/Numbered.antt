@@ -3,6 +3,7 @@ use Rattle.std.proofs.Common.{◌≡◌, ℕ, zero, suc, ◌<◌, ◌+◌, List,
 use Rattle.std.proofs.lemmas.Bool.{eq-eqb, eqb-true, ne_eqb}
 use Rattle.std.proofs.lemmas.List.{length-drop, take_all}
 use Rattle.std.proofs.lemmas.List.Elements.{All-head, All-tail}
+use Rattle.std.proofs.lemmas.Option.{slice_get_within}
 use Rattle.std.proofs.Math.Nat.{lt_of_not-le}
 use Rattle.jvm_model.specs.declared.instr.Instr.{Instr}
 use Rattle.jvm_model.specs.declared.program.Placed.{Placed}
@@ -36,11 +37,6 @@ found_there n (x ∷ xs) end (suc i) d a l =
     chosen (eqb x.pc (get_or xs i d).pc) false (Some (record { form = x.form; after = place_after xs end })) (found_in xs end (get_or xs i d).pc) apart
     ∙ found_there (x.pc + 1) xs end i d a.1 (omega arith)
 
-pub within : {A : Type 0} (xs : List A) (i : ℕ) (x : A) → slice_get xs i ≡ Some x → i < length xs
-within [] i x e = absurd (cc)
-within (y ∷ ys) zero x e = omega arith
-within (y ∷ ys) (suc i) x e = let h = within ys i x e in omega arith
-
 -- the instruction of this number is found at a place of a code
 pub record IsNumber (b : Body) (pc i : ℕ) : Type 0 where
   pub found : found_of (Some b) pc ≡ instruction_of (Some b) (Some i)
@@ -52,8 +48,8 @@ number_of_guess b i pc x h e q =
     let here : get_or b.code i no_placed ≡ x = get_some b.code i x no_placed (sym e) in
     let there : (get_or b.code i no_placed).pc ≡ pc = ap (λ (y : Placed). y.pc) here ∙ q in
     record {
-      found = subst (λ (n : ℕ). found_in b.code b.length n ≡ Some (instruction b.code b.length i)) there (found_there 0 b.code b.length i no_placed h.ascending (within b.code i x (sym e)));
-      within = within b.code i x (sym e);
+      found = subst (λ (n : ℕ). found_in b.code b.length n ≡ Some (instruction b.code b.length i)) there (found_there 0 b.code b.length i no_placed h.ascending (slice_get_within b.code i x (sym e)));
+      within = slice_get_within b.code i x (sym e);
     }
 
 next_by : (o : Option Found) (pc : ℕ) → (elim o as (λ _. ℕ) [ None ↦ pc | Some x ↦ x.after ]) ≡ after_or pc o

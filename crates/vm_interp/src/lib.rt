@@ -18,7 +18,7 @@ mod turned;
 mod went;
 
 pub use limits::stack_limits;
-pub use running::run;
+pub use running::run_frames;
 pub use state::State;
 pub use stepping::step;
 pub use turned::Turned;

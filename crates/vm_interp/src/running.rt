@@ -23,7 +23,7 @@ use vm_tables::Tables;
 /// Makes the steps of a test of a typed program from its start to its end, in a typed world. It answers the verdict, or
 /// None exactly where the test's units would pass those left; the memory isn't used on then. The world that it leaves is
 /// typed again.
-pub fn run<M: Memory>(
+pub fn run_frames<M: Memory>(
     alloc: Global,
     state: &mut State,
     memory: &mut M,

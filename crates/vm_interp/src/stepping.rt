@@ -155,7 +155,7 @@ fn raise_step<M: Memory>(
 
 /// Makes one step of a test of a typed program, from a typed state (this project's): the row of the instruction at the top
 /// frame's place, what raising does there, a step on an initialisation entry, or a step of the driver where no entry is
-/// left. Over, with nothing made, where its cost is above the units left.
+/// left. Over where its cost is above the units left; the memory isn't used on then.
 pub fn step<M: Memory>(
     alloc: Global,
     state: &mut State,

@@ -1,6 +1,6 @@
 use Rattle.std.proofs.lemmas.Result.{IfOk-weaker}
 use Rattle.vm_interp.proofs.Laws.{all_safe, typed_left}
-use Rattle.vm_interp.proofs.running.run.Goals as goal
+use Rattle.vm_interp.proofs.running.run_frames.Goals as goal
 
 pub run_safe-requires-clause-safe : goal.run_safe-requires-clause-safe
 run_safe-requires-clause-safe g c = all_safe (g.M.Memory.program c.args.memory.now) c.requires.checked c.requires.limits
