@@ -17,7 +17,7 @@ use Rattle.jvm_model.specs.Step.{row_here, row_or_none}
 use Rattle.jvm_model.specs.View.{IsRow, IsSafe}
 use Rattle.jvm_model.specs.World.{World}
 use Rattle.vm_tables.specs.Numbers.{instruction, instruction_of, after_or, no_placed}
-use Rattle.vm_tables.proofs.Places.{ascending_number, form_bare, form_some, get_some, place_at, place_past}
+use Rattle.vm_tables.proofs.Places.{ascending_number, form_bare, form_some, get_some, next_found, place_at, place_past}
 use Rattle.check_sound.proofs.Arrive.{has_number}
 use Rattle.vm_interp.specs.Gliding.{IsAtForm, IsIn, IsInCode, IsLeft, IsRest, Stands, StaysAt}
 use Rattle.vm_interp.specs.declared.went.Went.{Went}
@@ -52,13 +52,9 @@ number_of_guess b i pc x h e q =
       within = slice_get_within b.code i x (sym e);
     }
 
-next_by : (o : Option Found) (pc : ℕ) → (elim o as (λ _. ℕ) [ None ↦ pc | Some x ↦ x.after ]) ≡ after_or pc o
-next_by None pc = refl
-next_by (Some x) pc = refl
-
 next_numbered : (p : Program) (m pc i : ℕ) (b : Body) → (method_at p m).body ≡ Some b → IsNumber b pc i → next_place p m pc ≡ place_after (drop (suc i) b.code) b.length
 unfolding next_place
-next_numbered p m pc i b own h = next_by (found_of (method_at p m).body pc) pc ∙ ap (λ (o : Option Body). after_or pc (found_of o pc)) own ∙ ap (λ (o : Option Found). after_or pc o) h.found
+next_numbered p m pc i b own h = next_found (found_of (method_at p m).body pc) pc ∙ ap (λ (o : Option Body). after_or pc (found_of o pc)) own ∙ ap (λ (o : Option Found). after_or pc o) h.found
 
 form_numbered : (p : Program) (m pc i : ℕ) (b : Body) → (method_at p m).body ≡ Some b → IsNumber b pc i → form_at p m pc ≡ Some (get_or b.code i no_placed).form
 form_numbered p m pc i b own h = form_some p m pc i b (subst (λ (o : Option Body). found_of o pc ≡ instruction_of o (Some i)) (sym own) h.found) own
