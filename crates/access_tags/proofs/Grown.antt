@@ -1,6 +1,7 @@
 -- The tags after more locations came.
 use Rattle.std.proofs.Common.{◌≡◌, ℕ, [], zero, suc, ◌≤◌, List, ◌∷◌, ◌++◌, length, get_or, replicate, reverse, refl, ◌∙◌, ap, arith, length-append}
 use Rattle.std.proofs.lemmas.List.{length-replicate, get_or_past}
+use Rattle.jvm_model.proofs.Ranges.{default_in}
 use Rattle.access_tags.specs.declared.mark.Mark.{Mark}
 use Rattle.access_tags.specs.declared.mark.Past.{Past}
 use Rattle.access_tags.specs.declared.mark.Reader.{Reader}
@@ -10,11 +11,6 @@ use Rattle.access_tags.proofs.Settle.{same_tag}
 use Rattle.access_tags.proofs.Chains.{chain_end}
 
 -- defaults at the end change no place
-default_in : {A : Type 0} (n i : ℕ) (d : A) → get_or (replicate n d) i d ≡ d
-default_in zero i d = refl
-default_in (suc n) zero d = refl
-default_in (suc n) (suc i) d = default_in n i d
-
 pub get_or-defaults : {A : Type 0} (xs : List A) (n i : ℕ) (d : A) → get_or (xs ++ replicate n d) i d ≡ get_or xs i d
 get_or-defaults [] n i d = default_in n i d
 get_or-defaults (x ∷ xs) n zero d = refl
