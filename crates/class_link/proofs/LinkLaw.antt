@@ -121,7 +121,7 @@ pub bound : {A B : Type 0} (r : Result A LinkFault) (f : A → Result B LinkFaul
 bound (Ok x) f y e = (x, refl, e)
 bound (Err z) f y e = absurd (cc)
 
-unless_none : (o : Option LinkFault) (u : Unit {0}) → unless o ≡ Ok u → o ≡ None
+pub unless_none : (o : Option LinkFault) (u : Unit {0}) → unless o ≡ Ok u → o ≡ None
 unless_none None u e = refl
 unless_none (Some f) u e = absurd (cc)
 
@@ -129,10 +129,10 @@ no_cycle : (cs : List ClassParts) (cycle : Option ℕ) → IsFirstCycle (skeleto
 no_cycle cs None h e = h
 no_cycle cs (Some i) h e = absurd (cc)
 
-known_from : (cs : List ClassParts) → All (λ c. grammar.IsClass c) cs → AllKnown cs
+pub known_from : (cs : List ClassParts) → All (λ c. grammar.IsClass c) cs → AllKnown cs
 known_from cs h i c e = class_facts c (all_there (λ x. grammar.IsClass x) cs i c h e)
 
-coded_from : (cs : List ClassParts) → AllKnown cs → AllCoded cs
+pub coded_from : (cs : List ClassParts) → AllKnown cs → AllCoded cs
 coded_from cs known i k c x code h g e =
     let m : MethodFacts c.pool x = all_there (MethodFacts c.pool) c.methods k x (known i c h).methods.each g in
     subst (λ o. IfSome o (PartFacts c.pool)) e m.code

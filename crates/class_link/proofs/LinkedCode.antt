@@ -68,7 +68,7 @@ mapped f None y e = absurd (cc)
 mapped f (Some x) y e = (x, refl, (let q : Some (f x) ≡ Some y = e in cc))
 
 -- a class's kind is made of its number
-class_kind : (names : List (List ℕ)) (name : List ℕ) (d : ℕ) → kind_of names name ≡ Some (kind.Class d) → class_number names name ≡ Some d
+pub class_kind : (names : List (List ℕ)) (name : List ℕ) (d : ℕ) → kind_of names name ≡ Some (kind.Class d) → class_number names name ≡ Some d
 unfolding kind_of
 class_kind names name d = cond_both (starts_array name) _ _ (λ o. o ≡ Some (kind.Class d) → class_number names name ≡ Some d)
     (λ _. cond_both (nat_le (dimensions name) 255) _ _ (λ o. o ≡ Some (kind.Class d) → class_number names name ≡ Some d)

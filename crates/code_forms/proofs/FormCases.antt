@@ -76,23 +76,23 @@ pub record FormCases (P : Instr → Type 0) (t : Option Target) (o : RawOp) : Ty
 
 -- ---- plain groups
 
-loads_plain : (o : RawOp) → is_plain (loads o) ≡ true
+pub loads_plain : (o : RawOp) → is_plain (loads o) ≡ true
 unfolding loads
 loads_plain o = grind arith
 
-stores_plain : (o : RawOp) → is_plain (stores o) ≡ true
+pub stores_plain : (o : RawOp) → is_plain (stores o) ≡ true
 unfolding stores
 stores_plain o = grind arith
 
-moves_plain : (n : ℕ) → is_plain (moves n) ≡ true
+pub moves_plain : (n : ℕ) → is_plain (moves n) ≡ true
 unfolding moves
 moves_plain n = grind arith
 
-numbers_plain : (o : RawOp) → is_plain (numbers o) ≡ true
+pub numbers_plain : (o : RawOp) → is_plain (numbers o) ≡ true
 unfolding numbers
 numbers_plain o = grind arith
 
-conversions_plain : (n : ℕ) → is_plain (conversions n) ≡ true
+pub conversions_plain : (n : ℕ) → is_plain (conversions n) ≡ true
 unfolding conversions
 conversions_plain n = grind arith
 

@@ -45,7 +45,7 @@ one_left = refl
 high_local : (n : ℕ) → 133 ≤ n → takes_local n ≡ false
 high_local n low = grind (arith, nat_tests)
 
-not_wide : (slots : List (Option Entry)) (ops : List RawOp) (total : ℕ) (o : RawOp) → OpFacts slots ops total o → 133 ≤ o.opcode → o.wide ≡ false
+pub not_wide : (slots : List (Option Entry)) (ops : List RawOp) (total : ℕ) (o : RawOp) → OpFacts slots ops total o → 133 ≤ o.opcode → o.wide ≡ false
 not_wide slots ops total o facts low = by_test o.wide
     (λ h. elim (facts.wide h) [
       | inl local ↦ (let no : takes_local o.opcode ≡ false = high_local o.opcode low in absurd (let yes : takes_local o.opcode ≡ true = local.0 in cc))

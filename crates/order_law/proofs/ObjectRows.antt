@@ -48,11 +48,11 @@ module _ (tw : Twins) where
   left_with f rs = (stack-paired tw.numbers tw.place f rs).entries
 
   -- statics
-  read_static-paired : (a b : ℕ) {s t : Entries} → tw.numbers.fields a b ≡ true → Frames tw s t → Rows tw (read_static tw.left a s) (read_static tw.right b t)
+  pub read_static-paired : (a b : ℕ) {s t : Entries} → tw.numbers.fields a b ≡ true → Frames tw s t → Rows tw (read_static tw.left a s) (read_static tw.right b t)
   unfolding read_static
   read_static-paired a b e f = both_read (statics e) (λ v w r. goes_on-paired tw f (one_more r f.entries.top.stack))
 
-  write_static-paired : (a b : ℕ) {s t : Entries} → tw.numbers.fields a b ≡ true → Frames tw s t → Rows tw (write_static tw.left a s) (write_static tw.right b t)
+  pub write_static-paired : (a b : ℕ) {s t : Entries} → tw.numbers.fields a b ≡ true → Frames tw s t → Rows tw (write_static tw.left a s) (write_static tw.right b t)
   unfolding write_static
   write_static-paired a b e f = popping-paired tw f.entries.top.stack (λ v w vs ws r rs. both_write (statics e) (narrowed-paired tw (tw.matched.fields a b e).descriptor r) (goes_on-paired tw f rs))
 
@@ -71,7 +71,7 @@ module _ (tw : Twins) where
   fields-paired _ f = no_row-paired tw
 
   -- new objects
-  new_object-paired : (c d : ℕ) {s t : Entries} → tw.numbers.class c d ≡ true → Frames tw s t → Rows tw (new_object tw.left c s) (new_object tw.right d t)
+  pub new_object-paired : (c d : ℕ) {s t : Entries} → tw.numbers.class c d ≡ true → Frames tw s t → Rows tw (new_object tw.left c s) (new_object tw.right d t)
   unfolding new_object
   new_object-paired c d e f = spend-paired tw (ap (λ (k : ℕ). 1 + k) (length-paired (Tested tw.numbers.fields) (layout-paired tw.numbers tw.left tw.right tw.matched c d e)))
       (both_make (blank-paired tw.numbers tw.left tw.right tw.matched tw.place (instance-paired tw.numbers tw.left tw.right tw.matched c d e)) (λ a b x. goes_on-paired tw f (one_more (objects x) f.entries.top.stack)))
@@ -223,7 +223,7 @@ module _ (tw : Twins) where
       (subst (λ (z : Option Native). Rows tw (enters_native (method_at tw.left a).native (method_at tw.left a).body a k s) (enters_native z (method_at tw.right b).body b k t)) m.native
       (native_or_body (method_at tw.left a).native a b k m.body e f)) (no_row-paired tw)
 
-  called-with : (a b i j : ℕ) {s t : Entries} → i ≡ j → tw.numbers.method a b ≡ true → Frames tw s t → Rows tw (calls tw.left a i s) (calls tw.right b j t)
+  pub called-with : (a b i j : ℕ) {s t : Entries} → i ≡ j → tw.numbers.method a b ≡ true → Frames tw s t → Rows tw (calls tw.left a i s) (calls tw.right b j t)
   called-with a b i j {s} {t} g e f = subst (λ (z : ℕ). Rows tw (calls tw.left a i s) (calls tw.right b z t)) g (calls-paired a b i e f)
 
   selected-paired : {x y : Selected} (i j : ℕ) {s t : Entries} → PairedSelected tw.numbers tw.left tw.right tw.matched x y → i ≡ j → Frames tw s t → Rows tw (calls_selected tw.left x i s) (calls_selected tw.right y j t)

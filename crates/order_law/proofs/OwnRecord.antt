@@ -64,7 +64,7 @@ filter_true : {A : Type 0} (f : A → Bool) (xs : List A) (x : A) → Member x (
 filter_true f [] x i = absurd i
 filter_true f (y ∷ xs) x i = kept_true f (f y) x y (filter f xs) refl i (λ j. filter_true f xs x j)
 
-first_in : (ls : List Location) (L : Location) → Member L ls → Member L (first_places ls)
+pub first_in : (ls : List Location) (L : Location) → Member L ls → Member L (first_places ls)
 first_in [] L i = absurd i
 first_in (M ∷ ls) L i = elim i [
   | inl e ↦ inl e
@@ -74,7 +74,7 @@ first_in (M ∷ ls) L i = elim i [
   ]
 ]
 
-touched : (ts : List Touch) (L : Location) → (written ts L ≡ true) ⊎ (exposed ts L ≡ true) → Member L (map (λ (x : Touch). x.location) ts)
+pub touched : (ts : List Touch) (L : Location) → (written ts L ≡ true) ⊎ (exposed ts L ≡ true) → Member L (map (λ (x : Touch). x.location) ts)
 touched [] L e = absurd (elim e [ inl a ↦ (cc) | inr a ↦ (cc) ])
 touched (x ∷ ts) L e = at_write x.write (same L x.location) (written ts L) (exposed ts L) e (λ s. inl (same_true L x.location s)) (λ r. inr (touched ts L r))
   where

@@ -276,11 +276,11 @@ module _ (n : Numbers) (p q : Program) (mt : MatchedCode n p q) where
   open_like-paired : (a b x y : ℕ) → M a b → M x y → is_open_like p a x ≡ is_open_like q b y
   open_like-paired a b x y e g = both _ _ _ _ (ap (λ (f : ℕ). not (is_private f)) (mt.methods x y g).flags) (like-paired a b x y e g)
 
-  first-paired : (f g : ℕ → Bool) → ((x y : ℕ) → M x y → f x ≡ g y) → {xs ys : List ℕ} → PairedList M xs ys → PairedOption M (find f xs) (find g ys)
+  pub first-paired : (f g : ℕ → Bool) → ((x y : ℕ) → M x y → f x ≡ g y) → {xs ys : List ℕ} → PairedList M xs ys → PairedOption M (find f xs) (find g ys)
   first-paired f g h no_more = both_none
   first-paired f g h (one_more {x} {y} r rs) = pick-option (f x) (g y) (h x y r) (both_some r) (first-paired f g h rs)
 
-  methods-paired : {xs ys : List ℕ} → PairedList C xs ys → PairedList M (flat_map (λ c. (class_at p c).methods) xs) (flat_map (λ c. (class_at q c).methods) ys)
+  pub methods-paired : {xs ys : List ℕ} → PairedList C xs ys → PairedList M (flat_map (λ c. (class_at p c).methods) xs) (flat_map (λ c. (class_at q c).methods) ys)
   methods-paired r = flat_map-paired C M (λ c. (class_at p c).methods) (λ c. (class_at q c).methods) (λ c d e. (mt.classes c d e).methods) r
 
   declared-paired : (f g : ℕ → Bool) → ((x y : ℕ) → M x y → f x ≡ g y) → {xs ys : List ℕ} → PairedList C xs ys → PairedOption M (declared_in p f xs) (declared_in q g ys)
@@ -293,7 +293,7 @@ module _ (n : Numbers) (p q : Program) (mt : MatchedCode n p q) where
   redeclares-paired : (a b x y : ℕ) → M a b → M x y → redeclares p a x ≡ redeclares q b y
   redeclares-paired a b x y e g = member-paired C mt.one_class _ _ (mt.methods x y g).class (interfaces-paired _ _ (mt.methods a b e).class)
 
-  kept-paired : {xs ys : List ℕ} → PairedList M xs ys → PairedList M (kept_of p xs) (kept_of q ys)
+  pub kept-paired : {xs ys : List ℕ} → PairedList M xs ys → PairedList M (kept_of p xs) (kept_of q ys)
   kept-paired {xs} {ys} r = filter-paired M (λ x. not (list_any (λ a. redeclares p a x) xs)) (λ x. not (list_any (λ a. redeclares q a x) ys))
       (λ x y g. ap not (any-paired M (λ a. redeclares p a x) (λ a. redeclares q a y) (λ a b e. redeclares-paired a b x y e g) r)) r
 

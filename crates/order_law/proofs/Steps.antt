@@ -61,7 +61,7 @@ module _ (tw : Twins) where
   handled-paired r f both_none = both_done (answered (raised r) (popped-paired tw.numbers tw.place f.entries))
   handled-paired r f (both_some e) = goes_to-paired tw e f (one_more r no_more)
 
-  raise_row-paired : {v w : Value} {s t : Entries} → V tw v w → Frames tw s t → Rows tw (row_raise tw.left v s) (row_raise tw.right w t)
+  pub raise_row-paired : {v w : Value} {s t : Entries} → V tw v w → Frames tw s t → Rows tw (row_raise tw.left v s) (row_raise tw.right w t)
   unfolding row_raise
   raise_row-paired r f = on_object-paired tw _ _ f.entries r (λ a b x. both_read (heads x) (λ h k e. handled-paired r f
       (handler-paired tw.numbers tw.left tw.right tw.matched _ _ _ _ _ _ f.method f.entries.top.pc (class_of-paired tw.numbers tw.left tw.right tw.matched e.kind))))
@@ -85,11 +85,11 @@ module _ (tw : Twins) where
       (spend-paired tw g (faults-paired tw (tw.matched.builtin stack_overflow_error (omega arith)) r))
       (spend-paired tw (rw (g, cost-paired tw.numbers tw.place o) refl) (both_done (answered go (entry-paired tw.numbers tw.place (frame-paired tw.numbers tw.place o e no_more) (entered_class-paired r h)))))
 
-  starts-paired : {x y : Option ℕ} (i j : ℕ) {s t : Entries} {k : Bool} → PairedOption M x y → i ≡ j → E tw s t → s.top.kind ≡ InClass k → Rows tw (starts tw.left x i s) (starts tw.right y j t)
+  pub starts-paired : {x y : Option ℕ} (i j : ℕ) {s t : Entries} {k : Bool} → PairedOption M x y → i ≡ j → E tw s t → s.top.kind ≡ InClass k → Rows tw (starts tw.left x i s) (starts tw.right y j t)
   starts-paired i j both_none g r h = spend-paired tw g (both_done (answered go (entered_class-paired r h)))
   starts-paired i j (both_some {x} {y} e) g r h = starts_body-paired x y i j (tw.matched.methods x y e).body e g r h
 
-  looked-paired : (c d : ℕ) (i j : ℕ) {s t : Entries} {a b : Access (Answer Entries)} (x : InitState) → C c d → i ≡ j → E tw s t → Rows tw a b → Rows tw (looked_at c i s a x) (looked_at d j t b x)
+  pub looked-paired : (c d : ℕ) (i j : ℕ) {s t : Entries} {a b : Access (Answer Entries)} (x : InitState) → C c d → i ≡ j → E tw s t → Rows tw a b → Rows tw (looked_at c i s a x) (looked_at d j t b x)
   looked-paired c d i j Idle e g r f = choose-paired tw _ _ (full-paired tw.numbers tw.place r)
       (spend-paired tw g (faults-paired tw (tw.matched.builtin stack_overflow_error (omega arith)) r))
       (spend-paired tw g (both_write (inits e) refl (both_done (answered go (entry-paired tw.numbers tw.place (class_entry-paired tw.numbers tw.place c d e) r)))))
@@ -105,7 +105,7 @@ module _ (tw : Twins) where
   left_alike : {k l : EntryKind} → k ≡ l → PairedNext tw.numbers tw.place (left_at k) (left_at l)
   left_alike {k} e = subst (λ (z : EntryKind). PairedNext tw.numbers tw.place (left_at k) (left_at z)) e (left-paired k)
 
-  finished-paired : {s t : Entries} {b : Bool} → E tw s t → s.top.kind ≡ InClass b → Rows tw (finished s) (finished t)
+  pub finished-paired : {s t : Entries} {b : Bool} → E tw s t → s.top.kind ≡ InClass b → Rows tw (finished s) (finished t)
   finished-paired r h = let o = popped-paired tw.numbers tw.place r in both_write (inits (class_top tw.numbers tw.place r h)) refl (both_done (answered (left_alike o.top.kind) o))
 
   fails-paired : {v w : Value} {s t : Entries} {b : Bool} → V tw v w → E tw s t → s.top.kind ≡ InClass b → Rows tw (fails v s) (fails w t)
@@ -116,7 +116,7 @@ module _ (tw : Twins) where
       (both_make (blank-paired tw.numbers tw.left tw.right tw.matched tw.place (instance-paired tw.numbers tw.left tw.right tw.matched initializer_error initializer_error (tw.matched.builtin initializer_error (omega arith))))
       (λ a b x. both_done (answered (raised (objects x)) (popped-paired tw.numbers tw.place r)))))
 
-  fail-paired : {v w : Value} {s t : Entries} {b : Bool} → V tw v w → E tw s t → s.top.kind ≡ InClass b → Rows tw (row_fail tw.left v s) (row_fail tw.right w t)
+  pub fail-paired : {v w : Value} {s t : Entries} {b : Bool} → V tw v w → E tw s t → s.top.kind ≡ InClass b → Rows tw (row_fail tw.left v s) (row_fail tw.right w t)
   unfolding row_fail
   fail-paired u r h = on_object-paired tw _ _ r u (λ a c x. both_read (heads x) (λ k l e. choose-paired tw _ _
       (both _ _ _ _ (ap was_entered r.top.kind) (ap not (below-paired tw.numbers tw.left tw.right tw.matched _ _ error_class error_class (class_of-paired tw.numbers tw.left tw.right tw.matched e.kind) (tw.matched.builtin error_class (omega arith)))))
@@ -140,17 +140,17 @@ module _ (tw : Twins) where
   raised_in-paired InMethod r o = record { test = o.test; entries = o.entries; stage = o.stage; raised = both_some r; own = o.own }
   raised_in-paired (InClass b) r o = record { test = o.test; entries = o.entries; stage = o.stage; raised = both_some r; own = o.own }
 
-  raise-paired : {v w : Value} {s t : State} → V tw v w → States s t → States (raise v s) (raise w t)
+  pub raise-paired : {v w : Value} {s t : State} → V tw v w → States s t → States (raise v s) (raise w t)
   raise-paired {v} {w} {s} {t} r o = subst (λ (z : EntryKind). States (raise v s) (raised_in z w t)) o.entries.top.kind (raised_in-paired s.entries.top.kind r o)
 
-  throws-paired : {c d : ℕ} {s t : State} → C c d → States s t → Turns (throws tw.left c s) (throws tw.right d t)
+  pub throws-paired : {c d : ℕ} {s t : State} → C c d → States s t → Turns (throws tw.left c s) (throws tw.right d t)
   unfolding throws
   throws-paired {c} {d} e o = both_spend 2 (both_make (blank-paired tw.numbers tw.left tw.right tw.matched tw.place (instance-paired tw.numbers tw.left tw.right tw.matched c d e)) (λ a b x. both_done (both_next (raise-paired (objects x) o))))
 
-  entries-paired : {s t : State} {x y : Entries} → States s t → E tw x y → States (with_entries s x) (with_entries t y)
+  pub entries-paired : {s t : State} {x y : Entries} → States s t → E tw x y → States (with_entries s x) (with_entries t y)
   entries-paired o r = record { test = o.test; entries = r; stage = o.stage; raised = both_none; own = o.own }
 
-  stage-paired : {s t : State} {x y : Stage} → States s t → PairedStage tw.numbers tw.place x y → States (record s { stage = x }) (record t { stage = y })
+  pub stage-paired : {s t : State} {x y : Stage} → States s t → PairedStage tw.numbers tw.place x y → States (record s { stage = x }) (record t { stage = y })
   stage-paired o r = record { test = o.test; entries = o.entries; stage = r; raised = o.raised; own = o.own }
 
   -- the driver
@@ -179,16 +179,16 @@ module _ (tw : Twins) where
     own = o.own;
   })))
 
-  drives-paired : (a b : ℕ) {vs ws : List Value} {u v : Stage} {s t : State} → M a b → PairedList (V tw) vs ws → PairedStage tw.numbers tw.place u v → States s t → Turns (drives tw.left a vs u s) (drives tw.right b ws v t)
+  pub drives-paired : (a b : ℕ) {vs ws : List Value} {u v : Stage} {s t : State} → M a b → PairedList (V tw) vs ws → PairedStage tw.numbers tw.place u v → States s t → Turns (drives tw.left a vs u s) (drives tw.right b ws v t)
   unfolding drives
   drives-paired a b e rs k o = driven-paired a b (tw.matched.methods a b e).body e rs k o
 
-  once_driven-paired : {s t : State} {k l : Access Turn} {x y : Used} → States s t → Turns k l → PairedUsed tw.numbers tw.place x y → Turns (once_driven tw.left s k x) (once_driven tw.right t l y)
+  pub once_driven-paired : {s t : State} {k l : Access Turn} {x y : Used} → States s t → Turns k l → PairedUsed tw.numbers tw.place x y → Turns (once_driven tw.left s k x) (once_driven tw.right t l y)
   once_driven-paired o f both_ready = f
   once_driven-paired o f (both_begun r) = both_done (both_next (entries-paired o r))
   once_driven-paired o f (both_refused e) = throws-paired e o
 
-  makes-paired : (c d : ℕ) {s t : State} → C c d → States s t → Turns (makes tw.left c s) (makes tw.right d t)
+  pub makes-paired : (c d : ℕ) {s t : State} → C c d → States s t → Turns (makes tw.left c s) (makes tw.right d t)
   makes-paired c d e o = spend-paired tw (ap (λ (k : ℕ). 1 + k) (length-paired (Tested tw.numbers.fields) (layout-paired tw.numbers tw.left tw.right tw.matched c d e)))
       (both_make (blank-paired tw.numbers tw.left tw.right tw.matched tw.place (instance-paired tw.numbers tw.left tw.right tw.matched c d e)) (λ a b x. both_done (both_next (stage-paired o (both_made x)))))
 
@@ -197,15 +197,15 @@ module _ (tw : Twins) where
   or_turn both_none f g = f
   or_turn (both_some {x} {y} e) f g = g x y e
 
-  init-paired : {a b : ℕ} {s t : State} → tw.place a b → States s t → Turns (drive_init tw.left a s) (drive_init tw.right b t)
+  pub init-paired : {a b : ℕ} {s t : State} → tw.place a b → States s t → Turns (drive_init tw.left a s) (drive_init tw.right b t)
   unfolding drive_init
   init-paired x o = or_turn (plain_in-paired init_name (tw.matched.classes _ _ o.test.class).methods) (both_done no_turns) (λ m m' e. drives-paired m m' e (one_more (objects x) no_more) (both_built x) o)
 
-  method-paired : {a b : ℕ} {s t : State} → tw.place a b → States s t → Turns (drive_method tw.left a s) (drive_method tw.right b t)
+  pub method-paired : {a b : ℕ} {s t : State} → tw.place a b → States s t → Turns (drive_method tw.left a s) (drive_method tw.right b t)
   unfolding drive_method
   method-paired x o = drives-paired _ _ o.test.method (one_more (objects x) no_more) (both_called x both_none) o
 
-  set_up-paired : {a b : ℕ} {s t : State} → tw.place a b → States s t → Turns (drive_set_up tw.left a s) (drive_set_up tw.right b t)
+  pub set_up-paired : {a b : ℕ} {s t : State} → tw.place a b → States s t → Turns (drive_set_up tw.left a s) (drive_set_up tw.right b t)
   unfolding drive_set_up
   set_up-paired x o = or_turn (plain_of-paired set_up_name (upwards-paired tw.numbers tw.left tw.right tw.matched _ _ o.test.class)) (method-paired x o) (λ m m' e. drives-paired m m' e (one_more (objects x) no_more) (both_set_up x) o)
 
@@ -237,12 +237,12 @@ module _ (tw : Twins) where
   judged_value-paired out (literals e) = both_done no_turns
   judged_value-paired out (objects x) = both_read (heads x) (λ h k e. both_read (at_field x tw.matched.message) (λ v w r. judged_message-paired out _ _ (class_of-paired tw.numbers tw.left tw.right tw.matched e.kind) r))
 
-  judge-paired : {x y : Option Value} {s t : State} → Values x y → States s t → Turns (judge tw.left x s) (judge tw.right y t)
+  pub judge-paired : {x y : Option Value} {s t : State} → Values x y → States s t → Turns (judge tw.left x s) (judge tw.right y t)
   unfolding judge
   judge-paired both_none o = both_done (both_ended both_passed (ap (λ (z : Own). z.output) o.own))
   judge-paired {s = s} {t = t} (both_some {x} {y} r) o = subst (λ (z : Own). Turns (judged_value tw.left s.own.output x) (judged_value tw.right z.output y)) o.own (judged_value-paired s.own.output r)
 
-  tear_down-paired : {a b : ℕ} {x y : Option Value} {s t : State} → tw.place a b → Values x y → States s t → Turns (drive_tear_down tw.left a x s) (drive_tear_down tw.right b y t)
+  pub tear_down-paired : {a b : ℕ} {x y : Option Value} {s t : State} → tw.place a b → Values x y → States s t → Turns (drive_tear_down tw.left a x s) (drive_tear_down tw.right b y t)
   unfolding drive_tear_down
   tear_down-paired x r o = or_turn (plain_of-paired tear_down_name (upwards-paired tw.numbers tw.left tw.right tw.matched _ _ o.test.class)) (judge-paired r o) (λ m m' e. drives-paired m m' e (one_more (objects x) no_more) (both_last r) o)
 
@@ -250,6 +250,35 @@ module _ (tw : Twins) where
   same_group : {i j : Instr} → PairedInstr tw.numbers i j → group_of i ≡ group_of j
   same_group same.nop = refl
   same_group _ = refl
+
+  -- what comes after the row of an instruction
+  pub after_native-paired : {s t : State} {x y : Answer Working} → States s t → PairedAnswer tw.numbers tw.place (W tw) (W tw) x y → Turns (after_native tw.left s x) (after_native tw.right t y)
+  after_native-paired o no_rows = both_done no_turns
+  after_native-paired o (answered go w) = both_done (both_next (record { test = o.test; entries = w.entries.entries; stage = o.stage; raised = o.raised; own = w.own }))
+  after_native-paired o (answered (fault e) w) = throws-paired e (record { test = o.test; entries = w.entries.entries; stage = o.stage; raised = o.raised; own = w.own })
+  after_native-paired o (answered (raised r) w) = both_done no_turns
+  after_native-paired o (entering e w) = both_done no_turns
+  after_native-paired o (answered leave w) = both_done no_turns
+  after_native-paired o (answered over w) = both_done no_turns
+
+  pub native_or_frame : (x : Option Native) {s t : State} {u v : Entries} → States s t → Frames tw u v → Turns (entered tw.left s x u) (entered tw.right t x v)
+  native_or_frame None o f = both_done (both_next (entries-paired o f.entries))
+  native_or_frame (Some x) o f = bind-paired tw (native-paired tw x (record { entries = f; own = o.own })) (λ y z r. after_native-paired o r)
+
+  pub entered-paired : {x y : Option Native} {s t : State} {u v : Entries} → x ≡ y → States s t → Frames tw u v → Turns (entered tw.left s x u) (entered tw.right t y v)
+  entered-paired {x} {y} {s} {t} {u} {v} e o f = subst (λ (z : Option Native). Turns (entered tw.left s x u) (entered tw.right t z v)) e (native_or_frame x o f)
+
+  pub after_row-paired : {s t : State} {x y : Answer Entries} → States s t → PairedAnswer tw.numbers tw.place (E tw) (Frames tw) x y → Turns (after_row tw.left s x) (after_row tw.right t y)
+  after_row-paired o no_rows = both_done no_turns
+  after_row-paired o (answered go r) = both_done (both_next (entries-paired o r))
+  after_row-paired o (answered (fault e) r) = throws-paired e (entries-paired o r)
+  after_row-paired o (answered (raised v) r) = both_done (both_next (raise-paired v (entries-paired o r)))
+  after_row-paired o (entering {a} {b} e f) = entered-paired (tw.matched.methods a b e).native o f
+  after_row-paired o (answered leave r) = both_done (both_next (entries-paired o r))
+  after_row-paired o (answered over r) = both_done no_turns
+
+  pub then_after : {s t : State} {a b : Access (Answer Entries)} → States s t → Rows tw a b → Turns (bind a (after_row tw.left s)) (bind b (after_row tw.right t))
+  then_after o f = bind-paired tw f (λ x y r. after_row-paired o r)
 
   -- the steps of programs whose classes start alike
   module _ (st : MatchedStarts tw.numbers tw.left tw.right) where
@@ -282,7 +311,7 @@ module _ (tw : Twins) where
         (bind-paired tw (begin-paired tw st _ _ m.class o.entries) (λ x y u. once_driven-paired o (drives-paired _ _ o.test.method no_more (both_last both_none) o) u))
         (bind-paired tw (begin-paired tw st _ _ o.test.class o.entries) (λ x y u. once_driven-paired o (makes-paired _ _ o.test.class o) u))
 
-    drive_at-paired : {u v : Stage} {s t : State} → PairedStage tw.numbers tw.place u v → States s t → Turns (drive_at tw.left u s) (drive_at tw.right v t)
+    pub drive_at-paired : {u v : Stage} {s t : State} → PairedStage tw.numbers tw.place u v → States s t → Turns (drive_at tw.left u s) (drive_at tw.right v t)
     drive_at-paired both_first o = first-paired o
     drive_at-paired (both_made x) o = init-paired x o
     drive_at-paired (both_built x) o = set_up-paired x o
@@ -311,44 +340,16 @@ module _ (tw : Twins) where
     unfolding row
     row-paired {i} {j} {s} {t} e f = subst (λ (g : Group). Rows tw (row_of (group_of i) tw.left i s) (row_of g tw.right j t)) (same_group e) (row_of-paired (group_of i) e f)
 
-    or_none : {x y : Option Instr} {s t : Entries} → PairedOption (PairedInstr tw.numbers) x y → Frames tw s t → Rows tw (row_or_none tw.left x s) (row_or_none tw.right y t)
+    pub or_none : {x y : Option Instr} {s t : Entries} → PairedOption (PairedInstr tw.numbers) x y → Frames tw s t → Rows tw (row_or_none tw.left x s) (row_or_none tw.right y t)
     or_none both_none f = no_row-paired tw
     or_none (both_some e) f = row-paired e f
 
-    here-paired : {s t : Entries} → Frames tw s t → Rows tw (row_here tw.left s) (row_here tw.right t)
+    pub here-paired : {s t : Entries} → Frames tw s t → Rows tw (row_here tw.left s) (row_here tw.right t)
     unfolding row_here
     here-paired f = or_none (form_at-paired tw.numbers tw.left tw.right tw.matched _ _ _ _ f.method f.entries.top.pc) f
 
     -- the step
-    after_native-paired : {s t : State} {x y : Answer Working} → States s t → PairedAnswer tw.numbers tw.place (W tw) (W tw) x y → Turns (after_native tw.left s x) (after_native tw.right t y)
-    after_native-paired o no_rows = both_done no_turns
-    after_native-paired o (answered go w) = both_done (both_next (record { test = o.test; entries = w.entries.entries; stage = o.stage; raised = o.raised; own = w.own }))
-    after_native-paired o (answered (fault e) w) = throws-paired e (record { test = o.test; entries = w.entries.entries; stage = o.stage; raised = o.raised; own = w.own })
-    after_native-paired o (answered (raised r) w) = both_done no_turns
-    after_native-paired o (entering e w) = both_done no_turns
-    after_native-paired o (answered leave w) = both_done no_turns
-    after_native-paired o (answered over w) = both_done no_turns
-
-    native_or_frame : (x : Option Native) {s t : State} {u v : Entries} → States s t → Frames tw u v → Turns (entered tw.left s x u) (entered tw.right t x v)
-    native_or_frame None o f = both_done (both_next (entries-paired o f.entries))
-    native_or_frame (Some x) o f = bind-paired tw (native-paired tw x (record { entries = f; own = o.own })) (λ y z r. after_native-paired o r)
-
-    entered-paired : {x y : Option Native} {s t : State} {u v : Entries} → x ≡ y → States s t → Frames tw u v → Turns (entered tw.left s x u) (entered tw.right t y v)
-    entered-paired {x} {y} {s} {t} {u} {v} e o f = subst (λ (z : Option Native). Turns (entered tw.left s x u) (entered tw.right t z v)) e (native_or_frame x o f)
-
-    after_row-paired : {s t : State} {x y : Answer Entries} → States s t → PairedAnswer tw.numbers tw.place (E tw) (Frames tw) x y → Turns (after_row tw.left s x) (after_row tw.right t y)
-    after_row-paired o no_rows = both_done no_turns
-    after_row-paired o (answered go r) = both_done (both_next (entries-paired o r))
-    after_row-paired o (answered (fault e) r) = throws-paired e (entries-paired o r)
-    after_row-paired o (answered (raised v) r) = both_done (both_next (raise-paired v (entries-paired o r)))
-    after_row-paired o (entering {a} {b} e f) = entered-paired (tw.matched.methods a b e).native o f
-    after_row-paired o (answered leave r) = both_done (both_next (entries-paired o r))
-    after_row-paired o (answered over r) = both_done no_turns
-
-    then_after : {s t : State} {a b : Access (Answer Entries)} → States s t → Rows tw a b → Turns (bind a (after_row tw.left s)) (bind b (after_row tw.right t))
-    then_after o f = bind-paired tw f (λ x y r. after_row-paired o r)
-
-    acts-paired : (k : EntryKind) {x y : Option Value} {s t : State} → s.entries.top.kind ≡ k → Values x y → States s t → Turns (acts tw.left k x s) (acts tw.right k y t)
+    pub acts-paired : (k : EntryKind) {x y : Option Value} {s t : State} → s.entries.top.kind ≡ k → Values x y → States s t → Turns (acts tw.left k x s) (acts tw.right k y t)
     acts-paired Absent h r o = drive-paired o
     acts-paired InMethod h both_none o = then_after o (here-paired (frame_top tw.numbers tw.place o.entries h))
     acts-paired InMethod h (both_some v) o = then_after o (raise_row-paired v (frame_top tw.numbers tw.place o.entries h))

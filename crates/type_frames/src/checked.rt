@@ -55,4 +55,13 @@ impl Checked {
             Some(frames) => frames.as_slice(),
         }
     }
+
+    /// The program and its frames, taken apart: what `new` puts together.
+    pub fn into_parts(self) -> (Program, Items<Items<Frame>>)
+        ensures program { result.0 ≡ self }
+        ensures frames { result.1 ≡ all_frames self }
+        ensures typed { IsTyped self }
+    {
+        (self.program, self.frames)
+    }
 }
