@@ -64,4 +64,4 @@ sums_are_hashes [] = refl
 sums_are_hashes (f ∷ fs) = and_from _ _ (sum_is_hash f) (sums_are_hashes fs)
 
 pub hashes_law : HashesLaw
-hashes_law suite classes = record { digest = sum_is_hash _; suite = sum_is_hash suite; classes = sums_are_hashes classes }
+hashes_law suite classes = record { digest = sum_is_hash _; suite = sum_is_hash suite; classes = sums_are_hashes classes; eager = sum_is_hash _ }

@@ -20,6 +20,7 @@ pub record AreHashes (x : Prints) : Type 0 where
   pub digest : is_hash x.digest ≡ true
   pub suite : is_hash x.suite ≡ true
   pub classes : list_all is_hash x.classes ≡ true
+  pub eager : is_hash x.eager ≡ true
 
 abbrev pub HashesLaw : Type 0
 HashesLaw = (suite : List ℕ) (classes : List (List ℕ)) → AreHashes (prints_of suite classes)
