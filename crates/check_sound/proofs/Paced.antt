@@ -1,5 +1,5 @@
--- How many locations a program of accesses touches, set against what it costs, and which statics it writes.
-use Rattle.std.proofs.Common.{◌≡◌, ◌⊎◌, ℕ, ℤ, suc, ◌+◌, ◌-◌, ◌*◌, ◌^◌, ◌≤◌, List, [], ◌∷◌, ◌++◌, length, Bool, true, false, cond, Option, Some, None, refl, sym, ◌∙◌, ap, subst, arith, inl, inr}
+-- How many locations a program of accesses touches, set against what it costs, and which statics and states are among them.
+use Rattle.std.proofs.Common.{◌≡◌, ◌⊎◌, ℕ, ℤ, suc, ◌+◌, ◌-◌, ◌*◌, ◌^◌, ◌≤◌, List, [], ◌∷◌, ◌++◌, length, Bool, true, false, cond, Option, Some, None, All, refl, sym, ◌∙◌, ap, subst, arith, inl, inr}
 use Rattle.std.proofs.lemmas.List.{length-append}
 use Rattle.std.proofs.lemmas.List.Elements.{All-nil, All-cons, All-append}
 use Rattle.jvm_model.specs.declared.values.Value.{Value}
@@ -19,12 +19,30 @@ use Rattle.jvm_model.specs.Classes.{method_at, is_private, is_static, layout, li
 use Rattle.jvm_model.specs.Entries.{Entries}
 use Rattle.jvm_model.specs.Rows.{Answer, answer, no_row, popping, on_int, on_long, on_object, on_reference, with_kind, on_text, constant_kind}
 use Rattle.jvm_model.proofs.Locations.{at_put_other}
-use Rattle.check_sound.specs.PaceLaw.{WriteOf, Writes}
+use Rattle.check_sound.specs.PaceLaw.{WriteOf, Writes, MeetsOf, Meets}
 
--- a static is written only where that is allowed
-abbrev pub MayWrite : (ℕ → Type 0) → Location → Type 0
-MayWrite M (place.Static f) = M f
-MayWrite M l = Unit {0}
+-- which statics may be written, which statics may be read, and the states of which classes may be either
+pub record Limits : Type 1 where
+  pub puts : ℕ → Type 0
+  pub gets : ℕ → Type 0
+  pub states : ℕ → Type 0
+
+-- each static and each state
+abbrev pub unlimited : Limits
+unlimited = record { puts = λ f. Unit {0}; gets = λ f. Unit {0}; states = λ c. Unit {0} }
+
+-- no static, and no state
+abbrev pub neither : Limits
+neither = record { puts = λ f. ⊥; gets = λ f. ⊥; states = λ c. ⊥ }
+
+abbrev pub MayWrite : Limits → Location → Type 0
+MayWrite M l = MeetsOf M.puts M.states l
+
+abbrev pub MayRead : Limits → Location → Type 0
+MayRead M l = MeetsOf M.gets M.states l
+
+abbrev pub MayTouch : Limits → Location → Type 0
+MayTouch M l = MeetsOf (λ f. M.gets f ⊎ M.puts f) M.states l
 
 -- what making an object writes
 abbrev pub text_cells : Option (List ℕ) → ℕ
@@ -34,25 +52,25 @@ text_cells (Some t) = 1
 abbrev pub cells : Object → ℕ
 cells x = suc (length x.fields + (length x.elems + text_cells x.text))
 
--- Each path ends well, where c is four times what it cost, with what was there at first, and d what it touched; and it writes
--- only the statics of M.
-pub data Paced (M : ℕ → Type 0) {A : Type 0} (G : ℕ → ℕ → A → Type 0) : ℕ → ℕ → Access A → Type 0 where
+-- Each path ends well, where c is four times what it cost, with what was there at first, and d what it touched; and it reads and
+-- writes no other statics and states than M allows.
+pub data Paced (M : Limits) {A : Type 0} (G : ℕ → ℕ → A → Type 0) : ℕ → ℕ → Access A → Type 0 where
   paced_done : {c d : ℕ} {a : A} → G c d a → Paced M G c d (done a)
-  paced_read : {c d : ℕ} {l : Location} {k : Content l → Access A} → ((x : Content l) → Paced M G c (suc d) (k x)) → Paced M G c d (read l k)
+  paced_read : {c d : ℕ} {l : Location} {k : Content l → Access A} → MayRead M l → ((x : Content l) → Paced M G c (suc d) (k x)) → Paced M G c d (read l k)
   paced_write : {c d : ℕ} {l : Location} {x : Content l} {t : Access A} → MayWrite M l → Paced M G c (suc d) t → Paced M G c d (write l x t)
   paced_make : {c d : ℕ} {x : Object} {k : ℕ → Access A} → ((o : ℕ) → Paced M G c (d + cells x) (k o)) → Paced M G c d (make x k)
   paced_spend : {c d n : ℕ} {t : Access A} → Paced M G (c + 4 * n) d t → Paced M G c d (spend n t)
 
 -- ends that say less
-pub paced_map : {M : ℕ → Type 0} {A : Type 0} {G H : ℕ → ℕ → A → Type 0} → ((c d : ℕ) (a : A) → G c d a → H c d a) → (t : Access A) (c d : ℕ) → Paced M G c d t → Paced M H c d t
+pub paced_map : {M : Limits} {A : Type 0} {G H : ℕ → ℕ → A → Type 0} → ((c d : ℕ) (a : A) → G c d a → H c d a) → (t : Access A) (c d : ℕ) → Paced M G c d t → Paced M H c d t
 paced_map f (done a) c d (paced_done h) = paced_done (f c d a h)
-paced_map f (read l k) c d (paced_read h) = paced_read (λ x. paced_map f (k x) c (suc d) (h x))
+paced_map f (read l k) c d (paced_read m h) = paced_read m (λ x. paced_map f (k x) c (suc d) (h x))
 paced_map f (write l x t) c d (paced_write m h) = paced_write m (paced_map f t c (suc d) h)
 paced_map f (make x k) c d (paced_make h) = paced_make (λ o. paced_map f (k o) c (d + cells x) (h o))
 paced_map f (spend n t) c d (paced_spend h) = paced_spend (paced_map f t (c + 4 * n) d h)
 
 -- either way
-pub either : {M : ℕ → Type 0} {A : Type 0} {G : ℕ → ℕ → A → Type 0} {c d : ℕ} (b : Bool) {t u : Access A} → Paced M G c d t → Paced M G c d u → Paced M G c d (cond b t u)
+pub either : {M : Limits} {A : Type 0} {G : ℕ → ℕ → A → Type 0} {c d : ℕ} (b : Bool) {t u : Access A} → Paced M G c d t → Paced M G c d u → Paced M G c d (cond b t u)
 either true f g = f
 either false f g = g
 
@@ -88,32 +106,73 @@ made_counted o x =
     omega arith
 
 -- a write of a location that may be written
-allowed : (M : ℕ → Type 0) (l : Location) → MayWrite M l → WriteOf M (write_of l)
+allowed : (M : Limits) (l : Location) → MayWrite M l → WriteOf M.puts (write_of l)
 allowed M l m f e = subst (MayWrite M) (ap (λ (y : Touch). y.location) e) m
 
--- making an object writes no static
-module _ (M : ℕ → Type 0) (o : ℕ) where
-  fields_writes : (xs : List (ℕ × Value)) → Writes M (fields_made o xs)
-  fields_writes [] = All-nil (WriteOf M)
-  fields_writes (x ∷ xs) = All-cons (WriteOf M) (write_of (place.Field o x.0)) (fields_made o xs) (allowed M (place.Field o x.0) tt) (fields_writes xs)
+-- what may be read may be touched, and so may what may be written
+from_read : (M : Limits) (l : Location) → MayRead M l → MayTouch M l
+from_read M (place.Static f) m = inl m
+from_read M (place.Init c) m = m
+from_read M (place.Head o) m = tt
+from_read M (place.Field o f) m = tt
+from_read M (place.Elem o i) m = tt
+from_read M (place.Text o) m = tt
+from_read M (place.File n) m = tt
+from_read M (place.Prop n) m = tt
 
-  elems_writes : (i : ℕ) (xs : List Value) → Writes M (elems_made o i xs)
-  elems_writes i [] = All-nil (WriteOf M)
-  elems_writes i (x ∷ xs) = All-cons (WriteOf M) (write_of (place.Elem o i)) (elems_made o (suc i) xs) (allowed M (place.Elem o i) tt) (elems_writes (suc i) xs)
+from_write : (M : Limits) (l : Location) → MayWrite M l → MayTouch M l
+from_write M (place.Static f) m = inr m
+from_write M (place.Init c) m = m
+from_write M (place.Head o) m = tt
+from_write M (place.Field o f) m = tt
+from_write M (place.Elem o i) m = tt
+from_write M (place.Text o) m = tt
+from_write M (place.File n) m = tt
+from_write M (place.Prop n) m = tt
 
-  text_writes : (t : Option (List ℕ)) → Writes M (text_made o t)
-  text_writes None = All-nil (WriteOf M)
-  text_writes (Some t) = All-cons (WriteOf M) (write_of (place.Text o)) [] (allowed M (place.Text o) tt) (All-nil (WriteOf M))
+-- the touch is allowed
+abbrev pub TouchOf : Limits → Touch → Type 0
+TouchOf M t = MayTouch M t.location
 
-  made_writes : (x : Object) → Writes M (made o x)
-  made_writes x = All-cons (WriteOf M) (write_of (place.Head o)) _ (allowed M (place.Head o) tt)
-      (All-append (WriteOf M) (fields_made o x.fields) _ (fields_writes x.fields) (All-append (WriteOf M) (elems_made o 0 x.elems) (text_made o x.text) (elems_writes 0 x.elems) (text_writes x.text)))
+-- making an object touches no static and no state
+module _ (M : Limits) (o : ℕ) where
+  fields_writes : (xs : List (ℕ × Value)) → Writes M.puts (fields_made o xs)
+  fields_writes [] = All-nil (WriteOf M.puts)
+  fields_writes (x ∷ xs) = All-cons (WriteOf M.puts) (write_of (place.Field o x.0)) (fields_made o xs) (allowed M (place.Field o x.0) tt) (fields_writes xs)
 
-module _ (M : ℕ → Type 0) {A : Type 0} (G : ℕ → ℕ → A → Type 0) where
+  elems_writes : (i : ℕ) (xs : List Value) → Writes M.puts (elems_made o i xs)
+  elems_writes i [] = All-nil (WriteOf M.puts)
+  elems_writes i (x ∷ xs) = All-cons (WriteOf M.puts) (write_of (place.Elem o i)) (elems_made o (suc i) xs) (allowed M (place.Elem o i) tt) (elems_writes (suc i) xs)
+
+  text_writes : (t : Option (List ℕ)) → Writes M.puts (text_made o t)
+  text_writes None = All-nil (WriteOf M.puts)
+  text_writes (Some t) = All-cons (WriteOf M.puts) (write_of (place.Text o)) [] (allowed M (place.Text o) tt) (All-nil (WriteOf M.puts))
+
+  made_writes : (x : Object) → Writes M.puts (made o x)
+  made_writes x = All-cons (WriteOf M.puts) (write_of (place.Head o)) _ (allowed M (place.Head o) tt)
+      (All-append (WriteOf M.puts) (fields_made o x.fields) _ (fields_writes x.fields) (All-append (WriteOf M.puts) (elems_made o 0 x.elems) (text_made o x.text) (elems_writes 0 x.elems) (text_writes x.text)))
+
+  fields_touched : (xs : List (ℕ × Value)) → All (TouchOf M) (fields_made o xs)
+  fields_touched [] = All-nil (TouchOf M)
+  fields_touched (x ∷ xs) = All-cons (TouchOf M) (write_of (place.Field o x.0)) (fields_made o xs) tt (fields_touched xs)
+
+  elems_touched : (i : ℕ) (xs : List Value) → All (TouchOf M) (elems_made o i xs)
+  elems_touched i [] = All-nil (TouchOf M)
+  elems_touched i (x ∷ xs) = All-cons (TouchOf M) (write_of (place.Elem o i)) (elems_made o (suc i) xs) tt (elems_touched (suc i) xs)
+
+  text_touched : (t : Option (List ℕ)) → All (TouchOf M) (text_made o t)
+  text_touched None = All-nil (TouchOf M)
+  text_touched (Some t) = All-cons (TouchOf M) (write_of (place.Text o)) [] tt (All-nil (TouchOf M))
+
+  made_touched : (x : Object) → All (TouchOf M) (made o x)
+  made_touched x = All-cons (TouchOf M) (write_of (place.Head o)) _ tt
+      (All-append (TouchOf M) (fields_made o x.fields) _ (fields_touched x.fields) (All-append (TouchOf M) (elems_made o 0 x.elems) (text_made o x.text) (elems_touched 0 x.elems) (text_touched x.text)))
+
+module _ (M : Limits) {A : Type 0} (G : ℕ → ℕ → A → Type 0) where
   -- the touches and four times the units of a run
   pub paced_touches : {B : Type 0} → ((c d : ℕ) (a : A) → G c d a → Bounded B c d) → (t : Access A) (w : World) (c d : ℕ) → Paced M G c d t → Bounded B (4 * (run t w).units + c) (length (run t w).touches + d)
   paced_touches g (done a) w c d (paced_done h) = moved (omega arith) (omega arith) (g c d a h)
-  paced_touches g (read l k) w c d (paced_read h) = moved refl (omega arith) (paced_touches g (k (at w l)) w c (suc d) (h (at w l)))
+  paced_touches g (read l k) w c d (paced_read m h) = moved refl (omega arith) (paced_touches g (k (at w l)) w c (suc d) (h (at w l)))
   paced_touches g (write l x t) w c d (paced_write m h) = moved refl (omega arith) (paced_touches g t (put w l x) c (suc d) h)
   paced_touches g (make x k) w c d (paced_make h) =
       let e = made_counted (size w) x in
@@ -122,14 +181,22 @@ module _ (M : ℕ → Type 0) {A : Type 0} (G : ℕ → ℕ → A → Type 0) wh
   paced_touches g (spend n t) w c d (paced_spend h) = moved (omega arith) refl (paced_touches g t w (c + 4 * n) d h)
 
   -- each write of a static is allowed
-  pub paced_writes : (t : Access A) (w : World) (c d : ℕ) → Paced M G c d t → Writes M (run t w).touches
-  paced_writes (done a) w c d (paced_done h) = All-nil (WriteOf M)
-  paced_writes (read l k) w c d (paced_read h) = All-cons (WriteOf M) (read_of l (at w l)) _ (λ f e. absurd (let z : false ≡ true = ap (λ (y : Touch). y.write) e in cc)) (paced_writes (k (at w l)) w c (suc d) (h (at w l)))
-  paced_writes (write l x t) w c d (paced_write m h) = All-cons (WriteOf M) (write_of l) _ (allowed M l m) (paced_writes t (put w l x) c (suc d) h)
-  paced_writes (make x k) w c d (paced_make h) = All-append (WriteOf M) (made (size w) x) _ (made_writes M (size w) x) (paced_writes (k (size w)) (make_object w x) c (d + cells x) (h (size w)))
+  pub paced_writes : (t : Access A) (w : World) (c d : ℕ) → Paced M G c d t → Writes M.puts (run t w).touches
+  paced_writes (done a) w c d (paced_done h) = All-nil (WriteOf M.puts)
+  paced_writes (read l k) w c d (paced_read m h) = All-cons (WriteOf M.puts) (read_of l (at w l)) _ (λ f e. absurd (let z : false ≡ true = ap (λ (y : Touch). y.write) e in cc)) (paced_writes (k (at w l)) w c (suc d) (h (at w l)))
+  paced_writes (write l x t) w c d (paced_write m h) = All-cons (WriteOf M.puts) (write_of l) _ (allowed M l m) (paced_writes t (put w l x) c (suc d) h)
+  paced_writes (make x k) w c d (paced_make h) = All-append (WriteOf M.puts) (made (size w) x) _ (made_writes M (size w) x) (paced_writes (k (size w)) (make_object w x) c (d + cells x) (h (size w)))
   paced_writes (spend n t) w c d (paced_spend h) = paced_writes t w (c + 4 * n) d h
 
-  static_put : (w : World) (f : ℕ) (l : Location) (x : Content l) → (M f → ⊥) → MayWrite M l → at (put w l x) (place.Static f) ≡ at w (place.Static f)
+  -- each touch of a static and of a state is allowed
+  pub paced_touched : (t : Access A) (w : World) (c d : ℕ) → Paced M G c d t → Meets (λ f. M.gets f ⊎ M.puts f) M.states (run t w).touches
+  paced_touched (done a) w c d (paced_done h) = All-nil (TouchOf M)
+  paced_touched (read l k) w c d (paced_read m h) = All-cons (TouchOf M) (read_of l (at w l)) _ (from_read M l m) (paced_touched (k (at w l)) w c (suc d) (h (at w l)))
+  paced_touched (write l x t) w c d (paced_write m h) = All-cons (TouchOf M) (write_of l) _ (from_write M l m) (paced_touched t (put w l x) c (suc d) h)
+  paced_touched (make x k) w c d (paced_make h) = All-append (TouchOf M) (made (size w) x) _ (made_touched M (size w) x) (paced_touched (k (size w)) (make_object w x) c (d + cells x) (h (size w)))
+  paced_touched (spend n t) w c d (paced_spend h) = paced_touched t w (c + 4 * n) d h
+
+  static_put : (w : World) (f : ℕ) (l : Location) (x : Content l) → (M.puts f → ⊥) → MayWrite M l → at (put w l x) (place.Static f) ≡ at w (place.Static f)
   static_put w f (place.Static g) x n m = at_put_other w (place.Static g) (place.Static f) x (λ e. n (subst (MayWrite M) (sym e) m))
   static_put w f (place.Init g) x n m = refl
   static_put w f (place.Head o) x n m = refl
@@ -140,9 +207,9 @@ module _ (M : ℕ → Type 0) {A : Type 0} (G : ℕ → ℕ → A → Type 0) wh
   static_put w f (place.Prop k) x n m = refl
 
   -- a static that may not be written stays as it was
-  pub paced_statics : (f : ℕ) → (M f → ⊥) → (t : Access A) (w : World) (c d : ℕ) → Paced M G c d t → at (run t w).world (place.Static f) ≡ at w (place.Static f)
+  pub paced_statics : (f : ℕ) → (M.puts f → ⊥) → (t : Access A) (w : World) (c d : ℕ) → Paced M G c d t → at (run t w).world (place.Static f) ≡ at w (place.Static f)
   paced_statics f n (done a) w c d (paced_done h) = refl
-  paced_statics f n (read l k) w c d (paced_read h) = paced_statics f n (k (at w l)) w c (suc d) (h (at w l))
+  paced_statics f n (read l k) w c d (paced_read m h) = paced_statics f n (k (at w l)) w c (suc d) (h (at w l))
   paced_statics f n (write l x t) w c d (paced_write m h) = paced_statics f n t (put w l x) c (suc d) h ∙ static_put w f l x n m
   paced_statics f n (make x k) w c d (paced_make h) = paced_statics f n (k (size w)) (make_object w x) c (d + cells x) (h (size w))
   paced_statics f n (spend u t) w c d (paced_spend h) = paced_statics f n t w (c + 4 * u) d h
@@ -150,7 +217,7 @@ module _ (M : ℕ → Type 0) {A : Type 0} (G : ℕ → ℕ → A → Type 0) wh
   -- parts put together
   pub paced_bind : {B : Type 0} (H : ℕ → ℕ → B → Type 0) (t : Access A) (k : A → Access B) (c d : ℕ) → Paced M G c d t → ((c d : ℕ) (a : A) → G c d a → Paced M H c d (k a)) → Paced M H c d (bind t k)
   paced_bind H (done a) k c d (paced_done h) r = r c d a h
-  paced_bind H (read l n) k c d (paced_read h) r = paced_read (λ x. paced_bind H (n x) k c (suc d) (h x) r)
+  paced_bind H (read l n) k c d (paced_read m h) r = paced_read m (λ x. paced_bind H (n x) k c (suc d) (h x) r)
   paced_bind H (write l x t) k c d (paced_write m h) r = paced_write m (paced_bind H t k c (suc d) h r)
   paced_bind H (make x n) k c d (paced_make h) r = paced_make (λ o. paced_bind H (n o) k c (d + cells x) (h o) r)
   paced_bind H (spend n t) k c d (paced_spend h) r = paced_spend (paced_bind H t k (c + 4 * n) d h r)
@@ -178,7 +245,7 @@ abbrev pub Pays : Program → {S : Type 0} → ℕ → ℕ → Answer S → Type
 Pays p c d (answer x s) = (d ≤ c) × PaysBy p c d x
 Pays p c d no_row = d ≤ c
 
-abbrev pub PacedRow : Program → (ℕ → Type 0) → {S : Type 0} → ℕ → ℕ → Access (Answer S) → Type 0
+abbrev pub PacedRow : Program → Limits → {S : Type 0} → ℕ → ℕ → Access (Answer S) → Type 0
 PacedRow p M c d t = Paced M (λ c d a. Pays p c d a) c d t
 
 -- a row whose cost may be the greatest number, where B, if it goes on
@@ -195,12 +262,12 @@ pays_cut p B c d (answer Leave s) h = h
 pays_cut p B c d (answer Over s) h = h
 pays_cut p B c d no_row h = h
 
-abbrev pub CutRow : Program → (ℕ → Type 0) → Type 0 → Access (Answer Entries) → Type 0
+abbrev pub CutRow : Program → Limits → Type 0 → Access (Answer Entries) → Type 0
 CutRow p M B t = Paced M (λ c d a. Cut p B c d a) 4 0 t
 
 -- ---- the combinators of rows, where a light null pointer exception is thrown
 
-module _ (p : Program) (light : IsLight p null_pointer_exception) {M : ℕ → Type 0} {S : Type 0} {c d : ℕ} (e : d ≤ c) where
+module _ (p : Program) (light : IsLight p null_pointer_exception) {M : Limits} {S : Type 0} {c d : ℕ} (e : d ≤ c) where
   pub popping-paced : (vs : List Value) {k : Value → List Value → Access (Answer S)} → ((v : Value) (ws : List Value) → PacedRow p M c d (k v ws)) → PacedRow p M c d (popping vs k)
   popping-paced [] r = paced_done e
   popping-paced (v ∷ vs) r = r v vs
@@ -239,7 +306,7 @@ module _ (p : Program) (light : IsLight p null_pointer_exception) {M : ℕ → T
   with_kind-paced (value.Long n) r q = paced_done e
   with_kind-paced value.Null r q = paced_done e
   with_kind-paced (value.Lit n) r q = r (constant_kind n)
-  with_kind-paced (value.Obj o) r q = paced_read (λ h. q h.kind)
+  with_kind-paced (value.Obj o) r q = paced_read tt (λ h. q h.kind)
 
   -- one touch where a text is read, none of a constant
   pub on_text-paced : (s : S) (v : Value) {k : List ℕ → Access (Answer S)} → ((t : List ℕ) → PacedRow p M c d (k t)) → ((t : List ℕ) → PacedRow p M c (suc d) (k t)) → PacedRow p M c d (on_text p s v k)
@@ -247,4 +314,4 @@ module _ (p : Program) (light : IsLight p null_pointer_exception) {M : ℕ → T
   on_text-paced s (value.Long n) r q = paced_done e
   on_text-paced s value.Null r q = paced_done (e, light)
   on_text-paced s (value.Lit n) r q = r (literal_at p n)
-  on_text-paced s (value.Obj o) r q = paced_read q
+  on_text-paced s (value.Obj o) r q = paced_read tt q

@@ -24,9 +24,9 @@ use Rattle.jvm_model.specs.Selection.{Selected, chosen, failing, is_like, is_ope
 use Rattle.jvm_model.specs.Classes.{implements}
 use Rattle.jvm_model.proofs.Interfaces.{member_first}
 use Rattle.check_sound.proofs.SelectLaws.{found, filtered}
-use Rattle.check_sound.proofs.Paced.{either, paced_done, paced_spend, IsLight, LeavesFor, PacedRow, on_reference-paced, with_kind-paced}
+use Rattle.check_sound.proofs.Paced.{Limits, either, paced_done, paced_spend, IsLight, LeavesFor, PacedRow, on_reference-paced, with_kind-paced}
 use Rattle.check_sound.proofs.Light.{native_trivial, light, null_light}
-use Rattle.check_sound.proofs.PacedRows.{none, one, using-paced}
+use Rattle.check_sound.proofs.PacedRows.{none, one, NamesAllowed, using-paced}
 
 -- the method is private, or not static
 abbrev IsOpen : Program → ℕ → Type 0
@@ -100,14 +100,14 @@ module _ (p : Program) (lk : Linked p) where
       by true c = tt
       by false c = or-light m c (declared_in p (λ n. is_like p m n) (special_path p c))
 
-module _ (p : Program) (lk : Linked p) {M : ℕ → Type 0} where
+module _ (p : Program) (lk : Linked p) {M : Limits} where
   -- ---- calls
 
   body-paced : {d : ℕ} (b : Option Body) (m n : ℕ) (s : Entries) → d ≤ 4 → (method_at p m).native ≡ None → PacedRow p M 4 d (enters_body b m n s)
   body-paced None m n s e q = paced_done (e, light p lk abstract_method_error (omega arith))
   body-paced (Some b) m n s e q = either (is_full s) (paced_done (e, light p lk stack_overflow_error (omega arith))) (paced_spend (paced_done (omega arith, rw q tt)))
 
-  calls-paced : {d : ℕ} (m n : ℕ) (s : Entries) → d ≤ 4 → ((x : Native) → (method_at p m).native ≡ Some x → LeavesFor p 4 d m (Some x)) → PacedRow p M 4 d (calls p m n s)
+  pub calls-paced : {d : ℕ} (m n : ℕ) (s : Entries) → d ≤ 4 → ((x : Native) → (method_at p m).native ≡ Some x → LeavesFor p 4 d m (Some x)) → PacedRow p M 4 d (calls p m n s)
   unfolding calls
   calls-paced {d = d} m n s e r = either (nat_le n (length s.top.stack)) (by (method_at p m).native refl) (paced_done e)
     where
@@ -134,16 +134,16 @@ module _ (p : Program) (lk : Linked p) {M : ℕ → Type 0} where
   special-paced : (k : Kind) (m : ℕ) (s : Entries) → PacedRow p M 4 0 (call_special p k m s)
   special-paced k m s = whole-paced (select_special p (method_at p s.top.number).class (named_class k) m) (argument_count p m + 1) s (special-light p lk (method_at p s.top.number).class (named_class k) m)
 
-  pub calls-row : (i : Instr) (s : Entries) → PacedRow p M 4 0 (row_calls p i s)
+  pub calls-row : (i : Instr) (s : Entries) → NamesAllowed p M i → PacedRow p M 4 0 (row_calls p i s)
   unfolding row_calls
-  calls-row (form.InvokeStatic m) s = using-paced p lk (method_at p m).class s (calls p m (argument_count p m) s)
+  calls-row (form.InvokeStatic m) s q = using-paced p lk (method_at p m).class s (calls p m (argument_count p m) s) q
       (λ e. calls-paced m (argument_count p m) s none (λ x q. inl (omega arith)))
       (λ e. calls-paced m (argument_count p m) s one (λ x q. absurd (let z : true ≡ false = sym (native_trivial p lk m x q) ∙ e in cc)))
-  calls-row (form.InvokeVirtual k m) s = receiver-paced s (receiver p m s) (λ v. with_kind-paced p (null_light p lk) none v
+  calls-row (form.InvokeVirtual k m) s q = receiver-paced s (receiver p m s) (λ v. with_kind-paced p (null_light p lk) none v
       (λ x. const-paced (select_virtual p m (class_of x)) (argument_count p m + 1) s (virtual-open p lk m (class_of x)))
       (λ x. open-paced (select_virtual p m (class_of x)) (argument_count p m + 1) s (virtual-open p lk m (class_of x))))
-  calls-row (form.InvokeInterface i m) s = receiver-paced s (receiver p m s) (λ v. with_kind-paced p (null_light p lk) none v
+  calls-row (form.InvokeInterface i m) s q = receiver-paced s (receiver p m s) (λ v. with_kind-paced p (null_light p lk) none v
       (λ x. const-paced (select_interface p i m (class_of x)) (argument_count p m + 1) s (interface-open p lk i m (class_of x)))
       (λ x. open-paced (select_interface p i m (class_of x)) (argument_count p m + 1) s (interface-open p lk i m (class_of x))))
-  calls-row (form.InvokeSpecial k m) s = receiver-paced s (receiver p m s) (λ v. special-paced k m s)
-  calls-row _ s = paced_done none
+  calls-row (form.InvokeSpecial k m) s q = receiver-paced s (receiver p m s) (λ v. special-paced k m s)
+  calls-row _ s q = paced_done none

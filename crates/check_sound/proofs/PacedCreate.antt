@@ -21,9 +21,9 @@ use Rattle.jvm_model.specs.Linked.{Linked, dims_of}
 use Rattle.jvm_model.specs.Rows.{Answer, faults, goes_on, popping, on_int, using}
 use Rattle.jvm_model.specs.RowsCreate.{new_object, is_bare, array_head, new_array, children, nest, nest_sum, nest_cost, nested, sized, row_create}
 use Rattle.check_sound.specs.PaceLaw.{sizes_taken, sizes_sum, array_sum}
-use Rattle.check_sound.proofs.Paced.{cells, Paced, either, paced_done, paced_write, paced_make, paced_spend, paced_bind, paced_map, Bounded, Cut, CutRow, pays_cut, PacedRow, popping-paced, on_int-paced}
+use Rattle.check_sound.proofs.Paced.{Limits, cells, Paced, either, paced_done, paced_write, paced_make, paced_spend, paced_bind, paced_map, Bounded, Cut, CutRow, pays_cut, PacedRow, popping-paced, on_int-paced}
 use Rattle.check_sound.proofs.Light.{instance_cells, light, null_light}
-use Rattle.check_sound.proofs.PacedRows.{none, one, using-paced}
+use Rattle.check_sound.proofs.PacedRows.{none, one, NamesAllowed, using-paced}
 
 array_cells : (p : Program) (k : Kind) (n : ℕ) → 0 < dims_of k → cells (blank p (array_head k n)) ≡ suc n
 unfolding blank
@@ -68,7 +68,7 @@ nest_bound n (m ∷ ms) =
 abbrev Counts : ℕ → ℕ → ℕ → ℕ → ℕ → Type 0
 Counts c e x y o = (x ≡ c) × (y ≡ e)
 
-module _ (p : Program) {M : ℕ → Type 0} where
+module _ (p : Program) {M : Limits} where
   moved : {t : Access ℕ} (c x d y e z : ℕ) → x ≡ c → y ≡ d → z ≡ e → Paced M (Counts c e) c d t → Paced M (Counts c z) x y t
   moved {t = t} c x d y e z hc hd he h =
       subst (λ (a : ℕ). Paced M (Counts c z) a y t) (sym hc) (subst (λ (a : ℕ). Paced M (Counts c z) c a t) (sym hd) (subst (λ (a : ℕ). Paced M (Counts c a) c d t) (sym he) h))
@@ -96,8 +96,8 @@ HasDims (form.NewArray k) = 0 < dims_of k
 HasDims (form.MultiNewArray k d) = d ≤ dims_of k
 HasDims i = Unit {0}
 
-module _ (p : Program) (lk : Linked p) {M : ℕ → Type 0} where
-  new-paced : {d : ℕ} (c : ℕ) (s : Entries) → d ≤ 4 → PacedRow p M 4 d (new_object p c s)
+module _ (p : Program) (lk : Linked p) {M : Limits} where
+  pub new-paced : {d : ℕ} (c : ℕ) (s : Entries) → d ≤ 4 → PacedRow p M 4 d (new_object p c s)
   unfolding new_object
   new-paced c s e = paced_spend (paced_make (λ o. paced_done ((let q = instance_cells p c in omega arith), tt)))
 
@@ -142,15 +142,15 @@ module _ (p : Program) (lk : Linked p) {M : ℕ → Type 0} where
   pub cut : {B : Type 0} (t : Access (Answer Entries)) → PacedRow p M 4 0 t → CutRow p M B t
   cut {B = B} t h = paced_map (λ c d a q. pays_cut p B c d a q) t 4 0 h
 
-  made-paced : (c : ℕ) (s : Entries) → PacedRow p M 4 0 (cond (is_bare p c) (faults instantiation_error s) (using p c s (new_object p c s)))
-  made-paced c s = either (is_bare p c) (paced_done (none, light p lk instantiation_error (omega arith))) (using-paced p lk c s (new_object p c s) (λ e. new-paced c s none) (λ e. new-paced c s one))
+  made-paced : (c : ℕ) (s : Entries) → M.states c → PacedRow p M 4 0 (cond (is_bare p c) (faults instantiation_error s) (using p c s (new_object p c s)))
+  made-paced c s m = either (is_bare p c) (paced_done (none, light p lk instantiation_error (omega arith))) (using-paced p lk c s (new_object p c s) m (λ e. new-paced c s none) (λ e. new-paced c s one))
 
   sized_one-paced : (k : Kind) (s : Entries) → 0 < dims_of k → PacedRow p M 4 0 (popping s.top.stack (λ v vs. on_int v (λ n. new_array p k s vs n)))
   sized_one-paced k s h = popping-paced p (null_light p lk) none s.top.stack (λ v vs. on_int-paced p (null_light p lk) none v (λ n. array-paced k s vs n h))
 
-  pub create-paced : {B : Type 0} (i : Instr) (s : Entries) → HasDims i → (2 ^ 64 - 2 < array_sum i s.top.stack → B) → CutRow p M B (row_create p i s)
+  pub create-paced : {B : Type 0} (i : Instr) (s : Entries) → NamesAllowed p M i → HasDims i → (2 ^ 64 - 2 < array_sum i s.top.stack → B) → CutRow p M B (row_create p i s)
   unfolding row_create
-  create-paced (form.New c) s h b = cut _ (made-paced c s)
-  create-paced (form.NewArray k) s h b = cut _ (sized_one-paced k s h)
-  create-paced (form.MultiNewArray k d) s h b = sized-paced k s d s.top.stack [] (omega arith) b
-  create-paced _ s h b = paced_done none
+  create-paced (form.New c) s m h b = cut _ (made-paced c s m)
+  create-paced (form.NewArray k) s m h b = cut _ (sized_one-paced k s h)
+  create-paced (form.MultiNewArray k d) s m h b = sized-paced k s d s.top.stack [] (omega arith) b
+  create-paced _ s m h b = paced_done none

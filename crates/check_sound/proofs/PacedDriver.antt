@@ -24,15 +24,21 @@ use Rattle.jvm_model.specs.State.{State, Turn, no_turn, test_at}
 use Rattle.jvm_model.specs.Step.{after_native}
 use Rattle.jvm_model.specs.Throwing.{throws}
 use Rattle.jvm_model.specs.Working.{Working}
-use Rattle.check_sound.proofs.Paced.{Paced, paced_done, paced_read, paced_write, paced_make, paced_spend, IsLight, Pays, paced_bind}
+use Rattle.check_sound.specs.PaceLaw.{first_class}
+use Rattle.check_sound.proofs.Paced.{Limits, Paced, paced_done, paced_read, paced_write, paced_make, paced_spend, IsLight, Pays, paced_bind}
 use Rattle.check_sound.proofs.Light.{instance_cells, light}
 use Rattle.check_sound.proofs.PacedNatives.{allowance, native-paced}
 
 -- a step, or a part of one, that ends with no more touches than four for each unit
-abbrev pub PacedStep : (ℕ → Type 0) → ℕ → ℕ → Access Turn → Type 0
+abbrev pub PacedStep : Limits → ℕ → ℕ → Access Turn → Type 0
 PacedStep M c d t = Paced M (λ c d a. d ≤ c) c d t
 
-module _ (p : Program) (lk : Linked p) {M : ℕ → Type 0} where
+-- the state that the first step of the driver reads is allowed
+abbrev pub StageAllowed : Program → Limits → Stage → State → Type 0
+StageAllowed p M First s = M.states (first_class p s)
+StageAllowed p M x s = Unit {0}
+
+module _ (p : Program) (lk : Linked p) {M : Limits} where
   pub throws-paced : (c d e : ℕ) (s : State) → d ≤ c → IsLight p e → PacedStep M c d (throws p e s)
   unfolding throws
   throws-paced c d e s h l = paced_spend (paced_make (λ o. paced_done (let q = instance_cells p e in omega arith)))
@@ -56,20 +62,20 @@ module _ (p : Program) (lk : Linked p) {M : ℕ → Type 0} where
   driven-paced c d None m args after s h = throws-paced c d abstract_method_error (record s { stage = after }) h (light p lk abstract_method_error (omega arith))
   driven-paced c d (Some b) m args after s h = paced_spend (paced_done (omega arith))
 
-  drives-paced : (c d m : ℕ) (args : List Value) (after : Stage) (s : State) → d ≤ c → PacedStep M c d (drives p m args after s)
+  pub drives-paced : (c d m : ℕ) (args : List Value) (after : Stage) (s : State) → d ≤ c → PacedStep M c d (drives p m args after s)
   unfolding drives
   drives-paced c d m args after s h = driven-paced c d (method_at p m).body m args after s h
 
-  makes-paced : (c d k : ℕ) (s : State) → d ≤ c → PacedStep M c d (makes p k s)
+  pub makes-paced : (c d k : ℕ) (s : State) → d ≤ c → PacedStep M c d (makes p k s)
   makes-paced c d k s h = paced_spend (paced_make (λ o. paced_done (let q = instance_cells p k in omega arith)))
 
-  used : (c d k : ℕ) (s : State) {t : Access Turn} → d + 2 ≤ c → PacedStep M c d t → PacedStep M c (suc d) t → PacedStep M c d (bind (begin p k s.entries) (once_driven p s t))
+  used : (c d k : ℕ) (s : State) {t : Access Turn} → M.states k → d + 2 ≤ c → PacedStep M c d t → PacedStep M c (suc d) t → PacedStep M c d (bind (begin p k s.entries) (once_driven p s t))
   unfolding begin
-  used c d k s {t = t} h f g = either (is_trivial p k)
+  used c d k s {t = t} m h f g = either (is_trivial p k)
     where
       full : (b : Bool) → PacedStep M c (suc d) (bind (cond b (done (refused stack_overflow_error)) (write (place.Init k) Running (done (begun (with_entry (class_entry k) s.entries))))) (once_driven p s t))
       full true = throws-paced c (suc d) stack_overflow_error s (omega arith) (light p lk stack_overflow_error (omega arith))
-      full false = paced_write tt (paced_done (omega arith))
+      full false = paced_write m (paced_done (omega arith))
 
       looks : (x : InitState) → PacedStep M c (suc d) (bind (begun_at k s.entries x) (once_driven p s t))
       looks Idle = full (is_full s.entries)
@@ -79,17 +85,17 @@ module _ (p : Program) (lk : Linked p) {M : ℕ → Type 0} where
 
       either : (b : Bool) → PacedStep M c d (bind (cond b (done ready) (read (place.Init k) (begun_at k s.entries))) (once_driven p s t))
       either true = f
-      either false = paced_read (λ x. looks x)
+      either false = paced_read m (λ x. looks x)
 
   message-paced : (c d : ℕ) (o : List ℕ) (k : ℕ) (v : Value) → d + 1 ≤ c → PacedStep M c d (judged_message p o k v)
   message-paced c d o k (value.Int n) h = paced_done (omega arith)
   message-paced c d o k (value.Long n) h = paced_done (omega arith)
   message-paced c d o k value.Null h = paced_done (omega arith)
   message-paced c d o k (value.Lit n) h = paced_spend (paced_done (omega arith))
-  message-paced c d o k (value.Obj x) h = paced_read (λ t. paced_spend (paced_done (omega arith)))
+  message-paced c d o k (value.Obj x) h = paced_read tt (λ t. paced_spend (paced_done (omega arith)))
 
   value-paced : (c d : ℕ) (o : List ℕ) (v : Value) → d + 3 ≤ c → PacedStep M c d (judged_value p o v)
-  value-paced c d o (value.Obj x) h = paced_read (λ z. paced_read (λ v. message-paced c (suc (suc d)) o (class_of z.kind) v (omega arith)))
+  value-paced c d o (value.Obj x) h = paced_read tt (λ z. paced_read tt (λ v. message-paced c (suc (suc d)) o (class_of z.kind) v (omega arith)))
   value-paced c d o (value.Int n) h = paced_done (omega arith)
   value-paced c d o (value.Long n) h = paced_done (omega arith)
   value-paced c d o value.Null h = paced_done (omega arith)
@@ -100,13 +106,13 @@ module _ (p : Program) (lk : Linked p) {M : ℕ → Type 0} where
   judge-paced c d None s h = paced_done (omega arith)
   judge-paced c d (Some v) s h = value-paced c d s.own.output v h
 
-  first-paced : (c d : ℕ) (s : State) → d + 3 ≤ c → PacedStep M c d (drive_first p s)
+  first-paced : (c d : ℕ) (s : State) → M.states (first_class p s) → d + 3 ≤ c → PacedStep M c d (drive_first p s)
   unfolding drive_first
-  first-paced c d s h = by (is_static (method_at p (test_at p s.test).method).flags)
+  first-paced c d s m h = by (is_static (method_at p (test_at p s.test).method).flags) m
     where
-      by : (b : Bool) → PacedStep M c d (cond b (bind (begin p (method_at p (test_at p s.test).method).class s.entries) (once_driven p s (drives p (test_at p s.test).method [] (Last None) s))) (bind (begin p (test_at p s.test).class s.entries) (once_driven p s (makes p (test_at p s.test).class s))))
-      by true = used c d (method_at p (test_at p s.test).method).class s (omega arith) (drives-paced c d (test_at p s.test).method [] (Last None) s (omega arith)) (drives-paced c (suc d) (test_at p s.test).method [] (Last None) s (omega arith))
-      by false = used c d (test_at p s.test).class s (omega arith) (makes-paced c d (test_at p s.test).class s (omega arith)) (makes-paced c (suc d) (test_at p s.test).class s (omega arith))
+      by : (b : Bool) → M.states (cond b (method_at p (test_at p s.test).method).class (test_at p s.test).class) → PacedStep M c d (cond b (bind (begin p (method_at p (test_at p s.test).method).class s.entries) (once_driven p s (drives p (test_at p s.test).method [] (Last None) s))) (bind (begin p (test_at p s.test).class s.entries) (once_driven p s (makes p (test_at p s.test).class s))))
+      by true m = used c d (method_at p (test_at p s.test).method).class s m (omega arith) (drives-paced c d (test_at p s.test).method [] (Last None) s (omega arith)) (drives-paced c (suc d) (test_at p s.test).method [] (Last None) s (omega arith))
+      by false m = used c d (test_at p s.test).class s m (omega arith) (makes-paced c d (test_at p s.test).class s (omega arith)) (makes-paced c (suc d) (test_at p s.test).class s (omega arith))
 
   by_name : (c d : ℕ) (x : Option ℕ) {k : Access Turn} {f : ℕ → Access Turn} → PacedStep M c d k → ((m : ℕ) → PacedStep M c d (f m)) → PacedStep M c d (elim x [ None ↦ k | Some m ↦ f m ])
   by_name c d None g h = g
@@ -128,15 +134,15 @@ module _ (p : Program) (lk : Linked p) {M : ℕ → Type 0} where
   unfolding drive_tear_down
   tear_down-paced c d o v s h = by_name c d (plain_method_of p tear_down_name (upwards p (test_at p s.test).class)) {k = judge p v s} {f = λ m. drives p m (value.Obj o ∷ []) (Last v) s} (judge-paced c d v s h) (λ m. drives-paced c d m (value.Obj o ∷ []) (Last v) s (omega arith))
 
-  stage-paced : (c d : ℕ) (x : Stage) (s : State) → d + 3 ≤ c → PacedStep M c d (drive_at p x s)
-  stage-paced c d First s h = first-paced c d s h
-  stage-paced c d (Made o) s h = init-paced c d o s (omega arith)
-  stage-paced c d (Built o) s h = set_up-paced c d o s (omega arith)
-  stage-paced c d (SetUp o) s h = method-paced c d o s (omega arith)
-  stage-paced c d (Called o v) s h = tear_down-paced c d o v s h
-  stage-paced c d (Last v) s h = judge-paced c d v s h
+  stage-paced : (c d : ℕ) (x : Stage) (s : State) → StageAllowed p M x s → d + 3 ≤ c → PacedStep M c d (drive_at p x s)
+  stage-paced c d First s m h = first-paced c d s m h
+  stage-paced c d (Made o) s m h = init-paced c d o s (omega arith)
+  stage-paced c d (Built o) s m h = set_up-paced c d o s (omega arith)
+  stage-paced c d (SetUp o) s m h = method-paced c d o s (omega arith)
+  stage-paced c d (Called o v) s m h = tear_down-paced c d o v s h
+  stage-paced c d (Last v) s m h = judge-paced c d v s h
 
   -- a step of the driver
-  pub drive-paced : (c d : ℕ) (s : State) → d + 3 ≤ c → PacedStep M c d (drive p s)
+  pub drive-paced : (c d : ℕ) (s : State) → StageAllowed p M s.stage s → d + 3 ≤ c → PacedStep M c d (drive p s)
   unfolding drive
-  drive-paced c d s h = stage-paced c d s.stage s h
+  drive-paced c d s m h = stage-paced c d s.stage s m h

@@ -13,8 +13,8 @@ use Rattle.jvm_model.specs.Linked.{Linked, NamesForm, NamesBody, IsForm, IsBody}
 use Rattle.jvm_model.specs.Step.{Group, moves, arith as of_arith, branches, statics, fields, create, arrays, casts, calls, returns, throw, group_of, row_of, row, row_or_none, row_here}
 use Rattle.check_sound.specs.PaceLaw.{array_sum, sum_of, sum_here}
 use Rattle.check_sound.proofs.Arrive.{has_number}
-use Rattle.check_sound.proofs.Paced.{paced_done, CutRow}
-use Rattle.check_sound.proofs.PacedRows.{none, PutsOf, moves-paced, arith-paced, branches-paced, statics-paced, fields-paced, arrays-paced, casts-paced, returns-paced, throw-paced}
+use Rattle.check_sound.proofs.Paced.{Limits, paced_done, CutRow}
+use Rattle.check_sound.proofs.PacedRows.{none, NamesAllowed, moves-paced, arith-paced, branches-paced, statics-paced, fields-paced, arrays-paced, casts-paced, returns-paced, throw-paced}
 use Rattle.check_sound.proofs.PacedCreate.{HasDims, cut, create-paced}
 use Rattle.check_sound.proofs.PacedCalls.{calls-row}
 
@@ -49,8 +49,8 @@ module _ (p : Program) (lk : Linked p) where
           let k = subst (λ (o : Option Body). IfSome o (λ b. IsBody b)) q (lk.bodies m l) in
           dims_there b i (kept (λ i. NamesForm p i) b.code b.length pc i n.forms e) (kept (λ i. IsForm b i) b.code b.length pc i k.forms e)
 
-module _ (p : Program) (lk : Linked p) {M : ℕ → Type 0} where
-  row-paced : {B : Type 0} (i : Instr) (s : Entries) → PutsOf M i → HasDims i → (2 ^ 64 - 2 < array_sum i s.top.stack → B) → CutRow p M B (row p i s)
+module _ (p : Program) (lk : Linked p) {M : Limits} where
+  row-paced : {B : Type 0} (i : Instr) (s : Entries) → NamesAllowed p M i → HasDims i → (2 ^ 64 - 2 < array_sum i s.top.stack → B) → CutRow p M B (row p i s)
   unfolding row
   row-paced {B = B} i s m h b = by (group_of i)
     where
@@ -60,22 +60,18 @@ module _ (p : Program) (lk : Linked p) {M : ℕ → Type 0} where
       by branches = cut p lk _ (branches-paced p lk i s)
       by statics = cut p lk _ (statics-paced p lk i s m)
       by fields = cut p lk _ (fields-paced p lk i s)
-      by create = create-paced p lk i s h b
+      by create = create-paced p lk i s m h b
       by arrays = cut p lk _ (arrays-paced p lk i s)
       by casts = cut p lk _ (casts-paced p lk i s)
-      by calls = cut p lk _ (calls-row p lk i s)
+      by calls = cut p lk _ (calls-row p lk i s m)
       by returns = cut p lk _ (returns-paced p lk i s)
       by throw = cut p lk _ (throw-paced p lk s)
 
-  puts : (s : Entries) (i : Instr) → form_at p s.top.number s.top.pc ≡ Some i → ((f : ℕ) → form_at p s.top.number s.top.pc ≡ Some (form.PutStatic f) → M f) → PutsOf M i
-  puts s (form.PutStatic f) e m = m f e
-  puts s _ e m = tt
-
-  -- the row of the instruction at the top, where a putstatic there is allowed; where its cost is cut, B
-  pub here-paced : {B : Type 0} (s : Entries) → ((f : ℕ) → form_at p s.top.number s.top.pc ≡ Some (form.PutStatic f) → M f) → (2 ^ 64 - 2 < sum_here p s → B) → CutRow p M B (row_here p s)
+  -- the row of the instruction at the top, where what it names is allowed; where its cost is cut, B
+  pub here-paced : {B : Type 0} (s : Entries) → ((i : Instr) → form_at p s.top.number s.top.pc ≡ Some i → NamesAllowed p M i) → (2 ^ 64 - 2 < sum_here p s → B) → CutRow p M B (row_here p s)
   unfolding row_here
   here-paced {B = B} s m b = by (form_at p s.top.number s.top.pc) refl b
     where
       by : (o : Option Instr) → form_at p s.top.number s.top.pc ≡ o → (2 ^ 64 - 2 < sum_of o s.top.stack → B) → CutRow p M B (row_or_none p o s)
       by None e b = paced_done none
-      by (Some i) e b = row-paced i s (puts s i e m) (has_dims p lk s.top.number s.top.pc i e) b
+      by (Some i) e b = row-paced i s (m i e) (has_dims p lk s.top.number s.top.pc i e) b

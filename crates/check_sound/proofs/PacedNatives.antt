@@ -20,16 +20,16 @@ use Rattle.jvm_model.specs.NativesObject.{native_object, sets_message, makes_mes
 use Rattle.jvm_model.specs.NativesString.{text_index, answers_part, compares, string_equals, joined, native_string, appends, appends_string, native_builder}
 use Rattle.jvm_model.specs.NativesOutside.{one_text, two_texts, changes_property, native_system, prints_string, on_printed, line_feed, native_print, native_files, native_env}
 use Rattle.jvm_model.specs.Natives.{NativeGroup, of_object, of_string, of_builder, of_system, of_stream, of_files, of_env, of_throwable, native_group, native_of_group, row_native}
-use Rattle.check_sound.proofs.Paced.{either, paced_done, paced_read, paced_write, paced_make, paced_spend, cells, PacedRow, popping-paced, on_int-paced, on_long-paced, on_object-paced, on_reference-paced, on_text-paced}
+use Rattle.check_sound.proofs.Paced.{Limits, either, paced_done, paced_read, paced_write, paced_make, paced_spend, cells, PacedRow, popping-paced, on_int-paced, on_long-paced, on_object-paced, on_reference-paced, on_text-paced}
 use Rattle.check_sound.proofs.Light.{string_cells, light, null_light}
 
 -- the row goes on
-went : (p : Program) {M : ℕ → Type 0} {S : Type 0} {c d : ℕ} {s : S} → d ≤ c → PacedRow p M c d (done (answer Go s))
+went : (p : Program) {M : Limits} {S : Type 0} {c d : ℕ} {s : S} → d ≤ c → PacedRow p M c d (done (answer Go s))
 went p h = paced_done (h, tt)
 
 -- ---- what comes after an operand
 
-module _ (p : Program) (lk : Linked p) {M : ℕ → Type 0} {S : Type 0} (d n : ℕ) where
+module _ (p : Program) (lk : Linked p) {M : Limits} {S : Type 0} (d n : ℕ) where
   pub pop : (vs : List Value) {k : Value → List Value → Access (Answer S)} → d ≤ n → ((v : Value) (ws : List Value) → PacedRow p M n d (k v ws)) → PacedRow p M n d (popping vs k)
   pop vs h f = popping-paced p (null_light p lk) h vs f
 
@@ -46,7 +46,7 @@ module _ (p : Program) (lk : Linked p) {M : ℕ → Type 0} {S : Type 0} (d n : 
   reference s v h f = on_reference-paced p (null_light p lk) h s v f
 
 -- a text: one touch at the most, and m more may come
-text : (p : Program) (lk : Linked p) {M : ℕ → Type 0} {S : Type 0} (m d n : ℕ) (s : S) (v : Value) {k : List ℕ → Access (Answer S)} → d + suc m ≤ n → ((e : ℕ) (t : List ℕ) → e + m ≤ n → PacedRow p M n e (k t)) → PacedRow p M n d (on_text p s v k)
+text : (p : Program) (lk : Linked p) {M : Limits} {S : Type 0} (m d n : ℕ) (s : S) (v : Value) {k : List ℕ → Access (Answer S)} → d + suc m ≤ n → ((e : ℕ) (t : List ℕ) → e + m ≤ n → PacedRow p M n e (k t)) → PacedRow p M n d (on_text p s v k)
 text p lk m d n s v h f = on_text-paced p (null_light p lk) (omega arith) s v (λ t. f d t (omega arith)) (λ t. f (suc d) t (omega arith))
 
 -- ---- the built-in methods
@@ -62,7 +62,7 @@ allowance of_files = 4
 allowance of_env = 4
 allowance of_throwable = 3
 
-module _ (p : Program) (lk : Linked p) {M : ℕ → Type 0} (s : Working) where
+module _ (p : Program) (lk : Linked p) {M : Limits} (s : Working) where
   -- a new String: its head and its text
   makes_string : (m d n : ℕ) (t : List ℕ) {k : ℕ → Access (Answer Working)} → d + suc (suc m) ≤ n → ((e o : ℕ) → e + m ≤ n → PacedRow p M n e (k o)) → PacedRow p M n d (makes_text p t k)
   makes_string m d n t h f = paced_make (λ o. paced_write tt (f (suc (d + cells (blank p (instance_head string_class)))) o (let e = string_cells p lk in omega arith)))
@@ -93,7 +93,7 @@ module _ (p : Program) (lk : Linked p) {M : ℕ → Type 0} (s : Working) where
   keeps_any d n r (Long i) vs h = paced_done (omega arith)
   keeps_any d n r Null vs h = makes d n (codes "null") r vs (omega arith)
   keeps_any d n r (Lit i) vs h = keeps d n (class_of (constant_kind i)) r (Lit i) vs (omega arith)
-  keeps_any d n r (Obj o) vs h = paced_read (λ z. keeps (suc d) n (class_of z.kind) r (Obj o) vs (omega arith))
+  keeps_any d n r (Obj o) vs h = paced_read tt (λ z. keeps (suc d) n (class_of z.kind) r (Obj o) vs (omega arith))
 
   -- ---- String
 
@@ -113,7 +113,7 @@ module _ (p : Program) (lk : Linked p) {M : ℕ → Type 0} (s : Working) where
   equals d n r (Long i) vs h = paced_done (omega arith)
   equals d n r Null vs h = went p (omega arith)
   equals d n r (Lit i) vs h = compare d n (class_of (constant_kind i)) r (Lit i) vs (omega arith)
-  equals d n r (Obj o) vs h = paced_read (λ z. compare (suc d) n (class_of z.kind) r (Obj o) vs (omega arith))
+  equals d n r (Obj o) vs h = paced_read tt (λ z. compare (suc d) n (class_of z.kind) r (Obj o) vs (omega arith))
 
   join : (d n : ℕ) (r : Value) (vs : List Value) (t u : List ℕ) → d ≤ n → PacedRow p M n d (joined p s vs r t u)
   join d n r vs t [] h = went p h
@@ -122,14 +122,14 @@ module _ (p : Program) (lk : Linked p) {M : ℕ → Type 0} (s : Working) where
   -- ---- StringBuilder
 
   adds : (d n : ℕ) (u : List ℕ) (r : Value) (vs : List Value) → d + 2 ≤ n → PacedRow p M n d (appends p s vs r u)
-  adds d n u r vs h = object p lk d n (with_operands s vs) r (omega arith) (λ o. paced_read (λ t. paced_spend (paced_write tt (went p (omega arith)))))
+  adds d n u r vs h = object p lk d n (with_operands s vs) r (omega arith) (λ o. paced_read tt (λ t. paced_spend (paced_write tt (went p (omega arith)))))
 
   appends_any : (d n : ℕ) (r v : Value) (vs : List Value) → d + 3 ≤ n → PacedRow p M n d (appends_string p s vs r v)
   appends_any d n r (Int i) vs h = paced_done (omega arith)
   appends_any d n r (Long i) vs h = paced_done (omega arith)
   appends_any d n r Null vs h = adds d n (codes "null") r vs (omega arith)
   appends_any d n r (Lit i) vs h = adds d n (literal_at p i) r vs (omega arith)
-  appends_any d n r (Obj o) vs h = paced_read (λ t. adds (suc d) n t r vs (omega arith))
+  appends_any d n r (Obj o) vs h = paced_read tt (λ t. adds (suc d) n t r vs (omega arith))
 
   -- ---- texts of arguments
 
@@ -149,7 +149,7 @@ module _ (p : Program) (lk : Linked p) {M : ℕ → Type 0} (s : Working) where
   prints_any d n end (Long i) vs h = paced_done (omega arith)
   prints_any d n end Null vs h = print d n (codes "null" ++ end) vs (omega arith)
   prints_any d n end (Lit i) vs h = print d n (utf8_of (literal_at p i) ++ end) vs (omega arith)
-  prints_any d n end (Obj o) vs h = paced_read (λ t. print (suc d) n (utf8_of t ++ end) vs (omega arith))
+  prints_any d n end (Obj o) vs h = paced_read tt (λ t. print (suc d) n (utf8_of t ++ end) vs (omega arith))
 
   -- ---- the methods by group
 
@@ -164,7 +164,7 @@ module _ (p : Program) (lk : Linked p) {M : ℕ → Type 0} (s : Working) where
   unfolding native_throwable
   throwable-native d n native.ThrowableInit i h = pop p lk d n (operands s) (omega arith) (λ r vs. went p (omega arith))
   throwable-native d n native.ThrowableInitString i h = pop p lk d n (operands s) (omega arith) (λ v vs. pop p lk d n vs (omega arith) (λ r ws. object p lk d n (with_operands s ws) r (omega arith) (λ o. sets d n o v ws (omega arith))))
-  throwable-native d n native.ThrowableGetMessage i h = pop p lk d n (operands s) (omega arith) (λ r vs. object p lk d n (with_operands s vs) r (omega arith) (λ o. paced_read (λ v. went p (omega arith))))
+  throwable-native d n native.ThrowableGetMessage i h = pop p lk d n (operands s) (omega arith) (λ r vs. object p lk d n (with_operands s vs) r (omega arith) (λ o. paced_read tt (λ v. went p (omega arith))))
   throwable-native d n native.AssertionInitObject i h = pop p lk d n (operands s) (omega arith) (λ v vs. pop p lk d n vs (omega arith) (λ r ws. keeps_any d n r v ws (omega arith)))
   throwable-native d n native.AssertionInitInt i h = pop p lk d n (operands s) (omega arith) (λ v vs. pop p lk d n vs (omega arith) (λ r ws. int p lk d n v (omega arith) (λ j. makes d n (signed_decimal j) r ws (omega arith))))
   throwable-native d n native.AssertionInitLong i h = pop p lk d n (operands s) (omega arith) (λ v vs. pop p lk d n vs (omega arith) (λ r ws. long p lk d n v (omega arith) (λ j. makes d n (signed_decimal j) r ws (omega arith))))
@@ -201,16 +201,16 @@ module _ (p : Program) (lk : Linked p) {M : ℕ → Type 0} (s : Working) where
   builder-native d n native.BuilderAppendLong i h = pop p lk d n (operands s) (omega arith) (λ v vs. pop p lk d n vs (omega arith) (λ r ws. long p lk d n v (omega arith) (λ j. adds d n (signed_decimal j) r ws (omega arith))))
   builder-native d n native.BuilderAppendBoolean i h = pop p lk d n (operands s) (omega arith) (λ v vs. pop p lk d n vs (omega arith) (λ r ws. int p lk d n v (omega arith) (λ j. adds d n (boolean_text j) r ws (omega arith))))
   builder-native d n native.BuilderAppendChar i h = pop p lk d n (operands s) (omega arith) (λ v vs. pop p lk d n vs (omega arith) (λ r ws. int p lk d n v (omega arith) (λ j. adds d n (char_of j ∷ []) r ws (omega arith))))
-  builder-native d n native.BuilderLength i h = pop p lk d n (operands s) (omega arith) (λ r vs. object p lk d n (with_operands s vs) r (omega arith) (λ o. paced_read (λ t. went p (omega arith))))
-  builder-native d n native.BuilderToString i h = pop p lk d n (operands s) (omega arith) (λ r vs. object p lk d n (with_operands s vs) r (omega arith) (λ o. paced_read (λ t. string (suc d) n 0 t vs (omega arith))))
+  builder-native d n native.BuilderLength i h = pop p lk d n (operands s) (omega arith) (λ r vs. object p lk d n (with_operands s vs) r (omega arith) (λ o. paced_read tt (λ t. went p (omega arith))))
+  builder-native d n native.BuilderToString i h = pop p lk d n (operands s) (omega arith) (λ r vs. object p lk d n (with_operands s vs) r (omega arith) (λ o. paced_read tt (λ t. string (suc d) n 0 t vs (omega arith))))
   builder-native d n _ i h = absurd (cc)
 
   system-native : (d n : ℕ) (x : Native) → native_group x ≡ of_system → d + 4 ≤ n → PacedRow p M n d (native_system p x s)
   unfolding native_system
   system-native d n native.SystemClock i h = went p (omega arith)
-  system-native d n native.SystemGetProperty i h = one 1 d n (omega arith) (λ e t vs g. paced_read (λ c. found (suc e) n (length t) c vs (omega arith)))
-  system-native d n native.SystemSetProperty i h = two 2 d n (omega arith) (λ e a b vs g. paced_read (λ c. changes (suc e) n a (length b) (Some b) c vs (omega arith)))
-  system-native d n native.SystemClearProperty i h = one 2 d n (omega arith) (λ e t vs g. paced_read (λ c. changes (suc e) n t 0 None c vs (omega arith)))
+  system-native d n native.SystemGetProperty i h = one 1 d n (omega arith) (λ e t vs g. paced_read tt (λ c. found (suc e) n (length t) c vs (omega arith)))
+  system-native d n native.SystemSetProperty i h = two 2 d n (omega arith) (λ e a b vs g. paced_read tt (λ c. changes (suc e) n a (length b) (Some b) c vs (omega arith)))
+  system-native d n native.SystemClearProperty i h = one 2 d n (omega arith) (λ e t vs g. paced_read tt (λ c. changes (suc e) n t 0 None c vs (omega arith)))
   system-native d n _ i h = absurd (cc)
 
   on_stream : (d n : ℕ) {f : Value → List Value → Access (Answer Working)} → d ≤ n → ((v : Value) (vs : List Value) → PacedRow p M n d (f v vs)) → PacedRow p M n d (on_printed s f)
@@ -233,11 +233,11 @@ module _ (p : Program) (lk : Linked p) {M : ℕ → Type 0} (s : Working) where
 
   files-native : (d n : ℕ) (x : Native) → native_group x ≡ of_files → d + 4 ≤ n → PacedRow p M n d (native_files p x s)
   unfolding native_files
-  files-native d n native.FilesRead i h = one 1 d n (omega arith) (λ e t vs g. paced_read (λ c. found (suc e) n (length t) c vs (omega arith)))
+  files-native d n native.FilesRead i h = one 1 d n (omega arith) (λ e t vs g. paced_read tt (λ c. found (suc e) n (length t) c vs (omega arith)))
   files-native d n native.FilesWrite i h = two 1 d n (omega arith) (λ e a b vs g. paced_spend (paced_write tt (went p (omega arith))))
-  files-native d n native.FilesAppend i h = two 2 d n (omega arith) (λ e a b vs g. paced_read (λ c. paced_spend (paced_write tt (went p (omega arith)))))
-  files-native d n native.FilesDelete i h = one 2 d n (omega arith) (λ e t vs g. paced_read (λ c. paced_spend (paced_write tt (went p (omega arith)))))
-  files-native d n native.FilesExists i h = one 1 d n (omega arith) (λ e t vs g. paced_read (λ c. paced_spend (went p (omega arith))))
+  files-native d n native.FilesAppend i h = two 2 d n (omega arith) (λ e a b vs g. paced_read tt (λ c. paced_spend (paced_write tt (went p (omega arith)))))
+  files-native d n native.FilesDelete i h = one 2 d n (omega arith) (λ e t vs g. paced_read tt (λ c. paced_spend (paced_write tt (went p (omega arith)))))
+  files-native d n native.FilesExists i h = one 1 d n (omega arith) (λ e t vs g. paced_read tt (λ c. paced_spend (went p (omega arith))))
   files-native d n _ i h = absurd (cc)
 
   env-native : (d n : ℕ) (x : Native) → native_group x ≡ of_env → d + 4 ≤ n → PacedRow p M n d (native_env p x s)

@@ -38,7 +38,7 @@ use Rattle.jvm_model.specs.RowsCasts.{cast_to, cast, tested, row_casts}
 use Rattle.jvm_model.specs.RowsReturn.{handed_on, hands_on, row_return}
 use Rattle.jvm_model.specs.Step.{row_throw}
 use Rattle.jvm_model.specs.Raising.{handler_for, handled, row_raise}
-use Rattle.check_sound.proofs.Paced.{either, paced_done, paced_read, paced_write, PacedRow, popping-paced, on_int-paced, on_long-paced, on_object-paced, on_reference-paced}
+use Rattle.check_sound.proofs.Paced.{Limits, either, paced_done, paced_read, paced_write, PacedRow, popping-paced, on_int-paced, on_long-paced, on_object-paced, on_reference-paced}
 use Rattle.check_sound.proofs.Light.{light, null_light}
 
 pub none : 0 ≤ 4
@@ -53,12 +53,15 @@ two = omega arith
 pub three : 3 ≤ 4
 three = omega arith
 
--- what the code puts
-abbrev pub PutsOf : (ℕ → Type 0) → Instr → Type 0
-PutsOf M (form.PutStatic f) = M f
-PutsOf M i = Unit {0}
+-- the static and the state that the instruction names are allowed
+abbrev pub NamesAllowed : Program → Limits → Instr → Type 0
+NamesAllowed p M (form.GetStatic f) = M.gets f × M.states (field_at p f).class
+NamesAllowed p M (form.PutStatic f) = M.puts f × M.states (field_at p f).class
+NamesAllowed p M (form.New c) = M.states c
+NamesAllowed p M (form.InvokeStatic m) = M.states (method_at p m).class
+NamesAllowed p M i = Unit {0}
 
-module _ (p : Program) (lk : Linked p) {M : ℕ → Type 0} where
+module _ (p : Program) (lk : Linked p) {M : Limits} where
   pop : (vs : List Value) {k : Value → List Value → Access (Answer Entries)} → ((v : Value) (ws : List Value) → PacedRow p M 4 0 (k v ws)) → PacedRow p M 4 0 (popping vs k)
   pop vs r = popping-paced p (null_light p lk) none vs r
 
@@ -158,13 +161,13 @@ module _ (p : Program) (lk : Linked p) {M : ℕ → Type 0} where
 
   -- ---- the use of a class: its state is read where it isn't trivial
 
-  pub using-paced : (c : ℕ) (s : Entries) (k : Access (Answer Entries)) → (is_trivial p c ≡ true → PacedRow p M 4 0 k) → (is_trivial p c ≡ false → PacedRow p M 4 1 k) → PacedRow p M 4 0 (using p c s k)
+  pub using-paced : (c : ℕ) (s : Entries) (k : Access (Answer Entries)) → M.states c → (is_trivial p c ≡ true → PacedRow p M 4 0 k) → (is_trivial p c ≡ false → PacedRow p M 4 1 k) → PacedRow p M 4 0 (using p c s k)
   unfolding begin
-  using-paced c s k f g = by (is_trivial p c) refl
+  using-paced c s k m f g = by (is_trivial p c) refl
     where
       full : (b : Bool) → PacedRow p M 4 1 (bind (cond b (done (refused 18)) (write (place.Init c) Running (done (begun (with_entry (class_entry c) s))))) (once s k))
       full true = paced_done (one, light p lk stack_overflow_error (omega arith))
-      full false = paced_write tt (paced_done (two, tt))
+      full false = paced_write m (paced_done (two, tt))
 
       looks : (x : InitState) → is_trivial p c ≡ false → PacedRow p M 4 1 (bind (begun_at c s x) (once s k))
       looks Idle e = full (is_full s)
@@ -174,27 +177,27 @@ module _ (p : Program) (lk : Linked p) {M : ℕ → Type 0} where
 
       by : (b : Bool) → is_trivial p c ≡ b → PacedRow p M 4 0 (bind (cond b (done ready) (read (place.Init c) (begun_at c s))) (once s k))
       by true e = f e
-      by false e = paced_read (λ x. looks x e)
+      by false e = paced_read m (λ x. looks x e)
 
   -- ---- statics and fields
 
-  read_static-paced : {d : ℕ} (f : ℕ) (s : Entries) → suc d ≤ 4 → PacedRow p M 4 d (read_static p f s)
+  pub read_static-paced : {d : ℕ} (f : ℕ) (s : Entries) → M.gets f → suc d ≤ 4 → PacedRow p M 4 d (read_static p f s)
   unfolding read_static
-  read_static-paced f s e = paced_read (λ v. paced_done (e, tt))
+  read_static-paced f s m e = paced_read m (λ v. paced_done (e, tt))
 
-  write_static-paced : {d : ℕ} (f : ℕ) (s : Entries) → M f → suc d ≤ 4 → PacedRow p M 4 d (write_static p f s)
+  pub write_static-paced : {d : ℕ} (f : ℕ) (s : Entries) → M.puts f → suc d ≤ 4 → PacedRow p M 4 d (write_static p f s)
   unfolding write_static
   write_static-paced f s m e = popping-paced p (null_light p lk) (omega arith) s.top.stack (λ v vs. paced_write m (paced_done (e, tt)))
 
-  pub statics-paced : (i : Instr) (s : Entries) → PutsOf M i → PacedRow p M 4 0 (row_statics p i s)
+  pub statics-paced : (i : Instr) (s : Entries) → NamesAllowed p M i → PacedRow p M 4 0 (row_statics p i s)
   unfolding row_statics
-  statics-paced (form.GetStatic f) s m = using-paced (field_at p f).class s (read_static p f s) (λ e. read_static-paced f s one) (λ e. read_static-paced f s two)
-  statics-paced (form.PutStatic f) s m = using-paced (field_at p f).class s (write_static p f s) (λ e. write_static-paced f s m one) (λ e. write_static-paced f s m two)
+  statics-paced (form.GetStatic f) s m = using-paced (field_at p f).class s (read_static p f s) m.1 (λ e. read_static-paced f s m.0 one) (λ e. read_static-paced f s m.0 two)
+  statics-paced (form.PutStatic f) s m = using-paced (field_at p f).class s (write_static p f s) m.1 (λ e. write_static-paced f s m.0 one) (λ e. write_static-paced f s m.0 two)
   statics-paced _ s m = paced_done none
 
   pub fields-paced : (i : Instr) (s : Entries) → PacedRow p M 4 0 (row_fields p i s)
   unfolding row_fields
-  fields-paced (form.GetField c f) s = pop s.top.stack (λ r vs. object (with_stack s vs) r (λ o. paced_read (λ v. paced_done (one, tt))))
+  fields-paced (form.GetField c f) s = pop s.top.stack (λ r vs. object (with_stack s vs) r (λ o. paced_read tt (λ v. paced_done (one, tt))))
   fields-paced (form.PutField c f) s = pop s.top.stack (λ v vs. pop vs (λ r rest. object (with_stack s rest) r (λ o. paced_write tt (paced_done (one, tt)))))
   fields-paced _ s = paced_done none
 
@@ -213,7 +216,7 @@ module _ (p : Program) (lk : Linked p) {M : ℕ → Type 0} where
   checked-paced k s (value.Long n) r q = paced_done one
   checked-paced k s value.Null r q = r
   checked-paced k s (value.Lit n) r q = either (kind_fits p (constant_kind n) (element_kind k)) r (paced_done (one, light p lk array_store_exception (omega arith)))
-  checked-paced k s (value.Obj o) r q = paced_read (λ h. either (kind_fits p h.kind (element_kind k)) q (paced_done (two, light p lk array_store_exception (omega arith))))
+  checked-paced k s (value.Obj o) r q = paced_read tt (λ h. either (kind_fits p h.kind (element_kind k)) q (paced_done (two, light p lk array_store_exception (omega arith))))
 
   stored_in-paced : (c : Cell) (s : Entries) (o : ℕ) (i : ℤ) (v : Value) (vs : List Value) (h : Head) → PacedRow p M 4 1 (stored_in p c s o i v vs h)
   stored_in-paced c s o i v vs h = array-paced h.kind (range-paced (with_stack s vs) i h.length (λ n. either (holds_references c)
@@ -221,13 +224,13 @@ module _ (p : Program) (lk : Linked p) {M : ℕ → Type 0} where
       (paced_write tt (paced_done (two, tt)))))
 
   loaded_from-paced : (s : Entries) (o : ℕ) (i : ℤ) (vs : List Value) (h : Head) → PacedRow p M 4 1 (loaded_from p s o i vs h)
-  loaded_from-paced s o i vs h = array-paced h.kind (range-paced (with_stack s vs) i h.length (λ n. paced_read (λ v. paced_done (two, tt))))
+  loaded_from-paced s o i vs h = array-paced h.kind (range-paced (with_stack s vs) i h.length (λ n. paced_read tt (λ v. paced_done (two, tt))))
 
   pub arrays-paced : (i : Instr) (s : Entries) → PacedRow p M 4 0 (row_arrays p i s)
   unfolding row_arrays
-  arrays-paced (form.ArrayLoad c) s = pop s.top.stack (λ v vs. pop vs (λ r rest. int v (λ i. object (with_stack s rest) r (λ o. paced_read (λ h. loaded_from-paced s o i rest h)))))
-  arrays-paced (form.ArrayStore c) s = pop s.top.stack (λ v vs. pop vs (λ j ws. pop ws (λ r rest. int j (λ i. object (with_stack s rest) r (λ o. paced_read (λ h. stored_in-paced c s o i v rest h))))))
-  arrays-paced form.ArrayLength s = pop s.top.stack (λ r vs. object (with_stack s vs) r (λ o. paced_read (λ h. array-paced h.kind (paced_done (one, tt)))))
+  arrays-paced (form.ArrayLoad c) s = pop s.top.stack (λ v vs. pop vs (λ r rest. int v (λ i. object (with_stack s rest) r (λ o. paced_read tt (λ h. loaded_from-paced s o i rest h)))))
+  arrays-paced (form.ArrayStore c) s = pop s.top.stack (λ v vs. pop vs (λ j ws. pop ws (λ r rest. int j (λ i. object (with_stack s rest) r (λ o. paced_read tt (λ h. stored_in-paced c s o i v rest h))))))
+  arrays-paced form.ArrayLength s = pop s.top.stack (λ r vs. object (with_stack s vs) r (λ o. paced_read tt (λ h. array-paced h.kind (paced_done (one, tt)))))
   arrays-paced _ s = paced_done none
 
   -- ---- casts
@@ -240,14 +243,14 @@ module _ (p : Program) (lk : Linked p) {M : ℕ → Type 0} where
   cast-paced k s (value.Long n) vs = paced_done none
   cast-paced k s value.Null vs = paced_done (none, tt)
   cast-paced k s (value.Lit n) vs = cast_to-paced k s (value.Lit n) vs (constant_kind n) none
-  cast-paced k s (value.Obj o) vs = paced_read (λ h. cast_to-paced k s (value.Obj o) vs h.kind one)
+  cast-paced k s (value.Obj o) vs = paced_read tt (λ h. cast_to-paced k s (value.Obj o) vs h.kind one)
 
   tested-paced : (k : Kind) (s : Entries) (v : Value) (vs : List Value) → PacedRow p M 4 0 (tested p k s v vs)
   tested-paced k s (value.Int n) vs = paced_done none
   tested-paced k s (value.Long n) vs = paced_done none
   tested-paced k s value.Null vs = paced_done (none, tt)
   tested-paced k s (value.Lit n) vs = paced_done (none, tt)
-  tested-paced k s (value.Obj o) vs = paced_read (λ h. paced_done (one, tt))
+  tested-paced k s (value.Obj o) vs = paced_read tt (λ h. paced_done (one, tt))
 
   pub casts-paced : (i : Instr) (s : Entries) → PacedRow p M 4 0 (row_casts p i s)
   unfolding row_casts
@@ -283,4 +286,4 @@ module _ (p : Program) (lk : Linked p) {M : ℕ → Type 0} where
 
   pub raise-paced : (v : Value) (s : Entries) → PacedRow p M 4 0 (row_raise p v s)
   unfolding row_raise
-  raise-paced v s = object s v (λ o. paced_read (λ h. handled-paced v s (handler_for p s.top.number s.top.pc (class_of h.kind))))
+  raise-paced v s = object s v (λ o. paced_read tt (λ h. handled-paced v s (handler_for p s.top.number s.top.pc (class_of h.kind))))

@@ -1,17 +1,21 @@
 -- The whole step: its row or the driver's stage, and what comes after it.
-use Rattle.std.proofs.Common.{◌≡◌, ℕ, ◌+◌, ◌-◌, ◌*◌, ◌^◌, ◌<◌, ◌≤◌, length, Bool, true, false, not, ◌&&◌, ◌||◌, nat_eq, Option, Some, None, refl, sym, ◌∙◌, subst, arith, inl, inr}
+use Rattle.std.proofs.Common.{◌≡◌, ◌⊎◌, ℕ, ◌+◌, ◌-◌, ◌*◌, ◌^◌, ◌<◌, ◌≤◌, length, Bool, true, false, not, ◌&&◌, ◌||◌, nat_eq, Option, Some, None, refl, sym, ◌∙◌, ap, subst, arith, inl, inr}
 use Rattle.std.specs.List.{list_all}
 use Rattle.std.proofs.lemmas.Bool.{and_parts, or_cases, eqb-true, not-true}
 use Rattle.jvm_model.specs.declared.values.Value.{Value}
 use Rattle.jvm_model.specs.declared.library.Native.{Native}
 use Rattle.jvm_model.specs.declared.outcome.Next.TheVariants.{Go, Fault, Raise, Enter, Leave, Over}
+use Rattle.jvm_model.specs.declared.instr.Instr.{Instr}
+use Rattle.jvm_model.specs.declared.instr.Instr.TheVariants as form
+use Rattle.jvm_model.specs.declared.state.Stage.{Stage}
+use Rattle.jvm_model.specs.declared.state.Stage.TheVariants.{First, Made, Built, SetUp, Called, Last}
 use Rattle.jvm_model.specs.declared.state.EntryKind.{EntryKind}
 use Rattle.jvm_model.specs.declared.state.EntryKind.TheVariants.{Absent, InMethod, InClass}
 use Rattle.jvm_model.specs.declared.program.Program.{Program}
 use Rattle.jvm_model.specs.declared.program.MethodRec.{MethodRec}
 use Rattle.jvm_model.specs.World.{World}
 use Rattle.jvm_model.specs.Access.{Access, bind, run}
-use Rattle.jvm_model.specs.Classes.{method_at, is_private, is_static}
+use Rattle.jvm_model.specs.Classes.{method_at, field_at, form_at, is_private, is_static}
 use Rattle.jvm_model.specs.Entries.{Entries}
 use Rattle.jvm_model.specs.Initialise.{row_finish, row_fail}
 use Rattle.jvm_model.specs.Library.{builtin_defs, builtin_methods}
@@ -22,14 +26,14 @@ use Rattle.jvm_model.specs.Rows.{Answer, answer, no_row}
 use Rattle.jvm_model.specs.State.{State, Turn, with_entries}
 use Rattle.jvm_model.specs.Step.{after_row, entered, row_here, acts, step, cost, touch}
 use Rattle.jvm_model.proofs.BuiltinRules.{method_keeps}
-use Rattle.check_sound.specs.PaceLaw.{sum_here, IsRunning, IsPriced, PutsHere, Writes, IsSameStatic}
+use Rattle.check_sound.specs.PaceLaw.{sum_here, IsRunning, IsPriced, PutsHere, Writes, IsSameStatic, GetsHere, used_of, first_class, MetByEntry, MetBy, StateHere, Meets}
 use Rattle.check_sound.proofs.LibraryTypes.{is_in_table}
-use Rattle.check_sound.proofs.Paced.{Paced, paced_done, paced_spend, Bounded, LeavesFor, Cut, CutRow, paced_map, paced_bind, paced_touches, paced_writes, paced_statics}
-use Rattle.check_sound.proofs.PacedRows.{raise-paced}
+use Rattle.check_sound.proofs.Paced.{Limits, Paced, paced_done, paced_spend, Bounded, LeavesFor, Cut, CutRow, paced_map, paced_bind, paced_touches, paced_writes, paced_touched, paced_statics}
+use Rattle.check_sound.proofs.PacedRows.{NamesAllowed, raise-paced}
 use Rattle.check_sound.proofs.PacedCreate.{cut}
-use Rattle.check_sound.proofs.PacedInit.{finish-paced, fail-paced}
+use Rattle.check_sound.proofs.PacedInit.{EntryAllowed, finish-paced, fail-paced}
 use Rattle.check_sound.proofs.PacedNatives.{allowance}
-use Rattle.check_sound.proofs.PacedDriver.{PacedStep, throws-paced, native-step-paced, drive-paced}
+use Rattle.check_sound.proofs.PacedDriver.{PacedStep, StageAllowed, throws-paced, native-step-paced, drive-paced}
 use Rattle.check_sound.proofs.PacedHere.{here-paced}
 
 -- ---- a built-in method with four touches is static, and not private
@@ -48,8 +52,14 @@ at_most_four _ = omega arith
 
 -- ---- the step
 
+-- what the step may touch of statics and states is allowed
+pub record Allows (p : Program) (M : Limits) (s : State) : Type 0 where
+  pub puts : (f : ℕ) → PutsHere p s f → M.puts f
+  pub gets : (f : ℕ) → GetsHere p s f → M.gets f
+  pub states : (c : ℕ) → StateHere p s c → M.states c
+
 -- a step, or what is left of one, that touches no more than it pays for, or whose cost is cut, where B
-abbrev pub CutStep : (ℕ → Type 0) → Type 0 → ℕ → ℕ → Access Turn → Type 0
+abbrev pub CutStep : Limits → Type 0 → ℕ → ℕ → Access Turn → Type 0
 CutStep M B c d t = Paced M (λ c d a. Bounded B c d) c d t
 
 module _ (p : Program) (lk : Linked p) where
@@ -63,7 +73,30 @@ module _ (p : Program) (lk : Linked p) where
     ])
   ]
 
-module _ (p : Program) (lk : Linked p) {M : ℕ → Type 0} {B : Type 0} where
+module _ (p : Program) (M : Limits) where
+  first_allowed : (s : State) → ((c : ℕ) → (s.stage ≡ First) × (first_class p s ≡ c) → M.states c) → StageAllowed p M s.stage s
+  first_allowed s m = by s.stage refl
+    where
+      by : (x : Stage) → s.stage ≡ x → StageAllowed p M x s
+      by First e = m (first_class p s) (e, refl)
+      by (Made o) e = tt
+      by (Built o) e = tt
+      by (SetUp o) e = tt
+      by (Called o v) e = tt
+      by (Last v) e = tt
+
+  names_allowed : (s : State) → Allows p M s → IsRunning s → ((c : ℕ) → used_of p (form_at p s.entries.top.number s.entries.top.pc) ≡ Some c → M.states c) → (i : Instr) → form_at p s.entries.top.number s.entries.top.pc ≡ Some i → NamesAllowed p M i
+  names_allowed s a r m (form.GetStatic f) e = (a.gets f (r, e), m (field_at p f).class (ap (used_of p) e))
+  names_allowed s a r m (form.PutStatic f) e = (a.puts f (r, e), m (field_at p f).class (ap (used_of p) e))
+  names_allowed s a r m (form.New c) e = m c (ap (used_of p) e)
+  names_allowed s a r m (form.InvokeStatic n) e = m (method_at p n).class (ap (used_of p) e)
+  names_allowed s a r m _ e = tt
+
+  entry_allowed : (b : Bool) (d : ℕ) → ((c : ℕ) → MetByEntry p None b d c → M.states c) → EntryAllowed p M (InClass b) d
+  entry_allowed false d m = m
+  entry_allowed true d m = m d refl
+
+module _ (p : Program) (lk : Linked p) {M : Limits} {B : Type 0} where
   bounded : (t : Access Turn) (c d : ℕ) → PacedStep M c d t → CutStep M B c d t
   bounded t c d h = paced_map (λ c d a q. inl q) t c d h
 
@@ -80,36 +113,47 @@ module _ (p : Program) (lk : Linked p) {M : ℕ → Type 0} {B : Type 0} where
   after-paced s c d (answer Leave t) h = paced_done (inl h.0)
   after-paced s c d (answer Over t) h = paced_done (inl h.0)
 
-  then-paced : (s : State) (t : Access (Answer Entries)) → CutRow p M B t → CutStep M B 4 0 (bind t (after_row p s))
+  pub then-paced : (s : State) (t : Access (Answer Entries)) → CutRow p M B t → CutStep M B 4 0 (bind t (after_row p s))
   then-paced s t h = paced_bind M (λ c d a. Cut p B c d a) (λ c d a. Bounded B c d) t (after_row p s) 4 0 h (λ c d a q. after-paced s c d a q)
 
-  acts-paced : (s : State) → ((f : ℕ) → PutsHere p s f → M f) → (IsRunning s → 2 ^ 64 - 2 < sum_here p s.entries → B) → CutStep M B 4 0 (acts p s.entries.top.kind s.raised s)
-  acts-paced s m b = by s.entries.top.kind s.raised refl refl
+  acts-paced : (s : State) → Allows p M s → (IsRunning s → 2 ^ 64 - 2 < sum_here p s.entries → B) → CutStep M B 4 0 (acts p s.entries.top.kind s.raised s)
+  acts-paced s a b = by s.entries.top.kind s.raised refl refl a.states
     where
-      by : (k : EntryKind) (x : Option Value) → s.entries.top.kind ≡ k → s.raised ≡ x → CutStep M B 4 0 (acts p k x s)
-      by Absent x e q = bounded _ 4 0 (drive-paced p lk 4 0 s (omega arith))
-      by InMethod None e q = then-paced s (row_here p s.entries) (here-paced p lk s.entries (λ f i. m f ((e, q), i)) (b (e, q)))
-      by InMethod (Some v) e q = then-paced s (row_raise p v s.entries) (cut p lk _ (raise-paced p lk v s.entries))
-      by (InClass i) None e q = then-paced s (row_finish p s.entries) (cut p lk _ (finish-paced p lk s.entries))
-      by (InClass i) (Some v) e q = then-paced s (row_fail p v s.entries) (cut p lk _ (fail-paced p lk v s.entries))
+      by : (k : EntryKind) (x : Option Value) → s.entries.top.kind ≡ k → s.raised ≡ x → ((c : ℕ) → MetBy k x p s c → M.states c) → CutStep M B 4 0 (acts p k x s)
+      by Absent x e q m = bounded _ 4 0 (drive-paced p lk 4 0 s (first_allowed p M s m) (omega arith))
+      by InMethod None e q m = then-paced s (row_here p s.entries) (here-paced p lk s.entries (names_allowed p M s a (e, q) m) (b (e, q)))
+      by InMethod (Some v) e q m = then-paced s (row_raise p v s.entries) (cut p lk _ (raise-paced p lk v s.entries))
+      by (InClass i) None e q m = then-paced s (row_finish p s.entries) (cut p lk _ (finish-paced p lk s.entries (subst (λ (k : EntryKind). EntryAllowed p M k s.entries.top.number) (sym e) (entry_allowed p M i s.entries.top.number m))))
+      by (InClass i) (Some v) e q m = then-paced s (row_fail p v s.entries) (cut p lk _ (fail-paced p lk v s.entries (m s.entries.top.number refl)))
 
-  pub step-paced : (s : State) → ((f : ℕ) → PutsHere p s f → M f) → (IsRunning s → 2 ^ 64 - 2 < sum_here p s.entries → B) → CutStep M B 0 0 (step p s)
+  pub step-paced : (s : State) → Allows p M s → (IsRunning s → 2 ^ 64 - 2 < sum_here p s.entries → B) → CutStep M B 0 0 (step p s)
   unfolding step
-  step-paced s m b = paced_spend (acts-paced s m b)
+  step-paced s a b = paced_spend (acts-paced s a b)
 
 -- ---- what a step touches, and the statics that it writes
+
+-- just what the step may touch
+abbrev limits_of : Program → State → Limits
+limits_of p s = record { puts = PutsHere p s; gets = GetsHere p s; states = StateHere p s }
+
+just_these : (p : Program) (s : State) → Allows p (limits_of p s) s
+just_these p s = record { puts = λ f h. h; gets = λ f h. h; states = λ c h. h }
 
 module _ (p : Program) (lk : Linked p) (s : State) (w : World) where
   -- the cost of the step is cut
   abbrev IsCut : Type 0
   IsCut = IsRunning s × (2 ^ 64 - 2 < sum_here p s.entries)
 
-  tree_here : CutStep (PutsHere p s) IsCut 0 0 (step p s)
-  tree_here = step-paced p lk s (λ f h. h) (λ r l. (r, l))
+  tree_here : CutStep (limits_of p s) IsCut 0 0 (step p s)
+  tree_here = step-paced p lk s (just_these p s) (λ r l. (r, l))
 
   -- at most four locations for each unit, or the cost is the greatest number
   pub step_bounded : Bounded (IsRunning s × (2 ^ 64 - 2 < sum_here p s.entries)) (4 * cost p s w + 0) (length (touch p s w) + 0)
-  step_bounded = paced_touches (PutsHere p s) (λ c d a. Bounded IsCut c d) (λ c d a h. h) (step p s) w 0 0 tree_here
+  step_bounded = paced_touches (limits_of p s) (λ c d a. Bounded IsCut c d) (λ c d a h. h) (step p s) w 0 0 tree_here
+
+  -- no other statics and states
+  pub touched : Meets (λ f. GetsHere p s f ⊎ PutsHere p s f) (StateHere p s) (touch p s w)
+  touched = paced_touched (limits_of p s) (λ c d a. Bounded IsCut c d) (step p s) w 0 0 tree_here
 
   pub paced : IsPriced p s → length (touch p s w) ≤ 4 * cost p s w
   paced h = elim step_bounded [
@@ -120,5 +164,6 @@ module _ (p : Program) (lk : Linked p) (s : State) (w : World) where
   -- a step writes only statics of M, where a putstatic of another isn't at the top
   pub statics_of : (M : ℕ → Type 0) → ((f : ℕ) → PutsHere p s f → M f) → Writes M (touch p s w) × ((f : ℕ) → (M f → ⊥) → IsSameStatic (run (step p s) w).world w f)
   statics_of M m =
-      let t = step-paced p lk {M = M} {B = IsCut} s m (λ r l. (r, l)) in
-      (paced_writes M (λ c d a. Bounded IsCut c d) (step p s) w 0 0 t, λ f n. paced_statics M (λ c d a. Bounded IsCut c d) f n (step p s) w 0 0 t)
+      let l : Limits = record { puts = M; gets = λ f. Unit {0}; states = λ c. Unit {0} } in
+      let t = step-paced p lk {M = l} {B = IsCut} s (record { puts = m; gets = λ f h. tt; states = λ c h. tt }) (λ r l. (r, l)) in
+      (paced_writes l (λ c d a. Bounded IsCut c d) (step p s) w 0 0 t, λ f n. paced_statics l (λ c d a. Bounded IsCut c d) f n (step p s) w 0 0 t)

@@ -1,20 +1,24 @@
--- What bounds the touches of a step and of a test, and which statics they write.
-use Rattle.std.specs.Prelude.{◌≡◌, ℕ, zero, suc, pos, ◌*◌, ◌-◌, ◌^◌, ◌<◌, ◌≤◌, List, [], ◌∷◌, length, Option, Some, None, All}
+-- What bounds the touches of a step and of a test, which statics they write, and which statics and class states a step meets.
+use Rattle.std.specs.Prelude.{◌≡◌, ◌⊎◌, ℕ, zero, suc, pos, ◌*◌, ◌-◌, ◌^◌, ◌<◌, ◌≤◌, List, [], ◌∷◌, length, map, Bool, true, false, cond, Option, Some, None, All}
 use Rattle.jvm_model.specs.declared.values.Value.{Value}
 use Rattle.jvm_model.specs.declared.values.Value.TheVariants.{Int}
+use Rattle.jvm_model.specs.declared.values.Location.{Location}
 use Rattle.jvm_model.specs.declared.values.Location.TheVariants as place
 use Rattle.jvm_model.specs.declared.values.Touch.{Touch}
 use Rattle.jvm_model.specs.declared.instr.Instr.{Instr}
 use Rattle.jvm_model.specs.declared.instr.Instr.TheVariants as form
-use Rattle.jvm_model.specs.declared.state.EntryKind.TheVariants.{InMethod}
+use Rattle.jvm_model.specs.declared.state.EntryKind.{EntryKind}
+use Rattle.jvm_model.specs.declared.state.EntryKind.TheVariants.{Absent, InMethod, InClass}
+use Rattle.jvm_model.specs.declared.state.Stage.TheVariants.{First}
 use Rattle.jvm_model.specs.declared.program.Program.{Program}
 use Rattle.jvm_model.specs.World.{World, at}
 use Rattle.jvm_model.specs.Access.{write_of, run}
-use Rattle.jvm_model.specs.Classes.{form_at}
+use Rattle.jvm_model.specs.Classes.{field_at, form_at, is_static, member, method_at}
 use Rattle.jvm_model.specs.Entries.{Entries}
+use Rattle.jvm_model.specs.Initialise.{parts_of}
 use Rattle.jvm_model.specs.Linked.{Linked}
 use Rattle.jvm_model.specs.RowsCreate.{nest_sum}
-use Rattle.jvm_model.specs.State.{State}
+use Rattle.jvm_model.specs.State.{State, test_at}
 use Rattle.jvm_model.specs.Step.{step, cost, touch}
 use Rattle.jvm_model.specs.Suite.{tree, Given, one_test}
 
@@ -73,6 +77,55 @@ Writes M ts = All (WriteOf M) ts
 abbrev pub IsSameStatic : World → World → ℕ → Type 0
 IsSameStatic v w f = at v (place.Static f) ≡ at w (place.Static f)
 
+-- ---- what meets a static or the state of a class
+
+-- the instruction at the top is a getstatic of the field
+abbrev pub GetsHere : Program → State → ℕ → Type 0
+GetsHere p s f = IsRunning s × (form_at p s.entries.top.number s.entries.top.pc ≡ Some (form.GetStatic f))
+
+-- the class that an instruction uses, and so starts (JVMS 5.5)
+abbrev pub class_used : Program → Instr → Option ℕ
+class_used p (form.GetStatic f) = Some (field_at p f).class
+class_used p (form.PutStatic f) = Some (field_at p f).class
+class_used p (form.New c) = Some c
+class_used p (form.InvokeStatic m) = Some (method_at p m).class
+class_used p _ = None
+
+abbrev pub used_of : Program → Option Instr → Option ℕ
+used_of p None = None
+used_of p (Some i) = class_used p i
+
+-- the class that the driver's first step uses: that of a static test method, or that of the test's object
+abbrev pub first_class : Program → State → ℕ
+first_class p s = let t = test_at p s.test in cond (is_static (method_at p t.method).flags) (method_at p t.method).class t.class
+
+-- a step on an initialisation entry of class d meets the state of c, a part of d before `<clinit>` is entered, and else d itself
+abbrev pub MetByEntry : Program → Option Value → Bool → ℕ → ℕ → Type 0
+MetByEntry p None false d c = member c (map (λ x. x.class) (parts_of p d)) ≡ true
+MetByEntry p None true d c = d ≡ c
+MetByEntry p (Some v) b d c = d ≡ c
+
+abbrev pub MetBy : EntryKind → Option Value → Program → State → ℕ → Type 0
+MetBy Absent x p s c = (s.stage ≡ First) × (first_class p s ≡ c)
+MetBy InMethod None p s c = used_of p (form_at p s.entries.top.number s.entries.top.pc) ≡ Some c
+MetBy InMethod (Some v) p s c = ⊥
+MetBy (InClass b) x p s c = MetByEntry p x b s.entries.top.number c
+
+-- The step may read or write the state of the class: it is the class that the instruction at the top or the driver uses, or what
+-- the initialisation entry at the top is about.
+abbrev pub StateHere : Program → State → ℕ → Type 0
+StateHere p s c = MetBy s.entries.top.kind s.raised p s c
+
+-- a static is one of N, and a state is that of a class of S
+abbrev pub MeetsOf : (ℕ → Type 0) → (ℕ → Type 0) → Location → Type 0
+MeetsOf N S (place.Static f) = N f
+MeetsOf N S (place.Init c) = S c
+MeetsOf N S l = Unit {0}
+
+-- no other statics and states are touched
+abbrev pub Meets : (ℕ → Type 0) → (ℕ → Type 0) → List Touch → Type 0
+Meets N S ts = All (λ t. MeetsOf N S t.location) ts
+
 -- ---- the laws
 
 -- A step touches at most four locations for each unit of its cost, in any state of a linked program.
@@ -82,6 +135,11 @@ PaceLaw = (p : Program) (w : World) (s : State) → Linked p → IsPriced p s �
 -- A step writes no static but that of a putstatic at the top, and each other stays as it was.
 abbrev pub StaticsLaw : Type 0
 StaticsLaw = (p : Program) (w : World) (s : State) → Linked p → Writes (PutsHere p s) (touch p s w) × ((f : ℕ) → (PutsHere p s f → ⊥) → IsSameStatic (run (step p s) w).world w f)
+
+-- A step touches no static but that of a getstatic or putstatic at the top, and no state but of the class that it uses, of parts
+-- of the class at the top, and of that class.
+abbrev pub TouchesLaw : Type 0
+TouchesLaw = (p : Program) (w : World) (s : State) → Linked p → Meets (λ f. GetsHere p s f ⊎ PutsHere p s f) (StateHere p s) (touch p s w)
 
 -- The run of a test, whose units are a 64-bit number, touches at most four locations for each of them.
 abbrev pub TestPaceLaw : Type 0

@@ -2,7 +2,7 @@
 //! a typed state or the end of the test over a typed world.
 #![tactic(auto)]
 
-ghost use Rattle.check_sound.specs.PaceLaw.{PaceLaw, StaticsLaw, TestPaceLaw, GivenPaceLaw, TestStaticsLaw};
+ghost use Rattle.check_sound.specs.PaceLaw.{PaceLaw, StaticsLaw, TouchesLaw, TestPaceLaw, GivenPaceLaw, TestStaticsLaw};
 ghost use Rattle.check_sound.specs.ReachLaw.{ReachedLaw, AloneLaw, RoomLaw, ReturnLaw, NativeLaw};
 ghost use Rattle.check_sound.specs.StepLaw.{StepLaw, HeadsLaw};
 ghost use Rattle.check_sound.specs.TestLaw.{TestLaw, OpeningLaw, LeftLaw, ListLaw};
@@ -33,11 +33,14 @@ pub fn reach_law()
 
 /// What a step touches and writes, in any state of a linked program. It touches at most four locations for each unit of
 /// its cost, where this isn't cut: a multianewarray (JVMS 6.5) whose arrays cost more than a 64-bit number with the 1 of
-/// the step is set apart. And it writes a static only by a putstatic of it. A whole test whose units are a 64-bit number
-/// touches at most four locations for each, and writes only the statics that some code of the program puts.
+/// the step is set apart. It writes a static only by a putstatic of it; and it touches a static only by a getstatic or a
+/// putstatic of it, and the state of a class only where it uses the class or has an initialisation entry at the top (JVMS
+/// 5.5). A whole test whose units are a 64-bit number touches at most four locations for each, and writes only the
+/// statics that some code of the program puts.
 pub fn pace_law()
     ensures paced { PaceLaw }
     ensures statics { StaticsLaw }
+    ensures touched { TouchesLaw }
     ensures whole { TestPaceLaw }
     ensures given { GivenPaceLaw }
     ensures put { TestStaticsLaw }

@@ -1,5 +1,5 @@
 use Rattle.check_sound.specs.PaceLaw.{PutsHere}
-use Rattle.check_sound.proofs.PacedStep.{paced, statics_of}
+use Rattle.check_sound.proofs.PacedStep.{paced, statics_of, touched}
 use Rattle.check_sound.proofs.PacedTest.{test_paced, given_paced, test_statics}
 use Rattle.check_sound.proofs.pace_law.Goals as goal
 
@@ -8,6 +8,9 @@ returns-clause-paced c = λ p w s lk h. paced p lk s w h
 
 pub returns-clause-statics : goal.returns-clause-statics
 returns-clause-statics c = λ p w s lk. statics_of p lk s w (PutsHere p s) (λ f h. h)
+
+pub returns-clause-touched : goal.returns-clause-touched
+returns-clause-touched c = λ p w s lk. touched p lk s w
 
 pub returns-clause-whole : goal.returns-clause-whole
 returns-clause-whole c = λ p t b w lk h. test_paced p lk t b w h
