@@ -103,7 +103,7 @@ module _ (tw : Twins) where
   on_long-paired (literals e) f = both_done no_rows
   on_long-paired (objects x) f = both_done no_rows
 
-  null_throws : n.class null_pointer_exception null_pointer_exception ≡ true
+  pub null_throws : n.class null_pointer_exception null_pointer_exception ≡ true
   null_throws = mt.builtin null_pointer_exception (omega arith)
 
   pub on_object-paired : {S : Type 0} {Q G : S → S → Type 0} {v w : Value} {k l : ℕ → Access (Answer S)} (s t : S) → Q s t → V v w → ((a b : ℕ) → P a b → Answers Q G (k a) (l b)) →
@@ -121,7 +121,7 @@ module _ (tw : Twins) where
   on_reference-paired s t r (literals e) f = f
   on_reference-paired s t r (objects x) f = f
 
-  constant_kind-paired : (a b : ℕ) → n.literal a b ≡ true → PairedKind (Tested n.class) (constant_kind a) (constant_kind b)
+  pub constant_kind-paired : (a b : ℕ) → n.literal a b ≡ true → PairedKind (Tested n.class) (constant_kind a) (constant_kind b)
   constant_kind-paired a b e = class_kinds (pick-class n p q mt _ _ (test-paired mt.one_literal a b 0 0 e mt.stream) (mt.builtin stream_class (omega arith)) (mt.builtin string_class (omega arith)))
 
   pub with_kind-paired : {S : Type 0} {Q G : S → S → Type 0} {v w : Value} {k l : Kind → Access (Answer S)} → V v w → ((x y : Kind) → PairedKind (Tested n.class) x y → Answers Q G (k x) (l y)) →
@@ -141,14 +141,14 @@ module _ (tw : Twins) where
   on_text-paired {Q = Q} {G = G} {k = k} {l = l} s t r (objects x) f = both_read (texts x) (λ c d e. subst (λ (y : List ℕ). Answers Q G (k c) (l y)) e (f c))
 
   -- use of a class
-  begun_at-paired : (c d : ℕ) {s t : Entries} (x : InitState) → n.class c d ≡ true → PairedEntries n P s t → Paired (with_places n P) (PairedUsed n P) (begun_at c s x) (begun_at d t x)
+  pub begun_at-paired : (c d : ℕ) {s t : Entries} (x : InitState) → n.class c d ≡ true → PairedEntries n P s t → Paired (with_places n P) (PairedUsed n P) (begun_at c s x) (begun_at d t x)
   begun_at-paired c d {s} {t} Idle e r = choose-paired _ _ (full-paired n P r) (both_done (both_refused (mt.builtin stack_overflow_error (omega arith))))
       (both_write (inits e) refl (both_done (both_begun (entry-paired n P (class_entry-paired n P c d e) r))))
   begun_at-paired c d Running e r = both_done both_ready
   begun_at-paired c d Done e r = both_done both_ready
   begun_at-paired c d Erroneous e r = both_done (both_refused (mt.builtin no_class_error (omega arith)))
 
-  once-paired : {s t : Entries} {k l : Access (Answer Entries)} → PairedEntries n P s t → Rows k l → {x y : Used} → PairedUsed n P x y → Rows (once s k x) (once t l y)
+  pub once-paired : {s t : Entries} {k l : Access (Answer Entries)} → PairedEntries n P s t → Rows k l → {x y : Used} → PairedUsed n P x y → Rows (once s k x) (once t l y)
   once-paired r f both_ready = f
   once-paired r f (both_begun e) = both_done (answered go e)
   once-paired r f (both_refused e) = both_done (answered (fault e) r)

@@ -38,46 +38,46 @@ module _ (tw : Twins) where
   abbrev Vs : List Value → List Value → Type 0
   Vs = PairedList (PairedValue (with_places tw.numbers tw.place))
 
-  answers-paired : {s t : Working} {vs ws : List Value} → W s t → Vs vs ws → Natives (answers tw.left s vs) (answers tw.right t ws)
+  pub answers-paired : {s t : Working} {vs ws : List Value} → W s t → Vs vs ws → Natives (answers tw.left s vs) (answers tw.right t ws)
   answers-paired w rs = let f = w.entries in both_done (answered go (record {
     entries = place-paired tw.numbers tw.place (stack-paired tw.numbers tw.place f rs) (next_place-paired tw.numbers tw.left tw.right tw.matched _ _ _ _ f.method f.entries.top.pc);
     own = w.own;
   }))
 
-  with-operands : {s t : Working} {vs ws : List Value} → W s t → Vs vs ws → W (with_operands s vs) (with_operands t ws)
+  pub with-operands : {s t : Working} {vs ws : List Value} → W s t → Vs vs ws → W (with_operands s vs) (with_operands t ws)
   with-operands w rs = record { entries = stack-paired tw.numbers tw.place w.entries rs; own = w.own }
 
-  read_text-paired : {a b : ℕ} {k l : List ℕ → Access (Answer Working)} → tw.place a b → ((x : List ℕ) → Natives (k x) (l x)) → Natives (read (place.Text a) k) (read (place.Text b) l)
+  pub read_text-paired : {a b : ℕ} {k l : List ℕ → Access (Answer Working)} → tw.place a b → ((x : List ℕ) → Natives (k x) (l x)) → Natives (read (place.Text a) k) (read (place.Text b) l)
   read_text-paired {k = k} {l = l} x f = both_read (texts x) (λ c d e. subst (λ (z : List ℕ). Natives (k c) (l z)) e (f c))
 
-  read_file-paired : (name : List ℕ) {k l : Option (List ℕ) → Access (Answer Working)} → ((x : Option (List ℕ)) → Natives (k x) (l x)) → Natives (read (place.File name) k) (read (place.File name) l)
+  pub read_file-paired : (name : List ℕ) {k l : Option (List ℕ) → Access (Answer Working)} → ((x : Option (List ℕ)) → Natives (k x) (l x)) → Natives (read (place.File name) k) (read (place.File name) l)
   read_file-paired name {k} {l} f = both_read (files name) (λ c d e. subst (λ (z : Option (List ℕ)). Natives (k c) (l z)) e (f c))
 
-  read_prop-paired : (name : List ℕ) {k l : Option (List ℕ) → Access (Answer Working)} → ((x : Option (List ℕ)) → Natives (k x) (l x)) → Natives (read (place.Prop name) k) (read (place.Prop name) l)
+  pub read_prop-paired : (name : List ℕ) {k l : Option (List ℕ) → Access (Answer Working)} → ((x : Option (List ℕ)) → Natives (k x) (l x)) → Natives (read (place.Prop name) k) (read (place.Prop name) l)
   read_prop-paired name {k} {l} f = both_read (props name) (λ c d e. subst (λ (z : Option (List ℕ)). Natives (k c) (l z)) e (f c))
 
-  makes_text-paired : (t : List ℕ) {k l : ℕ → Access (Answer Working)} → ((a b : ℕ) → tw.place a b → Natives (k a) (l b)) → Natives (makes_text tw.left t k) (makes_text tw.right t l)
+  pub makes_text-paired : (t : List ℕ) {k l : ℕ → Access (Answer Working)} → ((a b : ℕ) → tw.place a b → Natives (k a) (l b)) → Natives (makes_text tw.left t k) (makes_text tw.right t l)
   makes_text-paired t f = both_make (blank-paired tw.numbers tw.left tw.right tw.matched tw.place (instance-paired tw.numbers tw.left tw.right tw.matched string_class string_class (tw.matched.builtin string_class (omega arith))))
       (λ a b x. both_write (texts x) refl (f a b x))
 
-  answers_text-paired : {s t : Working} {vs ws : List Value} (i : ℕ) (x : List ℕ) → W s t → Vs vs ws → Natives (answers_text tw.left s vs i x) (answers_text tw.right t ws i x)
+  pub answers_text-paired : {s t : Working} {vs ws : List Value} (i : ℕ) (x : List ℕ) → W s t → Vs vs ws → Natives (answers_text tw.left s vs i x) (answers_text tw.right t ws i x)
   answers_text-paired i x w rs = both_spend (i + (1 + length x)) (makes_text-paired x (λ a b e. answers-paired w (one_more (objects e) rs)))
 
-  answers_found-paired : {s t : Working} {vs ws : List Value} (i : ℕ) (x : Option (List ℕ)) → W s t → Vs vs ws → Natives (answers_found tw.left s vs i x) (answers_found tw.right t ws i x)
+  pub answers_found-paired : {s t : Working} {vs ws : List Value} (i : ℕ) (x : Option (List ℕ)) → W s t → Vs vs ws → Natives (answers_found tw.left s vs i x) (answers_found tw.right t ws i x)
   answers_found-paired i None w rs = both_spend i (answers-paired w (one_more nulls rs))
   answers_found-paired i (Some x) w rs = answers_text-paired i x w rs
 
-  prints-paired : {s t : Working} {vs ws : List Value} (x : List ℕ) → W s t → Vs vs ws → Natives (prints tw.left s vs x) (prints tw.right t ws x)
+  pub prints-paired : {s t : Working} {vs ws : List Value} (x : List ℕ) → W s t → Vs vs ws → Natives (prints tw.left s vs x) (prints tw.right t ws x)
   prints-paired x w rs = both_spend (length x) (answers-paired (record { entries = w.entries; own = ap (λ (o : Own). record o { output = o.output ++ x }) w.own }) rs)
 
-  throws_at : {c : ℕ} {s t : Working} → tw.numbers.class c c ≡ true → W s t → Natives (faults c s) (faults c t)
+  pub throws_at : {c : ℕ} {s t : Working} → tw.numbers.class c c ≡ true → W s t → Natives (faults c s) (faults c t)
   throws_at e w = faults-paired tw e w
 
-  is_string : (c d : ℕ) → tw.numbers.class c d ≡ true → nat_eq c string_class ≡ nat_eq d string_class
+  pub is_string : (c d : ℕ) → tw.numbers.class c d ≡ true → nat_eq c string_class ≡ nat_eq d string_class
   is_string c d e = test-paired tw.matched.one_class c d string_class string_class e (tw.matched.builtin string_class (omega arith))
 
   -- Object
-  object-native : (x : Native) {s t : Working} → W s t → Natives (native_object tw.left x s) (native_object tw.right x t)
+  pub object-native : (x : Native) {s t : Working} → W s t → Natives (native_object tw.left x s) (native_object tw.right x t)
   unfolding native_object
   object-native native.ObjectInit w = popping-paired tw w.entries.entries.top.stack (λ a b vs ws r rs. answers-paired w rs)
   object-native native.ObjectEquals w = popping-paired tw w.entries.entries.top.stack (λ a b vs ws r rs. popping-paired tw rs (λ c d us xs k ks. answers-paired w (one_more (truth-paired tw (same_reference-paired tw k r)) ks)))
@@ -85,23 +85,23 @@ module _ (tw : Twins) where
   object-native _ w = no_row-paired tw
 
   -- throwables
-  sets_message-paired : {s t : Working} {vs ws : List Value} {a b : ℕ} {v u : Value} → W s t → Vs vs ws → tw.place a b → V tw v u → Natives (sets_message tw.left s vs a v) (sets_message tw.right t ws b u)
+  pub sets_message-paired : {s t : Working} {vs ws : List Value} {a b : ℕ} {v u : Value} → W s t → Vs vs ws → tw.place a b → V tw v u → Natives (sets_message tw.left s vs a v) (sets_message tw.right t ws b u)
   sets_message-paired w rs x r = both_write (at_field x tw.matched.message) r (answers-paired w rs)
 
-  makes_message-paired : {s t : Working} {vs ws : List Value} {v u : Value} (x : List ℕ) → W s t → Vs vs ws → V tw v u → Natives (makes_message tw.left s vs v x) (makes_message tw.right t ws u x)
+  pub makes_message-paired : {s t : Working} {vs ws : List Value} {v u : Value} (x : List ℕ) → W s t → Vs vs ws → V tw v u → Natives (makes_message tw.left s vs v x) (makes_message tw.right t ws u x)
   makes_message-paired x w rs r = on_object-paired tw _ _ (with-operands w rs) r (λ a b e. both_spend (1 + length x) (makes_text-paired x (λ c d g. sets_message-paired w rs e (objects g))))
 
-  keeps_string-paired : {s t : Working} {vs ws : List Value} {v u x y : Value} (c d : ℕ) → W s t → Vs vs ws → V tw v u → V tw x y → tw.numbers.class c d ≡ true → Natives (keeps_string tw.left s vs v x c) (keeps_string tw.right t ws u y d)
+  pub keeps_string-paired : {s t : Working} {vs ws : List Value} {v u x y : Value} (c d : ℕ) → W s t → Vs vs ws → V tw v u → V tw x y → tw.numbers.class c d ≡ true → Natives (keeps_string tw.left s vs v x c) (keeps_string tw.right t ws u y d)
   keeps_string-paired c d w rs r k e = choose-paired tw _ _ (is_string c d e) (on_object-paired tw _ _ (with-operands w rs) r (λ a b g. sets_message-paired w rs g k)) (answers-paired w rs)
 
-  keeps_object-paired : {s t : Working} {vs ws : List Value} {v u x y : Value} → W s t → Vs vs ws → V tw v u → V tw x y → Natives (keeps_object tw.left s vs v x) (keeps_object tw.right t ws u y)
+  pub keeps_object-paired : {s t : Working} {vs ws : List Value} {v u x y : Value} → W s t → Vs vs ws → V tw v u → V tw x y → Natives (keeps_object tw.left s vs v x) (keeps_object tw.right t ws u y)
   keeps_object-paired w rs r (ints i) = no_row-paired tw
   keeps_object-paired w rs r (longs i) = no_row-paired tw
   keeps_object-paired w rs r nulls = makes_message-paired (codes "null") w rs r
   keeps_object-paired w rs r (literals e) = with_kind-paired tw (literals e) (λ x y h. keeps_string-paired _ _ w rs r (literals e) (class_of-paired tw.numbers tw.left tw.right tw.matched h))
   keeps_object-paired w rs r (objects e) = with_kind-paired tw (objects e) (λ x y h. keeps_string-paired _ _ w rs r (objects e) (class_of-paired tw.numbers tw.left tw.right tw.matched h))
 
-  throwable-native : (x : Native) {s t : Working} → W s t → Natives (native_throwable tw.left x s) (native_throwable tw.right x t)
+  pub throwable-native : (x : Native) {s t : Working} → W s t → Natives (native_throwable tw.left x s) (native_throwable tw.right x t)
   unfolding native_throwable
   throwable-native native.ThrowableInit w = popping-paired tw w.entries.entries.top.stack (λ a b vs ws r rs. answers-paired w rs)
   throwable-native native.ThrowableInitString w = popping-paired tw w.entries.entries.top.stack (λ a b vs ws r rs. popping-paired tw rs (λ c d us xs k ks. on_object-paired tw _ _ (with-operands w ks) k (λ x y e. sets_message-paired w ks e r)))
@@ -114,31 +114,31 @@ module _ (tw : Twins) where
   throwable-native _ w = no_row-paired tw
 
   -- String
-  text_index-paired : {s t : Working} (i : ℤ) (size : ℕ) {k l : ℕ → Access (Answer Working)} → W s t → ((j : ℕ) → Natives (k j) (l j)) → Natives (text_index s i size k) (text_index t i size l)
+  pub text_index-paired : {s t : Working} (i : ℤ) (size : ℕ) {k l : ℕ → Access (Answer Working)} → W s t → ((j : ℕ) → Natives (k j) (l j)) → Natives (text_index s i size k) (text_index t i size l)
   text_index-paired (pos i) size w f = choose-paired tw (nat_lt i size) (nat_lt i size) refl (f i) (throws_at (tw.matched.builtin string_index_exception (omega arith)) w)
   text_index-paired (negsuc i) size w f = throws_at (tw.matched.builtin string_index_exception (omega arith)) w
 
-  part-native : {s t : Working} {vs ws : List Value} (x : List ℕ) (i j : ℤ) → W s t → Vs vs ws → Natives (answers_part tw.left s vs x i j) (answers_part tw.right t ws x i j)
+  pub part-native : {s t : Working} {vs ws : List Value} (x : List ℕ) (i j : ℤ) → W s t → Vs vs ws → Natives (answers_part tw.left s vs x i j) (answers_part tw.right t ws x i j)
   part-native x (pos i) (pos j) w rs = choose-paired tw _ _ refl (answers_text-paired 0 (take (j - i) (drop i x)) w rs) (throws_at (tw.matched.builtin string_index_exception (omega arith)) (with-operands w rs))
   part-native x _ _ w rs = throws_at (tw.matched.builtin string_index_exception (omega arith)) (with-operands w rs)
 
-  compares-paired : {s t : Working} {vs ws : List Value} {v u x y : Value} (c d : ℕ) → W s t → Vs vs ws → V tw v u → V tw x y → tw.numbers.class c d ≡ true → Natives (compares tw.left s vs v x c) (compares tw.right t ws u y d)
+  pub compares-paired : {s t : Working} {vs ws : List Value} {v u x y : Value} (c d : ℕ) → W s t → Vs vs ws → V tw v u → V tw x y → tw.numbers.class c d ≡ true → Natives (compares tw.left s vs v x c) (compares tw.right t ws u y d)
   compares-paired c d w rs r k e = choose-paired tw _ _ (is_string c d e)
       (on_text-paired tw _ _ w r (λ x. on_text-paired tw _ _ w k (λ y. both_spend (length x) (answers-paired w (one_more (truth-paired tw refl) rs)))))
       (answers-paired w (one_more (truth-paired tw {b = false} refl) rs))
 
-  equals-paired : {s t : Working} {vs ws : List Value} {v u x y : Value} → W s t → Vs vs ws → V tw v u → V tw x y → Natives (string_equals tw.left s vs v x) (string_equals tw.right t ws u y)
+  pub equals-paired : {s t : Working} {vs ws : List Value} {v u x y : Value} → W s t → Vs vs ws → V tw v u → V tw x y → Natives (string_equals tw.left s vs v x) (string_equals tw.right t ws u y)
   equals-paired w rs r (ints i) = no_row-paired tw
   equals-paired w rs r (longs i) = no_row-paired tw
   equals-paired w rs r nulls = answers-paired w (one_more (truth-paired tw {b = false} refl) rs)
   equals-paired w rs r (literals e) = with_kind-paired tw (literals e) (λ x y h. compares-paired _ _ w rs r (literals e) (class_of-paired tw.numbers tw.left tw.right tw.matched h))
   equals-paired w rs r (objects e) = with_kind-paired tw (objects e) (λ x y h. compares-paired _ _ w rs r (objects e) (class_of-paired tw.numbers tw.left tw.right tw.matched h))
 
-  joined-paired : {s t : Working} {vs ws : List Value} {v u : Value} (x y : List ℕ) → W s t → Vs vs ws → V tw v u → Natives (joined tw.left s vs v x y) (joined tw.right t ws u x y)
+  pub joined-paired : {s t : Working} {vs ws : List Value} {v u : Value} (x y : List ℕ) → W s t → Vs vs ws → V tw v u → Natives (joined tw.left s vs v x y) (joined tw.right t ws u x y)
   joined-paired x [] w rs r = answers-paired w (one_more r rs)
   joined-paired x (y ∷ ys) w rs r = answers_text-paired 0 (x ++ (y ∷ ys)) w rs
 
-  string-native : (x : Native) {s t : Working} → W s t → Natives (native_string tw.left x s) (native_string tw.right x t)
+  pub string-native : (x : Native) {s t : Working} → W s t → Natives (native_string tw.left x s) (native_string tw.right x t)
   unfolding native_string
   string-native native.StringLength w = popping-paired tw w.entries.entries.top.stack (λ a b vs ws r rs. on_text-paired tw _ _ (with-operands w rs) r (λ x. answers-paired w (one_more (ints _) rs)))
   string-native native.StringIsEmpty w = popping-paired tw w.entries.entries.top.stack (λ a b vs ws r rs. on_text-paired tw _ _ (with-operands w rs) r (λ x. answers-paired w (one_more (ints _) rs)))
@@ -157,17 +157,17 @@ module _ (tw : Twins) where
   string-native _ w = no_row-paired tw
 
   -- StringBuilder
-  appends-paired : {s t : Working} {vs ws : List Value} {v u : Value} (x : List ℕ) → W s t → Vs vs ws → V tw v u → Natives (appends tw.left s vs v x) (appends tw.right t ws u x)
+  pub appends-paired : {s t : Working} {vs ws : List Value} {v u : Value} (x : List ℕ) → W s t → Vs vs ws → V tw v u → Natives (appends tw.left s vs v x) (appends tw.right t ws u x)
   appends-paired x w rs r = on_object-paired tw _ _ (with-operands w rs) r (λ a b e. both_read (texts e) (λ c d g. both_spend (length x) (both_write (texts e) (ap (λ (z : List ℕ). z ++ x) g) (answers-paired w (one_more r rs)))))
 
-  appends_string-paired : {s t : Working} {vs ws : List Value} {v u x y : Value} → W s t → Vs vs ws → V tw v u → V tw x y → Natives (appends_string tw.left s vs v x) (appends_string tw.right t ws u y)
+  pub appends_string-paired : {s t : Working} {vs ws : List Value} {v u x y : Value} → W s t → Vs vs ws → V tw v u → V tw x y → Natives (appends_string tw.left s vs v x) (appends_string tw.right t ws u y)
   appends_string-paired w rs r (ints i) = no_row-paired tw
   appends_string-paired w rs r (longs i) = no_row-paired tw
   appends_string-paired w rs r nulls = appends-paired (codes "null") w rs r
   appends_string-paired w rs r (literals e) = on_text-paired tw _ _ w (literals e) (λ x. appends-paired x w rs r)
   appends_string-paired w rs r (objects e) = on_text-paired tw _ _ w (objects e) (λ x. appends-paired x w rs r)
 
-  builder-native : (x : Native) {s t : Working} → W s t → Natives (native_builder tw.left x s) (native_builder tw.right x t)
+  pub builder-native : (x : Native) {s t : Working} → W s t → Natives (native_builder tw.left x s) (native_builder tw.right x t)
   unfolding native_builder
   builder-native native.BuilderInit w = popping-paired tw w.entries.entries.top.stack (λ a b vs ws r rs. on_object-paired tw _ _ (with-operands w rs) r (λ x y e. both_write (texts e) refl (answers-paired w rs)))
   builder-native native.BuilderInitString w = popping-paired tw w.entries.entries.top.stack (λ a b vs ws r rs. popping-paired tw rs (λ c d us xs k ks. on_text-paired tw _ _ (with-operands w ks) r (λ x. on_object-paired tw _ _ (with-operands w ks) k (λ o o' e. both_spend (length x) (both_write (texts e) refl (answers-paired w ks))))))
@@ -181,24 +181,24 @@ module _ (tw : Twins) where
   builder-native _ w = no_row-paired tw
 
   -- System, files and the rest outside
-  one_text-paired : {s t : Working} {k l : List ℕ → List Value → Access (Answer Working)} → W s t → ((x : List ℕ) (vs ws : List Value) → Vs vs ws → Natives (k x vs) (l x ws)) → Natives (one_text tw.left s k) (one_text tw.right t l)
+  pub one_text-paired : {s t : Working} {k l : List ℕ → List Value → Access (Answer Working)} → W s t → ((x : List ℕ) (vs ws : List Value) → Vs vs ws → Natives (k x vs) (l x ws)) → Natives (one_text tw.left s k) (one_text tw.right t l)
   one_text-paired w f = popping-paired tw w.entries.entries.top.stack (λ a b vs ws r rs. on_text-paired tw _ _ (with-operands w rs) r (λ x. f x vs ws rs))
 
-  two_texts-paired : {s t : Working} {k l : List ℕ → List ℕ → List Value → Access (Answer Working)} → W s t → ((x y : List ℕ) (vs ws : List Value) → Vs vs ws → Natives (k x y vs) (l x y ws)) → Natives (two_texts tw.left s k) (two_texts tw.right t l)
+  pub two_texts-paired : {s t : Working} {k l : List ℕ → List ℕ → List Value → Access (Answer Working)} → W s t → ((x y : List ℕ) (vs ws : List Value) → Vs vs ws → Natives (k x y vs) (l x y ws)) → Natives (two_texts tw.left s k) (two_texts tw.right t l)
   two_texts-paired w f = popping-paired tw w.entries.entries.top.stack (λ a b vs ws r rs. popping-paired tw rs (λ c d us xs k ks. on_reference-paired tw _ _ (with-operands w ks) r
       (on_text-paired tw _ _ (with-operands w ks) k (λ x. on_text-paired tw _ _ (with-operands w ks) r (λ y. f x y us xs ks)))))
 
-  clock-paired : {s t : Working} → W s t → V tw (Long s.own.clock) (Long t.own.clock)
+  pub clock-paired : {s t : Working} → W s t → V tw (Long s.own.clock) (Long t.own.clock)
   clock-paired {s} {t} w = subst (λ (z : Own). V tw (Long s.own.clock) (Long z.clock)) w.own (longs s.own.clock)
 
-  random-paired : {s t : Working} → W s t → V tw (upper_int (stepped s.own.random)) (upper_int (stepped t.own.random))
+  pub random-paired : {s t : Working} → W s t → V tw (upper_int (stepped s.own.random)) (upper_int (stepped t.own.random))
   random-paired {s} {t} w = subst (λ (z : Own). V tw (upper_int (stepped s.own.random)) (upper_int (stepped z.random))) w.own (ints _)
 
-  changes-paired : {s t : Working} {vs ws : List Value} (name : List ℕ) (i : ℕ) (x y : Option (List ℕ)) → W s t → Vs vs ws → Natives (changes_property tw.left s vs name i x y) (changes_property tw.right t ws name i x y)
+  pub changes-paired : {s t : Working} {vs ws : List Value} (name : List ℕ) (i : ℕ) (x y : Option (List ℕ)) → W s t → Vs vs ws → Natives (changes_property tw.left s vs name i x y) (changes_property tw.right t ws name i x y)
   changes-paired name i x None w rs = both_spend (length name + i) (both_write (props name) refl (answers-paired w (one_more nulls rs)))
   changes-paired name i x (Some y) w rs = both_spend (length name + (i + (1 + length y))) (both_write (props name) refl (makes_text-paired y (λ a b e. answers-paired w (one_more (objects e) rs))))
 
-  system-native : (x : Native) {s t : Working} → W s t → Natives (native_system tw.left x s) (native_system tw.right x t)
+  pub system-native : (x : Native) {s t : Working} → W s t → Natives (native_system tw.left x s) (native_system tw.right x t)
   unfolding native_system
   system-native native.SystemClock w = answers-paired (record { entries = w.entries; own = ap (λ (o : Own). record o { clock = add64 o.clock (pos 1) }) w.own }) (one_more (clock-paired w) w.entries.entries.top.stack)
   system-native native.SystemGetProperty w = one_text-paired w (λ name vs ws rs. read_prop-paired name (λ c. answers_found-paired (length name) c w rs))
@@ -206,17 +206,17 @@ module _ (tw : Twins) where
   system-native native.SystemClearProperty w = one_text-paired w (λ name vs ws rs. read_prop-paired name (λ c. changes-paired name 0 None c w rs))
   system-native _ w = no_row-paired tw
 
-  prints_string-paired : {s t : Working} {vs ws : List Value} {v u : Value} (end : List ℕ) → W s t → Vs vs ws → V tw v u → Natives (prints_string tw.left s vs end v) (prints_string tw.right t ws end u)
+  pub prints_string-paired : {s t : Working} {vs ws : List Value} {v u : Value} (end : List ℕ) → W s t → Vs vs ws → V tw v u → Natives (prints_string tw.left s vs end v) (prints_string tw.right t ws end u)
   prints_string-paired end w rs (ints i) = no_row-paired tw
   prints_string-paired end w rs (longs i) = no_row-paired tw
   prints_string-paired end w rs nulls = prints-paired (codes "null" ++ end) w rs
   prints_string-paired end w rs (literals e) = on_text-paired tw _ _ w (literals e) (λ x. prints-paired (utf8_of x ++ end) w rs)
   prints_string-paired end w rs (objects e) = on_text-paired tw _ _ w (objects e) (λ x. prints-paired (utf8_of x ++ end) w rs)
 
-  on_printed-paired : {s t : Working} {k l : Value → List Value → Access (Answer Working)} → W s t → ((v u : Value) (vs ws : List Value) → V tw v u → Vs vs ws → Natives (k v vs) (l u ws)) → Natives (on_printed s k) (on_printed t l)
+  pub on_printed-paired : {s t : Working} {k l : Value → List Value → Access (Answer Working)} → W s t → ((v u : Value) (vs ws : List Value) → V tw v u → Vs vs ws → Natives (k v vs) (l u ws)) → Natives (on_printed s k) (on_printed t l)
   on_printed-paired w f = popping-paired tw w.entries.entries.top.stack (λ a b vs ws r rs. popping-paired tw rs (λ c d us xs k ks. f a b us xs r ks))
 
-  print-native : (x : Native) {s t : Working} → W s t → Natives (native_print tw.left x s) (native_print tw.right x t)
+  pub print-native : (x : Native) {s t : Working} → W s t → Natives (native_print tw.left x s) (native_print tw.right x t)
   unfolding native_print
   print-native native.PrintString w = on_printed-paired w (λ v u vs ws r rs. prints_string-paired [] w rs r)
   print-native native.PrintInt w = on_printed-paired w (λ v u vs ws r rs. on_int-paired tw r (λ i. prints-paired (signed_decimal i) w rs))
@@ -231,7 +231,7 @@ module _ (tw : Twins) where
   print-native native.Println w = popping-paired tw w.entries.entries.top.stack (λ a b vs ws r rs. prints-paired line_feed w rs)
   print-native _ w = no_row-paired tw
 
-  files-native : (x : Native) {s t : Working} → W s t → Natives (native_files tw.left x s) (native_files tw.right x t)
+  pub files-native : (x : Native) {s t : Working} → W s t → Natives (native_files tw.left x s) (native_files tw.right x t)
   unfolding native_files
   files-native native.FilesRead w = one_text-paired w (λ name vs ws rs. read_file-paired name (λ c. answers_found-paired (length name) c w rs))
   files-native native.FilesWrite w = two_texts-paired w (λ name x vs ws rs. both_spend (length name + length x) (both_write (files name) refl (answers-paired w rs)))
@@ -240,13 +240,13 @@ module _ (tw : Twins) where
   files-native native.FilesExists w = one_text-paired w (λ name vs ws rs. read_file-paired name (λ c. both_spend (length name) (answers-paired w (one_more (ints _) rs))))
   files-native _ w = no_row-paired tw
 
-  env-native : (x : Native) {s t : Working} → W s t → Natives (native_env tw.left x s) (native_env tw.right x t)
+  pub env-native : (x : Native) {s t : Working} → W s t → Natives (native_env tw.left x s) (native_env tw.right x t)
   unfolding native_env
   env-native native.EnvPrint w = popping-paired tw w.entries.entries.top.stack (λ a b vs ws r rs. on_int-paired tw r (λ i. prints-paired (signed_decimal i ++ line_feed) w rs))
   env-native native.EnvRandom w = answers-paired (record { entries = w.entries; own = ap (λ (o : Own). record o { random = stepped o.random }) w.own }) (one_more (random-paired w) w.entries.entries.top.stack)
   env-native _ w = no_row-paired tw
 
-  by_group : (g : NativeGroup) (x : Native) {s t : Working} → W s t → Natives (native_of_group g tw.left x s) (native_of_group g tw.right x t)
+  pub by_group : (g : NativeGroup) (x : Native) {s t : Working} → W s t → Natives (native_of_group g tw.left x s) (native_of_group g tw.right x t)
   by_group of_object x w = object-native x w
   by_group of_string x w = string-native x w
   by_group of_builder x w = builder-native x w

@@ -76,42 +76,42 @@ module _ (tw : Twins) where
   new_object-paired c d e f = spend-paired tw (ap (λ (k : ℕ). 1 + k) (length-paired (Tested tw.numbers.fields) (layout-paired tw.numbers tw.left tw.right tw.matched c d e)))
       (both_make (blank-paired tw.numbers tw.left tw.right tw.matched tw.place (instance-paired tw.numbers tw.left tw.right tw.matched c d e)) (λ a b x. goes_on-paired tw f (one_more (objects x) f.entries.top.stack)))
 
-  bare-paired : (c d : ℕ) → tw.numbers.class c d ≡ true → is_bare tw.left c ≡ is_bare tw.right d
+  pub bare-paired : (c d : ℕ) → tw.numbers.class c d ≡ true → is_bare tw.left c ≡ is_bare tw.right d
   bare-paired c d e = either _ _ _ _ (ap is_abstract (tw.matched.classes c d e).flags) (interface-paired tw.numbers tw.left tw.right tw.matched c d e)
 
-  array-paired : {k l : Kind} (i : ℕ) → KindsOf k l → HeadsOf (array_head k i) (array_head l i)
+  pub array-paired : {k l : Kind} (i : ℕ) → KindsOf k l → HeadsOf (array_head k i) (array_head l i)
   array-paired i r = record { kind = r; length = refl }
 
-  new_array-paired : {k l : Kind} {s t : Entries} {vs ws : List Value} (i : ℤ) → KindsOf k l → Frames tw s t → PairedList (V tw) vs ws → Rows tw (new_array tw.left k s vs i) (new_array tw.right l t ws i)
+  pub new_array-paired : {k l : Kind} {s t : Entries} {vs ws : List Value} (i : ℤ) → KindsOf k l → Frames tw s t → PairedList (V tw) vs ws → Rows tw (new_array tw.left k s vs i) (new_array tw.right l t ws i)
   new_array-paired (pos i) r f rs = both_spend (1 + i) (both_make (blank-paired tw.numbers tw.left tw.right tw.matched tw.place (array-paired i r)) (λ a b x. goes_on-paired tw f (one_more (objects x) rs)))
   new_array-paired (negsuc i) r f rs = faults-paired tw (tw.matched.builtin negative_size_exception (omega arith)) (left_with f rs)
 
   abbrev Makes : Access ℕ → Access ℕ → Type 0
   Makes a b = Paired (with_places tw.numbers tw.place) tw.place a b
 
-  children-paired : (i j a b : ℕ) {x y : Access ℕ} → tw.place a b → Makes x y → Makes (children i j a x) (children i j b y)
+  pub children-paired : (i j a b : ℕ) {x y : Access ℕ} → tw.place a b → Makes x y → Makes (children i j a x) (children i j b y)
   unfolding children
   children-paired zero j a b r f = both_done r
   children-paired (suc i) j a b r f = bind-paired tw f (λ c d s. both_write (at_elem j r) (objects s) (children-paired i (j + 1) a b r f))
 
-  nest-paired : (i : ℕ) (ms : List ℕ) {k l : Kind} → KindsOf k l → Makes (nest tw.left k i ms) (nest tw.right l i ms)
+  pub nest-paired : (i : ℕ) (ms : List ℕ) {k l : Kind} → KindsOf k l → Makes (nest tw.left k i ms) (nest tw.right l i ms)
   unfolding nest
   nest-paired i [] r = both_make (blank-paired tw.numbers tw.left tw.right tw.matched tw.place (array-paired i r)) (λ a b x. both_done x)
   nest-paired i (m ∷ ms) r = both_make (blank-paired tw.numbers tw.left tw.right tw.matched tw.place (array-paired i r))
       (λ a b x. children-paired i 0 a b x (nest-paired m ms (element-paired tw.numbers tw.left tw.right tw.matched r)))
 
-  nested-paired : {k l : Kind} {s t : Entries} {vs ws : List Value} (ms : List ℕ) → KindsOf k l → Frames tw s t → PairedList (V tw) vs ws → Rows tw (nested tw.left k s vs ms) (nested tw.right l t ws ms)
+  pub nested-paired : {k l : Kind} {s t : Entries} {vs ws : List Value} (ms : List ℕ) → KindsOf k l → Frames tw s t → PairedList (V tw) vs ws → Rows tw (nested tw.left k s vs ms) (nested tw.right l t ws ms)
   nested-paired [] r f rs = no_row-paired tw
   nested-paired (m ∷ ms) r f rs = both_spend (nest_cost m ms) (bind-paired tw (nest-paired m ms r) (λ a b x. goes_on-paired tw f (one_more (objects x) rs)))
 
-  at_size : (k l : Kind) (s t : Entries) (us xs : List Value) (d : ℕ) (bad : Bool) (ms : List ℕ) (i : ℤ) →
+  pub at_size : (k l : Kind) (s t : Entries) (us xs : List Value) (d : ℕ) (bad : Bool) (ms : List ℕ) (i : ℤ) →
       ((b : Bool) (ns : List ℕ) → Rows tw (sized tw.left k s d us b ns) (sized tw.right l t d xs b ns)) → Rows tw
       (elim i [ pos m ↦ sized tw.left k s d us bad (m ∷ ms) | negsuc m ↦ sized tw.left k s d us true ms ])
       (elim i [ pos m ↦ sized tw.right l t d xs bad (m ∷ ms) | negsuc m ↦ sized tw.right l t d xs true ms ])
   at_size k l s t us xs d bad ms (pos m) f = f bad (m ∷ ms)
   at_size k l s t us xs d bad ms (negsuc m) f = f true ms
 
-  sized-paired : (d : ℕ) (bad : Bool) (ms : List ℕ) {k l : Kind} {s t : Entries} {vs ws : List Value} → KindsOf k l → Frames tw s t → PairedList (V tw) vs ws →
+  pub sized-paired : (d : ℕ) (bad : Bool) (ms : List ℕ) {k l : Kind} {s t : Entries} {vs ws : List Value} → KindsOf k l → Frames tw s t → PairedList (V tw) vs ws →
       Rows tw (sized tw.left k s d vs bad ms) (sized tw.right l t d ws bad ms)
   sized-paired zero bad ms r f rs = choose-paired tw bad bad refl (faults-paired tw (tw.matched.builtin negative_size_exception (omega arith)) (left_with f rs)) (nested-paired ms r f rs)
   sized-paired (suc d) bad ms {k} {l} {s} {t} r f rs = popping-paired tw rs (λ v w us xs u rest. on_int-paired tw u (λ i. at_size k l s t us xs d bad ms i (λ b ns. sized-paired d b ns r f rest)))
@@ -124,15 +124,15 @@ module _ (tw : Twins) where
   create-paired st _ f = no_row-paired tw
 
   -- arrays
-  on_array-paired : {k l : Kind} {a b : Access (Answer Entries)} → KindsOf k l → Rows tw a b → Rows tw (on_array k a) (on_array l b)
+  pub on_array-paired : {k l : Kind} {a b : Access (Answer Entries)} → KindsOf k l → Rows tw a b → Rows tw (on_array k a) (on_array l b)
   on_array-paired (class_kinds e) f = no_row-paired tw
   on_array-paired (array_kinds i e) f = f
 
-  in_range-paired : {s t : Entries} (i : ℤ) {a b : ℕ} {k l : ℕ → Access (Answer Entries)} → E tw s t → a ≡ b → ((j : ℕ) → Rows tw (k j) (l j)) → Rows tw (in_range s i a k) (in_range t i b l)
+  pub in_range-paired : {s t : Entries} (i : ℤ) {a b : ℕ} {k l : ℕ → Access (Answer Entries)} → E tw s t → a ≡ b → ((j : ℕ) → Rows tw (k j) (l j)) → Rows tw (in_range s i a k) (in_range t i b l)
   in_range-paired (pos i) r e f = choose-paired tw _ _ (ap (λ (z : ℕ). nat_lt i z) e) (f i) (faults-paired tw (tw.matched.builtin array_index_exception (omega arith)) r)
   in_range-paired (negsuc i) r e f = faults-paired tw (tw.matched.builtin array_index_exception (omega arith)) r
 
-  letter-paired : {k l : Kind} → KindsOf k l → element_letter k ≡ element_letter l
+  pub letter-paired : {k l : Kind} → KindsOf k l → element_letter k ≡ element_letter l
   letter-paired (class_kinds e) = refl
   letter-paired (array_kinds i booleans) = refl
   letter-paired (array_kinds i bytes) = refl
@@ -142,31 +142,31 @@ module _ (tw : Twins) where
   letter-paired (array_kinds i long_bases) = refl
   letter-paired (array_kinds i (class_bases e)) = refl
 
-  stores-paired : {k l x y : Kind} {s t : Entries} {a b : Access (Answer Entries)} → KindsOf k l → E tw s t → Rows tw a b → KindsOf x y →
+  pub stores-paired : {k l x y : Kind} {s t : Entries} {a b : Access (Answer Entries)} → KindsOf k l → E tw s t → Rows tw a b → KindsOf x y →
       Rows tw (cond (kind_fits tw.left x (element_kind k)) a (faults array_store_exception s)) (cond (kind_fits tw.right y (element_kind l)) b (faults array_store_exception t))
   stores-paired r e f g = choose-paired tw _ _ (fits-paired tw.numbers tw.left tw.right tw.matched g (element-paired tw.numbers tw.left tw.right tw.matched r)) f (faults-paired tw (tw.matched.builtin array_store_exception (omega arith)) e)
 
-  checked-paired : {k l : Kind} {s t : Entries} {v w : Value} {a b : Access (Answer Entries)} → KindsOf k l → E tw s t → V tw v w → Rows tw a b → Rows tw (checked tw.left k s v a) (checked tw.right l t w b)
+  pub checked-paired : {k l : Kind} {s t : Entries} {v w : Value} {a b : Access (Answer Entries)} → KindsOf k l → E tw s t → V tw v w → Rows tw a b → Rows tw (checked tw.left k s v a) (checked tw.right l t w b)
   checked-paired r e (ints i) f = no_row-paired tw
   checked-paired r e (longs i) f = no_row-paired tw
   checked-paired r e nulls f = f
   checked-paired r e (literals g) f = with_kind-paired tw (literals g) (λ x y h. stores-paired r e f h)
   checked-paired r e (objects g) f = with_kind-paired tw (objects g) (λ x y h. stores-paired r e f h)
 
-  narrow_at : {a b : ℕ} {v w : Value} → a ≡ b → V tw v w → V tw (narrow a v) (narrow b w)
+  pub narrow_at : {a b : ℕ} {v w : Value} → a ≡ b → V tw v w → V tw (narrow a v) (narrow b w)
   narrow_at {a} {b} {v} {w} e r = narrowed-paired tw (ap (λ (z : ℕ). z ∷ []) e) r
 
-  stored_in-paired : (c : Cell) {s t : Entries} {a b : ℕ} (i : ℤ) {v w : Value} {vs ws : List Value} {h k : Head} → Frames tw s t → tw.place a b → V tw v w → PairedList (V tw) vs ws → HeadsOf h k →
+  pub stored_in-paired : (c : Cell) {s t : Entries} {a b : ℕ} (i : ℤ) {v w : Value} {vs ws : List Value} {h k : Head} → Frames tw s t → tw.place a b → V tw v w → PairedList (V tw) vs ws → HeadsOf h k →
       Rows tw (stored_in tw.left c s a i v vs h) (stored_in tw.right c t b i w ws k)
   stored_in-paired c i f x r rs e = on_array-paired e.kind (in_range-paired i (left_with f rs) e.length (λ j. choose-paired tw (holds_references c) (holds_references c) refl
       (checked-paired e.kind (left_with f rs) r (both_write (at_elem j x) r (goes_on-paired tw f rs)))
       (both_write (at_elem j x) (narrow_at (letter-paired e.kind) r) (goes_on-paired tw f rs))))
 
-  loaded_from-paired : {s t : Entries} {a b : ℕ} (i : ℤ) {vs ws : List Value} {h k : Head} → Frames tw s t → tw.place a b → PairedList (V tw) vs ws → HeadsOf h k →
+  pub loaded_from-paired : {s t : Entries} {a b : ℕ} (i : ℤ) {vs ws : List Value} {h k : Head} → Frames tw s t → tw.place a b → PairedList (V tw) vs ws → HeadsOf h k →
       Rows tw (loaded_from tw.left s a i vs h) (loaded_from tw.right t b i ws k)
   loaded_from-paired i f x rs e = on_array-paired e.kind (in_range-paired i (left_with f rs) e.length (λ j. both_read (at_elem j x) (λ v w r. goes_on-paired tw f (one_more r rs))))
 
-  length_int : {a b : ℕ} → a ≡ b → V tw (Int (l2i (pos a))) (Int (l2i (pos b)))
+  pub length_int : {a b : ℕ} → a ≡ b → V tw (Int (l2i (pos a))) (Int (l2i (pos b)))
   length_int {a} {b} e = subst (λ (z : ℕ). V tw (Int (l2i (pos a))) (Int (l2i (pos z)))) e (ints (l2i (pos a)))
 
   pub arrays-paired : {i j : Instr} {s t : Entries} → PairedInstr tw.numbers i j → Frames tw s t → Rows tw (row_arrays tw.left i s) (row_arrays tw.right j t)
@@ -177,10 +177,10 @@ module _ (tw : Twins) where
   arrays-paired _ f = no_row-paired tw
 
   -- casts
-  cast_to-paired : {k l x y : Kind} {s t : Entries} {v w : Value} {vs ws : List Value} → KindsOf k l → Frames tw s t → V tw v w → PairedList (V tw) vs ws → KindsOf x y → Rows tw (cast_to tw.left k s v vs x) (cast_to tw.right l t w ws y)
+  pub cast_to-paired : {k l x y : Kind} {s t : Entries} {v w : Value} {vs ws : List Value} → KindsOf k l → Frames tw s t → V tw v w → PairedList (V tw) vs ws → KindsOf x y → Rows tw (cast_to tw.left k s v vs x) (cast_to tw.right l t w ws y)
   cast_to-paired e f r rs g = choose-paired tw _ _ (fits-paired tw.numbers tw.left tw.right tw.matched g e) (goes_on-paired tw f (one_more r rs)) (faults-paired tw (tw.matched.builtin class_cast_exception (omega arith)) (left_with f rs))
 
-  cast-paired : {k l : Kind} {s t : Entries} {v w : Value} {vs ws : List Value} → KindsOf k l → Frames tw s t → V tw v w → PairedList (V tw) vs ws → Rows tw (cast tw.left k s v vs) (cast tw.right l t w ws)
+  pub cast-paired : {k l : Kind} {s t : Entries} {v w : Value} {vs ws : List Value} → KindsOf k l → Frames tw s t → V tw v w → PairedList (V tw) vs ws → Rows tw (cast tw.left k s v vs) (cast tw.right l t w ws)
   cast-paired e f (ints i) rs = no_row-paired tw
   cast-paired e f (longs i) rs = no_row-paired tw
   cast-paired e f nulls rs = goes_on-paired tw f (one_more nulls rs)
@@ -190,10 +190,10 @@ module _ (tw : Twins) where
   pub truth-paired : {b c : Bool} → b ≡ c → V tw (Int (cond b (pos 1) (pos 0))) (Int (cond c (pos 1) (pos 0)))
   truth-paired {b} {c} e = subst (λ (z : Bool). V tw (Int (cond b (pos 1) (pos 0))) (Int (cond z (pos 1) (pos 0)))) e (ints (cond b (pos 1) (pos 0)))
 
-  tested_for-paired : {k l x y : Kind} {s t : Entries} {vs ws : List Value} → KindsOf k l → Frames tw s t → PairedList (V tw) vs ws → KindsOf x y → Rows tw (tested_for tw.left k s vs x) (tested_for tw.right l t ws y)
+  pub tested_for-paired : {k l x y : Kind} {s t : Entries} {vs ws : List Value} → KindsOf k l → Frames tw s t → PairedList (V tw) vs ws → KindsOf x y → Rows tw (tested_for tw.left k s vs x) (tested_for tw.right l t ws y)
   tested_for-paired e f rs g = goes_on-paired tw f (one_more (truth-paired (fits-paired tw.numbers tw.left tw.right tw.matched g e)) rs)
 
-  tested-paired : {k l : Kind} {s t : Entries} {v w : Value} {vs ws : List Value} → KindsOf k l → Frames tw s t → V tw v w → PairedList (V tw) vs ws → Rows tw (tested tw.left k s v vs) (tested tw.right l t w ws)
+  pub tested-paired : {k l : Kind} {s t : Entries} {v w : Value} {vs ws : List Value} → KindsOf k l → Frames tw s t → V tw v w → PairedList (V tw) vs ws → Rows tw (tested tw.left k s v vs) (tested tw.right l t w ws)
   tested-paired e f (ints i) rs = no_row-paired tw
   tested-paired e f (longs i) rs = no_row-paired tw
   tested-paired e f nulls rs = goes_on-paired tw f (one_more (ints (pos 0)) rs)
@@ -207,16 +207,16 @@ module _ (tw : Twins) where
   casts-paired _ f = no_row-paired tw
 
   -- calls
-  enters_body-paired : (a b k : ℕ) {x y : Option Body} {s t : Entries} → PairedOption (PairedBody tw.numbers) x y → tw.numbers.method a b ≡ true → Frames tw s t → Rows tw (enters_body x a k s) (enters_body y b k t)
+  pub enters_body-paired : (a b k : ℕ) {x y : Option Body} {s t : Entries} → PairedOption (PairedBody tw.numbers) x y → tw.numbers.method a b ≡ true → Frames tw s t → Rows tw (enters_body x a k s) (enters_body y b k t)
   enters_body-paired a b k both_none e f = faults-paired tw (tw.matched.builtin abstract_method_error (omega arith)) f.entries
   enters_body-paired a b k (both_some r) e f = choose-paired tw _ _ (full-paired tw.numbers tw.place f.entries) (faults-paired tw (tw.matched.builtin stack_overflow_error (omega arith)) f.entries)
       (spend-paired tw (cost-paired tw.numbers tw.place r) (both_done (entering e (called-paired tw.numbers tw.place k r e f))))
 
-  native_or_body : (x : Option Native) (a b k : ℕ) {y z : Option Body} {s t : Entries} → PairedOption (PairedBody tw.numbers) y z → tw.numbers.method a b ≡ true → Frames tw s t → Rows tw (enters_native x y a k s) (enters_native x z b k t)
+  pub native_or_body : (x : Option Native) (a b k : ℕ) {y z : Option Body} {s t : Entries} → PairedOption (PairedBody tw.numbers) y z → tw.numbers.method a b ≡ true → Frames tw s t → Rows tw (enters_native x y a k s) (enters_native x z b k t)
   native_or_body None a b k r e f = enters_body-paired a b k r e f
   native_or_body (Some x) a b k r e f = both_done (entering e f)
 
-  calls-paired : (a b k : ℕ) {s t : Entries} → tw.numbers.method a b ≡ true → Frames tw s t → Rows tw (calls tw.left a k s) (calls tw.right b k t)
+  pub calls-paired : (a b k : ℕ) {s t : Entries} → tw.numbers.method a b ≡ true → Frames tw s t → Rows tw (calls tw.left a k s) (calls tw.right b k t)
   unfolding calls
   calls-paired a b k {s} {t} e f = let m = tw.matched.methods a b e in
       choose-paired tw _ _ (ap (λ (z : ℕ). nat_le k z) (length-paired (V tw) f.entries.top.stack))
@@ -226,21 +226,21 @@ module _ (tw : Twins) where
   pub called-with : (a b i j : ℕ) {s t : Entries} → i ≡ j → tw.numbers.method a b ≡ true → Frames tw s t → Rows tw (calls tw.left a i s) (calls tw.right b j t)
   called-with a b i j {s} {t} g e f = subst (λ (z : ℕ). Rows tw (calls tw.left a i s) (calls tw.right b z t)) g (calls-paired a b i e f)
 
-  selected-paired : {x y : Selected} (i j : ℕ) {s t : Entries} → PairedSelected tw.numbers tw.left tw.right tw.matched x y → i ≡ j → Frames tw s t → Rows tw (calls_selected tw.left x i s) (calls_selected tw.right y j t)
+  pub selected-paired : {x y : Selected} (i j : ℕ) {s t : Entries} → PairedSelected tw.numbers tw.left tw.right tw.matched x y → i ≡ j → Frames tw s t → Rows tw (calls_selected tw.left x i s) (calls_selected tw.right y j t)
   selected-paired i j (both_chosen {a} {b} e) g f = called-with a b i j g e f
   selected-paired i j (both_failing e) g f = faults-paired tw e f.entries
 
-  count-paired : (a b : ℕ) → tw.numbers.method a b ≡ true → argument_count tw.left a ≡ argument_count tw.right b
+  pub count-paired : (a b : ℕ) → tw.numbers.method a b ≡ true → argument_count tw.left a ≡ argument_count tw.right b
   unfolding argument_count
   count-paired a b e = ap (λ (z : List ℕ). length (parameters z)) (tw.matched.methods a b e).descriptor
 
-  and_receiver : (a b : ℕ) → tw.numbers.method a b ≡ true → argument_count tw.left a + 1 ≡ argument_count tw.right b + 1
+  pub and_receiver : (a b : ℕ) → tw.numbers.method a b ≡ true → argument_count tw.left a + 1 ≡ argument_count tw.right b + 1
   and_receiver a b e = ap (λ (z : ℕ). z + 1) (count-paired a b e)
 
-  receiver-paired : (a b : ℕ) {s t : Entries} → tw.numbers.method a b ≡ true → Frames tw s t → PairedOption (V tw) (receiver tw.left a s) (receiver tw.right b t)
+  pub receiver-paired : (a b : ℕ) {s t : Entries} → tw.numbers.method a b ≡ true → Frames tw s t → PairedOption (V tw) (receiver tw.left a s) (receiver tw.right b t)
   receiver-paired a b {s} {t} e f = subst (λ (z : ℕ). PairedOption (V tw) (receiver tw.left a s) (slice_get t.top.stack z)) (count-paired a b e) (get-list (V tw) (argument_count tw.left a) f.entries.top.stack)
 
-  on_receiver-paired : {s t : Entries} {x y : Option Value} {k l : Value → Access (Answer Entries)} → Frames tw s t → PairedOption (V tw) x y → ((v w : Value) → V tw v w → Rows tw (k v) (l w)) → Rows tw (on_receiver s x k) (on_receiver t y l)
+  pub on_receiver-paired : {s t : Entries} {x y : Option Value} {k l : Value → Access (Answer Entries)} → Frames tw s t → PairedOption (V tw) x y → ((v w : Value) → V tw v w → Rows tw (k v) (l w)) → Rows tw (on_receiver s x k) (on_receiver t y l)
   on_receiver-paired f both_none g = no_row-paired tw
   on_receiver-paired f (both_some r) g = on_reference-paired tw _ _ f.entries r (g _ _ r)
 

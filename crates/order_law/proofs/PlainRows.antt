@@ -36,32 +36,32 @@ constant-paired n P (const_literal e) = literals e
 
 module _ (tw : Twins) where
   -- moves
-  loaded-paired : {s t : Entries} {x y : Option Value} → Frames tw s t → PairedOption (V tw) x y → Rows tw (loaded tw.left s x) (loaded tw.right t y)
+  pub loaded-paired : {s t : Entries} {x y : Option Value} → Frames tw s t → PairedOption (V tw) x y → Rows tw (loaded tw.left s x) (loaded tw.right t y)
   loaded-paired f both_none = no_row-paired tw
   loaded-paired f (both_some r) = goes_on-paired tw f (one_more r f.entries.top.stack)
 
-  local-paired : {s t : Entries} {v w : Value} (i : ℕ) → Frames tw s t → V tw v w → Frames tw (with_local s i v) (with_local t i w)
+  pub local-paired : {s t : Entries} {v w : Value} (i : ℕ) → Frames tw s t → V tw v w → Frames tw (with_local s i v) (with_local t i w)
   local-paired i f r = record {
     entries = record { top = record { kind = f.entries.top.kind; number = f.entries.top.number; pc = f.entries.top.pc; stack = f.entries.top.stack; locals = set-list (V tw) i r f.entries.top.locals }; below = f.entries.below };
     method = f.method;
   }
 
-  stored-paired : {s t : Entries} {v w : Value} {vs ws : List Value} (i : ℕ) → Frames tw s t → V tw v w → PairedList (V tw) vs ws → Rows tw (stored tw.left s i v vs) (stored tw.right t i w ws)
+  pub stored-paired : {s t : Entries} {v w : Value} {vs ws : List Value} (i : ℕ) → Frames tw s t → V tw v w → PairedList (V tw) vs ws → Rows tw (stored tw.left s i v vs) (stored tw.right t i w ws)
   stored-paired i f r rs = choose-paired tw _ _ (ap (λ (k : ℕ). nat_lt i k) (length-paired (V tw) f.entries.top.locals)) (goes_on-paired tw (local-paired i f r) rs) (no_row-paired tw)
 
-  long-paired : {v w : Value} → V tw v w → is_long v ≡ is_long w
+  pub long-paired : {v w : Value} → V tw v w → is_long v ≡ is_long w
   long-paired (ints i) = refl
   long-paired (longs i) = refl
   long-paired nulls = refl
   long-paired (literals e) = refl
   long-paired (objects x) = refl
 
-  under_long-paired : {s t : Entries} {a a' b b' : Value} {vs ws : List Value} → Frames tw s t → V tw a a' → V tw b b' → PairedList (V tw) vs ws →
+  pub under_long-paired : {s t : Entries} {a a' b b' : Value} {vs ws : List Value} → Frames tw s t → V tw a a' → V tw b b' → PairedList (V tw) vs ws →
       Rows tw (two_under_long tw.left s a b vs) (two_under_long tw.right t a' b' ws)
   under_long-paired f r r' rs = choose-paired tw _ _ (long-paired r') (goes_on-paired tw f (one_more r (one_more r' (one_more r rs))))
       (popping-paired tw rs (λ c c' us xs k ks. goes_on-paired tw f (one_more r (one_more r' (one_more k (one_more r ks))))))
 
-  under_two-paired : {s t : Entries} {a a' b b' : Value} {vs ws : List Value} → Frames tw s t → V tw a a' → V tw b b' → PairedList (V tw) vs ws →
+  pub under_two-paired : {s t : Entries} {a a' b b' : Value} {vs ws : List Value} → Frames tw s t → V tw a a' → V tw b b' → PairedList (V tw) vs ws →
       Rows tw (two_under_two tw.left s a b vs) (two_under_two tw.right t a' b' ws)
   under_two-paired f r r' rs = popping-paired tw rs (λ c c' us xs k ks. choose-paired tw _ _ (long-paired k) (goes_on-paired tw f (one_more r (one_more r' (one_more k (one_more r (one_more r' ks))))))
       (popping-paired tw ks (λ d d' us' xs' l ls. goes_on-paired tw f (one_more r (one_more r' (one_more k (one_more l (one_more r (one_more r' ls)))))))))
@@ -90,29 +90,29 @@ module _ (tw : Twins) where
   moves-paired _ f = no_row-paired tw
 
   -- arithmetic
-  unless_zero-paired : (x : Op) (b : ℤ) {s t : Entries} {k l : Access (Answer Entries)} → E tw s t → Rows tw k l → Rows tw (unless_zero x b s k) (unless_zero x b t l)
+  pub unless_zero-paired : (x : Op) (b : ℤ) {s t : Entries} {k l : Access (Answer Entries)} → E tw s t → Rows tw k l → Rows tw (unless_zero x b s k) (unless_zero x b t l)
   unless_zero-paired x b r f = choose-paired tw (divides x) (divides x) refl
       (choose-paired tw (int_eq b (pos 0)) (int_eq b (pos 0)) refl (faults-paired tw (tw.matched.builtin arithmetic_exception (omega arith)) r) f) f
 
-  two_ints-paired : (x : Op) {s t : Entries} → Frames tw s t → Rows tw (two_ints tw.left x s) (two_ints tw.right x t)
+  pub two_ints-paired : (x : Op) {s t : Entries} → Frames tw s t → Rows tw (two_ints tw.left x s) (two_ints tw.right x t)
   two_ints-paired x f = popping-paired tw f.entries.top.stack (λ a b vs ws r rs. popping-paired tw rs (λ c d us xs k ks. on_int-paired tw r (λ i. on_int-paired tw k (λ j.
       unless_zero-paired x i (stack-paired tw.numbers tw.place f ks).entries (goes_on-paired tw f (one_more (ints _) ks))))))
 
-  two_longs-paired : (x : Op) {s t : Entries} → Frames tw s t → Rows tw (two_longs tw.left x s) (two_longs tw.right x t)
+  pub two_longs-paired : (x : Op) {s t : Entries} → Frames tw s t → Rows tw (two_longs tw.left x s) (two_longs tw.right x t)
   two_longs-paired x f = popping-paired tw f.entries.top.stack (λ a b vs ws r rs. popping-paired tw rs (λ c d us xs k ks. on_long-paired tw r (λ i. on_long-paired tw k (λ j.
       unless_zero-paired x i (stack-paired tw.numbers tw.place f ks).entries (goes_on-paired tw f (one_more (longs _) ks))))))
 
-  long_by_int-paired : (x : Op) {s t : Entries} → Frames tw s t → Rows tw (long_by_int tw.left x s) (long_by_int tw.right x t)
+  pub long_by_int-paired : (x : Op) {s t : Entries} → Frames tw s t → Rows tw (long_by_int tw.left x s) (long_by_int tw.right x t)
   long_by_int-paired x f = popping-paired tw f.entries.top.stack (λ a b vs ws r rs. popping-paired tw rs (λ c d us xs k ks. on_int-paired tw r (λ i. on_long-paired tw k (λ j. goes_on-paired tw f (one_more (longs _) ks)))))
 
-  converted-paired : (x : Conv) {s t : Entries} → Frames tw s t → Rows tw (converted tw.left x s) (converted tw.right x t)
+  pub converted-paired : (x : Conv) {s t : Entries} → Frames tw s t → Rows tw (converted tw.left x s) (converted tw.right x t)
   converted-paired conv.I2l f = popping-paired tw f.entries.top.stack (λ a b vs ws r rs. on_int-paired tw r (λ i. goes_on-paired tw f (one_more (longs _) rs)))
   converted-paired conv.L2i f = popping-paired tw f.entries.top.stack (λ a b vs ws r rs. on_long-paired tw r (λ i. goes_on-paired tw f (one_more (ints _) rs)))
   converted-paired conv.I2b f = popping-paired tw f.entries.top.stack (λ a b vs ws r rs. on_int-paired tw r (λ i. goes_on-paired tw f (one_more (ints _) rs)))
   converted-paired conv.I2c f = popping-paired tw f.entries.top.stack (λ a b vs ws r rs. on_int-paired tw r (λ i. goes_on-paired tw f (one_more (ints _) rs)))
   converted-paired conv.I2s f = popping-paired tw f.entries.top.stack (λ a b vs ws r rs. on_int-paired tw r (λ i. goes_on-paired tw f (one_more (ints _) rs)))
 
-  increased-paired : (i : ℕ) (by : ℤ) {s t : Entries} {x y : Option Value} → Frames tw s t → PairedOption (V tw) x y → Rows tw (increased tw.left i by s x) (increased tw.right i by t y)
+  pub increased-paired : (i : ℕ) (by : ℤ) {s t : Entries} {x y : Option Value} → Frames tw s t → PairedOption (V tw) x y → Rows tw (increased tw.left i by s x) (increased tw.right i by t y)
   increased-paired i by f both_none = no_row-paired tw
   increased-paired i by f (both_some r) = on_int-paired tw r (λ a. stored-paired i f (ints _) f.entries.top.stack)
 
@@ -134,14 +134,14 @@ module _ (tw : Twins) where
   same_reference-paired (objects {a} {b} e) (objects {a = c} {b = d} g) = test-paired tw.one a b c d e g
   same_reference-paired _ _ = refl
 
-  null-paired : {v w : Value} → V tw v w → is_null v ≡ is_null w
+  pub null-paired : {v w : Value} → V tw v w → is_null v ≡ is_null w
   null-paired (ints i) = refl
   null-paired (longs i) = refl
   null-paired nulls = refl
   null-paired (literals e) = refl
   null-paired (objects x) = refl
 
-  goes_if-paired : {b c : Bool} (to : ℕ) {s t : Entries} {vs ws : List Value} → b ≡ c → Frames tw s t → PairedList (V tw) vs ws → Rows tw (goes_if b to tw.left s vs) (goes_if c to tw.right t ws)
+  pub goes_if-paired : {b c : Bool} (to : ℕ) {s t : Entries} {vs ws : List Value} → b ≡ c → Frames tw s t → PairedList (V tw) vs ws → Rows tw (goes_if b to tw.left s vs) (goes_if c to tw.right t ws)
   goes_if-paired to e f rs = choose-paired tw _ _ e (goes_to-paired tw refl f rs) (goes_on-paired tw f rs)
 
   pub branches-paired : {i j : Instr} {s t : Entries} → PairedInstr tw.numbers i j → Frames tw s t → Rows tw (row_branches tw.left i s) (row_branches tw.right j t)
@@ -156,7 +156,7 @@ module _ (tw : Twins) where
   branches-paired _ f = no_row-paired tw
 
   -- returns
-  narrow-paired : (u : ℕ) {v w : Value} → V tw v w → V tw (narrow u v) (narrow u w)
+  pub narrow-paired : (u : ℕ) {v w : Value} → V tw v w → V tw (narrow u v) (narrow u w)
   unfolding narrow
   narrow-paired u (ints i) = ints _
   narrow-paired u (longs i) = longs i
@@ -164,20 +164,20 @@ module _ (tw : Twins) where
   narrow-paired u (literals e) = literals e
   narrow-paired u (objects x) = objects x
 
-  narrow_by : (d : List ℕ) {v w : Value} → V tw v w → V tw (narrowed d v) (narrowed d w)
+  pub narrow_by : (d : List ℕ) {v w : Value} → V tw v w → V tw (narrowed d v) (narrowed d w)
   narrow_by [] r = r
   narrow_by (u ∷ us) r = narrow-paired u r
 
   pub narrowed-paired : {d d' : List ℕ} {v w : Value} → d ≡ d' → V tw v w → V tw (narrowed d v) (narrowed d' w)
   narrowed-paired {d} {d'} {v} {w} e r = subst (λ (z : List ℕ). V tw (narrowed d v) (narrowed z w)) e (narrow_by d r)
 
-  handed-paired : (k : EntryKind) {s t : Entries} {vs ws : List Value} → s.top.kind ≡ k → E tw s t → PairedList (V tw) vs ws → Rows tw (handed_on k tw.left vs s) (handed_on k tw.right ws t)
+  pub handed-paired : (k : EntryKind) {s t : Entries} {vs ws : List Value} → s.top.kind ≡ k → E tw s t → PairedList (V tw) vs ws → Rows tw (handed_on k tw.left vs s) (handed_on k tw.right ws t)
   handed-paired Absent e r rs = both_done (answered leave r)
   handed-paired InMethod e r no_more = let f = frame_top tw.numbers tw.place r e in goes_on-paired tw f r.top.stack
   handed-paired InMethod e r (one_more v vs) = let f = frame_top tw.numbers tw.place r e in goes_on-paired tw f (one_more v r.top.stack)
   handed-paired (InClass b) e r rs = both_done (answered go r)
 
-  hands-paired : {s t : Entries} {vs ws : List Value} → E tw s t → PairedList (V tw) vs ws → Rows tw (hands_on tw.left vs s) (hands_on tw.right ws t)
+  pub hands-paired : {s t : Entries} {vs ws : List Value} → E tw s t → PairedList (V tw) vs ws → Rows tw (hands_on tw.left vs s) (hands_on tw.right ws t)
   unfolding hands_on
   hands-paired {s} {t} {vs} {ws} r rs = let o = popped-paired tw.numbers tw.place r in
       subst (λ (k : EntryKind). Rows tw (hands_on tw.left vs s) (handed_on k tw.right ws (popped_entry t))) o.top.kind (handed-paired (popped_entry s).top.kind refl o rs)

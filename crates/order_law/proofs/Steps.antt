@@ -57,7 +57,7 @@ module _ (tw : Twins) where
   Turns a b = Paired (with_places tw.numbers tw.place) (PairedTurn tw.numbers tw.place tw.left tw.right) a b
 
   -- raising
-  handled-paired : {v w : Value} {s t : Entries} {x y : Option ℕ} → V tw v w → Frames tw s t → PairedOption (λ (a : ℕ) (b : ℕ). a ≡ b) x y → Rows tw (handled v s x) (handled w t y)
+  pub handled-paired : {v w : Value} {s t : Entries} {x y : Option ℕ} → V tw v w → Frames tw s t → PairedOption (λ (a : ℕ) (b : ℕ). a ≡ b) x y → Rows tw (handled v s x) (handled w t y)
   handled-paired r f both_none = both_done (answered (raised r) (popped-paired tw.numbers tw.place f.entries))
   handled-paired r f (both_some e) = goes_to-paired tw e f (one_more r no_more)
 
@@ -67,18 +67,18 @@ module _ (tw : Twins) where
       (handler-paired tw.numbers tw.left tw.right tw.matched _ _ _ _ _ _ f.method f.entries.top.pc (class_of-paired tw.numbers tw.left tw.right tw.matched e.kind))))
 
   -- initialisation
-  record PairedPart (x y : Part) : Type 0 where
-    class : tw.numbers.class x.class y.class ≡ true
-    price : x.price ≡ y.price
+  pub record PairedPart (x y : Part) : Type 0 where
+    pub class : tw.numbers.class x.class y.class ≡ true
+    pub price : x.price ≡ y.price
 
-  superclass-parts : {x y : Option ℕ} → PairedOption C x y → PairedList PairedPart (superclass_part x) (superclass_part y)
+  pub superclass-parts : {x y : Option ℕ} → PairedOption C x y → PairedList PairedPart (superclass_part x) (superclass_part y)
   superclass-parts both_none = no_more
   superclass-parts (both_some e) = one_more (record { class = e; price = refl }) no_more
 
-  entered_class-paired : {s t : Entries} {b : Bool} → E tw s t → s.top.kind ≡ InClass b → E tw (with_entered s) (with_entered t)
+  pub entered_class-paired : {s t : Entries} {b : Bool} → E tw s t → s.top.kind ≡ InClass b → E tw (with_entered s) (with_entered t)
   entered_class-paired r e = record { top = record { kind = refl; number = class_top tw.numbers tw.place r e; pc = r.top.pc; stack = r.top.stack; locals = r.top.locals }; below = r.below }
 
-  starts_body-paired : {x y : Option Body} (a b : ℕ) (i j : ℕ) {s t : Entries} {k : Bool} → PairedOption (PairedBody tw.numbers) x y → M a b → i ≡ j → E tw s t → s.top.kind ≡ InClass k →
+  pub starts_body-paired : {x y : Option Body} (a b : ℕ) (i j : ℕ) {s t : Entries} {k : Bool} → PairedOption (PairedBody tw.numbers) x y → M a b → i ≡ j → E tw s t → s.top.kind ≡ InClass k →
       Rows tw (starts_body x a i s) (starts_body y b j t)
   starts_body-paired a b i j both_none e g r h = no_row-paired tw
   starts_body-paired a b i j (both_some {x} {y} o) e g r h = choose-paired tw _ _ (full-paired tw.numbers tw.place r)
@@ -97,21 +97,21 @@ module _ (tw : Twins) where
   looked-paired c d i j Done e g r f = f
   looked-paired c d i j Erroneous e g r f = spend-paired tw g (faults-paired tw (tw.matched.builtin no_class_error (omega arith)) r)
 
-  left-paired : (k : EntryKind) → PairedNext tw.numbers tw.place (left_at k) (left_at k)
+  pub left-paired : (k : EntryKind) → PairedNext tw.numbers tw.place (left_at k) (left_at k)
   left-paired Absent = leave
   left-paired InMethod = go
   left-paired (InClass b) = go
 
-  left_alike : {k l : EntryKind} → k ≡ l → PairedNext tw.numbers tw.place (left_at k) (left_at l)
+  pub left_alike : {k l : EntryKind} → k ≡ l → PairedNext tw.numbers tw.place (left_at k) (left_at l)
   left_alike {k} e = subst (λ (z : EntryKind). PairedNext tw.numbers tw.place (left_at k) (left_at z)) e (left-paired k)
 
   pub finished-paired : {s t : Entries} {b : Bool} → E tw s t → s.top.kind ≡ InClass b → Rows tw (finished s) (finished t)
   finished-paired r h = let o = popped-paired tw.numbers tw.place r in both_write (inits (class_top tw.numbers tw.place r h)) refl (both_done (answered (left_alike o.top.kind) o))
 
-  fails-paired : {v w : Value} {s t : Entries} {b : Bool} → V tw v w → E tw s t → s.top.kind ≡ InClass b → Rows tw (fails v s) (fails w t)
+  pub fails-paired : {v w : Value} {s t : Entries} {b : Bool} → V tw v w → E tw s t → s.top.kind ≡ InClass b → Rows tw (fails v s) (fails w t)
   fails-paired u r h = both_write (inits (class_top tw.numbers tw.place r h)) refl (both_done (answered (raised u) (popped-paired tw.numbers tw.place r)))
 
-  fails_anew-paired : {s t : Entries} {b : Bool} → E tw s t → s.top.kind ≡ InClass b → Rows tw (fails_anew tw.left s) (fails_anew tw.right t)
+  pub fails_anew-paired : {s t : Entries} {b : Bool} → E tw s t → s.top.kind ≡ InClass b → Rows tw (fails_anew tw.left s) (fails_anew tw.right t)
   fails_anew-paired r h = both_spend 2 (both_write (inits (class_top tw.numbers tw.place r h)) refl
       (both_make (blank-paired tw.numbers tw.left tw.right tw.matched tw.place (instance-paired tw.numbers tw.left tw.right tw.matched initializer_error initializer_error (tw.matched.builtin initializer_error (omega arith))))
       (λ a b x. both_done (answered (raised (objects x)) (popped-paired tw.numbers tw.place r)))))
@@ -123,11 +123,11 @@ module _ (tw : Twins) where
       (fails_anew-paired r h) (fails-paired u r h)))
 
   -- a throwable is raised
-  or_first-paired : {x y : Option Value} {v w : Value} → Values x y → V tw v w → Values (or_first x v) (or_first y w)
+  pub or_first-paired : {x y : Option Value} {v w : Value} → Values x y → V tw v w → Values (or_first x v) (or_first y w)
   or_first-paired both_none r = both_some r
   or_first-paired (both_some u) r = both_some u
 
-  thrown-paired : {x y : Stage} {v w : Value} → PairedStage tw.numbers tw.place x y → V tw v w → PairedStage tw.numbers tw.place (thrown_at x v) (thrown_at y w)
+  pub thrown-paired : {x y : Stage} {v w : Value} → PairedStage tw.numbers tw.place x y → V tw v w → PairedStage tw.numbers tw.place (thrown_at x v) (thrown_at y w)
   thrown-paired both_first r = both_last (both_some r)
   thrown-paired (both_made e) r = both_last (both_some r)
   thrown-paired (both_built e) r = both_last (both_some r)
@@ -135,7 +135,7 @@ module _ (tw : Twins) where
   thrown-paired (both_called e u) r = both_called e (or_first-paired u r)
   thrown-paired (both_last u) r = both_last (or_first-paired u r)
 
-  raised_in-paired : (k : EntryKind) {v w : Value} {s t : State} → V tw v w → States s t → States (raised_in k v s) (raised_in k w t)
+  pub raised_in-paired : (k : EntryKind) {v w : Value} {s t : State} → V tw v w → States s t → States (raised_in k v s) (raised_in k w t)
   raised_in-paired Absent r o = record { test = o.test; entries = o.entries; stage = thrown-paired o.stage r; raised = both_none; own = o.own }
   raised_in-paired InMethod r o = record { test = o.test; entries = o.entries; stage = o.stage; raised = both_some r; own = o.own }
   raised_in-paired (InClass b) r o = record { test = o.test; entries = o.entries; stage = o.stage; raised = both_some r; own = o.own }
@@ -154,21 +154,21 @@ module _ (tw : Twins) where
   stage-paired o r = record { test = o.test; entries = o.entries; stage = r; raised = o.raised; own = o.own }
 
   -- the driver
-  plain_in-paired : (name : List ℕ) {xs ys : List ℕ} → PairedList M xs ys → PairedOption M (plain_method_in tw.left name xs) (plain_method_in tw.right name ys)
+  pub plain_in-paired : (name : List ℕ) {xs ys : List ℕ} → PairedList M xs ys → PairedOption M (plain_method_in tw.left name xs) (plain_method_in tw.right name ys)
   plain_in-paired name no_more = both_none
   plain_in-paired name (one_more {x} {y} e r) = let m = tw.matched.methods x y e in
       pick-option _ _ (both _ _ _ _ (ap (λ (z : ℕ). not (is_static z)) m.flags) (both _ _ _ _ (ap (λ (z : List ℕ). bytes_eq z name) m.name) (ap (λ (z : List ℕ). bytes_eq z no_arguments) m.descriptor)))
       (both_some e) (plain_in-paired name r)
 
-  or_plain : {x y u v : Option ℕ} → PairedOption M x y → PairedOption M u v → PairedOption M (elim x [ Some m ↦ Some m | None ↦ u ]) (elim y [ Some m ↦ Some m | None ↦ v ])
+  pub or_plain : {x y u v : Option ℕ} → PairedOption M x y → PairedOption M u v → PairedOption M (elim x [ Some m ↦ Some m | None ↦ u ]) (elim y [ Some m ↦ Some m | None ↦ v ])
   or_plain both_none r = r
   or_plain (both_some e) r = both_some e
 
-  plain_of-paired : (name : List ℕ) {xs ys : List ℕ} → PairedList C xs ys → PairedOption M (plain_method_of tw.left name xs) (plain_method_of tw.right name ys)
+  pub plain_of-paired : (name : List ℕ) {xs ys : List ℕ} → PairedList C xs ys → PairedOption M (plain_method_of tw.left name xs) (plain_method_of tw.right name ys)
   plain_of-paired name no_more = both_none
   plain_of-paired name (one_more {x} {y} e r) = or_plain (plain_in-paired name (tw.matched.classes x y e).methods) (plain_of-paired name r)
 
-  driven-paired : {x y : Option Body} (a b : ℕ) {vs ws : List Value} {u v : Stage} {s t : State} → PairedOption (PairedBody tw.numbers) x y → M a b → PairedList (V tw) vs ws → PairedStage tw.numbers tw.place u v → States s t →
+  pub driven-paired : {x y : Option Body} (a b : ℕ) {vs ws : List Value} {u v : Stage} {s t : State} → PairedOption (PairedBody tw.numbers) x y → M a b → PairedList (V tw) vs ws → PairedStage tw.numbers tw.place u v → States s t →
       Turns (driven tw.left x a vs u s) (driven tw.right y b ws v t)
   driven-paired a b both_none e rs k o = throws-paired (tw.matched.builtin abstract_method_error (omega arith)) (stage-paired o k)
   driven-paired a b (both_some g) e rs k o = spend-paired tw (cost-paired tw.numbers tw.place g) (both_done (both_next (record {
@@ -192,7 +192,7 @@ module _ (tw : Twins) where
   makes-paired c d e o = spend-paired tw (ap (λ (k : ℕ). 1 + k) (length-paired (Tested tw.numbers.fields) (layout-paired tw.numbers tw.left tw.right tw.matched c d e)))
       (both_make (blank-paired tw.numbers tw.left tw.right tw.matched tw.place (instance-paired tw.numbers tw.left tw.right tw.matched c d e)) (λ a b x. both_done (both_next (stage-paired o (both_made x)))))
 
-  or_turn : {x y : Option ℕ} {a b : Access Turn} {k l : ℕ → Access Turn} → PairedOption M x y → Turns a b → ((m m' : ℕ) → M m m' → Turns (k m) (l m')) →
+  pub or_turn : {x y : Option ℕ} {a b : Access Turn} {k l : ℕ → Access Turn} → PairedOption M x y → Turns a b → ((m m' : ℕ) → M m m' → Turns (k m) (l m')) →
       Turns (elim x [ None ↦ a | Some m ↦ k m ]) (elim y [ None ↦ b | Some m ↦ l m ])
   or_turn both_none f g = f
   or_turn (both_some {x} {y} e) f g = g x y e
@@ -209,7 +209,7 @@ module _ (tw : Twins) where
   unfolding drive_set_up
   set_up-paired x o = or_turn (plain_of-paired set_up_name (upwards-paired tw.numbers tw.left tw.right tw.matched _ _ o.test.class)) (method-paired x o) (λ m m' e. drives-paired m m' e (one_more (objects x) no_more) (both_set_up x) o)
 
-  judged-paired : (out : List ℕ) (c d : ℕ) (text : Option (List ℕ)) → C c d → PairedTurn tw.numbers tw.place tw.left tw.right (judged tw.left out c text) (judged tw.right out d text)
+  pub judged-paired : (out : List ℕ) (c d : ℕ) (text : Option (List ℕ)) → C c d → PairedTurn tw.numbers tw.place tw.left tw.right (judged tw.left out c text) (judged tw.right out d text)
   judged-paired out c d text e = pick-turn _ _ (below-paired tw.numbers tw.left tw.right tw.matched c d assertion_error assertion_error e (tw.matched.builtin assertion_error (omega arith)))
       (both_ended (both_failed (record { class = e; message = refl })) refl) (both_ended (both_error (record { class = e; message = refl })) refl)
     where
@@ -220,17 +220,17 @@ module _ (tw : Twins) where
       pick-turn true false e r s = absurd (cc)
       pick-turn false true e r s = absurd (cc)
 
-  judged_text-paired : (out : List ℕ) (c d : ℕ) (x y : List ℕ) → C c d → x ≡ y → Turns (judged_text tw.left out c x) (judged_text tw.right out d y)
+  pub judged_text-paired : (out : List ℕ) (c d : ℕ) (x y : List ℕ) → C c d → x ≡ y → Turns (judged_text tw.left out c x) (judged_text tw.right out d y)
   judged_text-paired out c d x y e g = subst (λ (z : List ℕ). Turns (judged_text tw.left out c x) (judged_text tw.right out d z)) g (both_spend (length x) (both_done (judged-paired out c d (Some x) e)))
 
-  judged_message-paired : (out : List ℕ) (c d : ℕ) {v w : Value} → C c d → V tw v w → Turns (judged_message tw.left out c v) (judged_message tw.right out d w)
+  pub judged_message-paired : (out : List ℕ) (c d : ℕ) {v w : Value} → C c d → V tw v w → Turns (judged_message tw.left out c v) (judged_message tw.right out d w)
   judged_message-paired out c d e (ints i) = both_done no_turns
   judged_message-paired out c d e (longs i) = both_done no_turns
   judged_message-paired out c d e nulls = both_done (judged-paired out c d None e)
   judged_message-paired out c d e (literals {n = a} {k = b} g) = judged_text-paired out c d (literal_at tw.left a) (literal_at tw.right b) e (tw.matched.texts a b g)
   judged_message-paired out c d e (objects x) = both_read (texts x) (λ y z g. judged_text-paired out c d y z e g)
 
-  judged_value-paired : (out : List ℕ) {v w : Value} → V tw v w → Turns (judged_value tw.left out v) (judged_value tw.right out w)
+  pub judged_value-paired : (out : List ℕ) {v w : Value} → V tw v w → Turns (judged_value tw.left out v) (judged_value tw.right out w)
   judged_value-paired out (ints i) = both_done no_turns
   judged_value-paired out (longs i) = both_done no_turns
   judged_value-paired out nulls = both_done no_turns
@@ -247,7 +247,7 @@ module _ (tw : Twins) where
   tear_down-paired x r o = or_turn (plain_of-paired tear_down_name (upwards-paired tw.numbers tw.left tw.right tw.matched _ _ o.test.class)) (judge-paired r o) (λ m m' e. drives-paired m m' e (one_more (objects x) no_more) (both_last r) o)
 
   -- the row of an instruction
-  same_group : {i j : Instr} → PairedInstr tw.numbers i j → group_of i ≡ group_of j
+  pub same_group : {i j : Instr} → PairedInstr tw.numbers i j → group_of i ≡ group_of j
   same_group same.nop = refl
   same_group _ = refl
 
@@ -282,30 +282,30 @@ module _ (tw : Twins) where
 
   -- the steps of programs whose classes start alike
   module _ (st : MatchedStarts tw.numbers tw.left tw.right) where
-    parts-paired : (c d : ℕ) → C c d → PairedList PairedPart (parts_of tw.left c) (parts_of tw.right d)
+    pub parts-paired : (c d : ℕ) → C c d → PairedList PairedPart (parts_of tw.left c) (parts_of tw.right d)
     unfolding parts_of
     parts-paired c d e = cond-list PairedPart _ _ (interface-paired tw.numbers tw.left tw.right tw.matched c d e) no_more
         (filter-paired PairedPart (λ x. not (is_trivial tw.left x.class)) (λ x. not (is_trivial tw.right x.class)) (λ x y r. ap not (trivial-paired tw.numbers tw.left tw.right tw.matched st x.class y.class r.class))
         (list-append (superclass-parts (tw.matched.classes c d e).superclass)
         (map-paired C PairedPart (λ i. record { class = i; price = 1 }) (λ i. record { class = i; price = 1 }) (λ x y r. record { class = r; price = refl }) (defaults-paired tw.numbers tw.left tw.right tw.matched c d e))))
 
-    looks-paired : {xs ys : List Part} (i j : ℕ) {s t : Entries} {k : Bool} → PairedList PairedPart xs ys → i ≡ j → E tw s t → s.top.kind ≡ InClass k → Rows tw (looks tw.left xs i s) (looks tw.right ys j t)
+    pub looks-paired : {xs ys : List Part} (i j : ℕ) {s t : Entries} {k : Bool} → PairedList PairedPart xs ys → i ≡ j → E tw s t → s.top.kind ≡ InClass k → Rows tw (looks tw.left xs i s) (looks tw.right ys j t)
     looks-paired i j no_more g r h = starts-paired i j (st.initialisers _ _ (class_top tw.numbers tw.place r h)) g r h
     looks-paired i j {s} {t} (one_more {x} {y} {xs} {ys} o os) g r h = let price : i + x.price ≡ j + y.price = rw (g, o.price) refl in
         both_read (inits o.class) (λ c d e. subst (λ (z : InitState). Rows tw (looked_at x.class (i + x.price) s (looks tw.left xs (i + x.price) s) c) (looked_at y.class (j + y.price) t (looks tw.right ys (j + y.price) t) z)) e
         (looked-paired x.class y.class (i + x.price) (j + y.price) c o.class price r (looks-paired (i + x.price) (j + y.price) os price r h)))
 
-    finishing-paired : (k : EntryKind) {s t : Entries} → s.top.kind ≡ k → E tw s t → Rows tw (finishing k tw.left s) (finishing k tw.right t)
+    pub finishing-paired : (k : EntryKind) {s t : Entries} → s.top.kind ≡ k → E tw s t → Rows tw (finishing k tw.left s) (finishing k tw.right t)
     finishing-paired Absent h r = no_row-paired tw
     finishing-paired InMethod h r = no_row-paired tw
     finishing-paired (InClass false) h r = looks-paired 0 0 (parts-paired _ _ (class_top tw.numbers tw.place r h)) refl r h
     finishing-paired (InClass true) h r = finished-paired r h
 
-    finish-paired : {s t : Entries} → E tw s t → Rows tw (row_finish tw.left s) (row_finish tw.right t)
+    pub finish-paired : {s t : Entries} → E tw s t → Rows tw (row_finish tw.left s) (row_finish tw.right t)
     unfolding row_finish
     finish-paired {s} {t} r = subst (λ (z : EntryKind). Rows tw (finishing s.top.kind tw.left s) (finishing z tw.right t)) r.top.kind (finishing-paired s.top.kind refl r)
 
-    first-paired : {s t : State} → States s t → Turns (drive_first tw.left s) (drive_first tw.right t)
+    pub first-paired : {s t : State} → States s t → Turns (drive_first tw.left s) (drive_first tw.right t)
     unfolding drive_first
     first-paired o = let m = tw.matched.methods _ _ o.test.method in choose-paired tw _ _ (ap is_static m.flags)
         (bind-paired tw (begin-paired tw st _ _ m.class o.entries) (λ x y u. once_driven-paired o (drives-paired _ _ o.test.method no_more (both_last both_none) o) u))
@@ -319,11 +319,11 @@ module _ (tw : Twins) where
     drive_at-paired (both_called x r) o = tear_down-paired x r o
     drive_at-paired (both_last r) o = judge-paired r o
 
-    drive-paired : {s t : State} → States s t → Turns (drive tw.left s) (drive tw.right t)
+    pub drive-paired : {s t : State} → States s t → Turns (drive tw.left s) (drive tw.right t)
     unfolding drive
     drive-paired o = drive_at-paired o.stage o
 
-    row_of-paired : (g : Group) {i j : Instr} {s t : Entries} → PairedInstr tw.numbers i j → Frames tw s t → Rows tw (row_of g tw.left i s) (row_of g tw.right j t)
+    pub row_of-paired : (g : Group) {i j : Instr} {s t : Entries} → PairedInstr tw.numbers i j → Frames tw s t → Rows tw (row_of g tw.left i s) (row_of g tw.right j t)
     row_of-paired moves e f = moves-paired tw e f
     row_of-paired arith_group e f = arith-paired tw e f
     row_of-paired branches e f = branches-paired tw e f
@@ -364,17 +364,17 @@ module _ (tw : Twins) where
     abbrev pub Ends : Access End → Access End → Type 0
     Ends a b = Paired (with_places tw.numbers tw.place) (PairedEnd tw.numbers) a b
 
-    after_step-paired : (k : ℕ) {x y : Turn} → PairedTurn tw.numbers tw.place tw.left tw.right x y → ((s t : State) → States s t → Ends (whole tw.left k s) (whole tw.right k t)) →
+    pub after_step-paired : (k : ℕ) {x y : Turn} → PairedTurn tw.numbers tw.place tw.left tw.right x y → ((s t : State) → States s t → Ends (whole tw.left k s) (whole tw.right k t)) →
         Ends (after_step (λ s. whole tw.left k s) x) (after_step (λ s. whole tw.right k s) y)
     after_step-paired k (both_next o) f = f _ _ o
     after_step-paired k (both_ended v e) f = both_done (both_finished v e)
     after_step-paired k no_turns f = both_done both_stuck
 
-    whole-paired : (k : ℕ) (s t : State) → States s t → Ends (whole tw.left k s) (whole tw.right k t)
+    pub whole-paired : (k : ℕ) (s t : State) → States s t → Ends (whole tw.left k s) (whole tw.right k t)
     whole-paired zero s t o = both_done both_out
     whole-paired (suc k) s t o = bind-paired tw (step-paired o) (λ x y r. after_step-paired k r (whole-paired k))
 
-    started-paired : (t u : ℕ) → PairedTest tw.numbers (test_at tw.left t) (test_at tw.right u) → States (started tw.left t) (started tw.right u)
+    pub started-paired : (t u : ℕ) → PairedTest tw.numbers (test_at tw.left t) (test_at tw.right u) → States (started tw.left t) (started tw.right u)
     started-paired t u r = record {
       test = r;
       entries = nothing-paired tw.numbers tw.place;
