@@ -20,9 +20,13 @@ mod dep_record_tests;
 #[cfg(test)]
 mod et_base_tests;
 #[cfg(test)]
+mod impact_pick_tests;
+#[cfg(test)]
 mod member_lookup_tests;
 #[cfg(test)]
 mod outside_tests;
+#[cfg(test)]
+mod quiet_init_tests;
 #[cfg(test)]
 mod sim_store_tests;
 #[cfg(test)]

@@ -1,0 +1,12 @@
+pub mod Matching
+pub mod Together
+pub mod Plain
+pub mod Clear
+pub mod Use
+pub mod Here
+pub mod Looks
+pub mod Driven
+pub mod Calm
+pub mod Stutter
+pub mod Whole
+pub mod Suite
