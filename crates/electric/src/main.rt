@@ -3,12 +3,17 @@
 
 ghost use Rattle.std.specs.Prelude.{◌≡◌, ◌<◌};
 
+mod heard;
+mod hints;
+
+use crate::heard::Heard;
+use crate::hints::hint;
 use electrictest::{Status, electric, written};
 use et_base::{Items, Text};
-use outside::{FolderDepot, OpenGate, StdSink, Steps};
+use outside::{FolderDepot, OpenGate, Sink, StdSink, Steps};
 use std::alloc::Global;
 use std::env;
-use std::io::{ErrorKind, Print};
+use std::io::{ErrorKind, IsTerminal, Print, Write};
 use std::marker::Brand;
 use std::process::ExitCode;
 use std::rt::Files;
@@ -25,12 +30,16 @@ const HELP: &[u8] = b"electric runs the tests of a suite of Java class files.
   electric run SUITE RECORD N SEL       run a selection, with the tests that it needs, on N workers
   electric run SUITE RECORD N SEL log   the same, and write who ran what behind the report
   electric plan SUITE RECORD N SEL      write the chains of a selection and the loads of N workers
+  electric impact SUITE RECORD          write which class files changed since the record, and the tests to run again
+  electric quiet SUITE                  write the classes whose initialisers only set constants
+  electric eager FORM                   run, detect, deps, order or plan, as above, with these constants set from the start
   electric gen K N                      run a generated suite of K tests on N workers and write its summary
   electric --help                       write this text
   electric --version                    write the version
 
 SUITE is the name of a suite text in the current folder; the class files that it names lie beside it. RECORD is the name of
-the suite's record. ORDER and SEL are names of tests joined by commas; SEL may be `all`. N is 1 to 16, and K 1 to 1024.
+the suite's record; impact takes the one from before class files changed. ORDER and SEL are names of tests joined by
+commas; SEL may be `all`. N is 1 to 16, and K 1 to 1024.
 
 The exit status is 0 where the text was written and each test that ran passed, 1 where it was written and a test did
 not pass, 2 for words in no form, 3 for a refused suite, record or order, 4 for want of memory, 5 where a file could
@@ -73,20 +82,20 @@ fn fixed_text(words: &[Text]) -> Option<&'static [u8]> {
     }
 }
 
-// Answers the words.
-fn answer<R: Threads + Wait + Sync + Files + Print, L: Ledger>(
+// Answers the words on a sink.
+fn answer<R: Threads + Wait + Sync + Files, S: Sink, L: Ledger>(
     rt: &R,
     alloc: Global,
     words: &[Text],
+    sink: &mut S,
     blank: Blank,
 ) -> Status
     requires name { blank.name ≡ L.name }
     requires parts { blank.parts ≡ L.parts }
     requires some { 0 < blank.parts }
 {
-    let mut sink = StdSink::new(rt);
     if let Some(text) = fixed_text(words) {
-        return written(&mut sink, text, Status::Done);
+        return written(sink, text, Status::Done);
     }
     match String::from_str(alloc, ".") {
         Ok(folder) => {
@@ -97,7 +106,7 @@ fn answer<R: Threads + Wait + Sync + Files + Print, L: Ledger>(
                 alloc,
                 words,
                 &mut depot,
-                &mut sink,
+                sink,
                 &OpenGate::new(),
                 &mut steps,
             )
@@ -106,10 +115,33 @@ fn answer<R: Threads + Wait + Sync + Files + Print, L: Ledger>(
     }
 }
 
+// Says on standard error what a refusal was, where standard output isn't a terminal, and what helps with it. Nothing depends
+// on whether that succeeds.
+fn explain(rt: &HostRuntime, words: &[Text], line: &[u8], status: &Status) {
+    let mut errors = rt.stderr();
+    if !rt.stdout().is_terminal() {
+        let _told = errors.write_all(line);
+    }
+    if let Ok(text) = hint(rt.alloc(), words, status) {
+        let _told = errors.write_all(text.as_slice());
+    }
+}
+
 fn main(rt: HostRuntime) -> ExitCode {
-    let status = match words(&rt) {
-        Ok(words) => answer::<HostRuntime, Brand>(&rt, rt.alloc(), words.as_slice(), Blank::new(1)),
-        Err(status) => status,
+    let alloc = rt.alloc();
+    let words = match words(&rt) {
+        Ok(words) => words,
+        Err(status) => return ExitCode::from(status.code()),
     };
+    let words = words.as_slice();
+    let mut sink = Heard::new(alloc, StdSink::new(&rt));
+    let status = answer::<HostRuntime, Heard<StdSink<'_, HostRuntime>>, Brand>(
+        &rt,
+        alloc,
+        words,
+        &mut sink,
+        Blank::new(1),
+    );
+    explain(&rt, words, sink.line(), &status);
     ExitCode::from(status.code())
 }

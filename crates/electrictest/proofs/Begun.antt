@@ -2,6 +2,7 @@
 use Rattle.std.proofs.Common.{◌≡◌, ℕ, List, refl, sym, ap, subst, ◌∙◌, arith, All, Option, Some, None, option_map, Result, Ok, Err, IfSome, IsSome}
 use Rattle.et_base.specs.Answers as answers
 use Rattle.outside.specs.Depot.{Files, DepotView}
+use Rattle.dep_record.specs.RecordText.{Said}
 use Rattle.suite_load.specs.declared.loaded.Loaded.{Loaded}
 use Rattle.test_run.specs.Running.{IsTest}
 use Rattle.electrictest.specs.declared.status.Status.{Status}
@@ -11,7 +12,7 @@ use Rattle.electrictest.specs.declared.words.Command.{Command}
 use Rattle.electrictest.specs.Words.{ask, word_at}
 use Rattle.electrictest.specs.Selections.{IsTestOf}
 use Rattle.electrictest.specs.Records.{Beginning, begun, says}
-use Rattle.electrictest.specs.Loads.{IsSuite, named_by, begun_by, of_record}
+use Rattle.electrictest.specs.Loads.{IsSuite, named_by, fits_for, begun_by, of_record}
 use Rattle.electrictest.specs.Replies.{unbegun}
 use Rattle.electrictest.specs.Commands.{Fails, IsProperRefusal, ReportEnds, RefusedOver}
 
@@ -19,19 +20,19 @@ use Rattle.electrictest.specs.Commands.{Fails, IsProperRefusal, ReportEnds, Refu
 pub tests_are : (l : Loaded) (ts us : List ℕ) → IsSuite l → us ≡ ts → All (IsTestOf l.names) ts → All (IsTest l.checked) us
 tests_are l ts us s e h = subst (All (IsTest l.checked)) (sym e) (λ k d lt. let p = h k d lt in let low = p.1 in let same = s.names in (p.0, omega arith))
 
-begun_as : (files : Files) (c : Option Command) (words : List (List ℕ)) (l : Loaded) (named : Result (List ℕ) InputFault) (b : Result Beginning InputFault) → named_by c words l ≡ Some named → begun files l named (word_at words 2) ≡ b → begun_by files (ask c words) l ≡ Some b
-begun_as files c words l named b e h = ap (option_map (λ n. begun files l n (word_at words 2))) e ∙ ap Some h
+begun_as : (files : Files) (c : Option Command) (words : List (List ℕ)) (l : Loaded) (named : Result (List ℕ) InputFault) (b : Result Beginning InputFault) → named_by c words l ≡ Some named → begun (fits_for c) files l named (word_at words 2) ≡ b → begun_by files (ask c words) l ≡ Some b
+begun_as files c words l named b e h = ap (option_map (λ n. begun (fits_for c) files l n (word_at words 2))) e ∙ ap Some h
 
 -- nothing is begun where a name is of no test
-not_named : (files : Files) (l : Loaded) (name : List ℕ) (f : InputFault) → begun files l (Err f) name ≡ Err f
+not_named : (fits : Loaded → Said → Result (Unit {0}) InputFault) (files : Files) (l : Loaded) (name : List ℕ) (f : InputFault) → begun fits files l (Err f) name ≡ Err f
 unfolding begun
-not_named files l name f = refl
+not_named fits files l name f = refl
 
 pub unnamed : (told : Option Files) (c : Option Command) (words : List (List ℕ)) (l : Loaded) (named : Result (List ℕ) InputFault) (s : Status) → named_by c words l ≡ Some named → answers.Fails (says s) named → IsProperRefusal s → RefusedOver told (ask c words) l s
 unnamed None c words l named s e g p = tt
 unnamed (Some files) c words l named ends.NoMemory e g p = λ h. tt
 unnamed (Some files) c words l named (ends.Input f) e g p = λ h.
-    unbegun (record { load = h; begins = begun_as files c words l named (Err f) e (ap (λ n. begun files l n (word_at words 2)) g ∙ not_named files l (word_at words 2) f) })
+    unbegun (record { load = h; begins = begun_as files c words l named (Err f) e (ap (λ n. begun (fits_for c) files l n (word_at words 2)) g ∙ not_named (fits_for c) files l (word_at words 2) f) })
 unnamed (Some files) c words l named (ends.Depot name) e g p = absurd p
 unnamed (Some files) c words l named (ends.Over f) e g p = absurd p
 unnamed (Some files) c words l named ends.Words e g p = absurd p
@@ -51,11 +52,11 @@ unnamed_ends c words ends.Sink depot e p = absurd p
 
 -- nor where the record is refused
 pub not_begun : (told : Option Files) (c : Option Command) (words : List (List ℕ)) (l : Loaded) (named : Result (List ℕ) InputFault) (tests name : List ℕ) (s : Status) (old new : DepotView) → named_by c words l ≡ Some named → named ≡ Ok tests → name ≡ word_at words 2 →
-    IfSome told (λ files. answers.Fails (says s) (begun files l (Ok tests) name)) → Fails name old new s → RefusedOver told (ask c words) l s
+    IfSome told (λ files. answers.Fails (says s) (begun (fits_for c) files l (Ok tests) name)) → Fails name old new s → RefusedOver told (ask c words) l s
 not_begun None c words l named tests name s old new e k n g p = tt
 not_begun (Some files) c words l named tests name ends.NoMemory old new e k n g p = λ h. tt
 not_begun (Some files) c words l named tests name (ends.Input f) old new e k n g p = λ h.
-    unbegun (record { load = h; begins = begun_as files c words l named (Err f) e (ap (λ z. begun files l z (word_at words 2)) k ∙ ap (begun files l (Ok tests)) (sym n) ∙ g) })
+    unbegun (record { load = h; begins = begun_as files c words l named (Err f) e (ap (λ z. begun (fits_for c) files l z (word_at words 2)) k ∙ ap (begun (fits_for c) files l (Ok tests)) (sym n) ∙ g) })
 not_begun (Some files) c words l named tests name (ends.Depot read) old new e k n g p = λ h. of_record l tests h (e ∙ ap Some k) (p.0 ∙ n)
 not_begun (Some files) c words l named tests name (ends.Over f) old new e k n g p = absurd p
 not_begun (Some files) c words l named tests name ends.Words old new e k n g p = absurd p
@@ -86,7 +87,7 @@ proper_fails name ends.Sink old new p = absurd p
 
 -- what is begun
 pub begins : (told : Option Files) (c : Option Command) (words : List (List ℕ)) (l : Loaded) (named : Result (List ℕ) InputFault) (tests name : List ℕ) (b : Beginning) → named_by c words l ≡ Some named → named ≡ Ok tests → name ≡ word_at words 2 →
-    IfSome told (λ files. begun files l (Ok tests) name ≡ Ok b) → IfSome told (λ files. begun_by files (ask c words) l ≡ Some (Ok b))
+    IfSome told (λ files. begun (fits_for c) files l (Ok tests) name ≡ Ok b) → IfSome told (λ files. begun_by files (ask c words) l ≡ Some (Ok b))
 begins None c words l named tests name b e k n g = tt
 begins (Some files) c words l named tests name b e k n g =
-    begun_as files c words l named (Ok b) e (ap (λ z. begun files l z (word_at words 2)) k ∙ ap (begun files l (Ok tests)) (sym n) ∙ g)
+    begun_as files c words l named (Ok b) e (ap (λ z. begun (fits_for c) files l z (word_at words 2)) k ∙ ap (begun (fits_for c) files l (Ok tests)) (sym n) ∙ g)

@@ -1,12 +1,8 @@
 -- With the record that `detect` wrote a run is one with the suite's own record.
-use Rattle.std.proofs.Common.{◌≡◌, ℕ, List, Bool, true, Option, Some, None, Result, Ok, Err, refl, sym, ap, ◌∙◌, subst}
+use Rattle.std.proofs.Common.{if◌then◌else◌, false, ◌≡◌, ℕ, List, Bool, true, Option, Some, None, Result, Ok, Err, refl, sym, ap, ◌∙◌, subst}
 use Rattle.std.specs.List.{list_all}
 use Rattle.std.proofs.lemmas.Bool.{and_from}
-use Rattle.jvm_model.specs.declared.program.Program.{Program}
-use Rattle.class_reader.specs.declared.parts.ClassParts.{ClassParts}
-use Rattle.class_link.specs.declared.fault.LinkFault.{LinkFault}
 use Rattle.order_law.specs.declared.records.More.{More}
-use Rattle.order_law.specs.declared.records.Prints.{Prints}
 use Rattle.order_law.specs.declared.records.Record.{Record}
 use Rattle.order_law.specs.Reach.{IsRecordOf}
 use Rattle.outside.specs.Depot.{Files}
@@ -16,48 +12,32 @@ use Rattle.dep_record.specs.RecordReading.{said_in}
 use Rattle.dep_record.specs.RecordText.{said, record_text, is_hash, more_hashes}
 use Rattle.dep_record.proofs.GivenLaws.{given_text}
 use Rattle.dep_record.proofs.HashLaws.{hashes_law}
-use Rattle.suite_load.specs.declared.suite_text.SuiteText.{SuiteText}
-use Rattle.suite_load.specs.declared.load_fault.LoadFault.{LoadFault}
 use Rattle.suite_load.specs.declared.loaded.Loaded.{Loaded}
-use Rattle.type_frames.specs.Typing.{check_fault}
-use Rattle.suite_load.specs.Loading.{◌>>=◌, read_in, sums_in, loaded_of, link_answer, typed_answer, checked_of, ReadGives}
 use Rattle.electrictest.specs.declared.status.Status.{Status}
 use Rattle.electrictest.specs.Commands.{Asked, Served}
-use Rattle.electrictest.specs.Loads.{LoadsAny, answered}
+use Rattle.electrictest.specs.Loads.{LoadsNamed, LoadsAny, quieted, prepared}
 use Rattle.electrictest.specs.OwnRecords.{AsksOwn, AsksDetected, DetectedAnswer}
-use Rattle.electrictest.specs.Words.{Ask, suite_word}
+use Rattle.electrictest.specs.Words.{Ask, is_eager, suite_word}
+use Rattle.electrictest.proofs.LoadedFacts.{loaded_from}
 use Rattle.electrictest.proofs.OwnAnswers.{own_answer}
 
 -- ---- a suite that is loaded has sums
 
-abbrev prints_or : Prints → Result Loaded LoadFault → Prints
-prints_or x (Ok l) = l.prints
-prints_or x (Err f) = x
+named_hashes : (files : Files) (name : List ℕ) (l : Loaded) → LoadsNamed files name (Ok l) → AreHashes l.prints
+named_hashes files name l h = subst AreHashes (sym (loaded_from files name l h).1.prints) (hashes_law _ _)
 
-has_prints : (suite : SuiteText) (x : Prints) (linked : Result Program LoadFault) (typed : Program → Result Program LoadFault) → prints_or x (linked >>= λ p. typed p >>= λ q. Ok (loaded_of suite x q)) ≡ x
-has_prints suite x (Err f) typed = refl
-has_prints suite x (Ok p) typed = typed_prints (typed p) where
-  typed_prints : (t : Result Program LoadFault) → prints_or x (t >>= λ q. Ok (loaded_of suite x q)) ≡ x
-  typed_prints (Ok q) = refl
-  typed_prints (Err f) = refl
+-- so are those of an eager form, whose digest is another of its sums
+prepared_hashes : (eager : Bool) (l : Loaded) → AreHashes l.prints → AreHashes (if eager then quieted l else l).prints
+prepared_hashes true l h = record { digest = h.eager; suite = h.suite; classes = h.classes; eager = h.eager }
+prepared_hashes false l h = h
 
-checked_prints : (suite : SuiteText) (x : Prints) (linked : Result Program LinkFault) → prints_or x (checked_of suite x linked) ≡ x
-unfolding checked_of
-checked_prints suite x linked = has_prints suite x (link_answer suite linked) (λ p. typed_answer p (check_fault p))
+from_prepared : (files : Files) (name : List ℕ) (eager : Bool) (plain : Result Loaded Status) (l : Loaded) → LoadsNamed files name plain → ◌≡◌ {A = Result Loaded Status} (Ok l) (prepared eager plain) → AreHashes l.prints
+from_prepared files name eager (Ok x) l h e = let same : l ≡ (if eager then quieted x else x) = cc in subst (λ (z : Loaded). AreHashes z.prints) (sym same) (prepared_hashes eager x (named_hashes files name x h))
+from_prepared files name eager (Err s) l h e = absurd (cc)
 
-hashes_read : (files : Files) (name : List ℕ) (l : Loaded) (read : Result (SuiteText × List ClassParts) LoadFault) (answer : Result Loaded LoadFault) → ReadGives (sums_in files name) read answer → answer ≡ Ok l → AreHashes l.prints
-hashes_read files name l (Err f) answer h e = absurd (cc)
-hashes_read files name l (Ok x) answer h e =
-    let sums = sums_in files name x.0 in
-    subst AreHashes (sym (ap (prints_or sums) (sym e ∙ h.3) ∙ checked_prints x.0 sums h.1)) (hashes_law _ _)
-
-loaded_ok : (loading : Result Loaded LoadFault) (l : Loaded) → ◌≡◌ {A = Result Loaded Status} (Ok l) (answered loading) → loading ≡ Ok l
-loaded_ok (Ok x) l e = cc
-loaded_ok (Err f) l e = absurd (cc)
-
-have_hashes : (files : Files) (w : Result (List ℕ) Status) (l : Loaded) → LoadsAny files w (Ok l) → AreHashes l.prints
-have_hashes files (Err s) l h = absurd (cc)
-have_hashes files (Ok name) l h = hashes_read files name l (read_in files name) h.0 h.1 (loaded_ok h.0 l h.2)
+pub have_hashes : (files : Files) (eager : Bool) (w : Result (List ℕ) Status) (l : Loaded) → LoadsAny files eager w (Ok l) → AreHashes l.prints
+have_hashes files eager (Err s) l h = absurd (cc)
+have_hashes files eager (Ok name) l h = from_prepared files name eager h.0 l h.1 h.2
 
 -- ---- so the text of its record is read as that record
 
@@ -67,7 +47,7 @@ hashes_of_more l (Some m) x h =
     let same = h m refl in
     and_from _ _ (ap is_hash same.0 ∙ x.suite) (ap (list_all is_hash) same.1 ∙ x.classes)
 
-read_back : (l : Loaded) (r : Record) → AreHashes l.prints → IsRecordOf l.checked l.prints r → said_in (record_text r) ≡ Ok (said r)
+pub read_back : (l : Loaded) (r : Record) → AreHashes l.prints → IsRecordOf l.checked l.prints r → said_in (record_text r) ≡ Ok (said r)
 read_back l r x is =
     let more = hashes_of_more l r.more x (λ m e. let own = is.more m e in (own.suite, own.classes)) in
     given_text (said r) r.form r.more_form (and_from _ _ (ap is_hash is.digest ∙ x.digest) more)
@@ -84,7 +64,7 @@ asks_own files a workers log l tests asks =
       own = found.kept;
       bytes = asks.text;
       held = asks.held;
-      says = ap said_in asks.found.writes ∙ read_back l asks.found.found.kept (have_hashes files (suite_word a) l asks.load) found.kept;
+      says = ap said_in asks.found.writes ∙ read_back l asks.found.found.kept (have_hashes files (is_eager a.words) (suite_word a) l asks.load) found.kept;
     }
 
 pub detected_answer : (asked : Asked) (s : Status) (old new : SinkView) → Served asked s old new → DetectedAnswer asked s old new

@@ -1,5 +1,5 @@
 -- The summary of a generated suite, from its parts.
-use Rattle.std.proofs.Common.{◌≡◌, ℕ, ◌+◌, List, [], ◌∷◌, ◌++◌, length, codes, sum, Bool, refl, sym, ap, ◌∙◌, subst, arith, inl, inr, All, Option, Some, None, Ok, Err, IfSome}
+use Rattle.std.proofs.Common.{◌≡◌, ℕ, ◌+◌, List, ◌∷◌, ◌++◌, length, codes, sum, Bool, refl, sym, ap, ◌∙◌, subst, arith, inl, inr, All, Option, Some, None, Ok, Err, IfSome}
 use Rattle.std.proofs.lemmas.List.FromFn.{length-map-range_with_len}
 use Rattle.jvm_model.specs.declared.outcome.Outcome.{Outcome}
 use Rattle.jvm_model.specs.Linked.{Linked}

@@ -2,9 +2,11 @@ mod Begun
 mod Founds
 mod ListRuns
 mod LoadLaws
+mod LoadedFacts
 mod OrderLists
 mod OrderLaws
 mod OrderRuns
+mod ImpactLaws
 mod PlanLaws
 mod Replying
 mod SelectionLaws
@@ -22,4 +24,6 @@ mod OwnAnswers
 mod OwnOrderLaws
 mod GeneratedLaws
 mod DetectedLaws
+mod EagerLaws
+mod EarlierLaws
 pub mod QuietLaws

@@ -1,5 +1,5 @@
 -- How the words and a suite's loading are answered.
-use Rattle.std.proofs.Common.{◌≡◌, ◌≤◌, ℕ, List, Bool, refl, sym, ap, subst, ◌∙◌, Option, Some, None, Result, Ok, Err, IfSome, IfErr, IsErrAnd, MatchResult}
+use Rattle.std.proofs.Common.{◌≡◌, ◌≤◌, ℕ, List, Bool, refl, sym, ap, subst, ◌∙◌, Option, Some, None, Result, Ok, Err, IfSome, ◌-◌}
 use Rattle.outside.specs.Depot.{Files, DepotView, FailedAt}
 use Rattle.outside.proofs.CountLemmas.{rose_later}
 use Rattle.suite_load.specs.declared.load_fault.LoadFault.{LoadFault}
@@ -7,11 +7,14 @@ use Rattle.suite_load.specs.declared.load_fault.LoadFault.TheVariants as fault
 use Rattle.suite_load.specs.declared.loaded.Loaded.{Loaded}
 use Rattle.suite_load.specs.Loading.{Loads, IsRead}
 use Rattle.suite_load.specs.LoadAnswers.{LoadAnswers, IsProper}
+use Rattle.jvm_model.specs.Builtin.{builtin_count}
+use Rattle.quiet_init.specs.Quiet.{quiet}
+use Rattle.quiet_init.proofs.Parts.{class_count}
 use Rattle.electrictest.specs.declared.status.Status.{Status}
 use Rattle.electrictest.specs.declared.status.Status.TheVariants as ends
 use Rattle.electrictest.specs.declared.words.Command.{Command}
-use Rattle.electrictest.specs.Words.{Ask, ask, word_at, refusal_of, suite_word}
-use Rattle.electrictest.specs.Loads.{LoadsFor, LoadsAny, answered, status_of, of_suite}
+use Rattle.electrictest.specs.Words.{Ask, ask, is_eager, word_at, refusal_of, suite_word}
+use Rattle.electrictest.specs.Loads.{IsSuite, LoadsFor, LoadsAny, answered, quieted, prepared, status_of, of_suite}
 use Rattle.electrictest.specs.Replies.{Unreported, unloaded}
 use Rattle.electrictest.specs.Commands.{ReportEnds, ReportsOver, RefusedOver, Reported}
 
@@ -21,8 +24,14 @@ module _ (c : Option Command) (words : List (List ℕ)) (name : List ℕ) (asks 
   names_suite : suite_word (ask c words) ≡ Ok name
   names_suite = ap (λ (o : Option Status). elim o [ None ↦ Ok (word_at words 1) | Some s ↦ Err s ]) asks ∙ ap (λ (n : List ℕ). Ok n) (sym named)
 
-  loads_for : (files : Files) (answer : Result Loaded LoadFault) → Loads files name answer → LoadsFor files (ask c words) (answered answer)
-  loads_for files answer h = subst (λ (w : Result (List ℕ) Status). LoadsAny files w (answered answer)) (sym names_suite) (answer, h, refl)
+  loads_for : (files : Files) (answer : Result Loaded LoadFault) → Loads files name answer → LoadsFor files (ask c words) (prepared (is_eager words) (answered answer))
+  loads_for files answer h = subst (λ (w : Result (List ℕ) Status). LoadsAny files (is_eager words) w (prepared (is_eager words) (answered answer))) (sym names_suite) (answered answer, (answer, h, refl), refl)
+
+-- its loading, for an eager form without its quiet initialisers
+pub loads_all : (told : Option Files) (c : Option Command) (words : List (List ℕ)) (name : List ℕ) (x l : Loaded) → refusal_of c ≡ None → name ≡ word_at words 1 →
+    IfSome told (λ files. LoadAnswers files name (Ok x)) → ◌≡◌ {A = Result Loaded Status} (Ok l) (prepared (is_eager words) (Ok x)) → IfSome told (λ files. LoadsFor files (ask c words) (Ok l))
+loads_all None c words name x l e n h p = tt
+loads_all (Some files) c words name x l e n h p = subst (LoadsFor files (ask c words)) (sym p) (loads_for c words name e n files (Ok x) h)
 
 -- the fault of its loading
 pub unloaded_for : (told : Option Files) (c : Option Command) (words : List (List ℕ)) (name : List ℕ) (f : LoadFault) (old new : DepotView) → refusal_of c ≡ None → name ≡ word_at words 1 →
@@ -37,17 +46,10 @@ unloaded_for (Some files) c words name (fault.Class x f) old new e n h p = unloa
 unloaded_for (Some files) c words name (fault.Link f) old new e n h p = unloaded (loads_for c words name e n files (Err (fault.Link f)) h)
 unloaded_for (Some files) c words name (fault.Check f) old new e n h p = unloaded (loads_for c words name e n files (Err (fault.Check f)) h)
 
-pub unloaded_all : (told : Option Files) (c : Option Command) (words : List (List ℕ)) (name : List ℕ) (r : Result Loaded LoadFault) (old new : DepotView) → refusal_of c ≡ None → name ≡ word_at words 1 →
-    IfSome told (λ files. LoadAnswers files name r) → IfErr r (IsProper (λ read. IfSome told (λ files. IsRead files name read) × FailedAt old new read)) → IfErr r (λ f. IfSome told (λ files. Unreported files (ask c words) (status_of f)))
-unloaded_all told c words name (Ok l) old new e n h p = tt
-unloaded_all told c words name (Err f) old new e n h p = unloaded_for told c words name f old new e n h p
-
--- a fault's status is answered
-pub answers_fault : (post : LoadFault → Status → Type 0) (r : Result Loaded LoadFault) (s : Result Loaded Status) → MatchResult r (λ l. s ≡ Ok l) (λ f. IsErrAnd s (post f)) → ((f : LoadFault) (x : Status) → post f x → x ≡ status_of f) →
-    (Q : Status → Type 0) → IfErr r (λ f. Q (status_of f)) → IfErr s Q
-answers_fault post (Ok l) s c h Q q = subst (λ (z : Result Loaded Status). IfErr z Q) (sym c) tt
-answers_fault post (Err f) (Ok l) c h Q q = absurd c
-answers_fault post (Err f) (Err x) c h Q q = subst Q (sym (h f x c)) q
+-- without its quiet initialisers a suite has the same tests and as many classes
+pub quieted_suite : (l : Loaded) → IsSuite l → IsSuite (quieted l)
+unfolding quiet
+quieted_suite l s = record { names = s.names; few = s.few; sums = s.sums ∙ ap (λ (n : ℕ). n - builtin_count) (sym (class_count l.checked)) }
 
 -- ---- and then the command
 

@@ -19,25 +19,24 @@ use Rattle.electrictest.specs.declared.status.Status.TheVariants as ends
 use Rattle.electrictest.specs.declared.status.InputFault.{InputFault}
 use Rattle.electrictest.specs.declared.status.OverFault.{OverFault}
 use Rattle.electrictest.specs.declared.words.Command.{Command}
-use Rattle.electrictest.specs.declared.words.Command.TheVariants as command
 use Rattle.electrictest.specs.Commands.{Asked, Served, Whole}
-use Rattle.electrictest.specs.Loads.{LoadsFor, LoadsAny, answered, Begins, begun_by, named_by}
+use Rattle.electrictest.specs.Loads.{LoadsFor, LoadsNamed, LoadsAny, answered, prepared, Begins, begun_by, fits_for, named_by}
 use Rattle.electrictest.specs.OwnRecords.{AsksOwn, WroteOwn, OwnAnswer}
 use Rattle.electrictest.specs.PoolRuns.{IsPoolRun, IsPoolOver, IsPoolReport, IsOverPool, IsOfSuite}
-use Rattle.electrictest.specs.Records.{Beginning, begun, record_fits, classes_fit}
+use Rattle.electrictest.specs.Records.{Beginning, begun, record_at, record_fits, classes_fit}
 use Rattle.electrictest.specs.Replies.{IsRefusedInput, unloaded, unbegun, ungenerated, unlawful, ReportsBy, OversBy}
 use Rattle.electrictest.specs.Selections.{selected}
-use Rattle.electrictest.specs.Words.{Ask, word_at, suite_word}
+use Rattle.electrictest.specs.Words.{Ask, is_eager, word_at, suite_word}
 use Rattle.electrictest.proofs.PoolLaws.{own_runs}
 
 -- ---- a suite is loaded in one way
 
-named_once : (files : Files) (name : List ℕ) (x y : Result Loaded Status) → LoadsAny files (Ok name) x → LoadsAny files (Ok name) y → x ≡ y
+named_once : (files : Files) (name : List ℕ) (x y : Result Loaded Status) → LoadsNamed files name x → LoadsNamed files name y → x ≡ y
 named_once files name x y h k = h.2 ∙ (ap answered ((loads_once files name).2 h.0 h.1 ∙ sym ((loads_once files name).2 k.0 k.1)) ∙ sym k.2)
 
-pub any_once : (files : Files) (w : Result (List ℕ) Status) (x y : Result Loaded Status) → LoadsAny files w x → LoadsAny files w y → x ≡ y
-any_once files (Err s) x y h k = h ∙ sym k
-any_once files (Ok name) x y h k = named_once files name x y h k
+pub any_once : (files : Files) (eager : Bool) (w : Result (List ℕ) Status) (x y : Result Loaded Status) → LoadsAny files eager w x → LoadsAny files eager w y → x ≡ y
+any_once files eager (Err s) x y h k = h ∙ sym k
+any_once files eager (Ok name) x y h k = h.2 ∙ (ap (prepared eager) (named_once files name h.0 k.0 h.1 k.1) ∙ sym k.2)
 
 loaded_or : Loaded → Result Loaded Status → Loaded
 loaded_or l (Ok x) = x
@@ -45,7 +44,7 @@ loaded_or l (Err s) = l
 
 pub loaded_once : (files : Files) (a : Ask) (l x : Loaded) → LoadsFor files a (Ok l) → LoadsFor files a (Ok x) → x ≡ l
 unfolding loaded_or
-loaded_once files a l x h k = ap (loaded_or l) (any_once files (suite_word a) (Ok x) (Ok l) k h)
+loaded_once files a l x h k = ap (loaded_or l) (any_once files (is_eager a.words) (suite_word a) (Ok x) (Ok l) k h)
 
 -- ---- the suite's own record is of the suite
 
@@ -66,8 +65,8 @@ own_beginning : List ℕ → Record → Beginning
 own_beginning tests kept = record { tests = tests; said = said kept }
 
 begun_own : (files : Files) (a : Ask) (workers : ℕ) (log : Bool) (l : Loaded) (tests : List ℕ) → (own : AsksOwn files a workers log l tests) →
-    begun files l (selected l.names (word_at a.words 4)) (word_at a.words 2) ≡ Ok (own_beginning tests own.kept)
-unfolding begun own_beginning
+    begun record_fits files l (selected l.names (word_at a.words 4)) (word_at a.words 2) ≡ Ok (own_beginning tests own.kept)
+unfolding begun record_at own_beginning
 begun_own files a workers log l tests own = rw own.named (rw own.held (rw own.says (rw (fits_own l own.kept own.own) refl)))
 
 -- so all that such words begin with is that
@@ -80,7 +79,7 @@ begins_own : (files : Files) (a : Ask) (workers : ℕ) (log : Bool) (l : Loaded)
 begins_own files a workers log l tests own x b h =
     let same : x ≡ l = loaded_once files a l x own.load h.load in
     let here : begun_by files a l ≡ Some (Ok (own_beginning tests own.kept)) =
-    ap (λ (c : Option Command). option_map (λ (n : Result (List ℕ) InputFault). begun files l n (word_at a.words 2)) (named_by c a.words l)) own.asks
+    ap (λ (c : Option Command). option_map (λ (n : Result (List ℕ) InputFault). begun (fits_for c) files l n (word_at a.words 2)) (named_by c a.words l)) own.asks
     ∙ ap (λ (r : Result Beginning InputFault). Some r) (begun_own files a workers log l tests own) in
     record { loaded = same; begins = ap (λ (o : Option (Result Beginning InputFault)). unwrap_or o b) (sym h.begins ∙ (ap (begun_by files a) same ∙ here)) }
 
@@ -125,7 +124,7 @@ never_over files a workers log l tests f own over =
     law.none_over f (subst (λ (x : Loaded). IsOverPool x r.beginning f) start.loaded r.over)
 
 never_refused : (files : Files) (a : Ask) (workers : ℕ) (log : Bool) (l : Loaded) (tests : List ℕ) (f : InputFault) → AsksOwn files a workers log l tests → IsRefusedInput files a f → ⊥
-never_refused files a workers log l tests f own (unloaded h) = let e = any_once files (suite_word a) (Ok l) (Err (ends.Input f)) own.load h in absurd (cc)
+never_refused files a workers log l tests f own (unloaded h) = let e = any_once files (is_eager a.words) (suite_word a) (Ok l) (Err (ends.Input f)) own.load h in absurd (cc)
 never_refused files a workers log l tests f own (unbegun {l = x} h) = let e = (begins_own files a workers log l tests own x (Err f) h).begins in absurd (cc)
 never_refused files a workers log l tests f own (ungenerated c h) = let e = sym own.asks ∙ c in absurd (cc)
 never_refused files a workers log l tests f own (unlawful {l = x} {b = b} c h u) = let e = sym own.asks ∙ c in absurd (cc)

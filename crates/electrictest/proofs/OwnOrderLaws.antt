@@ -19,16 +19,15 @@ use Rattle.electrictest.specs.declared.status.Status.TheVariants as ends
 use Rattle.electrictest.specs.declared.status.InputFault.{InputFault}
 use Rattle.electrictest.specs.declared.status.OverFault.{OverFault}
 use Rattle.electrictest.specs.declared.words.Command.{Command}
-use Rattle.electrictest.specs.declared.words.Command.TheVariants as command
 use Rattle.electrictest.specs.Commands.{Asked, Served, Whole}
-use Rattle.electrictest.specs.Loads.{Begins, begun_by, named_by}
+use Rattle.electrictest.specs.Loads.{Begins, begun_by, fits_for, named_by}
 use Rattle.electrictest.specs.Orders.{IsOrderReport, IsOrdered, IsOrderedOver, IsOverOrder, IsUnlawful, OwnOrders}
 use Rattle.electrictest.specs.OwnLists.{AsksOwnOrder, WroteOrder, OwnOrderAnswer}
 use Rattle.electrictest.specs.PoolRuns.{IsOfSuite}
-use Rattle.electrictest.specs.Records.{Beginning, begun}
+use Rattle.electrictest.specs.Records.{Beginning, begun, record_at, record_fits}
 use Rattle.electrictest.specs.Replies.{IsRefusedInput, unloaded, unbegun, ungenerated, unlawful, ReportsBy, OversBy}
 use Rattle.electrictest.specs.Selections.{ordered}
-use Rattle.electrictest.specs.Words.{Ask, word_at, suite_word}
+use Rattle.electrictest.specs.Words.{Ask, is_eager, word_at, suite_word}
 use Rattle.electrictest.proofs.OwnAnswers.{any_once, loaded_once, fits_own}
 
 -- ---- an order by the suite's own edges
@@ -65,15 +64,15 @@ module _ (files : Files) (a : Ask) (l : Loaded) (tests : List ℕ) (own : AsksOw
   abbrev own_start : Beginning
   own_start = record { tests = tests; said = said own.kept }
 
-  begun_own : begun files l (ordered l.names (word_at a.words 3)) (word_at a.words 2) ≡ Ok own_start
-  unfolding begun
+  begun_own : begun record_fits files l (ordered l.names (word_at a.words 3)) (word_at a.words 2) ≡ Ok own_start
+  unfolding begun record_at
   begun_own = rw own.named (rw own.held (rw own.says (rw (fits_own l own.kept own.own) refl)))
 
   begins_own : (x : Loaded) (b : Result Beginning InputFault) → Begins files a x b → IsStart l x own_start b
   begins_own x b h =
       let same : x ≡ l = loaded_once files a l x own.load h.load in
       let here : begun_by files a l ≡ Some (Ok own_start) =
-      ap (λ (c : Option Command). option_map (λ (n : Result (List ℕ) InputFault). begun files l n (word_at a.words 2)) (named_by c a.words l)) own.asks
+      ap (λ (c : Option Command). option_map (λ (n : Result (List ℕ) InputFault). begun (fits_for c) files l n (word_at a.words 2)) (named_by c a.words l)) own.asks
       ∙ ap (λ (r : Result Beginning InputFault). Some r) begun_own in
       record { loaded = same; begins = ap (λ (o : Option (Result Beginning InputFault)). unwrap_or o b) (sym h.begins ∙ (ap (begun_by files a) same ∙ here)) }
 
@@ -113,7 +112,7 @@ module _ (files : Files) (a : Ask) (l : Loaded) (tests : List ℕ) (own : AsksOw
       fault.unlawful u.found u.fault (subst (λ (y : Beginning). Lawful y.said.edges y.tests) (sym same.1) lawful_own)
 
 never_refused : (files : Files) (a : Ask) (l : Loaded) (tests : List ℕ) (f : InputFault) → AsksOwnOrder files a l tests → IsRefusedInput files a f → ⊥
-never_refused files a l tests f own (unloaded h) = let e = any_once files (suite_word a) (Ok l) (Err (ends.Input f)) own.load h in absurd (cc)
+never_refused files a l tests f own (unloaded h) = let e = any_once files (is_eager a.words) (suite_word a) (Ok l) (Err (ends.Input f)) own.load h in absurd (cc)
 never_refused files a l tests f own (unbegun {l = x} h) = let e = (begins_own files a l tests own x (Err f) h).begins in absurd (cc)
 never_refused files a l tests f own (ungenerated c h) = let e = sym own.asks ∙ c in absurd (cc)
 never_refused files a l tests f own (unlawful {l = x} {b = b} c h u) = never_unlawful files a l tests own x b f h u

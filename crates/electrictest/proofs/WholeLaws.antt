@@ -1,13 +1,12 @@
 -- A run of the whole suite answers what is asked.
-use Rattle.std.proofs.Common.{◌≡◌, ◌≢◌, ℕ, List, Bool, refl, Option, Some, None}
+use Rattle.std.proofs.Common.{ℕ, List, Bool, refl, Option, Some, None}
 use Rattle.outside.specs.Depot.{Files, DepotView}
 use Rattle.suite_load.specs.declared.loaded.Loaded.{Loaded}
 use Rattle.electrictest.specs.declared.status.Status.{Status}
 use Rattle.electrictest.specs.declared.status.Status.TheVariants as ends
-use Rattle.electrictest.specs.declared.words.Command.{Command}
 use Rattle.electrictest.specs.declared.words.Command.TheVariants as command
 use Rattle.electrictest.specs.TestNames.{units_in}
-use Rattle.electrictest.specs.Words.{ask, refusal_of, IsServed}
+use Rattle.electrictest.specs.Words.{ask}
 use Rattle.electrictest.specs.Running.{RunRefused, WholeReports}
 use Rattle.electrictest.specs.Commands.{ReportEnds, ReportsOver, RefusedOver}
 
@@ -39,15 +38,3 @@ whole_ends words depot l ends.Words r = absurd r
 whole_ends words depot l ends.Done r = absurd r
 whole_ends words depot l ends.NotPassed r = absurd r
 whole_ends words depot l ends.Sink r = absurd r
-
--- what is served besides the others
-pub only_whole : (c : Option Command) → refusal_of c ≡ None → IsServed c → c ≢ Some command.Detect → ((json : Bool) → c ≢ Some (command.Deps json)) → c ≢ Some command.Order → ((n : ℕ) → c ≢ Some (command.Plan n)) → c ≡ Some command.Whole
-only_whole None e s detect deps order plan = absurd (cc)
-only_whole (Some command.Whole) e s detect deps order plan = refl
-only_whole (Some command.NeedsRecord) e s detect deps order plan = absurd (cc)
-only_whole (Some (command.Run n log)) e s detect deps order plan = absurd s
-only_whole (Some command.Detect) e s detect deps order plan = absurd (detect refl)
-only_whole (Some (command.Deps json)) e s detect deps order plan = absurd (deps json refl)
-only_whole (Some command.Order) e s detect deps order plan = absurd (order refl)
-only_whole (Some (command.Plan n)) e s detect deps order plan = absurd (plan n refl)
-only_whole (Some (command.Gen k n)) e s detect deps order plan = absurd s

@@ -1,8 +1,11 @@
 pub mod Codes
 pub mod Commands
 pub mod Detections
+pub mod EagerForms
+pub mod EarlierRecords
 pub mod FaultTexts
 pub mod Generated
+pub mod Impacts
 pub mod Loads
 pub mod Logs
 pub mod Orders
@@ -12,6 +15,7 @@ pub mod PlanTexts
 pub mod Plans
 pub mod PoolRuns
 pub mod Pools
+pub mod QuietLists
 pub mod Records
 pub mod Replies
 pub mod Running

@@ -1,20 +1,22 @@
 -- What a call reads of a depot's files: the suite, and for some commands a record of it (this project's).
-use Rattle.std.specs.Prelude.{◌≡◌, ◌≤◌, ℕ, ◌-◌, length, List, Option, Some, None, option_map, Result, Ok, Err}
+use Rattle.std.specs.Prelude.{◌≡◌, ◌≤◌, ℕ, ◌-◌, length, List, [], Bool, Option, Some, None, option_map, Result, Ok, Err, if◌then◌else◌}
 use Rattle.jvm_model.specs.Builtin.{builtin_count}
 use Rattle.outside.specs.Depot.{Files}
+use Rattle.dep_record.specs.RecordText.{Said}
 use Rattle.suite_load.specs.declared.load_fault.LoadFault.{LoadFault}
 use Rattle.suite_load.specs.declared.load_fault.LoadFault.TheVariants as fault
 use Rattle.suite_load.specs.declared.loaded.Loaded.{Loaded}
 use Rattle.suite_load.specs.Loading.{Loads, IsRead}
+use Rattle.quiet_init.specs.Quiet.{quiet}
 use Rattle.electrictest.specs.declared.status.Status.{Status}
 use Rattle.electrictest.specs.declared.status.Status.TheVariants as ends
 use Rattle.electrictest.specs.declared.status.InputFault.{InputFault}
 use Rattle.electrictest.specs.declared.status.InputFault.TheVariants as input
 use Rattle.electrictest.specs.declared.words.Command.{Command}
 use Rattle.electrictest.specs.declared.words.Command.TheVariants as command
-use Rattle.electrictest.specs.Words.{Ask, suite_word, word_at}
+use Rattle.electrictest.specs.Words.{Ask, is_eager, suite_word, word_at}
 use Rattle.electrictest.specs.Selections.{ordered, selected}
-use Rattle.electrictest.specs.Records.{Beginning, begun}
+use Rattle.electrictest.specs.Records.{Beginning, begun, record_fits, earlier_fits}
 
 -- how a fault of loading is answered
 abbrev pub status_of : LoadFault → Status
@@ -36,13 +38,22 @@ answered (Err f) = Err (status_of f)
 abbrev pub LoadsNamed : Files → List ℕ → Result Loaded Status → Type 0
 LoadsNamed files name answer = (loading : Result Loaded LoadFault) × Loads files name loading × (answer ≡ answered loading)
 
-abbrev pub LoadsAny : Files → Result (List ℕ) Status → Result Loaded Status → Type 0
-LoadsAny files (Err s) answer = answer ≡ Err s
-LoadsAny files (Ok name) answer = LoadsNamed files name answer
+-- The suite without its quiet initialisers; its digest is that of an eager form, so that records of the two kinds differ.
+abbrev pub quieted : Loaded → Loaded
+quieted l = record l { checked = quiet l.checked; prints = record l.prints { digest = l.prints.eager } }
+
+-- so is a loaded suite where the form is eager
+abbrev pub prepared : Bool → Result Loaded Status → Result Loaded Status
+prepared eager (Ok l) = Ok (if eager then quieted l else l)
+prepared eager (Err s) = Err s
+
+abbrev pub LoadsAny : Files → Bool → Result (List ℕ) Status → Result Loaded Status → Type 0
+LoadsAny files eager (Err s) answer = answer ≡ Err s
+LoadsAny files eager (Ok name) answer = (plain : Result Loaded Status) × LoadsNamed files name plain × (answer ≡ prepared eager plain)
 
 -- loading for what is asked answers this
 abbrev pub LoadsFor : Files → Ask → Result Loaded Status → Type 0
-LoadsFor files a answer = LoadsAny files (suite_word a) answer
+LoadsFor files a answer = LoadsAny files (is_eager a.words) (suite_word a) answer
 
 -- a suite that was loaded has a name for each test, and few tests
 pub record IsSuite (l : Loaded) : Type 0 where
@@ -54,19 +65,20 @@ pub record IsSuite (l : Loaded) : Type 0 where
 
 -- the tests that the words name, where they name a record too
 abbrev pub named_by : Option Command → List (List ℕ) → Loaded → Option (Result (List ℕ) InputFault)
-named_by None words l = None
-named_by (Some command.Whole) words l = None
-named_by (Some command.NeedsRecord) words l = None
 named_by (Some (command.Run n log)) words l = Some (selected l.names (word_at words 4))
-named_by (Some command.Detect) words l = None
-named_by (Some (command.Deps json)) words l = None
 named_by (Some command.Order) words l = Some (ordered l.names (word_at words 3))
 named_by (Some (command.Plan n)) words l = Some (selected l.names (word_at words 4))
-named_by (Some (command.Gen k n)) words l = None
+named_by (Some command.Impact) words l = Some (Ok [])
+named_by _ words l = None
+
+-- what that record has to be: of an earlier state of the suite, or of the suite
+abbrev pub fits_for : Option Command → Loaded → Said → Result (Unit {0}) InputFault
+fits_for (Some command.Impact) = earlier_fits
+fits_for _ = record_fits
 
 -- what a command begins with besides the suite: those tests, and the record
 abbrev pub begun_by : Files → Ask → Loaded → Option (Result Beginning InputFault)
-begun_by files a l = option_map (λ named. begun files l named (word_at a.words 2)) (named_by a.command a.words l)
+begun_by files a l = option_map (λ named. begun (fits_for a.command) files l named (word_at a.words 2)) (named_by a.command a.words l)
 
 -- the suite is loaded, and with it this is begun
 pub record Begins (files : Files) (a : Ask) (l : Loaded) (b : Result Beginning InputFault) : Type 0 where

@@ -1,5 +1,5 @@
--- The record that an order or a plan is made with (this project's).
-use Rattle.std.specs.Prelude.{ℕ, ◌==◌, nat_le, List, length, not, Option, Some, None, Result, Ok, Err, if◌then◌else◌}
+-- The record that a command is given (this project's).
+use Rattle.std.specs.Prelude.{ℕ, ◌==◌, nat_le, List, [], length, not, Option, Some, None, Result, Ok, Err, if◌then◌else◌}
 use Rattle.std.specs.Str.{bytes_eq}
 pub use Rattle.et_base.specs.Answers.{◌>>=◌}
 use Rattle.et_base.specs.Answers as answers
@@ -35,16 +35,33 @@ abbrev pub said_answer : Result Said ℕ → Result Said InputFault
 said_answer (Ok s) = Ok s
 said_answer (Err line) = Err (input.Record line)
 
+-- what the record of this name says
+unfoldable pub record_at : Files → List ℕ → Result Said InputFault
+record_at files name = record_bytes files name >>= λ bytes. said_answer (said_in bytes)
+
 -- the number of classes that version 2 says, at line 5
 abbrev pub classes_fit : Loaded → Option More → Result (Unit {0}) InputFault
 classes_fit l None = Ok tt
 classes_fit l (Some m) = if length m.classes == length l.prints.classes then Ok tt else Err (input.Record 5)
 
--- a record is of the suite by its digest, its number of tests, at line 3, and its number of classes
+-- a record has the suite's number of tests, at line 3, and of classes
+abbrev pub counts_fit : Loaded → Said → Result (Unit {0}) InputFault
+counts_fit l s = if not (length s.units == length l.checked.tests) then Err (input.Record 3) else classes_fit l s.more
+
+-- a record is of the suite by its digest, and by those numbers
 unfoldable pub record_fits : Loaded → Said → Result (Unit {0}) InputFault
-record_fits l s =
-    if not (bytes_eq s.digest l.prints.digest) then Err (input.RecordForeign s.digest l.prints.digest)
-    else (if not (length s.units == length l.checked.tests) then Err (input.Record 3) else classes_fit l s.more)
+record_fits l s = if not (bytes_eq s.digest l.prints.digest) then Err (input.RecordForeign s.digest l.prints.digest) else counts_fit l s
+
+-- a record is in version 2, and of the suite's text
+abbrev pub suite_fits : Loaded → Option More → Result (Unit {0}) InputFault
+suite_fits l None = Err input.RecordOld
+suite_fits l (Some m) = if not (bytes_eq m.suite l.prints.suite) then Err (input.RecordForeign m.suite l.prints.suite) else Ok tt
+
+-- a record is of an earlier state of the suite: of its text, and of as many tests and classes, whatever the class files are
+unfoldable pub earlier_fits : Loaded → Said → Result (Unit {0}) InputFault
+earlier_fits l s = do
+  _ ← suite_fits l s.more
+  counts_fit l s
 
 -- ---- the tests and the record
 
@@ -53,20 +70,23 @@ pub record Beginning : Type 0 where
   pub tests : List ℕ
   pub said : Said
 
--- What an order or a plan begins with, or the first refusal: a name is of no test, the record can't be read, is none, or is of
--- another suite.
-unfoldable pub begun : Files → Loaded → Result (List ℕ) InputFault → List ℕ → Result Beginning InputFault
-begun files l named record_name = do
+-- What a command with a record begins with, or the first refusal: a name is of no test, the record can't be read, is none, or
+-- isn't of the suite as the command asks.
+unfoldable pub begun : (Loaded → Said → Result (Unit {0}) InputFault) → Files → Loaded → Result (List ℕ) InputFault → List ℕ → Result Beginning InputFault
+begun fits files l named record_name = do
   tests ← named
-  bytes ← record_bytes files record_name
-  s ← said_answer (said_in bytes)
-  _ ← record_fits l s
+  s ← record_at files record_name
+  _ ← fits l s
   Ok (record { tests = tests; said = s })
 
 -- ---- answers
 
 abbrev pub beginning : Begun → Beginning
 beginning b = record { tests = b.tests; said = said b.record }
+
+-- where no tests are named
+abbrev pub nameless : Record → Beginning
+nameless r = record { tests = []; said = said r }
 
 -- the fault that a definition knows of; a failing depot's and want of memory are free
 abbrev pub says : Status → Option InputFault

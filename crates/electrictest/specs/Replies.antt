@@ -20,7 +20,9 @@ use Rattle.electrictest.specs.Wholes.{IsReport, IsOver}
 use Rattle.electrictest.specs.Orders.{IsUnlawful, IsOrdered, IsOrderedOver}
 use Rattle.electrictest.specs.PoolRuns.{IsPoolRun, IsPoolOver}
 use Rattle.electrictest.specs.Plans.{IsPlanned}
+use Rattle.electrictest.specs.Impacts.{IsImpacted}
 use Rattle.electrictest.specs.Generated.{IsSummary, IsUngenerated, IsGeneratedOver}
+use Rattle.electrictest.specs.QuietLists.{IsQuietList}
 use Rattle.electrictest.specs.Detections.{IsDetected, recorded, dependences}
 
 -- Why the input is refused: by its loading; by the names in the words, or the record; by the loading of a generated suite; or by
@@ -33,30 +35,29 @@ pub data IsRefusedInput (files : Files) (a : Ask) (f : InputFault) : Type 0 wher
 
 -- the text that a command writes, and the units of the tests that it runs
 abbrev pub ReportsBy : Option Command → Files → Ask → Bool → List ℕ → ℕ → Type 0
-ReportsBy None files a passed text units = ⊥
 ReportsBy (Some command.Whole) files a passed text units = IsReport files a passed text units
-ReportsBy (Some command.NeedsRecord) files a passed text units = ⊥
 ReportsBy (Some (command.Run n log)) files a passed text units = IsPoolRun files a n log passed text units
 ReportsBy (Some command.Detect) files a passed text units = IsDetected files a recorded passed text units
 ReportsBy (Some (command.Deps json)) files a passed text units = IsDetected files a (dependences json) passed text units
 ReportsBy (Some command.Order) files a passed text units = IsOrdered files a passed text units
 ReportsBy (Some (command.Plan n)) files a passed text units = IsPlanned files a n passed text units
+ReportsBy (Some command.Impact) files a passed text units = IsImpacted files a passed text units
 ReportsBy (Some (command.Gen k n)) files a passed text units = IsSummary k n passed text units
+ReportsBy (Some command.Quiet) files a passed text units = IsQuietList files a passed text units
+ReportsBy _ files a passed text units = ⊥
 
 abbrev pub Reports : Files → Ask → Bool → List ℕ → ℕ → Type 0
 Reports files a passed text units = ReportsBy a.command files a passed text units
 
 -- the number of units that is passed
 abbrev pub OversBy : Option Command → Files → Ask → OverFault → Type 0
-OversBy None files a f = ⊥
 OversBy (Some command.Whole) files a f = IsOver files a f
-OversBy (Some command.NeedsRecord) files a f = ⊥
 OversBy (Some (command.Run n log)) files a f = IsPoolOver files a f
 OversBy (Some command.Detect) files a f = IsOver files a f
 OversBy (Some (command.Deps json)) files a f = IsOver files a f
 OversBy (Some command.Order) files a f = IsOrderedOver files a f
-OversBy (Some (command.Plan n)) files a f = ⊥
 OversBy (Some (command.Gen k n)) files a f = IsGeneratedOver k f
+OversBy _ files a f = ⊥
 
 -- Why there is no report; a depot may fail at any file that is read.
 abbrev pub Unreported : Files → Ask → Status → Type 0
@@ -82,6 +83,7 @@ input_text (input.Check f) = codes "check " ++ check_text f
 input_text input.NeedsRecord = codes "needs-record"
 input_text (input.NoTest name) = codes "no-test " ++ quoted_bytes name
 input_text (input.Record line) = codes "record " ++ decimal line
+input_text input.RecordOld = codes "record-old"
 input_text (input.RecordForeign kept found) = codes "record-foreign " ++ (encode_lower kept ++ (32 ∷ encode_lower found))
 input_text (input.Twice test) = codes "twice " ++ test
 input_text (input.MissingWriter test writer) = codes "missing-writer " ++ (test ++ (32 ∷ writer))

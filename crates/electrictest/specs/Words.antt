@@ -1,5 +1,5 @@
 -- What the words of a command line ask for (this project's).
-use Rattle.std.specs.Prelude.{ℕ, ◌<◌, ◌≤◌, ◌==◌, List, [], ◌∷◌, get_or, codes, Bool, true, false, not, ◌&&◌, Option, Some, None, option_map, option_and_then, Result, Ok, Err, if◌then◌else◌}
+use Rattle.std.specs.Prelude.{ℕ, ◌<◌, ◌≤◌, ◌==◌, List, [], ◌∷◌, get_or, codes, drop, Bool, true, false, not, ◌&&◌, Option, Some, None, option_map, option_and_then, Result, Ok, Err, if◌then◌else◌}
 use Rattle.std.specs.Str.{bytes_eq}
 use Rattle.suite_load.specs.NameForms.{is_depot_name}
 use Rattle.dep_record.specs.Fields.{number_up_to}
@@ -40,21 +40,23 @@ run_of r selection log n = if is_whole r n selection log then Some command.Whole
 abbrev pub is_of_suite : List ℕ → List ℕ → List ℕ → Bool
 is_of_suite a word b = bytes_eq a word && is_depot_name b
 
--- `detect SUITE`, or `deps SUITE`
+-- `detect SUITE`, `deps SUITE`, or `quiet SUITE`
 abbrev pub two_words : List ℕ → List ℕ → Option Command
 two_words a b =
     if is_of_suite a (codes "detect") b then Some command.Detect
-    else (if is_of_suite a (codes "deps") b then Some (command.Deps false) else None)
+    else (if is_of_suite a (codes "deps") b then Some (command.Deps false)
+    else (if is_of_suite a (codes "quiet") b then Some command.Quiet else None))
 
 -- `gen K N`
 abbrev pub gen_of : List ℕ → List ℕ → Option Command
 gen_of b c = option_and_then (λ k. option_map (command.Gen k) (workers_of c)) (tests_of b)
 
--- that, or `deps SUITE json`
+-- that, `deps SUITE json`, or `impact SUITE RECORD`, which isn't served without a record
 abbrev pub three_words : List ℕ → List ℕ → List ℕ → Option Command
 three_words a b c =
     if is_of_suite a (codes "deps") b && bytes_eq c (codes "json") then Some (command.Deps true)
-    else (if bytes_eq a (codes "gen") then gen_of b c else None)
+    else (if is_of_suite a (codes "impact") b && is_depot_name c then Some command.Impact
+    else (if bytes_eq a (codes "gen") then gen_of b c else None))
 
 -- `order SUITE RECORD ORDER`
 abbrev pub four_words : List ℕ → List ℕ → List ℕ → Option Command
@@ -71,26 +73,40 @@ abbrev pub six_words : List ℕ → List ℕ → List ℕ → List ℕ → List 
 six_words a b c d e f =
     if is_of_suite a (codes "run") b && bytes_eq f (codes "log") then option_and_then (run_of c e true) (workers_of d) else None
 
+-- what the words of a form ask for
+unfoldable pub form_of : List (List ℕ) → Option Command
+form_of (a ∷ b ∷ []) = two_words a b
+form_of (a ∷ b ∷ c ∷ []) = three_words a b c
+form_of (a ∷ b ∷ c ∷ d ∷ []) = four_words a b c
+form_of (a ∷ b ∷ c ∷ d ∷ e ∷ []) = five_words a b c d e
+form_of (a ∷ b ∷ c ∷ d ∷ e ∷ f ∷ []) = six_words a b c d e f
+form_of _ = None
+
+-- `eager` stands before the words of a form
+abbrev pub is_eager : List (List ℕ) → Bool
+is_eager [] = false
+is_eager (a ∷ rest) = bytes_eq a (codes "eager")
+
+-- the words of the form itself
+abbrev pub form_words : List (List ℕ) → List (List ℕ)
+form_words words = if is_eager words then drop 1 words else words
+
+-- of the forms, those that run the tests of a suite have an eager one, and a plan of them
+abbrev pub eager_of : Option Command → Option Command
+eager_of (Some (command.Gen k n)) = None
+eager_of (Some command.Impact) = None
+eager_of (Some command.Quiet) = None
+eager_of c = c
+
 -- what the words ask for, if they have a form
-unfoldable pub command_of : List (List ℕ) → Option Command
-command_of (a ∷ b ∷ []) = two_words a b
-command_of (a ∷ b ∷ c ∷ []) = three_words a b c
-command_of (a ∷ b ∷ c ∷ d ∷ []) = four_words a b c
-command_of (a ∷ b ∷ c ∷ d ∷ e ∷ []) = five_words a b c d e
-command_of (a ∷ b ∷ c ∷ d ∷ e ∷ f ∷ []) = six_words a b c d e f
-command_of _ = None
+abbrev pub command_of : List (List ℕ) → Option Command
+command_of words = if is_eager words then eager_of (form_of (form_words words)) else form_of words
 
 -- of these, what is served without threads
 abbrev pub plain_of : Option Command → Option Command
-plain_of None = None
-plain_of (Some command.Whole) = Some command.Whole
-plain_of (Some command.NeedsRecord) = Some command.NeedsRecord
 plain_of (Some (command.Run n log)) = None
-plain_of (Some command.Detect) = Some command.Detect
-plain_of (Some (command.Deps json)) = Some (command.Deps json)
-plain_of (Some command.Order) = Some command.Order
-plain_of (Some (command.Plan n)) = Some (command.Plan n)
 plain_of (Some (command.Gen k n)) = None
+plain_of c = c
 
 -- a number of workers isn't 0, and one of generated tests is from 1 to 1,024
 abbrev pub HasWorkers : Option Command → Type 0
@@ -101,15 +117,10 @@ HasWorkers _ = Unit {0}
 
 -- a command that is served without threads
 abbrev pub IsServed : Option Command → Type 0
-IsServed None = Unit {0}
-IsServed (Some command.Whole) = Unit {0}
-IsServed (Some command.NeedsRecord) = Unit {0}
 IsServed (Some (command.Run n log)) = ⊥
-IsServed (Some command.Detect) = Unit {0}
-IsServed (Some (command.Deps json)) = Unit {0}
-IsServed (Some command.Order) = Unit {0}
-IsServed (Some (command.Plan n)) = 0 < n
 IsServed (Some (command.Gen k n)) = ⊥
+IsServed (Some (command.Plan n)) = 0 < n
+IsServed _ = Unit {0}
 
 -- What a call is asked for: the command that is served, if there is one, and the words.
 pub record Ask : Type 0 where
@@ -123,20 +134,15 @@ ask c words = record { command = c; words = words }
 abbrev pub plain : List (List ℕ) → Ask
 plain words = ask (plain_of (command_of words)) words
 
+-- the word of the form at this place, counted from 0
 abbrev pub word_at : List (List ℕ) → ℕ → List ℕ
-word_at words i = get_or words i []
+word_at words i = get_or (form_words words) i []
 
 -- how words are answered that name no suite to load
 abbrev pub refusal_of : Option Command → Option Status
 refusal_of None = Some ends.Words
 refusal_of (Some command.NeedsRecord) = Some (ends.Input input.NeedsRecord)
-refusal_of (Some command.Whole) = None
-refusal_of (Some (command.Run n log)) = None
-refusal_of (Some command.Detect) = None
-refusal_of (Some (command.Deps json)) = None
-refusal_of (Some command.Order) = None
-refusal_of (Some (command.Plan n)) = None
-refusal_of (Some (command.Gen k n)) = None
+refusal_of _ = None
 
 -- the suite's name, or the refusal of words that name none
 abbrev pub suite_word : Ask → Result (List ℕ) Status

@@ -2,6 +2,8 @@
 
 ghost use Rattle.std.specs.Prelude.{◌≡◌, ◌≤◌, None, IfOk, IfErr, IfSome};
 ghost use Rattle.electrictest.specs.Commands.{called, HasForm, ReportEnds, Reported, ReportsOver, RefusedOver, Writes, Refused, Taken, Served, Ends};
+ghost use Rattle.electrictest.specs.EagerForms.{EagerAnswer};
+ghost use Rattle.electrictest.specs.EarlierRecords.{EarlierAnswer};
 ghost use Rattle.electrictest.specs.Loads.{IsSuite};
 ghost use Rattle.electrictest.specs.OwnLists.{OwnOrderAnswer};
 ghost use Rattle.electrictest.specs.Words.{ask, plain, refusal_of, IsServed};
@@ -9,9 +11,11 @@ ghost use Rattle.electrictest.specs.Commands as command;
 ghost use Rattle.electrictest.specs.Replies as reply;
 
 use crate::detections::{deps_for, record_for};
+use crate::impacts::impact_for;
 use crate::loading::load_for;
 use crate::orders::order_for;
 use crate::plans::plan_for;
+use crate::quiet_lists::quiet_for;
 use crate::reports::Report;
 use crate::status::Status;
 use crate::texts::fault_line;
@@ -60,6 +64,8 @@ pub fn report_for<D: Depot, L: Ledger>(
         Some(Command::Deps { json }) => deps_for(alloc, loaded, json, steps),
         Some(Command::Order) => order_for(alloc, loaded, words, depot, steps),
         Some(Command::Plan { workers }) => plan_for(alloc, loaded, words, workers, depot),
+        Some(Command::Quiet) => quiet_for(alloc, loaded),
+        Some(Command::Impact) => impact_for(alloc, loaded, words, depot),
         _ => whole_for(alloc, loaded, steps),
     }
 }
@@ -133,14 +139,15 @@ pub fn answered<S: Sink>(alloc: Global, sink: &mut S, report: Result<Report, Sta
 /// - `detect SUITE` runs the whole suite in order on one heap and writes its record.
 /// - `deps SUITE` does the same and writes the report on dependences, and `deps SUITE json` writes that as JSON.
 /// - `plan SUITE RECORD N SEL` writes the chains of the selection's closure and the loads of N workers.
+/// - `impact SUITE RECORD` writes which class files aren't those of the record, and which tests this concerns.
 ///
 /// The answers:
 ///
-/// - `Done`: the report was written, and each test passed; or the plan, record or report on dependences was written.
+/// - `Done`: the report was written, and each test passed; or the plan, record, impact or report on dependences was written.
 /// - `NotPassed`: the report was written, and a test failed or ended in an error.
 /// - `Words`: the words have no form that is served.
 /// - `Input`: no record is named; a file is absent, too large or faulty, the class files don't link, or the program isn't typed;
-///   a name is that of no test; the record is of another suite; or the order isn't lawful by it.
+///   a name is that of no test; the record is too old, or of another suite; or the order isn't lawful by it.
 /// - `Over`: a test passed its budget, or the suite its number of units.
 /// - `Depot`: the depot failed, last at the file that is named, and its count of faults rose.
 /// - `Sink`: the sink failed, and its count of faults rose.
@@ -165,6 +172,13 @@ pub fn electric_plain<D: Depot, S: Sink, L: Ledger>(
         let asked = called (plain words.now) (D.shown depot.old) depot_now steps.old steps.new in
         IfSome (D.shown depot.old).told (λ files.
         OwnOrderAnswer (asked files) result (S.shown sink.old) (S.shown sink.new)) }
+    // With the record of an earlier state each test that an impact doesn't name has the report lines that it had.
+    ensures earlier { let depot_now = D.shown depot.new in
+        let asked = called (plain words.now) (D.shown depot.old) depot_now steps.old steps.new in
+        IfSome (D.shown depot.old).told (λ files.
+        EarlierAnswer (asked files) result (S.shown sink.old) (S.shown sink.new)) }
+    // An eager form is over the suite without its quiet initialisers, in which each test ends as in the suite as it is.
+    ensures eager { IfSome (D.shown depot.old).told (λ files. EagerAnswer files (plain words.now)) }
     // What the sink took, whatever the depot tells.
     ensures taken { Taken result (S.shown sink.old) (S.shown sink.new) }
     // When the words, a depot or a sink are answered, whatever the depot tells.

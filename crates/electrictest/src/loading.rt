@@ -9,9 +9,11 @@ ghost use Rattle.electrictest.specs.Words.{ask};
 ghost use Rattle.electrictest.specs.Words as asked_for;
 
 use crate::status::{InputFault, Status};
-use crate::words::{Command, refusal_of, word_at};
-use et_base::Text;
+use crate::words::{Command, is_eager, refusal_of, word_at};
+use et_base::{NoMemory, Text};
+use order_law::Prints;
 use outside::Depot;
+use quiet_init::quiet;
 use std::alloc::Global;
 use suite_load::{LoadFault, Loaded, load};
 
@@ -31,7 +33,42 @@ pub fn status_of(fault: LoadFault) -> Status
     }
 }
 
-/// The suite that the words name: its checked program, the names that reports print, and its sums.
+// The suite without its quiet initialisers, with the digest of eager forms. The only error is want of memory.
+fn quieted(alloc: Global, loaded: Loaded) -> Result<Loaded, NoMemory>
+    requires suite { IsSuite loaded }
+    ensures quieted { IfOk result (λ l. l ≡ loads.quieted loaded) }
+    ensures suite { IfOk result IsSuite }
+{
+    let Loaded {
+        checked,
+        names,
+        prints,
+    } = loaded;
+    let program = quiet(alloc, checked)?;
+    let digest = prints.eager;
+    let prints = Prints { digest, ..prints };
+    Ok(Loaded {
+        checked: program.checked,
+        names,
+        prints,
+    })
+}
+
+// So is a loaded suite where the form is eager.
+fn prepared(alloc: Global, eager: bool, loaded: Loaded) -> Result<Loaded, NoMemory>
+    requires suite { IsSuite loaded }
+    ensures prepared { IfOk result (λ l. Ok l ≡ loads.prepared eager (Ok loaded)) }
+    ensures suite { IfOk result IsSuite }
+{
+    if eager {
+        quieted(alloc, loaded)
+    } else {
+        Ok(loaded)
+    }
+}
+
+/// The suite that the words name: its checked program, the names that reports print, and its sums; of an eager form without its
+/// quiet initialisers.
 ///
 /// `Words` comes exactly where no command is asked for, `NeedsRecord` where one lacks its record; `Input` as the first fault of
 /// loading does; `Depot` only where the depot failed.
@@ -57,5 +94,8 @@ pub fn load_for<D: Depot>(
         return Err(status);
     }
     let name = Text::from_slice(alloc, word_at(words, 1))?;
-    load(alloc, depot, &name).map_err(status_of)
+    match load(alloc, depot, &name) {
+        Ok(loaded) => Ok(prepared(alloc, is_eager(words), loaded)?),
+        Err(fault) => Err(status_of(fault)),
+    }
 }

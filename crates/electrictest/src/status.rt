@@ -52,7 +52,9 @@ pub enum InputFault {
     NoTest { name: Text },
     /// The record's first faulty line, by its number from 1.
     Record { line: u32 },
-    /// The record is of a suite with another digest.
+    /// The record is in version 1, which tells nothing of class files.
+    RecordOld,
+    /// The record is of a suite with another digest; of `impact`, of another suite text, by its sum.
     RecordForeign { kept: [u8; 32], found: [u8; 32] },
     /// The order names this test twice.
     Twice { test: Text },

@@ -65,6 +65,7 @@ fn push_input(out: &mut Text, fault: &InputFault) -> Result<(), NoMemory>
             out.extend_from_slice(b"record ")?;
             push_decimal(out, *line as u64)
         }
+        InputFault::RecordOld => out.extend_from_slice(b"record-old"),
         InputFault::RecordForeign { kept, found } => push_foreign(out, kept, found),
         InputFault::Twice { test } => {
             out.extend_from_slice(b"twice ")?;

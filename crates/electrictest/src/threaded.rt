@@ -2,6 +2,8 @@
 
 ghost use Rattle.std.specs.Prelude.{◌≡◌, ◌≤◌, None, IfOk, IfErr, IfSome};
 ghost use Rattle.electrictest.specs.Commands.{called, HasForm, ReportEnds, Reported, ReportsOver, RefusedOver, Taken, Served, Ends};
+ghost use Rattle.electrictest.specs.EagerForms.{EagerAnswer};
+ghost use Rattle.electrictest.specs.EarlierRecords.{EarlierAnswer};
 ghost use Rattle.electrictest.specs.Loads.{IsSuite};
 ghost use Rattle.electrictest.specs.OwnLists.{OwnOrderAnswer};
 ghost use Rattle.electrictest.specs.OwnRecords.{DetectedAnswer, OwnAnswer};
@@ -163,6 +165,13 @@ pub fn electric<R: Threads + Wait + Sync, D: Depot, S: Sink, G: Gate + Sync, L: 
         let asked = called (threaded words.now) (D.shown depot.old) depot_now steps.old steps.new in
         IfSome (D.shown depot.old).told (λ files.
         OwnOrderAnswer (asked files) result (S.shown sink.old) (S.shown sink.new)) }
+    // With the record of an earlier state each test that an impact doesn't name has the report lines that it had.
+    ensures earlier { let depot_now = D.shown depot.new in
+        let asked = called (threaded words.now) (D.shown depot.old) depot_now steps.old steps.new in
+        IfSome (D.shown depot.old).told (λ files.
+        EarlierAnswer (asked files) result (S.shown sink.old) (S.shown sink.new)) }
+    // An eager form is over the suite without its quiet initialisers, in which each test ends as in the suite as it is.
+    ensures eager { IfSome (D.shown depot.old).told (λ files. EagerAnswer files (threaded words.now)) }
     // What the sink took, whatever the depot tells.
     ensures taken { Taken result (S.shown sink.old) (S.shown sink.new) }
     // When the words, a depot or a sink are answered, whatever the depot tells.

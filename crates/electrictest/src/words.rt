@@ -25,8 +25,12 @@ pub enum Command {
     Order,
     /// `plan SUITE RECORD N SEL`: the chains of a selection and the loads of so many workers.
     Plan { workers: u32 },
+    /// `impact SUITE RECORD`: the tests that changed class files concern.
+    Impact,
     /// `gen K N`: a generated suite of so many tests on so many workers.
     Gen { tests: u32, workers: u32 },
+    /// `quiet SUITE`: the classes of the suite whose initialisers can be taken out.
+    Quiet,
 }
 
 /// The most workers, and the most generated tests.
@@ -86,7 +90,7 @@ fn is_of_suite(word: &[u8], command: &[u8], suite: &[u8]) -> bool
     word == command && is_depot_name(suite)
 }
 
-// `detect SUITE`, or `deps SUITE`.
+// `detect SUITE`, `deps SUITE`, or `quiet SUITE`.
 fn two_words(a: &[u8], b: &[u8]) -> Option<Command>
     ensures { result ≡ words_ask.two_words a.now b.now }
 {
@@ -94,6 +98,8 @@ fn two_words(a: &[u8], b: &[u8]) -> Option<Command>
         Some(Command::Detect)
     } else if is_of_suite(a, b"deps", b) {
         Some(Command::Deps { json: false })
+    } else if is_of_suite(a, b"quiet", b) {
+        Some(Command::Quiet)
     } else {
         None
     }
@@ -109,13 +115,15 @@ fn gen_of(b: &[u8], c: &[u8]) -> Option<Command>
     Some(Command::Gen { tests, workers })
 }
 
-// `deps SUITE json`, or `gen K N`.
+// `deps SUITE json`, `impact SUITE RECORD`, or `gen K N`.
 fn three_words(a: &[u8], b: &[u8], c: &[u8]) -> Option<Command>
     ensures asks { result ≡ words_ask.three_words a.now b.now c.now }
     ensures workers { words_ask.HasWorkers result }
 {
     if is_of_suite(a, b"deps", b) && c == b"json".as_slice() {
         Some(Command::Deps { json: true })
+    } else if is_of_suite(a, b"impact", b) && is_depot_name(c) {
+        Some(Command::Impact)
     } else if a == b"gen".as_slice() {
         gen_of(b, c)
     } else {
@@ -163,10 +171,10 @@ fn six_words(a: &[u8], b: &[u8], c: &[u8], d: &[u8], e: &[u8], f: &[u8]) -> Opti
     }
 }
 
-/// What the words ask for, if they have a form.
-#[tactic(auto, unfolding(crate::specs::Words::command_of))]
-pub fn command_of(words: &[Text]) -> Option<Command>
-    ensures asks { result ≡ words_ask.command_of words.now }
+// What the words of a form ask for.
+#[tactic(auto, unfolding(crate::specs::Words::form_of))]
+fn form_of(words: &[Text]) -> Option<Command>
+    ensures asks { result ≡ words_ask.form_of words.now }
     ensures workers { words_ask.HasWorkers result }
 {
     match words {
@@ -192,6 +200,48 @@ pub fn command_of(words: &[Text]) -> Option<Command>
     }
 }
 
+/// Whether `eager` stands before the words of a form.
+pub fn is_eager(words: &[Text]) -> bool
+    ensures { result ≡ words_ask.is_eager words.now }
+{
+    match words {
+        [] => false,
+        [word, ..] => word.as_slice() == b"eager".as_slice(),
+    }
+}
+
+// The words of the form itself.
+fn form_words(words: &[Text]) -> &[Text]
+    ensures { result.now ≡ words_ask.form_words words.now }
+{
+    if is_eager(words) { &words[1..] } else { words }
+}
+
+// Of a command, its eager form: those that run the tests of a suite have one, and a plan of them.
+fn eager_of(command: Option<Command>) -> Option<Command>
+    requires { words_ask.HasWorkers command }
+    ensures asks { result ≡ words_ask.eager_of command }
+    ensures workers { words_ask.HasWorkers result }
+{
+    match command {
+        Some(Command::Gen { .. } | Command::Impact | Command::Quiet) => None,
+        command => command,
+    }
+}
+
+/// What the words ask for, if they have a form.
+pub fn command_of(words: &[Text]) -> Option<Command>
+    ensures asks { result ≡ words_ask.command_of words.now }
+    ensures workers { words_ask.HasWorkers result }
+{
+    let form = form_of(form_words(words));
+    if is_eager(words) {
+        eager_of(form)
+    } else {
+        form
+    }
+}
+
 /// Of a command, what is served without threads.
 pub fn plain_of(command: Option<Command>) -> Option<Command>
     requires { words_ask.HasWorkers command }
@@ -204,11 +254,11 @@ pub fn plain_of(command: Option<Command>) -> Option<Command>
     }
 }
 
-/// The word at this place, counted from 0; an empty one where there is none.
+/// The word of the form at this place, counted from 0; an empty one where there is none.
 pub fn word_at(words: &[Text], place: usize) -> &[u8]
     ensures { result.now ≡ words_ask.word_at words.now place }
 {
-    match words.get(place) {
+    match form_words(words).get(place) {
         Some(word) => word.as_slice(),
         None => &[],
     }

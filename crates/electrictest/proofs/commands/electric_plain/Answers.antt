@@ -1,6 +1,8 @@
 use Rattle.std.proofs.Common.{ap, ◌∙◌}
 use Rattle.electrictest.specs.Commands.{called}
 use Rattle.electrictest.specs.Words.{plain, plain_of}
+use Rattle.electrictest.proofs.EagerLaws.{told_eager}
+use Rattle.electrictest.proofs.EarlierLaws.{earlier_answer, plain_impact}
 use Rattle.electrictest.proofs.OwnOrderLaws.{own_order_answer}
 use Rattle.electrictest.proofs.Replying.{for_told, served_by, taken_by, ends_by}
 use Rattle.electrictest.proofs.commands.electric_plain.Goals as goal
@@ -15,6 +17,15 @@ returns-clause-own g c =
     let old = g.D.Depot.shown c.args.depot.now in
     let asked = called (plain c.args.words.now) old (g.D.Depot.shown c.reported-report.new.depot) c.args.steps.now c.reported-report.new.steps in
     for_told old.told (λ files. own_order_answer (asked files) c.answered.result _ _) (returns-clause-served g c)
+
+pub returns-clause-earlier : goal.returns-clause-earlier
+returns-clause-earlier g c =
+    let old = g.D.Depot.shown c.args.depot.now in
+    let asked = called (plain c.args.words.now) old (g.D.Depot.shown c.reported-report.new.depot) c.args.steps.now c.reported-report.new.steps in
+    for_told old.told (λ files. earlier_answer (asked files) c.answered.result _ _ (plain_impact c.args.words.now)) (returns-clause-served g c)
+
+pub returns-clause-eager : goal.returns-clause-eager
+returns-clause-eager g c = told_eager (g.D.Depot.shown c.args.depot.now).told (plain c.args.words.now)
 
 pub returns-clause-taken : goal.returns-clause-taken
 returns-clause-taken g c =

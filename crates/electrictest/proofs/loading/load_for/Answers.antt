@@ -1,8 +1,19 @@
-use Rattle.std.proofs.Common.{sym, ◌∙◌, IfSome, rules}
+use Rattle.std.proofs.Common.{sym, ap, subst, ◌∙◌, ℕ, Result, Ok, IfSome}
+use Rattle.suite_load.specs.declared.loaded.Loaded.{Loaded}
+use Rattle.electrictest.specs.declared.status.Status.{Status}
+use Rattle.electrictest.specs.Loads.{prepared}
 use Rattle.electrictest.specs.Replies.{Unreported}
 use Rattle.electrictest.specs.Words.{ask}
-use Rattle.electrictest.proofs.LoadLaws.{answers_fault, unloaded_all}
+use Rattle.electrictest.proofs.LoadLaws.{loads_all, unloaded_for}
 use Rattle.electrictest.proofs.loading.load_for.Goals as goal
+
+pub returns-in-Ok-clause-loads : goal.returns-in-Ok-clause-loads
+returns-in-Ok-clause-loads g c =
+    let told = (g.D.Depot.shown c.args.depot.now).told in
+    let asks = sym c.refusal_of.ensures ∙ c.in_default.is in
+    let named = c.in_ok-name.ensures ∙ c.word_at.ensures in
+    let same = c.in_ok-prepared-in-Ok.ensures.prepared ∙ ap (λ b. prepared b (Ok c.in-Ok.loaded)) c.is_eager.ensures in
+    loads_all told c.args.asked c.args.words.now c.in_ok-name.name c.in-Ok.loaded _ asks named c.in-Ok.ensures.loads same
 
 pub returns-clause-refused : goal.returns-clause-refused
 returns-clause-refused g c =
@@ -10,5 +21,5 @@ returns-clause-refused g c =
     let words = c.args.words.now in
     let asks = sym c.refusal_of.ensures ∙ c.in_default.is in
     let named = c.in_ok-name.ensures ∙ c.word_at.ensures in
-    answers_fault _ c.load.result c.map_err.result c.map_err.ensures.cases (λ f x h. search rules) (λ s. IfSome told (λ files. Unreported files (ask c.args.asked words) s))
-    (unloaded_all told c.args.asked words c.in_ok-name.name c.load.result (g.D.Depot.shown c.args.depot.now) (g.D.Depot.shown c.load.new.depot) asks named c.load.ensures.loads c.load.ensures.proper)
+    subst (λ (s : Status). IfSome told (λ files. Unreported files (ask c.args.asked words) s)) (sym c.status_of.ensures)
+    (unloaded_for told c.args.asked words c.in_ok-name.name c.in-Err.fault (g.D.Depot.shown c.args.depot.now) (g.D.Depot.shown c.load.new.depot) asks named c.in-Err.ensures.loads c.in-Err.ensures.proper)

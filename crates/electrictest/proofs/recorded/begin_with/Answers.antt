@@ -2,12 +2,7 @@ use Rattle.std.proofs.lemmas.Result.{err_from_is_err_and}
 use Rattle.electrictest.proofs.Begun.{proper_fails}
 use Rattle.electrictest.proofs.recorded.begin_with.Goals as goal
 
-pub returns-in_err-record-clause-fails : goal.returns-in_err-record-clause-fails
-returns-in_err-record-clause-fails g c =
-    let p = err_from_is_err_and c.from_residual-in_err-record.result c.from_residual-in_err-record.ensures.1 in
-    rw (p.1, p.2) (proper_fails c.args.name.now c.in_err-record.field-0.0 (g.D.Depot.shown c.args.depot.now) (g.D.Depot.shown c.record_bytes.new.depot) c.in_err-record.ensures.proper)
-
 pub returns-in_err-record_fits-clause-fails : goal.returns-in_err-record_fits-clause-fails
 returns-in_err-record_fits-clause-fails g c =
     let p = err_from_is_err_and c.from_residual-in_err-record_fits.result c.from_residual-in_err-record_fits.ensures.1 in
-    rw (p.1, p.2) (proper_fails c.args.name.now c.in_err-record_fits.field-0.0 (g.D.Depot.shown c.args.depot.now) (g.D.Depot.shown c.record_bytes.new.depot) c.in_err-record_fits.ensures.proper)
+    rw (p.1, p.2) (proper_fails c.args.name.now c.in_err-record_fits.field-0.0 (g.D.Depot.shown c.args.depot.now) (g.D.Depot.shown c.record_at.new.depot) c.in_err-record_fits.ensures.proper)

@@ -4,6 +4,8 @@ use Rattle.electrictest.specs.Threaded.{threaded, threaded_of}
 use Rattle.electrictest.proofs.OwnAnswers.{own_answer}
 use Rattle.electrictest.proofs.OwnOrderLaws.{own_order_answer}
 use Rattle.electrictest.proofs.DetectedLaws.{detected_answer}
+use Rattle.electrictest.proofs.EagerLaws.{told_eager}
+use Rattle.electrictest.proofs.EarlierLaws.{earlier_answer, threaded_impact}
 use Rattle.electrictest.proofs.Replying.{for_told, served_by, taken_by, ends_by}
 use Rattle.electrictest.proofs.threaded.electric.Goals as goal
 
@@ -29,6 +31,15 @@ returns-clause-detected g c =
     let old = g.D.Depot.shown c.args.depot.now in
     let asked = called (threaded c.args.words.now) old (g.D.Depot.shown c.asked_text-report.new.depot) c.args.steps.now c.asked_text-report.new.steps in
     for_told old.told (λ files. detected_answer (asked files) c.answered.result _ _) (returns-clause-served g c)
+
+pub returns-clause-earlier : goal.returns-clause-earlier
+returns-clause-earlier g c =
+    let old = g.D.Depot.shown c.args.depot.now in
+    let asked = called (threaded c.args.words.now) old (g.D.Depot.shown c.asked_text-report.new.depot) c.args.steps.now c.asked_text-report.new.steps in
+    for_told old.told (λ files. earlier_answer (asked files) c.answered.result _ _ (threaded_impact c.args.words.now)) (returns-clause-served g c)
+
+pub returns-clause-eager : goal.returns-clause-eager
+returns-clause-eager g c = told_eager (g.D.Depot.shown c.args.depot.now).told (threaded c.args.words.now)
 
 pub returns-clause-taken : goal.returns-clause-taken
 returns-clause-taken g c =

@@ -1,0 +1,288 @@
+-- With the record that `detect` wrote of the suite's earlier state, each test that an impact doesn't name has the lines that it had.
+use Rattle.std.proofs.Common.{if◌then◌else◌, ◌≡◌, ℕ, zero, suc, ◌+◌, ◌<◌, ◌≤◌, List, [], ◌∷◌, length, map, slice_get, filter, Bool, true, false, cond, ◌==◌, refl, sym, ap, ◌∙◌, subst, inl, inr, arith, Option, Some, None, option_map, unwrap_or, IsSome, Result, Ok, Err}
+use Rattle.std.specs.List.{range_with_len}
+use Rattle.std.specs.Str.{bytes_eq}
+use Rattle.std.proofs.lemmas.Bool.{cases_eq, eq-eqb, false≢true}
+use Rattle.std.proofs.lemmas.Slice.Eq.{bytes_eq-Decides}
+use Rattle.std.proofs.lemmas.List.{length-map}
+use Rattle.std.proofs.lemmas.List.FromFn.{length-map-range_with_len}
+use Rattle.sha2.specs.Sha256.{sha256}
+use Rattle.jvm_model.specs.declared.program.Names.{Names}
+use Rattle.jvm_model.specs.declared.program.Program.{Program}
+use Rattle.jvm_model.specs.Texts.{outcome_lines}
+use Rattle.jvm_model.specs.Suite.{is_detected, seq}
+use Rattle.order_law.specs.declared.records.More.{More}
+use Rattle.order_law.specs.declared.records.Prints.{Prints}
+use Rattle.order_law.specs.declared.records.Record.{Record}
+use Rattle.order_law.specs.Conflicts.{Member}
+use Rattle.order_law.specs.Histories.{IsTestNumber}
+use Rattle.order_law.specs.Reach.{IsMoreOf, IsRecordOf, units_in}
+use Rattle.outside.specs.Depot.{Files}
+use Rattle.outside.specs.Sink.{SinkView}
+use Rattle.dep_record.specs.RecordReading.{said_in}
+use Rattle.dep_record.specs.RecordText.{said}
+use Rattle.suite_load.specs.declared.suite_text.SuiteText.{SuiteText}
+use Rattle.suite_load.specs.declared.loaded.Loaded.{Loaded}
+use Rattle.suite_load.specs.declared.load_fault.LoadFault.{LoadFault}
+use Rattle.suite_load.specs.Loading.{bytes_of, lines_of, names_in}
+use Rattle.suite_load.proofs.GoodLines.{IsGood}
+use Rattle.suite_load.proofs.LinkedCounts.{tests_linked}
+use Rattle.impact_pick.specs.Pick.{changed, is_picked, picked}
+use Rattle.impact_pick.specs.ImpactText.{impact_text}
+use Rattle.impact_pick.proofs.ImpactLaw.{impact_law}
+use Rattle.electrictest.specs.declared.status.Status.{Status}
+use Rattle.electrictest.specs.declared.status.Status.TheVariants as ends
+use Rattle.electrictest.specs.declared.status.InputFault.{InputFault}
+use Rattle.electrictest.specs.declared.status.OverFault.{OverFault}
+use Rattle.electrictest.specs.declared.words.Command.{Command}
+use Rattle.electrictest.specs.declared.words.Command.TheVariants as command
+use Rattle.electrictest.specs.Commands.{Asked, Served, Whole}
+use Rattle.electrictest.specs.EarlierRecords.{AsksEarlier, WroteImpact, EarlierAnswer, KeptLines, lines_in}
+use Rattle.electrictest.specs.Impacts.{IsImpacted}
+use Rattle.electrictest.specs.Loads.{LoadsFor, LoadsAny, Begins, begun_by, fits_for, named_by}
+use Rattle.electrictest.specs.Records.{Beginning, nameless, begun, record_at, suite_fits, classes_fit, earlier_fits}
+use Rattle.electrictest.specs.Replies.{IsRefusedInput, unloaded, unbegun, ungenerated, unlawful, ReportsBy, OversBy}
+use Rattle.electrictest.specs.Words.{Ask, is_eager, form_of, form_words, eager_of, command_of, plain_of, refusal_of, suite_word, word_at}
+use Rattle.electrictest.specs.Threaded.{threaded_of}
+use Rattle.electrictest.proofs.DetectedLaws.{have_hashes, read_back}
+use Rattle.electrictest.proofs.LoadedFacts.{IsLoaded, loaded_from, plain_named, as_many, are_classes, sums_tell, is_good, same_suite}
+use Rattle.electrictest.proofs.OwnAnswers.{any_once, loaded_once}
+
+-- ---- what isn't named isn't picked
+
+module _ (keeps : ℕ → Bool) where
+  kept_here : (b : Bool) (t : ℕ) (ts : List ℕ) → b ≡ true → Member t (cond b (t ∷ ts) ts)
+  kept_here true t ts e = inl refl
+  kept_here false t ts e = absurd (cc)
+
+  kept_behind : (b : Bool) (t u : ℕ) (ts : List ℕ) → Member t ts → Member t (cond b (u ∷ ts) ts)
+  kept_behind true t u ts i = inr i
+  kept_behind false t u ts i = i
+
+  kept_from : (n a t : ℕ) → a ≤ t → t < a + n → keeps t ≡ true → Member t (filter keeps (range_with_len a n))
+  kept_from zero a t lo hi e = absurd (omega arith)
+  kept_from (suc n) a t lo hi e = elim (cases_eq t a) [
+    | inl same ↦ subst (λ (z : ℕ). Member z (filter keeps (range_with_len a (suc n)))) (sym same) (kept_here (keeps a) a (filter keeps (range_with_len (a + 1) n)) (ap keeps (sym same) ∙ e))
+    | inr other ↦ kept_behind (keeps a) t a (filter keeps (range_with_len (a + 1) n)) (kept_from n (a + 1) t (omega arith) (omega arith) e)
+  ]
+
+not_kept : (b : Bool) → (b ≡ true → ⊥) → b ≡ false
+not_kept true h = absurd (h refl)
+not_kept false h = refl
+
+unpicked_from : (m : More) (q : Program) (x : Prints) (t : ℕ) → length m.reach ≡ length q.tests → IsTestNumber q t → (Member t (picked m q x) → ⊥) → is_picked m q x t ≡ false
+unfolding picked
+unpicked_from m q x t many number unnamed =
+    let low = number.0 in
+    let high = number.1 in
+    not_kept (is_picked m q x t) (λ e. unnamed (kept_from (is_picked m q x) (length m.reach) 1 t (omega arith) (omega arith) e))
+
+-- ---- the record of the earlier state
+
+names_suite : (a : Ask) → a.command ≡ Some command.Impact → suite_word a ≡ Ok (word_at a.words 1)
+names_suite a e = ap (λ (c : Option Command). elim (refusal_of c) [ None ↦ Ok (word_at a.words 1) | Some s ↦ Err s ]) e
+
+loads_suite : (files : Files) (a : Ask) (l : Loaded) → is_eager a.words ≡ false → a.command ≡ Some command.Impact → LoadsFor files a (Ok l) → (suite : SuiteText) × IsLoaded files (word_at a.words 1) suite l
+loads_suite files a l n e h =
+    let plain : LoadsAny files false (suite_word a) (Ok l) = subst (λ (b : Bool). LoadsAny files b (suite_word a) (Ok l)) n h in
+    loaded_from files (word_at a.words 1) l (plain_named files (word_at a.words 1) l (subst (λ (w : Result (List ℕ) Status). LoadsAny files false w (Ok l)) (names_suite a e) plain))
+
+-- version 2 of a record adds something
+record HasMore (r : Record) : Type 0 where
+  more : More
+  is : r.more ≡ Some more
+
+has_more : (r : Record) (o : Option More) → r.more ≡ o → IsSome o → HasMore r
+has_more r None e h = absurd (false≢true h)
+has_more r (Some m) e h = record { more = m; is = e }
+
+module _ (before now : Files) (a : Ask) (was l : Loaded) (plain : is_eager a.words ≡ false) (asks : AsksEarlier before now a was l) where
+  abbrev kept : Record
+  kept = asks.found.found.kept
+
+  own : IsRecordOf was.checked was.prints kept
+  own = asks.found.is.kept
+
+  has : HasMore kept
+  has = has_more kept kept.more refl asks.found.is.newer
+
+  adds : IsMoreOf was.checked was.prints has.more
+  adds = own.more has.more has.is
+
+  -- both are loaded from one suite text
+  suite : SuiteText
+  suite = (loads_suite before a was plain asks.asks asks.load_before).0
+
+  first : IsLoaded before (word_at a.words 1) suite was
+  unfolding suite
+  first = (loads_suite before a was plain asks.asks asks.load_before).1
+
+  second : IsLoaded now (word_at a.words 1) suite l
+  second =
+      let loaded = loads_suite now a l plain asks.asks asks.load in
+      let both : ◌≡◌ {A = Result SuiteText LoadFault} (Ok loaded.0) (Ok suite) = sym loaded.1.suite_is ∙ (sym (same_suite before now (word_at a.words 1) asks.same_text) ∙ first.suite_is) in
+      let same : loaded.0 ≡ suite = cc in
+      subst (λ (s : SuiteText). IsLoaded now (word_at a.words 1) s l) same loaded.1
+
+  same_sum : was.prints.suite ≡ l.prints.suite
+  same_sum =
+      ap (λ (x : Prints). x.suite) first.prints ∙ (ap (λ (o : Option (List ℕ)). sha256 (unwrap_or o [])) asks.same_text ∙ sym (ap (λ (x : Prints). x.suite) second.prints))
+
+  tests_many : length was.checked.tests ≡ length l.checked.tests
+  tests_many =
+      tests_linked suite first.classes (lines_of suite) was.checked was.checked refl first.links refl
+      ∙ sym (tests_linked suite second.classes (lines_of suite) l.checked l.checked refl second.links refl)
+
+  classes_many : length first.classes ≡ length second.classes
+  classes_many = as_many before suite.classes first.classes first.read ∙ sym (as_many now suite.classes second.classes second.read)
+
+  -- there is a sum for each class file
+  sums_many : (files : Files) (x : Loaded) (is : IsLoaded files (word_at a.words 1) suite x) → length x.prints.classes ≡ length is.classes
+  sums_many files x is =
+      ap (λ (z : Prints). length z.classes) is.prints
+      ∙ (length-map (map (bytes_of files) suite.classes) sha256 ∙ (length-map suite.classes (bytes_of files) ∙ sym (as_many files suite.classes is.classes is.read)))
+
+  units_many : length kept.units ≡ length l.checked.tests
+  units_many = ap length own.units ∙ (length-map-range_with_len (λ t. units_in (seq was.checked t)) 1 (length was.checked.tests) ∙ tests_many)
+
+  prints_many : length has.more.classes ≡ length l.prints.classes
+  prints_many = ap length adds.classes ∙ (sums_many before was first ∙ (classes_many ∙ sym (sums_many now l second)))
+
+  -- so it is one that the command takes
+  suite_ok : suite_fits l kept.more ≡ Ok tt
+  suite_ok =
+      let same : bytes_eq has.more.suite l.prints.suite ≡ true = (bytes_eq-Decides has.more.suite l.prints.suite).1 (adds.suite ∙ same_sum) in
+      ap (suite_fits l) has.is ∙ rw same refl
+
+  classes_ok : classes_fit l kept.more ≡ Ok tt
+  classes_ok =
+      let many : (length has.more.classes == length l.prints.classes) ≡ true = eq-eqb (length has.more.classes) (length l.prints.classes) prints_many in
+      ap (classes_fit l) has.is ∙ rw many refl
+
+  fits : earlier_fits l (said kept) ≡ Ok tt
+  unfolding earlier_fits
+  fits =
+      let many : (length kept.units == length l.checked.tests) ≡ true = eq-eqb (length kept.units) (length l.checked.tests) units_many in
+      rw suite_ok (rw many classes_ok)
+
+  says : said_in asks.text ≡ Ok (said kept)
+  says = ap said_in asks.found.writes ∙ read_back was kept (have_hashes before (is_eager a.words) (suite_word a) was asks.load_before) own
+
+  begun_earlier : begun earlier_fits now l (Ok []) (word_at a.words 2) ≡ Ok (nameless kept)
+  unfolding begun record_at
+  begun_earlier = rw asks.held (rw says (rw fits refl))
+
+  begins_earlier : (x : Loaded) (b : Result Beginning InputFault) → Begins now a x b → (x ≡ l) × (b ≡ Ok (nameless kept))
+  begins_earlier x b h =
+      let same : x ≡ l = loaded_once now a l x asks.load h.load in
+      let here : begun_by now a l ≡ Some (Ok (nameless kept)) =
+      ap (λ (c : Option Command). option_map (λ (n : Result (List ℕ) InputFault). begun (fits_for c) now l n (word_at a.words 2)) (named_by c a.words l)) asks.asks
+      ∙ ap (λ (r : Result Beginning InputFault). Some r) begun_earlier in
+      (same, ap (λ (o : Option (Result Beginning InputFault)). unwrap_or o b) (sym h.begins ∙ (ap (begun_by now a) same ∙ here)))
+
+  -- ---- the law of changed class files
+
+  lines_same : is_detected l.checked ≡ true → (t : ℕ) → IsTestNumber l.checked t → is_picked has.more l.checked l.prints t ≡ false → KeptLines was l t
+  lines_same detected t number unpicked =
+      let good : IsGood suite = is_good before (word_at a.words 1) suite first.suite_is in
+      let few : length first.classes ≤ 1024 = subst (λ (n : ℕ). n ≤ 1024) (sym (as_many before suite.classes first.classes first.read)) good.few_classes in
+      let low : IsTestNumber was.checked t = subst (λ (n : ℕ). (0 < t) × (t ≤ n)) (sym tests_many) number in
+      let tell = sums_tell before now asks.sums_tell suite.classes first.classes second.classes first.read second.read in
+      let names = map (λ x. x.name) suite.tests in
+      let law =
+      impact_law first.classes second.classes (lines_of suite) was.checked l.checked was.prints l.prints kept has.more names t (are_classes before suite.classes first.classes asks.bytes_before first.read) (are_classes now suite.classes second.classes asks.bytes_now second.read)
+      few classes_many good.lines first.links second.links asks.found.is.detected detected (sums_many before was first) (sums_many now l second)
+      (λ j h x y. tell j h (subst (λ (z : Prints). slice_get z.classes j ≡ Some h) first.prints x) (subst (λ (z : Prints). slice_get z.classes j ≡ Some h) second.prints y)) own has.is low unpicked in
+      subst (λ (z : Names). IsSome (option_map (outcome_lines z t) (seq was.checked t)) × (lines_in l t ≡ option_map (outcome_lines z t) (seq was.checked t))) (sym first.names)
+      (subst (λ (z : Names). IsSome (option_map (outcome_lines (names_in suite was.checked) t) (seq was.checked t)) × (option_map (outcome_lines z t) (seq l.checked t) ≡ option_map (outcome_lines (names_in suite was.checked) t) (seq was.checked t))) (sym second.names) law)
+
+  -- ---- answers
+
+  wrote : (passed : Bool) (text : List ℕ) (units : ℕ) (old new : SinkView) → IsImpacted now a passed text units → Whole text old new → WroteImpact was l old new
+  unfolding impact_text
+  wrote passed text units old new r whole =
+      let same = begins_earlier r.loaded (Ok r.beginning) r.begins in
+      let began : r.beginning ≡ nameless kept = (let z = same.1 in cc) in
+      let more : r.more ≡ has.more = (let z = sym r.newer ∙ (ap (λ (b : Beginning). b.said.more) began ∙ has.is) in cc) in
+      let here : text ≡ impact_text l.names has.more l.checked l.prints = r.reports ∙ (ap (λ (x : Loaded). impact_text x.names r.more x.checked x.prints) same.0 ∙ ap (λ (m : More). impact_text l.names m l.checked l.prints) more) in
+      record {
+        files = changed has.more l.prints;
+        tests = picked has.more l.checked l.prints;
+        whole = subst (λ (z : List ℕ). Whole z old new) here whole;
+        same = λ detected t number unnamed. lines_same detected t number (unpicked_from has.more l.checked l.prints t (adds.length ∙ tests_many) number unnamed);
+      }
+
+  reports_impact : (passed : Bool) (text : List ℕ) (units : ℕ) → ReportsBy a.command now a passed text units → IsImpacted now a passed text units
+  reports_impact passed text units r = subst (λ (c : Option Command). ReportsBy c now a passed text units) asks.asks r
+
+  never_over : (f : OverFault) → OversBy a.command now a f → ⊥
+  never_over f r = subst (λ (c : Option Command). OversBy c now a f) asks.asks r
+
+  never_refused : (f : InputFault) → IsRefusedInput now a f → ⊥
+  never_refused f (unloaded h) = let e = any_once now (is_eager a.words) (suite_word a) (Ok l) (Err (ends.Input f)) asks.load h in absurd (cc)
+  never_refused f (unbegun {l = x} h) = let e = (begins_earlier x (Err f) h).1 in absurd (cc)
+  never_refused f (ungenerated c h) = let e = sym asks.asks ∙ c in absurd (cc)
+  never_refused f (unlawful {l = x} {b = b} c h u) = let e = sym asks.asks ∙ c in absurd (cc)
+
+-- the words of an impact have no eager form
+not_eager : (c : Option Command) → eager_of c ≡ Some command.Impact → ⊥
+not_eager None e = absurd (cc)
+not_eager (Some command.Whole) e = absurd (cc)
+not_eager (Some command.NeedsRecord) e = absurd (cc)
+not_eager (Some (command.Run n log)) e = absurd (cc)
+not_eager (Some command.Detect) e = absurd (cc)
+not_eager (Some (command.Deps json)) e = absurd (cc)
+not_eager (Some command.Order) e = absurd (cc)
+not_eager (Some (command.Plan n)) e = absurd (cc)
+not_eager (Some command.Impact) e = absurd (cc)
+not_eager (Some (command.Gen k n)) e = absurd (cc)
+not_eager (Some command.Quiet) e = absurd (cc)
+
+-- of the words of a command, what is served of an impact is the impact
+from_plain : (c : Option Command) → plain_of c ≡ Some command.Impact → c ≡ Some command.Impact
+from_plain (Some (command.Run n log)) e = absurd (cc)
+from_plain (Some (command.Gen k n)) e = absurd (cc)
+from_plain None e = e
+from_plain (Some command.Whole) e = e
+from_plain (Some command.NeedsRecord) e = e
+from_plain (Some command.Detect) e = e
+from_plain (Some (command.Deps json)) e = e
+from_plain (Some command.Order) e = e
+from_plain (Some (command.Plan n)) e = e
+from_plain (Some command.Impact) e = e
+from_plain (Some command.Quiet) e = e
+
+from_threaded : (c : Option Command) → threaded_of c ≡ Some command.Impact → c ≡ Some command.Impact
+from_threaded (Some (command.Run n log)) e = absurd (cc)
+from_threaded (Some (command.Gen k n)) e = absurd (cc)
+from_threaded None e = e
+from_threaded (Some command.Whole) e = e
+from_threaded (Some command.NeedsRecord) e = e
+from_threaded (Some command.Detect) e = e
+from_threaded (Some (command.Deps json)) e = e
+from_threaded (Some command.Order) e = e
+from_threaded (Some (command.Plan n)) e = e
+from_threaded (Some command.Impact) e = e
+from_threaded (Some command.Quiet) e = e
+
+is_plain : (b : Bool) (c d : Option Command) → ◌≡◌ {A = Option Command} (if b then eager_of c else d) (Some command.Impact) → b ≡ false
+is_plain true c d e = absurd (not_eager c e)
+is_plain false c d e = refl
+
+pub plain_impact : (words : List (List ℕ)) → plain_of (command_of words) ≡ Some command.Impact → is_eager words ≡ false
+plain_impact words e = is_plain (is_eager words) (form_of (form_words words)) (form_of words) (from_plain (command_of words) e)
+
+pub threaded_impact : (words : List (List ℕ)) → threaded_of (command_of words) ≡ Some command.Impact → is_eager words ≡ false
+threaded_impact words e = is_plain (is_eager words) (form_of (form_words words)) (form_of words) (from_threaded (command_of words) e)
+
+pub earlier_answer : (asked : Asked) (s : Status) (old new : SinkView) → (asked.ask.command ≡ Some command.Impact → is_eager asked.ask.words ≡ false) → Served asked s old new → EarlierAnswer asked s old new
+earlier_answer asked ends.Done old new plain h = λ before was l asks.
+    wrote before asked.files asked.ask was l (plain asks.asks) asks true h.reply.text h.reply.units old new (reports_impact before asked.files asked.ask was l (plain asks.asks) asks true h.reply.text h.reply.units h.reply.answers) h.whole
+earlier_answer asked ends.NotPassed old new plain h = λ before was l asks.
+    false≢true ((reports_impact before asked.files asked.ask was l (plain asks.asks) asks false h.reply.text h.reply.units h.reply.answers).ends)
+earlier_answer asked ends.NoMemory old new plain h = λ before was l asks. h
+earlier_answer asked ends.Sink old new plain h = λ before was l asks. tt
+earlier_answer asked (ends.Depot name) old new plain h = λ before was l asks. tt
+earlier_answer asked ends.Words old new plain h = λ before was l asks. let e = sym asks.asks ∙ h.reply.answers.0 in absurd (cc)
+earlier_answer asked (ends.Input f) old new plain h = λ before was l asks. never_refused before asked.files asked.ask was l (plain asks.asks) asks f h.reply.answers.0
+earlier_answer asked (ends.Over f) old new plain h = λ before was l asks. never_over before asked.files asked.ask was l (plain asks.asks) asks f h.reply.answers.0
