@@ -1,0 +1,25 @@
+package jamuvelor.lib;
+
+import jamuvelor.lib.raw.Output;
+
+/** What wasn't served. It prints a mark, so that a test that swallows it is known. */
+public class Unserved extends Error {
+    private static boolean met;
+
+    public Unserved(String what) {
+        super(what);
+        met = true;
+        mark(what);
+    }
+
+    private static void mark(String what) {
+        Output.println("##unserved ".concat(what));
+    }
+
+    /** A class failed to initialise, in an earlier test perhaps: where a cut was met before, this test is marked too. */
+    public static void caught(Throwable thrown) {
+        if (thrown instanceof NoClassDefFoundError && met) {
+            mark("class that failed to initialise");
+        }
+    }
+}
