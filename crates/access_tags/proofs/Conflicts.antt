@@ -4,14 +4,14 @@ use Rattle.std.specs.List.{list_any}
 use Rattle.std.proofs.lemmas.Bool.{cases_Bool, cases_eq, eqb-true, eq-eqb, lt-ltb, le-ltb}
 use Rattle.std.proofs.lemmas.List.{map-append}
 use Rattle.std.proofs.lemmas.List.Elements.{filter-append}
-use Rattle.access_tags.specs.declared.hit.Hit.{Hit}
+use Rattle.access_tags.specs.declared.conflict.Conflict.{Conflict}
 use Rattle.order_law.specs.declared.edges.EdgeKind.{EdgeKind}
 use Rattle.order_law.specs.declared.edges.EdgeKind.TheVariants.{Raw, Waw, War}
 use Rattle.jvm_model.specs.declared.values.Location.{Location}
 use Rattle.order_law.specs.Exposed.{written, exposed}
 use Rattle.order_law.specs.Histories.{Touches, writes_in, exposed_in}
 use Rattle.order_law.specs.OwnRecord.{none_between, conflicts, conflict_places_in}
-use Rattle.access_tags.specs.Tag.{tag, writer, readers, hit, with_writer, hits_at, hits, is_hit, same_kind, found, places}
+use Rattle.access_tags.specs.Tag.{tag, writer, readers, conflict, with_writer, conflicts_at, conflicts_found, is_conflict, same_kind, found, places}
 use Rattle.access_tags.specs.Cells.{Apart}
 
 apart_eq : (a b : ℕ) → a ≢ b → nat_eq a b ≡ false
@@ -80,8 +80,8 @@ reader_is T (suc t) u l o h = elim (cases_eq u (suc t)) [
 ]
 
 -- what is found among the conflicts at a location
-found_append : (k : EdgeKind) (u : ℕ) (xs ys : List (Hit Location)) → found k u (xs ++ ys) ≡ found k u xs ++ found k u ys
-found_append k u xs ys = ap (λ (hs : List (Hit Location)). map (λ (h : Hit Location). h.place) hs) (filter-append (is_hit k u) xs ys) ∙ map-append (λ (h : Hit Location). h.place) (filter (is_hit k u) xs) (filter (is_hit k u) ys)
+found_append : (k : EdgeKind) (u : ℕ) (xs ys : List (Conflict Location)) → found k u (xs ++ ys) ≡ found k u xs ++ found k u ys
+found_append k u xs ys = ap (λ (hs : List (Conflict Location)). map (λ (h : Conflict Location). h.place) hs) (filter-append (is_conflict k u) xs ys) ∙ map-append (λ (h : Conflict Location). h.place) (filter (is_conflict k u) xs) (filter (is_conflict k u) ys)
 
 abbrev at_if : Bool → Location → List Location
 at_if b l = cond b (l ∷ []) []
@@ -90,22 +90,22 @@ found_one : (k j : EdgeKind) (u : ℕ) (l : Location) (w : ℕ) → 0 < u → fo
 found_one k j u l zero o = rw (apart_eq u 0 (λ q. absurd (omega arith))) (ap (λ (b : Bool). at_if b l) (and_false (same_kind k j)))
 found_one k j u l (suc w) o = rw (apart_eq (suc w) 0 (λ q. absurd (omega arith))) (one (same_kind k j && nat_eq u (suc w)))
   where
-    one : (b : Bool) → map (λ (h : Hit Location). h.place) (cond b (hit j l (suc w) ∷ []) []) ≡ at_if b l
+    one : (b : Bool) → map (λ (h : Conflict Location). h.place) (cond b (conflict j l (suc w) ∷ []) []) ≡ at_if b l
     one true = refl
     one false = refl
 
-found_other : (k : EdgeKind) (u : ℕ) (l : Location) (us : List ℕ) → same_kind k War ≡ false → found k u (map (hit War l) us) ≡ []
+found_other : (k : EdgeKind) (u : ℕ) (l : Location) (us : List ℕ) → same_kind k War ≡ false → found k u (map (conflict War l) us) ≡ []
 found_other k u l [] e = refl
 found_other k u l (x ∷ us) e = rw e (found_other k u l us e)
 
-found_none : (u : ℕ) (l : Location) (us : List ℕ) → list_any (nat_eq u) us ≡ false → found War u (map (hit War l) us) ≡ []
+found_none : (u : ℕ) (l : Location) (us : List ℕ) → list_any (nat_eq u) us ≡ false → found War u (map (conflict War l) us) ≡ []
 found_none u l [] e = refl
 found_none u l (x ∷ us) e = elim (cases_Bool (nat_eq u x)) [
   | inl q ↦ absurd (let z : (nat_eq u x || list_any (nat_eq u) us) ≡ true = rw q refl in cc)
   | inr q ↦ rw q (found_none u l us (let z : (nat_eq u x || list_any (nat_eq u) us) ≡ list_any (nat_eq u) us = rw q refl in sym z ∙ e))
 ]
 
-found_wars : (u : ℕ) (l : Location) (us : List ℕ) → Apart nat_eq us → found War u (map (hit War l) us) ≡ at_if (list_any (nat_eq u) us) l
+found_wars : (u : ℕ) (l : Location) (us : List ℕ) → Apart nat_eq us → found War u (map (conflict War l) us) ≡ at_if (list_any (nat_eq u) us) l
 found_wars u l [] d = refl
 found_wars u l (x ∷ us) d = elim (cases_Bool (nat_eq u x)) [
   | inl q ↦ rw q (ap (λ (xs : List Location). l ∷ xs) (found_none u l us (subst (λ (y : ℕ). list_any (nat_eq y) us ≡ false) (sym (eqb-true u x q)) d.0)))
@@ -121,15 +121,15 @@ by_kind War e w last since = w && since
 joined : {a b c x y z : List Location} → a ≡ x → b ≡ y → c ≡ z → a ++ (b ++ c) ≡ x ++ (y ++ z)
 joined {a} {b} {c} {x} {y} {z} p q r = ap (λ (i : List Location). i ++ (b ++ c)) p ∙ (ap (λ (i : List Location). x ++ (i ++ c)) q ∙ ap (λ (i : List Location). x ++ (y ++ i)) r)
 
-found_three : (k : EdgeKind) (u : ℕ) (xs ys zs : List (Hit Location)) → found k u (xs ++ (ys ++ zs)) ≡ found k u xs ++ (found k u ys ++ found k u zs)
+found_three : (k : EdgeKind) (u : ℕ) (xs ys zs : List (Conflict Location)) → found k u (xs ++ (ys ++ zs)) ≡ found k u xs ++ (found k u ys ++ found k u zs)
 found_three k u xs ys zs = found_append k u xs (ys ++ zs) ∙ ap (λ (i : List Location). found k u xs ++ i) (found_append k u ys zs)
 
 first_part : (k : EdgeKind) (e : Bool) (u : ℕ) (l : Location) (v : ℕ) → 0 < u → found k u (cond e (with_writer Raw l v) []) ≡ at_if (e && (same_kind k Raw && nat_eq u v)) l
 first_part k true u l v o = found_one k Raw u l v o
 first_part k false u l v o = refl
 
-found_parts : (k : EdgeKind) (e w : Bool) (u : ℕ) (l : Location) (v : ℕ) (us : List ℕ) → 0 < u → found k u (cond e (with_writer Raw l v) [] ++ cond w (with_writer Waw l v ++ map (hit War l) us) []) ≡ at_if (e && (same_kind k Raw && nat_eq u v)) l ++ (at_if (w && (same_kind k Waw && nat_eq u v)) l ++ cond w (found k u (map (hit War l) us)) [])
-found_parts k e true u l v us o = found_three k u (cond e (with_writer Raw l v) []) (with_writer Waw l v) (map (hit War l) us) ∙ joined (first_part k e u l v o) (found_one k Waw u l v o) refl
+found_parts : (k : EdgeKind) (e w : Bool) (u : ℕ) (l : Location) (v : ℕ) (us : List ℕ) → 0 < u → found k u (cond e (with_writer Raw l v) [] ++ cond w (with_writer Waw l v ++ map (conflict War l) us) []) ≡ at_if (e && (same_kind k Raw && nat_eq u v)) l ++ (at_if (w && (same_kind k Waw && nat_eq u v)) l ++ cond w (found k u (map (conflict War l) us)) [])
+found_parts k e true u l v us o = found_three k u (cond e (with_writer Raw l v) []) (with_writer Waw l v) (map (conflict War l) us) ∙ joined (first_part k e u l v o) (found_one k Waw u l v o) refl
 found_parts k e false u l v us o = found_append k u (cond e (with_writer Raw l v) []) [] ∙ ap (λ (i : List Location). i ++ []) (first_part k e u l v o)
 
 raw_end : (e w q : Bool) (l : Location) → at_if (e && q) l ++ (at_if (w && false) l ++ cond w [] []) ≡ at_if (e && q) l
@@ -154,7 +154,7 @@ war_end true false s l = refl
 war_end false true s l = refl
 war_end false false s l = refl
 
-found_at : (k : EdgeKind) (e w : Bool) (u : ℕ) (l : Location) (v : ℕ) (us : List ℕ) → 0 < u → Apart nat_eq us → found k u (cond e (with_writer Raw l v) [] ++ cond w (with_writer Waw l v ++ map (hit War l) us) []) ≡ at_if (by_kind k e w (nat_eq u v) (list_any (nat_eq u) us)) l
+found_at : (k : EdgeKind) (e w : Bool) (u : ℕ) (l : Location) (v : ℕ) (us : List ℕ) → 0 < u → Apart nat_eq us → found k u (cond e (with_writer Raw l v) [] ++ cond w (with_writer Waw l v ++ map (conflict War l) us) []) ≡ at_if (by_kind k e w (nat_eq u v) (list_any (nat_eq u) us)) l
 found_at Raw e w u l v us o d = found_parts Raw e w u l v us o ∙ (rw (found_other Raw u l us refl) (raw_end e w (nat_eq u v) l))
 found_at Waw e w u l v us o d = found_parts Waw e w u l v us o ∙ (rw (found_other Waw u l us refl) (waw_end e w (nat_eq u v) l))
 found_at War e w u l v us o d = found_parts War e w u l v us o ∙ (rw (found_wars u l us d) (war_end e w (list_any (nat_eq u) us) l))
@@ -171,13 +171,13 @@ same_conflict T Waw u t l o h = rw (writer_is T t u l o h) (turn (written (T (su
     turn false false c = refl
 same_conflict T War u t l o h = rw (reader_is T t u l o h) refl
 
-found_here : (T : Touches) (k : EdgeKind) (u t : ℕ) (l : Location) → 0 < u → u ≤ t → found k u (hits_at l (tag T t (T (suc t)) l)) ≡ at_if (conflicts (writes_in T) (exposed_in T) k u (suc t) l) l
+found_here : (T : Touches) (k : EdgeKind) (u t : ℕ) (l : Location) → 0 < u → u ≤ t → found k u (conflicts_at l (tag T t (T (suc t)) l)) ≡ at_if (conflicts (writes_in T) (exposed_in T) k u (suc t) l) l
 found_here T k u t l o h = found_at k (exposed (T (suc t)) l) (written (T (suc t)) l) u l (writer T t l) (readers T t l) o (readers_apart T t l) ∙ ap (λ (b : Bool). at_if b l) (same_conflict T k u t l o h)
 
-found_all : (T : Touches) (k : EdgeKind) (u t : ℕ) → 0 < u → u ≤ t → (ls : List Location) → found k u (flat_map (λ (l : Location). hits_at l (tag T t (T (suc t)) l)) ls) ≡ filter (λ (l : Location). conflicts (writes_in T) (exposed_in T) k u (suc t) l) ls
+found_all : (T : Touches) (k : EdgeKind) (u t : ℕ) → 0 < u → u ≤ t → (ls : List Location) → found k u (flat_map (λ (l : Location). conflicts_at l (tag T t (T (suc t)) l)) ls) ≡ filter (λ (l : Location). conflicts (writes_in T) (exposed_in T) k u (suc t) l) ls
 found_all T k u t o h [] = refl
-found_all T k u t o h (l ∷ ls) = found_append k u (hits_at l (tag T t (T (suc t)) l)) (flat_map (λ (l : Location). hits_at l (tag T t (T (suc t)) l)) ls)
-    ∙ (ap (λ (i : List Location). i ++ found k u (flat_map (λ (l : Location). hits_at l (tag T t (T (suc t)) l)) ls)) (found_here T k u t l o h)
+found_all T k u t o h (l ∷ ls) = found_append k u (conflicts_at l (tag T t (T (suc t)) l)) (flat_map (λ (l : Location). conflicts_at l (tag T t (T (suc t)) l)) ls)
+    ∙ (ap (λ (i : List Location). i ++ found k u (flat_map (λ (l : Location). conflicts_at l (tag T t (T (suc t)) l)) ls)) (found_here T k u t l o h)
     ∙ (ap (λ (i : List Location). at_if (conflicts (writes_in T) (exposed_in T) k u (suc t) l) l ++ i) (found_all T k u t o h ls) ∙ one (conflicts (writes_in T) (exposed_in T) k u (suc t) l) (filter (λ (l : Location). conflicts (writes_in T) (exposed_in T) k u (suc t) l) ls)))
   where
     one : (b : Bool) (xs : List Location) → at_if b l ++ xs ≡ cond b (l ∷ xs) xs
@@ -185,6 +185,6 @@ found_all T k u t o h (l ∷ ls) = found_append k u (hits_at l (tag T t (T (suc 
     one false xs = refl
 
 -- the conflicts of test t + 1, as they are gathered, are those of the record, in the order of first touch
-pub tags_law : (T : Touches) (k : EdgeKind) (u t : ℕ) → 0 < u → u ≤ t → found k u (hits T t (T (suc t))) ≡ conflict_places_in T k u (suc t)
+pub tags_law : (T : Touches) (k : EdgeKind) (u t : ℕ) → 0 < u → u ≤ t → found k u (conflicts_found T t (T (suc t))) ≡ conflict_places_in T k u (suc t)
 unfolding conflict_places_in
 tags_law T k u t o h = found_all T k u t o h (places (T (suc t)))

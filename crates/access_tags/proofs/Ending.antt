@@ -16,7 +16,7 @@ use Rattle.sim_store.specs.declared.store.Part.TheVariants as sort
 use Rattle.jvm_model.proofs.Locations.{same_true}
 use Rattle.order_law.specs.Histories.{Touches}
 use Rattle.vm_mem.specs.Stores.{place_in, put_in}
-use Rattle.vm_mem.specs.Story.{Story, Adds, next_test, no_story}
+use Rattle.vm_mem.specs.Trace.{Trace, Extends, next_test, empty_trace}
 use Rattle.jvm_model.specs.declared.values.InitState.TheVariants.{Idle}
 use Rattle.jvm_model.specs.declared.values.Kind.{Kind}
 use Rattle.jvm_model.specs.Builtin.{out_field}
@@ -26,7 +26,7 @@ use Rattle.access_tags.specs.HeadMarks.{touches_class}
 use Rattle.access_tags.proofs.Following.{NotesOne, after_put, after_read}
 use Rattle.vm_mem.specs.Kept.{Kept}
 use Rattle.access_tags.specs.HeadsStand.{HeadsStand}
-use Rattle.access_tags.specs.Meets.{Meets}
+use Rattle.access_tags.specs.HasDiscovered.{HasDiscovered}
 use Rattle.access_tags.specs.Paths.{HaveRowsWalks}
 use Rattle.access_tags.specs.Tag.{places}
 use Rattle.access_tags.specs.declared.ended.Ended.{Ended}
@@ -34,19 +34,19 @@ use Rattle.access_tags.specs.declared.heads.Heads.{Heads}
 use Rattle.access_tags.specs.declared.numbers.Numbers.{Numbers}
 use Rattle.access_tags.specs.declared.rows.Row.{Row}
 use Rattle.access_tags.proofs.FirstReads.{meet_next, meet_ungiven}
-use Rattle.access_tags.proofs.FoundAll.{story_test}
+use Rattle.access_tags.proofs.FoundAll.{trace_test}
 use Rattle.access_tags.proofs.Grown.{no_tag_past}
 use Rattle.access_tags.proofs.HeadNotes.{heads_next, heads_quiet}
 use Rattle.access_tags.proofs.More.{more_names_stand}
 use Rattle.access_tags.proofs.Spread.{length-states, length-statics}
-use Rattle.access_tags.specs.declared.hit.Spot.TheVariants as spot
+use Rattle.access_tags.specs.declared.conflict.LocationKey.TheVariants as spot
 use Rattle.access_tags.specs.declared.memory.TaggedMemory.{TaggedMemory}
 use Rattle.access_tags.specs.declared.tags.Tags.{Tags}
 use Rattle.access_tags.specs.Followed.{Follows, HaveSameRoom, IsEnded, IsNamed, IsNumbered, numbering}
 use Rattle.access_tags.specs.Numbering.{Numbering, IsAt, IsPlaced, is_named, located, position, with_cells, with_names}
-use Rattle.access_tags.specs.Ran.{size_after, size_in, story_to, touched_by}
+use Rattle.access_tags.specs.Ran.{size_after, size_in, trace_to, touched_by}
 use Rattle.access_tags.specs.Rows.{edges_at, shown_by, with_places}
-use Rattle.access_tags.specs.Trails.{touched_in}
+use Rattle.access_tags.specs.AccessLogs.{touched_in}
 use Rattle.access_tags.specs.Shelf.{count, tag_in}
 use Rattle.access_tags.specs.Stands.{Stands}
 use Rattle.access_tags.specs.Worlds.{bases, cells_of, states_of, statics_of, width}
@@ -102,7 +102,7 @@ ended_names T names ls t x e = record {
   alone = e.alone;
 }
 
-pub after_name : (m : TaggedMemory) (g : Tags) (L : Location) (h : Story) (ts : List Touch) → count g.cells ≡ count m.tags.cells → count g.named ≡ count m.tags.named + 1 →
+pub after_name : (m : TaggedMemory) (g : Tags) (L : Location) (h : Trace) (ts : List Touch) → count g.cells ≡ count m.tags.cells → count g.named ≡ count m.tags.named + 1 →
     ((n : Numbering) (T : Touches) (t : ℕ) (ts : List Touch) (ls : List Location) → length n.names ≡ count m.tags.named → Stands n T t ts m.tags → Stands (with_names n ls) T t ts g) →
     Follows m h ts → Follows (record m { tags = g; names = m.names ++ L ∷ [] }) h ts
 after_name m g L h ts c d s f = record {
@@ -131,46 +131,46 @@ last_same (x ∷ z ∷ xs) [] a b e = absurd (cc)
 last_same (x ∷ xs) (y ∷ ys) a b e =
     let h : x ≡ y = cc in let t : xs ++ a ∷ [] ≡ ys ++ b ∷ [] = cc in let r = last_same xs ys a b t in let p = r.0 in (cc, r.1)
 
-same_story : (h k : Story) → h.ended ≡ k.ended → h.test ≡ k.test → h ≡ k
-same_story h k e f = ap (λ (xs : List (ℕ × List Touch)). record { ended = xs; test = h.test }) e ∙ ap (λ (t : ℕ). record { ended = k.ended; test = t }) f
+same_trace : (h k : Trace) → h.ended ≡ k.ended → h.test ≡ k.test → h ≡ k
+same_trace h k e f = ap (λ (xs : List (ℕ × List Touch)). record { ended = xs; test = h.test }) e ∙ ap (λ (t : ℕ). record { ended = k.ended; test = t }) f
 
 -- the tests before one that begins came in order, and the touches are those of the last
-record IsBefore (T : Touches) (h : Story) (ts : List Touch) (test : ℕ) : Type 0 where
+record IsBefore (T : Touches) (h : Trace) (ts : List Touch) (test : ℕ) : Type 0 where
   number : test ≡ suc h.test
-  story : h ≡ story_to T h.test
+  trace : h ≡ trace_to T h.test
   touches : ts ≡ touched_by T h.test
 
-before : (T : Touches) (h : Story) (ts : List Touch) (test : ℕ) → next_test h ts test ≡ story_to T test → IsBefore T h ts test
-before T h ts zero e = absurd (none h.ended (ap (λ (k : Story). k.ended) e))
+before : (T : Touches) (h : Trace) (ts : List Touch) (test : ℕ) → next_test h ts test ≡ trace_to T test → IsBefore T h ts test
+before T h ts zero e = absurd (none h.ended (ap (λ (k : Trace). k.ended) e))
   where
     none : (xs : List (ℕ × List Touch)) → xs ++ (h.test, ts) ∷ [] ≡ [] → ⊥
     none [] q = absurd (cc)
     none (x ∷ xs) q = absurd (cc)
 before T h ts (suc t) e =
-    let l = last_same h.ended (story_to T t).ended (h.test, ts) ((story_to T t).test, touched_by T t) (ap (λ (k : Story). k.ended) e) in
-    let n : h.test ≡ t = ap (λ (x : ℕ × List Touch). x.0) l.1 ∙ story_test T t in
-    let s : h ≡ story_to T t = same_story h (story_to T t) l.0 (n ∙ sym (story_test T t)) in
-    record { number = ap suc (sym n); story = subst (λ (u : ℕ). h ≡ story_to T u) (sym n) s; touches = subst (λ (u : ℕ). ts ≡ touched_by T u) (sym n) (ap (λ (x : ℕ × List Touch). x.1) l.1) }
+    let l = last_same h.ended (trace_to T t).ended (h.test, ts) ((trace_to T t).test, touched_by T t) (ap (λ (k : Trace). k.ended) e) in
+    let n : h.test ≡ t = ap (λ (x : ℕ × List Touch). x.0) l.1 ∙ trace_test T t in
+    let s : h ≡ trace_to T t = same_trace h (trace_to T t) l.0 (n ∙ sym (trace_test T t)) in
+    record { number = ap suc (sym n); trace = subst (λ (u : ℕ). h ≡ trace_to T u) (sym n) s; touches = subst (λ (u : ℕ). ts ≡ touched_by T u) (sym n) (ap (λ (x : ℕ × List Touch). x.1) l.1) }
 
-heads_begun : (kinds : ℕ → ℕ → Kind) (T : Touches) (h : Story) (ts : List Touch) (test : ℕ) (b : Heads) → IsBefore T h ts test → HeadsStand kinds (touched_by T) h.test ts b → HeadsStand kinds (touched_by T) test [] b
+heads_begun : (kinds : ℕ → ℕ → Kind) (T : Touches) (h : Trace) (ts : List Touch) (test : ℕ) (b : Heads) → IsBefore T h ts test → HeadsStand kinds (touched_by T) h.test ts b → HeadsStand kinds (touched_by T) test [] b
 heads_begun kinds T h ts test b k s = subst (λ (u : ℕ). HeadsStand kinds (touched_by T) u [] b) (sym k.number) (heads_next kinds (touched_by T) h.test ts b.classes b.marks (sym k.touches) s)
 
 -- the first test begins
-pub begun_first : (m : TaggedMemory) (h : Story) (ts : List Touch) (test : ℕ) → m.test ≡ 0 → Follows m h ts → Follows (record m { test = test }) (next_test h ts test) []
+pub begun_first : (m : TaggedMemory) (h : Trace) (ts : List Touch) (test : ℕ) → m.test ≡ 0 → Follows m h ts → Follows (record m { test = test }) (next_test h ts test) []
 begun_first m h ts test z f = record {
   test = refl;
   numbered = f.numbered;
   cells = f.cells;
   named = f.named;
   program = f.program;
-  told = λ T e. let b = before T h ts test e in let t = f.told T b.story in
+  told = λ T e. let b = before T h ts test e in let t = f.told T b.trace in
       let y : h.test ≡ 0 = sym f.test ∙ z in
       let q : h.test - 1 ≡ test - 1 = let w = b.number in omega arith in
       let w : ts ≡ [] = b.touches ∙ ap (λ (u : ℕ). touched_by T u) y in
       record {
         stands = subst (λ (u : ℕ). Stands (numbering m) T u [] m.tags) q (subst (λ (us : List Touch). Stands (numbering m) T (h.test - 1) us m.tags) w t.stands);
         size = subst (λ (u : ℕ). size m.memory.world ≡ size_in T u) q (subst (λ (us : List Touch). size m.memory.world ≡ size_after (size_in T (h.test - 1)) us) w t.size);
-        met = meet_next h.test test ts m.meetings.met (let v = b.number in omega arith) t.met;
+        met = meet_next h.test test ts m.discovery_tree.met (let v = b.number in omega arith) t.met;
         heads = λ kinds v. heads_begun kinds T h ts test m.heads b (t.heads kinds v);
         each = t.each ∙ q;
         ended = t.ended;
@@ -184,8 +184,8 @@ one_more xs x y i e = let l = slice_get_within (xs ++ x ∷ []) i y e in let j =
 ]
 
 -- a later test begins, and what is kept of the one before stands last
-pub begun_next : (m : TaggedMemory) (x : Ended) (g : Tags) (h : Story) (ts : List Touch) (test : ℕ) → 0 < m.test →
-    ((h : Story) (ts : List Touch) (T : Touches) → Follows m h ts → h ≡ story_to T h.test → T h.test ≡ ts → IsEnded T m.names h.test x) → HaveSameRoom m.tags g →
+pub begun_next : (m : TaggedMemory) (x : Ended) (g : Tags) (h : Trace) (ts : List Touch) (test : ℕ) → 0 < m.test →
+    ((h : Trace) (ts : List Touch) (T : Touches) → Follows m h ts → h ≡ trace_to T h.test → T h.test ≡ ts → IsEnded T m.names h.test x) → HaveSameRoom m.tags g →
     ((n : Numbering) (T : Touches) (t : ℕ) (ts : List Touch) → m.test ≡ suc t → T m.test ≡ ts → Stands n T t ts m.tags → Stands n T m.test [] g) →
     Follows m h ts → Follows (record m { ended = m.ended ++ x ∷ []; tags = g; test = test }) (next_test h ts test) []
 begun_next m x g h ts test z k r s f = record {
@@ -194,16 +194,16 @@ begun_next m x g h ts test z k r s f = record {
   cells = r.cells ∙ f.cells;
   named = r.named ∙ f.named;
   program = f.program;
-  told = λ T e. let b = before T h ts test e in let t = f.told T b.story in let y = f.test in
+  told = λ T e. let b = before T h ts test e in let t = f.told T b.trace in let y = f.test in
       let i : h.test ≡ suc (h.test - 1) = omega arith in
       let w : T h.test ≡ ts = ran_touches T h.test i ∙ sym b.touches in
       let q : m.test ≡ test - 1 = let v = b.number in omega arith in
       let c : size m.memory.world ≡ size_in T (suc (h.test - 1)) = t.size ∙ ap (λ (us : List Touch). size_after (size_in T (h.test - 1)) us) (sym w ∙ ap T i) in
-      let d = k h ts T f b.story w in
+      let d = k h ts T f b.trace w in
       record {
         stands = subst (λ (u : ℕ). Stands (numbering m) T u [] g) q (s (numbering m) T (h.test - 1) ts (y ∙ i) (ap T y ∙ w) t.stands);
         size = c ∙ ap (λ (u : ℕ). size_in T u) (sym i ∙ (sym y ∙ q));
-        met = meet_next h.test test ts m.meetings.met (let v = b.number in omega arith) t.met;
+        met = meet_next h.test test ts m.discovery_tree.met (let v = b.number in omega arith) t.met;
         heads = λ kinds v. heads_begun kinds T h ts test m.heads b (t.heads kinds v);
         each = let l = length-append m.ended (x ∷ []) in let v = t.each in let u = b.number in omega arith;
         ended = λ j a v. elim (one_more m.ended x a j v) [
@@ -227,12 +227,12 @@ pub objects_in : (w : World) (n : Numbers) → IsNumbered w n → length n.bases
 objects_in w n i = ap (λ (ns : List ℕ). length ns) i.bases ∙ length-bases (length w.statics + length w.states) w.objects
 
 -- what is kept of a test when it ends
-pub summed : (m : TaggedMemory) (x : Ended) (h : Story) (ts : List Touch) (T : Touches) → 0 < m.test →
+pub summed : (m : TaggedMemory) (x : Ended) (h : Trace) (ts : List Touch) (T : Touches) → 0 < m.test →
     ((n : Numbering) (T : Touches) (t : ℕ) (ts : List Touch) (p : Program) (by : ℕ → ℕ × ℕ) → m.test ≡ suc t → T m.test ≡ ts → Stands n T t ts m.tags
     → (xs : List Row) × (x.rows ≡ [] ++ xs) × (map (shown_by p by n.names m.test) xs ≡ map (with_places T m.test) (edges_at p T by m.test))) →
-    ((ts : List Touch) → 0 < m.test → Meets m.test ts m.meetings → HaveRowsWalks ts x.rows x.walks) → x.size ≡ length m.numbers.bases.items →
+    ((ts : List Touch) → 0 < m.test → HasDiscovered m.test ts m.discovery_tree → HaveRowsWalks ts x.rows x.walks) → x.size ≡ length m.numbers.bases.items →
     ((n : Numbering) (T : Touches) (t : ℕ) (ts : List Touch) → Stands n T t ts m.tags → x.alone ≡ list_all (λ L. not (exposed ts L) || same L (place.Static out_field)) (places ts)) →
-    Follows m h ts → h ≡ story_to T h.test → T h.test ≡ ts → IsEnded T m.names h.test x
+    Follows m h ts → h ≡ trace_to T h.test → T h.test ≡ ts → IsEnded T m.names h.test x
 summed m x h ts T z rows walks size_is alone f e w =
     let t = f.told T e in let y = f.test in
     let i : h.test ≡ suc (h.test - 1) = omega arith in
@@ -244,15 +244,15 @@ summed m x h ts T z rows walks size_is alone f e w =
           subst (λ (u : ℕ). map (shown_by p by (m.names ++ more) u) x.rows ≡ map (with_places T u) (edges_at p T by u)) y
           (subst (λ (xs : List Row). map (shown_by p by (m.names ++ more) m.test) xs ≡ map (with_places T m.test) (edges_at p T by m.test)) (sym r.1) r.2);
       size = size_is ∙ (objects_in m.memory.world m.numbers f.numbered ∙ (t.size ∙ (ap (λ (us : List Touch). size_after (size_in T (h.test - 1)) us) (sym w ∙ ap T i) ∙ ap (λ (u : ℕ). size_in T u) (sym i))));
-      walks = subst (λ (us : List Touch). HaveRowsWalks us x.rows x.walks) (sym w) (walks ts z (subst (λ (u : ℕ). Meets u ts m.meetings) (sym y) t.met));
+      walks = subst (λ (us : List Touch). HaveRowsWalks us x.rows x.walks) (sym w) (walks ts z (subst (λ (u : ℕ). HasDiscovered u ts m.discovery_tree) (sym y) t.met));
       alone = alone (numbering m) T (h.test - 1) ts t.stands ∙ ap (λ (us : List Touch). list_all (λ L. not (exposed us L) || same L (place.Static out_field)) (places us)) (sym w);
     }
 
 -- before the first test
 pub opened : (p : Program) (m : TaggedMemory) → m.memory.world ≡ opening p → m.memory.program ≡ p → m.numbers.statics ≡ length p.fields → m.numbers.bases.items ≡ [] → m.numbers.layouts ≡ m.numbers.places → m.numbers.places ≡ p →
     count m.tags.cells ≡ length p.fields + length p.classes → count m.tags.named ≡ 0 → m.names ≡ [] → m.ended ≡ [] → m.test ≡ 0 →
-    ((T : Touches) (n : Numbering) → n.cells ≡ [] ++ statics_of (opening p) ++ states_of (opening p) → Stands n T 0 [] m.tags) → ((t : ℕ) → Meets t [] m.meetings) →
-    ((kinds : ℕ → ℕ → Kind) (T : Touches) → HeadsStand kinds T 0 [] m.heads) → Follows m no_story []
+    ((T : Touches) (n : Numbering) → n.cells ≡ [] ++ statics_of (opening p) ++ states_of (opening p) → Stands n T 0 [] m.tags) → ((t : ℕ) → HasDiscovered t [] m.discovery_tree) →
+    ((kinds : ℕ → ℕ → Kind) (T : Touches) → HeadsStand kinds T 0 [] m.heads) → Follows m empty_trace []
 unfolding opening
 opened p m q o a b l r c d n e t s met heads =
     let w = opening p in
@@ -284,11 +284,11 @@ opened p m q o a b l r c d n e t s met heads =
 -- a touch of a file or property
 pub name_notes : (m : TaggedMemory) (g : Tags) (part : Part) (name : List ℕ) (k : ℕ) (write : Bool) → IsNamed m.names (place_in part name) k → HaveSameRoom m.tags g →
     ((n : Numbering) (T : Touches) (t : ℕ) (ts : List Touch) (x : Touch) → IsPlaced n (record { spot = spot.Named k; at = k }) → x.write ≡ write → x.location ≡ located n.names (spot.Named k) → Stands n T t ts m.tags → Stands n T t (ts ++ x ∷ []) g) →
-    NotesOne m g m.meetings m.heads (record { write = write; location = place_in part name; gave = None })
+    NotesOne m g m.discovery_tree m.heads (record { write = write; location = place_in part name; gave = None })
 name_notes m g part name k write i r s = let x : Touch = record { write = write; location = place_in part name; gave = None } in record {
   room = r;
   tags = λ T t ts a. s (numbering m) T t ts x (placed_name (numbering m) part name k i) refl (sym i.here) a;
-  met = λ ts a. meet_ungiven m.test ts x m.meetings.met a refl;
+  met = λ ts a. meet_ungiven m.test ts x m.discovery_tree.met a refl;
   heads = λ kinds T ts q a. heads_quiet kinds T m.test ts m.heads.classes (x ∷ []) m.heads.marks (λ o c. quiet part o c) a;
   size = same_size part write (size m.memory.world);
 }
@@ -304,13 +304,13 @@ name_notes m g part name k write i r s = let x : Touch = record { write = write;
     same_size sort.Prop false n = refl
 
 -- a file or property was written
-pub store_put : (m : TaggedMemory) (k : Kept) (part : Part) (name : List ℕ) (c : Option (List ℕ)) (h : Story) (ts : List Touch) → k.program ≡ m.memory.program → k.world ≡ put_in part m.memory.world name c → Follows m h ts → Follows (record m { memory = k }) h ts
+pub store_put : (m : TaggedMemory) (k : Kept) (part : Part) (name : List ℕ) (c : Option (List ℕ)) (h : Trace) (ts : List Touch) → k.program ≡ m.memory.program → k.world ≡ put_in part m.memory.world name c → Follows m h ts → Follows (record m { memory = k }) h ts
 store_put m k sort.File name c h ts p q f = after_put m k (place.File name) c h ts refl tt p q f
 store_put m k sort.Prop name c h ts p q f = after_put m k (place.Prop name) c h ts refl tt p q f
 
 -- a part of the memory was lent after a touch was noted
-pub lent : {T E : Type 0} (C : Type 0) (r : Result T E) (m n : TaggedMemory) (k : Kept) (xs : List Touch) → OnOk r ((k.program ≡ n.memory.program) × (k.world ≡ n.memory.world) × C) → n.memory ≡ m.memory → Adds Follows m n xs →
-    OnOk r ((k.program ≡ m.memory.program) × (k.world ≡ m.memory.world) × Adds Follows m (record n { memory = k }) xs)
+pub lent : {T E : Type 0} (C : Type 0) (r : Result T E) (m n : TaggedMemory) (k : Kept) (xs : List Touch) → OnOk r ((k.program ≡ n.memory.program) × (k.world ≡ n.memory.world) × C) → n.memory ≡ m.memory → Extends Follows m n xs →
+    OnOk r ((k.program ≡ m.memory.program) × (k.world ≡ m.memory.world) × Extends Follows m (record n { memory = k }) xs)
 lent C r m n k xs q e a = on_ok_weaker r (λ z. (z.0 ∙ ap (λ (v : Kept). v.program) e, z.1 ∙ ap (λ (v : Kept). v.world) e, λ h ts f. after_read n k h (ts ++ xs) z.0 z.1 (a h ts f))) q
 
 abbrev pub Grows : Tags → Tags → Type 0

@@ -10,10 +10,10 @@ use Rattle.jvm_model.specs.declared.values.Touch.{Touch}
 use Rattle.jvm_model.specs.World.{Object}
 use Rattle.jvm_model.specs.Access.{made, fields_made, elems_made, text_made}
 use Rattle.order_law.specs.Walk.{gives, first_giving}
-use Rattle.access_tags.specs.declared.hit.Spot.{Spot}
-use Rattle.access_tags.specs.declared.meetings.Met.{Met}
+use Rattle.access_tags.specs.declared.conflict.LocationKey.{LocationKey}
+use Rattle.access_tags.specs.declared.discovery_tree.ParentEdge.{ParentEdge}
 use Rattle.access_tags.specs.Numbering.{located}
-use Rattle.access_tags.specs.Meeting.{no_meeting, met_by, location_of, Meet}
+use Rattle.access_tags.specs.ParentEdges.{no_parent, met_by, location_of, HasParents}
 
 -- the first read that gave an object, in two lists
 first_after : (ts us : List Touch) (o : ℕ) → first_giving (ts ++ us) o ≡ option_or (first_giving ts o) (first_giving us o)
@@ -41,16 +41,16 @@ gift : (x : Touch) (a o : ℕ) → x.write ≡ false → x.gave ≡ Some a → g
 gift x a o h e = rw h (rw e refl)
 
 -- touches that give nothing change no meeting
-pub meet_quiet : (t : ℕ) (ts us : List Touch) (ms : List Met) → ((o : ℕ) → first_giving us o ≡ None) → Meet t ts ms → Meet t (ts ++ us) ms
+pub meet_quiet : (t : ℕ) (ts us : List Touch) (ms : List ParentEdge) → ((o : ℕ) → first_giving us o ≡ None) → HasParents t ts ms → HasParents t (ts ++ us) ms
 meet_quiet t ts us ms q m = record {
   first = λ p o. m.first p o ∙ ap (λ (y : Option Touch). option_map location_of y) (sym (first_kept ts us o (q o)));
   stamped = m.stamped;
 }
 
 -- the next test met nothing yet
-pub meet_next : (t u : ℕ) (ts : List Touch) (ms : List Met) → t < u → Meet t ts ms → Meet u [] ms
+pub meet_next : (t u : ℕ) (ts : List Touch) (ms : List ParentEdge) → t < u → HasParents t ts ms → HasParents u [] ms
 meet_next t u ts ms h m = record {
-  first = λ p o. let low = m.stamped o in rw (ne_eqb (get_or ms o no_meeting).test u (λ e. omega arith)) refl;
+  first = λ p o. let low = m.stamped o in rw (ne_eqb (get_or ms o no_parent).test u (λ e. omega arith)) refl;
   stamped = λ o. let low = m.stamped o in omega arith;
 }
 
@@ -58,29 +58,29 @@ none_from_place : (y : Option Touch) → None ≡ option_map location_of y → y
 none_from_place None e = refl
 none_from_place (Some x) e = absurd (cc)
 
-some_or : (z : Option Spot) (y w : Option Touch) → is_some z ≡ true → option_map (located []) z ≡ option_map location_of y → option_or y w ≡ y
+some_or : (z : Option LocationKey) (y w : Option Touch) → is_some z ≡ true → option_map (located []) z ≡ option_map location_of y → option_or y w ≡ y
 some_or z (Some x) w s e = refl
 some_or None None w s e = absurd (cc)
 some_or (Some x) None w s e = absurd (cc)
 
-none_or : (z : Option Spot) (y w : Option Touch) → is_some z ≡ false → option_map (located []) z ≡ option_map location_of y → option_or y w ≡ w
+none_or : (z : Option LocationKey) (y w : Option Touch) → is_some z ≡ false → option_map (located []) z ≡ option_map location_of y → option_or y w ≡ w
 none_or z None w s e = refl
 none_or None (Some x) w s e = absurd (cc)
 none_or (Some x) (Some y) w s e = absurd (cc)
 
 -- one more touch
-module _ (t : ℕ) (ts : List Touch) (x : Touch) (ms : List Met) (m : Meet t ts ms) where
-  pub meet_ungiven : x.gave ≡ None → Meet t (ts ++ x ∷ []) ms
+module _ (t : ℕ) (ts : List Touch) (x : Touch) (ms : List ParentEdge) (m : HasParents t ts ms) where
+  pub meet_ungiven : x.gave ≡ None → HasParents t (ts ++ x ∷ []) ms
   meet_ungiven e = meet_quiet t ts (x ∷ []) ms (λ o. quiet_one x o (ungiven x o e)) m
 
-  pub meet_write : x.write ≡ true → Meet t (ts ++ x ∷ []) ms
+  pub meet_write : x.write ≡ true → HasParents t (ts ++ x ∷ []) ms
   meet_write e = meet_quiet t ts (x ∷ []) ms (λ o. quiet_one x o (unread x o e)) m
 
   module _ (a : ℕ) (r : x.write ≡ false) (g : x.gave ≡ Some a) where
     other_kept : (o : ℕ) → nat_eq a o ≡ false → first_giving (ts ++ x ∷ []) o ≡ first_giving ts o
     other_kept o d = first_kept ts (x ∷ []) o (quiet_one x o (gift x a o r g ∙ d))
 
-    pub meet_again : (0 < t → is_some (met_by ms t a) ≡ true) → Meet t (ts ++ x ∷ []) ms
+    pub meet_again : (0 < t → is_some (met_by ms t a) ≡ true) → HasParents t (ts ++ x ∷ []) ms
     meet_again s = record {
       first = λ p o. m.first p o ∙ ap (λ (y : Option Touch). option_map location_of y) (sym (elim (cases_Bool (nat_eq a o)) [
         | inl e ↦ first_after ts (x ∷ []) o ∙ some_or (met_by ms t o) (first_giving ts o) _ (ap (λ (i : ℕ). is_some (met_by ms t i)) (sym (eqb-true a o e)) ∙ s p) (m.first p o)
@@ -89,26 +89,26 @@ module _ (t : ℕ) (ts : List Touch) (x : Touch) (ms : List Met) (m : Meet t ts 
       stamped = m.stamped;
     }
 
-    abbrev now : Spot → Met
+    abbrev now : LocationKey → ParentEdge
     now s = record { test = t; from = s }
 
-    pub meet_first : (s : Spot) (ns : List Met) → x.location ≡ located [] s → (0 < t → is_some (met_by ms t a) ≡ false) → ((i : ℕ) → get_or ns i no_meeting ≡ get_or ms i no_meeting) → a < length ns → Meet t (ts ++ x ∷ []) (set ns a (now s))
+    pub meet_first : (s : LocationKey) (ns : List ParentEdge) → x.location ≡ located [] s → (0 < t → is_some (met_by ms t a) ≡ false) → ((i : ℕ) → get_or ns i no_parent ≡ get_or ms i no_parent) → a < length ns → HasParents t (ts ++ x ∷ []) (set ns a (now s))
     meet_first s ns l n same there = record {
       first = λ p o. elim (cases_Bool (nat_eq a o)) [
         | inl e ↦
             let q : o ≡ a = sym (eqb-true a o e) in
-            let here : met_by (set ns a (now s)) t o ≡ Some s = rw (get_or-set_at ns a o (now s) no_meeting q there) (rw (eq-eqb t t refl) refl) in
+            let here : met_by (set ns a (now s)) t o ≡ Some s = rw (get_or-set_at ns a o (now s) no_parent q there) (rw (eq-eqb t t refl) refl) in
             let none : is_some (met_by ms t o) ≡ false = ap (λ (i : ℕ). is_some (met_by ms t i)) q ∙ n p in
             let given : first_giving (x ∷ []) o ≡ Some x = rw (gift x a o r g ∙ e) refl in
             rw here (rw (first_after ts (x ∷ []) o ∙ (none_or (met_by ms t o) (first_giving ts o) (first_giving (x ∷ []) o) none (m.first p o) ∙ given)) (ap (λ (z : Location). Some z) (sym l)))
         | inr d ↦
             let apart : o ≡ a → ⊥ = λ q. let e = eq-eqb a o (sym q) in absurd (cc) in
-            let old : met_by (set ns a (now s)) t o ≡ met_by ms t o = ap (λ (z : Met). cond (nat_eq z.test t) (Some z.from) None) (get_or-set_other ns a o (now s) no_meeting apart ∙ same o) in
+            let old : met_by (set ns a (now s)) t o ≡ met_by ms t o = ap (λ (z : ParentEdge). cond (nat_eq z.test t) (Some z.from) None) (get_or-set_other ns a o (now s) no_parent apart ∙ same o) in
             rw old (m.first p o ∙ ap (λ (y : Option Touch). option_map location_of y) (sym (other_kept o d)))
       ];
       stamped = λ o. elim (cases_eq o a) [
-        | inl q ↦ let e = ap (λ (z : Met). z.test) (get_or-set_at ns a o (now s) no_meeting q there) in omega arith
-        | inr q ↦ let e = ap (λ (z : Met). z.test) (get_or-set_other ns a o (now s) no_meeting q ∙ same o) in let low = m.stamped o in omega arith
+        | inl q ↦ let e = ap (λ (z : ParentEdge). z.test) (get_or-set_at ns a o (now s) no_parent q there) in omega arith
+        | inr q ↦ let e = ap (λ (z : ParentEdge). z.test) (get_or-set_other ns a o (now s) no_parent q ∙ same o) in let low = m.stamped o in omega arith
       ];
     }
 
@@ -128,9 +128,9 @@ quiet_text : (a o : ℕ) (t : Option (List ℕ)) → first_giving (text_made a t
 quiet_text a o None = refl
 quiet_text a o (Some t) = refl
 
-pub meet_made : (t : ℕ) (ts : List Touch) (ms : List Met) (a : ℕ) (x : Object) → Meet t ts ms → Meet t (ts ++ made a x) ms
+pub meet_made : (t : ℕ) (ts : List Touch) (ms : List ParentEdge) (a : ℕ) (x : Object) → HasParents t ts ms → HasParents t (ts ++ made a x) ms
 meet_made t ts ms a x m = meet_quiet t ts (made a x) ms (λ o. quiet_both (fields_made a x.fields) _ o (quiet_fields a o x.fields) (quiet_both (elems_made a 0 x.elems) (text_made a x.text) o (quiet_elems a 0 o x.elems) (quiet_text a o x.text))) m
 
 -- an object that isn't kept was never met
-pub met_none : (ms : List Met) (t o : ℕ) → length ms ≤ o → 0 < t → met_by ms t o ≡ None
-met_none ms t o h p = ap (λ (z : Met). cond (nat_eq z.test t) (Some z.from) None) (get_or_past ms o no_meeting h) ∙ rw (ne_eqb 0 t (λ e. omega arith)) refl
+pub met_none : (ms : List ParentEdge) (t o : ℕ) → length ms ≤ o → 0 < t → met_by ms t o ≡ None
+met_none ms t o h p = ap (λ (z : ParentEdge). cond (nat_eq z.test t) (Some z.from) None) (get_or_past ms o no_parent h) ∙ rw (ne_eqb 0 t (λ e. omega arith)) refl

@@ -14,38 +14,38 @@ use Rattle.order_law.specs.Histories.{Touches}
 use Rattle.order_law.specs.OwnRecord.{edges_in, owner_in}
 use Rattle.order_law.specs.Pairing.{PairedList}
 use Rattle.order_law.specs.Walk.{IsShownIn}
-use Rattle.vm_mem.specs.Story.{Story}
+use Rattle.vm_mem.specs.Trace.{Trace}
 use Rattle.access_tags.specs.declared.ended.Ended.{Ended}
 use Rattle.access_tags.specs.declared.memory.TaggedMemory.{TaggedMemory}
 use Rattle.access_tags.specs.Followed.{IsEnded, IsTold, Follows}
 use Rattle.access_tags.specs.FoundIn.{AreEnded, added, edges_up_to}
-use Rattle.access_tags.specs.Ran.{story_to, touched_by, size_in, owner_by}
+use Rattle.access_tags.specs.Ran.{trace_to, touched_by, size_in, owner_by}
 use Rattle.access_tags.specs.Settled.{reads_out_alone}
 use Rattle.access_tags.specs.Tag.{places}
 
-pub story_test : (T : Touches) (t : ℕ) → (story_to T t).test ≡ t
-story_test T zero = refl
-story_test T (suc t) = refl
+pub trace_test : (T : Touches) (t : ℕ) → (trace_to T t).test ≡ t
+trace_test T zero = refl
+trace_test T (suc t) = refl
 
 pub touched_at : (T : Touches) (n : ℕ) → 0 < n → T n ≡ touched_by T n
 touched_at T zero h = absurd (omega arith)
 touched_at T (suc n) h = refl
 
 -- what a memory that follows a run is told of it
-module _ (m : TaggedMemory) (T : Touches) (n : ℕ) (f : Follows m (story_to T n) (touched_by T n)) where
+module _ (m : TaggedMemory) (T : Touches) (n : ℕ) (f : Follows m (trace_to T n) (touched_by T n)) where
   pub told_all : IsTold T n (touched_by T n) m
-  told_all = let e = story_test T n in subst (λ (t : ℕ). IsTold T t (touched_by T n) m) e (f.told T (ap (λ (t : ℕ). story_to T t) (sym e)))
+  told_all = let e = trace_test T n in subst (λ (t : ℕ). IsTold T t (touched_by T n) m) e (f.told T (ap (λ (t : ℕ). trace_to T t) (sym e)))
 
   pub test_all : m.test ≡ n
-  test_all = f.test ∙ story_test T n
+  test_all = f.test ∙ trace_test T n
 
   pub count_all : 0 < n → length m.ended + 1 ≡ n
   count_all h = let e = told_all.each in omega arith
 
-  pub ended_all : (last : Ended) → 0 < n → ((h : Story) (ts : List Touch) (S : Touches) → Follows m h ts → h ≡ story_to S h.test → S h.test ≡ ts → IsEnded S m.names h.test last) → AreEnded T m.names m.ended last
+  pub ended_all : (last : Ended) → 0 < n → ((h : Trace) (ts : List Touch) (S : Touches) → Follows m h ts → h ≡ trace_to S h.test → S h.test ≡ ts → IsEnded S m.names h.test last) → AreEnded T m.names m.ended last
   ended_all last h s =
-      let e = story_test T n in
-      let own : IsEnded T m.names (story_to T n).test last = s (story_to T n) (touched_by T n) T f (ap (λ (t : ℕ). story_to T t) (sym e)) (ap (λ (t : ℕ). T t) e ∙ touched_at T n h) in
+      let e = trace_test T n in
+      let own : IsEnded T m.names (trace_to T n).test last = s (trace_to T n) (touched_by T n) T f (ap (λ (t : ℕ). trace_to T t) (sym e)) (ap (λ (t : ℕ). T t) e ∙ touched_at T n h) in
       record {
         each = told_all.ended;
         last = subst (λ (t : ℕ). IsEnded T m.names t last) (e ∙ sym (count_all h)) own;
@@ -53,7 +53,7 @@ module _ (m : TaggedMemory) (T : Touches) (n : ℕ) (f : Follows m (story_to T n
 
   -- the same of lists that are those of the memory
   pub kept_all : (names : List Location) (ended : List Ended) (last : Ended) → names ≡ m.names → ended ≡ m.ended → 0 < n →
-      ((h : Story) (ts : List Touch) (S : Touches) → Follows m h ts → h ≡ story_to S h.test → S h.test ≡ ts → IsEnded S m.names h.test last) → AreEnded T names ended last
+      ((h : Trace) (ts : List Touch) (S : Touches) → Follows m h ts → h ≡ trace_to S h.test → S h.test ≡ ts → IsEnded S m.names h.test last) → AreEnded T names ended last
   kept_all names ended last e g h s = subst (λ (ns : List Location). AreEnded T ns ended last) (sym e) (subst (λ (xs : List Ended). AreEnded T m.names xs last) (sym g) (ended_all last h s))
 
   pub count_by : (ended : List Ended) → ended ≡ m.ended → 0 < n → length ended + 1 ≡ n
@@ -79,7 +79,7 @@ positive (suc k) f = omega arith
 abbrev pub alone_in : List Touch → Bool
 alone_in ts = list_all (λ L. not (exposed ts L) || same L (place.Static out_field)) (places ts)
 
-pub last_alone : (m : TaggedMemory) (T : Touches) (n : ℕ) (f : Follows m (story_to T n) (touched_by T n)) (b : Bool) → 0 < n → b ≡ alone_in (touched_by T n) → b ≡ reads_out_alone T (length m.ended + 1)
+pub last_alone : (m : TaggedMemory) (T : Touches) (n : ℕ) (f : Follows m (trace_to T n) (touched_by T n)) (b : Bool) → 0 < n → b ≡ alone_in (touched_by T n) → b ≡ reads_out_alone T (length m.ended + 1)
 last_alone m T n f b h e = e ∙ ap (λ (ts : List Touch). alone_in ts) (sym (touched_at T n h) ∙ ap (λ (t : ℕ). T t) (sym (count_all m T n f h)))
 
 -- marks of entries, and one more behind them

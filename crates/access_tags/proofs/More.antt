@@ -8,9 +8,9 @@ use Rattle.jvm_model.specs.declared.values.Location.TheVariants as place
 use Rattle.jvm_model.specs.declared.values.Touch.{Touch}
 use Rattle.jvm_model.specs.World.{same}
 use Rattle.order_law.specs.Histories.{Touches}
-use Rattle.access_tags.specs.declared.hit.Spot.{Spot}
-use Rattle.access_tags.specs.declared.hit.Spot.TheVariants as spot
-use Rattle.access_tags.specs.declared.hit.Touched.{Touched}
+use Rattle.access_tags.specs.declared.conflict.LocationKey.{LocationKey}
+use Rattle.access_tags.specs.declared.conflict.LocationKey.TheVariants as spot
+use Rattle.access_tags.specs.declared.conflict.Touched.{Touched}
 use Rattle.access_tags.specs.Tag.{Tag, no_tag}
 use Rattle.access_tags.specs.Numbering.{Numbering, with_cells, with_names, located, is_name, is_named, position, IsAt, IsPlaced, ArePlaced, locations}
 use Rattle.access_tags.specs.Stands.{StandFor}
@@ -99,7 +99,7 @@ module _ (n : Numbering) (T : Touches) (t : ℕ) (ts : List Touch) (c d : ℕ �
     | inr g ↦ absurd (let e : is_named (get_or ms k (place.Static 0)) ≡ false = ap (λ (M : Location). is_named M) (get_or_past ms k (place.Static 0) g) in cc)
   ]
 
-  located_more : (y : Spot) → is_named (located n.names y) ≡ is_name y → located (n.names ++ ls) y ≡ located n.names y
+  located_more : (y : LocationKey) → is_named (located n.names y) ≡ is_name y → located (n.names ++ ls) y ≡ located n.names y
   located_more (spot.Static f) h = refl
   located_more (spot.Init f) h = refl
   located_more (spot.Head o) h = refl

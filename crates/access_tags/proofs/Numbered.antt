@@ -5,7 +5,7 @@ use Rattle.std.proofs.lemmas.Bool.{cases_Bool, eqb-true, eq-eqb}
 use Rattle.jvm_model.specs.declared.values.Location.{Location}
 use Rattle.jvm_model.specs.World.{same}
 use Rattle.jvm_model.proofs.Locations.{same_true}
-use Rattle.access_tags.specs.declared.hit.Touched.{Touched}
+use Rattle.access_tags.specs.declared.conflict.Touched.{Touched}
 use Rattle.access_tags.specs.Tag.{Tag}
 use Rattle.access_tags.specs.Numbering.{Numbering, located, is_name, is_named, position, view, IsPlaced, locations, is_at, tag_at}
 use Rattle.access_tags.proofs.Marks.{same_self, swap_same}

@@ -9,9 +9,9 @@ use Rattle.jvm_model.specs.World.{same}
 use Rattle.jvm_model.proofs.Locations.{same_true}
 use Rattle.order_law.specs.Exposed.{exposed}
 use Rattle.order_law.specs.Histories.{Touches}
-use Rattle.access_tags.specs.declared.hit.Spot.{Spot}
-use Rattle.access_tags.specs.declared.hit.Spot.TheVariants as spot
-use Rattle.access_tags.specs.declared.hit.Touched.{Touched}
+use Rattle.access_tags.specs.declared.conflict.LocationKey.{LocationKey}
+use Rattle.access_tags.specs.declared.conflict.LocationKey.TheVariants as spot
+use Rattle.access_tags.specs.declared.conflict.Touched.{Touched}
 use Rattle.access_tags.specs.Tag.{Tag, places}
 use Rattle.access_tags.specs.Numbering.{Numbering, located, is_name, is_named, is_static, IsPlaced, ArePlaced, locations, tag_at}
 use Rattle.access_tags.specs.Stands.{StandFor}
@@ -23,7 +23,7 @@ named_static L f e = elim (cases_Bool (same L (place.Static f))) [
   | inr s ↦ s
 ]
 
-static_there : (names : List Location) (y : Spot) (f : ℕ) → is_named (located names y) ≡ is_name y → is_static y f ≡ same (located names y) (place.Static f)
+static_there : (names : List Location) (y : LocationKey) (f : ℕ) → is_named (located names y) ≡ is_name y → is_static y f ≡ same (located names y) (place.Static f)
 static_there names (spot.Static g) f e = refl
 static_there names (spot.Init c) f e = refl
 static_there names (spot.Head o) f e = refl

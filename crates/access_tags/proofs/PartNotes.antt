@@ -17,8 +17,8 @@ use Rattle.jvm_model.specs.Access.{elems_made, fields_made, made, text_made, wri
 use Rattle.jvm_model.specs.Classes.{blank, default_of, elems_of, field_at, fields_of, layout, member}
 use Rattle.jvm_model.specs.View.{Exists, keys}
 use Rattle.jvm_model.specs.World.{World, Object, size, object_at, same}
-use Rattle.access_tags.specs.declared.hit.Spot.{Spot}
-use Rattle.access_tags.specs.declared.hit.Spot.TheVariants as spot
+use Rattle.access_tags.specs.declared.conflict.LocationKey.{LocationKey}
+use Rattle.access_tags.specs.declared.conflict.LocationKey.TheVariants as spot
 use Rattle.access_tags.specs.declared.numbers.Numbers.{Numbers}
 use Rattle.access_tags.specs.declared.tags.Tags.{Tags}
 use Rattle.vm_tables.specs.FieldPlaces.{place as place_of_field}
@@ -29,7 +29,7 @@ use Rattle.access_tags.specs.Worlds.{cells_of, number_in}
 use Rattle.access_tags.proofs.Spread.{numbers_law}
 
 -- a spot that is no name is a location whatever the names
-pub spot_alone : (names : List Location) (s : Spot) → is_name s ≡ false → located names s ≡ located [] s
+pub spot_alone : (names : List Location) (s : LocationKey) → is_name s ≡ false → located names s ≡ located [] s
 spot_alone names (spot.Static f) e = refl
 spot_alone names (spot.Init c) e = refl
 spot_alone names (spot.Head o) e = refl
@@ -38,7 +38,7 @@ spot_alone names (spot.Elem o i) e = refl
 spot_alone names (spot.Text o) e = refl
 spot_alone names (spot.Named k) e = absurd (cc)
 
-not_named : (s : Spot) → is_name s ≡ false → is_named (located [] s) ≡ false
+not_named : (s : LocationKey) → is_name s ≡ false → is_named (located [] s) ≡ false
 not_named (spot.Static f) e = refl
 not_named (spot.Init c) e = refl
 not_named (spot.Head o) e = refl
@@ -47,7 +47,7 @@ not_named (spot.Elem o i) e = refl
 not_named (spot.Text o) e = refl
 not_named (spot.Named k) e = absurd (cc)
 
-pub placed : (w : World) (names : List Location) (s : Spot) (n : ℕ) → is_name s ≡ false → Exists w (located [] s) → n ≡ number_in w (located [] s) → IsPlaced (numbering_in w names) (record { spot = s; at = n })
+pub placed : (w : World) (names : List Location) (s : LocationKey) (n : ℕ) → is_name s ≡ false → Exists w (located [] s) → n ≡ number_in w (located [] s) → IsPlaced (numbering_in w names) (record { spot = s; at = n })
 placed w names s n e h a =
     let L = located [] s in
     let q : is_named L ≡ false = not_named s e in

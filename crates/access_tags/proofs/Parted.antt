@@ -8,11 +8,11 @@ use Rattle.std.proofs.lemmas.List.Folds.{list_any-append}
 use Rattle.jvm_model.specs.declared.values.Location.{Location}
 use Rattle.jvm_model.specs.World.{same}
 use Rattle.jvm_model.proofs.Locations.{same_true}
-use Rattle.access_tags.specs.declared.hit.Hit.{Hit}
-use Rattle.access_tags.specs.declared.hit.Spot.{Spot}
-use Rattle.access_tags.specs.declared.hit.Touched.{Touched}
+use Rattle.access_tags.specs.declared.conflict.Conflict.{Conflict}
+use Rattle.access_tags.specs.declared.conflict.LocationKey.{LocationKey}
+use Rattle.access_tags.specs.declared.conflict.Touched.{Touched}
 use Rattle.access_tags.specs.declared.rows.Row.{Row}
-use Rattle.access_tags.specs.declared.stretch.Stretch.{Stretch}
+use Rattle.access_tags.specs.declared.interval.Interval.{Interval}
 use Rattle.access_tags.specs.declared.table.Table.{Table}
 use Rattle.access_tags.specs.Tag.{Tag, ended}
 use Rattle.access_tags.specs.Cells.{Apart}
@@ -20,7 +20,7 @@ use Rattle.access_tags.specs.Counted.{Counts, HaveCounted}
 use Rattle.access_tags.specs.HaveEnded.{HaveEnded}
 use Rattle.access_tags.specs.Numbering.{Numbering, located, is_name, view, ArePlaced, locations, is_at}
 use Rattle.access_tags.specs.Rows.{IsTable}
-use Rattle.access_tags.specs.Stretches.{part_at, parts_to, parts_of, parts}
+use Rattle.access_tags.specs.Intervals.{part_at, parts_to, parts_of, parts}
 use Rattle.access_tags.proofs.Numbered.{changed, any_location}
 use Rattle.access_tags.proofs.Spanned.{to_none, to_more, parts_more}
 
@@ -84,36 +84,36 @@ module _ (t : ℕ) where
 
 -- conflicts that are counted
 pub counted_none : (a : Table) → HaveCounted a a []
-counted_none a = record { later = refl; counts = λ hs k. subst (λ (xs : List (Hit Spot)). Counts a xs) (sym (append-nil hs)) k }
+counted_none a = record { later = refl; counts = λ hs k. subst (λ (xs : List (Conflict LocationKey)). Counts a xs) (sym (append-nil hs)) k }
 
-pub counted_after : (a b c : Table) (xs ys : List (Hit Spot)) → HaveCounted a b xs → HaveCounted b c ys → HaveCounted a c (xs ++ ys)
-counted_after a b c xs ys f g = record { later = g.later ∙ f.later; counts = λ hs k. subst (λ (zs : List (Hit Spot)). Counts c zs) (append_assoc hs xs ys) (g.counts (hs ++ xs) (f.counts hs k)) }
+pub counted_after : (a b c : Table) (xs ys : List (Conflict LocationKey)) → HaveCounted a b xs → HaveCounted b c ys → HaveCounted a c (xs ++ ys)
+counted_after a b c xs ys f g = record { later = g.later ∙ f.later; counts = λ hs k. subst (λ (zs : List (Conflict LocationKey)). Counts c zs) (append_assoc hs xs ys) (g.counts (hs ++ xs) (f.counts hs k)) }
 
-pub counted_more : (t : ℕ) (rows : List Row) (gs hs : List (Hit Spot)) (i : ℕ) (d : Hit Spot) → i < length hs → IsTable t ((gs ++ take i hs) ++ get_or hs i d ∷ []) rows → IsTable t (gs ++ take (i + 1) hs) rows
-counted_more t rows gs hs i d h k = subst (λ (xs : List (Hit Spot)). IsTable t xs rows) (append_assoc gs (take i hs) (get_or hs i d ∷ []) ∙ ap (λ (ys : List (Hit Spot)). gs ++ ys) (sym (take_more hs i d h))) k
+pub counted_more : (t : ℕ) (rows : List Row) (gs hs : List (Conflict LocationKey)) (i : ℕ) (d : Conflict LocationKey) → i < length hs → IsTable t ((gs ++ take i hs) ++ get_or hs i d ∷ []) rows → IsTable t (gs ++ take (i + 1) hs) rows
+counted_more t rows gs hs i d h k = subst (λ (xs : List (Conflict LocationKey)). IsTable t xs rows) (append_assoc gs (take i hs) (get_or hs i d ∷ []) ∙ ap (λ (ys : List (Conflict LocationKey)). gs ++ ys) (sym (take_more hs i d h))) k
 
--- one part or one stretch more
-module _ (f : Touched → List (Hit Spot)) (a b c : Table) where
-  pub counted_to : (s : Stretch) (i : ℕ) → s.first ≤ i → HaveCounted a b (flat_map f (parts_to s i)) → HaveCounted b c (f (part_at s i)) → HaveCounted a c (flat_map f (parts_to s (i + 1)))
-  counted_to s i h u v = subst (λ (ys : List (Hit Spot)). HaveCounted a c ys)
-      (sym (ap (λ (xs : List Touched). flat_map f xs) (to_more s i h) ∙ (flat_map-append f (parts_to s i) (part_at s i ∷ []) ∙ ap (λ (ys : List (Hit Spot)). flat_map f (parts_to s i) ++ ys) (append-nil (f (part_at s i))))))
+-- one part or one interval more
+module _ (f : Touched → List (Conflict LocationKey)) (a b c : Table) where
+  pub counted_to : (s : Interval) (i : ℕ) → s.first ≤ i → HaveCounted a b (flat_map f (parts_to s i)) → HaveCounted b c (f (part_at s i)) → HaveCounted a c (flat_map f (parts_to s (i + 1)))
+  counted_to s i h u v = subst (λ (ys : List (Conflict LocationKey)). HaveCounted a c ys)
+      (sym (ap (λ (xs : List Touched). flat_map f xs) (to_more s i h) ∙ (flat_map-append f (parts_to s i) (part_at s i ∷ []) ∙ ap (λ (ys : List (Conflict LocationKey)). flat_map f (parts_to s i) ++ ys) (append-nil (f (part_at s i))))))
       (counted_after a b c (flat_map f (parts_to s i)) (f (part_at s i)) u v)
 
-  pub counted_parts : (ss : List Stretch) (i : ℕ) (d : Stretch) → i < length ss → HaveCounted a b (flat_map f (parts (take i ss))) → HaveCounted b c (flat_map f (parts_of (get_or ss i d))) → HaveCounted a c (flat_map f (parts (take (i + 1) ss)))
-  counted_parts ss i d h u v = subst (λ (ys : List (Hit Spot)). HaveCounted a c ys)
+  pub counted_parts : (ss : List Interval) (i : ℕ) (d : Interval) → i < length ss → HaveCounted a b (flat_map f (parts (take i ss))) → HaveCounted b c (flat_map f (parts_of (get_or ss i d))) → HaveCounted a c (flat_map f (parts (take (i + 1) ss)))
+  counted_parts ss i d h u v = subst (λ (ys : List (Conflict LocationKey)). HaveCounted a c ys)
       (sym (ap (λ (xs : List Touched). flat_map f xs) (parts_more ss i d h) ∙ flat_map-append f (parts (take i ss)) (parts_of (get_or ss i d))))
       (counted_after a b c (flat_map f (parts (take i ss))) (flat_map f (parts_of (get_or ss i d))) u v)
 
 module _ (t : ℕ) (c d e f g h : ℕ → Tag) where
-  pub ended_to : (s : Stretch) (i : ℕ) → s.first ≤ i → HaveEnded t c d e f (parts_to s i) → HaveEnded t e f g h (part_at s i ∷ []) → HaveEnded t c d g h (parts_to s (i + 1))
+  pub ended_to : (s : Interval) (i : ℕ) → s.first ≤ i → HaveEnded t c d e f (parts_to s i) → HaveEnded t e f g h (part_at s i ∷ []) → HaveEnded t c d g h (parts_to s (i + 1))
   ended_to s i l u v = subst (λ (xs : List Touched). HaveEnded t c d g h xs) (sym (to_more s i l)) (ended_after t c d e f g h (parts_to s i) (part_at s i ∷ []) u v)
 
-  pub ended_parts : (ss : List Stretch) (i : ℕ) (k : Stretch) → i < length ss → HaveEnded t c d e f (parts (take i ss)) → HaveEnded t e f g h (parts_of (get_or ss i k)) → HaveEnded t c d g h (parts (take (i + 1) ss))
+  pub ended_parts : (ss : List Interval) (i : ℕ) (k : Interval) → i < length ss → HaveEnded t c d e f (parts (take i ss)) → HaveEnded t e f g h (parts_of (get_or ss i k)) → HaveEnded t c d g h (parts (take (i + 1) ss))
   ended_parts ss i k l u v = subst (λ (xs : List Touched). HaveEnded t c d g h xs) (sym (parts_more ss i k l)) (ended_after t c d e f g h (parts (take i ss)) (parts_of (get_or ss i k)) u v)
 
 -- none yet
-pub counted_first : (f : Touched → List (Hit Spot)) (a : Table) (s : Stretch) → HaveCounted a a (flat_map f (parts_to s s.first))
+pub counted_first : (f : Touched → List (Conflict LocationKey)) (a : Table) (s : Interval) → HaveCounted a a (flat_map f (parts_to s s.first))
 counted_first f a s = subst (λ (xs : List Touched). HaveCounted a a (flat_map f xs)) (sym (to_none s)) (counted_none a)
 
-pub ended_first : (t : ℕ) (c d : ℕ → Tag) (s : Stretch) → HaveEnded t c d c d (parts_to s s.first)
+pub ended_first : (t : ℕ) (c d : ℕ → Tag) (s : Interval) → HaveEnded t c d c d (parts_to s s.first)
 ended_first t c d s = subst (λ (xs : List Touched). HaveEnded t c d c d xs) (sym (to_none s)) (ended_none t c d)

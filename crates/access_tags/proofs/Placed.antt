@@ -17,8 +17,8 @@ use Rattle.order_law.specs.Pairing.{PairedList, no_more, one_more}
 use Rattle.order_law.specs.Walk.{Walk, IsPlaceIn, IsShownIn, IsWalkText, read_text}
 use Rattle.order_law.proofs.Members.{member_either, member_flat_map}
 use Rattle.order_law.proofs.OwnRecord.{range_within}
-use Rattle.access_tags.specs.declared.hit.Spot.{Spot}
-use Rattle.access_tags.specs.declared.hit.Spot.TheVariants as spot
+use Rattle.access_tags.specs.declared.conflict.LocationKey.{LocationKey}
+use Rattle.access_tags.specs.declared.conflict.LocationKey.TheVariants as spot
 use Rattle.access_tags.specs.declared.rows.Row.{Row}
 use Rattle.access_tags.specs.Numbering.{located}
 use Rattle.access_tags.specs.Paths.{object_of, IsWalkOf, HaveRowsWalks}
@@ -61,7 +61,7 @@ take_member (suc i) [] L m = absurd m
 take_member (suc i) (M ∷ ls) L (inl q) = inl q
 take_member (suc i) (M ∷ ls) L (inr m) = inr (take_member i ls L m)
 
-mapped_member : (names : List Location) (xs : List Spot) (x : Spot) → Member x xs → Member (located names x) (map (located names) xs)
+mapped_member : (names : List Location) (xs : List LocationKey) (x : LocationKey) → Member x xs → Member (located names x) (map (located names) xs)
 mapped_member names [] x m = absurd m
 mapped_member names (y ∷ xs) x (inl q) = inl (ap (located names) q)
 mapped_member names (y ∷ xs) x (inr m) = inr (mapped_member names xs x m)
@@ -99,7 +99,7 @@ module _ (p : Program) (T : Touches) (by : ℕ → ℕ × ℕ) where
 
   module _ (names : List Location) (named : (k : ℕ) → place_of (get_or names k (place.Static 0)) ≡ None) where
     -- the object of a part is that of its location
-    object_there : (x : Spot) → place_of (located names x) ≡ object_of x
+    object_there : (x : LocationKey) → place_of (located names x) ≡ object_of x
     object_there (spot.Static f) = refl
     object_there (spot.Init c) = refl
     object_there (spot.Head o) = refl
@@ -109,14 +109,14 @@ module _ (p : Program) (T : Touches) (by : ℕ → ℕ × ℕ) where
     object_there (spot.Named k) = named k
 
     -- what is shown of parts to whose objects there are walks
-    place_shown : (ts : List Touch) (x : Spot) (w : List Spot) → IsWalkOf ts x w → ((o : ℕ) → object_of x ≡ Some o → (ys : List Touch) × Walk ts o ys) → IsPlaceIn p by ts (located names x) (place_by p by names x w)
+    place_shown : (ts : List Touch) (x : LocationKey) (w : List LocationKey) → IsWalkOf ts x w → ((o : ℕ) → object_of x ≡ Some o → (ys : List Touch) × Walk ts o ys) → IsPlaceIn p by ts (located names x) (place_by p by names x w)
     place_shown ts x w r f = record {
       at = refl;
-      walk = subst (λ (z : Option ℕ). IsWalkText p ts z (map (λ (y : Spot). read_text p (located [] y)) w)) (sym (object_there x)) (walk_shown p ts (object_of x) w r f);
+      walk = subst (λ (z : Option ℕ). IsWalkText p ts z (map (λ (y : LocationKey). read_text p (located [] y)) w)) (sym (object_there x)) (walk_shown p ts (object_of x) w r f);
     }
 
-    places_shown : (ts : List Touch) (xs : List Spot) (ws : List (List Spot)) → PairedList (IsWalkOf ts) xs ws →
-        ((x : Spot) (o : ℕ) → Member x xs → object_of x ≡ Some o → (ys : List Touch) × Walk ts o ys) → PairedList (IsPlaceIn p by ts) (map (located names) xs) (places_by p by names xs ws)
+    places_shown : (ts : List Touch) (xs : List LocationKey) (ws : List (List LocationKey)) → PairedList (IsWalkOf ts) xs ws →
+        ((x : LocationKey) (o : ℕ) → Member x xs → object_of x ≡ Some o → (ys : List Touch) × Walk ts o ys) → PairedList (IsPlaceIn p by ts) (map (located names) xs) (places_by p by names xs ws)
     places_shown ts [] [] no_more f = no_more
     places_shown ts [] (w ∷ ws) r f = elim r [ ]
     places_shown ts (x ∷ xs) [] r f = elim r [ ]
@@ -125,13 +125,13 @@ module _ (p : Program) (T : Touches) (by : ℕ → ℕ × ℕ) where
     -- what is shown of the rows of a test
     module _ (t : ℕ) (ht : IsTestNumber p t) (walks : HaveWalks p T) where
       row_walks : (e : Edge) (r : Row) → (0 < e.earlier) × (e.earlier < t) × (e.later ≡ t) → map (located names) r.spots ≡ take 8 (conflict_places_in T e.kind e.earlier t) →
-          (x : Spot) (o : ℕ) → Member x r.spots → object_of x ≡ Some o → (ys : List Touch) × Walk (T t) o ys
+          (x : LocationKey) (o : ℕ) → Member x r.spots → object_of x ≡ Some o → (ys : List Touch) × Walk (T t) o ys
       row_walks e r b q x o m i =
           let l = b.1 in let n = ht.1 in
           walks e.kind e.earlier t o (located names x) (b.0, omega arith) b.1 ht
           (take_member 8 (conflict_places_in T e.kind e.earlier t) (located names x) (subst (λ (ls : List Location). Member (located names x) ls) q (mapped_member names r.spots x m))) (object_there x ∙ i)
 
-      pub rows_shown : (rs : List Row) (es : List Edge) (wss : List (List (List Spot))) → map (shown_by p by names t) rs ≡ map (with_places T t) es → HaveRowsWalks (T t) rs wss →
+      pub rows_shown : (rs : List Row) (es : List Edge) (wss : List (List (List LocationKey))) → map (shown_by p by names t) rs ≡ map (with_places T t) es → HaveRowsWalks (T t) rs wss →
           ((e : Edge) → Member e es → (0 < e.earlier) × (e.earlier < t) × (e.later ≡ t)) → PairedList (IsShownIn p T by) es (shown_rows p by names rs wss)
       rows_shown [] [] wss q no_more b = no_more
       rows_shown [] (e ∷ es) wss q w b = absurd (cc)
@@ -146,5 +146,5 @@ module _ (p : Program) (T : Touches) (by : ℕ → ℕ × ℕ) where
           let there : PairedList (IsPlaceIn p by (T t)) (take 8 (conflict_places_in T e.kind e.earlier t)) (places_by p by names r.spots ws) = subst (λ (ls : List Location). PairedList (IsPlaceIn p by (T t)) ls (places_by p by names r.spots ws)) places shown in
           one_more (subst (λ (n : ℕ). PairedList (IsPlaceIn p by (T n)) (take 8 (conflict_places_in T e.kind e.earlier n)) (places_by p by names r.spots ws)) (sym ends.2) there) (rows_shown rs es wss rest more (λ d m. b d (inr m)))
 
-      pub test_shown : (rs : List Row) (wss : List (List (List Spot))) → map (shown_by p by names t) rs ≡ map (with_places T t) (edges_at p T by t) → HaveRowsWalks (T t) rs wss → PairedList (IsShownIn p T by) (edges_at p T by t) (shown_rows p by names rs wss)
+      pub test_shown : (rs : List Row) (wss : List (List (List LocationKey))) → map (shown_by p by names t) rs ≡ map (with_places T t) (edges_at p T by t) → HaveRowsWalks (T t) rs wss → PairedList (IsShownIn p T by) (edges_at p T by t) (shown_rows p by names rs wss)
       test_shown rs wss q w = rows_shown rs (edges_at p T by t) wss q w (at_ends t)

@@ -5,8 +5,8 @@ use Rattle.jvm_model.specs.declared.program.Program.{Program}
 use Rattle.jvm_model.specs.declared.values.Touch.{Touch}
 use Rattle.order_law.specs.Pairing.{PairedList, no_more, one_more}
 use Rattle.order_law.specs.Walk.{Walk, IsWalkText, read_text}
-use Rattle.access_tags.specs.declared.hit.Spot.{Spot}
-use Rattle.access_tags.specs.Meeting.{location_of}
+use Rattle.access_tags.specs.declared.conflict.LocationKey.{LocationKey}
+use Rattle.access_tags.specs.ParentEdges.{location_of}
 use Rattle.access_tags.specs.Numbering.{located}
 use Rattle.access_tags.specs.Paths.{IsWalkTo}
 
@@ -22,12 +22,12 @@ pub paired_more : {A B : Type 0} (R : A → B → Type 0) (xs : List A) (i : ℕ
 paired_more R xs i d ys y h q r = subst (λ zs. PairedList R zs (ys ++ y ∷ [])) (take_more xs i d h) (paired_push q r)
 
 -- the texts of a walk, where there is one
-texts_there : (p : Program) (xs : List Spot) (ys : List Touch) → map (located []) xs ≡ map location_of ys → map (λ (x : Spot). read_text p (located [] x)) xs ≡ map (λ (y : Touch). read_text p y.location) ys
+texts_there : (p : Program) (xs : List LocationKey) (ys : List Touch) → map (located []) xs ≡ map location_of ys → map (λ (x : LocationKey). read_text p (located [] x)) xs ≡ map (λ (y : Touch). read_text p y.location) ys
 texts_there p [] [] e = refl
 texts_there p [] (y ∷ ys) e = absurd (cc)
 texts_there p (x ∷ xs) [] e = absurd (cc)
 texts_there p (x ∷ xs) (y ∷ ys) e = let h : located [] x ≡ y.location = (cc) in let t : map (located []) xs ≡ map location_of ys = (cc) in rw h (ap (λ zs. read_text p y.location ∷ zs) (texts_there p xs ys t))
 
-pub walk_shown : (p : Program) (ts : List Touch) (o : Option ℕ) (xs : List Spot) → IsWalkTo ts o xs → ((a : ℕ) → o ≡ Some a → (ys : List Touch) × Walk ts a ys) → IsWalkText p ts o (map (λ (x : Spot). read_text p (located [] x)) xs)
+pub walk_shown : (p : Program) (ts : List Touch) (o : Option ℕ) (xs : List LocationKey) → IsWalkTo ts o xs → ((a : ℕ) → o ≡ Some a → (ys : List Touch) × Walk ts a ys) → IsWalkText p ts o (map (λ (x : LocationKey). read_text p (located [] x)) xs)
 walk_shown p ts None xs w f = rw w refl
 walk_shown p ts (Some a) xs w f = let r = f a refl in (r.0, r.1, texts_there p xs r.0 (w r.0 r.1))

@@ -1,4 +1,4 @@
--- The parts of stretches, one more at a time.
+-- The parts of intervals, one more at a time.
 use Rattle.std.proofs.Common.{◌≡◌, ℕ, zero, suc, ◌+◌, ◌-◌, ◌<◌, ◌≤◌, Bool, true, false, ◌&&◌, nat_eq, List, [], ◌∷◌, ◌++◌, length, get_or, set, take, map, flat_map, refl, sym, ◌∙◌, ap, subst, arith, inl, inr}
 use Rattle.std.specs.List.{range_with_len, list_all}
 use Rattle.std.proofs.lemmas.Bool.{cases_lt, cases_eq, eqb-true, and_parts}
@@ -10,36 +10,36 @@ use Rattle.std.proofs.lemmas.List.FromFn.{get_or-map-range_with_len, length-map-
 use Rattle.std.proofs.Math.Bool.{and-true}
 use Rattle.std.proofs.Math.Seq.{take-length}
 use Rattle.access_tags.specs.declared.cells.Cells.{Cells}
-use Rattle.access_tags.specs.declared.hit.Spot.{Spot}
-use Rattle.access_tags.specs.declared.hit.Spot.TheVariants as spot
-use Rattle.access_tags.specs.declared.hit.Touched.{Touched}
-use Rattle.access_tags.specs.declared.stretch.Sort.{Sort}
-use Rattle.access_tags.specs.declared.stretch.Stretch.{Stretch}
-use Rattle.access_tags.specs.Stretches.{part_at, parts_to, parts_of, parts, spot_in, AreOrdered}
+use Rattle.access_tags.specs.declared.conflict.LocationKey.{LocationKey}
+use Rattle.access_tags.specs.declared.conflict.LocationKey.TheVariants as spot
+use Rattle.access_tags.specs.declared.conflict.Touched.{Touched}
+use Rattle.access_tags.specs.declared.interval.Sort.{Sort}
+use Rattle.access_tags.specs.declared.interval.Interval.{Interval}
+use Rattle.access_tags.specs.Intervals.{part_at, parts_to, parts_of, parts, spot_in, AreOrdered}
 use Rattle.access_tags.specs.Within.{room, AreWithin}
 
--- the parts of a stretch
-pub to_none : (s : Stretch) → parts_to s s.first ≡ []
+-- the parts of an interval
+pub to_none : (s : Interval) → parts_to s s.first ≡ []
 to_none s = let e : s.first - s.first ≡ 0 = omega arith in ap (λ (n : ℕ). map (λ i. part_at s i) (range_with_len s.first n)) e
 
-pub to_more : (s : Stretch) (i : ℕ) → s.first ≤ i → parts_to s (i + 1) ≡ parts_to s i ++ part_at s i ∷ []
+pub to_more : (s : Interval) (i : ℕ) → s.first ≤ i → parts_to s (i + 1) ≡ parts_to s i ++ part_at s i ∷ []
 to_more s i h = let e : (i + 1) - s.first ≡ (i - s.first) + 1 = omega arith in
     ap (λ (n : ℕ). map (λ i. part_at s i) (range_with_len s.first n)) e ∙ map-range_with_len_more (λ i. part_at s i) s.first (i - s.first) i (omega arith)
 
-abbrev stretch : Sort → ℕ → ℕ → ℕ → ℕ → Stretch
-stretch k o a b n = record { sort = k; object = o; first = a; end = b; at = n }
+abbrev interval : Sort → ℕ → ℕ → ℕ → ℕ → Interval
+interval k o a b n = record { sort = k; object = o; first = a; end = b; at = n }
 
-same_part : (y : Spot) (m : ℕ) (x : Touched) → y ≡ x.spot → m ≡ x.at → record { spot = y; at = m } ≡ x
-same_part y m x e f = ap (λ (z : Spot). record { spot = z; at = m }) e ∙ ap (λ (j : ℕ). record { spot = x.spot; at = j }) f
+same_part : (y : LocationKey) (m : ℕ) (x : Touched) → y ≡ x.spot → m ≡ x.at → record { spot = y; at = m } ≡ x
+same_part y m x e f = ap (λ (z : LocationKey). record { spot = z; at = m }) e ∙ ap (λ (j : ℕ). record { spot = x.spot; at = j }) f
 
-pub one_part : (k : Sort) (o a b n : ℕ) (x : Touched) → b ≡ a + 1 → n ≡ x.at → spot_in k o a ≡ x.spot → parts_of (stretch k o a b n) ≡ x ∷ []
-one_part k o a b n x e f g = let s = stretch k o a b n in
+pub one_part : (k : Sort) (o a b n : ℕ) (x : Touched) → b ≡ a + 1 → n ≡ x.at → spot_in k o a ≡ x.spot → parts_of (interval k o a b n) ≡ x ∷ []
+one_part k o a b n x e f g = let s = interval k o a b n in
     ap (λ (i : ℕ). parts_to s i) e ∙ (to_more s a (omega arith) ∙ (ap (λ (ys : List Touched). ys ++ part_at s a ∷ []) (to_none s) ∙ ap (λ (y : Touched). y ∷ []) (same_part (spot_in k o a) (n + (a - a)) x g (omega arith))))
 
-pub with_part : (s : Stretch) (b : ℕ) (x : Touched) → s.first ≤ s.end → b ≡ s.end + 1 → part_at s s.end ≡ x → parts_of (stretch s.sort s.object s.first b s.at) ≡ parts_of s ++ x ∷ []
+pub with_part : (s : Interval) (b : ℕ) (x : Touched) → s.first ≤ s.end → b ≡ s.end + 1 → part_at s s.end ≡ x → parts_of (interval s.sort s.object s.first b s.at) ≡ parts_of s ++ x ∷ []
 with_part s b x h e f = ap (λ (i : ℕ). parts_to s i) e ∙ (to_more s s.end h ∙ ap (λ (y : Touched). parts_of s ++ y ∷ []) f)
 
-pub next_part : (s : Stretch) (x : Touched) → spot_in s.sort s.object s.end ≡ x.spot → x.at ≡ s.at + (s.end - s.first) → part_at s s.end ≡ x
+pub next_part : (s : Interval) (x : Touched) → spot_in s.sort s.object s.end ≡ x.spot → x.at ≡ s.at + (s.end - s.first) → part_at s s.end ≡ x
 next_part s x e f = same_part (spot_in s.sort s.object s.end) (s.at + (s.end - s.first)) x e (sym f)
 
 -- the part with the index at the end
@@ -61,35 +61,35 @@ same_elem o e p f q = let h = and_parts (nat_eq p o) (nat_eq f e) q in
     ap (λ (i : ℕ). spot.Elem i e) (sym (eqb-true p o h.0)) ∙ ap (λ (i : ℕ). spot.Elem p i) (sym (eqb-true f e h.1))
 
 -- a test of the parts
-pub all_none : (f : Touched → Bool) (s : Stretch) → list_all f (parts_to s s.first) ≡ true
+pub all_none : (f : Touched → Bool) (s : Interval) → list_all f (parts_to s s.first) ≡ true
 all_none f s = ap (λ (ys : List Touched). list_all f ys) (to_none s)
 
-pub all_to : (f : Touched → Bool) (s : Stretch) (i : ℕ) → s.first ≤ i → list_all f (parts_to s (i + 1)) ≡ (list_all f (parts_to s i) && f (part_at s i))
+pub all_to : (f : Touched → Bool) (s : Interval) (i : ℕ) → s.first ≤ i → list_all f (parts_to s (i + 1)) ≡ (list_all f (parts_to s i) && f (part_at s i))
 all_to f s i h = ap (λ (ys : List Touched). list_all f ys) (to_more s i h) ∙ (list_all-append f (parts_to s i) (part_at s i ∷ []) ∙ ap (λ (b : Bool). list_all f (parts_to s i) && b) (and-true (f (part_at s i))))
 
 -- the parts of all
-pub parts_more : (ss : List Stretch) (i : ℕ) (d : Stretch) → i < length ss → parts (take (i + 1) ss) ≡ parts (take i ss) ++ parts_of (get_or ss i d)
+pub parts_more : (ss : List Interval) (i : ℕ) (d : Interval) → i < length ss → parts (take (i + 1) ss) ≡ parts (take i ss) ++ parts_of (get_or ss i d)
 parts_more ss i d h = ap parts (take_more ss i d h) ∙ (flat_map-append (λ s. parts_of s) (take i ss) (get_or ss i d ∷ []) ∙ ap (λ (ys : List Touched). parts (take i ss) ++ ys) (append-nil (parts_of (get_or ss i d))))
 
-pub parts_all : (ss : List Stretch) (i : ℕ) → i ≡ length ss → parts (take i ss) ≡ parts ss
+pub parts_all : (ss : List Interval) (i : ℕ) → i ≡ length ss → parts (take i ss) ≡ parts ss
 parts_all ss i e = ap parts (ap (λ (j : ℕ). take j ss) e ∙ take-length ss)
 
-pub parts_push : (ss : List Stretch) (s : Stretch) (x : Touched) → parts_of s ≡ x ∷ [] → parts (ss ++ s ∷ []) ≡ parts ss ++ x ∷ []
+pub parts_push : (ss : List Interval) (s : Interval) (x : Touched) → parts_of s ≡ x ∷ [] → parts (ss ++ s ∷ []) ≡ parts ss ++ x ∷ []
 parts_push ss s x e = flat_map-append (λ s. parts_of s) ss (s ∷ []) ∙ ap (λ (ys : List Touched). parts ss ++ ys) (append-nil (parts_of s) ∙ e)
 
-pub parts_longer : (ss : List Stretch) (i : ℕ) (d s : Stretch) (x : Touched) → i + 1 ≡ length ss → parts_of s ≡ parts_of (get_or ss i d) ++ x ∷ [] → parts (set ss i s) ≡ parts ss ++ x ∷ []
+pub parts_longer : (ss : List Interval) (i : ℕ) (d s : Interval) (x : Touched) → i + 1 ≡ length ss → parts_of s ≡ parts_of (get_or ss i d) ++ x ∷ [] → parts (set ss i s) ≡ parts ss ++ x ∷ []
 parts_longer [] i d s x h e = absurd (omega arith)
 parts_longer (y ∷ []) zero d s x h e = append-nil (parts_of s) ∙ (e ∙ ap (λ (ys : List Touched). ys ++ x ∷ []) (sym (append-nil (parts_of y))))
 parts_longer (y ∷ z ∷ ss) zero d s x h e = absurd (omega arith)
 parts_longer (y ∷ ss) (suc i) d s x h e = ap (λ (ys : List Touched). parts_of y ++ ys) (parts_longer ss i d s x (omega arith) e) ∙ sym (append_assoc (parts_of y) (parts ss) (x ∷ []))
 
-pub all_parts : (f : Touched → Bool) (ss : List Stretch) (i : ℕ) (d : Stretch) → i < length ss → list_all f (parts (take (i + 1) ss)) ≡ (list_all f (parts (take i ss)) && list_all f (parts_of (get_or ss i d)))
+pub all_parts : (f : Touched → Bool) (ss : List Interval) (i : ℕ) (d : Interval) → i < length ss → list_all f (parts (take (i + 1) ss)) ≡ (list_all f (parts (take i ss)) && list_all f (parts_of (get_or ss i d)))
 all_parts f ss i d h = ap (λ (ys : List Touched). list_all f ys) (parts_more ss i d h) ∙ list_all-append f (parts (take i ss)) (parts_of (get_or ss i d))
 
 less_than : (i n m : ℕ) → i < n → m ≡ n → i < m
 less_than i n m h e = omega arith
 
-pub all_fails : (f : Touched → Bool) (ss : List Stretch) (i : ℕ) (d : Stretch) → i < length ss → list_all f (parts_of (get_or ss i d)) ≡ false → list_all f (parts ss) ≡ false
+pub all_fails : (f : Touched → Bool) (ss : List Interval) (i : ℕ) (d : Interval) → i < length ss → list_all f (parts_of (get_or ss i d)) ≡ false → list_all f (parts ss) ≡ false
 all_fails f [] i d h e = absurd (omega arith)
 all_fails f (s ∷ ss) zero d h e = list_all-append f (parts_of s) (parts ss) ∙ ap (λ (b : Bool). b && list_all f (parts ss)) e
 all_fails f (s ∷ ss) (suc i) d h e = list_all-append f (parts_of s) (parts ss) ∙ (ap (λ (b : Bool). list_all f (parts_of s) && b) (all_fails f ss i d (omega arith) e) ∙ and_false (list_all f (parts_of s)))
@@ -98,7 +98,7 @@ all_fails f (s ∷ ss) (suc i) d h e = list_all-append f (parts_of s) (parts ss)
     and_false true = refl
     and_false false = refl
 
-pub one_fails : (f : Touched → Bool) (s : Stretch) (i : ℕ) → s.first ≤ i → i < s.end → f (part_at s i) ≡ false → list_all f (parts_of s) ≡ false
+pub one_fails : (f : Touched → Bool) (s : Interval) (i : ℕ) → s.first ≤ i → i < s.end → f (part_at s i) ≡ false → list_all f (parts_of s) ≡ false
 one_fails f s i h l e =
     let g : i - s.first < s.end - s.first = omega arith in
     let n : length (parts_of s) ≡ s.end - s.first = length-map-range_with_len (λ i. part_at s i) s.first (s.end - s.first) in
@@ -109,13 +109,13 @@ one_fails f s i h l e =
 pub ordered_none : AreOrdered []
 ordered_none k s h = absurd (omega arith)
 
-pub ordered_push : (ss : List Stretch) (s : Stretch) → AreOrdered ss → s.first ≤ s.end → AreOrdered (ss ++ s ∷ [])
+pub ordered_push : (ss : List Interval) (s : Interval) → AreOrdered ss → s.first ≤ s.end → AreOrdered (ss ++ s ∷ [])
 ordered_push ss s a h k d l = let n = length-append ss (s ∷ []) in elim (cases_lt k (length ss)) [
   | inl g ↦ rw (get_or_append_left ss (s ∷ []) d k g) (a k d g)
   | inr g ↦ let z : k - length ss ≡ 0 = omega arith in rw (get_or-append_right ss (s ∷ []) (length ss) k d refl g) (rw z h)
 ]
 
-pub ordered_set : (ss : List Stretch) (i : ℕ) (s : Stretch) → AreOrdered ss → i < length ss → s.first ≤ s.end → AreOrdered (set ss i s)
+pub ordered_set : (ss : List Interval) (i : ℕ) (s : Interval) → AreOrdered ss → i < length ss → s.first ≤ s.end → AreOrdered (set ss i s)
 ordered_set ss i s a h g k d l = let n = length-set ss i s in elim (cases_eq k i) [
   | inl e ↦ rw (get_or-set_at ss i k s d e h) g
   | inr e ↦ rw (get_or-set_other ss i k s d e) (a k d (omega arith))
@@ -132,13 +132,13 @@ module _ (c d : Cells) where
     | inr g ↦ let z : k - length xs ≡ 0 = omega arith in rw (get_or-append_right xs (x ∷ []) (length xs) k e refl g) (rw z h)
   ]
 
-  pub within_stretch : (ss : List Stretch) (i : ℕ) (s : Stretch) → AreWithin c d (parts ss) → i < length ss → AreWithin c d (parts_of (get_or ss i s))
-  within_stretch ss i s a h k e l =
+  pub within_interval : (ss : List Interval) (i : ℕ) (s : Interval) → AreWithin c d (parts ss) → i < length ss → AreWithin c d (parts_of (get_or ss i s))
+  within_interval ss i s a h k e l =
       let n = length (flat_map (λ s. parts_of s) (take i ss)) in
       subst (λ (x : Touched). x.at < room c d x.spot) (get_or-flat_map (λ s. parts_of s) ss i k s e h l)
       (a (n + k) e (sum_below n (length (parts_of (get_or ss i s))) (length (parts ss)) k (length-flat_map-take (λ s. parts_of s) ss i s h) l))
 
-  pub within_part : (s : Stretch) (i : ℕ) → AreWithin c d (parts_of s) → s.first ≤ i → i < s.end → (part_at s i).at < room c d (part_at s i).spot
+  pub within_part : (s : Interval) (i : ℕ) → AreWithin c d (parts_of s) → s.first ≤ i → i < s.end → (part_at s i).at < room c d (part_at s i).spot
   within_part s i a h l =
       let g : i - s.first < s.end - s.first = omega arith in
       subst (λ (x : Touched). x.at < room c d x.spot) (get_or-map-range_with_len (λ i. part_at s i) s.first (s.end - s.first) (i - s.first) i (part_at s i) g (omega arith))

@@ -11,11 +11,11 @@ use Rattle.order_law.specs.declared.edges.EdgeKind.{EdgeKind}
 use Rattle.order_law.specs.declared.edges.EdgeKind.TheVariants.{Raw, Waw, War}
 use Rattle.order_law.specs.Exposed.{written, exposed}
 use Rattle.order_law.specs.Histories.{Touches}
-use Rattle.access_tags.specs.declared.hit.Hit.{Hit}
-use Rattle.access_tags.specs.declared.hit.Spot.{Spot}
-use Rattle.access_tags.specs.declared.hit.Touched.{Touched}
+use Rattle.access_tags.specs.declared.conflict.Conflict.{Conflict}
+use Rattle.access_tags.specs.declared.conflict.LocationKey.{LocationKey}
+use Rattle.access_tags.specs.declared.conflict.Touched.{Touched}
 use Rattle.access_tags.specs.declared.mark.Mark.{Mark}
-use Rattle.access_tags.specs.Tag.{Tag, tag, writer, readers, mark, no_mark, noted, ended, is_new, places, hit, with_writer, hits_at, hits}
+use Rattle.access_tags.specs.Tag.{Tag, tag, writer, readers, mark, no_mark, noted, ended, is_new, places, conflict, with_writer, conflicts_at, conflicts_found}
 use Rattle.access_tags.specs.Cells.{Apart}
 use Rattle.access_tags.specs.Numbering.{Numbering, located, is_name, view, IsPlaced, ArePlaced, locations, is_at, tag_at, at_location}
 use Rattle.access_tags.specs.Stands.{StandFor}
@@ -85,30 +85,30 @@ module _ (n : Numbering) (T : Touches) (t : ℕ) (ts : List Touch) (c d : ℕ �
   }
 
   -- the conflicts of the test
-  one_writer : (k : EdgeKind) (y : Spot) (u : ℕ) → map (at_location n) (with_writer k y u) ≡ with_writer k (located n.names y) u
+  one_writer : (k : EdgeKind) (y : LocationKey) (u : ℕ) → map (at_location n) (with_writer k y u) ≡ with_writer k (located n.names y) u
   one_writer k y u = elim (cases_Bool (nat_eq u 0)) [ inl e ↦ rw e refl | inr e ↦ rw e refl ]
 
-  all_readers : (y : Spot) (us : List ℕ) → map (at_location n) (map (hit War y) us) ≡ map (hit War (located n.names y)) us
+  all_readers : (y : LocationKey) (us : List ℕ) → map (at_location n) (map (conflict War y) us) ≡ map (conflict War (located n.names y)) us
   all_readers y [] = refl
-  all_readers y (u ∷ us) = ap (λ (hs : List (Hit Location)). hit War (located n.names y) u ∷ hs) (all_readers y us)
+  all_readers y (u ∷ us) = ap (λ (hs : List (Conflict Location)). conflict War (located n.names y) u ∷ hs) (all_readers y us)
 
-  by_exposed : (b : Bool) (y : Spot) (u : ℕ) → map (at_location n) (cond b (with_writer Raw y u) []) ≡ cond b (with_writer Raw (located n.names y) u) []
+  by_exposed : (b : Bool) (y : LocationKey) (u : ℕ) → map (at_location n) (cond b (with_writer Raw y u) []) ≡ cond b (with_writer Raw (located n.names y) u) []
   by_exposed true y u = one_writer Raw y u
   by_exposed false y u = refl
 
-  by_written : (b : Bool) (y : Spot) (u : ℕ) (us : List ℕ) → map (at_location n) (cond b (with_writer Waw y u ++ map (hit War y) us) []) ≡ cond b (with_writer Waw (located n.names y) u ++ map (hit War (located n.names y)) us) []
-  by_written true y u us = map-append (at_location n) (with_writer Waw y u) (map (hit War y) us) ∙ (rw (one_writer Waw y u) (rw (all_readers y us) refl))
+  by_written : (b : Bool) (y : LocationKey) (u : ℕ) (us : List ℕ) → map (at_location n) (cond b (with_writer Waw y u ++ map (conflict War y) us) []) ≡ cond b (with_writer Waw (located n.names y) u ++ map (conflict War (located n.names y)) us) []
+  by_written true y u us = map-append (at_location n) (with_writer Waw y u) (map (conflict War y) us) ∙ (rw (one_writer Waw y u) (rw (all_readers y us) refl))
   by_written false y u us = refl
 
-  hits_there : (y : Spot) (g : Tag) → map (at_location n) (hits_at y g) ≡ hits_at (located n.names y) g
-  hits_there y g = map-append (at_location n) (cond g.mark.exposed (with_writer Raw y g.writer) []) (cond g.mark.written (with_writer Waw y g.writer ++ map (hit War y) g.readers) [])
+  conflicts_there : (y : LocationKey) (g : Tag) → map (at_location n) (conflicts_at y g) ≡ conflicts_at (located n.names y) g
+  conflicts_there y g = map-append (at_location n) (cond g.mark.exposed (with_writer Raw y g.writer) []) (cond g.mark.written (with_writer Waw y g.writer ++ map (conflict War y) g.readers) [])
       ∙ (rw (by_exposed g.mark.exposed y g.writer) (rw (by_written g.mark.written y g.writer g.readers) refl))
 
-  all_hits : (ys : List Touched) → ArePlaced n ys → map (at_location n) (flat_map (λ (y : Touched). hits_at y.spot (tag_at c d y)) ys) ≡ flat_map (λ (L : Location). hits_at L (tag T t ts L)) (locations n ys)
-  all_hits [] p = refl
-  all_hits (y ∷ ys) p = map-append (at_location n) (hits_at y.spot (tag_at c d y)) (flat_map (λ (y : Touched). hits_at y.spot (tag_at c d y)) ys)
-      ∙ (rw (hits_there y.spot (tag_at c d y)) (rw (tag_there n c d y p.0 ∙ s.tags (located n.names y.spot))
-      (ap (λ (hs : List (Hit Location)). hits_at (located n.names y.spot) (tag T t ts (located n.names y.spot)) ++ hs) (all_hits ys p.1))))
+  all_conflicts : (ys : List Touched) → ArePlaced n ys → map (at_location n) (flat_map (λ (y : Touched). conflicts_at y.spot (tag_at c d y)) ys) ≡ flat_map (λ (L : Location). conflicts_at L (tag T t ts L)) (locations n ys)
+  all_conflicts [] p = refl
+  all_conflicts (y ∷ ys) p = map-append (at_location n) (conflicts_at y.spot (tag_at c d y)) (flat_map (λ (y : Touched). conflicts_at y.spot (tag_at c d y)) ys)
+      ∙ (rw (conflicts_there y.spot (tag_at c d y)) (rw (tag_there n c d y p.0 ∙ s.tags (located n.names y.spot))
+      (ap (λ (hs : List (Conflict Location)). conflicts_at (located n.names y.spot) (tag T t ts (located n.names y.spot)) ++ hs) (all_conflicts ys p.1))))
 
-  pub hits_stand : map (at_location n) (flat_map (λ (y : Touched). hits_at y.spot (tag_at c d y)) xs) ≡ hits T t ts
-  hits_stand = all_hits xs s.placed ∙ ap (λ (ls : List Location). flat_map (λ (L : Location). hits_at L (tag T t ts L)) ls) s.touched
+  pub conflicts_stand : map (at_location n) (flat_map (λ (y : Touched). conflicts_at y.spot (tag_at c d y)) xs) ≡ conflicts_found T t ts
+  conflicts_stand = all_conflicts xs s.placed ∙ ap (λ (ls : List Location). flat_map (λ (L : Location). conflicts_at L (tag T t ts L)) ls) s.touched

@@ -8,10 +8,10 @@ use Rattle.std.proofs.lemmas.List.FromFn.{map-range_with_len_more}
 use Rattle.std.proofs.lemmas.Grind.{get_or-set_at}
 use Rattle.order_law.specs.declared.edges.EdgeKind.{EdgeKind}
 use Rattle.order_law.specs.declared.edges.EdgeKind.TheVariants.{Raw, Waw, War}
-use Rattle.access_tags.specs.declared.hit.Hit.{Hit}
-use Rattle.access_tags.specs.declared.hit.Spot.{Spot}
+use Rattle.access_tags.specs.declared.conflict.Conflict.{Conflict}
+use Rattle.access_tags.specs.declared.conflict.LocationKey.{LocationKey}
 use Rattle.access_tags.specs.declared.rows.Row.{Row}
-use Rattle.access_tags.specs.Tag.{found, is_hit, same_kind, kind_number}
+use Rattle.access_tags.specs.Tag.{found, is_conflict, same_kind, kind_number}
 use Rattle.access_tags.specs.Rows.{key, row_with, row_of, rows_between, IsTable}
 use Rattle.access_tags.proofs.Settle.{differ}
 
@@ -32,18 +32,18 @@ length_taken xs zero h = absurd (omega arith)
 length_taken [] (suc n) h = omega arith
 length_taken (x ∷ xs) (suc n) h = let g = length_taken xs n (omega arith) in omega arith
 
-abbrev row : EdgeKind → ℕ → ℕ → List Spot → Row
+abbrev row : EdgeKind → ℕ → ℕ → List LocationKey → Row
 row k u n xs = record { kind = k; earlier = u; count = n; spots = xs }
 
-pub shown_more : (k : EdgeKind) (u n : ℕ) (xs : List Spot) (x : Spot) → n ≡ length xs + 1 → length (take 8 xs) < 8 → row k u n (take 8 xs ++ x ∷ []) ≡ row_with k u (xs ++ x ∷ [])
+pub shown_more : (k : EdgeKind) (u n : ℕ) (xs : List LocationKey) (x : LocationKey) → n ≡ length xs + 1 → length (take 8 xs) < 8 → row k u n (take 8 xs ++ x ∷ []) ≡ row_with k u (xs ++ x ∷ [])
 shown_more k u n xs x e h = let g = length_taken xs 8 h in let l = length-append xs (x ∷ []) in
     ap (λ (m : ℕ). row k u m (take 8 xs ++ x ∷ [])) (e ∙ sym l)
-    ∙ ap (λ (ys : List Spot). row k u (length (xs ++ x ∷ [])) ys) (ap (λ (ys : List Spot). ys ++ x ∷ []) (take_all xs 8 (omega arith)) ∙ sym (take_all (xs ++ x ∷ []) 8 (omega arith)))
+    ∙ ap (λ (ys : List LocationKey). row k u (length (xs ++ x ∷ [])) ys) (ap (λ (ys : List LocationKey). ys ++ x ∷ []) (take_all xs 8 (omega arith)) ∙ sym (take_all (xs ++ x ∷ []) 8 (omega arith)))
 
-pub shown_same : (k : EdgeKind) (u n : ℕ) (xs : List Spot) (x : Spot) → n ≡ length xs + 1 → 8 ≤ length (take 8 xs) → row k u n (take 8 xs) ≡ row_with k u (xs ++ x ∷ [])
+pub shown_same : (k : EdgeKind) (u n : ℕ) (xs : List LocationKey) (x : LocationKey) → n ≡ length xs + 1 → 8 ≤ length (take 8 xs) → row k u n (take 8 xs) ≡ row_with k u (xs ++ x ∷ [])
 shown_same k u n xs x e h = let l = length-append xs (x ∷ []) in
     ap (λ (m : ℕ). row k u m (take 8 xs)) (e ∙ sym l)
-    ∙ ap (λ (ys : List Spot). row k u (length (xs ++ x ∷ [])) ys) (sym (take_left xs (x ∷ []) 8 (elim (cases_lt (length xs) 8) [ inl g ↦ absurd (let z = ap (λ (ys : List Spot). length ys) (take_all xs 8 (omega arith)) in omega arith) | inr g ↦ g ])))
+    ∙ ap (λ (ys : List LocationKey). row k u (length (xs ++ x ∷ [])) ys) (sym (take_left xs (x ∷ []) 8 (elim (cases_lt (length xs) 8) [ inl g ↦ absurd (let z = ap (λ (ys : List LocationKey). length ys) (take_all xs 8 (omega arith)) in omega arith) | inr g ↦ g ])))
 
 -- one conflict more
 apart_eq : (a b : ℕ) → a ≢ b → nat_eq a b ≡ false
@@ -66,13 +66,13 @@ same_key Waw War u v = apart_eq (3 * u + 1) (3 * v + 2) (λ q. absurd (omega ari
 same_key War Raw u v = apart_eq (3 * u + 2) (3 * v + 0) (λ q. absurd (omega arith))
 same_key War Waw u v = apart_eq (3 * u + 2) (3 * v + 1) (λ q. absurd (omega arith))
 
-found_more : (k : EdgeKind) (u : ℕ) (hs : List (Hit Spot)) (x : Hit Spot) → found k u (hs ++ x ∷ []) ≡ found k u hs ++ cond (nat_eq (key k u) (key x.kind x.earlier)) (x.place ∷ []) []
+found_more : (k : EdgeKind) (u : ℕ) (hs : List (Conflict LocationKey)) (x : Conflict LocationKey) → found k u (hs ++ x ∷ []) ≡ found k u hs ++ cond (nat_eq (key k u) (key x.kind x.earlier)) (x.place ∷ []) []
 found_more k u hs x =
-    ap (λ (ys : List (Hit Spot)). map (λ (y : Hit Spot). y.place) ys) (filter-append (is_hit k u) hs (x ∷ []))
-    ∙ (map-append (λ (y : Hit Spot). y.place) (filter (is_hit k u) hs) (filter (is_hit k u) (x ∷ []))
-    ∙ ap (λ (ys : List Spot). found k u hs ++ ys) (one (is_hit k u x) ∙ ap (λ (b : Bool). cond b (x.place ∷ []) []) (sym (same_key k x.kind u x.earlier))))
+    ap (λ (ys : List (Conflict LocationKey)). map (λ (y : Conflict LocationKey). y.place) ys) (filter-append (is_conflict k u) hs (x ∷ []))
+    ∙ (map-append (λ (y : Conflict LocationKey). y.place) (filter (is_conflict k u) hs) (filter (is_conflict k u) (x ∷ []))
+    ∙ ap (λ (ys : List LocationKey). found k u hs ++ ys) (one (is_conflict k u x) ∙ ap (λ (b : Bool). cond b (x.place ∷ []) []) (sym (same_key k x.kind u x.earlier))))
   where
-    one : (b : Bool) → map (λ (y : Hit Spot). y.place) (cond b (x ∷ []) []) ≡ cond b (x.place ∷ []) []
+    one : (b : Bool) → map (λ (y : Conflict LocationKey). y.place) (cond b (x ∷ []) []) ≡ cond b (x.place ∷ []) []
     one true = refl
     one false = refl
 
@@ -84,22 +84,22 @@ kind_below War = omega arith
 pub key_within : (k : EdgeKind) (u t n : ℕ) → u < t → n ≡ 3 * t → 3 * u + kind_number k < n
 key_within k u t n h e = let b = kind_below k in omega arith
 
-pub tally_in : (t : ℕ) (hs : List (Hit Spot)) (x : Hit Spot) (rows : List Row) (o r : Row) → length rows ≡ 3 * t → IsTable t hs rows → x.earlier < t →
-    o ≡ get_or rows (key x.kind x.earlier) o → ((k : EdgeKind) (u : ℕ) (xs : List Spot) → o ≡ row_with k u xs → r ≡ row_with k u (xs ++ x.place ∷ [])) →
+pub tally_in : (t : ℕ) (hs : List (Conflict LocationKey)) (x : Conflict LocationKey) (rows : List Row) (o r : Row) → length rows ≡ 3 * t → IsTable t hs rows → x.earlier < t →
+    o ≡ get_or rows (key x.kind x.earlier) o → ((k : EdgeKind) (u : ℕ) (xs : List LocationKey) → o ≡ row_with k u xs → r ≡ row_with k u (xs ++ x.place ∷ [])) →
     IsTable t (hs ++ x ∷ []) (set rows (key x.kind x.earlier) r)
 tally_in t hs x rows o r l f low q g k u e b = let at = key x.kind x.earlier in elim (cases_Bool (nat_eq (key k u) at)) [
   | inl y ↦ let z = eqb-true (key k u) at y in
       let w : o ≡ row_with k u (found k u hs) = q ∙ (ap (λ (j : ℕ). get_or rows j o) (sym z) ∙ f k u o b) in
       get_or-set_at rows at (key k u) r e z (key_within x.kind x.earlier t (length rows) low l)
-      ∙ (g k u (found k u hs) w ∙ ap (λ (ys : List Spot). row_with k u ys) (sym (found_more k u hs x ∙ rw y refl)))
+      ∙ (g k u (found k u hs) w ∙ ap (λ (ys : List LocationKey). row_with k u ys) (sym (found_more k u hs x ∙ rw y refl)))
   | inr y ↦ get_or-set_other rows at (key k u) r e (differ (key k u) at y)
-      ∙ (f k u e b ∙ ap (λ (ys : List Spot). row_with k u ys) (sym (found_more k u hs x ∙ rw y (append-nil (found k u hs)))))
+      ∙ (f k u e b ∙ ap (λ (ys : List LocationKey). row_with k u ys) (sym (found_more k u hs x ∙ rw y (append-nil (found k u hs)))))
 ]
 
-pub tally_out : (t : ℕ) (hs : List (Hit Spot)) (x : Hit Spot) (rows : List Row) → IsTable t hs rows → t ≤ x.earlier → IsTable t (hs ++ x ∷ []) rows
+pub tally_out : (t : ℕ) (hs : List (Conflict LocationKey)) (x : Conflict LocationKey) (rows : List Row) → IsTable t hs rows → t ≤ x.earlier → IsTable t (hs ++ x ∷ []) rows
 tally_out t hs x rows f high k u e b =
     let y : nat_eq (key k u) (key x.kind x.earlier) ≡ false = apart_eq (key k u) (key x.kind x.earlier) (λ q. absurd (let a = kind_below k in let c = kind_below x.kind in omega arith)) in
-    f k u e b ∙ ap (λ (ys : List Spot). row_with k u ys) (sym (found_more k u hs x ∙ rw y (append-nil (found k u hs))))
+    f k u e b ∙ ap (λ (ys : List LocationKey). row_with k u ys) (sym (found_more k u hs x ∙ rw y (append-nil (found k u hs))))
 
 -- a table of no conflicts, with the rows of one test more
 table_more : (t : ℕ) (rows : List Row) → length rows ≡ 3 * t → IsTable t [] rows → IsTable (t + 1) [] (rows ++ row_with Raw t [] ∷ row_with Waw t [] ∷ row_with War t [] ∷ [])
@@ -136,18 +136,18 @@ three_longer rows a b c = let e = length-append ((rows ++ a ∷ []) ++ b ∷ [])
 pub three_rows : (o p q r u v w : List Row) → p ≡ o ++ u → q ≡ p ++ v → r ≡ q ++ w → r ≡ o ++ (u ++ (v ++ w))
 three_rows o p q r u v w e f g = g ∙ (ap (λ (x : List Row). x ++ w) (f ∙ ap (λ (x : List Row). x ++ v) e) ∙ (append_assoc (o ++ u) v w ∙ append_assoc o u (v ++ w)))
 
-pub row_none : (k : EdgeKind) (u n : ℕ) (rs : List Row) (xs : List Spot) → n ≡ length xs → n ≡ 0 → rs ≡ rs ++ row_of k u xs
+pub row_none : (k : EdgeKind) (u n : ℕ) (rs : List Row) (xs : List LocationKey) → n ≡ length xs → n ≡ 0 → rs ≡ rs ++ row_of k u xs
 row_none k u n rs [] e z = sym (append-nil rs)
 row_none k u n rs (x ∷ xs) e z = absurd (omega arith)
 
-pub row_some : (k : EdgeKind) (u n : ℕ) (rs : List Row) (r : Row) (xs : List Spot) → n ≡ length xs → n ≢ 0 → r ≡ row_with k u xs → rs ++ r ∷ [] ≡ rs ++ row_of k u xs
+pub row_some : (k : EdgeKind) (u n : ℕ) (rs : List Row) (r : Row) (xs : List LocationKey) → n ≡ length xs → n ≢ 0 → r ≡ row_with k u xs → rs ++ r ∷ [] ≡ rs ++ row_of k u xs
 row_some k u n rs r [] e z q = absurd (z e)
 row_some k u n rs r (x ∷ xs) e z q = ap (λ (y : Row). rs ++ y ∷ []) q
 
 range_more : (a n : ℕ) → range_with_len a (n + 1) ≡ range_with_len a n ++ (a + n) ∷ []
 range_more a n = sym (map-id (range_with_len a (n + 1))) ∙ (map-range_with_len_more (λ (x : ℕ). x) a n (a + n) refl ∙ ap (λ (xs : List ℕ). xs ++ (a + n) ∷ []) (map-id (range_with_len a n)))
 
-pub rows_more : (n : ℕ) (hs : List (Hit Spot)) (bs cs es : List Row) → 1 ≤ n → cs ≡ bs ++ flat_map (λ (u : ℕ). rows_between u hs) (range_with_len 1 (n - 1)) → es ≡ cs ++ rows_between n hs →
+pub rows_more : (n : ℕ) (hs : List (Conflict LocationKey)) (bs cs es : List Row) → 1 ≤ n → cs ≡ bs ++ flat_map (λ (u : ℕ). rows_between u hs) (range_with_len 1 (n - 1)) → es ≡ cs ++ rows_between n hs →
     es ≡ bs ++ flat_map (λ (u : ℕ). rows_between u hs) (range_with_len 1 (n + 1 - 1))
 rows_more n hs bs cs es o e f = let q : n + 1 - 1 ≡ (n - 1) + 1 = omega arith in let r : 1 + (n - 1) ≡ n = omega arith in
     f ∙ (ap (λ (ys : List Row). ys ++ rows_between n hs) e ∙ (flat_map_more (λ (u : ℕ). rows_between u hs) bs (range_with_len 1 (n - 1)) n

@@ -12,29 +12,29 @@ use Rattle.jvm_model.specs.declared.values.Location.{Location}
 use Rattle.jvm_model.specs.declared.values.Touch.{Touch}
 use Rattle.order_law.specs.Walk.{first_giving, holder, Walk, from_static, through}
 use Rattle.order_law.proofs.Walks.{walk_one}
-use Rattle.access_tags.specs.declared.hit.Spot.{Spot}
-use Rattle.access_tags.specs.declared.meetings.Met.{Met}
+use Rattle.access_tags.specs.declared.conflict.LocationKey.{LocationKey}
+use Rattle.access_tags.specs.declared.discovery_tree.ParentEdge.{ParentEdge}
 use Rattle.access_tags.specs.Numbering.{located}
-use Rattle.access_tags.specs.Meeting.{met_by, location_of, Meet}
+use Rattle.access_tags.specs.ParentEdges.{met_by, location_of, HasParents}
 use Rattle.access_tags.proofs.FirstReads.{met_none}
 
 -- what is left of a walk when these parts of it, the last one first, are known
-abbrev pub Left : List Touch → ℕ → List Spot → List Touch → Type 0
+abbrev pub Left : List Touch → ℕ → List LocationKey → List Touch → Type 0
 Left ts at reads ys = (zs : List Touch) × Walk ts at zs × (map location_of ys ≡ map location_of zs ++ map (located []) (reverse reads)) × (length ys ≡ length zs + length reads)
 
-abbrev pub Goes : List Met → ℕ → ℕ → ℕ → List Spot → Type 0
-Goes ms t object at reads = (ts ys : List Touch) → 0 < t → Meet t ts ms → Walk ts object ys → Left ts at reads ys
+abbrev pub Goes : List ParentEdge → ℕ → ℕ → ℕ → List LocationKey → Type 0
+Goes ms t object at reads = (ts ys : List Touch) → 0 < t → HasParents t ts ms → Walk ts object ys → Left ts at reads ys
 
-pub goes_first : (ms : List Met) (t object : ℕ) → Goes ms t object object []
+pub goes_first : (ms : List ParentEdge) (t object : ℕ) → Goes ms t object object []
 goes_first ms t object ts ys p m w = (ys, w, sym (append-nil (map location_of ys)), omega arith)
 
 -- the read that first gave an object
-module _ (ms : List Met) (t : ℕ) (ts : List Touch) (m : Meet t ts ms) (p : 0 < t) where
-  first_there : (o : ℕ) (x : Touch) (s : Spot) → first_giving ts o ≡ Some x → met_by ms t o ≡ Some s → located [] s ≡ x.location
-  first_there o x s f e = same_Some _ _ (sym (ap (λ (z : Option Spot). option_map (located []) z) e) ∙ (m.first p o ∙ ap (λ (z : Option Touch). option_map location_of z) f))
+module _ (ms : List ParentEdge) (t : ℕ) (ts : List Touch) (m : HasParents t ts ms) (p : 0 < t) where
+  first_there : (o : ℕ) (x : Touch) (s : LocationKey) → first_giving ts o ≡ Some x → met_by ms t o ≡ Some s → located [] s ≡ x.location
+  first_there o x s f e = same_Some _ _ (sym (ap (λ (z : Option LocationKey). option_map (located []) z) e) ∙ (m.first p o ∙ ap (λ (z : Option Touch). option_map location_of z) f))
 
   never_none : (o : ℕ) (x : Touch) → first_giving ts o ≡ Some x → met_by ms t o ≡ None → ⊥
-  never_none o x f e = let z : None ≡ Some x.location = sym (ap (λ (z : Option Spot). option_map (located []) z) e) ∙ (m.first p o ∙ ap (λ (z : Option Touch). option_map location_of z) f) in cc
+  never_none o x f e = let z : None ≡ Some x.location = sym (ap (λ (z : Option LocationKey). option_map (located []) z) e) ∙ (m.first p o ∙ ap (λ (z : Option Touch). option_map location_of z) f) in cc
 
   -- an object that was met is among those that are kept
   met_below : (o : ℕ) (x : Touch) → first_giving ts o ≡ Some x → o < length ms
@@ -84,22 +84,22 @@ walk_some ts o zs (from_static f l) = omega arith
 walk_some ts o zs (through {x = x} {xs = xs} f h w) = let e = length-append xs (x ∷ []) in omega arith
 
 -- the walk came to an object that was never met, or went on past the number of objects
-pub goes_nowhere : (ms : List Met) (t object at : ℕ) (reads xs : List Spot) → (0 < t → met_by ms t at ≡ None) → Goes ms t object at reads → (ts ys : List Touch) → 0 < t → Meet t ts ms → Walk ts object ys → map (located []) xs ≡ map location_of ys
+pub goes_nowhere : (ms : List ParentEdge) (t object at : ℕ) (reads xs : List LocationKey) → (0 < t → met_by ms t at ≡ None) → Goes ms t object at reads → (ts ys : List Touch) → 0 < t → HasParents t ts ms → Walk ts object ys → map (located []) xs ≡ map location_of ys
 goes_nowhere ms t object at reads xs e g ts ys p m w = let l = g ts ys p m w in let f = walk_first ms t ts m p at l.0 l.1 in absurd (never_none ms t ts m p at f.0 f.1 (e p))
 
-pub goes_past : (ms : List Met) (t object at : ℕ) (reads xs : List Spot) → length ms ≤ length reads → Goes ms t object at reads → (ts ys : List Touch) → 0 < t → Meet t ts ms → Walk ts object ys → map (located []) xs ≡ map location_of ys
+pub goes_past : (ms : List ParentEdge) (t object at : ℕ) (reads xs : List LocationKey) → length ms ≤ length reads → Goes ms t object at reads → (ts ys : List Touch) → 0 < t → HasParents t ts ms → Walk ts object ys → map (located []) xs ≡ map location_of ys
 goes_past ms t object at reads xs h g ts ys p m w = let l = g ts ys p m w in
     let a = walk_short ms t ts m p object ys w in let b = walk_some ts at l.0 l.1 in let c = l.3 in absurd (omega arith)
 
 -- one read more
-read_more : (zs : List Touch) (x : Touch) (reads : List Spot) (s : Spot) → located [] s ≡ x.location →
+read_more : (zs : List Touch) (x : Touch) (reads : List LocationKey) (s : LocationKey) → located [] s ≡ x.location →
     map location_of (zs ++ x ∷ []) ++ map (located []) (reverse reads) ≡ map location_of zs ++ map (located []) (reverse (reads ++ s ∷ []))
 read_more zs x reads s e = rw (reverse-append reads (s ∷ [])) (rw (map-append location_of zs (x ∷ [])) (append_assoc (map location_of zs) (x.location ∷ []) (map (located []) (reverse reads))
     ∙ ap (λ (z : Location). map location_of zs ++ (z ∷ map (located []) (reverse reads))) (sym e)))
 
 -- at a static the walk is whole
-pub goes_whole : (ms : List Met) (t object at : ℕ) (reads : List Spot) (s : Spot) → (0 < t → met_by ms t at ≡ Some s) → holder (located [] s) ≡ None → Goes ms t object at reads →
-    (ts ys : List Touch) → 0 < t → Meet t ts ms → Walk ts object ys → map (located []) (reverse (reads ++ s ∷ [])) ≡ map location_of ys
+pub goes_whole : (ms : List ParentEdge) (t object at : ℕ) (reads : List LocationKey) (s : LocationKey) → (0 < t → met_by ms t at ≡ Some s) → holder (located [] s) ≡ None → Goes ms t object at reads →
+    (ts ys : List Touch) → 0 < t → HasParents t ts ms → Walk ts object ys → map (located []) (reverse (reads ++ s ∷ [])) ≡ map location_of ys
 goes_whole ms t object at reads s e n g ts ys p m w = let l = g ts ys p m w in whole l.0 l.1 l.2
   where
     whole : (zs : List Touch) → Walk ts at zs → map location_of ys ≡ map location_of zs ++ map (located []) (reverse reads) → map (located []) (reverse (reads ++ s ∷ [])) ≡ map location_of ys
@@ -107,7 +107,7 @@ goes_whole ms t object at reads s e n g ts ys p m w = let l = g ts ys p m w in w
     whole zs (through {a = a} {x = x} f h v) q = absurd (let z : None ≡ Some a = sym n ∙ (ap holder (first_there ms t ts m p at x s f (e p)) ∙ h) in cc)
 
 -- at a cell it goes on to the object that holds it
-pub goes_on : (ms : List Met) (t object at : ℕ) (reads : List Spot) (s : Spot) (b : ℕ) → (0 < t → met_by ms t at ≡ Some s) → holder (located [] s) ≡ Some b → Goes ms t object at reads → Goes ms t object b (reads ++ s ∷ [])
+pub goes_on : (ms : List ParentEdge) (t object at : ℕ) (reads : List LocationKey) (s : LocationKey) (b : ℕ) → (0 < t → met_by ms t at ≡ Some s) → holder (located [] s) ≡ Some b → Goes ms t object at reads → Goes ms t object b (reads ++ s ∷ [])
 goes_on ms t object at reads s b e n g ts ys p m w = let l = g ts ys p m w in on l.0 l.1 l.2 l.3
   where
     on : (zs : List Touch) → Walk ts at zs → map location_of ys ≡ map location_of zs ++ map (located []) (reverse reads) → length ys ≡ length zs + length reads → Left ts b (reads ++ s ∷ []) ys

@@ -11,18 +11,18 @@ use Rattle.jvm_model.specs.View.{Exists, keys}
 use Rattle.jvm_model.specs.World.{World, Object, at, size, object_at, same}
 use Rattle.order_law.specs.Exposed.{exposed}
 use Rattle.order_law.specs.Histories.{Touches}
-use Rattle.vm_mem.specs.Story.{Story, Adds}
+use Rattle.vm_mem.specs.Trace.{Trace, Extends}
 use Rattle.access_tags.specs.declared.ended.Ended.{Ended}
 use Rattle.access_tags.specs.declared.memory.TaggedMemory.{TaggedMemory}
 use Rattle.access_tags.specs.declared.numbers.Numbers.{Numbers}
 use Rattle.access_tags.specs.declared.tags.Tags.{Tags}
 use Rattle.access_tags.specs.Numbering.{Numbering, is_name, located, position}
-use Rattle.access_tags.specs.Ran.{story_to, size_in, size_after, touched_by}
+use Rattle.access_tags.specs.Ran.{trace_to, size_in, size_after, touched_by}
 use Rattle.access_tags.specs.Paths.{HaveRowsWalks}
-use Rattle.access_tags.specs.Meets.{Meets}
+use Rattle.access_tags.specs.HasDiscovered.{HasDiscovered}
 use Rattle.access_tags.specs.HeadMarks.{IsKindAt}
 use Rattle.access_tags.specs.HeadsStand.{HeadsStand}
-use Rattle.access_tags.specs.declared.hit.Spot.{Spot}
+use Rattle.access_tags.specs.declared.conflict.LocationKey.{LocationKey}
 use Rattle.jvm_model.specs.declared.values.Kind.{Kind}
 use Rattle.access_tags.specs.Rows.{edges_at, shown_by, with_places}
 use Rattle.access_tags.specs.Shelf.{count}
@@ -79,21 +79,21 @@ AreKinds kinds w = (u o : ℕ) → o < size w → kinds u o ≡ (at w (place.Hea
 pub record IsTold (T : Touches) (t : ℕ) (ts : List Touch) (m : TaggedMemory) : Type 0 where
   pub stands : Stands (numbering m) T (t - 1) ts m.tags
   pub size : size m.memory.world ≡ size_after (size_in T (t - 1)) ts
-  pub met : Meets t ts m.meetings
+  pub met : HasDiscovered t ts m.discovery_tree
   pub heads : (kinds : ℕ → ℕ → Kind) → AreKinds kinds m.memory.world → HeadsStand kinds (touched_by T) t ts m.heads
   pub each : length m.ended ≡ t - 1
   pub ended : (i : ℕ) (x : Ended) → slice_get m.ended i ≡ Some x → IsEnded T m.names (i + 1) x
 
 -- a memory with tags follows these tests, of which the one that runs made these touches
-pub record Follows (m : TaggedMemory) (h : Story) (ts : List Touch) : Type 0 where
+pub record Follows (m : TaggedMemory) (h : Trace) (ts : List Touch) : Type 0 where
   pub test : m.test ≡ h.test
   pub numbered : IsNumbered m.memory.world m.numbers
   pub cells : count m.tags.cells ≡ length (cells_of m.memory.world)
   pub named : count m.tags.named ≡ length m.names
   pub program : m.numbers.places ≡ m.memory.program
-  pub told : (T : Touches) → h ≡ story_to T h.test → IsTold T h.test ts m
+  pub told : (T : Touches) → h ≡ trace_to T h.test → IsTold T h.test ts m
 
 -- A touch of a spot was noted: a read that gave this, or a write, of the head of an object of this kind or of another part.
-abbrev pub HasNoted : TaggedMemory → TaggedMemory → Spot → Bool → Option ℕ → Option Kind → Type 0
+abbrev pub HasNoted : TaggedMemory → TaggedMemory → LocationKey → Bool → Option ℕ → Option Kind → Type 0
 HasNoted old new s write gave kind = (x : Touch) → is_name s ≡ false → Exists old.memory.world (located [] s) → x.write ≡ write → x.location ≡ located [] s → x.gave ≡ gave →
-    IsKindAt (λ o. (at old.memory.world (place.Head o)).kind) (located [] s) kind → size_after (size old.memory.world) (x ∷ []) ≡ size old.memory.world → Adds Follows old new (x ∷ [])
+    IsKindAt (λ o. (at old.memory.world (place.Head o)).kind) (located [] s) kind → size_after (size old.memory.world) (x ∷ []) ≡ size old.memory.world → Extends Follows old new (x ∷ [])

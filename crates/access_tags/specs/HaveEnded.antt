@@ -3,7 +3,7 @@ use Rattle.std.specs.Prelude.{◌≡◌, ℕ, List, cond}
 use Rattle.std.specs.List.{list_any}
 use Rattle.jvm_model.specs.declared.values.Location.{Location}
 use Rattle.jvm_model.specs.World.{same}
-use Rattle.access_tags.specs.declared.hit.Touched.{Touched}
+use Rattle.access_tags.specs.declared.conflict.Touched.{Touched}
 use Rattle.access_tags.specs.Tag.{Tag, ended}
 use Rattle.access_tags.specs.Cells.{Apart}
 use Rattle.access_tags.specs.Numbering.{Numbering, ArePlaced, is_at, locations, view}

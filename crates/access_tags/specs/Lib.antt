@@ -3,8 +3,8 @@ pub mod Cells
 pub mod Shelf
 pub mod Numbering
 pub mod Within
-pub mod Stretches
-pub mod Trails
+pub mod Intervals
+pub mod AccessLogs
 pub mod Stands
 pub mod HaveEnded
 pub mod Rows
@@ -12,8 +12,8 @@ pub mod Counted
 pub mod Worlds
 pub mod Ran
 pub mod Followed
-pub mod Meeting
-pub mod Meets
+pub mod ParentEdges
+pub mod HasDiscovered
 pub mod HeadMarks
 pub mod HeadsStand
 pub mod Given

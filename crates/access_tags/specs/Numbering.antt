@@ -4,11 +4,11 @@ use Rattle.std.specs.List.{list_any, list_all}
 use Rattle.jvm_model.specs.declared.values.Location.{Location}
 use Rattle.jvm_model.specs.declared.values.Location.TheVariants as place
 use Rattle.jvm_model.specs.World.{same}
-use Rattle.access_tags.specs.declared.hit.Hit.{Hit}
-use Rattle.access_tags.specs.declared.hit.Spot.{Spot}
-use Rattle.access_tags.specs.declared.hit.Spot.TheVariants as spot
-use Rattle.access_tags.specs.declared.hit.Touched.{Touched}
-use Rattle.access_tags.specs.Tag.{Tag, hit, hits_at}
+use Rattle.access_tags.specs.declared.conflict.Conflict.{Conflict}
+use Rattle.access_tags.specs.declared.conflict.LocationKey.{LocationKey}
+use Rattle.access_tags.specs.declared.conflict.LocationKey.TheVariants as spot
+use Rattle.access_tags.specs.declared.conflict.Touched.{Touched}
+use Rattle.access_tags.specs.Tag.{Tag, conflict, conflicts_at}
 
 -- the locations of statics, class states and objects, and those of names, each in the order of their numbers
 pub record Numbering : Type 0 where
@@ -23,7 +23,7 @@ abbrev pub with_names : Numbering → List Location → Numbering
 with_names n ls = record n { names = n.names ++ ls }
 
 -- the location of a spot
-abbrev pub located : List Location → Spot → Location
+abbrev pub located : List Location → LocationKey → Location
 located names (spot.Static f) = place.Static f
 located names (spot.Init c) = place.Init c
 located names (spot.Head o) = place.Head o
@@ -32,12 +32,12 @@ located names (spot.Elem o i) = place.Elem o i
 located names (spot.Text o) = place.Text o
 located names (spot.Named k) = get_or names k (place.Static 0)
 
-abbrev pub is_name : Spot → Bool
+abbrev pub is_name : LocationKey → Bool
 is_name (spot.Named k) = true
 is_name _ = false
 
 -- whether it is this static
-abbrev pub is_static : Spot → ℕ → Bool
+abbrev pub is_static : LocationKey → ℕ → Bool
 is_static (spot.Static g) f = nat_eq g f
 is_static _ f = false
 
@@ -87,8 +87,8 @@ abbrev pub tag_at : (ℕ → Tag) → (ℕ → Tag) → Touched → Tag
 tag_at c d x = cond (is_name x.spot) (d x.at) (c x.at)
 
 -- the conflicts at entries
-abbrev pub hits_in : (ℕ → Tag) → (ℕ → Tag) → List Touched → List (Hit Spot)
-hits_in c d xs = flat_map (λ (x : Touched). hits_at x.spot (tag_at c d x)) xs
+abbrev pub conflicts_in : (ℕ → Tag) → (ℕ → Tag) → List Touched → List (Conflict LocationKey)
+conflicts_in c d xs = flat_map (λ (x : Touched). conflicts_at x.spot (tag_at c d x)) xs
 
 -- whether there is no exposed read of an entry, or it is this static
 abbrev pub is_alone : (ℕ → Tag) → (ℕ → Tag) → ℕ → Touched → Bool
@@ -98,5 +98,5 @@ abbrev pub are_alone : (ℕ → Tag) → (ℕ → Tag) → ℕ → List Touched 
 are_alone c d f xs = list_all (λ (x : Touched). is_alone c d f x) xs
 
 -- a conflict at a spot as one at its location
-abbrev pub at_location : Numbering → Hit Spot → Hit Location
-at_location n h = hit h.kind (located n.names h.place) h.earlier
+abbrev pub at_location : Numbering → Conflict LocationKey → Conflict Location
+at_location n h = conflict h.kind (located n.names h.place) h.earlier

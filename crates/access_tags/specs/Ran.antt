@@ -13,7 +13,7 @@ use Rattle.order_law.specs.Histories.{Touches, IsTestNumber}
 use Rattle.order_law.specs.OwnRecord.{conflict_places_in, owner_in}
 use Rattle.order_law.specs.Walk.{Walk}
 use Rattle.std.specs.Prelude.{Some}
-use Rattle.vm_mem.specs.Story.{Story, no_story, next_test}
+use Rattle.vm_mem.specs.Trace.{Trace, empty_trace, next_test}
 
 -- what test t touches; before the first test there are no touches
 abbrev pub touched_by : Touches → ℕ → List Touch
@@ -21,9 +21,9 @@ touched_by T zero = []
 touched_by T (suc t) = T (suc t)
 
 -- the tests 1 to t began in this order, and all but the last ended
-abbrev pub story_to : Touches → ℕ → Story
-story_to T zero = no_story
-story_to T (suc t) = next_test (story_to T t) (touched_by T t) (suc t)
+abbrev pub trace_to : Touches → ℕ → Trace
+trace_to T zero = empty_trace
+trace_to T (suc t) = next_test (trace_to T t) (touched_by T t) (suc t)
 
 -- how many objects there are after a touch, where there were n: making one writes its head
 abbrev pub with_head : ℕ → Location → ℕ

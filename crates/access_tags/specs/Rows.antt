@@ -9,9 +9,9 @@ use Rattle.order_law.specs.declared.edges.EdgeKind.{EdgeKind}
 use Rattle.order_law.specs.declared.edges.EdgeKind.TheVariants.{Raw, Waw, War}
 use Rattle.order_law.specs.Histories.{Touches}
 use Rattle.order_law.specs.OwnRecord.{conflict_places_in, cut, edges_between_in}
-use Rattle.access_tags.specs.declared.hit.Hit.{Hit}
-use Rattle.access_tags.specs.declared.hit.Spot.{Spot}
-use Rattle.access_tags.specs.declared.hit.Spot.TheVariants as spot
+use Rattle.access_tags.specs.declared.conflict.Conflict.{Conflict}
+use Rattle.access_tags.specs.declared.conflict.LocationKey.{LocationKey}
+use Rattle.access_tags.specs.declared.conflict.LocationKey.TheVariants as spot
 use Rattle.access_tags.specs.declared.rows.Row.{Row}
 use Rattle.access_tags.specs.Tag.{found, kind_number}
 use Rattle.access_tags.specs.Numbering.{located}
@@ -21,23 +21,23 @@ abbrev pub key : EdgeKind → ℕ → ℕ
 key k u = 3 * u + kind_number k
 
 -- the row of these places
-abbrev pub row_with : EdgeKind → ℕ → List Spot → Row
+abbrev pub row_with : EdgeKind → ℕ → List LocationKey → Row
 row_with k u xs = record { kind = k; earlier = u; count = length xs; spots = take 8 xs }
 
 -- a table has the row of each kind and each earlier test, where these are the conflicts
-abbrev pub IsTable : ℕ → List (Hit Spot) → List Row → Type 0
+abbrev pub IsTable : ℕ → List (Conflict LocationKey) → List Row → Type 0
 IsTable t hs rows = (k : EdgeKind) (u : ℕ) (d : Row) → u < t → get_or rows (key k u) d ≡ row_with k u (found k u hs)
 
 -- the row for these places, where there is one at least
-abbrev pub row_of : EdgeKind → ℕ → List Spot → List Row
+abbrev pub row_of : EdgeKind → ℕ → List LocationKey → List Row
 row_of k u [] = []
 row_of k u (x ∷ xs) = row_with k u (x ∷ xs) ∷ []
 
-abbrev pub rows_between : ℕ → List (Hit Spot) → List Row
+abbrev pub rows_between : ℕ → List (Conflict LocationKey) → List Row
 rows_between u hs = row_of Raw u (found Raw u hs) ++ (row_of Waw u (found Waw u hs) ++ row_of War u (found War u hs))
 
 -- the rows of test t, by the earlier test and then the kind, where these are its conflicts
-abbrev pub rows_to : ℕ → List (Hit Spot) → List Row
+abbrev pub rows_to : ℕ → List (Conflict LocationKey) → List Row
 rows_to t hs = flat_map (λ u. rows_between u hs) (range_with_len 1 (t - 1))
 
 -- the edge of a row of test t, and the locations that are shown of it

@@ -3,11 +3,11 @@ use Rattle.std.specs.Prelude.{◌≡◌, ℕ, List}
 use Rattle.jvm_model.specs.declared.values.Location.{Location}
 use Rattle.jvm_model.specs.declared.values.Touch.{Touch}
 use Rattle.order_law.specs.Histories.{Touches}
-use Rattle.access_tags.specs.declared.hit.Touched.{Touched}
+use Rattle.access_tags.specs.declared.conflict.Touched.{Touched}
 use Rattle.access_tags.specs.declared.tags.Tags.{Tags}
 use Rattle.access_tags.specs.Tag.{Tag, tag, places}
 use Rattle.access_tags.specs.Shelf.{tag_in}
-use Rattle.access_tags.specs.Trails.{touched_in}
+use Rattle.access_tags.specs.AccessLogs.{touched_in}
 use Rattle.access_tags.specs.Numbering.{Numbering, view, ArePlaced, locations}
 
 -- These tags of cells and of names, and this list of what is touched: t tests ended, and the running one touched ts.

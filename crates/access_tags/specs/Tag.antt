@@ -11,7 +11,7 @@ use Rattle.order_law.specs.declared.edges.EdgeKind.TheVariants.{Raw, Waw, War}
 use Rattle.order_law.specs.Exposed.{written, exposed}
 use Rattle.order_law.specs.Histories.{Touches}
 use Rattle.order_law.specs.OwnRecord.{first_places, conflict_places_in, edge_of, edges_in}
-use Rattle.access_tags.specs.declared.hit.Hit.{Hit}
+use Rattle.access_tags.specs.declared.conflict.Conflict.{Conflict}
 use Rattle.access_tags.specs.declared.mark.Mark.{Mark}
 
 -- the last of the tests up to t that writes L, or 0
@@ -65,24 +65,24 @@ ended t g = record {
 }
 
 -- a conflict of the running test at a place
-abbrev pub hit : {P : Type 0} → EdgeKind → P → ℕ → Hit P
-hit k x u = record { kind = k; earlier = u; place = x }
+abbrev pub conflict : {P : Type 0} → EdgeKind → P → ℕ → Conflict P
+conflict k x u = record { kind = k; earlier = u; place = x }
 
 -- the conflict with the last writer, where there is one
-abbrev pub with_writer : {P : Type 0} → EdgeKind → P → ℕ → List (Hit P)
-with_writer k x u = cond (nat_eq u 0) [] (hit k x u ∷ [])
+abbrev pub with_writer : {P : Type 0} → EdgeKind → P → ℕ → List (Conflict P)
+with_writer k x u = cond (nat_eq u 0) [] (conflict k x u ∷ [])
 
 -- the conflicts at a place with this tag
-abbrev pub hits_at : {P : Type 0} → P → Tag → List (Hit P)
-hits_at x g = cond g.mark.exposed (with_writer Raw x g.writer) [] ++ cond g.mark.written (with_writer Waw x g.writer ++ map (hit War x) g.readers) []
+abbrev pub conflicts_at : {P : Type 0} → P → Tag → List (Conflict P)
+conflicts_at x g = cond g.mark.exposed (with_writer Raw x g.writer) [] ++ cond g.mark.written (with_writer Waw x g.writer ++ map (conflict War x) g.readers) []
 
 -- the locations that are touched, in the order of first touch
 abbrev pub places : List Touch → List Location
 places ts = first_places (map (λ (x : Touch). x.location) ts)
 
 -- the conflicts of test t + 1 that touched ts, by the order of first touch
-abbrev pub hits : Touches → ℕ → List Touch → List (Hit Location)
-hits T t ts = flat_map (λ L. hits_at L (tag T t ts L)) (places ts)
+abbrev pub conflicts_found : Touches → ℕ → List Touch → List (Conflict Location)
+conflicts_found T t ts = flat_map (λ L. conflicts_at L (tag T t ts L)) (places ts)
 
 abbrev pub same_kind : EdgeKind → EdgeKind → Bool
 same_kind Raw Raw = true
@@ -96,24 +96,24 @@ kind_number Raw = 0
 kind_number Waw = 1
 kind_number War = 2
 
-abbrev pub is_hit : {P : Type 0} → EdgeKind → ℕ → Hit P → Bool
-is_hit k u h = same_kind k h.kind && nat_eq u h.earlier
+abbrev pub is_conflict : {P : Type 0} → EdgeKind → ℕ → Conflict P → Bool
+is_conflict k u h = same_kind k h.kind && nat_eq u h.earlier
 
 -- the places of the conflicts of a kind with test u
-abbrev pub found : {P : Type 0} → EdgeKind → ℕ → List (Hit P) → List P
-found k u hs = map (λ h. h.place) (filter (is_hit k u) hs)
+abbrev pub found : {P : Type 0} → EdgeKind → ℕ → List (Conflict P) → List P
+found k u hs = map (λ h. h.place) (filter (is_conflict k u) hs)
 
 -- the edges from u to t, and all to t, where these are the conflicts of t
-abbrev pub edges_between : Program → (ℕ → ℕ × ℕ) → ℕ → ℕ → List (Hit Location) → List Edge
+abbrev pub edges_between : Program → (ℕ → ℕ × ℕ) → ℕ → ℕ → List (Conflict Location) → List Edge
 edges_between p by u t hs = edge_of p by Raw u t (found Raw u hs) ++ (edge_of p by Waw u t (found Waw u hs) ++ edge_of p by War u t (found War u hs))
 
-abbrev pub edges_to : Program → (ℕ → ℕ × ℕ) → ℕ → List (Hit Location) → List Edge
+abbrev pub edges_to : Program → (ℕ → ℕ × ℕ) → ℕ → List (Conflict Location) → List Edge
 edges_to p by t hs = flat_map (λ u. edges_between p by u t hs) (range_with_len 1 (t - 1))
 
 -- The conflicts that are gathered at the end of test t + 1 are those of the definition, in the order of first touch.
 abbrev pub TagsLaw : Type 0
-TagsLaw = (T : Touches) (k : EdgeKind) (u t : ℕ) → 0 < u → u ≤ t → found k u (hits T t (T (suc t))) ≡ conflict_places_in T k u (suc t)
+TagsLaw = (T : Touches) (k : EdgeKind) (u t : ℕ) → 0 < u → u ≤ t → found k u (conflicts_found T t (T (suc t))) ≡ conflict_places_in T k u (suc t)
 
 -- The edges to each test by the conflicts that are gathered at its end are all edges of the touches, in the record's order.
 abbrev pub RowsLaw : Type 0
-RowsLaw = (p : Program) (T : Touches) (by : ℕ → ℕ × ℕ) → flat_map (λ t. edges_to p by t (hits T (t - 1) (T t))) (all_tests p) ≡ edges_in p T by
+RowsLaw = (p : Program) (T : Touches) (by : ℕ → ℕ × ℕ) → flat_map (λ t. edges_to p by t (conflicts_found T (t - 1) (T t))) (all_tests p) ≡ edges_in p T by

@@ -1,13 +1,13 @@
 -- What is touched is among the locations that there are.
 use Rattle.std.specs.Prelude.{ℕ, ◌<◌, List, length, get_or, cond}
 use Rattle.access_tags.specs.declared.cells.Cells.{Cells}
-use Rattle.access_tags.specs.declared.hit.Spot.{Spot}
-use Rattle.access_tags.specs.declared.hit.Touched.{Touched}
+use Rattle.access_tags.specs.declared.conflict.LocationKey.{LocationKey}
+use Rattle.access_tags.specs.declared.conflict.Touched.{Touched}
 use Rattle.access_tags.specs.Numbering.{is_name}
 use Rattle.access_tags.specs.Shelf.{count}
 
 -- how many locations there are of the spot's sort
-abbrev pub room : Cells → Cells → Spot → ℕ
+abbrev pub room : Cells → Cells → LocationKey → ℕ
 room cells named s = cond (is_name s) (count named) (count cells)
 
 abbrev pub AreWithin : Cells → Cells → List Touched → Type 0

@@ -2,10 +2,10 @@
 
 ghost use Rattle.std.specs.Prelude.{◌≡◌, ◌+◌, ◌<◌, ◌≤◌, ◌^◌, ℕ, [], ◌∷◌, ◌++◌, length, map, reverse, cond, nat_eq, IfOk, OnOk, OnErr};
 ghost use Rattle.order_law.specs.declared.edges.EdgeKind.TheVariants as kinds;
-ghost use Rattle.access_tags.specs.Tag.{hit, with_writer};
+ghost use Rattle.access_tags.specs.Tag.{conflict, with_writer};
 ghost use Rattle.access_tags.specs.Cells.{AreCells, AreDown, chain};
 
-use crate::hit::{Hit, Spot};
+use crate::conflict::{Conflict, LocationKey};
 use crate::mark::{Mark, Past, Reader};
 use cell_region::Region;
 use et_base::NoMemory;
@@ -23,7 +23,7 @@ pub struct Cells {
 }
 
 impl Cells {
-    ghost use Rattle.access_tags.specs.Tag.{no_tag, noted, ended, is_new, hits_at};
+    ghost use Rattle.access_tags.specs.Tag.{no_tag, noted, ended, is_new, conflicts_at};
     ghost use Rattle.access_tags.specs.Shelf.{tag_in, count};
 
     /// No locations. It takes no memory until it grows.
@@ -87,25 +87,30 @@ impl Cells {
     }
 
     /// Adds the conflicts at a location, which is shown as `place`.
-    pub fn gather(&self, at: u64, place: Spot, hits: &mut Vec<Hit<Spot>>) -> Result<(), NoMemory>
+    pub fn collect(
+        &self,
+        at: u64,
+        place: LocationKey,
+        conflicts: &mut Vec<Conflict<LocationKey>>,
+    ) -> Result<(), NoMemory>
         requires { at < count self.now }
-        ensures { OnOk result (hits.new.items ≡ hits.old.items ++ hits_at place (tag_in self.now at)) }
+        ensures { OnOk result (conflicts.new.items ≡ conflicts.old.items ++ conflicts_at place (tag_in self.now at)) }
     {
         let mark = self.marks.get(at);
         let past = self.pasts.get(at);
         if mark.exposed {
-            hit_writer(hits, EdgeKind::Raw, place, past.writer)?;
+            conflict_writer(conflicts, EdgeKind::Raw, place, past.writer)?;
         }
         if mark.written {
-            hit_writer(hits, EdgeKind::Waw, place, past.writer)?;
-            hit_readers(hits, &self.readers, past.readers, place)?;
+            conflict_writer(conflicts, EdgeKind::Waw, place, past.writer)?;
+            conflict_readers(conflicts, &self.readers, past.readers, place)?;
         }
         Ok(())
     }
 
     /// The running test, with this number, ended: what it did at the location joins what earlier tests did there.
     #[tactic(auto, using(crate::proofs::Settle::written_look, crate::proofs::Settle::exposed_look, crate::proofs::Settle::clear_look, crate::proofs::Settle::written_cells, crate::proofs::Settle::exposed_cells, crate::proofs::Settle::marked_cells))]
-    pub fn settle(&mut self, at: u64, test: u32) -> Result<(), NoMemory>
+    pub fn fold(&mut self, at: u64, test: u32) -> Result<(), NoMemory>
         requires { at < count self.old }
         ensures count { count self.new ≡ count self.old }
         ensures tags { OnOk result ((l : ℕ) → tag_in self.new l
@@ -144,16 +149,16 @@ impl Cells {
 }
 
 /// Adds the conflict with a location's last writer, where there is one.
-fn hit_writer(
-    hits: &mut Vec<Hit<Spot>>,
+fn conflict_writer(
+    conflicts: &mut Vec<Conflict<LocationKey>>,
     kind: EdgeKind,
-    place: Spot,
+    place: LocationKey,
     writer: u32,
 ) -> Result<(), NoMemory>
-    ensures { OnOk result (hits.new.items ≡ hits.old.items ++ with_writer kind place writer) }
+    ensures { OnOk result (conflicts.new.items ≡ conflicts.old.items ++ with_writer kind place writer) }
 {
     if writer != 0 {
-        hits.push(Hit {
+        conflicts.push(Conflict {
             kind,
             earlier: writer,
             place,
@@ -163,21 +168,21 @@ fn hit_writer(
 }
 
 /// Adds the conflicts with the readers of a chain, which begins at this number.
-fn hit_readers(
-    hits: &mut Vec<Hit<Spot>>,
+fn conflict_readers(
+    conflicts: &mut Vec<Conflict<LocationKey>>,
     readers: &Region<Reader>,
     first: u32,
-    place: Spot,
+    place: LocationKey,
 ) -> Result<(), NoMemory>
     requires down { AreDown readers.now }
     requires first { first ≤ length readers.now }
-    ensures { OnOk result (hits.new.items ≡ hits.old.items
-        ++ map (hit kinds.War place) (chain (reverse readers.now) first)) }
+    ensures { OnOk result (conflicts.new.items ≡ conflicts.old.items
+        ++ map (conflict kinds.War place) (chain (reverse readers.now) first)) }
 {
     let mut at = first;
     while at > 0 {
         let reader = readers.get(at as u64 - 1);
-        hits.push(Hit {
+        conflicts.push(Conflict {
             kind: EdgeKind::War,
             earlier: reader.test,
             place,

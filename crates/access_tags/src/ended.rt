@@ -1,6 +1,6 @@
 //! What is kept of a test that ended.
 
-use crate::hit::Spot;
+use crate::conflict::LocationKey;
 use crate::rows::Row;
 use et_base::Items;
 
@@ -9,7 +9,7 @@ use et_base::Items;
 #[derive(Debug, Drop)]
 pub struct Ended {
     pub rows: Items<Row>,
-    pub walks: Items<Items<Items<Spot>>>,
+    pub walks: Items<Items<Items<LocationKey>>>,
     pub size: u64,
     pub alone: bool,
 }

@@ -16,8 +16,8 @@ ghost use Rattle.access_tags.specs.Numbering.{located};
 ghost use Rattle.access_tags.specs.Places.{place_by, shown_parts, shown_rows};
 ghost use Rattle.access_tags.specs.Rows.{edge_by};
 
+use crate::conflict::LocationKey;
 use crate::ended::Ended;
-use crate::hit::Spot;
 use crate::reads::walk_texts;
 use crate::rows::Row;
 use crate::shown_text::{place_text, program_units};
@@ -41,7 +41,7 @@ pub fn edge_of(
     ensures form { IfOk result (λ e. is_place_text e.first ≡ true) }
 {
     let first = match row.spots.get(0) {
-        None => Spot::Static { field: 0 },
+        None => LocationKey::Static { field: 0 },
         Some(spot) => *spot,
     };
     Ok(Edge {
@@ -59,24 +59,24 @@ fn spot_text(
     p: &Program,
     made: &[u64],
     names: &[Location],
-    spot: Spot,
+    spot: LocationKey,
 ) -> Result<Text, NoMemory>
     requires { HasCodeUnits p.now }
     ensures text { IfOk result (λ t. t ≡ own.cut (location_text p.now (own.owner_in made.now) (located names.now spot))) }
     ensures form { IfOk result (λ t. is_place_text t ≡ true) }
 {
     match spot {
-        Spot::Static { field } => place_text(alloc, p, made, &Location::Static { field }),
-        Spot::Init { class } => place_text(alloc, p, made, &Location::Init { class }),
-        Spot::Head { object } => place_text(alloc, p, made, &Location::Head { object }),
-        Spot::Field { object, field } => {
+        LocationKey::Static { field } => place_text(alloc, p, made, &Location::Static { field }),
+        LocationKey::Init { class } => place_text(alloc, p, made, &Location::Init { class }),
+        LocationKey::Head { object } => place_text(alloc, p, made, &Location::Head { object }),
+        LocationKey::Field { object, field } => {
             place_text(alloc, p, made, &Location::Field { object, field })
         }
-        Spot::Elem { object, index } => {
+        LocationKey::Elem { object, index } => {
             place_text(alloc, p, made, &Location::Elem { object, index })
         }
-        Spot::Text { object } => place_text(alloc, p, made, &Location::Text { object }),
-        Spot::Named { name } => match names.get(name as usize) {
+        LocationKey::Text { object } => place_text(alloc, p, made, &Location::Text { object }),
+        LocationKey::Named { name } => match names.get(name as usize) {
             None => place_text(alloc, p, made, &Location::Static { field: 0 }),
             Some(location) => place_text(alloc, p, made, location),
         },
@@ -89,8 +89,8 @@ pub fn shown_of(
     p: &Program,
     made: &[u64],
     names: &[Location],
-    spots: &[Spot],
-    walks: &[Items<Spot>],
+    spots: &[LocationKey],
+    walks: &[Items<LocationKey>],
 ) -> Result<Shown, NoMemory>
     ensures { IfOk result (λ shown. shown ≡ shown_parts p.now (own.owner_in made.now) names.now spots.now walks.now) }
 {
@@ -107,8 +107,8 @@ fn place_of(
     p: &Program,
     made: &[u64],
     names: &[Location],
-    spot: Spot,
-    walk: &[Spot],
+    spot: LocationKey,
+    walk: &[LocationKey],
 ) -> Result<Place, NoMemory>
     ensures { IfOk result (λ place. place ≡ place_by p.now (own.owner_in made.now) names.now spot walk.now) }
 {
@@ -124,22 +124,22 @@ fn push_spot(
     p: &Program,
     made: &[u64],
     names: &[Location],
-    spot: Spot,
+    spot: LocationKey,
 ) -> Result<(), NoMemory>
     ensures { OnOk result (out.new ≡ out.old ++ location_text p.now (own.owner_in made.now) (located names.now spot)) }
 {
     match spot {
-        Spot::Static { field } => push_location(out, p, made, &Location::Static { field }),
-        Spot::Init { class } => push_location(out, p, made, &Location::Init { class }),
-        Spot::Head { object } => push_location(out, p, made, &Location::Head { object }),
-        Spot::Field { object, field } => {
+        LocationKey::Static { field } => push_location(out, p, made, &Location::Static { field }),
+        LocationKey::Init { class } => push_location(out, p, made, &Location::Init { class }),
+        LocationKey::Head { object } => push_location(out, p, made, &Location::Head { object }),
+        LocationKey::Field { object, field } => {
             push_location(out, p, made, &Location::Field { object, field })
         }
-        Spot::Elem { object, index } => {
+        LocationKey::Elem { object, index } => {
             push_location(out, p, made, &Location::Elem { object, index })
         }
-        Spot::Text { object } => push_location(out, p, made, &Location::Text { object }),
-        Spot::Named { name } => match names.get(name as usize) {
+        LocationKey::Text { object } => push_location(out, p, made, &Location::Text { object }),
+        LocationKey::Named { name } => match names.get(name as usize) {
             None => push_location(out, p, made, &Location::Static { field: 0 }),
             Some(location) => push_location(out, p, made, location),
         },
@@ -221,7 +221,7 @@ fn push_shown(
     made: &[u64],
     names: &[Location],
     rows: &[Row],
-    walks: &[Items<Items<Spot>>],
+    walks: &[Items<Items<LocationKey>>],
     shown: &mut Items<Shown>,
 ) -> Result<(), NoMemory>
     ensures { OnOk result (shown.new ≡ shown.old ++ shown_rows p.now (own.owner_in made.now) names.now rows.now walks.now) }

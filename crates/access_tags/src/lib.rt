@@ -4,13 +4,15 @@
 ghost use Rattle.access_tags.specs.Tag.{TagsLaw, RowsLaw};
 ghost use Rattle.access_tags.specs.Worlds.{NumbersLaw, ChangesLaw};
 
+mod access_log;
 mod cells;
+mod conflict;
+mod discovery_tree;
 mod ended;
 mod found;
 mod heads;
-mod hit;
+mod interval;
 mod mark;
-mod meetings;
 mod memory;
 mod names;
 mod noting;
@@ -22,11 +24,9 @@ mod room;
 mod rows;
 mod settled;
 mod shown_text;
-mod stretch;
 mod table;
 mod tags;
 mod texts;
-mod trail;
 
 pub use memory::TaggedMemory;
 

@@ -12,16 +12,16 @@ ghost use Rattle.std.specs.List.{list_all};
 ghost use Rattle.order_law.specs.Reach.{IsReachIn};
 ghost use Rattle.order_law.specs.RecordForm.{is_place_text};
 ghost use Rattle.order_law.specs.Walk.{IsShownIn};
-ghost use Rattle.vm_mem.specs.Story.{Story, Adds, no_story};
+ghost use Rattle.vm_mem.specs.Trace.{Trace, Extends, empty_trace};
 ghost use Rattle.access_tags.specs.Followed.{Follows, HasNoted, IsEnded, IsNamed};
 ghost use Rattle.access_tags.specs.Settled.{reads_out_alone};
-ghost use Rattle.access_tags.specs.Ran.{HaveWalks, kinds_in, owner_by, story_to, touched_by};
+ghost use Rattle.access_tags.specs.Ran.{HaveWalks, kinds_in, owner_by, trace_to, touched_by};
 
+use crate::conflict::LocationKey;
+use crate::discovery_tree::DiscoveryTree;
 use crate::ended::Ended;
 use crate::found::{found_of, made_of};
 use crate::heads::Heads;
-use crate::hit::Spot;
-use crate::meetings::Meetings;
 use crate::names::Names;
 use crate::noting::{elements, note_made, note_part};
 use crate::numbers::Numbers;
@@ -44,7 +44,7 @@ pub struct TaggedMemory {
     tags: Tags,
     numbers: Numbers,
     names: Names,
-    meetings: Meetings,
+    discovery_tree: DiscoveryTree,
     heads: Heads,
     ended: Items<Ended>,
     test: u32,
@@ -59,7 +59,7 @@ impl TaggedMemory {
         requires { Linked p.now }
         ensures program { IfOk result (λ m. ⟦<TaggedMemory as Memory>⟧.program m ≡ p.now) }
         ensures world { IfOk result (λ m. ⟦<TaggedMemory as Memory>⟧.world m ≡ suite.opening p.now) }
-        ensures follows { IfOk result (λ m. ⟦<TaggedMemory as Memory>⟧.follows m no_story []) }
+        ensures follows { IfOk result (λ m. ⟦<TaggedMemory as Memory>⟧.follows m empty_trace []) }
     {
         let mut tags = Tags::new(alloc);
         tags.grow(p.fields.len() as u64)?;
@@ -69,7 +69,7 @@ impl TaggedMemory {
             tags,
             numbers: Numbers::of(alloc, p)?,
             names: Names::new(alloc),
-            meetings: Meetings::new(alloc),
+            discovery_tree: DiscoveryTree::new(alloc),
             heads: Heads::new(alloc, p.classes.len() as u32),
             ended: Items::new(alloc),
             test: 0,
@@ -81,10 +81,10 @@ impl TaggedMemory {
     /// follows such a run, the edges are those of the touches, in the record's order; and where to each object at a place
     /// of conflict there is a walk of reads, it is shown. The text of each edge is in the form of a record.
     pub fn found(&self, p: &Program) -> Result<(Items<Edge>, Items<Shown>), NoMemory>
-        ensures edges { IfOk result (λ x. (T : Touches) → ⟦<TaggedMemory as Memory>⟧.follows self.now (story_to T (length p.now.tests)) (touched_by T (length p.now.tests))
+        ensures edges { IfOk result (λ x. (T : Touches) → ⟦<TaggedMemory as Memory>⟧.follows self.now (trace_to T (length p.now.tests)) (touched_by T (length p.now.tests))
             → x.0 ≡ edges_in p.now T (owner_by p.now T)) }
         ensures printed { IfOk result (λ x. list_all (λ e. is_place_text e.first) x.0 ≡ true) }
-        ensures shown { IfOk result (λ x. (T : Touches) → ⟦<TaggedMemory as Memory>⟧.follows self.now (story_to T (length p.now.tests)) (touched_by T (length p.now.tests))
+        ensures shown { IfOk result (λ x. (T : Touches) → ⟦<TaggedMemory as Memory>⟧.follows self.now (trace_to T (length p.now.tests)) (touched_by T (length p.now.tests))
             → HaveWalks p.now T → PairedList (IsShownIn p.now T (owner_by p.now T)) x.0 x.1) }
     {
         if self.test == 0 {
@@ -103,7 +103,7 @@ impl TaggedMemory {
     /// and whether the test is settled. There is no memory for the reach of a program with another number of classes.
     pub fn reaches(&self, p: &Program) -> Result<Items<Reach>, NoMemory>
         ensures each { IfOk result (λ rs. length rs ≡ length p.now.tests) }
-        ensures reach { IfOk result (λ rs. (T : Touches) → ⟦<TaggedMemory as Memory>⟧.follows self.now (story_to T (length p.now.tests)) (touched_by T (length p.now.tests))
+        ensures reach { IfOk result (λ rs. (T : Touches) → ⟦<TaggedMemory as Memory>⟧.follows self.now (trace_to T (length p.now.tests)) (touched_by T (length p.now.tests))
             → (i : ℕ) (r : Reached) → slice_get rs i ≡ Some r
             → IsReachIn p.now T (kinds_in (⟦<TaggedMemory as Memory>⟧.world self.now)) (i + 1) r) }
     {
@@ -117,7 +117,7 @@ impl TaggedMemory {
 
     /// Of each test that began whether its exposed reads are of the static `System.out` alone.
     fn alone(&self) -> Result<Vec<bool>, NoMemory>
-        ensures { IfOk result (λ xs. (T : Touches) (n : ℕ) → Follows self.now (story_to T n) (touched_by T n) → (i : ℕ) → i < n → get_or xs.items i false ≡ reads_out_alone T (i + 1)) }
+        ensures { IfOk result (λ xs. (T : Touches) (n : ℕ) → Follows self.now (trace_to T n) (touched_by T n) → (i : ℕ) → i < n → get_or xs.items i false ≡ reads_out_alone T (i + 1)) }
     {
         let mut alone = Vec::new(self.alloc);
         for test in self.ended.as_slice() {
@@ -131,7 +131,7 @@ impl TaggedMemory {
     /// with the kind of its object. It makes no object.
     fn note(
         &mut self,
-        spot: Spot,
+        spot: LocationKey,
         write: bool,
         gave: Option<u64>,
         kind: Option<Kind>,
@@ -140,7 +140,7 @@ impl TaggedMemory {
         ensures told { OnOk result (HasNoted self.old self.new spot write gave kind) }
     {
         note_part(&self.numbers, &mut self.tags, spot, write)?;
-        self.meetings.note(self.test, spot, write, gave)?;
+        self.discovery_tree.note(self.test, spot, write, gave)?;
         self.heads.note_touch(self.test, kind)?;
         Ok(())
     }
@@ -149,7 +149,7 @@ impl TaggedMemory {
     fn name_number(&mut self, part: Part, name: &Units) -> Result<u32, NoMemory>
         ensures memory { self.new.memory ≡ self.old.memory }
         ensures number { IfOk result (λ k. IsNamed self.new.names (place_in part name.now) k) }
-        ensures told { OnOk result ((h : Story) (ts : List Touch) → Follows self.old h ts → Follows self.new h ts) }
+        ensures told { OnOk result ((h : Trace) (ts : List Touch) → Follows self.old h ts → Follows self.new h ts) }
     {
         let at = self.names.find(part, name);
         if at > u32::MAX as usize {
@@ -166,23 +166,23 @@ impl TaggedMemory {
     /// Notes one more touch of a file or property.
     fn note_name(&mut self, part: Part, name: &Units, write: bool) -> Result<(), NoMemory>
         ensures memory { self.new.memory ≡ self.old.memory }
-        ensures told { OnOk result (Adds Follows self.old self.new (record { write = write; location = place_in part name.now; gave = None } ∷ [])) }
+        ensures told { OnOk result (Extends Follows self.old self.new (record { write = write; location = place_in part name.now; gave = None } ∷ [])) }
     {
         let number = self.name_number(part, name)?;
         self.tags
-            .note(Spot::Named { name: number }, number as u64, write)?;
+            .note(LocationKey::Named { name: number }, number as u64, write)?;
         Ok(())
     }
 
     /// What is kept of the running test when it ends.
     fn summary(&self) -> Result<Ended, NoMemory>
         requires { 0 < self.now.test }
-        ensures { IfOk result (λ x. (h : Story) (ts : List Touch) (T : Touches) → Follows self.now h ts → h ≡ story_to T h.test → T h.test ≡ ts → IsEnded T self.now.names h.test x) }
+        ensures { IfOk result (λ x. (h : Trace) (ts : List Touch) (T : Touches) → Follows self.now h ts → h ≡ trace_to T h.test → T h.test ≡ ts → IsEnded T self.now.names h.test x) }
     {
         let mut rows = Items::new(self.alloc);
         self.tags.push_rows(self.alloc, self.test, &mut rows)?;
         let walks = self
-            .meetings
+            .discovery_tree
             .walks_of_rows(self.alloc, self.test, rows.as_slice())?;
         Ok(Ended {
             rows,
@@ -214,72 +214,77 @@ impl Memory for TaggedMemory {
 
     fn get_static(&mut self, field: u32) -> Result<Value, NoMemory> {
         let v = self.memory.get_static(field)?;
-        self.note(Spot::Static { field }, false, v.object(), None)?;
+        self.note(LocationKey::Static { field }, false, v.object(), None)?;
         Ok(v)
     }
 
     fn put_static(&mut self, field: u32, v: Value) -> Result<(), NoMemory> {
         self.memory.put_static(field, v)?;
-        self.note(Spot::Static { field }, true, None, None)?;
+        self.note(LocationKey::Static { field }, true, None, None)?;
         Ok(())
     }
 
     fn get_init(&mut self, class: u32) -> Result<InitState, NoMemory> {
         let s = self.memory.get_init(class)?;
-        self.note(Spot::Init { class }, false, None, None)?;
+        self.note(LocationKey::Init { class }, false, None, None)?;
         Ok(s)
     }
 
     fn put_init(&mut self, class: u32, s: InitState) -> Result<(), NoMemory> {
         self.memory.put_init(class, s)?;
-        self.note(Spot::Init { class }, true, None, None)?;
+        self.note(LocationKey::Init { class }, true, None, None)?;
         Ok(())
     }
 
     fn head(&mut self, object: u64) -> Result<Head, NoMemory> {
         let head = self.memory.head(object)?;
-        self.note(Spot::Head { object }, false, None, Some(head.kind))?;
+        self.note(LocationKey::Head { object }, false, None, Some(head.kind))?;
         Ok(head)
     }
 
     fn get_field(&mut self, object: u64, field: u32) -> Result<Value, NoMemory> {
         let v = self.memory.get_field(object, field)?;
-        self.note(Spot::Field { object, field }, false, v.object(), None)?;
+        self.note(
+            LocationKey::Field { object, field },
+            false,
+            v.object(),
+            None,
+        )?;
         Ok(v)
     }
 
     fn put_field(&mut self, object: u64, field: u32, v: Value) -> Result<(), NoMemory> {
         self.memory.put_field(object, field, v)?;
-        self.note(Spot::Field { object, field }, true, None, None)?;
+        self.note(LocationKey::Field { object, field }, true, None, None)?;
         Ok(())
     }
 
     fn get_elem(&mut self, object: u64, index: u32) -> Result<Value, NoMemory> {
         let v = self.memory.get_elem(object, index)?;
-        self.note(Spot::Elem { object, index }, false, v.object(), None)?;
+        self.note(LocationKey::Elem { object, index }, false, v.object(), None)?;
         Ok(v)
     }
 
     fn put_elem(&mut self, object: u64, index: u32, v: Value) -> Result<(), NoMemory> {
         self.memory.put_elem(object, index, v)?;
-        self.note(Spot::Elem { object, index }, true, None, None)?;
+        self.note(LocationKey::Elem { object, index }, true, None, None)?;
         Ok(())
     }
 
     fn get_text(&mut self, object: u64) -> Result<&Units, NoMemory> {
-        self.note(Spot::Text { object }, false, None, None)?;
+        self.note(LocationKey::Text { object }, false, None, None)?;
         self.memory.get_text(object)
     }
 
     fn put_text(&mut self, object: u64, u: Units) -> Result<(), NoMemory> {
         self.memory.put_text(object, u)?;
-        self.note(Spot::Text { object }, true, None, None)?;
+        self.note(LocationKey::Text { object }, true, None, None)?;
         Ok(())
     }
 
     fn append_text(&mut self, object: u64, more: &[u16]) -> Result<(), NoMemory> {
         self.memory.append_text(object, more)?;
-        self.note(Spot::Text { object }, true, None, None)?;
+        self.note(LocationKey::Text { object }, true, None, None)?;
         Ok(())
     }
 

@@ -10,7 +10,7 @@ ghost use Rattle.jvm_model.specs.declared.values.Touch.{Touch};
 ghost use Rattle.access_tags.specs.Followed.{HaveNoted, HaveSameRoom, IsNumbered, numbering_in};
 ghost use Rattle.access_tags.specs.Numbering.{is_name, located};
 
-use crate::hit::Spot;
+use crate::conflict::LocationKey;
 use crate::numbers::Numbers;
 use crate::tags::Tags;
 use et_base::NoMemory;
@@ -20,7 +20,7 @@ use jvm_model::{Head, Kind, Value};
 pub fn note_part(
     numbers: &Numbers,
     tags: &mut Tags,
-    spot: Spot,
+    spot: LocationKey,
     write: bool,
 ) -> Result<(), NoMemory>
     ensures room { HaveSameRoom tags.old tags.new }
@@ -47,7 +47,7 @@ fn note_fields(
 {
     for (field, _) in fields {
         let field = *field;
-        note_part(numbers, tags, Spot::Field { object, field }, true)?;
+        note_part(numbers, tags, LocationKey::Field { object, field }, true)?;
     }
     Ok(())
 }
@@ -59,7 +59,7 @@ fn note_elems(numbers: &Numbers, tags: &mut Tags, object: u64, elems: u32) -> Re
         → HaveNoted (numbering_in w names) tags.old tags.new (elems_made object 0 (object_at w object).elems)) }
 {
     for index in 0..elems {
-        note_part(numbers, tags, Spot::Elem { object, index }, true)?;
+        note_part(numbers, tags, LocationKey::Elem { object, index }, true)?;
     }
     Ok(())
 }
@@ -75,7 +75,7 @@ pub fn note_made(
     ensures told { OnOk result ((w : World) (names : List Location) → IsNumbered w numbers.now → object < size w → object_at w object ≡ blank numbers.now.places head
         → HaveNoted (numbering_in w names) tags.old tags.new (made object (blank numbers.now.places head))) }
 {
-    note_part(numbers, tags, Spot::Head { object }, true)?;
+    note_part(numbers, tags, LocationKey::Head { object }, true)?;
     note_fields(numbers, tags, object, numbers.fields(head.kind))?;
     note_elems(numbers, tags, object, elements(head))?;
     Ok(())

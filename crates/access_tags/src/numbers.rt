@@ -9,7 +9,7 @@ ghost use Rattle.access_tags.specs.Followed.{IsNumbered};
 ghost use Rattle.access_tags.specs.Numbering.{is_name, located};
 ghost use Rattle.access_tags.specs.Worlds.{number_in};
 
-use crate::hit::Spot;
+use crate::conflict::LocationKey;
 use et_base::NoMemory;
 use jvm_model::{Kind, Program, Value};
 use std::alloc::Global;
@@ -44,18 +44,21 @@ impl Numbers {
     }
 
     /// The number of a location that is there, but a file or property. Takes no memory.
-    pub fn number(&self, spot: Spot) -> Option<u64>
+    pub fn number(&self, spot: LocationKey) -> Option<u64>
         ensures { IfSome result (λ n. (w : World) → IsNumbered w self.now → is_name spot ≡ false → Exists w (located [] spot)
             → n ≡ number_in w (located [] spot)) }
     {
         match spot {
-            Spot::Static { field } => Some(field as u64),
-            Spot::Init { class } => self.statics.checked_add(class as u64),
-            Spot::Head { object } => self.part(object, 0),
-            Spot::Text { object } => self.part(object, 1),
-            Spot::Field { object, field } => self.field_part(object, self.places.place(field)),
-            Spot::Elem { object, index } => self.part(object, 2 + index as u64),
-            Spot::Named { .. } => None,
+            LocationKey::Static { field } => Some(field as u64),
+            LocationKey::Init { class } => self.statics.checked_add(class as u64),
+            LocationKey::Head { object } => self.part(object, 0),
+            LocationKey::Text { object } => self.part(object, 1),
+            LocationKey::Field { object, field } => self.field_part(
+                object,
+                self.places.place(field),
+            ),
+            LocationKey::Elem { object, index } => self.part(object, 2 + index as u64),
+            LocationKey::Named { .. } => None,
         }
     }
 

@@ -5,7 +5,7 @@ ghost use Rattle.jvm_model.specs.declared.values.Location.TheVariants as place;
 ghost use Rattle.order_law.specs.Walk.{read_text};
 ghost use Rattle.access_tags.specs.Numbering.{located};
 
-use crate::hit::Spot;
+use crate::conflict::LocationKey;
 use crate::settled::OUT;
 use crate::texts::push_field;
 use et_base::{Items, NoMemory, Text, push_decimal};
@@ -13,7 +13,7 @@ use jvm_model::Program;
 use std::alloc::Global;
 
 /// The texts of a walk's reads: `static CLASS.FIELD`, `field CLASS.FIELD` or `elem INDEX`.
-pub fn walk_texts(alloc: Global, p: &Program, walk: &[Spot]) -> Result<Items<Text>, NoMemory>
+pub fn walk_texts(alloc: Global, p: &Program, walk: &[LocationKey]) -> Result<Items<Text>, NoMemory>
     ensures { IfOk result (λ texts. texts ≡ map (λ x. read_text p.now (located [] x)) walk.now) }
 {
     let mut texts = Items::new(alloc);
@@ -26,17 +26,17 @@ pub fn walk_texts(alloc: Global, p: &Program, walk: &[Spot]) -> Result<Items<Tex
 }
 
 /// Appends the text of a read. A part of another sort has none; a name, which no walk reads, stands for the first static.
-fn push_read(out: &mut Text, p: &Program, spot: Spot) -> Result<(), NoMemory>
+fn push_read(out: &mut Text, p: &Program, spot: LocationKey) -> Result<(), NoMemory>
     ensures { OnOk result (out.new ≡ out.old ++ read_text p.now (located [] spot)) }
 {
     match spot {
-        Spot::Static { field } => push_static(out, p, field),
-        Spot::Named { .. } => push_static(out, p, OUT),
-        Spot::Field { field, .. } => {
+        LocationKey::Static { field } => push_static(out, p, field),
+        LocationKey::Named { .. } => push_static(out, p, OUT),
+        LocationKey::Field { field, .. } => {
             out.extend_from_slice(b"field ")?;
             push_field(out, p, field)
         }
-        Spot::Elem { index, .. } => {
+        LocationKey::Elem { index, .. } => {
             out.extend_from_slice(b"elem ")?;
             push_decimal(out, index as u64)
         }

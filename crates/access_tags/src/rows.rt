@@ -3,7 +3,7 @@
 ghost use Rattle.std.specs.Prelude.{◌≡◌, ◌+◌, ◌*◌, ◌<◌, ◌≤◌, ◌++◌, ◌∷◌, [], ℕ, List, length, get_or, IfOk, OnOk};
 ghost use Rattle.access_tags.specs.Tag.{kind_number};
 
-use crate::hit::{Hit, Spot};
+use crate::conflict::{Conflict, LocationKey};
 use et_base::{Items, NoMemory};
 use order_law::EdgeKind;
 use std::alloc::Global;
@@ -18,13 +18,13 @@ pub struct Row {
     pub kind: EdgeKind,
     pub earlier: u32,
     pub count: u32,
-    pub spots: Items<Spot>,
+    pub spots: Items<LocationKey>,
 }
 
 impl Row {
     ghost use Rattle.order_law.specs.declared.edges.EdgeKind.{EdgeKind as Kind};
-    ghost use Rattle.access_tags.specs.declared.hit.Spot.{Spot as Part};
-    ghost use Rattle.access_tags.specs.declared.hit.Hit.{Hit as Found};
+    ghost use Rattle.access_tags.specs.declared.conflict.LocationKey.{LocationKey as Part};
+    ghost use Rattle.access_tags.specs.declared.conflict.Conflict.{Conflict as Found};
     ghost use Rattle.access_tags.specs.Rows.{row_with, row_of, rows_between, IsTable, key};
 
     /// No conflicts yet.
@@ -40,7 +40,7 @@ impl Row {
     }
 
     /// One more location.
-    fn add(&mut self, spot: Spot) -> Result<(), NoMemory>
+    fn add(&mut self, spot: LocationKey) -> Result<(), NoMemory>
         ensures { OnOk result ((k : Kind) (u : ℕ) (xs : List Part) → self.old ≡ row_with k u xs → self.new ≡ row_with k u (xs ++ spot ∷ [])) }
     {
         let Some(count) = self.count.checked_add(1) else {
@@ -68,16 +68,20 @@ impl Row {
     }
 
     /// One more conflict, which is left out where it is with no earlier test.
-    pub fn count(rows: &mut Vec<Row>, hit: Hit<Spot>, later: u32) -> Result<(), NoMemory>
+    pub fn count(
+        rows: &mut Vec<Row>,
+        conflict: Conflict<LocationKey>,
+        later: u32,
+    ) -> Result<(), NoMemory>
         requires { length rows.old.items ≡ 3 * later }
         ensures len { length rows.new.items ≡ length rows.old.items }
-        ensures table { OnOk result ((hs : List (Found Part)) → IsTable later hs rows.old.items → IsTable later (hs ++ hit ∷ []) rows.new.items) }
+        ensures table { OnOk result ((hs : List (Found Part)) → IsTable later hs rows.old.items → IsTable later (hs ++ conflict ∷ []) rows.new.items) }
     {
-        if hit.earlier >= later {
+        if conflict.earlier >= later {
             return Ok(());
         }
-        let row = &mut rows[3 * hit.earlier as usize + number(hit.kind)];
-        row.add(hit.place)?;
+        let row = &mut rows[3 * conflict.earlier as usize + number(conflict.kind)];
+        row.add(conflict.place)?;
         Ok(())
     }
 

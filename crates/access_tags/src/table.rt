@@ -3,7 +3,7 @@
 ghost use Rattle.std.specs.Prelude.{◌≡◌, ◌*◌, ◌<◌, ◌++◌, [], List, length, IfOk, OnOk};
 ghost use Rattle.access_tags.specs.Rows.{rows_to};
 
-use crate::hit::{Hit, Spot};
+use crate::conflict::{Conflict, LocationKey};
 use crate::rows::Row;
 use et_base::{Items, NoMemory};
 use std::alloc::Global;
@@ -17,8 +17,8 @@ pub struct Table {
 }
 
 impl Table {
-    ghost use Rattle.access_tags.specs.declared.hit.Spot.{Spot as Part};
-    ghost use Rattle.access_tags.specs.declared.hit.Hit.{Hit as Found};
+    ghost use Rattle.access_tags.specs.declared.conflict.LocationKey.{LocationKey as Part};
+    ghost use Rattle.access_tags.specs.declared.conflict.Conflict.{Conflict as Found};
     ghost use Rattle.access_tags.specs.Counted.{Counts, HaveCounted};
 
     /// No conflicts of a test with this number.
@@ -33,11 +33,11 @@ impl Table {
     }
 
     /// More conflicts, of which one with no earlier test is left out.
-    pub fn add_all(&mut self, hits: &[Hit<Spot>]) -> Result<(), NoMemory>
-        ensures { OnOk result (HaveCounted self.old self.new hits.now) }
+    pub fn add_all(&mut self, conflicts: &[Conflict<LocationKey>]) -> Result<(), NoMemory>
+        ensures { OnOk result (HaveCounted self.old self.new conflicts.now) }
     {
-        for hit in hits {
-            Row::count(&mut self.rows, *hit, self.later)?;
+        for conflict in conflicts {
+            Row::count(&mut self.rows, *conflict, self.later)?;
         }
         Ok(())
     }

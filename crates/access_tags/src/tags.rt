@@ -4,21 +4,21 @@ ghost use Rattle.std.specs.Prelude.{◌≡◌, ◌+◌, ◌<◌, ◌≤◌, ◌^
 ghost use Rattle.std.specs.List.{list_all};
 ghost use Rattle.jvm_model.specs.declared.values.Location.{Location};
 ghost use Rattle.jvm_model.specs.World.{same};
-ghost use Rattle.access_tags.specs.Tag.{ended, hits_at, is_new, noted};
+ghost use Rattle.access_tags.specs.Tag.{ended, conflicts_at, is_new, noted};
 ghost use Rattle.access_tags.specs.Counted.{HaveCounted};
 ghost use Rattle.access_tags.specs.HaveEnded.{HaveEnded};
-ghost use Rattle.access_tags.specs.Numbering.{Numbering, are_alone, hits_in, is_alone, is_name, tag_at};
+ghost use Rattle.access_tags.specs.Numbering.{Numbering, are_alone, conflicts_in, is_alone, is_name, tag_at};
 ghost use Rattle.access_tags.specs.Shelf.{tag_in, count};
 ghost use Rattle.access_tags.specs.Within.{room, AreWithin};
-ghost use Rattle.access_tags.specs.Stretches.{parts, parts_of};
+ghost use Rattle.access_tags.specs.Intervals.{parts, parts_of};
 
+use crate::access_log::AccessLog;
 use crate::cells::Cells;
-use crate::hit::{Hit, Spot, Touched};
+use crate::conflict::{Conflict, LocationKey, Touched};
+use crate::interval::Interval;
 use crate::mark::Mark;
 use crate::rows::Row;
-use crate::stretch::Stretch;
 use crate::table::Table;
-use crate::trail::Trail;
 use et_base::{Items, NoMemory};
 use std::alloc::Global;
 
@@ -28,8 +28,8 @@ use std::alloc::Global;
 pub struct Tags {
     cells: Cells,
     named: Cells,
-    touched: Trail,
-    ghost within: { AreWithin cells named (parts touched.stretches) },
+    touched: AccessLog,
+    ghost within: { AreWithin cells named (parts touched.intervals) },
 }
 
 impl Tags {
@@ -53,7 +53,7 @@ impl Tags {
         Tags {
             cells: Cells::new(alloc),
             named: Cells::new(alloc),
-            touched: Trail::new(alloc),
+            touched: AccessLog::new(alloc),
         }
     }
 
@@ -82,11 +82,11 @@ impl Tags {
     }
 
     /// How many locations there are of the spot's sort. Takes no memory.
-    fn room(&self, spot: Spot) -> u64
+    fn room(&self, spot: LocationKey) -> u64
         ensures { result ≡ room self.now.cells self.now.named spot }
     {
         match spot {
-            Spot::Named { .. } => self.named.len(),
+            LocationKey::Named { .. } => self.named.len(),
             _ => self.cells.len(),
         }
     }
@@ -99,7 +99,7 @@ impl Tags {
     }
 
     /// One more touch of a part by the running test. There is no memory for a part past the locations.
-    pub fn note(&mut self, spot: Spot, at: u64, write: bool) -> Result<(), NoMemory>
+    pub fn note(&mut self, spot: LocationKey, at: u64, write: bool) -> Result<(), NoMemory>
         ensures cells { count self.new.cells ≡ count self.old.cells }
         ensures named { count self.new.named ≡ count self.old.named }
         ensures stands { OnOk result ((n : Numbering) (T : Touches) (t : ℕ) (ts : List Touch) (x : Touch) → IsPlaced n (record { spot = spot; at = at }) → x.write ≡ write
@@ -123,12 +123,12 @@ impl Tags {
             → (xs : List Found) × (rows.new ≡ rows.old ++ xs) × (map (shown_by p by n.names test) xs ≡ map (with_places T test) (edges_at p T by test))) }
     {
         let mut table = Table::new(alloc, test)?;
-        let mut hits = Vec::new(alloc);
+        let mut conflicts = Vec::new(alloc);
         count_all(
             &self.cells,
             &self.named,
             &self.touched,
-            &mut hits,
+            &mut conflicts,
             &mut table,
         )?;
         table.push_rows(alloc, rows)?;
@@ -161,7 +161,7 @@ impl Tags {
 }
 
 /// One more touch of a part. Answers whether it is the first.
-fn note(cells: &mut Cells, named: &mut Cells, spot: Spot, at: u64, write: bool) -> bool
+fn note(cells: &mut Cells, named: &mut Cells, spot: LocationKey, at: u64, write: bool) -> bool
     requires { at < room cells.old named.old spot }
     ensures first { result ≡ is_new (tag_at (tag_in cells.old) (tag_in named.old) (record { spot = spot; at = at })).mark }
     ensures cells_count { count cells.new ≡ count cells.old }
@@ -172,13 +172,13 @@ fn note(cells: &mut Cells, named: &mut Cells, spot: Spot, at: u64, write: bool) 
         ≡ cond (is_name spot && nat_eq l at) (noted write (tag_in named.old at)) (tag_in named.old l) }
 {
     match spot {
-        Spot::Named { .. } => named.note(at, write),
+        LocationKey::Named { .. } => named.note(at, write),
         _ => cells.note(at, write),
     }
 }
 
 /// What a test did at a part joins what earlier tests did there.
-fn settle(cells: &mut Cells, named: &mut Cells, part: Touched, test: u32) -> Result<(), NoMemory>
+fn fold(cells: &mut Cells, named: &mut Cells, part: Touched, test: u32) -> Result<(), NoMemory>
     requires { part.at < room cells.old named.old part.spot }
     ensures cells_count { count cells.new ≡ count cells.old }
     ensures named_count { count named.new ≡ count named.old }
@@ -188,8 +188,8 @@ fn settle(cells: &mut Cells, named: &mut Cells, part: Touched, test: u32) -> Res
         ≡ cond (is_name part.spot && nat_eq l part.at) (ended test (tag_in named.old part.at)) (tag_in named.old l)) }
 {
     match part.spot {
-        Spot::Named { .. } => named.settle(part.at, test),
-        _ => cells.settle(part.at, test),
+        LocationKey::Named { .. } => named.fold(part.at, test),
+        _ => cells.fold(part.at, test),
     }
 }
 
@@ -199,25 +199,25 @@ fn mark(cells: &Cells, named: &Cells, part: Touched) -> Mark
     ensures { result ≡ (tag_at (tag_in cells.now) (tag_in named.now) part).mark }
 {
     match part.spot {
-        Spot::Named { .. } => named.mark(part.at),
+        LocationKey::Named { .. } => named.mark(part.at),
         _ => cells.mark(part.at),
     }
 }
 
 /// Adds the conflicts at a part.
-fn gather(
+fn collect(
     cells: &Cells,
     named: &Cells,
     part: Touched,
-    hits: &mut Vec<Hit<Spot>>,
+    conflicts: &mut Vec<Conflict<LocationKey>>,
 ) -> Result<(), NoMemory>
     requires { part.at < room cells.now named.now part.spot }
-    ensures { OnOk result (hits.new.items ≡ hits.old.items
-        ++ hits_at part.spot (tag_at (tag_in cells.now) (tag_in named.now) part)) }
+    ensures { OnOk result (conflicts.new.items ≡ conflicts.old.items
+        ++ conflicts_at part.spot (tag_at (tag_in cells.now) (tag_in named.now) part)) }
 {
     match part.spot {
-        Spot::Named { .. } => named.gather(part.at, part.spot, hits),
-        _ => cells.gather(part.at, part.spot, hits),
+        LocationKey::Named { .. } => named.collect(part.at, part.spot, conflicts),
+        _ => cells.collect(part.at, part.spot, conflicts),
     }
 }
 
@@ -230,15 +230,15 @@ fn reads_alone_at(cells: &Cells, named: &Cells, part: Touched, field: u32) -> bo
     !mark.exposed || part.spot.is_static(field)
 }
 
-/// Whether each exposed read of a test among the parts of a stretch is of this static.
+/// Whether each exposed read of a test among the parts of an interval is of this static.
 #[tactic(auto, using(crate::proofs::Spanned::all_to))]
-fn reads_alone(cells: &Cells, named: &Cells, stretch: Stretch, field: u32) -> bool
-    requires within { AreWithin cells.now named.now (parts_of stretch) }
-    requires order { stretch.first ≤ stretch.end }
-    ensures { result ≡ are_alone (tag_in cells.now) (tag_in named.now) field (parts_of stretch) }
+fn reads_alone(cells: &Cells, named: &Cells, interval: Interval, field: u32) -> bool
+    requires within { AreWithin cells.now named.now (parts_of interval) }
+    requires order { interval.first ≤ interval.end }
+    ensures { result ≡ are_alone (tag_in cells.now) (tag_in named.now) field (parts_of interval) }
 {
-    for index in stretch.first..stretch.end {
-        if !reads_alone_at(cells, named, stretch.part(index), field) {
+    for index in interval.first..interval.end {
+        if !reads_alone_at(cells, named, interval.part(index), field) {
             return false;
         }
     }
@@ -250,33 +250,33 @@ fn count_part(
     cells: &Cells,
     named: &Cells,
     part: Touched,
-    hits: &mut Vec<Hit<Spot>>,
+    conflicts: &mut Vec<Conflict<LocationKey>>,
     table: &mut Table,
 ) -> Result<(), NoMemory>
     requires { part.at < room cells.now named.now part.spot }
     ensures { OnOk result (HaveCounted table.old table.new
-        (hits_at part.spot (tag_at (tag_in cells.now) (tag_in named.now) part))) }
+        (conflicts_at part.spot (tag_at (tag_in cells.now) (tag_in named.now) part))) }
 {
-    hits.clear();
-    gather(cells, named, part, hits)?;
-    table.add_all(hits)
+    conflicts.clear();
+    collect(cells, named, part, conflicts)?;
+    table.add_all(conflicts)
 }
 
-/// Counts the conflicts at the parts of a stretch.
-fn count_stretch(
+/// Counts the conflicts at the parts of an interval.
+fn count_interval(
     cells: &Cells,
     named: &Cells,
-    stretch: Stretch,
-    hits: &mut Vec<Hit<Spot>>,
+    interval: Interval,
+    conflicts: &mut Vec<Conflict<LocationKey>>,
     table: &mut Table,
 ) -> Result<(), NoMemory>
-    requires within { AreWithin cells.now named.now (parts_of stretch) }
-    requires order { stretch.first ≤ stretch.end }
+    requires within { AreWithin cells.now named.now (parts_of interval) }
+    requires order { interval.first ≤ interval.end }
     ensures { OnOk result (HaveCounted table.old table.new
-        (hits_in (tag_in cells.now) (tag_in named.now) (parts_of stretch))) }
+        (conflicts_in (tag_in cells.now) (tag_in named.now) (parts_of interval))) }
 {
-    for index in stretch.first..stretch.end {
-        count_part(cells, named, stretch.part(index), hits, table)?;
+    for index in interval.first..interval.end {
+        count_part(cells, named, interval.part(index), conflicts, table)?;
     }
     Ok(())
 }
@@ -285,36 +285,36 @@ fn count_stretch(
 fn count_all(
     cells: &Cells,
     named: &Cells,
-    touched: &Trail,
-    hits: &mut Vec<Hit<Spot>>,
+    touched: &AccessLog,
+    conflicts: &mut Vec<Conflict<LocationKey>>,
     table: &mut Table,
 ) -> Result<(), NoMemory>
-    requires { AreWithin cells.now named.now (parts touched.now.stretches) }
+    requires { AreWithin cells.now named.now (parts touched.now.intervals) }
     ensures { OnOk result (HaveCounted table.old table.new
-        (hits_in (tag_in cells.now) (tag_in named.now) (parts touched.now.stretches))) }
+        (conflicts_in (tag_in cells.now) (tag_in named.now) (parts touched.now.intervals))) }
 {
     for i in 0..touched.len() {
-        count_stretch(cells, named, touched.get(i), hits, table)?;
+        count_interval(cells, named, touched.get(i), conflicts, table)?;
     }
     Ok(())
 }
 
-/// What a test did at the parts of a stretch joins what earlier tests did there.
-fn settle_stretch(
+/// What a test did at the parts of an interval joins what earlier tests did there.
+fn fold_interval(
     cells: &mut Cells,
     named: &mut Cells,
-    stretch: Stretch,
+    interval: Interval,
     test: u32,
 ) -> Result<(), NoMemory>
-    requires within { AreWithin cells.old named.old (parts_of stretch) }
-    requires order { stretch.first ≤ stretch.end }
+    requires within { AreWithin cells.old named.old (parts_of interval) }
+    requires order { interval.first ≤ interval.end }
     ensures cells_count { count cells.new ≡ count cells.old }
     ensures named_count { count named.new ≡ count named.old }
     ensures tags { OnOk result (HaveEnded test (tag_in cells.old) (tag_in named.old)
-        (tag_in cells.new) (tag_in named.new) (parts_of stretch)) }
+        (tag_in cells.new) (tag_in named.new) (parts_of interval)) }
 {
-    for index in stretch.first..stretch.end {
-        settle(cells, named, stretch.part(index), test)?;
+    for index in interval.first..interval.end {
+        fold(cells, named, interval.part(index), test)?;
     }
     Ok(())
 }
@@ -323,17 +323,17 @@ fn settle_stretch(
 fn settle_all(
     cells: &mut Cells,
     named: &mut Cells,
-    touched: &Trail,
+    touched: &AccessLog,
     test: u32,
 ) -> Result<(), NoMemory>
-    requires { AreWithin cells.old named.old (parts touched.now.stretches) }
+    requires { AreWithin cells.old named.old (parts touched.now.intervals) }
     ensures cells_count { count cells.new ≡ count cells.old }
     ensures named_count { count named.new ≡ count named.old }
     ensures tags { OnOk result (HaveEnded test (tag_in cells.old) (tag_in named.old)
-        (tag_in cells.new) (tag_in named.new) (parts touched.now.stretches)) }
+        (tag_in cells.new) (tag_in named.new) (parts touched.now.intervals)) }
 {
     for i in 0..touched.len() {
-        settle_stretch(cells, named, touched.get(i), test)?;
+        fold_interval(cells, named, touched.get(i), test)?;
     }
     Ok(())
 }

@@ -14,13 +14,13 @@ use Rattle.jvm_model.specs.Entries.{slots_of, filled, frame_of}
 use Rattle.jvm_model.specs.Linked.{IsMethod}
 use Rattle.type_frames.specs.declared.vtype.VType.{VType}
 use Rattle.type_frames.specs.declared.vtype.VType.TheVariants.{Top, Int, Long, Null, Object, UninitThis, Uninit}
-use Rattle.type_frames.specs.declared.sides.Need.{Need}
-use Rattle.type_frames.specs.declared.sides.Need.TheVariants.{Fits, Half, Never}
+use Rattle.type_frames.specs.declared.stack_effect.OperandConstraint.{OperandConstraint}
+use Rattle.type_frames.specs.declared.stack_effect.OperandConstraint.TheVariants.{Fits, Half, Never}
 use Rattle.type_frames.specs.Frames.{spread, padded}
 use Rattle.type_frames.specs.Descriptors.{types_of, class_name}
 use Rattle.type_frames.specs.Given.{entry_types, given_frames}
 use Rattle.type_frames.specs.Environment.{Environment, environment_of}
-use Rattle.type_frames.specs.Sides.{needs_of}
+use Rattle.type_frames.specs.StackEffect.{needs_of}
 use Rattle.type_frames.specs.Rules.{opening, meet_all}
 use Rattle.type_frames.specs.Typing.{IsTyped}
 use Rattle.type_frames.specs.TypedState.{IsInRange, HaveTypes, Goes}
@@ -39,7 +39,7 @@ data SortOfText (t : List ℕ) : Type 0 where
   int_text : needs_of t ≡ Fits Int ∷ [] → types_of t ≡ Int ∷ [] → SortOfText t
   long_text : needs_of t ≡ Half ∷ Fits Long ∷ [] → types_of t ≡ Long ∷ [] → SortOfText t
   object_text : (a : List ℕ) → needs_of t ≡ Fits (Object a) ∷ [] → types_of t ≡ Object a ∷ [] → SortOfText t
-  never_text : (ns : List Need) → needs_of t ≡ Never ∷ ns → SortOfText t
+  never_text : (ns : List OperandConstraint) → needs_of t ≡ Never ∷ ns → SortOfText t
 
 sort_of_text : (t : List ℕ) → IsText t → SortOfText t
 sort_of_text [] h = absurd (cc)
@@ -104,7 +104,7 @@ arguments_reverse p w (t ∷ ts) [] h = absurd h
 
 -- ---- taking arguments off the operands
 
-pub record Taken (p : Program) (w : World) (e : Environment) (ns : List Need) (start rest : List VType) (texts : List (List ℕ)) (vs : List Value) : Type 0 where
+pub record Taken (p : Program) (w : World) (e : Environment) (ns : List OperandConstraint) (start rest : List VType) (texts : List (List ℕ)) (vs : List Value) : Type 0 where
   pub args : List Value
   pub below : List Value
   pub types : List VType
@@ -119,43 +119,43 @@ drop_nil zero ts e = e
 drop_nil (suc k) [] e = refl
 drop_nil (suc k) (t ∷ ts) e = absurd (cc)
 
-drop_sum : (ns ms : List Need) (ts : List VType) → drop (length (ns ++ ms)) ts ≡ drop (length ms) (drop (length ns) ts)
+drop_sum : (ns ms : List OperandConstraint) (ts : List VType) → drop (length (ns ++ ms)) ts ≡ drop (length ms) (drop (length ns) ts)
 drop_sum [] ms ts = refl
 drop_sum (n ∷ ns) ms [] = sym (drop_nil (length ms) [] refl)
 drop_sum (n ∷ ns) ms (t ∷ ts) = drop_sum ns ms ts
 
 module _ (p : Program) (ty : IsTyped p) (w : World) (e : Environment) where
-  more_taken : (ns : List Need) (rest : List VType) (t : List ℕ) (texts : List (List ℕ)) (v : Value) (vs : List Value) (ts us : List VType) → Argument p w t v → drop (length (needs_of t)) ts ≡ us → Taken p w e ns us rest texts vs → Taken p w e ns ts rest (t ∷ texts) (v ∷ vs)
+  more_taken : (ns : List OperandConstraint) (rest : List VType) (t : List ℕ) (texts : List (List ℕ)) (v : Value) (vs : List Value) (ts us : List VType) → Argument p w t v → drop (length (needs_of t)) ts ≡ us → Taken p w e ns us rest texts vs → Taken p w e ns ts rest (t ∷ texts) (v ∷ vs)
   more_taken ns rest t texts v vs ts us a d k = record { dropped = drop_sum (needs_of t) (flat_map needs_of texts) ts ∙ (ap (drop (length (flat_map needs_of texts))) d ∙ k.dropped); args = v ∷ k.args; below = k.below; types = k.types; split = ap {B = List Value} (λ xs. v ∷ xs) k.split; count = ap suc k.count; typed = (a, k.typed); operands = k.operands }
 
-  one_fits : (u : VType) (ns : List Need) (ts rest : List VType) (v : Value) (vs : List Value) → IsPop (Fits u) → Operands p w e (Fits u ∷ ns) ts rest (v ∷ vs) → (us : List VType) × Is p w e u v × Operands p w e ns us rest vs × (drop 1 ts ≡ us)
+  one_fits : (u : VType) (ns : List OperandConstraint) (ts rest : List VType) (v : Value) (vs : List Value) → IsPop (Fits u) → Operands p w e (Fits u ∷ ns) ts rest (v ∷ vs) → (us : List VType) × Is p w e u v × Operands p w e ns us rest vs × (drop 1 ts ≡ us)
   one_fits u ns ts rest v vs i o = let x = popped p w e (Fits u) ns ts rest v vs i o in (x.below, is_fits p ty.linked w e x.type u v x.met x.is, x.operands, ap (drop 1) x.seen)
 
-  never_met : (ns : List Need) (ts rest : List VType) (vs : List Value) → Operands p w e (Never ∷ ns) ts rest vs → ⊥
+  never_met : (ns : List OperandConstraint) (ts rest : List VType) (vs : List Value) → Operands p w e (Never ∷ ns) ts rest vs → ⊥
   never_met ns [] rest vs o = let q : suc (length ns) ≤ 0 = o.enough in omega arith
   never_met ns (t ∷ ts) rest vs o = let q : false ≡ true = (and_parts false (meet_all p ns ts) o.met).0 in cc
 
-  pub take_args : (texts : List (List ℕ)) → AreTexts texts → (ns : List Need) (ts rest : List VType) (vs : List Value) → Operands p w e (flat_map needs_of texts ++ ns) ts rest vs → Taken p w e ns ts rest texts vs
+  pub take_args : (texts : List (List ℕ)) → AreTexts texts → (ns : List OperandConstraint) (ts rest : List VType) (vs : List Value) → Operands p w e (flat_map needs_of texts ++ ns) ts rest vs → Taken p w e ns ts rest texts vs
   take_args [] k ns ts rest vs o = record { args = []; below = vs; types = ts; split = refl; count = refl; typed = tt; operands = o; dropped = refl }
   take_args (t ∷ texts) k ns ts rest vs o = by (sort_of_text t k.0) vs o (λ us ws q. take_args texts k.1 ns us rest ws q)
     where
-      as_needs : (xs : List Need) (vs : List Value) → needs_of t ≡ xs → Operands p w e (flat_map needs_of (t ∷ texts) ++ ns) ts rest vs → Operands p w e ((xs ++ flat_map needs_of texts) ++ ns) ts rest vs
-      as_needs xs vs q o = subst (λ (ys : List Need). Operands p w e ((ys ++ flat_map needs_of texts) ++ ns) ts rest vs) q o
+      as_needs : (xs : List OperandConstraint) (vs : List Value) → needs_of t ≡ xs → Operands p w e (flat_map needs_of (t ∷ texts) ++ ns) ts rest vs → Operands p w e ((xs ++ flat_map needs_of texts) ++ ns) ts rest vs
+      as_needs xs vs q o = subst (λ (ys : List OperandConstraint). Operands p w e ((ys ++ flat_map needs_of texts) ++ ns) ts rest vs) q o
 
       by : SortOfText t → (vs : List Value) → Operands p w e (flat_map needs_of (t ∷ texts) ++ ns) ts rest vs
           → ((us : List VType) (ws : List Value) → Operands p w e (flat_map needs_of texts ++ ns) us rest ws → Taken p w e ns us rest texts ws) → Taken p w e ns ts rest (t ∷ texts) vs
       by (int_text q g) [] o f = absurd (none_there p w e (Fits Int) (flat_map needs_of texts ++ ns) ts rest (as_needs (Fits Int ∷ []) [] q o))
       by (int_text q g) (v ∷ ws) o f =
           let x = one_fits Int (flat_map needs_of texts ++ ns) ts rest v ws tt (as_needs (Fits Int ∷ []) (v ∷ ws) q o) in
-          more_taken ns rest t texts v ws ts x.0 (record { type = Int; is_type = g; plain = plain_int v x.1; range = x.1.range }) (ap (λ (ys : List Need). drop (length ys) ts) q ∙ x.3) (f x.0 ws x.2)
+          more_taken ns rest t texts v ws ts x.0 (record { type = Int; is_type = g; plain = plain_int v x.1; range = x.1.range }) (ap (λ (ys : List OperandConstraint). drop (length ys) ts) q ∙ x.3) (f x.0 ws x.2)
       by (object_text a q g) [] o f = absurd (none_there p w e (Fits (Object a)) (flat_map needs_of texts ++ ns) ts rest (as_needs (Fits (Object a) ∷ []) [] q o))
       by (object_text a q g) (v ∷ ws) o f =
           let x = one_fits (Object a) (flat_map needs_of texts ++ ns) ts rest v ws tt (as_needs (Fits (Object a) ∷ []) (v ∷ ws) q o) in
-          more_taken ns rest t texts v ws ts x.0 (record { type = Object a; is_type = g; plain = x.1.type; range = x.1.range }) (ap (λ (ys : List Need). drop (length ys) ts) q ∙ x.3) (f x.0 ws x.2)
+          more_taken ns rest t texts v ws ts x.0 (record { type = Object a; is_type = g; plain = x.1.type; range = x.1.range }) (ap (λ (ys : List OperandConstraint). drop (length ys) ts) q ∙ x.3) (f x.0 ws x.2)
       by (long_text q g) [] o f = absurd (none_there p w e Half (Fits Long ∷ (flat_map needs_of texts ++ ns)) ts rest (as_needs (Half ∷ Fits Long ∷ []) [] q o))
       by (long_text q g) (v ∷ ws) o f =
           let x = long_popped p w e (flat_map needs_of texts ++ ns) ts rest v ws (as_needs (Half ∷ Fits Long ∷ []) (v ∷ ws) q o) in
-          more_taken ns rest t texts v ws ts x.below (record { type = Long; is_type = g; plain = plain_long v x.is; range = x.is.range }) (ap (λ (ys : List Need). drop (length ys) ts) q ∙ ap (drop 2) x.seen) (f x.below ws x.operands)
+          more_taken ns rest t texts v ws ts x.below (record { type = Long; is_type = g; plain = plain_long v x.is; range = x.is.range }) (ap (λ (ys : List OperandConstraint). drop (length ys) ts) q ∙ ap (drop 2) x.seen) (f x.below ws x.operands)
       by (never_text xs q) vs o f = absurd (never_met (xs ++ flat_map needs_of texts ++ ns) ts rest vs (as_needs (Never ∷ xs) vs q o))
 
 -- ---- the locals of a method that is entered

@@ -25,10 +25,10 @@ use Rattle.type_frames.specs.Rules.{meets}
 use Rattle.type_frames.specs.TypedState.{HasType, HaveTypes}
 use Rattle.check_sound.proofs.MoveRows.{read_local, kept_local, set_range}
 use Rattle.jvm_model.specs.RowsArith.{increased, divides, shifts, two_ints, two_longs, long_by_int, row_arith}
-use Rattle.type_frames.specs.declared.sides.Need.{Need}
-use Rattle.type_frames.specs.declared.sides.Need.TheVariants.{Fits, Half}
+use Rattle.type_frames.specs.declared.stack_effect.OperandConstraint.{OperandConstraint}
+use Rattle.type_frames.specs.declared.stack_effect.OperandConstraint.TheVariants.{Fits, Half}
 use Rattle.type_frames.specs.declared.vtype.VType.TheVariants.{Top, Int, Long, Null, Object, UninitThis, Uninit}
-use Rattle.type_frames.specs.Sides.{sides, second_need, int_need, long_need}
+use Rattle.type_frames.specs.StackEffect.{sides, second_need, int_need, long_need}
 use Rattle.type_frames.specs.Typing.{IsTyped}
 use Rattle.check_sound.proofs.Tree.{typed_done}
 use Rattle.check_sound.proofs.Held.{is_fits, Locals, int_on, long_on}
@@ -111,9 +111,9 @@ module _ (p : Program) (ty : IsTyped p) {w : World} {s : Entries} where
 
   pub binary : (x : Op) (wide : Bool) → Ready p w s (form.Binary x wide) → Row p w (row_arith p (form.Binary x wide) s)
   unfolding row_arith sides
-  binary x false r = two_ints-typed x r (subst (λ (ns : List Need). Operands p w (here r) (ns ++ int_need) r.types.stack (rest r) s.top.stack) (ints_needed x) (operands r))
+  binary x false r = two_ints-typed x r (subst (λ (ns : List OperandConstraint). Operands p w (here r) (ns ++ int_need) r.types.stack (rest r) s.top.stack) (ints_needed x) (operands r))
   binary x true r =
-      let o = subst (λ (ns : List Need). Operands p w (here r) (ns ++ long_need) r.types.stack (rest r) s.top.stack) (long_needed x) (operands r) in
+      let o = subst (λ (ns : List OperandConstraint). Operands p w (here r) (ns ++ long_need) r.types.stack (rest r) s.top.stack) (long_needed x) (operands r) in
       choose-typed p (Ends p) w (shifts x)
       (λ e. long_by_int-typed x r (subst (λ (b : Bool). Operands p w (here r) (cond b int_need long_need ++ long_need) r.types.stack (rest r) s.top.stack) e o))
       (λ e. two_longs-typed x r (subst (λ (b : Bool). Operands p w (here r) (cond b int_need long_need ++ long_need) r.types.stack (rest r) s.top.stack) e o))

@@ -8,7 +8,7 @@ use Rattle.jvm_model.specs.declared.program.ClassRec.{ClassRec}
 use Rattle.jvm_model.specs.Builtin.{object_class}
 use Rattle.jvm_model.specs.Classes.{class_at, no_class, is_interface, is_below}
 use Rattle.jvm_model.specs.RowsArrays.{base_letter}
-use Rattle.type_frames.specs.Sides.{element_type}
+use Rattle.type_frames.specs.StackEffect.{element_type}
 use Rattle.type_frames.specs.Assign.{class_named, takes_any, extends, class_fits, element_fits, is_array, object_fits, assignable}
 use Rattle.et_base.proofs.Texts.{units_true}
 use Rattle.check_sound.proofs.Instances.{plain_name, plain_fits, array_fits}

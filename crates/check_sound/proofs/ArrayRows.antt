@@ -27,14 +27,14 @@ use Rattle.jvm_model.specs.Narrow.{narrow}
 use Rattle.jvm_model.specs.Rows.{Answer, answer, popping, on_int, on_object, goes_on, constant_kind}
 use Rattle.jvm_model.specs.RowsArrays.{on_array, in_range, element_letter, holds_references, checked, stored_in, loaded_from, row_arrays}
 use Rattle.jvm_model.specs.Step.{group_of, arrays}
-use Rattle.type_frames.specs.declared.sides.Need.TheVariants.{Fits, Array}
+use Rattle.type_frames.specs.declared.stack_effect.OperandConstraint.TheVariants.{Fits, Array}
 use Rattle.type_frames.specs.declared.vtype.VType.{VType}
 use Rattle.type_frames.specs.declared.vtype.VType.TheVariants.{Top, Int, Long, Null, Object}
 use Rattle.type_frames.specs.Frames.{Slots}
 use Rattle.type_frames.specs.Environment.{Environment}
 use Rattle.type_frames.specs.Assign.{is_array, assignable}
 use Rattle.type_frames.specs.Descriptors.{types_of, name_of, kind_name}
-use Rattle.type_frames.specs.Sides.{sides, array_need, element_type, loaded, place_of, objects_text}
+use Rattle.type_frames.specs.StackEffect.{sides, array_need, element_type, loaded, place_of, objects_text}
 use Rattle.type_frames.specs.Rules.{meets, is_any_array, is_small}
 use Rattle.type_frames.specs.Typing.{IsTyped}
 use Rattle.type_frames.specs.TypedState.{kind_at, IsInstance, RefersTo, HasType, IsDeclared, IsReferenceOf, element_text}
@@ -45,7 +45,7 @@ use Rattle.check_sound.proofs.Operands.{Operands, IsPop, rest_of, popping-seen, 
 use Rattle.check_sound.proofs.Ready.{Ends, Row, Ready, here, rest, operands, on}
 use Rattle.check_sound.proofs.Ends.{fault_typed}
 use Rattle.check_sound.proofs.Thrown.{null_pointer_thrown, array_index_thrown, array_store_thrown}
-use Rattle.check_sound.proofs.CallSides.{Result, push}
+use Rattle.check_sound.proofs.CallEffects.{Result, push}
 use Rattle.jvm_model.proofs.NarrowedFits.{narrowed_fits, smalls}
 use Rattle.check_sound.proofs.DeclaredValues.{declared_result}
 use Rattle.check_sound.proofs.CastRows.{constant_is_kind}

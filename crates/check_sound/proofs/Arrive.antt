@@ -22,11 +22,11 @@ use Rattle.jvm_model.specs.Linked.{IsBody, IsPlace, count}
 use Rattle.jvm_model.proofs.Places as places
 use Rattle.jvm_model.proofs.BuiltinRules.{class_keeps, method_keeps}
 use Rattle.type_frames.specs.declared.vtype.Frame.{Frame}
-use Rattle.type_frames.specs.declared.sides.Sides.{Sides}
+use Rattle.type_frames.specs.declared.stack_effect.StackEffect.{StackEffect}
 use Rattle.type_frames.specs.Frames.{Slots, slots_of, index_of}
 use Rattle.type_frames.specs.Given.{given_frames}
 use Rattle.type_frames.specs.Environment.{Environment, environment_of, given_at, is_target, leads, targets}
-use Rattle.type_frames.specs.Sides.{sides}
+use Rattle.type_frames.specs.StackEffect.{sides}
 use Rattle.type_frames.specs.Rules.{turned, is_sound, all_made, rule_1, rule_2, rule_3, rule_4, rule_5, rule_6, rule_7, rule_9, rule_10, rule_11, Test, first_broken, tests, broken, after, opening, fits_given, fits_at, fits_next, slots_fit}
 use Rattle.type_frames.specs.Typing.{passed_on, taken_by, incoming, before, breach_of, judged, breach_at, IsTypedMethod, IsTyped}
 use Rattle.type_frames.specs.TypedState.{Goes}
@@ -34,7 +34,7 @@ use Rattle.check_sound.proofs.Held.{Locals, Held, locals_fit, held_fits}
 
 -- ---- all rules are kept
 
-pub record Kept (p : Program) (e : Environment) (k : ℕ) (x : Placed) (f : Slots) (s : Sides) : Type 0 where
+pub record Kept (p : Program) (e : Environment) (k : ℕ) (x : Placed) (f : Slots) (s : StackEffect) : Type 0 where
   pub one : rule_1 e f s ≡ true
   pub two : rule_2 p f s ≡ true
   pub three : rule_3 p e f s ≡ true
@@ -58,7 +58,7 @@ are_kept (t ∷ ts) e = by t.kept refl e (are_kept ts)
     by true q e k = (q, k e)
     by false q e k = absurd (cc)
 
-all_kept : (p : Program) (e : Environment) (k : ℕ) (x : Placed) (f : Slots) (s : Sides) → broken p e k x f s ≡ None → Kept p e k x f s
+all_kept : (p : Program) (e : Environment) (k : ℕ) (x : Placed) (f : Slots) (s : StackEffect) → broken p e k x f s ≡ None → Kept p e k x f s
 unfolding broken
 all_kept p e k x f s n =
     let a = are_kept (tests p e k x f s) n in

@@ -16,10 +16,10 @@ use Rattle.jvm_model.specs.Linked.{IsPlace}
 use Rattle.jvm_model.specs.Rows.{goes_to}
 use Rattle.jvm_model.specs.Step.{group_of, branches}
 use Rattle.jvm_model.specs.RowsBranches.{row_branches, holds, goes_if, table_target, lookup_target, flag_is, same_reference, is_null}
-use Rattle.type_frames.specs.declared.sides.Need.TheVariants.{Ref}
+use Rattle.type_frames.specs.declared.stack_effect.OperandConstraint.TheVariants.{Ref}
 use Rattle.type_frames.specs.declared.vtype.VType.TheVariants.{Int}
 use Rattle.type_frames.specs.Environment.{leads}
-use Rattle.type_frames.specs.Sides.{sides}
+use Rattle.type_frames.specs.StackEffect.{sides}
 use Rattle.type_frames.specs.Typing.{IsTyped}
 use Rattle.check_sound.proofs.Held.{Held, Locals}
 use Rattle.check_sound.proofs.Operands.{rest_of, popping-typed, popping-fits, on_int-typed, choose-typed}

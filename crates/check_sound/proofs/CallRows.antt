@@ -33,9 +33,9 @@ use Rattle.jvm_model.specs.RowsCalls.{enters_native, calls, calls_selected, argu
 use Rattle.jvm_model.specs.Step.{group_of, calls as of_calls}
 use Rattle.type_frames.specs.declared.vtype.VType.{VType}
 use Rattle.type_frames.specs.declared.vtype.VType.TheVariants.{Top, Int, Long, Null, Object, UninitThis, Uninit}
-use Rattle.type_frames.specs.declared.sides.Need.{Need}
-use Rattle.type_frames.specs.declared.sides.Need.TheVariants.{Fits, Raw, Never}
-use Rattle.type_frames.specs.declared.sides.Sides.{Sides}
+use Rattle.type_frames.specs.declared.stack_effect.OperandConstraint.{OperandConstraint}
+use Rattle.type_frames.specs.declared.stack_effect.OperandConstraint.TheVariants.{Fits, Raw, Never}
+use Rattle.type_frames.specs.declared.stack_effect.StackEffect.{StackEffect}
 use Rattle.type_frames.specs.Frames.{spread, places_of}
 use Rattle.type_frames.specs.Descriptors.{types_of, name_of, kind_name}
 use Rattle.type_frames.specs.Given.{is_constructor, this_types, entry_types}
@@ -43,7 +43,7 @@ use Rattle.type_frames.specs.Environment.{Environment, made_at}
 use Rattle.type_frames.specs.Assign.{assignable}
 use Rattle.jvm_model.proofs.Upwards.{below_same as itself_below, below_trans}
 use Rattle.check_sound.proofs.Instances.{below_class, super_below, instance_itself}
-use Rattle.type_frames.specs.Sides.{sides, argument_needs, result_types, on_stack, call_sides, is_that, is_start, init_sides, special_need, object_of, place_of}
+use Rattle.type_frames.specs.StackEffect.{sides, argument_needs, result_types, on_stack, call_sides, is_that, is_start, init_sides, special_need, object_of, place_of}
 use Rattle.type_frames.specs.Rules.{meets, turned}
 use Rattle.type_frames.specs.Typing.{IsTyped}
 use Rattle.type_frames.specs.TypedState.{is_class_with, kind_at, IsInRange, IsInstance, RefersTo, HasType, HaveTypes, IsBelow, class_begun, called_by}
@@ -56,7 +56,7 @@ use Rattle.check_sound.proofs.Ready.{TypedEntries, stub, closed, below_same, Tak
 use Rattle.check_sound.proofs.Onward.{whole, not_full, ready_grows}
 use Rattle.check_sound.proofs.Thrown.{builtin_is, abstract_thrown, overflow_thrown, null_pointer_thrown}
 use Rattle.check_sound.proofs.Ends.{fault_typed, using-typed}
-use Rattle.check_sound.proofs.CallSides.{values_few, on_stack_length, this_of, CallSides, call_of, Result, push}
+use Rattle.check_sound.proofs.CallEffects.{values_few, on_stack_length, this_of, CallEffects, call_of, Result, push}
 use Rattle.check_sound.proofs.ReturnRows.{home, named_class}
 use Rattle.check_sound.proofs.ParameterTexts.{AreTexts}
 use Rattle.check_sound.proofs.Arguments.{method_texts, Arguments, arguments_reverse, Taken, take_args, text_slots, EntersWith, entered_frame, takes_args, takes_append, one_each_reverse}
@@ -126,7 +126,7 @@ module _ (p : Program) (ty : IsTyped p) {w : World} {s : Entries} {i : Instr} (r
       }))
 
   -- a built-in method
-  sides_of : (named : ℕ) → called_by i ≡ Some named → CallSides p (here r) r.types (sides_at r) (method_at p named)
+  sides_of : (named : ℕ) → called_by i ≡ Some named → CallEffects p (here r) r.types (sides_at r) (method_at p named)
   sides_of named c = call_of p ty.linked (here r) r.index (record { pc = s.top.pc; form = i }) r.types named c (named_class p ty i named c (names_form p ty r)) (home p ty s.top.number (has_number p s.top.number r.body r.has_code)) r.kept
 
   -- there is room for the result of the call
@@ -207,7 +207,7 @@ this_place p m = by (is_constructor m)
     by false = refl
 
 -- the arguments of a call and the receiver below them
-record Received (p : Program) (w : World) {s : Entries} {i : Instr} (r : Ready p w s i) (d : List ℕ) (n : Need) : Type 0 where
+record Received (p : Program) (w : World) {s : Entries} {i : Instr} (r : Ready p w s i) (d : List ℕ) (n : OperandConstraint) : Type 0 where
   args : List Value
   receiver : Value
   below : List Value
@@ -229,7 +229,7 @@ index_drop (suc n) (x ∷ ts) t us e = index_drop n ts t us e
 
 module _ (p : Program) (ty : IsTyped p) {w : World} {s : Entries} {i : Instr} (r : Ready p w s i) where
   -- the operands of a call, the arguments of a method of this descriptor first
-  received : (d : List ℕ) (n : Need) → IsPop n → AreTexts (reverse (parameters d)) → Operands p w (here r) (argument_needs d ++ n ∷ []) r.types.stack (rest r) s.top.stack → Received p w r d n
+  received : (d : List ℕ) (n : OperandConstraint) → IsPop n → AreTexts (reverse (parameters d)) → Operands p w (here r) (argument_needs d ++ n ∷ []) r.types.stack (rest r) s.top.stack → Received p w r d n
   received d n k t o =
       let a = take_args p ty w (here r) (reverse (parameters d)) t (n ∷ []) r.types.stack (rest r) s.top.stack o in
       by a a.below a.split a.operands
@@ -241,7 +241,7 @@ module _ (p : Program) (ty : IsTyped p) {w : World} {s : Entries} {i : Instr} (r
           record { args = a.args; receiver = v; below = vs; type = x.type; split = q; count = a.count ∙ length-reverse (parameters d); typed = a.typed; is = x.is; met = x.met; short = x.short; held = rest_of x.operands; place = index_drop (length (argument_needs d)) r.types.stack x.type x.below (a.dropped ∙ x.seen) }
 
   -- with a receiver for the method m they are those of m
-  passed_to : (d : List ℕ) (n : Need) (m : ℕ) (a : Received p w r d n) → (method_at p m).descriptor ≡ d → is_static (method_at p m).flags ≡ false
+  passed_to : (d : List ℕ) (n : OperandConstraint) (m : ℕ) (a : Received p w r d n) → (method_at p m).descriptor ≡ d → is_static (method_at p m).flags ≡ false
       → ((e : Environment) → e.class ≡ (method_at p m).class → HasType p w e (this_type p (method_at p m)) a.receiver) → RefersTo p w (name_of p (method_at p m).class) a.receiver → Passed p w r m (length (parameters d) + 1)
   passed_to d n m a q f this refers =
       let texts = parameters d in
@@ -272,7 +272,7 @@ module _ (p : Program) (ty : IsTyped p) {w : World} {s : Entries} {i : Instr} (r
       receiver_range a = a.is.range
 
   -- the row finds the receiver
-  receiver_is : (d : List ℕ) (n : Need) (m : ℕ) (a : Received p w r d n) → (method_at p m).descriptor ≡ d → receiver p m s ≡ Some a.receiver
+  receiver_is : (d : List ℕ) (n : OperandConstraint) (m : ℕ) (a : Received p w r d n) → (method_at p m).descriptor ≡ d → receiver p m s ≡ Some a.receiver
   unfolding argument_count
   receiver_is d n m a q = ap (λ (x : List ℕ). slice_get s.top.stack (length (parameters x))) q ∙ (ap (λ (xs : List Value). slice_get xs (length (parameters d))) a.split ∙ (ap (slice_get (a.args ++ a.receiver ∷ a.below)) (sym a.count) ∙ at_seam a.args a.receiver a.below))
     where
@@ -348,7 +348,7 @@ known_kind p lk w value.Null x k = absurd k
 
 module _ (p : Program) (ty : IsTyped p) {w : World} {s : Entries} {i : Instr} (r : Ready p w s i) where
   -- the method that was selected for the receiver is called
-  selected-typed : (named : ℕ) (n : Need) (a : Received p w r (method_at p named).descriptor n) → called_by i ≡ Some named → not (bytes_eq (method_at p named).name clinit_name || bytes_eq (method_at p named).name init_name) ≡ true
+  selected-typed : (named : ℕ) (n : OperandConstraint) (a : Received p w r (method_at p named).descriptor n) → called_by i ≡ Some named → not (bytes_eq (method_at p named).name clinit_name || bytes_eq (method_at p named).name init_name) ≡ true
       → (x : Kind) → ((b : List ℕ) → IsInstance p x b → RefersTo p w b a.receiver) → (y : Selected) → SelectedOf p named x y → Row p w (calls_selected p y (length (parameters (method_at p named).descriptor) + 1) s)
   selected-typed named n a c q x f (chosen m) h =
       let g = f (name_of p (method_at p m).class) h.1 in
@@ -357,7 +357,7 @@ module _ (p : Program) (ty : IsTyped p) {w : World} {s : Entries} {i : Instr} (r
   selected-typed named n a c q x f (failing d) h = typed_done (fault_typed p ty r d s.top.stack h r.stack.range)
 
   -- the receiver isn't null
-  on_receiver-typed : (named : ℕ) (n : Need) (a : Received p w r (method_at p named).descriptor n) (b : List ℕ) → RefersTo p w b a.receiver → (k : Value → Access (Answer Entries)) → (IsNonNull a.receiver → Row p w (k a.receiver)) → Row p w (on_receiver s (receiver p named s) k)
+  on_receiver-typed : (named : ℕ) (n : OperandConstraint) (a : Received p w r (method_at p named).descriptor n) (b : List ℕ) → RefersTo p w b a.receiver → (k : Value → Access (Answer Entries)) → (IsNonNull a.receiver → Row p w (k a.receiver)) → Row p w (on_receiver s (receiver p named s) k)
   on_receiver-typed named n a b h k f = subst (λ (o : Option Value). Row p w (on_receiver s o k)) (sym (receiver_is p ty r (method_at p named).descriptor n named a refl))
       (on_reference-typed p (Ends p) w s a.receiver (refers_nullable p w b a.receiver h) (fault_typed p ty r null_pointer_exception s.top.stack (null_pointer_thrown p ty.linked) r.stack.range) f)
 
@@ -479,9 +479,9 @@ module _ (p : Program) (ty : IsTyped p) {w : World} {s : Entries} where
       by (bytes_eq (method_at p m).name init_name) refl n.1 n.0 f (form_found p ty r) (operands r) r.kept.seven r.kept.eleven
     where
       by : (b : Bool) → bytes_eq (method_at p m).name init_name ≡ b → IsMethod p m → IsKind p k → is_static (method_at p m).flags ≡ false → IsFoundIn p k m
-          → Operands p w (here r) (elim b as (λ x. Sides) [ true ↦ init_sides p (here r) r.types (method_at p m) (place_of r.types (length (argument_needs (method_at p m).descriptor))) | false ↦ call_sides (method_at p m) (special_need p (here r) k ∷ []) ]).takes r.types.stack (rest r) s.top.stack
-          → (elim b as (λ x. Sides) [ true ↦ init_sides p (here r) r.types (method_at p m) (place_of r.types (length (argument_needs (method_at p m).descriptor))) | false ↦ call_sides (method_at p m) (special_need p (here r) k ∷ []) ]).starts_well ≡ true
-          → (elim b as (λ x. Sides) [ true ↦ init_sides p (here r) r.types (method_at p m) (place_of r.types (length (argument_needs (method_at p m).descriptor))) | false ↦ call_sides (method_at p m) (special_need p (here r) k ∷ []) ]).calls_well ≡ true
+          → Operands p w (here r) (elim b as (λ x. StackEffect) [ true ↦ init_sides p (here r) r.types (method_at p m) (place_of r.types (length (argument_needs (method_at p m).descriptor))) | false ↦ call_sides (method_at p m) (special_need p (here r) k ∷ []) ]).takes r.types.stack (rest r) s.top.stack
+          → (elim b as (λ x. StackEffect) [ true ↦ init_sides p (here r) r.types (method_at p m) (place_of r.types (length (argument_needs (method_at p m).descriptor))) | false ↦ call_sides (method_at p m) (special_need p (here r) k ∷ []) ]).starts_well ≡ true
+          → (elim b as (λ x. StackEffect) [ true ↦ init_sides p (here r) r.types (method_at p m) (place_of r.types (length (argument_needs (method_at p m).descriptor))) | false ↦ call_sides (method_at p m) (special_need p (here r) k ∷ []) ]).calls_well ≡ true
           → Row p w (on_receiver s (receiver p m s) (λ v. call_special p k m s))
       by true q h j f g o st e = special_init k m r q h f o st
       by false q h j f g o st e = special_plain k m r q h j f g e o

@@ -27,7 +27,7 @@ use Rattle.jvm_model.specs.RowsCasts.{cast_to, cast, tested, row_casts}
 use Rattle.jvm_model.specs.Step.{group_of, casts, row_throw}
 use Rattle.type_frames.specs.declared.vtype.VType.TheVariants.{Object}
 use Rattle.type_frames.specs.Descriptors.{name_of, kind_name}
-use Rattle.type_frames.specs.Sides.{sides}
+use Rattle.type_frames.specs.StackEffect.{sides}
 use Rattle.type_frames.specs.Typing.{IsTyped}
 use Rattle.type_frames.specs.TypedState.{kind_at, IsInstance, RefersTo}
 use Rattle.check_sound.proofs.Tree.{typed_done, typed_known}

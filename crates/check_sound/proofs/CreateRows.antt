@@ -27,7 +27,7 @@ use Rattle.type_frames.specs.Frames.{index_of}
 use Rattle.type_frames.specs.Given.{places}
 use Rattle.type_frames.specs.Environment.{Environment, found_at, class_made, made_at}
 use Rattle.type_frames.specs.Descriptors.{kind_name}
-use Rattle.type_frames.specs.Sides.{sides, is_that}
+use Rattle.type_frames.specs.StackEffect.{sides, is_that}
 use Rattle.type_frames.specs.Typing.{IsTyped}
 use Rattle.type_frames.specs.TypedState.{kind_at, IsInstance, is_class_with, HasType}
 use Rattle.check_sound.proofs.Tree.{typed_done, typed_make, typed_spend}

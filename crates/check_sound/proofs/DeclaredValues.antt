@@ -15,17 +15,17 @@ use Rattle.jvm_model.specs.Linked.{fits_int}
 use Rattle.jvm_model.proofs.NarrowedFits.{narrowed_fits, smalls}
 use Rattle.type_frames.specs.declared.vtype.VType.{VType}
 use Rattle.type_frames.specs.declared.vtype.VType.TheVariants.{Top, Int, Long, Null, Object, UninitThis, Uninit}
-use Rattle.type_frames.specs.declared.sides.Need.{Need}
+use Rattle.type_frames.specs.declared.stack_effect.OperandConstraint.{OperandConstraint}
 use Rattle.type_frames.specs.Environment.{Environment}
 use Rattle.type_frames.specs.Descriptors.{types_of, class_name}
-use Rattle.type_frames.specs.Sides.{needs_of}
+use Rattle.type_frames.specs.StackEffect.{needs_of}
 use Rattle.type_frames.specs.Typing.{IsTyped}
 use Rattle.type_frames.specs.TypedState.{IsInRange, RefersTo, IsReferenceOf, IsDeclared}
 use Rattle.check_sound.proofs.Tree.{Tree}
 use Rattle.check_sound.proofs.ParameterTexts.{one_type}
 use Rattle.check_sound.proofs.Operands.{Operands}
 use Rattle.check_sound.proofs.Ready.{HasPlain}
-use Rattle.check_sound.proofs.CallSides.{Result}
+use Rattle.check_sound.proofs.CallEffects.{Result}
 use Rattle.check_sound.proofs.ParameterTexts.{IsText}
 use Rattle.check_sound.proofs.Arguments.{Argument, Arguments, take_args}
 
@@ -164,10 +164,10 @@ argument_stored p w [] v h a = absurd cc
 argument_stored p w (u ∷ us) v h a = stored_plain p w u us a.type v h a.is_type a.plain
 
 -- a value of a text's type is popped
-pub popping-declared : (p : Program) (ty : IsTyped p) {w : World} {e : Environment} {S : Type 0} (P : World → Answer S → Type 0) (d : List ℕ) → IsText d → {ns : List Need} {ts rest : List VType} {vs : List Value} {k : Value → List Value → Access (Answer S)}
+pub popping-declared : (p : Program) (ty : IsTyped p) {w : World} {e : Environment} {S : Type 0} (P : World → Answer S → Type 0) (d : List ℕ) → IsText d → {ns : List OperandConstraint} {ts rest : List VType} {vs : List Value} {k : Value → List Value → Access (Answer S)}
     → Operands p w e (needs_of d ++ ns) ts rest vs → ((v : Value) (ws : List Value) (us : List VType) → Argument p w d v → Operands p w e ns us rest ws → Tree p P w (k v ws)) → Tree p P w (popping vs k)
 popping-declared p ty {w = w} {e = e} P d h {ns = ns} {ts = ts} {rest = rest} {vs = vs} {k = k} o f =
-    let t = take_args p ty w e (d ∷ []) (h, tt) ns ts rest vs (subst (λ (xs : List Need). Operands p w e (xs ++ ns) ts rest vs) (sym (append-nil (needs_of d))) o) in
+    let t = take_args p ty w e (d ∷ []) (h, tt) ns ts rest vs (subst (λ (xs : List OperandConstraint). Operands p w e (xs ++ ns) ts rest vs) (sym (append-nil (needs_of d))) o) in
     by t.args t.below t.split t.typed t.types t.operands
   where
     by : (args below : List Value) → vs ≡ args ++ below → Arguments p w (d ∷ []) args → (us : List VType) → Operands p w e ns us rest below → Tree p P w (popping vs k)

@@ -31,7 +31,7 @@ use Rattle.jvm_model.specs.Kinds.{class_of}
 use Rattle.jvm_model.specs.Linked.{IsClass, IsMethod, IsKind, IsTest}
 use Rattle.jvm_model.specs.Lookup.{is_method}
 use Rattle.jvm_model.specs.Rows.{ready, begun, refused, begun_at, begin}
-use Rattle.jvm_model.specs.State.{State, Turn, ended, no_turn, no_test, test_at}
+use Rattle.jvm_model.specs.State.{State, Turn, ended, stuck_turn, no_test, test_at}
 use Rattle.jvm_model.proofs.Locations.{at_put_same, size_make}
 use Rattle.jvm_model.proofs.Upwards.{below_same}
 use Rattle.jvm_model.proofs.Interfaces.{member_first}
@@ -249,7 +249,7 @@ module _ (p : Program) (ty : IsTyped p) {w : World} (s : State) (h : Local p w s
   unfolding drive_init test
   init-typed o g = by (plain_method_in p init_name (class_at p test.class).methods) refl (test_is.init g.1)
     where
-      by : (x : Option ℕ) → plain_method_in p init_name (class_at p test.class).methods ≡ x → IsSome x → Step p w (elim x as (λ z. Access Turn) [ None ↦ done no_turn | Some m ↦ drives p m (value.Obj o ∷ []) (Built o) s ])
+      by : (x : Option ℕ) → plain_method_in p init_name (class_at p test.class).methods ≡ x → IsSome x → Step p w (elim x as (λ z. Access Turn) [ None ↦ done stuck_turn | Some m ↦ drives p m (value.Obj o ∷ []) (Built o) s ])
       by None q i = absurd (let z : false ≡ true = i in cc)
       by (Some m) q i =
           let r = plain_in p init_name (class_at p test.class).methods m q in

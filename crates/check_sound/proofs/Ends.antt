@@ -23,7 +23,7 @@ use Rattle.jvm_model.specs.Classes.{blank, instance_head, is_trivial, is_below}
 use Rattle.jvm_model.specs.Kinds.{class_of}
 use Rattle.jvm_model.specs.Entries.{Entries, is_full, with_entry, class_entry, with_stack}
 use Rattle.jvm_model.specs.Rows.{Answer, answer, ready, begun, refused, begun_at, begin, once, using}
-use Rattle.jvm_model.specs.State.{State, Turn, next, ended, no_turn, test_at, or_first, thrown_at, raise, raised_in, with_entries}
+use Rattle.jvm_model.specs.State.{State, Turn, next, ended, stuck_turn, test_at, or_first, thrown_at, raise, raised_in, with_entries}
 use Rattle.jvm_model.specs.Throwing.{throws}
 use Rattle.jvm_model.proofs.Locations.{at_make_new, size_make}
 use Rattle.type_frames.specs.Typing.{IsTyped}
@@ -46,7 +46,7 @@ pub record Local (p : Program) (w : World) (s : State) : Type 0 where
 abbrev pub TurnsTo : Program → World → Turn → Type 0
 TurnsTo p w (next s) = Local p w s
 TurnsTo p w (ended v o) = Unit {0}
-TurnsTo p w no_turn = ⊥
+TurnsTo p w stuck_turn = ⊥
 
 -- a step's typed tree
 abbrev pub Step : Program → World → Access Turn → Type 0

@@ -29,11 +29,11 @@ use Rattle.jvm_model.proofs.BuiltinRules.{builtin_class}
 use Rattle.jvm_model.proofs.Upwards.{superclass_is, below_same, below_trans, upwards_step}
 use Rattle.type_frames.specs.declared.vtype.VType.{VType}
 use Rattle.type_frames.specs.declared.vtype.VType.TheVariants.{Object, UninitThis}
-use Rattle.type_frames.specs.declared.sides.Need.TheVariants.{Fits}
+use Rattle.type_frames.specs.declared.stack_effect.OperandConstraint.TheVariants.{Fits}
 use Rattle.type_frames.specs.Frames.{same}
 use Rattle.type_frames.specs.Environment.{Environment}
 use Rattle.type_frames.specs.Descriptors.{types_of, name_of}
-use Rattle.type_frames.specs.Sides.{sides, needs_of, object_of, place_of}
+use Rattle.type_frames.specs.StackEffect.{sides, needs_of, object_of, place_of}
 use Rattle.type_frames.specs.Typing.{IsTyped}
 use Rattle.type_frames.specs.TypedState.{kind_at, IsInstance, RefersTo, HasType, is_class_with}
 use Rattle.type_frames.proofs.AssignLaws.{object_below, interface_root}
@@ -43,7 +43,7 @@ use Rattle.check_sound.proofs.Ready.{Ends, Row, Ready, here, rest, operands, on,
 use Rattle.check_sound.proofs.Ends.{fault_typed}
 use Rattle.check_sound.proofs.Thrown.{builtin_is, null_pointer_thrown}
 use Rattle.check_sound.proofs.Instances.{takes_every, Below, instance_below}
-use Rattle.check_sound.proofs.CallSides.{push}
+use Rattle.check_sound.proofs.CallEffects.{push}
 use Rattle.check_sound.proofs.DeclaredValues.{text_of_field, declared_result, argument_stored, popping-declared}
 use Rattle.check_sound.proofs.SelectLaws.{any_some, all_member, found, direct}
 

@@ -13,7 +13,7 @@ use Rattle.type_frames.specs.declared.vtype.VType.{VType}
 use Rattle.type_frames.specs.declared.vtype.VType.TheVariants.{Top, Int, Long, Null, Object, UninitThis, Uninit}
 use Rattle.type_frames.specs.Environment.{Environment, made_at}
 use Rattle.type_frames.specs.Descriptors.{types_of}
-use Rattle.type_frames.specs.Sides.{is_that}
+use Rattle.type_frames.specs.StackEffect.{is_that}
 use Rattle.type_frames.specs.TypedState.{kind_at, IsInRange, IsInstance, RefersTo, is_class_with, HasType, HaveTypes, HaveStackTypes, IsReferenceOf, IsDeclared, IsThrowable}
 use Rattle.check_sound.proofs.Tree.{Over, Alike}
 

@@ -16,7 +16,7 @@ use Rattle.type_frames.specs.declared.vtype.VType.TheVariants.{Object}
 use Rattle.type_frames.specs.Descriptors.{name_of, kind_name}
 use Rattle.type_frames.specs.Assign.{class_named, takes_any, extends, class_fits, element_fits, is_array, object_fits}
 use Rattle.type_frames.specs.TypedState.{IsInstance}
-use Rattle.type_frames.specs.Sides.{is_that}
+use Rattle.type_frames.specs.StackEffect.{is_that}
 use Rattle.et_base.proofs.Texts.{units_true}
 use Rattle.type_frames.proofs.AssignLaws.{class_name_plain, first_named, interface_takes, assignable_itself}
 

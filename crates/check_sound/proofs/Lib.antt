@@ -21,7 +21,7 @@ pub mod MoveRows
 pub mod ArithRows
 pub mod BranchRows
 pub mod RaiseRows
-pub mod CallSides
+pub mod CallEffects
 pub mod ReturnRows
 pub mod Arguments
 pub mod CallRows

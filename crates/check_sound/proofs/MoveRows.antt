@@ -9,11 +9,11 @@ use Rattle.jvm_model.specs.declared.values.Kind.TheVariants as kind
 use Rattle.jvm_model.specs.declared.instr.Sort.{Sort}
 use Rattle.type_frames.specs.Descriptors.{name_of}
 use Rattle.jvm_model.specs.Rows.{goes_on}
-use Rattle.type_frames.specs.declared.sides.Need.{Need}
+use Rattle.type_frames.specs.declared.stack_effect.OperandConstraint.{OperandConstraint}
 use Rattle.type_frames.specs.Environment.{Environment}
 use Rattle.type_frames.specs.Frames.{same, top_of}
 use Rattle.type_frames.specs.Rules.{meets, is_ref, cut_long, set_one, is_read, all_read}
-use Rattle.type_frames.specs.declared.sides.Reading.{Reading}
+use Rattle.type_frames.specs.declared.stack_effect.Reading.{Reading}
 use Rattle.type_frames.specs.TypedState.{IsInRange, IsInstance, RefersTo, HasType, HaveTypes}
 use Rattle.check_sound.proofs.Wide.{wide_before}
 use Rattle.check_sound.proofs.Instances.{instance_itself}
@@ -30,10 +30,10 @@ use Rattle.jvm_model.specs.World.{World}
 use Rattle.jvm_model.specs.Entries.{Entries, with_stack}
 use Rattle.jvm_model.specs.Step.{group_of, moves}
 use Rattle.jvm_model.specs.RowsMoves.{row_moves, is_long, loaded, stored}
-use Rattle.type_frames.specs.declared.sides.Need.TheVariants.{Fits, One, Half, Ref}
+use Rattle.type_frames.specs.declared.stack_effect.OperandConstraint.TheVariants.{Fits, One, Half, Ref}
 use Rattle.type_frames.specs.declared.vtype.VType.{VType}
 use Rattle.type_frames.specs.declared.vtype.VType.TheVariants.{Top, Int, Long, Null, Object, UninitThis, Uninit}
-use Rattle.type_frames.specs.Sides.{sides, two, long_need, setting, reading}
+use Rattle.type_frames.specs.StackEffect.{sides, two, long_need, setting, reading}
 use Rattle.type_frames.specs.Typing.{IsTyped}
 use Rattle.check_sound.proofs.Tree.{typed_done}
 use Rattle.check_sound.proofs.Held.{Is, is_fits, Held, Locals, IsShort, on_top, int_on, long_on, long_top}
@@ -43,10 +43,10 @@ use Rattle.check_sound.proofs.Ready.{Ends, Row, Ready, here, sides_at, then, res
 -- ---- locals
 
 -- a need that no unknown place meets
-abbrev pub IsSure : Program → Need → Type 0
+abbrev pub IsSure : Program → OperandConstraint → Type 0
 IsSure p n = meets p n Top ≡ true → ⊥
 
-local_type : (p : Program) (w : World) (e : Environment) (ts : List VType) (vs : List Value) (n : ℕ) (u : Need) → IsSure p u → HaveTypes p w e ts vs → Ranged p w vs → meets p u (slice_index_or ts n Top) ≡ true
+local_type : (p : Program) (w : World) (e : Environment) (ts : List VType) (vs : List Value) (n : ℕ) (u : OperandConstraint) → IsSure p u → HaveTypes p w e ts vs → Ranged p w vs → meets p u (slice_index_or ts n Top) ≡ true
     → (v : Value) × (slice_get vs n ≡ Some v) × Is p w e (slice_index_or ts n Top) v
 local_type p w e [] vs n u d h g m = absurd (d m)
 local_type p w e (t ∷ ts) [] n u d h g m = absurd h
@@ -164,10 +164,10 @@ Copied p w e bs rs vs = Held p w e (top_of bs ∷ slice_index_or bs 1 Top ∷ sl
 
 -- a need of two places and nothing more
 only_two : {p : Program} {w : World} {e : Environment} {us rs : List VType} {vs : List Value} (t : VType) → Operands p w e (two t) us rs vs → Operands p w e (two t ++ []) us rs vs
-only_two {p = p} {w = w} {e = e} {us = us} {rs = rs} {vs = vs} t o = subst (λ (ns : List Need). Operands p w e ns us rs vs) (sym (append-nil (two t))) o
+only_two {p = p} {w = w} {e = e} {us = us} {rs = rs} {vs = vs} t o = subst (λ (ns : List OperandConstraint). Operands p w e ns us rs vs) (sym (append-nil (two t))) o
 
 -- of two places the types are known
-two_of : (p : Program) (w : World) (e : Environment) (t : VType) (ns : List Need) (ts us : List VType) (vs : List Value) {A : Type 0} → Operands p w e (two t ++ ns) ts us vs
+two_of : (p : Program) (w : World) (e : Environment) (t : VType) (ns : List OperandConstraint) (ts us : List VType) (vs : List Value) {A : Type 0} → Operands p w e (two t ++ ns) ts us vs
     → (Operands p w e (Half ∷ Fits Long ∷ ns) ts us vs → A) → (Operands p w e (One ∷ One ∷ ns) ts us vs → A) → A
 two_of p w e t ns ts us vs o f g = elim (cases_Bool (same t Top)) [
   | inl q ↦ f (subst (λ (b : Bool). Operands p w e (cond b long_need (One ∷ One ∷ []) ++ ns) ts us vs) q o)
@@ -237,7 +237,7 @@ module _ (p : Program) (ty : IsTyped p) {w : World} {s : Entries} where
   -- ---- loads
 
   -- the local that is read
-  pub read_local : {i : Instr} (r : Ready p w s i) (n : ℕ) (u : Need) (more : List Reading) → (sides_at r).reads ≡ reading n u ∷ more → IsSure p u
+  pub read_local : {i : Instr} (r : Ready p w s i) (n : ℕ) (u : OperandConstraint) (more : List Reading) → (sides_at r).reads ≡ reading n u ∷ more → IsSure p u
       → (v : Value) × (slice_get s.top.locals n ≡ Some v) × (meets p u (slice_index_or r.types.locals n Top) ≡ true) × Is p w (here r) (slice_index_or r.types.locals n Top) v
   read_local r n u more e d =
       let all : all_read p r.body.max_locals r.types.locals (reading n u ∷ more) ≡ true = subst (λ (x : List Reading). all_read p r.body.max_locals r.types.locals x ≡ true) e (reads_kept r) in

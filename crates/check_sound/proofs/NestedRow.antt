@@ -22,11 +22,11 @@ use Rattle.jvm_model.specs.Rows.{Answer}
 use Rattle.jvm_model.specs.RowsCreate.{array_head, children, nest, nested, sized, row_create}
 use Rattle.jvm_model.specs.Step.{group_of, create as of_create}
 use Rattle.jvm_model.proofs.Locations.{at_make_new, size_make}
-use Rattle.type_frames.specs.declared.sides.Need.TheVariants.{Fits}
+use Rattle.type_frames.specs.declared.stack_effect.OperandConstraint.TheVariants.{Fits}
 use Rattle.type_frames.specs.declared.vtype.VType.{VType}
 use Rattle.type_frames.specs.declared.vtype.VType.TheVariants.{Int}
 use Rattle.type_frames.specs.Descriptors.{kind_name}
-use Rattle.type_frames.specs.Sides.{sides}
+use Rattle.type_frames.specs.StackEffect.{sides}
 use Rattle.type_frames.specs.Typing.{IsTyped}
 use Rattle.type_frames.specs.TypedState.{kind_at, IsInstance, IsReferenceOf, IsDeclared, element_text}
 use Rattle.check_sound.proofs.Tree.{head_at, Tree, typed_done, typed_write, typed_make, typed_spend, Over}

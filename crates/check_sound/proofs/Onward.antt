@@ -17,7 +17,7 @@ use Rattle.jvm_model.specs.Classes.{method_at, is_trivial}
 use Rattle.jvm_model.specs.Entries.{Entry, Entries, entry_limit, class_entry, with_entry, is_full, all_entries}
 use Rattle.jvm_model.proofs.Locations.{same_false, at_put_other, at_put_same}
 use Rattle.type_frames.specs.Environment.{environment_of}
-use Rattle.type_frames.specs.Sides.{sides}
+use Rattle.type_frames.specs.StackEffect.{sides}
 use Rattle.type_frames.specs.Typing.{IsTyped}
 use Rattle.type_frames.specs.TypedState.{Stands, Goes, Waits, Initialises, IsTop, IsBelow, AllBelow, class_begun, values_of}
 use Rattle.check_sound.proofs.Tree.{Over, Alike}

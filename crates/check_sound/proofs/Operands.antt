@@ -16,8 +16,8 @@ use Rattle.jvm_model.specs.Linked.{Linked, IsKind}
 use Rattle.jvm_model.specs.Rows.{Answer, answer, popping, on_int, on_long, on_object, on_reference, with_kind, on_text, constant_kind}
 use Rattle.type_frames.specs.declared.vtype.VType.{VType}
 use Rattle.type_frames.specs.declared.vtype.VType.TheVariants.{Top, Int, Long, Null, Object, UninitThis, Uninit}
-use Rattle.type_frames.specs.declared.sides.Need.{Need}
-use Rattle.type_frames.specs.declared.sides.Need.TheVariants.{Fits, One, Half, Ref, Raw, Small, Array, Never}
+use Rattle.type_frames.specs.declared.stack_effect.OperandConstraint.{OperandConstraint}
+use Rattle.type_frames.specs.declared.stack_effect.OperandConstraint.TheVariants.{Fits, One, Half, Ref, Raw, Small, Array, Never}
 use Rattle.type_frames.specs.Environment.{Environment}
 use Rattle.type_frames.specs.Rules.{meets, meet_all}
 use Rattle.type_frames.specs.TypedState.{kind_at, IsInstance, RefersTo, HaveStackTypes}
@@ -25,14 +25,14 @@ use Rattle.check_sound.proofs.Tree.{head_at, Tree, typed_done, typed_read}
 use Rattle.check_sound.proofs.Held.{Is, Held, IsShort, is_fits}
 
 -- The needs that are still to be met, the types that are still there, what is left of them in the end, and the operands.
-pub record Operands (p : Program) (w : World) (e : Environment) (ns : List Need) (ts rest : List VType) (vs : List Value) : Type 0 where
+pub record Operands (p : Program) (w : World) (e : Environment) (ns : List OperandConstraint) (ts rest : List VType) (vs : List Value) : Type 0 where
   pub enough : length ns ≤ length ts
   pub met : meet_all p ns ts ≡ true
   pub left : drop (length ns) ts ≡ rest
   pub held : Held p w e ts vs
 
 -- a need of a value of one place
-abbrev pub IsPop : Need → Type 0
+abbrev pub IsPop : OperandConstraint → Type 0
 IsPop Half = ⊥
 IsPop (Fits Top) = ⊥
 IsPop (Fits Long) = ⊥
@@ -43,7 +43,7 @@ pub rest_of : {p : Program} {w : World} {e : Environment} {ts rest : List VType}
 rest_of {p = p} {w = w} {e = e} {vs = vs} o = subst (λ (ts : List VType). Held p w e ts vs) o.left o.held
 
 -- the top operand, of one place
-pub record Popped (p : Program) (w : World) (e : Environment) (ns : List Need) (n : Need) (ts rest : List VType) (v : Value) (vs : List Value) : Type 0 where
+pub record Popped (p : Program) (w : World) (e : Environment) (ns : List OperandConstraint) (n : OperandConstraint) (ts rest : List VType) (v : Value) (vs : List Value) : Type 0 where
   pub type : VType
   pub below : List VType
   pub seen : ts ≡ type ∷ below
@@ -53,7 +53,7 @@ pub record Popped (p : Program) (w : World) (e : Environment) (ns : List Need) (
   pub operands : Operands p w e ns below rest vs
 
 module _ (p : Program) (w : World) (e : Environment) where
-  no_top : (n : Need) → IsPop n → meets p n Top ≡ true → ⊥
+  no_top : (n : OperandConstraint) → IsPop n → meets p n Top ≡ true → ⊥
   no_top Half i m = i
   no_top One i m = cc
   no_top Ref i m = cc
@@ -65,21 +65,21 @@ module _ (p : Program) (w : World) (e : Environment) where
   no_top (Fits Long) i m = i
   no_top (Fits _) i m = cc
 
-  pub none_there : (n : Need) (ns : List Need) (ts rest : List VType) → Operands p w e (n ∷ ns) ts rest [] → ⊥
+  pub none_there : (n : OperandConstraint) (ns : List OperandConstraint) (ts rest : List VType) → Operands p w e (n ∷ ns) ts rest [] → ⊥
   none_there n ns [] rest o = let q : suc (length ns) ≤ 0 = o.enough in omega arith
   none_there n ns (t ∷ ts) rest o = let q : t ∷ ts ≡ [] = o.held.types in absurd (cc)
 
-  not_long : (t : VType) (n : Need) (ts : List VType) (i : ℤ) (vs : List Value) → IsPop n → meets p n t ≡ true → HaveStackTypes p w e (t ∷ ts) (value.Long i ∷ vs) → ⊥
+  not_long : (t : VType) (n : OperandConstraint) (ts : List VType) (i : ℤ) (vs : List Value) → IsPop n → meets p n t ≡ true → HaveStackTypes p w e (t ∷ ts) (value.Long i ∷ vs) → ⊥
   not_long Top n ts i vs q m h = no_top n q m
   not_long _ n ts i vs q m h = h
 
-  one_popped : (n : Need) (ns : List Need) (t : VType) (ts rest : List VType) (v : Value) (vs : List Value) → IsShort v → Is p w e t v → Held p w e ts vs → Operands p w e (n ∷ ns) (t ∷ ts) rest (v ∷ vs) → Popped p w e ns n (t ∷ ts) rest v vs
+  one_popped : (n : OperandConstraint) (ns : List OperandConstraint) (t : VType) (ts rest : List VType) (v : Value) (vs : List Value) → IsShort v → Is p w e t v → Held p w e ts vs → Operands p w e (n ∷ ns) (t ∷ ts) rest (v ∷ vs) → Popped p w e ns n (t ∷ ts) rest v vs
   one_popped n ns t ts rest v vs s i h o =
       let q : suc (length ns) ≤ suc (length ts) = o.enough in
       let m = and_parts _ _ o.met in
       record { type = t; below = ts; seen = refl; is = i; met = m.0; short = s; operands = record { enough = omega arith; met = m.1; left = o.left; held = h } }
 
-  pub popped : (n : Need) (ns : List Need) (ts rest : List VType) (v : Value) (vs : List Value) → IsPop n → Operands p w e (n ∷ ns) ts rest (v ∷ vs) → Popped p w e ns n ts rest v vs
+  pub popped : (n : OperandConstraint) (ns : List OperandConstraint) (ts rest : List VType) (v : Value) (vs : List Value) → IsPop n → Operands p w e (n ∷ ns) ts rest (v ∷ vs) → Popped p w e ns n ts rest v vs
   popped n ns (t ∷ ts) rest (value.Int a) vs i o = one_popped n ns t ts rest (value.Int a) vs tt (record { type = o.held.types.0; range = o.held.range.0 }) (record { types = o.held.types.1; range = o.held.range.1 }) o
   popped n ns (t ∷ ts) rest value.Null vs i o = one_popped n ns t ts rest value.Null vs tt (record { type = o.held.types.0; range = o.held.range.0 }) (record { types = o.held.types.1; range = o.held.range.1 }) o
   popped n ns (t ∷ ts) rest (value.Lit a) vs i o = one_popped n ns t ts rest (value.Lit a) vs tt (record { type = o.held.types.0; range = o.held.range.0 }) (record { types = o.held.types.1; range = o.held.range.1 }) o
@@ -111,13 +111,13 @@ module _ (p : Program) (w : World) (e : Environment) where
   is_long_type (Uninit a) m = absurd (cc)
 
   -- a long on top, which takes two places
-  pub record LongPopped (ns : List Need) (ts rest : List VType) (v : Value) (vs : List Value) : Type 0 where
+  pub record LongPopped (ns : List OperandConstraint) (ts rest : List VType) (v : Value) (vs : List Value) : Type 0 where
     pub below : List VType
     pub seen : ts ≡ Top ∷ Long ∷ below
     pub is : Is p w e Long v
     pub operands : Operands p w e ns below rest vs
 
-  pub long_popped : (ns : List Need) (ts rest : List VType) (v : Value) (vs : List Value) → Operands p w e (Half ∷ Fits Long ∷ ns) ts rest (v ∷ vs) → LongPopped ns ts rest v vs
+  pub long_popped : (ns : List OperandConstraint) (ts rest : List VType) (v : Value) (vs : List Value) → Operands p w e (Half ∷ Fits Long ∷ ns) ts rest (v ∷ vs) → LongPopped ns ts rest v vs
   long_popped ns (Top ∷ u ∷ ts) rest (value.Long a) vs o =
       let q : suc (suc (length ns)) ≤ suc (suc (length ts)) = o.enough in
       record {
@@ -161,29 +161,29 @@ refers_nullable p w a (value.Obj o) h = tt
 -- what comes after an operand, for answers of any sort
 module _ (p : Program) {S : Type 0} (P : World → Answer S → Type 0) (w : World) where
   -- an operand of one place, and the types with it on top
-  pub popping-seen : {e : Environment} (n : Need) {ns : List Need} {ts rest : List VType} {vs : List Value} {k : Value → List Value → Access (Answer S)} → IsPop n → Operands p w e (n ∷ ns) ts rest vs
+  pub popping-seen : {e : Environment} (n : OperandConstraint) {ns : List OperandConstraint} {ts rest : List VType} {vs : List Value} {k : Value → List Value → Access (Answer S)} → IsPop n → Operands p w e (n ∷ ns) ts rest vs
       → ((v : Value) (ws : List Value) (t : VType) (us : List VType) → ts ≡ t ∷ us → Is p w e t v → IsShort v → meets p n t ≡ true → Operands p w e ns us rest ws → Tree p P w (k v ws)) → Tree p P w (popping vs k)
   popping-seen {e = e} n {ns = ns} {ts = ts} {rest = rest} {vs = []} i o r = absurd (none_there p w e n ns ts rest o)
   popping-seen {e = e} n {ns = ns} {ts = ts} {rest = rest} {vs = v ∷ ws} i o r = let x = popped p w e n ns ts rest v ws i o in r v ws x.type x.below x.seen x.is x.short x.met x.operands
 
-  pub popping-long-seen : {e : Environment} {ns : List Need} {ts rest : List VType} {vs : List Value} {k : Value → List Value → Access (Answer S)} → Operands p w e (Half ∷ Fits Long ∷ ns) ts rest vs
+  pub popping-long-seen : {e : Environment} {ns : List OperandConstraint} {ts rest : List VType} {vs : List Value} {k : Value → List Value → Access (Answer S)} → Operands p w e (Half ∷ Fits Long ∷ ns) ts rest vs
       → ((v : Value) (ws : List Value) (us : List VType) → ts ≡ Top ∷ Long ∷ us → Is p w e Long v → Operands p w e ns us rest ws → Tree p P w (k v ws)) → Tree p P w (popping vs k)
   popping-long-seen {e = e} {ns = ns} {ts = ts} {rest = rest} {vs = []} o r = absurd (none_there p w e Half (Fits Long ∷ ns) ts rest o)
   popping-long-seen {e = e} {ns = ns} {ts = ts} {rest = rest} {vs = v ∷ ws} o r = let x = long_popped p w e ns ts rest v ws o in r v ws x.below x.seen x.is x.operands
 
   -- an operand of one place
-  pub popping-typed : {e : Environment} (n : Need) {ns : List Need} {ts rest : List VType} {vs : List Value} {k : Value → List Value → Access (Answer S)} → IsPop n → Operands p w e (n ∷ ns) ts rest vs
+  pub popping-typed : {e : Environment} (n : OperandConstraint) {ns : List OperandConstraint} {ts rest : List VType} {vs : List Value} {k : Value → List Value → Access (Answer S)} → IsPop n → Operands p w e (n ∷ ns) ts rest vs
       → ((v : Value) (ws : List Value) (t : VType) (us : List VType) → Is p w e t v → IsShort v → meets p n t ≡ true → Operands p w e ns us rest ws → Tree p P w (k v ws)) → Tree p P w (popping vs k)
   popping-typed {e = e} n {ns = ns} {ts = ts} {rest = rest} {vs = []} i o r = absurd (none_there p w e n ns ts rest o)
   popping-typed {e = e} n {ns = ns} {ts = ts} {rest = rest} {vs = v ∷ ws} i o r = let x = popped p w e n ns ts rest v ws i o in r v ws x.type x.below x.is x.short x.met x.operands
 
   -- an operand that fits a type of one place
-  pub popping-fits : (lk : Linked p) {e : Environment} (u : VType) {ns : List Need} {ts rest : List VType} {vs : List Value} {k : Value → List Value → Access (Answer S)} → IsPop (Fits u) → Operands p w e (Fits u ∷ ns) ts rest vs
+  pub popping-fits : (lk : Linked p) {e : Environment} (u : VType) {ns : List OperandConstraint} {ts rest : List VType} {vs : List Value} {k : Value → List Value → Access (Answer S)} → IsPop (Fits u) → Operands p w e (Fits u ∷ ns) ts rest vs
       → ((v : Value) (ws : List Value) (us : List VType) → Is p w e u v → IsShort v → Operands p w e ns us rest ws → Tree p P w (k v ws)) → Tree p P w (popping vs k)
   popping-fits lk {e = e} u i o r = popping-typed (Fits u) i o (λ v ws t us x s m q. r v ws us (is_fits p lk w e t u v m x) s q)
 
   -- a long
-  pub popping-long : {e : Environment} {ns : List Need} {ts rest : List VType} {vs : List Value} {k : Value → List Value → Access (Answer S)} → Operands p w e (Half ∷ Fits Long ∷ ns) ts rest vs
+  pub popping-long : {e : Environment} {ns : List OperandConstraint} {ts rest : List VType} {vs : List Value} {k : Value → List Value → Access (Answer S)} → Operands p w e (Half ∷ Fits Long ∷ ns) ts rest vs
       → ((v : Value) (ws : List Value) (us : List VType) → Is p w e Long v → Operands p w e ns us rest ws → Tree p P w (k v ws)) → Tree p P w (popping vs k)
   popping-long {e = e} {ns = ns} {ts = ts} {rest = rest} {vs = []} o r = absurd (none_there p w e Half (Fits Long ∷ ns) ts rest o)
   popping-long {e = e} {ns = ns} {ts = ts} {rest = rest} {vs = v ∷ ws} o r = let x = long_popped p w e ns ts rest v ws o in r v ws x.below x.is x.operands

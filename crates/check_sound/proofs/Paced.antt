@@ -17,7 +17,7 @@ use Rattle.jvm_model.specs.Access.{Access, done, read, write, make, spend, bind,
 use Rattle.jvm_model.specs.Builtin.{null_pointer_exception}
 use Rattle.jvm_model.specs.Classes.{method_at, is_private, is_static, layout, literal_at}
 use Rattle.jvm_model.specs.Entries.{Entries}
-use Rattle.jvm_model.specs.Rows.{Answer, answer, no_row, popping, on_int, on_long, on_object, on_reference, with_kind, on_text, constant_kind}
+use Rattle.jvm_model.specs.Rows.{Answer, answer, stuck_row, popping, on_int, on_long, on_object, on_reference, with_kind, on_text, constant_kind}
 use Rattle.jvm_model.proofs.Locations.{at_put_other}
 use Rattle.check_sound.specs.PaceLaw.{WriteOf, Writes, MeetsOf, Meets}
 
@@ -243,7 +243,7 @@ PaysBy p c d Over = Unit {0}
 
 abbrev pub Pays : Program → {S : Type 0} → ℕ → ℕ → Answer S → Type 0
 Pays p c d (answer x s) = (d ≤ c) × PaysBy p c d x
-Pays p c d no_row = d ≤ c
+Pays p c d stuck_row = d ≤ c
 
 abbrev pub PacedRow : Program → Limits → {S : Type 0} → ℕ → ℕ → Access (Answer S) → Type 0
 PacedRow p M c d t = Paced M (λ c d a. Pays p c d a) c d t
@@ -260,7 +260,7 @@ pays_cut p B c d (answer (Raise v) s) h = h
 pays_cut p B c d (answer (Enter m) s) h = h
 pays_cut p B c d (answer Leave s) h = h
 pays_cut p B c d (answer Over s) h = h
-pays_cut p B c d no_row h = h
+pays_cut p B c d stuck_row h = h
 
 abbrev pub CutRow : Program → Limits → Type 0 → Access (Answer Entries) → Type 0
 CutRow p M B t = Paced M (λ c d a. Cut p B c d a) 4 0 t

@@ -19,8 +19,8 @@ use Rattle.jvm_model.specs.Entries.{is_full, with_entry, class_entry}
 use Rattle.jvm_model.specs.Kinds.{class_of}
 use Rattle.jvm_model.specs.Linked.{Linked}
 use Rattle.jvm_model.specs.Natives.{native_group, row_native}
-use Rattle.jvm_model.specs.Rows.{Answer, answer, no_row, ready, begun, refused, begun_at, begin}
-use Rattle.jvm_model.specs.State.{State, Turn, no_turn, test_at}
+use Rattle.jvm_model.specs.Rows.{Answer, answer, stuck_row, ready, begun, refused, begun_at, begin}
+use Rattle.jvm_model.specs.State.{State, Turn, stuck_turn, test_at}
 use Rattle.jvm_model.specs.Step.{after_native}
 use Rattle.jvm_model.specs.Throwing.{throws}
 use Rattle.jvm_model.specs.Working.{Working}
@@ -48,7 +48,7 @@ module _ (p : Program) (lk : Linked p) {M : Limits} where
   native-step-paced c d x w s h = paced_bind M (λ c d a. Pays p c d a) (λ c d a. d ≤ c) (row_native p x w) (after_native p s) c d (native-paced p lk w d c x h) (λ c d a q. by c d a q)
     where
       by : (c d : ℕ) (a : Answer Working) → Pays p c d a → PacedStep M c d (after_native p s a)
-      by c d no_row q = paced_done q
+      by c d stuck_row q = paced_done q
       by c d (answer Go t) q = paced_done q.0
       by c d (answer (Fault e) t) q = throws-paced c d e (record s { entries = t.entries; own = t.own }) q.0 q.1
       by c d (answer (Raise v) t) q = paced_done q.0
@@ -120,7 +120,7 @@ module _ (p : Program) (lk : Linked p) {M : Limits} where
 
   init-paced : (c d o : ℕ) (s : State) → d ≤ c → PacedStep M c d (drive_init p o s)
   unfolding drive_init
-  init-paced c d o s h = by_name c d (plain_method_in p init_name (class_at p (test_at p s.test).class).methods) {k = done no_turn} {f = λ m. drives p m (value.Obj o ∷ []) (Built o) s} (paced_done h) (λ m. drives-paced c d m (value.Obj o ∷ []) (Built o) s h)
+  init-paced c d o s h = by_name c d (plain_method_in p init_name (class_at p (test_at p s.test).class).methods) {k = done stuck_turn} {f = λ m. drives p m (value.Obj o ∷ []) (Built o) s} (paced_done h) (λ m. drives-paced c d m (value.Obj o ∷ []) (Built o) s h)
 
   method-paced : (c d o : ℕ) (s : State) → d ≤ c → PacedStep M c d (drive_method p o s)
   unfolding drive_method

@@ -22,7 +22,7 @@ use Rattle.jvm_model.specs.Library.{builtin_defs, builtin_methods}
 use Rattle.jvm_model.specs.Linked.{Linked}
 use Rattle.jvm_model.specs.Natives.{NativeGroup, of_object, native_group}
 use Rattle.jvm_model.specs.Raising.{row_raise}
-use Rattle.jvm_model.specs.Rows.{Answer, answer, no_row}
+use Rattle.jvm_model.specs.Rows.{Answer, answer, stuck_row}
 use Rattle.jvm_model.specs.State.{State, Turn, with_entries}
 use Rattle.jvm_model.specs.Step.{after_row, entered, row_here, acts, step, cost, touch}
 use Rattle.jvm_model.proofs.BuiltinRules.{method_keeps}
@@ -101,7 +101,7 @@ module _ (p : Program) (lk : Linked p) {M : Limits} {B : Type 0} where
   bounded t c d h = paced_map (λ c d a q. inl q) t c d h
 
   after-paced : (s : State) (c d : ℕ) (a : Answer Entries) → Cut p B c d a → CutStep M B c d (after_row p s a)
-  after-paced s c d no_row h = paced_done (inl h)
+  after-paced s c d stuck_row h = paced_done (inl h)
   after-paced s c d (answer Go t) h = paced_done h
   after-paced s c d (answer (Fault e) t) h = bounded _ c d (throws-paced p lk c d e (with_entries s t) h.0 h.1)
   after-paced s c d (answer (Raise v) t) h = paced_done (inl h.0)

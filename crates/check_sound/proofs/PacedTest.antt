@@ -7,7 +7,7 @@ use Rattle.jvm_model.specs.declared.values.Location.TheVariants as place
 use Rattle.jvm_model.specs.World.{World, at}
 use Rattle.jvm_model.specs.Access.{Ran, done, run}
 use Rattle.jvm_model.specs.Linked.{Linked}
-use Rattle.jvm_model.specs.State.{State, Turn, next, ended, no_turn, started}
+use Rattle.jvm_model.specs.State.{State, Turn, next, ended, stuck_turn, started}
 use Rattle.jvm_model.specs.Step.{step, cost, touch}
 use Rattle.jvm_model.specs.Suite.{End, finished, stuck, out_of_steps, after_step, whole, tree, Given, one_test}
 use Rattle.jvm_model.proofs.Binds.{run_bind}
@@ -61,7 +61,7 @@ module _ (p : Program) (lk : Linked p) where
   after_well : (n : ℕ) → ((s : State) (w : World) → RanWell w (run (whole p n s) w)) → (x : Turn) (w : World) → RanWell w (run (after_step (λ t. whole p n t) x) w)
   after_well n f (next t) w = f t w
   after_well n f (ended v o) w = ends_well w (finished v o)
-  after_well n f no_turn w = ends_well w stuck
+  after_well n f stuck_turn w = ends_well w stuck
 
   whole_well : (n : ℕ) (s : State) (w : World) → RanWell w (run (whole p n s) w)
   whole_well zero s w = ends_well w out_of_steps

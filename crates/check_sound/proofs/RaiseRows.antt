@@ -25,7 +25,7 @@ use Rattle.jvm_model.specs.Raising.{catches, handler_in, handlers_of, handler_fo
 use Rattle.type_frames.specs.Frames.{Slots}
 use Rattle.type_frames.specs.Descriptors.{name_of}
 use Rattle.type_frames.specs.Environment.{Environment, environment_of, is_target}
-use Rattle.type_frames.specs.Sides.{object_of}
+use Rattle.type_frames.specs.StackEffect.{object_of}
 use Rattle.type_frames.specs.Rules.{covers, caught, thrown, handles, all_handle, fits_at}
 use Rattle.type_frames.specs.Typing.{IsTyped}
 use Rattle.type_frames.specs.TypedState.{kind_at, IsInstance, Stands, Goes, IsTop, IsBelow, class_begun, IsThrowable}

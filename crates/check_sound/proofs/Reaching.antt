@@ -25,15 +25,15 @@ use Rattle.jvm_model.specs.State.{State, Turn, next}
 use Rattle.jvm_model.specs.Step.{row_here, turn}
 use Rattle.type_frames.specs.declared.vtype.VType.{VType}
 use Rattle.type_frames.specs.declared.vtype.VType.TheVariants.{Top, Int, Long, Object}
-use Rattle.type_frames.specs.declared.sides.Sides.{Sides}
-use Rattle.type_frames.specs.declared.sides.Need.TheVariants.{One}
+use Rattle.type_frames.specs.declared.stack_effect.StackEffect.{StackEffect}
+use Rattle.type_frames.specs.declared.stack_effect.OperandConstraint.TheVariants.{One}
 use Rattle.std.specs.Prelude.{slice_index_or}
 use Rattle.std.proofs.lemmas.List.{length-append}
 use Rattle.std.proofs.lemmas.Option.{same_Some}
 use Rattle.type_frames.specs.Frames.{Slots, same}
 use Rattle.type_frames.specs.Environment.{Environment}
 use Rattle.type_frames.specs.Descriptors.{types_of, class_name}
-use Rattle.type_frames.specs.Sides.{sides, two, long_need, const_type}
+use Rattle.type_frames.specs.StackEffect.{sides, two, long_need, const_type}
 use Rattle.type_frames.specs.Typing.{IsTyped}
 use Rattle.type_frames.specs.TypedState.{TypedWorld, TypedState, IsBelow}
 use Rattle.type_frames.proofs.Started.{started_law}
@@ -41,7 +41,7 @@ use Rattle.check_sound.specs.StepLaw.{StaysTyped}
 use Rattle.check_sound.specs.ReachLaw.{most_operands, HasStackLimits, puts, native_puts}
 use Rattle.check_sound.proofs.TreeRuns.{alike_itself, tree_leaves}
 use Rattle.check_sound.proofs.Ready.{TypedEntries, stub, Rest, Takes, NativeCall, Enters, Ends, Ready, ready, here, sides_at, names_form}
-use Rattle.check_sound.proofs.CallSides.{values_few, on_stack_length}
+use Rattle.check_sound.proofs.CallEffects.{values_few, on_stack_length}
 use Rattle.check_sound.proofs.ReturnRows.{SortOf, sort_of, back_room}
 use Rattle.check_sound.proofs.RaiseRows.{beneath}
 use Rattle.check_sound.proofs.ParameterTexts.{IsText}
@@ -94,7 +94,7 @@ const_length p (value.Lit n) = omega arith
 const_length p (value.Obj n) = omega arith
 
 -- nothing more, or as much as the instruction gives beyond what it takes
-Grown : Sides → Instr → Type 0
+Grown : StackEffect → Instr → Type 0
 Grown o i = (puts i ≡ 0) ⊎ (length o.takes + puts i ≤ length o.gives)
 
 -- the fields of static instructions have types

@@ -27,17 +27,17 @@ use Rattle.jvm_model.specs.Classes.{method_at, is_below, is_static, form_at, nex
 use Rattle.jvm_model.specs.Descriptors.{parameters, return_type}
 use Rattle.jvm_model.specs.Entries.{Entry, Entries, all_entries, entry_limit, no_entries, with_stack, with_place}
 use Rattle.jvm_model.specs.Linked.{IsPlace, IsForm, NamesForm, NamesBody, IsFormKind, IsBodyKind, IsFormFound}
-use Rattle.jvm_model.specs.Rows.{Answer, answer, no_row, goes_on, goes_to}
+use Rattle.jvm_model.specs.Rows.{Answer, answer, stuck_row, goes_on, goes_to}
 use Rattle.jvm_model.proofs.Ranges.{all_there}
 use Rattle.type_frames.specs.declared.vtype.VType.{VType}
 use Rattle.type_frames.specs.declared.vtype.VType.TheVariants.{Int, Long, Object}
 use Rattle.type_frames.specs.declared.vtype.Frame.{Frame}
-use Rattle.type_frames.specs.declared.sides.Sides.{Sides}
+use Rattle.type_frames.specs.declared.stack_effect.StackEffect.{StackEffect}
 use Rattle.type_frames.specs.Frames.{Slots}
 use Rattle.type_frames.specs.Given.{given_frames}
 use Rattle.type_frames.specs.Descriptors.{types_of, name_of}
 use Rattle.type_frames.specs.Environment.{Environment, environment_of, is_target, leads}
-use Rattle.type_frames.specs.Sides.{sides}
+use Rattle.type_frames.specs.StackEffect.{sides}
 use Rattle.type_frames.specs.Rules.{after, fits_at, all_read, can_set}
 use Rattle.type_frames.specs.Typing.{before, IsTyped}
 use Rattle.type_frames.specs.TypedState.{IsInRange, RefersTo, Stands, Goes, Waits, IsPushedBy, IsTop, IsBelow, AllBelow, called_by, class_begun, values_of, IsThrowable}
@@ -256,12 +256,12 @@ QuietBy p w next.Over s = ⊥
 
 abbrev pub Quiet : Program → World → Answer Entries → Type 0
 Quiet p w (answer x s) = QuietBy p w x s
-Quiet p w no_row = ⊥
+Quiet p w stuck_row = ⊥
 
 -- how a row may end
 abbrev pub Ends : Program → World → Answer Entries → Type 0
 Ends p w (answer x s) = EndsBy p w x s
-Ends p w no_row = ⊥
+Ends p w stuck_row = ⊥
 
 -- a row's typed tree
 abbrev pub Row : Program → World → Access (Answer Entries) → Type 0
@@ -297,7 +297,7 @@ pub record Ready (p : Program) (w : World) (s : Entries) (i : Instr) : Type 0 wh
 abbrev pub here : {p : Program} {w : World} {s : Entries} {i : Instr} → Ready p w s i → Environment
 here {p} {w} {s} {i} r = environment_of p (method_at p s.top.number) r.body r.given
 
-abbrev pub sides_at : {p : Program} {w : World} {s : Entries} {i : Instr} → Ready p w s i → Sides
+abbrev pub sides_at : {p : Program} {w : World} {s : Entries} {i : Instr} → Ready p w s i → StackEffect
 sides_at {p} {w} {s} {i} r = sides p (here r) s.top.pc r.types i
 
 -- the frame after the instruction

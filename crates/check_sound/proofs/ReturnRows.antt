@@ -29,7 +29,7 @@ use Rattle.type_frames.specs.declared.vtype.VType.{VType}
 use Rattle.type_frames.specs.declared.vtype.VType.TheVariants.{Int, Long, Object}
 use Rattle.type_frames.specs.Descriptors.{types_of}
 use Rattle.type_frames.specs.Environment.{Environment, environment_of}
-use Rattle.type_frames.specs.Sides.{sides, on_stack, result_types, return_typed}
+use Rattle.type_frames.specs.StackEffect.{sides, on_stack, result_types, return_typed}
 use Rattle.type_frames.specs.Rules.{turned}
 use Rattle.type_frames.specs.Typing.{IsTyped}
 use Rattle.type_frames.specs.TypedState.{IsInRange, Waits, IsTop, IsBelow, called_by}
@@ -38,7 +38,7 @@ use Rattle.check_sound.proofs.Held.{Is, Locals, Held}
 use Rattle.check_sound.proofs.Operands.{Operands, popping-fits, popping-long}
 use Rattle.check_sound.proofs.Arrive.{has_number, kept_at, arrived_next}
 use Rattle.check_sound.proofs.Ready.{TypedEntries, stub, Rest, IsEntry, closed, HasPlain, Ends, Row, Ready, here, rest, operands}
-use Rattle.check_sound.proofs.CallSides.{values_few, on_stack_length, call_of, Result, narrowed_plain, narrowed_range, push}
+use Rattle.check_sound.proofs.CallEffects.{values_few, on_stack_length, call_of, Result, narrowed_plain, narrowed_range, push}
 use Rattle.check_sound.proofs.RaiseRows.{Beneath, beneath, none_typed}
 
 -- what a return of this sort says of the result

@@ -6,15 +6,15 @@ use Rattle.jvm_model.specs.World.{World}
 use Rattle.jvm_model.specs.Entries.{Entries}
 use Rattle.jvm_model.specs.Classes.{field_at}
 use Rattle.jvm_model.specs.RowsStatics.{row_statics, read_static, write_static}
-use Rattle.type_frames.specs.declared.sides.Need.{Need}
+use Rattle.type_frames.specs.declared.stack_effect.OperandConstraint.{OperandConstraint}
 use Rattle.type_frames.specs.Descriptors.{types_of}
-use Rattle.type_frames.specs.Sides.{sides, needs_of}
+use Rattle.type_frames.specs.StackEffect.{sides, needs_of}
 use Rattle.type_frames.specs.Typing.{IsTyped}
 use Rattle.check_sound.proofs.Tree.{typed_read, typed_write}
 use Rattle.check_sound.proofs.Operands.{Operands, rest_of}
 use Rattle.check_sound.proofs.Ready.{Ends, Row, Ready, here, rest, operands, on, names_form}
 use Rattle.check_sound.proofs.Ends.{using-typed}
-use Rattle.check_sound.proofs.CallSides.{push}
+use Rattle.check_sound.proofs.CallEffects.{push}
 use Rattle.check_sound.proofs.DeclaredValues.{text_of_field, declared_result, argument_stored, popping-declared}
 
 module _ (p : Program) (ty : IsTyped p) {w : World} {s : Entries} where
@@ -32,5 +32,5 @@ module _ (p : Program) (ty : IsTyped p) {w : World} {s : Entries} where
       let d = (field_at p f).descriptor in
       let t = text_of_field d (ty.linked.listed.field_names f h).1 in
       using-typed p ty r (field_at p f).class (ty.linked.numbers.fields f h)
-      (popping-declared p ty (Ends p) d t (subst (λ (ns : List Need). Operands p w (here r) ns r.types.stack (rest r) s.top.stack) (sym (append-nil (needs_of d))) (operands r)) (λ v ws us a o.
+      (popping-declared p ty (Ends p) d t (subst (λ (ns : List OperandConstraint). Operands p w (here r) ns r.types.stack (rest r) s.top.stack) (sym (append-nil (needs_of d))) (operands r)) (λ v ws us a o.
       typed_write tt h (argument_stored p w d v t a) (on p ty r refl r.locals (rest_of o))))

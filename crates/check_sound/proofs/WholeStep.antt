@@ -15,13 +15,13 @@ use Rattle.jvm_model.specs.Classes.{method_at}
 use Rattle.jvm_model.specs.Entries.{Entries}
 use Rattle.jvm_model.specs.Natives.{row_native}
 use Rattle.jvm_model.specs.Driver.{drive}
-use Rattle.jvm_model.specs.Rows.{Answer, answer, no_row}
+use Rattle.jvm_model.specs.Rows.{Answer, answer, stuck_row}
 use Rattle.jvm_model.specs.RowsStatics.{row_statics}
 use Rattle.jvm_model.specs.RowsFields.{row_fields}
 use Rattle.jvm_model.specs.RowsCreate.{row_create}
 use Rattle.jvm_model.specs.RowsArrays.{row_arrays}
 use Rattle.jvm_model.specs.RowsCasts.{row_casts}
-use Rattle.jvm_model.specs.State.{State, Turn, next, ended, no_turn, test_at, with_entries}
+use Rattle.jvm_model.specs.State.{State, Turn, next, ended, stuck_turn, test_at, with_entries}
 use Rattle.jvm_model.specs.Step.{Group, moves, arith as of_arith, branches, statics, fields, create, arrays, casts, calls, returns, throw, group_of, row_throw, row_of, row, after_native, entered, after_row, row_or_none, row_here, acts, step}
 use Rattle.jvm_model.specs.Raising.{row_raise}
 use Rattle.jvm_model.specs.Initialise.{row_finish, row_fail}
@@ -95,7 +95,7 @@ module _ (p : Program) (ty : IsTyped p) (gs : Groups p) where
   here-typed w s k t = let r = ready p ty s k t in subst (λ (o : Option Instr). Row p w (row_or_none p o s)) (sym r.1) (row-typed w s r.0 r.2)
 
   quiet-typed : (w : World) (s : State) (a : Answer Entries) → Tested p w s → Quiet p w a → Step p w (after_row p s a)
-  quiet-typed w s no_row q h = absurd h
+  quiet-typed w s stuck_row q h = absurd h
   quiet-typed w s (answer after.Go t) q h = typed_done (goes_typed p w s t h q)
   quiet-typed w s (answer (after.Fault c) t) q h = throws-typed p ty c (with_entries s t) h.0 h.1 (record { test = q.test; stage = q.stage })
   quiet-typed w s (answer (after.Raise v) t) q h = typed_done (raise_typed p w v (with_entries s t) h.0 h.1 (record { test = q.test; stage = q.stage }))
@@ -104,7 +104,7 @@ module _ (p : Program) (ty : IsTyped p) (gs : Groups p) where
   quiet-typed w s (answer after.Over t) q h = absurd h
 
   after-typed : (w : World) (s : State) (a : Answer Entries) → s.raised ≡ None → Tested p w s → Ends p w a → Step p w (after_row p s a)
-  after-typed w s no_row n q h = absurd h
+  after-typed w s stuck_row n q h = absurd h
   after-typed w s (answer after.Go t) n q h = typed_done (goes_typed p w s t h q)
   after-typed w s (answer (after.Fault c) t) n q h = throws-typed p ty c (with_entries s t) h.0 h.1 (record { test = q.test; stage = q.stage })
   after-typed w s (answer (after.Raise v) t) n q h = typed_done (raise_typed p w v (with_entries s t) h.0 h.1 (record { test = q.test; stage = q.stage }))
@@ -153,12 +153,12 @@ module _ (p : Program) (ty : IsTyped p) (gs : Groups p) where
   left : (u w : World) (x : Turn) → Alike u w → TypedWorld p w → TurnsTo p u x → StaysTyped p w x
   left u w (next s) a t h = typed_of u w s a t h
   left u w (ended v o) a t h = t
-  left u w no_turn a t h = absurd h
+  left u w stuck_turn a t h = absurd h
 
   is_turn : (v : World) (x : Turn) → TurnsTo p v x → IsTurn x
   is_turn v (next s) h = tt
   is_turn v (ended x o) h = tt
-  is_turn v no_turn h = h
+  is_turn v stuck_turn h = h
 
   pub stays_typed : (w : World) (s : State) → TypedState p w s → IsSafe IsTurn (step p s) w × StaysTyped p (run (step p s) w).world (run (step p s) w).value
   stays_typed w s t =

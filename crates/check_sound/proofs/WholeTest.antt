@@ -26,7 +26,7 @@ use Rattle.jvm_model.specs.Builtin.{object_class, string_class, stream_class}
 use Rattle.jvm_model.specs.Classes.{no_class, no_field, field_at, is_interface}
 use Rattle.jvm_model.specs.Linked.{IsClass, first_or, opens, takes, class_descriptor, is_interface_at}
 use Rattle.jvm_model.specs.Rows.{constant_kind}
-use Rattle.jvm_model.specs.State.{State, Turn, next, ended, no_turn, started, test_at}
+use Rattle.jvm_model.specs.State.{State, Turn, next, ended, stuck_turn, started, test_at}
 use Rattle.jvm_model.specs.Step.{step}
 use Rattle.jvm_model.specs.Suite.{End, finished, stuck, out_of_steps, after_step, whole, tree, opening, Given, given_at, one_test, with_first, runs_on}
 use Rattle.jvm_model.specs.View.{IsSafe}
@@ -75,7 +75,7 @@ module _ (p : Program) (ty : IsTyped p) (gs : Groups p) where
       by : ((u : World) (t : State) → Local p u t → Tree p EndsWell u (whole p n t)) → (v : World) (a : Turn) → TurnsTo p v a → Tree p EndsWell v (after_step (λ t. whole p n t) a)
       by f v (next t) q = f v t q
       by f v (ended x o) q = typed_done tt
-      by f v no_turn q = absurd q
+      by f v stuck_turn q = absurd q
 
   pub test_typed : (t b : ℕ) (w : World) → TypedWorld p w → 0 < t → t ≤ length p.tests → IsSafe IsEnd (tree p t b) w × TypedWorld p (run (tree p t b) w).world
   unfolding tree EndsWell

@@ -10,13 +10,13 @@ use Rattle.jvm_model.specs.declared.program.Placed.{Placed}
 use Rattle.type_frames.specs.declared.vtype.VType.{VType}
 use Rattle.type_frames.specs.declared.vtype.VType.TheVariants.{Top, Long}
 use Rattle.type_frames.specs.declared.vtype.Frame.{Frame}
-use Rattle.type_frames.specs.declared.sides.Setting.{Setting}
-use Rattle.type_frames.specs.declared.sides.Turn.{Turn}
-use Rattle.type_frames.specs.declared.sides.Turn.TheVariants.{Keep, All}
+use Rattle.type_frames.specs.declared.stack_effect.LocalUpdate.{LocalUpdate}
+use Rattle.type_frames.specs.declared.stack_effect.Substitution.{Substitution}
+use Rattle.type_frames.specs.declared.stack_effect.Substitution.TheVariants.{Keep, All}
 use Rattle.type_frames.specs.Frames.{Slots, slots_of, padded, spread, same, index_of}
 use Rattle.type_frames.specs.Given.{entry_types, all_types, joined, locals_after, is_place, frame_at, frame_then, frames_from, body_frames, given_frames}
 use Rattle.type_frames.specs.Environment.{Environment, environment_of, given_at, is_target, found_at}
-use Rattle.type_frames.specs.Sides.{sides}
+use Rattle.type_frames.specs.StackEffect.{sides}
 use Rattle.type_frames.specs.Rules.{turned, turned_one, cut_long, set_one, set_all, after, opening}
 use Rattle.type_frames.specs.Typing.{passed_on, taken_at, taken_by, incoming, before}
 
@@ -83,7 +83,7 @@ cut_length ts (suc n) = by (same (slice_index_or ts n Top) Long)
     by true = length_slice_set ts n Top
     by false = refl
 
-set_length : (ss : List Setting) (ts : List VType) → length (set_all ts ss) ≡ length ts
+set_length : (ss : List LocalUpdate) (ts : List VType) → length (set_all ts ss) ≡ length ts
 set_length [] ts = refl
 set_length (s ∷ ss) ts = set_length ss (set_one ts s) ∙ (length_slice_set (cut_long ts s.local) s.local s.to ∙ cut_length ts s.local)
 
@@ -91,7 +91,7 @@ map_length : (a b : VType) (ts : List VType) → length (map (turned_one a b) ts
 map_length a b [] = refl
 map_length a b (t ∷ ts) = ap suc (map_length a b ts)
 
-pub turned_length : (x : Turn) (ts : List VType) → length (turned x ts) ≡ length ts
+pub turned_length : (x : Substitution) (ts : List VType) → length (turned x ts) ≡ length ts
 turned_length Keep ts = refl
 turned_length (All a b) ts = map_length a b ts
 

@@ -3,7 +3,7 @@ use Rattle.std.specs.Prelude.{◌≡◌, ℕ, ◌<◌}
 use Rattle.jvm_model.specs.declared.program.Program.{Program}
 use Rattle.jvm_model.specs.World.{World, size, object_at}
 use Rattle.jvm_model.specs.Access.{run}
-use Rattle.jvm_model.specs.State.{State, Turn, next, ended, no_turn}
+use Rattle.jvm_model.specs.State.{State, Turn, next, ended, stuck_turn}
 use Rattle.jvm_model.specs.Step.{step}
 use Rattle.jvm_model.specs.View.{IsSafe, IsTurn}
 use Rattle.type_frames.specs.Typing.{IsTyped}
@@ -13,7 +13,7 @@ use Rattle.type_frames.specs.TypedState.{TypedWorld, TypedState}
 abbrev pub StaysTyped : Program → World → Turn → Type 0
 StaysTyped p w (next s) = TypedState p w s
 StaysTyped p w (ended v o) = TypedWorld p w
-StaysTyped p w no_turn = ⊥
+StaysTyped p w stuck_turn = ⊥
 
 -- From a typed state of a typed program the step reads and writes only what is there, and it has a row, after which the
 -- state is typed again, or the test ended over a typed world.

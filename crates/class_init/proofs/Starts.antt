@@ -13,7 +13,7 @@ use Rattle.jvm_model.specs.Entries.{Entries, is_full}
 use Rattle.jvm_model.specs.Initialise.{Part, looks, looked_at, starts, starts_body}
 use Rattle.jvm_model.specs.Rows.{Answer}
 use Rattle.jvm_model.specs.View.{Counted, over, counted, touched, IsSafe, IsRow}
-use Rattle.vm_tables.specs.declared.parts.Part.{Part as Looked}
+use Rattle.vm_tables.specs.declared.init_plan.Part.{Part as Looked}
 use Rattle.vm_tables.specs.Starts.{part_of}
 use Rattle.class_init.specs.Starting.{HasStart}
 

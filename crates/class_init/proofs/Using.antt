@@ -13,9 +13,9 @@ use Rattle.jvm_model.specs.Rows.{answer, ready, begun, refused, begin, once, usi
 use Rattle.jvm_model.specs.View.{over, ended, counted, counts_one, and_then, touched, paid, IsSafe, IsRow}
 use Rattle.jvm_model.proofs.Binds.{counted_bind, touched_bind, safe_begins}
 use Rattle.jvm_model.proofs.Uses.{used_ready, used_begun, used_refused, used_safe, used_touches}
-use Rattle.vm_mem.specs.Story.{Story}
-use Rattle.vm_mem.specs.Meets.{Row, IsReady, Meets, Tells}
-use Rattle.class_init.specs.Uses.{IsUsable, MeetsUse, TellsUse}
+use Rattle.vm_mem.specs.Trace.{Trace}
+use Rattle.vm_mem.specs.Refines.{Row, IsReady, Refines, Traces}
+use Rattle.class_init.specs.Uses.{IsUsable, RefinesUse, TracesUse}
 use Rattle.class_init.specs.declared.uses.Use.{Use}
 use Rattle.class_init.specs.declared.uses.Use.TheVariants.{Ready, Begun, Fault, Over}
 
@@ -23,18 +23,18 @@ module _ (t u : Row Entries) (p : Program) (c : ℕ) (s : Entries) (w : World) (
   pub row_usable : IsReady t p w s → IsUsable c p w s
   row_usable h = safe_begins IsRow (begin p c s) (once s (u p s)) w (subst (λ r. IsSafe IsRow r w) e h)
 
-  module _ (x : Use) (s' : Entries) (w' : World) (left' : ℕ) (m : MeetsUse c p w s left x s' w' left') where
+  module _ (x : Use) (s' : Entries) (w' : World) (left' : ℕ) (m : RefinesUse c p w s left x s' w' left') where
     ready_ends : x ≡ Ready → counted (begin p c s) w left ≡ ended ready w' left'
-    ready_ends q = subst (λ y. MeetsUse c p w s left y s' w' left') q m
+    ready_ends q = subst (λ y. RefinesUse c p w s left y s' w' left') q m
 
     begun_ends : x ≡ Begun → counted (spend 1 (begin p c s)) w left ≡ ended (begun s') w' left'
-    begun_ends q = subst (λ y. MeetsUse c p w s left y s' w' left') q m
+    begun_ends q = subst (λ y. RefinesUse c p w s left y s' w' left') q m
 
     fault_ends : (d : ℕ) → x ≡ Fault d → counted (begin p c s) w left ≡ ended (refused d) w' left'
-    fault_ends d q = subst (λ y. MeetsUse c p w s left y s' w' left') q m
+    fault_ends d q = subst (λ y. RefinesUse c p w s left y s' w' left') q m
 
     over_ends : x ≡ Over → counted (spend 1 (begin p c s)) w left ≡ over
-    over_ends q = subst (λ y. MeetsUse c p w s left y s' w' left') q m
+    over_ends q = subst (λ y. RefinesUse c p w s left y s' w' left') q m
 
     same_at_ready : x ≡ Ready → (x ≢ Begun → s' ≡ s) → s' ≡ s
     same_at_ready q same = same (λ b. cc)
@@ -47,45 +47,45 @@ module _ (t u : Row Entries) (p : Program) (c : ℕ) (s : Entries) (w : World) (
         let k : IsSafe IsRow (u p s) w' = used_safe p c s (u p s) w left w' left' (ready_ends q) (subst (λ r. IsSafe IsRow r w) e h) in
         subst (λ r. IsSafe IsRow (u p' r) w') (sym (same_at_ready q same)) (subst (λ r. IsSafe IsRow (u r s) w') (sym of) k)
 
-    ready_one : (y : Next) (s2 : Entries) (w2 : World) (left2 : ℕ) → x ≡ Ready → Meets u p w' s left' y s2 w2 left2 → Meets t p w s left y s2 w2 left2
+    ready_one : (y : Next) (s2 : Entries) (w2 : World) (left2 : ℕ) → x ≡ Ready → Refines u p w' s left' y s2 w2 left2 → Refines t p w s left y s2 w2 left2
     ready_one y s2 w2 left2 q k = ap (λ r. counted (paid (counts_one p y) r) w left) e ∙ used_ready p c s (u p s) w left (counts_one p y) w' left' (ready_ends q) ∙ k
 
     pub ready_meets : {E : Type 0} (p' : Program) (r : Result Next E) (s2 : Entries) (w2 : World) (left2 : ℕ) → x ≡ Ready → p' ≡ p → (x ≢ Begun → s' ≡ s) →
-        IfOk r (λ y. Meets u p' w' s' left' y s2 w2 left2) → IfOk r (λ y. Meets t p w s left y s2 w2 left2)
+        IfOk r (λ y. Refines u p' w' s' left' y s2 w2 left2) → IfOk r (λ y. Refines t p w s left y s2 w2 left2)
     ready_meets p' r s2 w2 left2 q of same =
-        IfOk-weaker r (λ y. Meets u p' w' s' left' y s2 w2 left2) (λ y. Meets t p w s left y s2 w2 left2)
-        (λ y k. ready_one y s2 w2 left2 q (subst (λ z. Meets u p w' z left' y s2 w2 left2) (same_at_ready q same) (subst (λ z. Meets u z w' s' left' y s2 w2 left2) of k)))
+        IfOk-weaker r (λ y. Refines u p' w' s' left' y s2 w2 left2) (λ y. Refines t p w s left y s2 w2 left2)
+        (λ y k. ready_one y s2 w2 left2 q (subst (λ z. Refines u p w' z left' y s2 w2 left2) (same_at_ready q same) (subst (λ z. Refines u z w' s' left' y s2 w2 left2) of k)))
 
     ready_touches : x ≡ Ready → (ts : List Touch) → touched (t p s) w ts ≡ touched (u p s) w' (touched (begin p c s) w ts)
     ready_touches q ts = ap (λ r. touched r w ts) e ∙ used_touches p c s (u p s) w left w' left' (ready_ends q) ts
 
-    module _ {M : Type 0} (follows : M → Story → List Touch → Type 0) (m0 m1 : M) (told : TellsUse c p w s x follows m0 m1) where
-      ready_told : (m2 : M) (y : Next) → x ≡ Ready → Tells u p w' s y follows m1 m2 → Tells t p w s y follows m0 m2
+    module _ {M : Type 0} (follows : M → Trace → List Touch → Type 0) (m0 m1 : M) (told : TracesUse c p w s x follows m0 m1) where
+      ready_told : (m2 : M) (y : Next) → x ≡ Ready → Traces u p w' s y follows m1 m2 → Traces t p w s y follows m0 m2
       ready_told m2 y q k = λ n h ts f. subst (λ r. follows m2 h r) (sym (ready_touches q ts)) (k n h (touched (begin p c s) w ts) (told (λ b. cc) h ts f))
 
       pub ready_tells : {E : Type 0} (m2 : M) (p' : Program) (r : Result Next E) → x ≡ Ready → p' ≡ p → (x ≢ Begun → s' ≡ s) →
-          IfOk r (λ y. Tells u p' w' s' y follows m1 m2) → IfOk r (λ y. Tells t p w s y follows m0 m2)
+          IfOk r (λ y. Traces u p' w' s' y follows m1 m2) → IfOk r (λ y. Traces t p w s y follows m0 m2)
       ready_tells m2 p' r q of same =
-          IfOk-weaker r (λ y. Tells u p' w' s' y follows m1 m2) (λ y. Tells t p w s y follows m0 m2)
-          (λ y k. ready_told m2 y q (subst (λ z. Tells u p w' z y follows m1 m2) (same_at_ready q same) (subst (λ z. Tells u z w' s' y follows m1 m2) of k)))
+          IfOk-weaker r (λ y. Traces u p' w' s' y follows m1 m2) (λ y. Traces t p w s y follows m0 m2)
+          (λ y k. ready_told m2 y q (subst (λ z. Traces u p w' z y follows m1 m2) (same_at_ready q same) (subst (λ z. Traces u z w' s' y follows m1 m2) of k)))
 
-      pub begun_tells : x ≡ Begun → Tells t p w s next.Go follows m0 m1
+      pub begun_tells : x ≡ Begun → Traces t p w s next.Go follows m0 m1
       begun_tells q = λ n h ts f. subst (λ r. follows m1 h r)
           (sym (ap (λ r. touched r w ts) e ∙ touched_bind (spend 1 (begin p c s)) (once s (u p s)) w left (begun s') w' left' (begun_ends q) ts))
           (told (λ b. cc) h ts f)
 
-      pub fault_tells : (d : ℕ) → x ≡ Fault d → Tells t p w s (next.Fault d) follows m0 m1
+      pub fault_tells : (d : ℕ) → x ≡ Fault d → Traces t p w s (next.Fault d) follows m0 m1
       fault_tells d q = λ n h ts f. subst (λ r. follows m1 h r)
           (sym (ap (λ r. touched r w ts) e ∙ touched_bind (begin p c s) (once s (u p s)) w left (refused d) w' left' (fault_ends d q) ts))
           (told (λ b. cc) h ts f)
 
-    pub begun_meets : x ≡ Begun → Meets t p w s left next.Go s' w' left'
+    pub begun_meets : x ≡ Begun → Refines t p w s left next.Go s' w' left'
     begun_meets q = ap (λ r. counted (spend 1 r) w left) e ∙ used_begun p c s (u p s) w left s' w' left' (begun_ends q)
 
-    pub fault_meets : (d : ℕ) → x ≡ Fault d → (x ≢ Begun → s' ≡ s) → Meets t p w s left (next.Fault d) s' w' left'
+    pub fault_meets : (d : ℕ) → x ≡ Fault d → (x ≢ Begun → s' ≡ s) → Refines t p w s left (next.Fault d) s' w' left'
     fault_meets d q same = ap (λ r. counted r w left) e ∙ used_refused p c s (u p s) w left d w' left' (fault_ends d q)
         ∙ ap (λ z. ended (answer (next.Fault d) z) w' left') (sym (same_at_fault d q same))
 
-    pub over_meets : x ≡ Over → Meets t p w s left next.Over s' w' left'
+    pub over_meets : x ≡ Over → Refines t p w s left next.Over s' w' left'
     over_meets q = ap (λ r. counted (spend 1 r) w left) e ∙ counted_bind (spend 1 (begin p c s)) (once s (u p s)) w left
         ∙ ap (λ r. and_then r (once s (u p s))) (over_ends q)

@@ -7,7 +7,7 @@ use Rattle.jvm_model.specs.Classes.{class_at, method_at}
 use Rattle.jvm_model.specs.Rows.{none_here}
 use Rattle.jvm_model.specs.Initialise.{Part, row_fail, finished, looks, looked_at, starts, starts_body}
 use Rattle.jvm_model.specs.Entries.{Entries}
-use Rattle.vm_mem.specs.Meets.{Row}
+use Rattle.vm_mem.specs.Refines.{Row}
 
 abbrev pub fail_row : Value → Row Entries
 fail_row v p s = row_fail p v s

@@ -6,7 +6,7 @@ use Rattle.jvm_model.specs.World.{World}
 use Rattle.jvm_model.specs.Entries.{Entries}
 use Rattle.jvm_model.specs.Rows.{Used, ready, begun, refused, begin}
 use Rattle.jvm_model.specs.View.{Counted, over, ended, counted, paid, touched, IsSafe, Any}
-use Rattle.vm_mem.specs.Story.{Story}
+use Rattle.vm_mem.specs.Trace.{Trace}
 use Rattle.class_init.specs.declared.uses.Use.{Use}
 use Rattle.class_init.specs.declared.uses.Use.TheVariants.{Ready, Begun, Fault, Over}
 
@@ -29,9 +29,9 @@ abbrev pub IsUsable : ℕ → Program → World → Entries → Type 0
 IsUsable c p w s = IsSafe Any (begin p c s) w
 
 -- the use of the class, with the 1 of the step where the answer counts it, ends as a call answered
-abbrev pub MeetsUse : ℕ → Program → World → Entries → ℕ → Use → Entries → World → ℕ → Type 0
-MeetsUse c p w s left u s' w' left' = counted (paid (counts_step u) (begin p c s)) w left ≡ use_outcome u s' w' left'
+abbrev pub RefinesUse : ℕ → Program → World → Entries → ℕ → Use → Entries → World → ℕ → Type 0
+RefinesUse c p w s left u s' w' left' = counted (paid (counts_step u) (begin p c s)) w left ≡ use_outcome u s' w' left'
 
 -- unless its cost is above the units left, a memory then follows the touches of the use
-abbrev pub TellsUse : {M : Type 0} → ℕ → Program → World → Entries → Use → (M → Story → List Touch → Type 0) → M → M → Type 0
-TellsUse c p w s u follows old new = u ≢ Over → (h : Story) (ts : List Touch) → follows old h ts → follows new h (touched (begin p c s) w ts)
+abbrev pub TracesUse : {M : Type 0} → ℕ → Program → World → Entries → Use → (M → Trace → List Touch → Type 0) → M → M → Type 0
+TracesUse c p w s u follows old new = u ≢ Over → (h : Trace) (ts : List Touch) → follows old h ts → follows new h (touched (begin p c s) w ts)

@@ -2,7 +2,7 @@
 
 ghost use Rattle.std.specs.Prelude.{◌≡◌, IfOk, OnOk};
 ghost use Rattle.jvm_model.specs.Initialise as initialise;
-ghost use Rattle.vm_mem.specs.Meets.{IsReady, Meets, Tells};
+ghost use Rattle.vm_mem.specs.Refines.{IsReady, Refines, Traces};
 ghost use Rattle.class_init.specs.Starting.{fail_row};
 
 use et_base::NoMemory;
@@ -28,10 +28,10 @@ pub fn fail<M: Memory>(
     requires program { p.now ≡ M.program memory.old }
     requires row { IsReady (fail_row thrown)
         (M.program memory.old) (M.world memory.old) stack.old }
-    ensures meets { IfOk result (λ x. Meets (fail_row thrown)
+    ensures meets { IfOk result (λ x. Refines (fail_row thrown)
         (M.program memory.old) (M.world memory.old) stack.old left.old
         x stack.new (M.world memory.new) left.new) }
-    ensures told { IfOk result (λ x. Tells (fail_row thrown)
+    ensures told { IfOk result (λ x. Traces (fail_row thrown)
         (M.program memory.old) (M.world memory.old) stack.old
         x M.follows memory.old memory.new) }
     ensures of { OnOk result (M.program memory.new ≡ M.program memory.old) }

@@ -4,7 +4,7 @@ ghost use Rattle.std.specs.Prelude.{◌≡◌, ◌≤◌, ◌-◌, IfOk, OnOk, m
 ghost use Rattle.jvm_model.specs.declared.state.EntryKind.TheVariants.{InClass};
 ghost use Rattle.jvm_model.specs.Initialise.{row_finish};
 ghost use Rattle.vm_tables.specs.Starts.{part_of};
-ghost use Rattle.vm_mem.specs.Meets.{IsReady, Meets, Tells};
+ghost use Rattle.vm_mem.specs.Refines.{IsReady, Refines, Traces};
 ghost use Rattle.class_init.specs.Starting.{leave_row, look_row};
 
 use crate::starting::{begin_part, start};
@@ -33,10 +33,10 @@ pub fn finish<M: Memory>(
     requires tables { tables.now ≡ M.program memory.old }
     requires row { IsReady row_finish
         (M.program memory.old) (M.world memory.old) stack.old }
-    ensures meets { IfOk result (λ x. Meets row_finish
+    ensures meets { IfOk result (λ x. Refines row_finish
         (M.program memory.old) (M.world memory.old) stack.old left.old
         x stack.new (M.world memory.new) left.new) }
-    ensures told { IfOk result (λ x. Tells row_finish
+    ensures told { IfOk result (λ x. Traces row_finish
         (M.program memory.old) (M.world memory.old) stack.old
         x M.follows memory.old memory.new) }
     ensures of { OnOk result (M.program memory.new ≡ M.program memory.old) }
@@ -61,10 +61,10 @@ fn leave<M: Memory>(
 ) -> Result<Next, NoMemory>
     requires row { IsReady leave_row
         (M.program memory.old) (M.world memory.old) stack.old }
-    ensures meets { IfOk result (λ x. Meets leave_row
+    ensures meets { IfOk result (λ x. Refines leave_row
         (M.program memory.old) (M.world memory.old) stack.old left.old
         x stack.new (M.world memory.new) left.new) }
-    ensures told { IfOk result (λ x. Tells leave_row
+    ensures told { IfOk result (λ x. Traces leave_row
         (M.program memory.old) (M.world memory.old) stack.old
         x M.follows memory.old memory.new) }
     ensures of { OnOk result (M.program memory.new ≡ M.program memory.old) }
@@ -98,10 +98,10 @@ fn look<M: Memory>(
     requires spare { spare ≤ left.old }
     requires row { IsReady (look_row (map part_of parts.now) (left.old - spare))
         (M.program memory.old) (M.world memory.old) stack.old }
-    ensures meets { IfOk result (λ x. Meets (look_row (map part_of parts.now) (left.old - spare))
+    ensures meets { IfOk result (λ x. Refines (look_row (map part_of parts.now) (left.old - spare))
         (M.program memory.old) (M.world memory.old) stack.old left.old
         x stack.new (M.world memory.new) left.new) }
-    ensures told { IfOk result (λ x. Tells (look_row (map part_of parts.now) (left.old - spare))
+    ensures told { IfOk result (λ x. Traces (look_row (map part_of parts.now) (left.old - spare))
         (M.program memory.old) (M.world memory.old) stack.old
         x M.follows memory.old memory.new) }
     ensures of { OnOk result (M.program memory.new ≡ M.program memory.old) }

@@ -4,7 +4,7 @@ ghost use Rattle.std.specs.Prelude.{◌≡◌, ◌≤◌, ◌-◌, IfOk, OnOk, I
 ghost use Rattle.jvm_model.specs.declared.state.EntryKind.TheVariants.{InClass};
 ghost use Rattle.jvm_model.specs.Classes.{class_at, method_at};
 ghost use Rattle.jvm_model.specs.World.{World};
-ghost use Rattle.vm_mem.specs.Meets.{IsReady, Meets, Tells};
+ghost use Rattle.vm_mem.specs.Refines.{IsReady, Refines, Traces};
 ghost use Rattle.class_init.specs.Starting.{begin_row, start_row, enter_row, HasStart};
 
 use et_base::NoMemory;
@@ -23,10 +23,10 @@ pub fn begin_part<M: Memory>(
     requires spare { spare ≤ left.old }
     requires row { IsReady (begin_row class (left.old - spare))
         (M.program memory.old) (M.world memory.old) stack.old }
-    ensures meets { IfOk result (λ x. Meets (begin_row class (left.old - spare))
+    ensures meets { IfOk result (λ x. Refines (begin_row class (left.old - spare))
         (M.program memory.old) (M.world memory.old) stack.old left.old
         x stack.new (M.world memory.new) left.new) }
-    ensures told { IfOk result (λ x. Tells (begin_row class (left.old - spare))
+    ensures told { IfOk result (λ x. Traces (begin_row class (left.old - spare))
         (M.program memory.old) (M.world memory.old) stack.old
         x M.follows memory.old memory.new) }
     ensures of { OnOk result (M.program memory.new ≡ M.program memory.old) }
@@ -61,7 +61,7 @@ pub fn start(
     requires kind { stack.old.top.kind ≡ InClass false }
     requires spare { spare ≤ left.old }
     requires start { HasStart p.now (class_at p.now stack.old.top.number).initialiser }
-    ensures { IfOk result (λ x. (w : World) → Meets (start_row (left.old - spare))
+    ensures { IfOk result (λ x. (w : World) → Refines (start_row (left.old - spare))
         p.now w stack.old left.old x stack.new w left.new) }
 {
     match initialiser(p, stack.number()) {
@@ -98,7 +98,7 @@ fn enter(
     requires kind { stack.old.top.kind ≡ InClass false }
     requires spare { spare ≤ left.old }
     requires code { IsSome (method_at p.now method).body }
-    ensures { IfOk result (λ x. (w : World) → Meets (enter_row method (left.old - spare))
+    ensures { IfOk result (λ x. (w : World) → Refines (enter_row method (left.old - spare))
         p.now w stack.old left.old x stack.new w left.new) }
 {
     let Some(record) = p.method(method) else {

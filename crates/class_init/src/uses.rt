@@ -1,7 +1,7 @@
 //! The use of a class.
 
 ghost use Rattle.std.specs.Prelude.{◌≡◌, ◌≢◌, IfOk, OnOk};
-ghost use Rattle.class_init.specs.Uses.{IsUsable, MeetsUse, TellsUse};
+ghost use Rattle.class_init.specs.Uses.{IsUsable, RefinesUse, TracesUse};
 
 use et_base::NoMemory;
 use jvm_model::{InitState, NO_CLASS_DEF_FOUND_ERROR, STACK_OVERFLOW_ERROR};
@@ -34,10 +34,10 @@ pub fn begin_use<M: Memory>(
 ) -> Result<Use, NoMemory>
     requires tables { tables.now ≡ M.program memory.old }
     requires safe { IsUsable class (M.program memory.old) (M.world memory.old) stack.old }
-    ensures meets { IfOk result (λ u. MeetsUse class
+    ensures meets { IfOk result (λ u. RefinesUse class
         (M.program memory.old) (M.world memory.old) stack.old left.old
         u stack.new (M.world memory.new) left.new) }
-    ensures told { IfOk result (λ u. TellsUse class
+    ensures told { IfOk result (λ u. TracesUse class
         (M.program memory.old) (M.world memory.old) stack.old
         u M.follows memory.old memory.new) }
     ensures entries { IfOk result (λ u. u ≢ Use.Begun → stack.new ≡ stack.old) }

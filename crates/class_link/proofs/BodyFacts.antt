@@ -30,7 +30,7 @@ use Rattle.jvm_model.specs.declared.program.Placed.{Placed}
 use Rattle.jvm_model.specs.Linked.{IsForm, IsPlace, IsHandler, IsBody, KeysAscend, Ascends, place_listed, dims_of}
 use Rattle.code_forms.specs.declared.references.Target.TheVariants as target
 use Rattle.class_link.specs.ClassNames.{text_at, class_number, base_of, array_kind, kind_of}
-use Rattle.class_link.specs.References.{Setting, target_of}
+use Rattle.class_link.specs.References.{LinkEnvironment, target_of}
 use Rattle.code_forms.specs.Operands.{number_in, index_in}
 use Rattle.code_forms.specs.Forms as forms
 use Rattle.code_forms.specs.Forms.{form_of}
@@ -68,13 +68,13 @@ typed_only None j e = absurd cc
 typed_only (Some k) j e = cc
 
 -- the type that an array class stands for has the dimensions of its name
-pub type_dims : (s : Setting) (slots : List (Option Entry)) (e : Option Entry) (k : Kind) → 0 < dimensions (class_name slots e) → target_of s slots e ≡ Some (target.Type k) → dims_of k ≡ dimensions (class_name slots e)
+pub type_dims : (s : LinkEnvironment) (slots : List (Option Entry)) (e : Option Entry) (k : Kind) → 0 < dimensions (class_name slots e) → target_of s slots e ≡ Some (target.Type k) → dims_of k ≡ dimensions (class_name slots e)
 unfolding target_of
 type_dims s slots (Some (entry.Class name)) k some e = kind_dims s.names (text_at slots name) k some (typed_only (kind_of s.names (text_at slots name)) k e)
 type_dims s slots _ k some e = absurd (omega (arith, some))
 
 -- multianewarray makes one dimension at least, and no more than its type has
-pub makes_nested : (s : Setting) (slots : List (Option Entry)) (ops : List RawOp) (total : ℕ) (o : RawOp) → OpFacts slots ops total o → MakesNested o (target_of s slots (entry_of slots (index_in o)))
+pub makes_nested : (s : LinkEnvironment) (slots : List (Option Entry)) (ops : List RawOp) (total : ℕ) (o : RawOp) → OpFacts slots ops total o → MakesNested o (target_of s slots (entry_of slots (index_in o)))
 makes_nested s slots ops total o facts typed single k is =
     let n : IndexCount (MakesArrays slots) o.args = nested_args slots ops total o facts typed single in
     let index : index_in o ≡ n.index = first_index o n.index (pos n.count ∷ []) n.is n.small in
@@ -138,7 +138,7 @@ constant_form p b (Obj o) h = h
 constant_form p b _ h = tt
 
 -- an instruction's form is as the grammar asks, where its target is in a program
-pub is_form : (p : Program) (s : Setting) (slots : List (Option Entry)) (ops : List RawOp) (total : ℕ) (b : Body) (o : RawOp) → HasPlaces ops b → OpFacts slots ops total o → IfSome (target_of s slots (entry_of slots (index_in o))) (IsTarget p) → IsForm b (form_of (target_of s slots (entry_of slots (index_in o))) o)
+pub is_form : (p : Program) (s : LinkEnvironment) (slots : List (Option Entry)) (ops : List RawOp) (total : ℕ) (b : Body) (o : RawOp) → HasPlaces ops b → OpFacts slots ops total o → IfSome (target_of s slots (entry_of slots (index_in o))) (IsTarget p) → IsForm b (form_of (target_of s slots (entry_of slots (index_in o))) o)
 is_form p s slots ops total b o has facts there = form_case (IsForm b) (target_of s slots (entry_of slots (index_in o))) o (record {
   plain = λ f is. (plain_form b p 0 f is).0;
   constant = λ _ _ v is. constant_form p b v (subst (λ t. IfSome t (IsTarget p)) is there);
@@ -163,19 +163,19 @@ is_form p s slots ops total b o has facts there = form_case (IsForm b) (target_o
 eqb_sym : (a b : ℕ) → eqb a b ≡ eqb b a
 eqb_sym a b = grind (arith, nat_tests)
 
-listed_same : (s : Setting) (slots : List (Option Entry)) (ops : List RawOp) (n : ℕ) → place_listed n (map (placed s slots) ops) ≡ has_start ops n
+listed_same : (s : LinkEnvironment) (slots : List (Option Entry)) (ops : List RawOp) (n : ℕ) → place_listed n (map (placed s slots) ops) ≡ has_start ops n
 listed_same s slots [] n = refl
 listed_same s slots (o ∷ ops) n = (λ i. eqb_sym n o.pc i || listed_same s slots ops n i)
 
-ascends_same : (s : Setting) (slots : List (Option Entry)) (n : ℕ) (ops : List RawOp) → Ascend n ops → Ascends n (map (placed s slots) ops)
+ascends_same : (s : LinkEnvironment) (slots : List (Option Entry)) (n : ℕ) (ops : List RawOp) → Ascend n ops → Ascends n (map (placed s slots) ops)
 ascends_same s slots n [] h = tt
 ascends_same s slots n (o ∷ ops) h = (h.0, ascends_same s slots (o.pc + 1) ops h.1)
 
-first_same : (s : Setting) (slots : List (Option Entry)) (ops : List RawOp) (d : Placed) (e : RawOp) → 0 < length ops → (get_or (map (placed s slots) ops) 0 d).pc ≡ (get_or ops 0 e).pc
+first_same : (s : LinkEnvironment) (slots : List (Option Entry)) (ops : List RawOp) (d : Placed) (e : RawOp) → 0 < length ops → (get_or (map (placed s slots) ops) 0 d).pc ≡ (get_or ops 0 e).pc
 first_same s slots [] d e some = absurd (omega (arith, some))
 first_same s slots (o ∷ ops) d e some = refl
 
-handler_is : (s : Setting) (slots : List (Option Entry)) (code : CodePart) (b : Body) (h : RawHandler) → HasPlaces code.code.ops b → b.length ≡ code.code.length → HandlerFacts slots code.code h → IsHandler b (handler_rec s.names slots h)
+handler_is : (s : LinkEnvironment) (slots : List (Option Entry)) (code : CodePart) (b : Body) (h : RawHandler) → HasPlaces code.code.ops b → b.length ≡ code.code.length → HandlerFacts slots code.code h → IsHandler b (handler_rec s.names slots h)
 handler_is s slots code b h has len facts = record {
   from = has h.from facts.from.begins;
   to = elim facts.to [ inl at ↦ inl (has h.to at.begins) | inr end ↦ inr (end ∙ sym len) ];
@@ -183,7 +183,7 @@ handler_is s slots code b h has len facts = record {
   at = has h.at facts.at.begins;
 }
 
-pub is_body : (p : Program) (s : Setting) (slots : List (Option Entry)) (code : CodePart) → PartFacts slots code → ((o : RawOp) → IfSome (target_of s slots (entry_of slots (index_in o))) (IsTarget p)) → IsBody (linked_body s slots code)
+pub is_body : (p : Program) (s : LinkEnvironment) (slots : List (Option Entry)) (code : CodePart) → PartFacts slots code → ((o : RawOp) → IfSome (target_of s slots (entry_of slots (index_in o))) (IsTarget p)) → IsBody (linked_body s slots code)
 unfolding linked_body
 is_body p s slots code facts there =
     let b = linked_body s slots code in

@@ -22,7 +22,7 @@ use Rattle.jvm_model.specs.Linked.{IsGiven, is_interface_at, IsClassKind}
 use Rattle.class_link.specs.declared.fault.LinkFault.{LinkFault}
 use Rattle.class_link.specs.ClassNames.{name_at, number_or_first, missing}
 use Rattle.class_link.specs.Assembly.{assembled, skeleton}
-use Rattle.class_link.specs.References.{Setting}
+use Rattle.class_link.specs.References.{LinkEnvironment}
 use Rattle.class_link.specs.Faults.{first_some, indices, superclass_fits, supertype_fits, missing_or, wrong_unless, supertype_fault, supertypes_fault}
 use Rattle.class_link.specs.Link.{setting}
 use Rattle.class_link.proofs.Assembled.{class_given, class_cases}
@@ -51,7 +51,7 @@ not_wrong true c i h = refl
 not_wrong false c i h = absurd (cc)
 
 -- an entry that heads a class without fault fits
-supertype_right : (s : Setting) (c : ClassParts) (i : ℕ) (e : Entry) → supertypes_fault s c ≡ None → entry_of c.pool i ≡ Some e → (nat_eq i c.super_class || member i c.interfaces) ≡ true → supertype_fits s c i ≡ true
+supertype_right : (s : LinkEnvironment) (c : ClassParts) (i : ℕ) (e : Entry) → supertypes_fault s c ≡ None → entry_of c.pool i ≡ Some e → (nat_eq i c.super_class || member i c.interfaces) ≡ true → supertype_fits s c i ≡ true
 unfolding supertypes_fault supertype_fault
 supertype_right s c i e h g t =
     let a : supertype_fault s c i ≡ None = first_none (supertype_fault s c) (indices c) (i - 1) i h (index_listed c i e g) in
@@ -59,16 +59,16 @@ supertype_right s c i e h g t =
     not_wrong (supertype_fits s c i) c i (not_missing c (missing s.names (name_at c.pool i)) (wrong_unless (supertype_fits s c i) c i) b).1
 
 -- the number of the class that an entry names
-abbrev number : Setting → ClassParts → ℕ → ℕ
+abbrev number : LinkEnvironment → ClassParts → ℕ → ℕ
 number s c i = number_or_first s.names (name_at c.pool i)
 
-super_fits : (s : Setting) (c : ClassParts) → ClassFacts c → supertypes_fault s c ≡ None → superclass_fits s.program c (number s c c.super_class) ≡ true
+super_fits : (s : LinkEnvironment) (c : ClassParts) → ClassFacts c → supertypes_fault s c ≡ None → superclass_fits s.program c (number s c c.super_class) ≡ true
 super_fits s c f h =
     let k = f.super_class.class in
     let t = supertype_right s c c.super_class (Class k.name) h k.entry (or_left (nat_eq c.super_class c.super_class) (member c.super_class c.interfaces) (eq-eqb c.super_class c.super_class refl)) in
     implied (nat_eq c.super_class c.super_class) (superclass_fits s.program c (number s c c.super_class)) (and_parts _ _ (and_parts _ _ t).1).0 (eq-eqb c.super_class c.super_class refl)
 
-interface_fits : (s : Setting) (c : ClassParts) → ClassFacts c → supertypes_fault s c ≡ None → (k d : ℕ) → k < length c.interfaces → is_interface_at s.program (number s c (get_or c.interfaces k d)) ≡ true
+interface_fits : (s : LinkEnvironment) (c : ClassParts) → ClassFacts c → supertypes_fault s c ≡ None → (k d : ℕ) → k < length c.interfaces → is_interface_at s.program (number s c (get_or c.interfaces k d)) ≡ true
 interface_fits s c f h k d w =
     let i = get_or c.interfaces k d in
     let n = (f.interfaces k d w).class in

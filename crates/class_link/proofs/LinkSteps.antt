@@ -12,7 +12,7 @@ use Rattle.class_link.specs.declared.lines.TestLine.{TestLine}
 use Rattle.class_link.specs.declared.lines.TestLines.{TestLines}
 use Rattle.class_link.specs.Answers.{Fails}
 use Rattle.class_link.specs.Assembly.{skeleton, bare_body}
-use Rattle.class_link.specs.References.{Setting}
+use Rattle.class_link.specs.References.{LinkEnvironment}
 use Rattle.class_link.specs.Faults.{first_some, duplicate_fault, supertypes_fault, all_references_fault}
 use Rattle.member_lookup.specs.Ancestors.{IsFirstCycle}
 use Rattle.et_base.specs.Answers.{◌>>=◌}
@@ -52,7 +52,7 @@ pub passes_on : (cs : List ClassParts) (lines : TestLines) (result : Result Prog
 passes_on cs lines (Ok p) f h k = absurd h
 passes_on cs lines (Err g) f h k = subst (λ x. Links cs lines (Err x)) (sym h) k
 
-module _ (cs : List ClassParts) (lines : TestLines) (s : Setting) (is : s ≡ setting cs) where
+module _ (cs : List ClassParts) (lines : TestLines) (s : LinkEnvironment) (is : s ≡ setting cs) where
   abbrev names : Result (Unit {0}) LinkFault
   names = unless (duplicate_fault cs)
 
@@ -73,7 +73,7 @@ module _ (cs : List ClassParts) (lines : TestLines) (s : Setting) (is : s ≡ se
 
   linked_is : (cycle : Option ℕ) → link_by cycle cs lines ≡ after_all names supertypes (unless (cycle_fault cs cycle)) references tests
   unfolding link_by
-  linked_is cycle = ap (λ (z : Setting). after_all names (unless (first_some (supertypes_fault z) cs)) (unless (cycle_fault cs cycle)) (unless (all_references_fault z builtin_count cs)) (tests_of z lines.budget [] lines.tests)) (sym is)
+  linked_is cycle = ap (λ (z : LinkEnvironment). after_all names (unless (first_some (supertypes_fault z) cs)) (unless (cycle_fault cs cycle)) (unless (all_references_fault z builtin_count cs)) (tests_of z lines.budget [] lines.tests)) (sym is)
 
   pub names_said : (f : LinkFault) → Fails f names → Links cs lines (Err f)
   names_said f h = said cs lines f names h (λ e. (
@@ -88,7 +88,7 @@ module _ (cs : List ClassParts) (lines : TestLines) (s : Setting) (is : s ≡ se
   supertypes_said f n h = said cs lines f supertypes h (λ e. (
     None,
     (
-      (λ _ none. absurd (unless_some (first_some (supertypes_fault (setting cs)) cs) f (ap (λ (z : Setting). unless (first_some (supertypes_fault z) cs)) (sym is) ∙ e) none)),
+      (λ _ none. absurd (unless_some (first_some (supertypes_fault (setting cs)) cs) f (ap (λ (z : LinkEnvironment). unless (first_some (supertypes_fault z) cs)) (sym is) ∙ e) none)),
       sym (linked_is None ∙ (λ i. after_all (n i) (e i) (unless (cycle_fault cs None)) references tests)),
     ),
   ))

@@ -36,7 +36,7 @@ use Rattle.code_forms.specs.declared.references.Target.TheVariants as target
 use Rattle.jvm_model.proofs.Ranges.{all_there}
 use Rattle.class_link.specs.ClassNames.{text_at, name_at, all_names, class_number, number_or_first, base_of, kind_of}
 use Rattle.class_link.specs.Assembly.{skeleton}
-use Rattle.class_link.specs.References.{Setting, target_of}
+use Rattle.class_link.specs.References.{LinkEnvironment, target_of}
 use Rattle.code_forms.specs.Operands.{index_in}
 use Rattle.code_forms.specs.Uses.{fits}
 use Rattle.code_forms.specs.Forms.{form_of}
@@ -55,7 +55,7 @@ use Rattle.code_forms.proofs.ShapeFacts.{calls_by_sort}
 -- ---- targets
 
 -- what stands for something is there
-some_entry : (s : Setting) (slots : List (Option Entry)) (e : Option Entry) (t : Target) → target_of s slots e ≡ Some t → (x : Entry) × (e ≡ Some x)
+some_entry : (s : LinkEnvironment) (slots : List (Option Entry)) (e : Option Entry) (t : Target) → target_of s slots e ≡ Some t → (x : Entry) × (e ≡ Some x)
 unfolding target_of
 some_entry s slots None t h = absurd (cc)
 some_entry s slots (Some x) t h = (x, refl)

@@ -11,7 +11,7 @@ use Rattle.jvm_model.specs.declared.program.Program.{Program}
 use Rattle.class_link.specs.declared.fault.LinkFault.{LinkFault}
 use Rattle.code_forms.specs.declared.references.Use.{Use}
 use Rattle.code_forms.specs.declared.references.Target.{Target}
-use Rattle.class_link.specs.References.{Setting, target_of, missing_for, uses}
+use Rattle.class_link.specs.References.{LinkEnvironment, target_of, missing_for, uses}
 use Rattle.class_link.specs.Bodies.{targets, target_in}
 use Rattle.class_link.specs.Faults.{entry_fault, first_some, indices, missing_or, references_fault, target_fault, uses_at}
 use Rattle.class_link.specs.Answers.{Fails}
@@ -77,12 +77,12 @@ module _ (p : Program) (n : ℕ) (slots : List (Option Entry)) (ts : List (Optio
       ∙ ap (λ o. after (λ w. fits_target p n (entry_of slots i) (target_in ts i) w) o (uses_at i us)) (get_or-replicate k (i - 1) None None (omega arith))
       ∙ after_none (λ w. fits_target p n (entry_of slots i) (target_in ts i) w) (uses_at i us)
 
-mark_cases : (s : Setting) (n : ℕ) (c : ClassParts) (i : ℕ) (u : Use) (us : List Use) (t : Option Target)
+mark_cases : (s : LinkEnvironment) (n : ℕ) (c : ClassParts) (i : ℕ) (u : Use) (us : List Use) (t : Option Target)
     → target_fault_by c i (list_all (λ w. fits_target s.program n (entry_of c.pool i) t w) (u ∷ us)) t ≡ target_fault s n c i (u ∷ us) t
 mark_cases s n c i u us None = refl
 mark_cases s n c i u us (Some t) = refl
 
-mark_is : (s : Setting) (n : ℕ) (c : ClassParts) (i : ℕ) (us : List Use)
+mark_is : (s : LinkEnvironment) (n : ℕ) (c : ClassParts) (i : ℕ) (us : List Use)
     → mark_fault s c i (target_of s c.pool (entry_of c.pool i)) (mark_of (λ w. fits_target s.program n (entry_of c.pool i) (target_of s c.pool (entry_of c.pool i)) w) us) ≡ entry_fault s n c i us
 unfolding entry_fault
 mark_is s n c i [] = refl
@@ -94,21 +94,21 @@ first_same f g (suc k) a e =
     ap (λ o. elim o as (λ _. Option LinkFault) [ Some y ↦ Some y | None ↦ first_some f (range_with_len (a + 1) k) ]) (e a (omega arith) (omega arith))
     ∙ ap (λ r. elim (g a) as (λ _. Option LinkFault) [ Some y ↦ Some y | None ↦ r ]) (first_same f g k (a + 1) (λ i h l. e i (omega arith) (omega arith)))
 
-index_same : (s : Setting) (n : ℕ) (c : ClassParts) (i : ℕ) → 1 ≤ i → i < 1 + length c.pool
+index_same : (s : LinkEnvironment) (n : ℕ) (c : ClassParts) (i : ℕ) → 1 ≤ i → i < 1 + length c.pool
     → mark_fault s c i (target_in (targets s c.pool) i) (mark_at (all_noted s.program n c.pool (targets s c.pool) (replicate (length c.pool) None) (uses c)) i) ≡ entry_fault s n c i (uses_at i (uses c))
 index_same s n c i h l =
     ap (λ m. mark_fault s c i (target_in (targets s c.pool) i) m) (marks_say s.program n c.pool (targets s c.pool) i (length c.pool) (uses c) (omega arith) (omega arith))
     ∙ ap (λ t. mark_fault s c i t (mark_of (λ w. fits_target s.program n (entry_of c.pool i) t w) (uses_at i (uses c)))) (target_in-targets s c.pool i)
     ∙ mark_is s n c i (uses_at i (uses c))
 
-all_same : (s : Setting) (n : ℕ) (c : ClassParts)
+all_same : (s : LinkEnvironment) (n : ℕ) (c : ClassParts)
     → first_some (λ i. mark_fault s c i (target_in (targets s c.pool) i) (mark_at (all_noted s.program n c.pool (targets s c.pool) (replicate (length c.pool) None) (uses c)) i)) (indices c) ≡ references_fault s n c
 unfolding references_fault
 all_same s n c =
     first_same (λ i. mark_fault s c i (target_in (targets s c.pool) i) (mark_at (all_noted s.program n c.pool (targets s c.pool) (replicate (length c.pool) None) (uses c)) i)) (λ i. entry_fault s n c i (uses_at i (uses c))) (length c.pool) 1 (λ i h l. index_same s n c i h l)
 
 -- the first fault of marked entries is that of the class's references
-pub fault_all : (s : Setting) (n : ℕ) (c : ClassParts) (slots : List (Option Entry)) (ts known : List (Option Target)) (ms : List (Option Bool)) → slots ≡ c.pool → ts ≡ targets s slots → known ≡ targets s slots
+pub fault_all : (s : LinkEnvironment) (n : ℕ) (c : ClassParts) (slots : List (Option Entry)) (ts known : List (Option Target)) (ms : List (Option Bool)) → slots ≡ c.pool → ts ≡ targets s slots → known ≡ targets s slots
     → ms ≡ all_noted s.program n slots known (replicate (length slots) None) (uses c) → first_some (λ i. mark_fault s c i (target_in ts i) (mark_at ms i)) (indices c) ≡ references_fault s n c
 fault_all s n c slots ts known ms e f g h =
     let marks : ms ≡ all_noted s.program n c.pool (targets s c.pool) (replicate (length c.pool) None) (uses c) =
@@ -119,7 +119,7 @@ fault_all s n c slots ts known ms e f g h =
     ∙ all_same s n c
 
 -- an entry's answer, seen by its target and mark
-module _ (s : Setting) (c : ClassParts) (ts : List (Option Target)) (ms : List (Option Bool)) (i n : ℕ) (t : Option Target) (m : Option Bool) where
+module _ (s : LinkEnvironment) (c : ClassParts) (ts : List (Option Target)) (ms : List (Option Bool)) (i n : ℕ) (t : Option Target) (m : Option Bool) where
   pub marked_next : t ≡ target_in ts i → m ≡ mark_at ms i → i < n → unless (mark_fault s c i t m) ≡ Ok tt
       → first_some (λ j. mark_fault s c j (target_in ts j) (mark_at ms j)) (range_with_len i (n - i)) ≡ first_some (λ j. mark_fault s c j (target_in ts j) (mark_at ms j)) (range_with_len (i + 1) (n - (i + 1)))
   marked_next e f h u =

@@ -13,7 +13,7 @@ use Rattle.class_reader.specs.declared.parts.RawHandler.{RawHandler}
 use Rattle.code_forms.specs.declared.references.Use.{Use}
 use Rattle.code_forms.specs.declared.references.Use.TheVariants as used
 use Rattle.code_forms.specs.declared.references.Target.{Target}
-use Rattle.class_link.specs.References.{Setting, target_of, missing_for, op_use, handler_use, code_uses, uses}
+use Rattle.class_link.specs.References.{LinkEnvironment, target_of, missing_for, op_use, handler_use, code_uses, uses}
 use Rattle.code_forms.specs.Uses.{use_of, fits}
 use Rattle.code_forms.specs.Operands.{index_in}
 use Rattle.class_link.specs.Faults.{indices, uses_at, all_fit, target_fault, entry_fault, references_fault, all_references_fault}
@@ -60,22 +60,22 @@ used_at i u (x ∷ xs) (suc k) e = kept (nat_eq x.0 i) (used_at i u xs k e)
     kept false h = h
 
 -- an entry that is used stands for something that fits the use
-pub record Fitting (s : Setting) (n : ℕ) (c : ClassParts) (i : ℕ) (u : Use) : Type 0 where
+pub record Fitting (s : LinkEnvironment) (n : ℕ) (c : ClassParts) (i : ℕ) (u : Use) : Type 0 where
   pub target : Target
   pub is : target_of s c.pool (entry_of c.pool i) ≡ Some target
   pub fits : fits s.program n (entry_of c.pool i) target u ≡ true
 
-fitting : (s : Setting) (n : ℕ) (c : ClassParts) (i : ℕ) (us : List Use) (u : Use) (k : ℕ) → slice_get us k ≡ Some u → (o : Option Target) → target_of s c.pool (entry_of c.pool i) ≡ o → target_fault s n c i us o ≡ None → Fitting s n c i u
+fitting : (s : LinkEnvironment) (n : ℕ) (c : ClassParts) (i : ℕ) (us : List Use) (u : Use) (k : ℕ) → slice_get us k ≡ Some u → (o : Option Target) → target_of s c.pool (entry_of c.pool i) ≡ o → target_fault s n c i us o ≡ None → Fitting s n c i u
 fitting s n c i us u k e None h g = absurd (cc)
 fitting s n c i us u k e (Some t) h g = record { target = t; is = h; fits = all_has (fits s.program n (entry_of c.pool i) t) us u k (not_wrong (all_fit s.program n (entry_of c.pool i) t us) c i g) e }
 
-entry_fits : (s : Setting) (n : ℕ) (c : ClassParts) (i : ℕ) (us : List Use) (u : Use) (k : ℕ) → slice_get us k ≡ Some u → entry_fault s n c i us ≡ None → Fitting s n c i u
+entry_fits : (s : LinkEnvironment) (n : ℕ) (c : ClassParts) (i : ℕ) (us : List Use) (u : Use) (k : ℕ) → slice_get us k ≡ Some u → entry_fault s n c i us ≡ None → Fitting s n c i u
 unfolding entry_fault
 entry_fits s n c i [] u k e h = absurd (cc)
 entry_fits s n c i (v ∷ us) u k e h = fitting s n c i (v ∷ us) u k e (target_of s c.pool (entry_of c.pool i)) refl (not_missing c (missing_for s.names c.pool (entry_of c.pool i)) (target_fault s n c i (v ∷ us) (target_of s c.pool (entry_of c.pool i))) h).1
 
 -- each use of an entry that is there fits
-pub use_fits : (s : Setting) (n : ℕ) (c : ClassParts) (i : ℕ) (u : Use) (e : Entry) → references_fault s n c ≡ None → Has (uses c) (i, u) → entry_of c.pool i ≡ Some e → Fitting s n c i u
+pub use_fits : (s : LinkEnvironment) (n : ℕ) (c : ClassParts) (i : ℕ) (u : Use) (e : Entry) → references_fault s n c ≡ None → Has (uses c) (i, u) → entry_of c.pool i ≡ Some e → Fitting s n c i u
 unfolding references_fault
 use_fits s n c i u e h w g =
     let a = used_at i u (uses c) w.place w.there in
@@ -98,7 +98,7 @@ handler_used c k j m code x h g e n =
     has_flat (λ (y : MemberPart). code_uses y.code) c.methods m (x.catch_class, used.Caught) k h (subst (λ y. Has (code_uses y) (x.catch_class, used.Caught)) (sym g) all)
 
 -- no class has a fault
-pub no_fault : (s : Setting) (n : ℕ) (cs : List ClassParts) (i : ℕ) (c : ClassParts) → all_references_fault s n cs ≡ None → slice_get cs i ≡ Some c → references_fault s (n + i) c ≡ None
+pub no_fault : (s : LinkEnvironment) (n : ℕ) (cs : List ClassParts) (i : ℕ) (c : ClassParts) → all_references_fault s n cs ≡ None → slice_get cs i ≡ Some c → references_fault s (n + i) c ≡ None
 no_fault s n [] i c h e = absurd (cc)
 no_fault s n (d ∷ cs) zero c h e = let q : d ≡ c = cc in let z : n + 0 ≡ n = omega arith in rw (z, ← q) (none_both (references_fault s n d) (all_references_fault s (n + 1) cs) h).0
 no_fault s n (d ∷ cs) (suc i) c h e = let z : n + suc i ≡ (n + 1) + i = omega arith in rw z (no_fault s (n + 1) cs i c (none_both (references_fault s n d) (all_references_fault s (n + 1) cs) h).1 e)

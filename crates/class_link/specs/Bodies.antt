@@ -16,12 +16,12 @@ use Rattle.jvm_model.specs.declared.program.TypeRec.{TypeRec}
 use Rattle.jvm_model.specs.declared.program.TypeRec.TheVariants.{Plain, Object, Uninit}
 use Rattle.code_forms.specs.declared.references.Target.{Target}
 use Rattle.class_link.specs.ClassNames.{name_at, number_or_first}
-use Rattle.class_link.specs.References.{Setting, target_of}
+use Rattle.class_link.specs.References.{LinkEnvironment, target_of}
 use Rattle.code_forms.specs.Operands.{index_in}
 use Rattle.code_forms.specs.Forms.{form_of}
 
 -- what the entries of a pool stand for, from index 1 on, and the one of an index
-abbrev pub targets : Setting → List (Option Entry) → List (Option Target)
+abbrev pub targets : LinkEnvironment → List (Option Entry) → List (Option Target)
 targets s slots = map (target_of s slots) slots
 
 abbrev pub target_in : List (Option Target) → ℕ → Option Target
@@ -32,7 +32,7 @@ target_in ts (suc i) = slice_index_or ts i None
 abbrev pub placed_by : Option Target → RawOp → Placed
 placed_by t o = record { pc = o.pc; form = form_of t o }
 
-abbrev pub placed : Setting → List (Option Entry) → RawOp → Placed
+abbrev pub placed : LinkEnvironment → List (Option Entry) → RawOp → Placed
 placed s slots o = placed_by (target_of s slots (entry_of slots (index_in o))) o
 
 abbrev pub caught : List (List ℕ) → List (Option Entry) → ℕ → Option ℕ
@@ -56,7 +56,7 @@ abbrev pub is_cut : Option MapPart → Bool
 is_cut None = false
 is_cut (Some part) = nat_lt (length part.frames) part.count
 
-unfoldable pub linked_body : Setting → List (Option Entry) → CodePart → Body
+unfoldable pub linked_body : LinkEnvironment → List (Option Entry) → CodePart → Body
 linked_body s slots code = record {
   max_stack = code.max_stack;
   max_locals = code.max_locals;

@@ -20,7 +20,7 @@ use Rattle.class_link.specs.declared.lines.TestLine.{TestLine}
 use Rattle.code_forms.specs.declared.references.Use.{Use}
 use Rattle.code_forms.specs.declared.references.Target.{Target}
 use Rattle.class_link.specs.ClassNames.{name_at, own_name, class_number, number_or_first, missing}
-use Rattle.class_link.specs.References.{Setting, target_of, missing_for, uses}
+use Rattle.class_link.specs.References.{LinkEnvironment, target_of, missing_for, uses}
 use Rattle.code_forms.specs.Uses.{fits}
 
 -- the first of what f gives for the items
@@ -50,7 +50,7 @@ abbrev pub superclass_fits : Program → ClassParts → ℕ → Bool
 superclass_fits p c d = not (is_interface_at p d) && ((nat_le builtin_count d || (nat_eq d object_class || is_below p d throwable_class)) && (not (is_interface c.flags) || nat_eq d object_class))
 
 -- the entry i serves where the class names it: as its superclass, as a superinterface
-abbrev pub supertype_fits : Setting → ClassParts → ℕ → Bool
+abbrev pub supertype_fits : LinkEnvironment → ClassParts → ℕ → Bool
 supertype_fits s c i = let name = name_at c.pool i in let d = number_or_first s.names name in
     not (starts_array name) && ((not (nat_eq i c.super_class) || superclass_fits s.program c d) && (not (member i c.interfaces) || is_interface_at s.program d))
 
@@ -62,11 +62,11 @@ abbrev pub wrong_unless : Bool → ClassParts → ℕ → Option LinkFault
 wrong_unless true c i = None
 wrong_unless false c i = Some (fault.WrongKind (own_name c) i)
 
-unfoldable pub supertype_fault : Setting → ClassParts → ℕ → Option LinkFault
+unfoldable pub supertype_fault : LinkEnvironment → ClassParts → ℕ → Option LinkFault
 supertype_fault s c i = cond (nat_eq i c.super_class || member i c.interfaces) (missing_or c (missing s.names (name_at c.pool i)) (wrong_unless (supertype_fits s c i) c i)) None
 
 -- the first fault of a class's superclass and superinterfaces, by pool index
-unfoldable pub supertypes_fault : Setting → ClassParts → Option LinkFault
+unfoldable pub supertypes_fault : LinkEnvironment → ClassParts → Option LinkFault
 supertypes_fault s c = first_some (supertype_fault s c) (indices c)
 
 -- ---- references
@@ -81,21 +81,21 @@ abbrev pub all_fit : Program → ℕ → Option Entry → Target → List Use �
 all_fit p n e t us = list_all (fits p n e t) us
 
 -- an array of floats or doubles, which only a handler can name here, is of the wrong kind
-abbrev pub target_fault : Setting → ℕ → ClassParts → ℕ → List Use → Option Target → Option LinkFault
+abbrev pub target_fault : LinkEnvironment → ℕ → ClassParts → ℕ → List Use → Option Target → Option LinkFault
 target_fault s n c i us None = Some (cond (is_class (entry_of c.pool i)) (fault.WrongKind (own_name c) i) (fault.NoMember (own_name c) i))
 target_fault s n c i us (Some t) = wrong_unless (all_fit s.program n (entry_of c.pool i) t us) c i
 
 -- the fault of the entry i, used so by the class n: its class isn't there, or its member, or it is of the wrong kind
-unfoldable pub entry_fault : Setting → ℕ → ClassParts → ℕ → List Use → Option LinkFault
+unfoldable pub entry_fault : LinkEnvironment → ℕ → ClassParts → ℕ → List Use → Option LinkFault
 entry_fault s n c i [] = None
 entry_fault s n c i us = missing_or c (missing_for s.names c.pool (entry_of c.pool i)) (target_fault s n c i us (target_of s c.pool (entry_of c.pool i)))
 
 -- the first fault of the entries that the code of the class n uses, by pool index
-unfoldable pub references_fault : Setting → ℕ → ClassParts → Option LinkFault
+unfoldable pub references_fault : LinkEnvironment → ℕ → ClassParts → Option LinkFault
 references_fault s n c = first_some (λ i. entry_fault s n c i (uses_at i (uses c))) (indices c)
 
 -- the same of several classes, the first of which has the number n
-abbrev pub all_references_fault : Setting → ℕ → List ClassParts → Option LinkFault
+abbrev pub all_references_fault : LinkEnvironment → ℕ → List ClassParts → Option LinkFault
 all_references_fault s n [] = None
 all_references_fault s n (c ∷ cs) = elim (references_fault s n c) [ Some f ↦ Some f | None ↦ all_references_fault s (n + 1) cs ]
 
@@ -116,5 +116,5 @@ abbrev pub test_in : Program → ℕ → TestLine → ℕ → Option TestEntry
 test_in p budget line c = cond (holds_tests p c) (option_and_then (λ m. cond (is_test_method p c m) (Some (entry_with budget line c m)) None) (test_method p c line.method)) None
 
 -- the test of a line, if it is one: the first method of the name with `()V` from the class upwards (this project's)
-unfoldable pub test_entry : Setting → ℕ → TestLine → Option TestEntry
+unfoldable pub test_entry : LinkEnvironment → ℕ → TestLine → Option TestEntry
 test_entry s budget line = option_and_then (test_in s.program budget line) (class_number s.names line.class)

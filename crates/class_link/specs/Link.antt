@@ -15,13 +15,13 @@ use Rattle.class_link.specs.declared.lines.TestLines.{TestLines}
 use Rattle.class_link.specs.ClassNames.{own_name, all_names}
 use Rattle.class_link.specs.Literals.{literals}
 use Rattle.class_link.specs.Assembly.{assembled, skeleton}
-use Rattle.class_link.specs.References.{Setting}
+use Rattle.class_link.specs.References.{LinkEnvironment}
 use Rattle.class_link.specs.Bodies.{linked_body}
 use Rattle.class_link.specs.Faults.{first_some, duplicate_fault, supertypes_fault, all_references_fault, test_entry}
 use Rattle.member_lookup.specs.Ancestors.{IsFirstCycle}
 
 -- what references are resolved with
-abbrev pub setting : List ClassParts → Setting
+abbrev pub setting : List ClassParts → LinkEnvironment
 setting cs = record { program = skeleton cs; names = all_names cs; texts = literals cs }
 
 -- the answer is the fault, where there is one
@@ -40,7 +40,7 @@ cycle_fault cs None = None
 cycle_fault cs (Some i) = Some (fault.Cycle (name_of cs i))
 
 -- the tests of the lines behind those of front; a line that is none is named by its number from 1
-abbrev pub tests_of : Setting → ℕ → List TestEntry → List TestLine → Result (List TestEntry) LinkFault
+abbrev pub tests_of : LinkEnvironment → ℕ → List TestEntry → List TestLine → Result (List TestEntry) LinkFault
 tests_of s budget front [] = Ok front
 tests_of s budget front (x ∷ xs) = elim (test_entry s budget x) [ None ↦ Err (fault.NotATest (length front + 1)) | Some t ↦ tests_of s budget (front ++ t ∷ []) xs ]
 

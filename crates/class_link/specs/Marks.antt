@@ -12,7 +12,7 @@ use Rattle.code_forms.specs.declared.references.Use.{Use}
 use Rattle.code_forms.specs.declared.references.Target.{Target}
 use Rattle.class_link.specs.declared.uses.User.{User}
 use Rattle.class_link.specs.ClassNames.{own_name}
-use Rattle.class_link.specs.References.{Setting, missing_for}
+use Rattle.class_link.specs.References.{LinkEnvironment, missing_for}
 use Rattle.code_forms.specs.Uses.{fits}
 use Rattle.class_link.specs.Bodies.{target_in}
 use Rattle.class_link.specs.Faults.{missing_or, wrong_unless}
@@ -61,6 +61,6 @@ abbrev pub target_fault_by : ClassParts → ℕ → Bool → Option Target → O
 target_fault_by c i b None = Some (cond (is_class (entry_of c.pool i)) (fault.WrongKind (own_name c) i) (fault.NoMember (own_name c) i))
 target_fault_by c i b (Some t) = wrong_unless b c i
 
-abbrev pub mark_fault : Setting → ClassParts → ℕ → Option Target → Option Bool → Option LinkFault
+abbrev pub mark_fault : LinkEnvironment → ClassParts → ℕ → Option Target → Option Bool → Option LinkFault
 mark_fault s c i t None = None
 mark_fault s c i t (Some b) = missing_or c (missing_for s.names c.pool (entry_of c.pool i)) (target_fault_by c i b t)

@@ -17,7 +17,7 @@ use Rattle.code_forms.specs.declared.references.Target.{Target}
 use Rattle.code_forms.specs.declared.references.Target.TheVariants as target
 use Rattle.code_forms.specs.Operands.{index_in}
 use Rattle.code_forms.specs.Uses.{use_of}
-pub use Rattle.class_link.specs.declared.setting.Setting.{Setting}
+pub use Rattle.class_link.specs.declared.link_environment.LinkEnvironment.{LinkEnvironment}
 use Rattle.class_link.specs.ClassNames.{text_at, name_at, missing, kind_of}
 use Rattle.class_link.specs.Literals.{literal_number}
 
@@ -29,11 +29,11 @@ pair_of slots (Some (entry.NameAndType name descriptor)) = (text_at slots name, 
 pair_of slots _ = ([], [])
 
 -- the field that a Fieldref names, looked up from its class; an array has those of Object, which are none
-abbrev pub field_target : Setting → Option Kind → List ℕ × List ℕ → Option Target
+abbrev pub field_target : LinkEnvironment → Option Kind → List ℕ × List ℕ → Option Target
 field_target s None pair = None
 field_target s (Some k) pair = option_map (λ f. target.Field (named_class k) f) (find_field s.program (named_class k) pair.0 pair.1)
 
-abbrev pub method_target : Setting → Option Kind → List ℕ × List ℕ → Option Target
+abbrev pub method_target : LinkEnvironment → Option Kind → List ℕ × List ℕ → Option Target
 method_target s None pair = None
 method_target s (Some k) pair = cond (lacks_method k pair.0) None (option_map (λ m. target.Method k m) (find_method s.program (named_class k) pair.0 pair.1))
 
@@ -42,7 +42,7 @@ abbrev pub type_target : List (List ℕ) → List ℕ → Option Target
 type_target names name = option_map (λ k. target.Type k) (kind_of names name)
 
 -- what an entry stands for; none where its class or member isn't there, and for entries that code can't use
-unfoldable pub target_of : Setting → List (Option Entry) → Option Entry → Option Target
+unfoldable pub target_of : LinkEnvironment → List (Option Entry) → Option Entry → Option Target
 target_of s slots (Some (entry.Integer n)) = Some (target.Constant (Int n))
 target_of s slots (Some (entry.Long n)) = Some (target.Constant (Long n))
 target_of s slots (Some (entry.Str text)) = Some (target.Constant (Lit (literal_number s.texts (text_at slots text))))

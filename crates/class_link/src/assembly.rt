@@ -15,10 +15,10 @@ ghost use Rattle.class_link.specs.Filling.{filled, with_body};
 
 use crate::class_records::push_classes;
 use crate::fault::LinkFault;
+use crate::link_environment::LinkEnvironment;
 use crate::literals::{Literals, literals_of};
 use crate::members::{push_all_fields, push_all_methods};
 use crate::names::{ClassNames, names_of};
-use crate::setting::Setting;
 use builtin_lib::{BuiltinRecords, builtin_records};
 use class_reader::ClassFile;
 use et_base::{Items, NoMemory, Units};
@@ -117,7 +117,7 @@ pub(crate) fn skeleton(
 
 /// What the references of class files are resolved with, or the first class file whose name is that of a built-in class or
 /// of an earlier one.
-pub(crate) fn setting_of(alloc: Global, files: &[ClassFile]) -> Result<Setting, LinkFault>
+pub(crate) fn setting_of(alloc: Global, files: &[ClassFile]) -> Result<LinkEnvironment, LinkFault>
     requires few { length files.now ≤ 1024 }
     ensures fault { Gives nothing result (unless (duplicate_fault files.now)) }
     ensures setting { IfOk result (λ s. s ≡ setting files.now) }
@@ -126,7 +126,7 @@ pub(crate) fn setting_of(alloc: Global, files: &[ClassFile]) -> Result<Setting, 
     let names = names_of(alloc, builtin.classes.as_slice(), files)?;
     let texts = literals_of(alloc, files)?;
     let program = skeleton(alloc, builtin, files, &names, &texts)?;
-    Ok(Setting {
+    Ok(LinkEnvironment {
         program,
         names,
         texts,

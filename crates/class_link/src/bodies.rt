@@ -6,8 +6,8 @@ ghost use Rattle.class_link.specs.Bodies as bodies;
 ghost use Rattle.class_link.specs.Assembly.{bodies_of};
 
 use crate::entries::name_at;
+use crate::link_environment::LinkEnvironment;
 use crate::names::ClassNames;
-use crate::setting::Setting;
 use crate::targets::{Targets, target_in};
 use class_pool::Entry;
 use class_reader::{ClassFile, CodePart, MapFrame, MapPart, MapType, MemberPart, RawHandler};
@@ -153,7 +153,7 @@ fn is_cut(map: &Option<MapPart>) -> bool
 /// The body of a method of a class with these pool entries, which stand for these targets.
 pub(crate) fn linked_body(
     alloc: Global,
-    setting: &Setting,
+    setting: &LinkEnvironment,
     slots: &[Option<Entry>],
     targets: &[Option<Target>],
     code: &CodePart,
@@ -177,7 +177,7 @@ pub(crate) fn linked_body(
 
 fn method_body(
     alloc: Global,
-    setting: &Setting,
+    setting: &LinkEnvironment,
     slots: &[Option<Entry>],
     targets: &[Option<Target>],
     method: &MemberPart,
@@ -194,7 +194,7 @@ fn method_body(
 // Adds the bodies of methods of a class with these pool entries, which stand for these targets.
 fn push_bodies(
     alloc: Global,
-    setting: &Setting,
+    setting: &LinkEnvironment,
     slots: &[Option<Entry>],
     targets: &[Option<Target>],
     methods: &[MemberPart],
@@ -212,7 +212,7 @@ fn push_bodies(
 // Adds the bodies of a class's methods.
 fn push_class(
     alloc: Global,
-    setting: &Setting,
+    setting: &LinkEnvironment,
     targets: &[Option<Target>],
     class: &ClassFile,
     made: &mut Items<Option<Body>>,
@@ -244,7 +244,7 @@ fn targets_at(targets: &[Targets], place: usize) -> &[Option<Target>]
 /// The bodies of the methods of class files whose pool entries stand for these targets, in the methods' order.
 pub(crate) fn bodies_of(
     alloc: Global,
-    setting: &Setting,
+    setting: &LinkEnvironment,
     targets: &[Targets],
     classes: &[ClassFile],
 ) -> Result<Items<Option<Body>>, NoMemory>

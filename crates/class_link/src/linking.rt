@@ -15,8 +15,8 @@ use crate::bodies::bodies_of;
 use crate::entries::name_at;
 use crate::fault::LinkFault;
 use crate::lines::TestLines;
+use crate::link_environment::LinkEnvironment;
 use crate::reference_faults::check_all_references;
-use crate::setting::Setting;
 use crate::supertypes::check_all_supertypes;
 use crate::targets::Targets;
 use crate::tests_of::tests_of;
@@ -54,7 +54,11 @@ fn name_of(classes: &[ClassFile], place: usize) -> &[u16]
 }
 
 // The first class file that is its own ancestor is a fault.
-fn check_cycles(alloc: Global, setting: &Setting, classes: &[ClassFile]) -> Result<(), LinkFault>
+fn check_cycles(
+    alloc: Global,
+    setting: &LinkEnvironment,
+    classes: &[ClassFile],
+) -> Result<(), LinkFault>
     requires setting { setting.now ≡ links.setting classes.now }
     requires few { length classes.now ≤ 1024 }
     ensures ok { OnOk result (IsFirstCycle (assembly.skeleton classes.now) None) }
@@ -80,7 +84,7 @@ fn know(classes: &[ClassFile])
 // The program of class files whose pool entries stand for these targets, with these tests and files.
 fn program_of(
     alloc: Global,
-    setting: Setting,
+    setting: LinkEnvironment,
     targets: &[Targets],
     classes: &[ClassFile],
     tests: Items<TestEntry>,

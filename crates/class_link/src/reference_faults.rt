@@ -10,7 +10,7 @@ ghost use Rattle.class_link.specs.Marks as marking;
 ghost use Rattle.class_link.specs.Marks.{mark_fault};
 
 use crate::fault::LinkFault;
-use crate::setting::Setting;
+use crate::link_environment::LinkEnvironment;
 use crate::supertypes::{judged, own_name};
 use crate::targets::{Targets, missing_for, target_in, targets_of};
 use crate::uses::{User, marks_of};
@@ -34,7 +34,7 @@ fn mark_at(marks: &[Option<bool>], index: usize) -> Option<bool>
 // Checks an entry that stands for this target; its mark says whether code uses it and all uses fit.
 fn check_entry(
     alloc: Global,
-    setting: &Setting,
+    setting: &LinkEnvironment,
     class: &ClassParts,
     index: u16,
     target: Option<Target>,
@@ -59,7 +59,7 @@ fn check_entry(
 // Checks the entries of a class by their indices.
 fn check_entries(
     alloc: Global,
-    setting: &Setting,
+    setting: &LinkEnvironment,
     class: &ClassParts,
     targets: &[Option<Target>],
     marks: &[Option<bool>],
@@ -84,7 +84,7 @@ fn check_entries(
 // Resolves the entries of a class and checks those that its code uses.
 fn check_references(
     alloc: Global,
-    setting: &Setting,
+    setting: &LinkEnvironment,
     number: u32,
     class: &ClassParts,
 ) -> Result<Targets, LinkFault>
@@ -108,7 +108,7 @@ fn check_references(
 /// isn't there, or its member, or it is of the wrong kind. Each entry is resolved once.
 pub(crate) fn check_all_references(
     alloc: Global,
-    setting: &Setting,
+    setting: &LinkEnvironment,
     classes: &[ClassFile],
 ) -> Result<Items<Targets>, LinkFault>
     requires { length classes.now ≤ 1024 }

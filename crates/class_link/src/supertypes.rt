@@ -11,8 +11,8 @@ ghost use Rattle.class_link.specs.Marks.{Lists};
 
 use crate::entries::name_at;
 use crate::fault::LinkFault;
+use crate::link_environment::LinkEnvironment;
 use crate::names::{missing, starts_array};
-use crate::setting::Setting;
 use class_reader::{ClassFile, ClassParts};
 use et_base::{Items, NoMemory, Units};
 use jvm_model::{BUILTIN_COUNT, OBJECT, Program, THROWABLE};
@@ -58,7 +58,7 @@ fn superclass_fits(p: &Program, class: &ClassParts, above: u32) -> bool
 }
 
 // The entry serves where the class names it; `named` says that this is among its superinterfaces.
-fn supertype_fits(setting: &Setting, class: &ClassParts, index: u16, named: bool) -> bool
+fn supertype_fits(setting: &LinkEnvironment, class: &ClassParts, index: u16, named: bool) -> bool
     requires { named ≡ member index class.now.interfaces }
     ensures { result ≡ faults.supertype_fits setting.now class.now index }
 {
@@ -73,7 +73,7 @@ fn supertype_fits(setting: &Setting, class: &ClassParts, index: u16, named: bool
 #[tactic(auto, unfolding(crate::specs::Faults::supertype_fault))]
 fn check_supertype(
     alloc: Global,
-    setting: &Setting,
+    setting: &LinkEnvironment,
     class: &ClassParts,
     index: u16,
     named: bool,
@@ -121,7 +121,11 @@ fn listed(alloc: Global, size: usize, indices: &[u16]) -> Result<Vec<bool>, NoMe
 
 // The first fault of a class's superclass and superinterfaces, by pool index.
 #[tactic(auto, unfolding(crate::specs::Faults::supertypes_fault))]
-fn check_supertypes(alloc: Global, setting: &Setting, class: &ClassParts) -> Result<(), LinkFault>
+fn check_supertypes(
+    alloc: Global,
+    setting: &LinkEnvironment,
+    class: &ClassParts,
+) -> Result<(), LinkFault>
     ensures { Gives nothing result (unless (faults.supertypes_fault setting.now class.now)) }
 {
     let end = class.pool.slots().len() + 1;
@@ -135,7 +139,7 @@ fn check_supertypes(alloc: Global, setting: &Setting, class: &ClassParts) -> Res
 /// The first fault of the superclasses and superinterfaces of class files: each is there and may stand where it is named.
 pub(crate) fn check_all_supertypes(
     alloc: Global,
-    setting: &Setting,
+    setting: &LinkEnvironment,
     classes: &[ClassFile],
 ) -> Result<(), LinkFault>
     ensures { Gives nothing result (unless (first_some (faults.supertypes_fault setting.now) classes.now)) }

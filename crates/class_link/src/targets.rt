@@ -8,8 +8,8 @@ ghost use Rattle.class_link.specs.ClassNames.{kind_of, name_at};
 ghost use Rattle.class_link.specs.References as references;
 
 use crate::entries::{name_at, text_at};
+use crate::link_environment::LinkEnvironment;
 use crate::names::{ClassNames, kind_of, missing};
-use crate::setting::Setting;
 use class_pool::{Entry, lookup};
 use code_forms::{Target, named_class};
 use et_base::{Items, NoMemory, Units};
@@ -43,7 +43,7 @@ fn pair_descriptor(slots: &[Option<Entry>], pair: u16) -> &[u16]
 // The field that a Fieldref names.
 fn field_target(
     alloc: Global,
-    setting: &Setting,
+    setting: &LinkEnvironment,
     slots: &[Option<Entry>],
     class: u16,
     pair: u16,
@@ -75,7 +75,7 @@ fn lacks_method(named: Kind, name: &[u16]) -> bool
 // The method that a Methodref or an InterfaceMethodref names.
 fn method_target(
     alloc: Global,
-    setting: &Setting,
+    setting: &LinkEnvironment,
     slots: &[Option<Entry>],
     class: u16,
     pair: u16,
@@ -116,7 +116,7 @@ fn type_target(names: &ClassNames, name: &[u16]) -> Option<Target>
 #[tactic(auto, unfolding(crate::specs::References::target_of))]
 pub(crate) fn target_of(
     alloc: Global,
-    setting: &Setting,
+    setting: &LinkEnvironment,
     slots: &[Option<Entry>],
     slot: &Option<Entry>,
 ) -> Result<Option<Target>, NoMemory>
@@ -141,7 +141,7 @@ pub(crate) fn target_of(
 /// What all entries of a pool stand for, each resolved once.
 pub(crate) fn targets_of(
     alloc: Global,
-    setting: &Setting,
+    setting: &LinkEnvironment,
     slots: &[Option<Entry>],
 ) -> Result<Targets, NoMemory>
     ensures { IfOk result (λ ts. ts ≡ bodies.targets setting.now slots.now) }

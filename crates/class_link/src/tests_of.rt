@@ -11,7 +11,7 @@ ghost use Rattle.class_link.specs.Link as links;
 
 use crate::fault::LinkFault;
 use crate::lines::TestLine;
-use crate::setting::Setting;
+use crate::link_environment::LinkEnvironment;
 use et_base::Items;
 use jvm_model::{BUILTIN_COUNT, INIT, NO_ARGUMENTS, Program, TestEntry};
 use member_lookup::declared_upwards;
@@ -90,7 +90,11 @@ fn test_in(p: &Program, budget: u64, line: &TestLine, class: u32) -> Option<Test
 
 /// The test of a line, if it is one: the first method of the name with `()V` from the class upwards (this project's).
 #[tactic(auto, unfolding(crate::specs::Faults::test_entry))]
-pub(crate) fn test_entry(setting: &Setting, budget: u64, line: &TestLine) -> Option<TestEntry>
+pub(crate) fn test_entry(
+    setting: &LinkEnvironment,
+    budget: u64,
+    line: &TestLine,
+) -> Option<TestEntry>
     ensures { result ≡ faults.test_entry setting.now budget line.now }
 {
     match setting.names.number(line.class.as_slice()) {
@@ -102,7 +106,7 @@ pub(crate) fn test_entry(setting: &Setting, budget: u64, line: &TestLine) -> Opt
 /// The tests of a suite's lines, or the first line that names none, by its number from 1.
 pub(crate) fn tests_of(
     alloc: Global,
-    setting: &Setting,
+    setting: &LinkEnvironment,
     budget: u64,
     lines: &[TestLine],
 ) -> Result<Items<TestEntry>, LinkFault>

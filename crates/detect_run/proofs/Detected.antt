@@ -18,15 +18,15 @@ use Rattle.order_law.specs.OwnRecord.{edges_in, edges_of, owner}
 use Rattle.order_law.specs.Pairing.{PairedList}
 use Rattle.order_law.specs.Reach.{IsReachIn, IsReachOf}
 use Rattle.order_law.specs.Walk.{IsShownIn, IsShownOf}
-use Rattle.vm_mem.specs.Story.{Story, no_story}
+use Rattle.vm_mem.specs.Trace.{Trace, empty_trace}
 use Rattle.test_run.specs.Lists.{RanList}
-use Rattle.access_tags.specs.Ran.{story_to, touched_by, owner_by, HaveWalks, kinds_in}
+use Rattle.access_tags.specs.Ran.{trace_to, touched_by, owner_by, HaveWalks, kinds_in}
 use Rattle.detect_run.specs.Detection.{IsOwnRun}
-use Rattle.detect_run.proofs.InOrder.{world_at, gave_all, story_all, world_last, units_listed}
+use Rattle.detect_run.proofs.InOrder.{world_at, gave_all, trace_all, world_last, units_listed}
 use Rattle.detect_run.proofs.Kept.{has_run}
 use Rattle.detect_run.proofs.OwnRun.{owners, have_walks, reach_own}
 
-module _ (p : Program) (ty : IsTyped p) {M : Type 0} (world : M → World) (follows : M → Story → List Touch → Type 0) (m : M) (us : List ℕ) (run : IsOwnRun world follows p m us) where
+module _ (p : Program) (ty : IsTyped p) {M : Type 0} (world : M → World) (follows : M → Trace → List Touch → Type 0) (m : M) (us : List ℕ) (run : IsOwnRun world follows p m us) where
   abbrev T : Touches
   T = touches_of p
 
@@ -42,10 +42,10 @@ module _ (p : Program) (ty : IsTyped p) {M : Type 0} (world : M → World) (foll
   -- found for a program that is this one
   module _ {q : Program} (same : q ≡ p) where
     abbrev Told : Touches → Type 0
-    Told S = follows m (story_to S (length q.tests)) (touched_by S (length q.tests))
+    Told S = follows m (trace_to S (length q.tests)) (touched_by S (length q.tests))
 
     told_so : Told T
-    told_so = subst (λ (z : Program). follows m (story_to T (length z.tests)) (touched_by T (length z.tests))) (sym same) run.told
+    told_so = subst (λ (z : Program). follows m (trace_to T (length z.tests)) (touched_by T (length z.tests))) (sym same) run.told
 
     pub edges_found : (es : List Edge) → ((S : Touches) → Told S → es ≡ edges_in q S (owner_by q S)) → es ≡ edges_of p
     edges_found es f = f T told_so ∙ ap (λ (z : Program). edges_in z T (owner_by z T)) same ∙ by_owner (λ (by : ℕ → ℕ × ℕ). edges_in p T by)
@@ -75,7 +75,7 @@ sum_listed : (xs : List Given) → sum (map (λ (x : Given). x.outcome.units) xs
 sum_listed xs = sum-map (λ (x : Given). x.outcome.units) xs ∙ sym (is_sum_by units_of (λ (x : Given). x.outcome.units) refl (λ x ys. refl) xs)
 
 -- the suite ran on a memory that followed nothing
-module _ (p : Program) {M : Type 0} (world : M → World) (follows : M → Story → List Touch → Type 0) (old new : M) (os : List Outcome) (us : List ℕ) (begun now : ℕ) (r : RanList world follows p old new (all_tests p) os begun now) (e : us ≡ map (λ (o : Outcome). o.units) os) where
+module _ (p : Program) {M : Type 0} (world : M → World) (follows : M → Trace → List Touch → Type 0) (old new : M) (os : List Outcome) (us : List ℕ) (begun now : ℕ) (r : RanList world follows p old new (all_tests p) os begun now) (e : us ≡ map (λ (o : Outcome). o.units) os) where
   units_are : us ≡ map (λ (x : Given). x.outcome.units) r.given
   units_are = e ∙ ap (map (λ (o : Outcome). o.units)) r.outcomes ∙ map_twice r.given
 
@@ -87,7 +87,7 @@ module _ (p : Program) {M : Type 0} (world : M → World) (follows : M → Story
     unfolding runs
     ran_so = ap (λ (v : World). runs_on p v (all_tests p)) (sym w) ∙ r.ran
 
-    pub own_run : suite_fault p ≡ None → follows old no_story [] → IsOwnRun world follows p new us
+    pub own_run : suite_fault p ≡ None → follows old empty_trace [] → IsOwnRun world follows p new us
     own_run f h =
         let n = length p.tests in
         let T = touches_of p in
@@ -95,12 +95,12 @@ module _ (p : Program) {M : Type 0} (world : M → World) (follows : M → Story
         let z : 0 + n ≡ n = omega arith in
         record {
           detected = detected_from p f;
-          told = subst (λ (k : ℕ). follows new (story_to T k) (touched_by T k)) z (subst (λ (s : Story × List Touch). follows new s.0 s.1) (story_all p n 0 r.given g) (r.told no_story [] h));
+          told = subst (λ (k : ℕ). follows new (trace_to T k) (touched_by T k)) z (subst (λ (s : Trace × List Touch). follows new s.0 s.1) (trace_all p n 0 r.given g) (r.told empty_trace [] h));
           left = r.left ∙ ap (λ (v : World). world_after v r.given) w ∙ world_last p n 0 (opening p) r.given refl g ∙ ap (world_at p) z;
           units = units_are ∙ units_listed p r.given ran_so;
         }
 
   -- and so on the memory that was opened, and that is lent then
-  pub own_run_on : (opened lent : M) → old ≡ opened → lent ≡ new → world opened ≡ opening p → suite_fault p ≡ None → follows opened no_story [] → IsOwnRun world follows p lent us
+  pub own_run_on : (opened lent : M) → old ≡ opened → lent ≡ new → world opened ≡ opening p → suite_fault p ≡ None → follows opened empty_trace [] → IsOwnRun world follows p lent us
   own_run_on opened lent e l w f h =
-      subst (λ (m : M). IsOwnRun world follows p m us) (sym l) (own_run (ap world e ∙ w) f (subst (λ (m : M). follows m no_story []) (sym e) h))
+      subst (λ (m : M). IsOwnRun world follows p m us) (sym l) (own_run (ap world e ∙ w) f (subst (λ (m : M). follows m empty_trace []) (sym e) h))

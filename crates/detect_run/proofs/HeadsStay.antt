@@ -3,7 +3,7 @@ use Rattle.std.proofs.Common.{ℕ, zero, suc, ◌<◌, ◌≤◌, length}
 use Rattle.jvm_model.specs.declared.program.Program.{Program}
 use Rattle.jvm_model.specs.World.{World}
 use Rattle.jvm_model.specs.Access.{run}
-use Rattle.jvm_model.specs.State.{State, Turn, next, ended, no_turn, started}
+use Rattle.jvm_model.specs.State.{State, Turn, next, ended, stuck_turn, started}
 use Rattle.jvm_model.specs.Step.{step}
 use Rattle.jvm_model.specs.Suite.{End, after_step, whole, tree}
 use Rattle.type_frames.specs.Typing.{IsTyped}
@@ -27,7 +27,7 @@ module _ (p : Program) (ty : IsTyped p) where
       by : ((u : World) (t : State) → Local p u t → Tree p AnyEnd u (whole p n t)) → (v : World) (a : Turn) → TurnsTo p v a → Tree p AnyEnd v (after_step (λ t. whole p n t) a)
       by f v (next t) q = f v t q
       by f v (ended x o) q = typed_done tt
-      by f v no_turn q = absurd q
+      by f v stuck_turn q = absurd q
 
   pub test_over : (t b : ℕ) (w : World) → TypedWorld p w → 0 < t → t ≤ length p.tests → Over w (run (tree p t b) w).world
   unfolding tree

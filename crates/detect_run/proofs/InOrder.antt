@@ -12,9 +12,9 @@ use Rattle.order_law.specs.Conflicts.{down}
 use Rattle.order_law.specs.Histories.{ran, after_history, touches_of}
 use Rattle.order_law.specs.Reach.{units_in}
 use Rattle.order_law.proofs.FrameLaw.{ran_to}
-use Rattle.vm_mem.specs.Story.{Story}
-use Rattle.test_run.specs.Lists.{story_after}
-use Rattle.access_tags.specs.Ran.{story_to, touched_by}
+use Rattle.vm_mem.specs.Trace.{Trace}
+use Rattle.test_run.specs.Lists.{trace_after}
+use Rattle.access_tags.specs.Ran.{trace_to, touched_by}
 
 -- the world after the first i tests, and what the next one gives there
 abbrev pub world_at : Program → ℕ → World
@@ -76,20 +76,20 @@ gave_at p (suc n) i (suc j) xs g h =
     subst (λ (k : ℕ). GaveAt p xs (suc j) k) z (record { given = a.given; listed = ap (λ (ys : List Given). slice_get ys (suc j)) g.2 ∙ a.listed; gives = a.gives })
 
 -- a memory that followed the tests so far follows them all
-pub story_all : (p : Program) (n i : ℕ) (xs : List Given) → GaveFrom p i n xs →
-    story_after (story_to (touches_of p) i, touched_by (touches_of p) i) (range_with_len (suc i) n) xs ≡ (story_to (touches_of p) (i + n), touched_by (touches_of p) (i + n))
-story_all p zero i xs g = let z : i ≡ i + 0 = omega arith in ap {B = Story × List Touch} (λ (k : ℕ). (story_to (touches_of p) k, touched_by (touches_of p) k)) z
-story_all p (suc n) i xs g =
+pub trace_all : (p : Program) (n i : ℕ) (xs : List Given) → GaveFrom p i n xs →
+    trace_after (trace_to (touches_of p) i, touched_by (touches_of p) i) (range_with_len (suc i) n) xs ≡ (trace_to (touches_of p) (i + n), touched_by (touches_of p) (i + n))
+trace_all p zero i xs g = let z : i ≡ i + 0 = omega arith in ap {B = Trace × List Touch} (λ (k : ℕ). (trace_to (touches_of p) k, touched_by (touches_of p) k)) z
+trace_all p (suc n) i xs g =
     let T = touches_of p in
     let x = g.0 in
     let ys = g.1 in
     let k : suc i + 1 ≡ suc (suc i) = omega arith in
     let z : suc i + n ≡ i + suc n = omega arith in
-    ap (λ (zs : List Given). story_after (story_to T i, touched_by T i) (suc i ∷ range_with_len (suc i + 1) n) zs) g.2
-    ∙ ap (λ (ts : List Touch). story_after (story_to T (suc i), ts) (range_with_len (suc i + 1) n) ys) (sym (of_run p i x g.3).touches)
-    ∙ ap (λ (a : ℕ). story_after (story_to T (suc i), touched_by T (suc i)) (range_with_len a n) ys) k
-    ∙ story_all p n (suc i) ys g.4
-    ∙ ap {B = Story × List Touch} (λ (a : ℕ). (story_to T a, touched_by T a)) z
+    ap (λ (zs : List Given). trace_after (trace_to T i, touched_by T i) (suc i ∷ range_with_len (suc i + 1) n) zs) g.2
+    ∙ ap (λ (ts : List Touch). trace_after (trace_to T (suc i), ts) (range_with_len (suc i + 1) n) ys) (sym (of_run p i x g.3).touches)
+    ∙ ap (λ (a : ℕ). trace_after (trace_to T (suc i), touched_by T (suc i)) (range_with_len a n) ys) k
+    ∙ trace_all p n (suc i) ys g.4
+    ∙ ap {B = Trace × List Touch} (λ (a : ℕ). (trace_to T a, touched_by T a)) z
 
 -- the world after them
 pub world_last : (p : Program) (n i : ℕ) (w : World) (xs : List Given) → w ≡ world_at p i → GaveFrom p i n xs → world_after w xs ≡ world_at p (i + n)

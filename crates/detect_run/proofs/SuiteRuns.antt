@@ -10,7 +10,7 @@ use Rattle.jvm_model.specs.World.{World}
 use Rattle.jvm_model.specs.Suite.{Given, SuiteFault, over_budget, over_suite, fault_of, fault_on, suite_fault, suite_limit, opening, all_tests, one_test}
 use Rattle.et_base.proofs.Ranges.{range_more}
 use Rattle.jvm_model.proofs.Budgets.{one_test_units}
-use Rattle.vm_mem.specs.Story.{Story}
+use Rattle.vm_mem.specs.Trace.{Trace}
 use Rattle.test_run.specs.Lists.{RanList, RanNext}
 use Rattle.test_run.specs.Outcomes.{touches_of}
 use Rattle.test_run.specs.Running.{Machined, least}
@@ -51,12 +51,12 @@ named p t r e = elim (cases_Bool (nat_le (test_at p t).budget r)) [
 ]
 
 -- its units are within the rest of the suite's
-pub units_within : {M : Type 0} (world : M → World) (follows : M → Story → List Touch → Type 0) (p : Program) (old new : M) (t rest : ℕ) (o : Outcome) → RanOne world follows p old new t rest o → o.units ≤ rest
+pub units_within : {M : Type 0} (world : M → World) (follows : M → Trace → List Touch → Type 0) (p : Program) (old new : M) (t rest : ℕ) (o : Outcome) → RanOne world follows p old new t rest o → o.units ≤ rest
 units_within world follows p old new t rest o r =
     let u = one_test_units p (world old) t (least p t rest) (record { outcome = o; world = world new; touches = touches_of p t (world old) (least p t rest) }) r.gives in
     omega arith
 
-module _ {M : Type 0} (world : M → World) (follows : M → Story → List Touch → Type 0) (p : Program) where
+module _ {M : Type 0} (world : M → World) (follows : M → Trace → List Touch → Type 0) (p : Program) where
   -- before the first test
   pub along_first : (m : M) (os : List Outcome) (begun : ℕ) → world m ≡ opening p → os ≡ [] → Along world follows p m m 0 67108864 os begun begun
   unfolding suite_fault suite_limit

@@ -11,8 +11,8 @@ use Rattle.order_law.specs.Pairing.{PairedList}
 use Rattle.order_law.specs.Reach.{IsRecordOf, units_in}
 use Rattle.order_law.specs.Walk.{IsShownOf}
 use Rattle.dep_graph.specs.declared.detected.Detected.{Detected}
-use Rattle.vm_mem.specs.Story.{Story}
-use Rattle.access_tags.specs.Ran.{story_to, touched_by}
+use Rattle.vm_mem.specs.Trace.{Trace}
+use Rattle.access_tags.specs.Ran.{trace_to, touched_by}
 
 -- The record of version 2 of a detected program with these prints, and of each of its edges the first locations with their
 -- walks.
@@ -23,8 +23,8 @@ pub record IsDetection (p : Program) (x : Prints) (d : Detected) : Type 0 where
   pub shown : PairedList (IsShownOf p) d.kept.edges d.shown
 
 -- the whole suite ran in order on this memory, and its tests took these units
-pub record IsOwnRun {M : Type 0} (world : M → World) (follows : M → Story → List Touch → Type 0) (p : Program) (m : M) (us : List ℕ) : Type 0 where
+pub record IsOwnRun {M : Type 0} (world : M → World) (follows : M → Trace → List Touch → Type 0) (p : Program) (m : M) (us : List ℕ) : Type 0 where
   pub detected : is_detected p ≡ true
-  pub told : follows m (story_to (touches_of p) (length p.tests)) (touched_by (touches_of p) (length p.tests))
+  pub told : follows m (trace_to (touches_of p) (length p.tests)) (touched_by (touches_of p) (length p.tests))
   pub left : world m ≡ after_history p (down (suc (length p.tests)))
   pub units : us ≡ map (λ t. units_in (seq p t)) (all_tests p)

@@ -7,9 +7,9 @@ use Rattle.jvm_model.specs.declared.values.Touch.{Touch}
 use Rattle.jvm_model.specs.State.{test_at}
 use Rattle.jvm_model.specs.Suite.{one_test, suite_fault, fault_on, over_budget, over_suite}
 use Rattle.jvm_model.specs.World.{World}
-use Rattle.vm_mem.specs.Story.{Story}
+use Rattle.vm_mem.specs.Trace.{Trace}
 use Rattle.test_run.specs.Lists.{RanList}
-use Rattle.test_run.specs.Outcomes.{given_in, TellsOne}
+use Rattle.test_run.specs.Outcomes.{given_in, TracesOne}
 use Rattle.test_run.specs.Running.{least}
 use Rattle.detect_run.specs.declared.fault.DetectFault.{DetectFault}
 use Rattle.detect_run.specs.declared.fault.DetectFault.TheVariants as fault
@@ -30,9 +30,9 @@ IsOneRefused p w t rest fault.NoMemory = Unit {0}
 IsOneRefused p w t rest f = (one_test p w t (least p t rest) ≡ None) × (f ≡ over_of p t rest)
 
 -- a test gave this outcome within its budget and the rest of the suite's units
-pub record RanOne {M : Type 0} (world : M → World) (follows : M → Story → List Touch → Type 0) (p : Program) (old new : M) (t rest : ℕ) (o : Outcome) : Type 0 where
+pub record RanOne {M : Type 0} (world : M → World) (follows : M → Trace → List Touch → Type 0) (p : Program) (old new : M) (t rest : ℕ) (o : Outcome) : Type 0 where
   pub gives : one_test p (world old) t (least p t rest) ≡ given_in p t (world old) (least p t rest) (Some o) (world new)
-  pub told : TellsOne p t (world old) (least p t rest) follows old new
+  pub told : TracesOne p t (world old) (least p t rest) follows old new
 
 -- the tests up to i, and those after them
 abbrev pub tests_to : ℕ → List ℕ
@@ -42,6 +42,6 @@ abbrev pub tests_after : Program → ℕ → List ℕ
 tests_after p i = range_with_len (i + 1) (length p.tests - i)
 
 -- the first i tests ran, and this rest of the suite's units is left for the others
-pub record Along {M : Type 0} (world : M → World) (follows : M → Story → List Touch → Type 0) (p : Program) (old new : M) (i rest : ℕ) (os : List Outcome) (begun now : ℕ) : Type 0 where
+pub record Along {M : Type 0} (world : M → World) (follows : M → Trace → List Touch → Type 0) (p : Program) (old new : M) (i rest : ℕ) (os : List Outcome) (begun now : ℕ) : Type 0 where
   pub ran : RanList world follows p old new (tests_to i) os begun now
   pub faults : fault_on p (world new) rest (tests_after p i) ≡ suite_fault p

@@ -3,7 +3,7 @@
 ghost use Rattle.std.specs.Prelude.{◌≡◌, ◌+◌, ◌-◌, [], length, sum, map, false, IfOk, IfErr};
 ghost use Rattle.jvm_model.specs.Builtin.{builtin_count};
 ghost use Rattle.jvm_model.specs.Suite as suite;
-ghost use Rattle.vm_mem.specs.Story.{no_story};
+ghost use Rattle.vm_mem.specs.Trace.{empty_trace};
 ghost use Rattle.detect_run.specs.Detection.{IsDetection, IsOwnRun};
 ghost use Rattle.detect_run.specs.SuiteRun.{IsSuiteFault};
 
@@ -76,7 +76,7 @@ fn found_on<L: Ledger>(
     requires program { machine.old.program ≡ p.now }
     requires ready { machine.old.spent ≡ false }
     requires world { ⟦<TaggedMemory as Memory>⟧.world machine.old.memory ≡ suite.opening p.now }
-    requires follows { ⟦<TaggedMemory as Memory>⟧.follows machine.old.memory no_story [] }
+    requires follows { ⟦<TaggedMemory as Memory>⟧.follows machine.old.memory empty_trace [] }
     ensures found { IfOk result (IsDetection p.now prints.now) }
     ensures counted { IfOk result (λ d. steps.new ≡ steps.old + sum d.kept.units) }
     ensures refused { IfErr result (IsSuiteFault p.now) }
@@ -94,7 +94,7 @@ fn opened<'p>(alloc: Global, p: &'p Checked) -> Result<Machine<'p, TaggedMemory>
     ensures world { IfOk result (λ m.
         ⟦<TaggedMemory as Memory>⟧.world m.memory ≡ suite.opening p.now) }
     ensures follows { IfOk result (λ m.
-        ⟦<TaggedMemory as Memory>⟧.follows m.memory no_story []) }
+        ⟦<TaggedMemory as Memory>⟧.follows m.memory empty_trace []) }
 {
     let memory = TaggedMemory::opening(alloc, p.program())?;
     let machine = Machine::new(alloc, p, 0, memory)?;

@@ -16,13 +16,13 @@ use Rattle.suite_load.specs.declared.load_fault.LoadFault.{LoadFault}
 use Rattle.suite_load.specs.declared.load_fault.LoadFault.TheVariants as fault
 use Rattle.suite_load.specs.declared.loaded.Loaded.{Loaded}
 use Rattle.suite_load.specs.LoadAnswers.{LoadAnswers, IsProper}
-use Rattle.electrictest.specs.declared.recorded.Begun.{Begun}
+use Rattle.electrictest.specs.declared.recorded.Request.{Request}
 use Rattle.electrictest.specs.declared.pool_reports.Tally.{Tally}
 use Rattle.electrictest.specs.declared.status.Status.{Status}
 use Rattle.electrictest.specs.declared.status.Status.TheVariants as ends
 use Rattle.electrictest.specs.declared.words.Command.TheVariants as command
 use Rattle.electrictest.specs.Commands.{IsProperRefusal, IsProperRun, ReportEnds, Reported}
-use Rattle.electrictest.specs.Generated.{suite_name, suite_files, summary_text, summary_by, conflict_line, counted, whole_suite, IsWholeBegun, IsSummed, Sums, Unsummed}
+use Rattle.electrictest.specs.Generated.{suite_name, suite_files, summary_text, summary_by, conflict_line, counted, whole_suite, IsWholeRequest, IsSummed, Sums, Unsummed}
 use Rattle.electrictest.specs.Loads.{LoadsNamed, IsSuite, status_of}
 use Rattle.electrictest.specs.PoolRuns.{IsChosen, LawOfOwnRuns, PoolRefused, outcomes}
 use Rattle.electrictest.specs.Records.{Beginning, beginning}
@@ -98,14 +98,14 @@ pool_proper l b ends.Sink r = absurd r
 pub units_count : (l : Loaded) (r : Record) → IsRecordOf l.checked l.prints r → length r.units ≡ length l.checked.tests
 units_count l r own = ap length own.units ∙ length-map-range_with_len (λ t. units_in (seq l.checked t)) 1 (length l.checked.tests)
 
-pub whole_has : (l : Loaded) (b : Begun) → IsSuite l → IsWholeBegun l b → All (IsTestOf l.names) b.tests → HasUnits b.tests b.record.units
+pub whole_has : (l : Loaded) (b : Request) → IsSuite l → IsWholeRequest l b → All (IsTestOf l.names) b.tests → HasUnits b.tests b.record.units
 whole_has l b suite w named = tests_have l b.tests b.tests b.record.units suite refl named (units_count l b.record w.own)
 
-law_of : (l : Loaded) (b : Begun) → IsSuite l → Linked l.checked → IsWholeBegun l b → All (IsTestOf l.names) b.tests → LawOfOwnRuns l (beginning b)
+law_of : (l : Loaded) (b : Request) → IsSuite l → Linked l.checked → IsWholeRequest l b → All (IsTestOf l.names) b.tests → LawOfOwnRuns l (beginning b)
 law_of l b suite linked w named = own_runs l (beginning b) (is_of_suite l b.tests b suite linked refl named (units_count l b.record w.own)) w.detected w.own.edges
 
 -- no test passes its budget
-pub pool_unsummed : (k : ℕ) (l : Loaded) (b : Begun) (s : Status) → IsSuite l → Linked l.checked → IsWholeBegun l b → All (IsTestOf l.names) b.tests → PoolRefused l (beginning b) s → Unsummed k s
+pub pool_unsummed : (k : ℕ) (l : Loaded) (b : Request) (s : Status) → IsSuite l → Linked l.checked → IsWholeRequest l b → All (IsTestOf l.names) b.tests → PoolRefused l (beginning b) s → Unsummed k s
 pool_unsummed k l b ends.NoMemory suite linked w named r = tt
 pool_unsummed k l b (ends.Over f) suite linked w named r = absurd ((law_of l b suite linked w named).none_over f r)
 pool_unsummed k l b (ends.Input f) suite linked w named r = absurd r
@@ -134,7 +134,7 @@ summed_of l b kept set chains many run tests workers y text chosen program same 
       reports = reads ∙ (ap (λ (n : ℕ). summary_by tests n kept (length chains) y) (sym by) ∙ summary_is tests run.workers (length chains) kept tally.given l y tally.tally);
     })
 
-pub sums_of : (k workers : ℕ) (l : Loaded) (b : Begun) (passed : Bool) (text : List ℕ) (units begun mid now : ℕ) → IsSuite l → Linked l.checked → LoadsNamed (suite_files k) suite_name (Ok l) → IsWholeBegun l b →
+pub sums_of : (k workers : ℕ) (l : Loaded) (b : Request) (passed : Bool) (text : List ℕ) (units begun mid now : ℕ) → IsSuite l → Linked l.checked → LoadsNamed (suite_files k) suite_name (Ok l) → IsWholeRequest l b →
     All (IsTestOf l.names) b.tests → mid ≡ begun + sum b.record.units → now ≡ mid + units → IsSummed l (beginning b) b.record k workers passed text units → Sums k workers passed text begun now
 sums_of k workers l b passed text units begun mid now suite linked load w named before after summed =
     let all : beginning b ≡ whole_suite l b.record = ap (λ (ts : List ℕ). record { tests = ts; said = said b.record }) w.tests in

@@ -1,4 +1,4 @@
-mod Begun
+mod Request
 mod Founds
 mod ListRuns
 mod LoadLaws

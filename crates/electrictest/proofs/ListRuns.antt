@@ -6,7 +6,7 @@ use Rattle.jvm_model.specs.declared.program.Program.{Program}
 use Rattle.jvm_model.specs.declared.values.Touch.{Touch}
 use Rattle.jvm_model.specs.Suite.{Given, first_over, first_over_on, opening, runs, runs_on, units_of}
 use Rattle.jvm_model.specs.World.{World}
-use Rattle.vm_mem.specs.Story.{Story}
+use Rattle.vm_mem.specs.Trace.{Trace}
 use Rattle.suite_load.specs.declared.loaded.Loaded.{Loaded}
 use Rattle.test_run.specs.declared.run_fault.RunFault.{RunFault}
 use Rattle.test_run.specs.declared.run_fault.RunFault.TheVariants as fault
@@ -20,7 +20,7 @@ units_same [] = refl
 units_same (x ∷ xs) = ap (λ n. x.outcome.units + n) (units_same xs)
 
 -- the tests ran on a memory of the opening world
-pub list_ran : {M : Type 0} (world : M → World) (follows : M → Story → List Touch → Type 0) (l : Loaded) (p : Program) (old new : M) (tests : List ℕ) (os : List Outcome) (begun now : ℕ) →
+pub list_ran : {M : Type 0} (world : M → World) (follows : M → Trace → List Touch → Type 0) (l : Loaded) (p : Program) (old new : M) (tests : List ℕ) (os : List Outcome) (begun now : ℕ) →
     p ≡ l.checked → world old ≡ opening l.checked → RanList world follows p old new tests os begun now → RanInOrder l tests begun now os
 unfolding runs
 list_ran world follows l p old new tests os begun now e f r =

@@ -6,7 +6,7 @@ use Rattle.suite_load.specs.declared.loaded.Loaded.{Loaded}
 use Rattle.electrictest.specs.declared.status.Status.{Status}
 use Rattle.electrictest.specs.declared.status.Status.TheVariants as ends
 use Rattle.electrictest.specs.declared.words.Command.TheVariants as command
-use Rattle.electrictest.specs.declared.recorded.Begun.{Begun}
+use Rattle.electrictest.specs.declared.recorded.Request.{Request}
 use Rattle.electrictest.specs.Words.{Ask, ask}
 use Rattle.electrictest.specs.Selections.{IsTestOf}
 use Rattle.electrictest.specs.Records.{Beginning, beginning}
@@ -17,7 +17,7 @@ use Rattle.electrictest.proofs.ChosenLaws.{units_are_tests}
 use Rattle.electrictest.proofs.PlanLaws.{tests_have}
 
 -- with units for each test of the suite, what is begun with tests of its names is of the suite
-pub is_of_suite : (l : Loaded) (ts : List ℕ) (b : Begun) → IsSuite l → Linked l.checked → b.tests ≡ ts → All (IsTestOf l.names) ts → length b.record.units ≡ length l.checked.tests → IsOfSuite l (beginning b)
+pub is_of_suite : (l : Loaded) (ts : List ℕ) (b : Request) → IsSuite l → Linked l.checked → b.tests ≡ ts → All (IsTestOf l.names) ts → length b.record.units ≡ length l.checked.tests → IsOfSuite l (beginning b)
 is_of_suite l ts b suite linked same named units = record {
   linked = linked;
   tests = units_are_tests l.checked b.tests b.record.units units (tests_have l ts b.tests b.record.units suite same named units);

@@ -7,7 +7,7 @@ use Rattle.jvm_model.specs.declared.outcome.Outcome.{Outcome}
 use Rattle.jvm_model.specs.declared.values.Touch.{Touch}
 use Rattle.jvm_model.specs.World.{World}
 use Rattle.jvm_model.specs.Suite.{Given, over_budget, over_suite, suite_fault, runs, runs_on, all_tests, opening, units_of}
-use Rattle.vm_mem.specs.Story.{Story}
+use Rattle.vm_mem.specs.Trace.{Trace}
 use Rattle.test_run.specs.Lists.{RanList}
 use Rattle.detect_run.specs.declared.fault.DetectFault.{DetectFault}
 use Rattle.detect_run.specs.declared.fault.DetectFault.TheVariants as fault
@@ -23,7 +23,7 @@ units_alike : (xs : List Given) → units_in (map (λ (x : Given). x.outcome) xs
 units_alike [] = refl
 units_alike (x ∷ xs) = ap (λ (n : ℕ). x.outcome.units + n) (units_alike xs)
 
-module _ {M : Type 0} (world : M → World) (follows : M → Story → List Touch → Type 0) (l : Loaded) (old new : M) (os : List Outcome) (begun now : ℕ) (r : RanList world follows l.checked old new (all_tests l.checked) os begun now) where
+module _ {M : Type 0} (world : M → World) (follows : M → Trace → List Touch → Type 0) (l : Loaded) (old new : M) (os : List Outcome) (begun now : ℕ) (r : RanList world follows l.checked old new (all_tests l.checked) os begun now) where
   pub ran_whole : world old ≡ opening l.checked → suite_fault l.checked ≡ None → length l.checked.tests ≤ 1024 → Ran l os
   unfolding outcomes_of runs
   ran_whole e f few =

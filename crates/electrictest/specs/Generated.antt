@@ -14,7 +14,7 @@ use Rattle.outside.specs.Depot.{Files}
 use Rattle.suite_gen.specs.Generated.{suite_text, generated_class}
 use Rattle.suite_load.specs.declared.loaded.Loaded.{Loaded}
 use Rattle.electrictest.specs.declared.pool_reports.Tally.{Tally}
-use Rattle.electrictest.specs.declared.recorded.Begun.{Begun}
+use Rattle.electrictest.specs.declared.recorded.Request.{Request}
 use Rattle.electrictest.specs.declared.status.InputFault.{InputFault}
 use Rattle.electrictest.specs.declared.status.OverFault.{OverFault}
 use Rattle.electrictest.specs.declared.status.Status.{Status}
@@ -109,7 +109,7 @@ Unsummed k _ = ⊥
 -- ---- of the code's functions
 
 -- all tests, and the record of the suite's own run, which is within its limits
-pub record IsWholeBegun (l : Loaded) (b : Begun) : Type 0 where
+pub record IsWholeRequest (l : Loaded) (b : Request) : Type 0 where
   pub detected : is_detected l.checked ≡ true
   pub own : IsRecordOf l.checked l.prints b.record
   pub tests : b.tests ≡ all_tests l.checked

@@ -4,12 +4,12 @@ use Rattle.order_law.specs.Conflicts.{Member}
 use Rattle.order_law.specs.Histories.{IsTestNumber}
 use Rattle.run_core.specs.Run.{IsLegal, IsComplete}
 use Rattle.suite_load.specs.declared.loaded.Loaded.{Loaded}
-use Rattle.electrictest.specs.declared.pool_runs.Pooled.{Pooled}
+use Rattle.electrictest.specs.declared.pool_runs.RunResult.{RunResult}
 use Rattle.electrictest.specs.PoolRuns.{IsChosen}
 use Rattle.electrictest.specs.Records.{Beginning}
 
 -- The closure of a selection ran on so many workers: the core holds a legal and complete history of its chains.
-pub record IsPooled (l : Loaded) (b : Beginning) (workers : ℕ) (p : Pooled) : Type 0 where
+pub record IsPooled (l : Loaded) (b : Beginning) (workers : ℕ) (p : RunResult) : Type 0 where
   pub chosen : IsChosen b p.chosen.set p.chosen.chains.lists p.chosen.selected
   pub tests : (t : ℕ) → Member t p.chosen.set → IsTestNumber l.checked t
   pub program : p.core.program ≡ l.checked

@@ -12,7 +12,7 @@ use Rattle.order_law.specs.declared.records.Record.{Record}
 use Rattle.dep_record.specs.RecordText.{Said, said}
 use Rattle.dep_record.specs.RecordReading.{said_in}
 use Rattle.suite_load.specs.declared.loaded.Loaded.{Loaded}
-use Rattle.electrictest.specs.declared.recorded.Begun.{Begun}
+use Rattle.electrictest.specs.declared.recorded.Request.{Request}
 use Rattle.electrictest.specs.declared.status.Status.{Status}
 use Rattle.electrictest.specs.declared.status.Status.TheVariants as ends
 use Rattle.electrictest.specs.declared.status.InputFault.{InputFault}
@@ -81,7 +81,7 @@ begun fits files l named record_name = do
 
 -- ---- answers
 
-abbrev pub beginning : Begun → Beginning
+abbrev pub beginning : Request → Beginning
 beginning b = record { tests = b.tests; said = said b.record }
 
 -- where no tests are named

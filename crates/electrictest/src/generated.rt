@@ -2,7 +2,7 @@
 
 ghost use Rattle.std.specs.Prelude.{◌≡◌, ◌+◌, ◌<◌, ◌≤◌, ◌^◌, ◌++◌, All, codes, count_by, length, sum, Ok, OnOk, IfOk, IfErr};
 ghost use Rattle.electrictest.specs.Commands.{IsProperRefusal, IsProperRun};
-ghost use Rattle.electrictest.specs.Generated.{IsWholeBegun, Sums, Unsummed};
+ghost use Rattle.electrictest.specs.Generated.{IsWholeRequest, Sums, Unsummed};
 ghost use Rattle.electrictest.specs.Generated as generated;
 ghost use Rattle.electrictest.specs.Loads.{IsSuite, LoadsNamed};
 ghost use Rattle.electrictest.specs.Pools.{IsPooled};
@@ -14,8 +14,8 @@ ghost use Rattle.worker_pool.specs.Plans.{units_of};
 use crate::detections::detected;
 use crate::loading::status_of;
 use crate::pool_reports::{Tally, tally_of};
-use crate::pool_runs::{Pooled, run_pool};
-use crate::recorded::Begun;
+use crate::pool_runs::{RunResult, run_pool};
+use crate::recorded::Request;
 use crate::reports::Report;
 use crate::selections::all_tests;
 use crate::status::Status;
@@ -104,16 +104,16 @@ fn begun_of<L: Ledger>(
     alloc: Global,
     loaded: &Loaded,
     steps: &mut Steps<L>,
-) -> Result<Begun, Status>
+) -> Result<Request, Status>
     requires suite { IsSuite loaded.now }
-    ensures whole { IfOk result (IsWholeBegun loaded.now) }
+    ensures whole { IfOk result (IsWholeRequest loaded.now) }
     ensures tests { IfOk result (λ b. All (IsTestOf loaded.now.names) b.tests) }
     ensures counted { IfOk result (λ b. steps.new ≡ steps.old + sum b.record.units) }
     ensures refused { IfErr result (RunRefused loaded.now) }
 {
     let found = detected(alloc, loaded, steps)?;
     let tests = all_tests(alloc, loaded.names.tests.len() as u32)?;
-    Ok(Begun {
+    Ok(Request {
         tests,
         record: found.kept,
     })
@@ -156,8 +156,8 @@ fn summary_of(
     alloc: Global,
     tests: u32,
     workers: u32,
-    begun: &Begun,
-    pooled: &Pooled,
+    begun: &Request,
+    pooled: &RunResult,
     tally: &Tally,
 ) -> Result<Text, NoMemory>
     ensures { IfOk result (λ text. text ≡ generated.summary_by tests workers (begun.now.record)
@@ -179,8 +179,8 @@ fn summed(
     loaded: &Loaded,
     tests: u32,
     workers: u32,
-    begun: &Begun,
-    pooled: &Pooled,
+    begun: &Request,
+    pooled: &RunResult,
 ) -> Result<Report, NoMemory>
     requires few { length loaded.now.checked.tests ≤ 1024 }
     requires pooled { IsPooled loaded.now (beginning begun.now) workers pooled.now }

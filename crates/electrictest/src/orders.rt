@@ -12,7 +12,7 @@ ghost use Rattle.electrictest.specs.Records.{beginning};
 ghost use Rattle.electrictest.specs.Running.{OrderRefused};
 ghost use Rattle.electrictest.specs.Words.{ask};
 
-use crate::recorded::{Begun, begin_with};
+use crate::recorded::{Request, begin_with};
 use crate::reports::{Report, order_report};
 use crate::running::{run_tests, test_name};
 use crate::selections::ordered;
@@ -47,7 +47,7 @@ fn input_of(alloc: Global, names: &Names, fault: OrderFault) -> Result<InputFaul
 }
 
 // That an order is lawful by the record.
-fn judged(alloc: Global, loaded: &Loaded, begun: &Begun) -> Result<(), Status>
+fn judged(alloc: Global, loaded: &Loaded, begun: &Request) -> Result<(), Status>
     ensures lawful { IfOk result (λ _. Lawful begun.now.record.edges begun.now.tests) }
     ensures refused { IfErr result (OrderRefused loaded.now (beginning begun.now)) }
 {
@@ -65,7 +65,7 @@ fn judged(alloc: Global, loaded: &Loaded, begun: &Begun) -> Result<(), Status>
 fn order_of<L: Ledger>(
     alloc: Global,
     loaded: &Loaded,
-    begun: &Begun,
+    begun: &Request,
     steps: &mut Steps<L>,
 ) -> Result<Report, Status>
     requires tests { All (IsTest loaded.now.checked) begun.now.tests }

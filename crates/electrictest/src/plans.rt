@@ -10,7 +10,7 @@ ghost use Rattle.electrictest.specs.Records.{beginning};
 ghost use Rattle.electrictest.specs.Words.{ask};
 
 use crate::plan_texts::plan_text;
-use crate::recorded::{Begun, begin_with};
+use crate::recorded::{Request, begin_with};
 use crate::reports::Report;
 use crate::selections::selected;
 use crate::status::Status;
@@ -24,7 +24,7 @@ use std::alloc::Global;
 use suite_load::Loaded;
 
 // The plan of a selection's closure for so many workers. The only error is want of memory.
-fn plan_of(alloc: Global, begun: &Begun, workers: u32) -> Result<Text, NoMemory>
+fn plan_of(alloc: Global, begun: &Request, workers: u32) -> Result<Text, NoMemory>
     requires workers { 0 < workers }
     requires tests { HasUnits begun.now.tests begun.now.record.units }
     ensures { IfOk result (λ text. IsPlanReport (beginning begun.now) workers text) }

@@ -20,7 +20,7 @@ ghost use Rattle.electrictest.specs.Words.{ask};
 
 use crate::logs::push_log;
 use crate::pool_reports::{pool_report, tally_of};
-use crate::recorded::{Begun, begin_with};
+use crate::recorded::{Request, begin_with};
 use crate::reports::Report;
 use crate::running::{budget_of, test_name};
 use crate::selections::selected;
@@ -43,7 +43,7 @@ use worker_pool::{PlanFault, run_plan};
 /// What is run: the closure of a selection, its chains, which worker runs which of them, and how many different tests were
 /// selected.
 #[derive(Drop)]
-pub struct Chosen {
+pub struct Schedule {
     pub selected: usize,
     pub set: Items<u32>,
     pub chains: Chains,
@@ -52,13 +52,13 @@ pub struct Chosen {
 
 /// A run of what was chosen, and the core that holds its history.
 #[derive(Drop)]
-pub struct Pooled {
-    pub chosen: Chosen,
+pub struct RunResult {
+    pub chosen: Schedule,
     pub core: Core,
 }
 
 // What is run for a selection. The only error is want of memory.
-fn choose(alloc: Global, begun: &Begun, workers: u32) -> Result<Chosen, NoMemory>
+fn choose(alloc: Global, begun: &Request, workers: u32) -> Result<Schedule, NoMemory>
     requires workers { 0 < workers }
     requires tests { HasUnits begun.now.tests begun.now.record.units }
     ensures chosen { IfOk result (λ c.
@@ -72,7 +72,7 @@ fn choose(alloc: Global, begun: &Begun, workers: u32) -> Result<Chosen, NoMemory
     let set = close(alloc, &graph, begun.tests.as_slice())?;
     let listed = chains(alloc, &graph, set.as_slice())?;
     let shares = plan(alloc, &listed, begun.record.units.as_slice(), workers)?;
-    Ok(Chosen {
+    Ok(Schedule {
         selected: once.len(),
         set,
         chains: listed,
@@ -99,8 +99,8 @@ fn over_budget(
 fn refusal_of(
     alloc: Global,
     loaded: &Loaded,
-    begun: &Begun,
-    chosen: &Chosen,
+    begun: &Request,
+    chosen: &Schedule,
     fault: PlanFault,
 ) -> Status
     requires chosen { IsChosen (beginning begun.now) chosen.now.set chosen.now.chains.lists
@@ -125,11 +125,11 @@ pub fn run_pool<R: Threads + Wait + Sync, G: Gate + Sync, L: Ledger>(
     rt: &R,
     alloc: Global,
     loaded: &Loaded,
-    begun: &Begun,
+    begun: &Request,
     workers: u32,
     gate: &G,
     steps: &mut Steps<L>,
-) -> Result<Pooled, Status>
+) -> Result<RunResult, Status>
     requires workers { 0 < workers }
     requires tests { HasUnits begun.now.tests begun.now.record.units }
     requires units { length begun.now.record.units ≡ length loaded.now.checked.tests }
@@ -148,7 +148,7 @@ pub fn run_pool<R: Threads + Wait + Sync, G: Gate + Sync, L: Ledger>(
         steps,
     );
     match planned {
-        Ok(core) => Ok(Pooled { chosen, core }),
+        Ok(core) => Ok(RunResult { chosen, core }),
         Err(fault) => Err(refusal_of(alloc, loaded, begun, &chosen, fault)),
     }
 }
@@ -168,9 +168,9 @@ fn push_asked(out: &mut Text, core: &Core, log: bool) -> Result<(), NoMemory>
 fn report_of(
     alloc: Global,
     loaded: &Loaded,
-    begun: &Begun,
+    begun: &Request,
     workers: u32,
-    pooled: &Pooled,
+    pooled: &RunResult,
     log: bool,
 ) -> Result<Report, NoMemory>
     requires few { length loaded.now.checked.tests ≤ 1024 }
@@ -197,7 +197,7 @@ fn pool_of<R: Threads + Wait + Sync, G: Gate + Sync, L: Ledger>(
     rt: &R,
     alloc: Global,
     loaded: &Loaded,
-    begun: &Begun,
+    begun: &Request,
     workers: u32,
     log: bool,
     gate: &G,

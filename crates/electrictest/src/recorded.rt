@@ -22,7 +22,7 @@ const RECORD_LIMIT: u64 = 536_870_912;
 
 /// The tests that the words name, and a record of their suite.
 #[derive(Drop)]
-pub struct Begun {
+pub struct Request {
     pub tests: Items<u32>,
     pub record: Record,
 }
@@ -167,7 +167,7 @@ pub fn begin_with<D: Depot>(
     loaded: &Loaded,
     tests: Items<u32>,
     name: &[u8],
-) -> Result<Begun, Status>
+) -> Result<Request, Status>
     ensures told { (D.shown depot.new).told ≡ (D.shown depot.old).told }
     ensures faults { (D.shown depot.old).faults ≤ (D.shown depot.new).faults }
     ensures gives { IfSome (D.shown depot.old).told (λ files.
@@ -180,7 +180,7 @@ pub fn begin_with<D: Depot>(
     let name = Text::from_slice(alloc, name)?;
     let record = record_at(alloc, depot, &name)?;
     record_fits(loaded, &record)?;
-    Ok(Begun { tests, record })
+    Ok(Request { tests, record })
 }
 
 /// The record of this name, of an earlier state of the suite: of the same suite text, whatever its class files are now.

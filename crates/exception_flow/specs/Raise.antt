@@ -2,7 +2,7 @@
 use Rattle.jvm_model.specs.declared.values.Value.{Value}
 use Rattle.jvm_model.specs.Raising.{row_raise}
 use Rattle.jvm_model.specs.Entries.{Entries}
-use Rattle.vm_mem.specs.Meets.{Row}
+use Rattle.vm_mem.specs.Refines.{Row}
 
 abbrev pub raise_row : Value → Row Entries
 raise_row v p s = row_raise p v s

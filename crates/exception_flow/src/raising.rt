@@ -2,7 +2,7 @@
 
 ghost use Rattle.std.specs.Prelude.{◌≡◌, IfOk, OnOk};
 ghost use Rattle.jvm_model.specs.declared.state.EntryKind.TheVariants.{InMethod};
-ghost use Rattle.vm_mem.specs.Meets.{IsReady, Meets, Tells};
+ghost use Rattle.vm_mem.specs.Refines.{IsReady, Refines, Traces};
 ghost use Rattle.exception_flow.specs.Raise.{raise_row};
 
 use crate::handlers::handler_of;
@@ -26,10 +26,10 @@ pub fn raise<M: Memory>(
     requires frame { stack.old.top.kind ≡ InMethod }
     requires row { IsReady (raise_row thrown)
         (M.program memory.old) (M.world memory.old) stack.old }
-    ensures meets { IfOk result (λ x. Meets (raise_row thrown)
+    ensures meets { IfOk result (λ x. Refines (raise_row thrown)
         (M.program memory.old) (M.world memory.old) stack.old left.old
         x stack.new (M.world memory.new) left.new) }
-    ensures told { IfOk result (λ x. Tells (raise_row thrown)
+    ensures told { IfOk result (λ x. Traces (raise_row thrown)
         (M.program memory.old) (M.world memory.old) stack.old
         x M.follows memory.old memory.new) }
     ensures of { OnOk result (M.program memory.new ≡ M.program memory.old) }

@@ -23,7 +23,7 @@ use Rattle.code_forms.specs.Operands.{index_in, number_in}
 use Rattle.code_forms.specs.Uses.{use_of}
 use Rattle.code_forms.specs.Forms.{constant_form, branches, field_form, method_form, members, array_of, number_array, type_form, types, form_of}
 use Rattle.code_forms.proofs.FormCases.{is_plain, IsTyped, loads_plain, stores_plain, moves_plain, numbers_plain, conversions_plain}
-use Rattle.class_link.specs.declared.setting.Setting.{Setting}
+use Rattle.class_link.specs.declared.link_environment.LinkEnvironment.{LinkEnvironment}
 use Rattle.class_link.specs.ClassNames.{text_at, name_at, all_names, class_number, number_or_first, kind_of}
 use Rattle.class_link.specs.Assembly.{skeleton}
 use Rattle.class_link.specs.References.{pair_of, field_target, method_target, target_of}
@@ -114,11 +114,11 @@ mapped_none : {A : Type 0} (f : A → Target) (o : Option A) → ((x : A) → co
 mapped_none f None h = refl
 mapped_none f (Some x) h = h x
 
-field_none : (s : Setting) (o : Option Kind) (pair : List ℕ × List ℕ) → constant_form (field_target s o pair) ≡ form.Nop
+field_none : (s : LinkEnvironment) (o : Option Kind) (pair : List ℕ × List ℕ) → constant_form (field_target s o pair) ≡ form.Nop
 field_none s None pair = refl
 field_none s (Some k) pair = mapped_none (λ f. target.Field (named_class k) f) (find_field s.program (named_class k) pair.0 pair.1) (λ x. refl)
 
-method_none : (s : Setting) (o : Option Kind) (pair : List ℕ × List ℕ) → constant_form (method_target s o pair) ≡ form.Nop
+method_none : (s : LinkEnvironment) (o : Option Kind) (pair : List ℕ × List ℕ) → constant_form (method_target s o pair) ≡ form.Nop
 method_none s None pair = refl
 method_none s (Some k) pair = by_test (lacks_method k pair.0)
   where

@@ -9,7 +9,7 @@ use Rattle.jvm_model.specs.Linked.{IsDistinct, test_method}
 use Rattle.class_link.specs.declared.fault.LinkFault.{LinkFault}
 use Rattle.class_link.specs.declared.fault.LinkFault.TheVariants as fault
 use Rattle.class_link.specs.declared.lines.TestLine.{TestLine}
-use Rattle.class_link.specs.declared.setting.Setting.{Setting}
+use Rattle.class_link.specs.declared.link_environment.LinkEnvironment.{LinkEnvironment}
 use Rattle.class_link.specs.ClassNames.{all_names, class_number}
 use Rattle.class_link.specs.Assembly.{skeleton}
 use Rattle.class_link.specs.Faults.{holds_tests, is_test_method, entry_with, test_in, test_entry}
@@ -27,7 +27,7 @@ use Rattle.impact_pick.proofs.Targets.{partner}
 
 -- ---- tests of lines
 
-module _ (s : Setting) (budget : ℕ) where
+module _ (s : LinkEnvironment) (budget : ℕ) where
   by_entry : {X : Type 0} (front : List TestEntry) (xs : List TestLine) (ts : List TestEntry) (o : Option TestEntry) →
       ◌≡◌ {A = Result (List TestEntry) LinkFault} (elim o as (λ z. Result (List TestEntry) LinkFault) [ None ↦ Err (fault.NotATest (length front + 1)) | Some t ↦ tests_of s budget (front ++ t ∷ []) xs ]) (Ok ts) →
       ((t : TestEntry) → o ≡ Some t → tests_of s budget (front ++ t ∷ []) xs ≡ Ok ts → X) → X

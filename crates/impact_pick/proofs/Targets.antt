@@ -17,7 +17,7 @@ use Rattle.jvm_model.specs.Selection.{named_class}
 use Rattle.dep_record.proofs.FieldLaws.{some_mapped}
 use Rattle.code_forms.specs.declared.references.Target.{Target}
 use Rattle.code_forms.specs.declared.references.Target.TheVariants as target
-use Rattle.class_link.specs.declared.setting.Setting.{Setting}
+use Rattle.class_link.specs.declared.link_environment.LinkEnvironment.{LinkEnvironment}
 use Rattle.class_link.specs.ClassNames.{text_at, name_at, all_names, needed_class, kind_of}
 use Rattle.class_link.specs.Literals.{literals, literal_number}
 use Rattle.class_link.specs.Assembly.{skeleton, bare_body}
@@ -42,7 +42,7 @@ pub record NamesClasses (slots : List (Option Entry)) : Type 0 where
   pub methods : (i class pair : ℕ) → entry_of slots i ≡ Some (entry.Method class pair) → (name : ℕ) × (entry_of slots class ≡ Some (entry.Class name))
   pub interface_methods : (i class pair : ℕ) → entry_of slots i ≡ Some (entry.InterfaceMethod class pair) → (name : ℕ) × (entry_of slots class ≡ Some (entry.Class name))
 
-abbrev pub set : List ClassParts → Setting
+abbrev pub set : List ClassParts → LinkEnvironment
 set es = record { program = skeleton es; names = all_names es; texts = literals es }
 
 pub data PairedTarget (m : Numbers) : Target → Target → Type 0 where

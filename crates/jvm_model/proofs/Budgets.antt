@@ -5,7 +5,7 @@ use Rattle.jvm_model.specs.declared.values.Touch.{Touch}
 use Rattle.jvm_model.specs.declared.program.Program.{Program}
 use Rattle.jvm_model.specs.World.{World}
 use Rattle.jvm_model.specs.Access.{Ran, run}
-use Rattle.jvm_model.specs.State.{State, Turn, next, ended, no_turn, started}
+use Rattle.jvm_model.specs.State.{State, Turn, next, ended, stuck_turn, started}
 use Rattle.jvm_model.specs.Step.{step}
 use Rattle.jvm_model.specs.Suite.{End, finished, stuck, out_of_steps, after_step, whole, tree, Given, given_at, one_test}
 use Rattle.jvm_model.proofs.Binds.{run_bind}
@@ -29,7 +29,7 @@ same_after : (p : Program) (n m : ℕ) → ((t : State) (w : World) → IsEnd (r
     run (after_step (λ t. whole p m t) x) w ≡ run (after_step (λ t. whole p n t) x) w
 same_after p n m f (next t) w e h = f t w e h
 same_after p n m f (ended v o) w e h = refl
-same_after p n m f no_turn w e h = refl
+same_after p n m f stuck_turn w e h = refl
 
 -- More steps change nothing where the end was reached: more than the units are enough.
 pub same_end : (p : Program) (n m : ℕ) (s : State) (w : World) → IsEnd (run (whole p n s) w).value → (run (whole p n s) w).units < m → run (whole p m s) w ≡ run (whole p n s) w

@@ -5,7 +5,7 @@ use Rattle.jvm_model.specs.declared.values.Touch.{Touch}
 use Rattle.jvm_model.specs.declared.program.Program.{Program}
 use Rattle.jvm_model.specs.World.{World}
 use Rattle.jvm_model.specs.Access.{Ran, run}
-use Rattle.jvm_model.specs.State.{State, Turn, next, ended, no_turn, started}
+use Rattle.jvm_model.specs.State.{State, Turn, next, ended, stuck_turn, started}
 use Rattle.jvm_model.specs.Step.{acts, step}
 use Rattle.jvm_model.specs.Suite.{End, finished, stuck, out_of_steps, after_step, whole, tree, given_at, one_test}
 use Rattle.jvm_model.proofs.Binds.{run_bind}
@@ -14,7 +14,7 @@ after_next : (p : Program) (k : ℕ) (x : Turn) (w : World) → ((t : State) (w 
     (run (after_step (λ t. whole p k t) x) w).value ≡ out_of_steps → k ≤ (run (after_step (λ t. whole p k t) x) w).units
 after_next p k (next t) w f e = f t w e
 after_next p k (ended v o) w f e = absurd (cc)
-after_next p k no_turn w f e = absurd (cc)
+after_next p k stuck_turn w f e = absurd (cc)
 
 -- each step costs at least 1
 pub enough : (p : Program) (k : ℕ) (s : State) (w : World) → (run (whole p k s) w).value ≡ out_of_steps → k ≤ (run (whole p k s) w).units

@@ -19,7 +19,7 @@ use Rattle.jvm_model.specs.Step.{step}
 use Rattle.jvm_model.specs.RowsCreate.{nest_cost}
 use Rattle.jvm_model.specs.World.{World}
 use Rattle.jvm_model.specs.Access.{run}
-use Rattle.jvm_model.specs.State.{State, started, next, ended, no_turn}
+use Rattle.jvm_model.specs.State.{State, started, next, ended, stuck_turn}
 use Rattle.jvm_model.specs.Step.{step, turn}
 use Rattle.jvm_model.specs.Reached.{thrown_itself}
 use Rattle.jvm_model.proofs.OnLiterals.{machine_on_literals}
@@ -176,7 +176,7 @@ interface_runs = refl
 -- what the step after so many steps throws by itself
 abbrev thrown_at_step : Program → ℕ → State → World → Option ℕ
 thrown_at_step p zero s w = thrown_itself p s w
-thrown_at_step p (suc n) s w = elim (turn p s w) [ next t ↦ thrown_at_step p n t (run (step p s) w).world | ended v output ↦ None | no_turn ↦ None ]
+thrown_at_step p (suc n) s w = elim (turn p s w) [ next t ↦ thrown_at_step p n t (run (step p s) w).world | ended v output ↦ None | stuck_turn ↦ None ]
 
 -- a division by zero
 abbrev divide_suite : Program

@@ -18,7 +18,7 @@ use Rattle.jvm_model.specs.declared.program.Program.{Program}
 use Rattle.jvm_model.specs.World.{World, Object}
 use Rattle.jvm_model.specs.Access.{Access, done, run}
 use Rattle.jvm_model.specs.Classes.{method_at}
-use Rattle.jvm_model.specs.Rows.{Answer, answer, no_row}
+use Rattle.jvm_model.specs.Rows.{Answer, answer, stuck_row}
 use Rattle.jvm_model.specs.Working.{Working}
 use Rattle.jvm_model.specs.Natives.{row_native}
 use Rattle.jvm_model.proofs.OnLiterals.{machine_on_literals}
@@ -58,15 +58,15 @@ pub record Called : Type 0 where
   pub made : List (Option (List ℕ))
 
 abbrev row_of_method : Option Native → List Value → Access (Answer Working)
-row_of_method None vs = done no_row
+row_of_method None vs = done stuck_row
 row_of_method (Some x) vs = row_native texts x (working vs)
 
 abbrev next_of : Answer Working → Option Next
-next_of no_row = None
+next_of stuck_row = None
 next_of (answer x s) = Some x
 
 abbrev working_of : Answer Working → Working
-working_of no_row = working []
+working_of stuck_row = working []
 working_of (answer x s) = s
 
 -- what a call of the built-in method m gives

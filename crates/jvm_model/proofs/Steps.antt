@@ -9,7 +9,7 @@ use Rattle.jvm_model.specs.Access.{Access, spend, bind}
 use Rattle.jvm_model.specs.Entries.{Entries}
 use Rattle.jvm_model.specs.Initialise.{row_finish, row_fail}
 use Rattle.jvm_model.specs.Raising.{row_raise}
-use Rattle.jvm_model.specs.Rows.{Answer, answer, no_row}
+use Rattle.jvm_model.specs.Rows.{Answer, answer, stuck_row}
 use Rattle.jvm_model.specs.Working.{Working}
 use Rattle.jvm_model.specs.State.{State}
 use Rattle.jvm_model.specs.Step.{row_here, after_row, after_native, acts, step}
@@ -40,7 +40,7 @@ unfolding step
 step_fails p s b v e f = ap (λ k. spend 1 (acts p k s.raised s)) e ∙ ap (λ r. spend 1 (acts p (InClass b) r s)) f
 
 good_row : (p : Program) (s : State) (a : Answer Entries) (w : World) → IsSafe IsTurn (after_row p s a) w → IsRow a
-good_row p s no_row w h = h
+good_row p s stuck_row w h = h
 good_row p s (answer x t) w h = tt
 
 -- where the step is safe, so is its row
@@ -48,7 +48,7 @@ pub safe_row : (p : Program) (s : State) (r : Access (Answer Entries)) (w : Worl
 safe_row p s r w h = safe_first IsRow IsTurn r (after_row p s) w (λ a v g. good_row p s a v g) h
 
 good_native : (p : Program) (s : State) (a : Answer Working) (w : World) → IsSafe IsTurn (after_native p s a) w → IsRow a
-good_native p s no_row w h = h
+good_native p s stuck_row w h = h
 good_native p s (answer x t) w h = tt
 
 pub safe_native : (p : Program) (s : State) (r : Access (Answer Working)) (w : World) → IsSafe IsTurn (bind r (after_native p s)) w → IsSafe IsRow r w

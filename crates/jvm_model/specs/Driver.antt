@@ -15,7 +15,7 @@ use Rattle.jvm_model.specs.Classes.{class_at, method_at, literal_at, upwards, is
 use Rattle.jvm_model.specs.Entries.{with_entry, frame_of, frame_cost}
 use Rattle.jvm_model.specs.Kinds.{class_of}
 use Rattle.jvm_model.specs.Rows.{Used, ready, begun, refused, begin}
-use Rattle.jvm_model.specs.State.{State, Turn, next, ended, no_turn, test_at, with_entries}
+use Rattle.jvm_model.specs.State.{State, Turn, next, ended, stuck_turn, test_at, with_entries}
 use Rattle.jvm_model.specs.Throwing.{throws}
 
 -- the units of `()V`, `setUp` and `tearDown`
@@ -65,7 +65,7 @@ drive_first p s = let t = test_at p s.test in cond (is_static (method_at p t.met
 -- `<init>` of the test's own class
 unfoldable pub drive_init : Program → ℕ → State → Access Turn
 drive_init p o s = elim (plain_method_in p init_name (class_at p (test_at p s.test).class).methods) [
-  | None ↦ done no_turn
+  | None ↦ done stuck_turn
   | Some m ↦ drives p m (Obj o ∷ []) (Built o) s
 ]
 
@@ -89,17 +89,17 @@ judged_text p output c text = spend (length text) (done (judged p output c (Some
 
 -- the field message of a throwable is null, a constant, or a string whose text is read
 abbrev pub judged_message : Program → List ℕ → ℕ → Value → Access Turn
-judged_message p output c (Int n) = done no_turn
-judged_message p output c (Long n) = done no_turn
+judged_message p output c (Int n) = done stuck_turn
+judged_message p output c (Long n) = done stuck_turn
 judged_message p output c Null = done (judged p output c None)
 judged_message p output c (Lit n) = judged_text p output c (literal_at p n)
 judged_message p output c (Obj o) = read (place.Text o) (judged_text p output c)
 
 abbrev pub judged_value : Program → List ℕ → Value → Access Turn
-judged_value p output (Int n) = done no_turn
-judged_value p output (Long n) = done no_turn
-judged_value p output Null = done no_turn
-judged_value p output (Lit n) = done no_turn
+judged_value p output (Int n) = done stuck_turn
+judged_value p output (Long n) = done stuck_turn
+judged_value p output Null = done stuck_turn
+judged_value p output (Lit n) = done stuck_turn
 judged_value p output (Obj o) = read (place.Head o) (λ h. read (place.Field o message_field) (judged_message p output (class_of h.kind)))
 
 -- the verdict: it costs 1 and the message's units

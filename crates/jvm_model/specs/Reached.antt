@@ -7,7 +7,7 @@ use Rattle.jvm_model.specs.World.{World, size, object_at}
 use Rattle.jvm_model.specs.Access.{run}
 use Rattle.jvm_model.specs.Builtin.{stack_overflow_error}
 use Rattle.jvm_model.specs.Kinds.{class_of}
-use Rattle.jvm_model.specs.State.{State, Turn, next, ended, no_turn, started}
+use Rattle.jvm_model.specs.State.{State, Turn, next, ended, stuck_turn, started}
 use Rattle.jvm_model.specs.Step.{step, turn}
 
 -- test t, begun in the world w, comes to the state s in the world v
@@ -24,7 +24,7 @@ is_object_at n _ = false
 abbrev pub thrown_after : ℕ → Turn → World → Option ℕ
 thrown_after n (next s) w = cond (is_object_at n s.raised) (Some (class_of (object_at w n).head.kind)) None
 thrown_after n (ended v output) w = None
-thrown_after n no_turn w = None
+thrown_after n stuck_turn w = None
 
 unfoldable pub thrown_itself : Program → State → World → Option ℕ
 thrown_itself p s w = thrown_after (size w) (turn p s w) (run (step p s) w).world

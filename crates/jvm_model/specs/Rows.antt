@@ -18,11 +18,11 @@ use Rattle.jvm_model.specs.declared.values.Kind.TheVariants as kind
 -- How a row ends: how the step goes on, with the entries then, or there is no row.
 pub data Answer (S : Type 0) : Type 0 where
   answer : Next → S → Answer S
-  no_row : Answer S
+  stuck_row : Answer S
 
 -- there is no row
 abbrev pub none_here : {S : Type 0} → Access (Answer S)
-none_here = done no_row
+none_here = done stuck_row
 
 -- the step throws by itself a new throwable of the class
 abbrev pub faults : {S : Type 0} → ℕ → S → Access (Answer S)

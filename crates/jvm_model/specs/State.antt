@@ -25,7 +25,7 @@ pub record State : Type 0 where
 pub data Turn : Type 0 where
   next : State → Turn
   ended : Verdict → List ℕ → Turn
-  no_turn : Turn
+  stuck_turn : Turn
 
 abbrev pub no_test : TestEntry
 no_test = record { class = 0; method = 0; clock = pos 0; seed = 0; budget = 0 }

@@ -13,7 +13,7 @@ use Rattle.jvm_model.specs.World.{World}
 use Rattle.jvm_model.specs.Access.{Access, done, spend, bind, run}
 use Rattle.jvm_model.specs.Classes.{method_at, form_at}
 use Rattle.jvm_model.specs.Entries.{Entries}
-use Rattle.jvm_model.specs.Rows.{Answer, answer, no_row, popping, on_object, none_here}
+use Rattle.jvm_model.specs.Rows.{Answer, answer, stuck_row, popping, on_object, none_here}
 use Rattle.jvm_model.specs.RowsMoves.{row_moves}
 use Rattle.jvm_model.specs.RowsArith.{row_arith}
 use Rattle.jvm_model.specs.RowsBranches.{row_branches}
@@ -28,7 +28,7 @@ use Rattle.jvm_model.specs.Working.{Working}
 use Rattle.jvm_model.specs.Natives.{row_native}
 use Rattle.jvm_model.specs.Initialise.{row_finish, row_fail}
 use Rattle.jvm_model.specs.Raising.{row_raise}
-use Rattle.jvm_model.specs.State.{State, Turn, next, no_turn, raise, with_entries}
+use Rattle.jvm_model.specs.State.{State, Turn, next, stuck_turn, raise, with_entries}
 use Rattle.jvm_model.specs.Throwing.{throws}
 use Rattle.jvm_model.specs.Driver.{drive}
 
@@ -106,13 +106,13 @@ row p i s = row_of (group_of i) p i s
 
 -- how the step ends after a built-in method
 abbrev pub after_native : Program → State → Answer Working → Access Turn
-after_native p s no_row = done no_turn
+after_native p s stuck_row = done stuck_turn
 after_native p s (answer Go t) = done (next (record s { entries = t.entries; own = t.own }))
 after_native p s (answer (Fault c) t) = throws p c (record s { entries = t.entries; own = t.own })
-after_native p s (answer (Raise v) t) = done no_turn
-after_native p s (answer (Enter m) t) = done no_turn
-after_native p s (answer Leave t) = done no_turn
-after_native p s (answer Over t) = done no_turn
+after_native p s (answer (Raise v) t) = done stuck_turn
+after_native p s (answer (Enter m) t) = done stuck_turn
+after_native p s (answer Leave t) = done stuck_turn
+after_native p s (answer Over t) = done stuck_turn
 
 -- a method that is entered: a built-in one runs now, over these entries
 abbrev pub entered : Program → State → Option Native → Entries → Access Turn
@@ -121,13 +121,13 @@ entered p s (Some x) t = bind (row_native p x (record { entries = t; own = s.own
 
 -- how the step ends after its row
 abbrev pub after_row : Program → State → Answer Entries → Access Turn
-after_row p s no_row = done no_turn
+after_row p s stuck_row = done stuck_turn
 after_row p s (answer Go t) = done (next (with_entries s t))
 after_row p s (answer (Fault c) t) = throws p c (with_entries s t)
 after_row p s (answer (Raise v) t) = done (next (raise v (with_entries s t)))
 after_row p s (answer (Enter m) t) = entered p s (method_at p m).native t
 after_row p s (answer Leave t) = done (next (with_entries s t))
-after_row p s (answer Over t) = done no_turn
+after_row p s (answer Over t) = done stuck_turn
 
 abbrev pub row_or_none : Program → Option Instr → Entries → Access (Answer Entries)
 row_or_none p None s = none_here

@@ -8,7 +8,7 @@ use Rattle.jvm_model.specs.declared.outcome.Verdict.{Verdict}
 use Rattle.jvm_model.specs.declared.program.Program.{Program}
 use Rattle.jvm_model.specs.World.{World}
 use Rattle.jvm_model.specs.Access.{Access, done, bind, run}
-use Rattle.jvm_model.specs.State.{State, Turn, next, ended, no_turn, test_at, started}
+use Rattle.jvm_model.specs.State.{State, Turn, next, ended, stuck_turn, test_at, started}
 use Rattle.jvm_model.specs.Step.{step}
 
 -- the world before the first test: no objects, the statics' opening values, no class initialised, the suite's files
@@ -30,7 +30,7 @@ pub data End : Type 0 where
 abbrev pub after_step : (State → Access End) → Turn → Access End
 after_step k (next s) = k s
 after_step k (ended v output) = done (finished v output)
-after_step k no_turn = done stuck
+after_step k stuck_turn = done stuck
 
 -- up to n steps from a state
 abbrev pub whole : Program → ℕ → State → Access End

@@ -11,8 +11,8 @@ use Rattle.jvm_model.specs.declared.program.Program.{Program}
 use Rattle.jvm_model.specs.World.{World, at, put, size, object_at, make_object}
 use Rattle.jvm_model.specs.Access.{Access, done, read, write, make, spend, read_of, write_of, made}
 use Rattle.jvm_model.specs.Classes.{method_at, member}
-use Rattle.jvm_model.specs.Rows.{Answer, answer, no_row}
-use Rattle.jvm_model.specs.State.{Turn, next, ended as over_with, no_turn}
+use Rattle.jvm_model.specs.Rows.{Answer, answer, stuck_row}
+use Rattle.jvm_model.specs.State.{Turn, next, ended as over_with, stuck_turn}
 
 -- How a program of accesses ends under a number of units.
 pub data Counted (A : Type 0) : Type 0 where
@@ -69,12 +69,12 @@ Any a = Unit {0}
 
 abbrev pub IsRow : {S : Type 0} → Answer S → Type 0
 IsRow (answer x s) = Unit {0}
-IsRow no_row = ⊥
+IsRow stuck_row = ⊥
 
 abbrev pub IsTurn : Turn → Type 0
 IsTurn (next s) = Unit {0}
 IsTurn (over_with v o) = Unit {0}
-IsTurn no_turn = ⊥
+IsTurn stuck_turn = ⊥
 
 -- Whether a call that answers this has counted the 1 of the step: not where the step throws by itself, which is counted
 -- with the throwable, and not where a built-in method is still to run.

@@ -72,8 +72,8 @@ module _ (tw : Twins) where
   pub spend-paired : {A B : Type 0} {R : A → B → Type 0} {i j : ℕ} {a : Access A} {b : Access B} → i ≡ j → Paired (with_places n P) R a b → Paired (with_places n P) R (spend i a) (spend j b)
   spend-paired {R = R} {i = i} {a = a} {b = b} e r = subst (λ (z : ℕ). Paired (with_places n P) R (spend i a) (spend z b)) e (both_spend i r)
 
-  pub no_row-paired : {S : Type 0} {Q G : S → S → Type 0} → Answers Q G none_here none_here
-  no_row-paired = both_done no_rows
+  pub stuck_row-paired : {S : Type 0} {Q G : S → S → Type 0} → Answers Q G none_here none_here
+  stuck_row-paired = both_done no_rows
 
   pub faults-paired : {S : Type 0} {Q G : S → S → Type 0} {c d : ℕ} {s t : S} → n.class c d ≡ true → Q s t → Answers Q G (faults c s) (faults d t)
   faults-paired e r = both_done (answered (fault e) r)

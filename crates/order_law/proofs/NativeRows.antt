@@ -24,7 +24,7 @@ use Rattle.order_law.proofs.Twins.{Twins}
 use Rattle.order_law.proofs.Lists.{test-paired}
 use Rattle.order_law.proofs.Programs.{next_place-paired, blank-paired, instance-paired, class_of-paired}
 use Rattle.order_law.proofs.States.{PairedWorking, go, answered, stack-paired, place-paired}
-use Rattle.order_law.proofs.Combinators.{V, Answers, choose-paired, no_row-paired, faults-paired, popping-paired, on_int-paired, on_long-paired, on_object-paired, on_reference-paired, with_kind-paired, on_text-paired}
+use Rattle.order_law.proofs.Combinators.{V, Answers, choose-paired, stuck_row-paired, faults-paired, popping-paired, on_int-paired, on_long-paired, on_object-paired, on_reference-paired, with_kind-paired, on_text-paired}
 use Rattle.order_law.proofs.PlainRows.{same_reference-paired}
 use Rattle.order_law.proofs.ObjectRows.{truth-paired}
 
@@ -82,7 +82,7 @@ module _ (tw : Twins) where
   object-native native.ObjectInit w = popping-paired tw w.entries.entries.top.stack (λ a b vs ws r rs. answers-paired w rs)
   object-native native.ObjectEquals w = popping-paired tw w.entries.entries.top.stack (λ a b vs ws r rs. popping-paired tw rs (λ c d us xs k ks. answers-paired w (one_more (truth-paired tw (same_reference-paired tw k r)) ks)))
   object-native native.ObjectHashCode w = popping-paired tw w.entries.entries.top.stack (λ a b vs ws r rs. answers-paired w (one_more (ints (pos 0)) rs))
-  object-native _ w = no_row-paired tw
+  object-native _ w = stuck_row-paired tw
 
   -- throwables
   pub sets_message-paired : {s t : Working} {vs ws : List Value} {a b : ℕ} {v u : Value} → W s t → Vs vs ws → tw.place a b → V tw v u → Natives (sets_message tw.left s vs a v) (sets_message tw.right t ws b u)
@@ -95,8 +95,8 @@ module _ (tw : Twins) where
   keeps_string-paired c d w rs r k e = choose-paired tw _ _ (is_string c d e) (on_object-paired tw _ _ (with-operands w rs) r (λ a b g. sets_message-paired w rs g k)) (answers-paired w rs)
 
   pub keeps_object-paired : {s t : Working} {vs ws : List Value} {v u x y : Value} → W s t → Vs vs ws → V tw v u → V tw x y → Natives (keeps_object tw.left s vs v x) (keeps_object tw.right t ws u y)
-  keeps_object-paired w rs r (ints i) = no_row-paired tw
-  keeps_object-paired w rs r (longs i) = no_row-paired tw
+  keeps_object-paired w rs r (ints i) = stuck_row-paired tw
+  keeps_object-paired w rs r (longs i) = stuck_row-paired tw
   keeps_object-paired w rs r nulls = makes_message-paired (codes "null") w rs r
   keeps_object-paired w rs r (literals e) = with_kind-paired tw (literals e) (λ x y h. keeps_string-paired _ _ w rs r (literals e) (class_of-paired tw.numbers tw.left tw.right tw.matched h))
   keeps_object-paired w rs r (objects e) = with_kind-paired tw (objects e) (λ x y h. keeps_string-paired _ _ w rs r (objects e) (class_of-paired tw.numbers tw.left tw.right tw.matched h))
@@ -111,7 +111,7 @@ module _ (tw : Twins) where
   throwable-native native.AssertionInitLong w = popping-paired tw w.entries.entries.top.stack (λ a b vs ws r rs. popping-paired tw rs (λ c d us xs k ks. on_long-paired tw r (λ i. makes_message-paired (signed_decimal i) w ks k)))
   throwable-native native.AssertionInitBoolean w = popping-paired tw w.entries.entries.top.stack (λ a b vs ws r rs. popping-paired tw rs (λ c d us xs k ks. on_int-paired tw r (λ i. makes_message-paired (boolean_text i) w ks k)))
   throwable-native native.AssertionInitChar w = popping-paired tw w.entries.entries.top.stack (λ a b vs ws r rs. popping-paired tw rs (λ c d us xs k ks. on_int-paired tw r (λ i. makes_message-paired (char_of i ∷ []) w ks k)))
-  throwable-native _ w = no_row-paired tw
+  throwable-native _ w = stuck_row-paired tw
 
   -- String
   pub text_index-paired : {s t : Working} (i : ℤ) (size : ℕ) {k l : ℕ → Access (Answer Working)} → W s t → ((j : ℕ) → Natives (k j) (l j)) → Natives (text_index s i size k) (text_index t i size l)
@@ -128,8 +128,8 @@ module _ (tw : Twins) where
       (answers-paired w (one_more (truth-paired tw {b = false} refl) rs))
 
   pub equals-paired : {s t : Working} {vs ws : List Value} {v u x y : Value} → W s t → Vs vs ws → V tw v u → V tw x y → Natives (string_equals tw.left s vs v x) (string_equals tw.right t ws u y)
-  equals-paired w rs r (ints i) = no_row-paired tw
-  equals-paired w rs r (longs i) = no_row-paired tw
+  equals-paired w rs r (ints i) = stuck_row-paired tw
+  equals-paired w rs r (longs i) = stuck_row-paired tw
   equals-paired w rs r nulls = answers-paired w (one_more (truth-paired tw {b = false} refl) rs)
   equals-paired w rs r (literals e) = with_kind-paired tw (literals e) (λ x y h. compares-paired _ _ w rs r (literals e) (class_of-paired tw.numbers tw.left tw.right tw.matched h))
   equals-paired w rs r (objects e) = with_kind-paired tw (objects e) (λ x y h. compares-paired _ _ w rs r (objects e) (class_of-paired tw.numbers tw.left tw.right tw.matched h))
@@ -154,15 +154,15 @@ module _ (tw : Twins) where
   string-native native.StringOfLong w = popping-paired tw w.entries.entries.top.stack (λ a b vs ws r rs. on_long-paired tw r (λ i. answers_text-paired 0 (signed_decimal i) w rs))
   string-native native.StringOfBoolean w = popping-paired tw w.entries.entries.top.stack (λ a b vs ws r rs. on_int-paired tw r (λ i. answers_text-paired 0 (boolean_text i) w rs))
   string-native native.StringOfChar w = popping-paired tw w.entries.entries.top.stack (λ a b vs ws r rs. on_int-paired tw r (λ i. answers_text-paired 0 (char_of i ∷ []) w rs))
-  string-native _ w = no_row-paired tw
+  string-native _ w = stuck_row-paired tw
 
   -- StringBuilder
   pub appends-paired : {s t : Working} {vs ws : List Value} {v u : Value} (x : List ℕ) → W s t → Vs vs ws → V tw v u → Natives (appends tw.left s vs v x) (appends tw.right t ws u x)
   appends-paired x w rs r = on_object-paired tw _ _ (with-operands w rs) r (λ a b e. both_read (texts e) (λ c d g. both_spend (length x) (both_write (texts e) (ap (λ (z : List ℕ). z ++ x) g) (answers-paired w (one_more r rs)))))
 
   pub appends_string-paired : {s t : Working} {vs ws : List Value} {v u x y : Value} → W s t → Vs vs ws → V tw v u → V tw x y → Natives (appends_string tw.left s vs v x) (appends_string tw.right t ws u y)
-  appends_string-paired w rs r (ints i) = no_row-paired tw
-  appends_string-paired w rs r (longs i) = no_row-paired tw
+  appends_string-paired w rs r (ints i) = stuck_row-paired tw
+  appends_string-paired w rs r (longs i) = stuck_row-paired tw
   appends_string-paired w rs r nulls = appends-paired (codes "null") w rs r
   appends_string-paired w rs r (literals e) = on_text-paired tw _ _ w (literals e) (λ x. appends-paired x w rs r)
   appends_string-paired w rs r (objects e) = on_text-paired tw _ _ w (objects e) (λ x. appends-paired x w rs r)
@@ -178,7 +178,7 @@ module _ (tw : Twins) where
   builder-native native.BuilderAppendChar w = popping-paired tw w.entries.entries.top.stack (λ a b vs ws r rs. popping-paired tw rs (λ c d us xs k ks. on_int-paired tw r (λ i. appends-paired (char_of i ∷ []) w ks k)))
   builder-native native.BuilderLength w = popping-paired tw w.entries.entries.top.stack (λ a b vs ws r rs. on_object-paired tw _ _ (with-operands w rs) r (λ x y e. read_text-paired e (λ z. answers-paired w (one_more (ints _) rs))))
   builder-native native.BuilderToString w = popping-paired tw w.entries.entries.top.stack (λ a b vs ws r rs. on_object-paired tw _ _ (with-operands w rs) r (λ x y e. read_text-paired e (λ z. answers_text-paired 0 z w rs)))
-  builder-native _ w = no_row-paired tw
+  builder-native _ w = stuck_row-paired tw
 
   -- System, files and the rest outside
   pub one_text-paired : {s t : Working} {k l : List ℕ → List Value → Access (Answer Working)} → W s t → ((x : List ℕ) (vs ws : List Value) → Vs vs ws → Natives (k x vs) (l x ws)) → Natives (one_text tw.left s k) (one_text tw.right t l)
@@ -204,11 +204,11 @@ module _ (tw : Twins) where
   system-native native.SystemGetProperty w = one_text-paired w (λ name vs ws rs. read_prop-paired name (λ c. answers_found-paired (length name) c w rs))
   system-native native.SystemSetProperty w = two_texts-paired w (λ name x vs ws rs. read_prop-paired name (λ c. changes-paired name (length x) (Some x) c w rs))
   system-native native.SystemClearProperty w = one_text-paired w (λ name vs ws rs. read_prop-paired name (λ c. changes-paired name 0 None c w rs))
-  system-native _ w = no_row-paired tw
+  system-native _ w = stuck_row-paired tw
 
   pub prints_string-paired : {s t : Working} {vs ws : List Value} {v u : Value} (end : List ℕ) → W s t → Vs vs ws → V tw v u → Natives (prints_string tw.left s vs end v) (prints_string tw.right t ws end u)
-  prints_string-paired end w rs (ints i) = no_row-paired tw
-  prints_string-paired end w rs (longs i) = no_row-paired tw
+  prints_string-paired end w rs (ints i) = stuck_row-paired tw
+  prints_string-paired end w rs (longs i) = stuck_row-paired tw
   prints_string-paired end w rs nulls = prints-paired (codes "null" ++ end) w rs
   prints_string-paired end w rs (literals e) = on_text-paired tw _ _ w (literals e) (λ x. prints-paired (utf8_of x ++ end) w rs)
   prints_string-paired end w rs (objects e) = on_text-paired tw _ _ w (objects e) (λ x. prints-paired (utf8_of x ++ end) w rs)
@@ -229,7 +229,7 @@ module _ (tw : Twins) where
   print-native native.PrintlnBoolean w = on_printed-paired w (λ v u vs ws r rs. on_int-paired tw r (λ i. prints-paired (boolean_text i ++ line_feed) w rs))
   print-native native.PrintlnChar w = on_printed-paired w (λ v u vs ws r rs. on_int-paired tw r (λ i. prints-paired (utf8_of (char_of i ∷ []) ++ line_feed) w rs))
   print-native native.Println w = popping-paired tw w.entries.entries.top.stack (λ a b vs ws r rs. prints-paired line_feed w rs)
-  print-native _ w = no_row-paired tw
+  print-native _ w = stuck_row-paired tw
 
   pub files-native : (x : Native) {s t : Working} → W s t → Natives (native_files tw.left x s) (native_files tw.right x t)
   unfolding native_files
@@ -238,13 +238,13 @@ module _ (tw : Twins) where
   files-native native.FilesAppend w = two_texts-paired w (λ name x vs ws rs. read_file-paired name (λ c. both_spend (length name + length x) (both_write (files name) refl (answers-paired w rs))))
   files-native native.FilesDelete w = one_text-paired w (λ name vs ws rs. read_file-paired name (λ c. both_spend (length name) (both_write (files name) refl (answers-paired w (one_more (ints _) rs)))))
   files-native native.FilesExists w = one_text-paired w (λ name vs ws rs. read_file-paired name (λ c. both_spend (length name) (answers-paired w (one_more (ints _) rs))))
-  files-native _ w = no_row-paired tw
+  files-native _ w = stuck_row-paired tw
 
   pub env-native : (x : Native) {s t : Working} → W s t → Natives (native_env tw.left x s) (native_env tw.right x t)
   unfolding native_env
   env-native native.EnvPrint w = popping-paired tw w.entries.entries.top.stack (λ a b vs ws r rs. on_int-paired tw r (λ i. prints-paired (signed_decimal i ++ line_feed) w rs))
   env-native native.EnvRandom w = answers-paired (record { entries = w.entries; own = ap (λ (o : Own). record o { random = stepped o.random }) w.own }) (one_more (random-paired w) w.entries.entries.top.stack)
-  env-native _ w = no_row-paired tw
+  env-native _ w = stuck_row-paired tw
 
   pub by_group : (g : NativeGroup) (x : Native) {s t : Working} → W s t → Natives (native_of_group g tw.left x s) (native_of_group g tw.right x t)
   by_group of_object x w = object-native x w

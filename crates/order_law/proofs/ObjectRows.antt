@@ -33,7 +33,7 @@ use Rattle.order_law.proofs.Twins.{Twins}
 use Rattle.order_law.proofs.Lists.{either, length-paired, get-list}
 use Rattle.order_law.proofs.Programs.{interface-paired, layout-paired, blank-paired, instance-paired, element-paired, fits-paired, class_of-paired, named-paired, PairedSelected, both_chosen, both_failing, virtual-paired, interface_call-paired, special-paired}
 use Rattle.order_law.proofs.States.{entering, stack-paired, full-paired, cost-paired, called-paired}
-use Rattle.order_law.proofs.Combinators.{V, E, Frames, Rows, bind-paired, choose-paired, spend-paired, no_row-paired, faults-paired, goes_on-paired, popping-paired, on_int-paired, on_object-paired, on_reference-paired, with_kind-paired, using-paired}
+use Rattle.order_law.proofs.Combinators.{V, E, Frames, Rows, bind-paired, choose-paired, spend-paired, stuck_row-paired, faults-paired, goes_on-paired, popping-paired, on_int-paired, on_object-paired, on_reference-paired, with_kind-paired, using-paired}
 use Rattle.order_law.proofs.PlainRows.{narrowed-paired}
 
 module _ (tw : Twins) where
@@ -60,7 +60,7 @@ module _ (tw : Twins) where
   unfolding row_statics
   statics-paired st (same.get_static {f = a} {g = b} e) f = using-paired tw st _ _ (tw.matched.fields a b e).class f.entries (read_static-paired a b e f)
   statics-paired st (same.put_static {f = a} {g = b} e) f = using-paired tw st _ _ (tw.matched.fields a b e).class f.entries (write_static-paired a b e f)
-  statics-paired st _ f = no_row-paired tw
+  statics-paired st _ f = stuck_row-paired tw
 
   -- fields
   pub fields-paired : {i j : Instr} {s t : Entries} → PairedInstr tw.numbers i j → Frames tw s t → Rows tw (row_fields tw.left i s) (row_fields tw.right j t)
@@ -68,7 +68,7 @@ module _ (tw : Twins) where
   fields-paired (same.get_field c e) f = popping-paired tw f.entries.top.stack (λ v w vs ws r rs. on_object-paired tw _ _ (left_with f rs) r (λ x y k. both_read (at_field k e) (λ v' w' l. goes_on-paired tw f (one_more l rs))))
   fields-paired (same.put_field {f = a} {g = b} c e) f = popping-paired tw f.entries.top.stack (λ v w vs ws r rs. popping-paired tw rs (λ v' w' us xs k ks. on_object-paired tw _ _ (left_with f ks) k (λ x y l.
       both_write (at_field l e) (narrowed-paired tw (tw.matched.fields a b e).descriptor r) (goes_on-paired tw f ks))))
-  fields-paired _ f = no_row-paired tw
+  fields-paired _ f = stuck_row-paired tw
 
   -- new objects
   pub new_object-paired : (c d : ℕ) {s t : Entries} → tw.numbers.class c d ≡ true → Frames tw s t → Rows tw (new_object tw.left c s) (new_object tw.right d t)
@@ -101,7 +101,7 @@ module _ (tw : Twins) where
       (λ a b x. children-paired i 0 a b x (nest-paired m ms (element-paired tw.numbers tw.left tw.right tw.matched r)))
 
   pub nested-paired : {k l : Kind} {s t : Entries} {vs ws : List Value} (ms : List ℕ) → KindsOf k l → Frames tw s t → PairedList (V tw) vs ws → Rows tw (nested tw.left k s vs ms) (nested tw.right l t ws ms)
-  nested-paired [] r f rs = no_row-paired tw
+  nested-paired [] r f rs = stuck_row-paired tw
   nested-paired (m ∷ ms) r f rs = both_spend (nest_cost m ms) (bind-paired tw (nest-paired m ms r) (λ a b x. goes_on-paired tw f (one_more (objects x) rs)))
 
   pub at_size : (k l : Kind) (s t : Entries) (us xs : List Value) (d : ℕ) (bad : Bool) (ms : List ℕ) (i : ℤ) →
@@ -121,11 +121,11 @@ module _ (tw : Twins) where
   create-paired st (same.new {c} {d} e) f = choose-paired tw _ _ (bare-paired c d e) (faults-paired tw (tw.matched.builtin instantiation_error (omega arith)) f.entries) (using-paired tw st c d e f.entries (new_object-paired c d e f))
   create-paired st (same.new_array r) f = popping-paired tw f.entries.top.stack (λ v w vs ws u us. on_int-paired tw u (λ i. new_array-paired i r f us))
   create-paired st (same.multi_new_array d r) f = sized-paired d false [] r f f.entries.top.stack
-  create-paired st _ f = no_row-paired tw
+  create-paired st _ f = stuck_row-paired tw
 
   -- arrays
   pub on_array-paired : {k l : Kind} {a b : Access (Answer Entries)} → KindsOf k l → Rows tw a b → Rows tw (on_array k a) (on_array l b)
-  on_array-paired (class_kinds e) f = no_row-paired tw
+  on_array-paired (class_kinds e) f = stuck_row-paired tw
   on_array-paired (array_kinds i e) f = f
 
   pub in_range-paired : {s t : Entries} (i : ℤ) {a b : ℕ} {k l : ℕ → Access (Answer Entries)} → E tw s t → a ≡ b → ((j : ℕ) → Rows tw (k j) (l j)) → Rows tw (in_range s i a k) (in_range t i b l)
@@ -147,8 +147,8 @@ module _ (tw : Twins) where
   stores-paired r e f g = choose-paired tw _ _ (fits-paired tw.numbers tw.left tw.right tw.matched g (element-paired tw.numbers tw.left tw.right tw.matched r)) f (faults-paired tw (tw.matched.builtin array_store_exception (omega arith)) e)
 
   pub checked-paired : {k l : Kind} {s t : Entries} {v w : Value} {a b : Access (Answer Entries)} → KindsOf k l → E tw s t → V tw v w → Rows tw a b → Rows tw (checked tw.left k s v a) (checked tw.right l t w b)
-  checked-paired r e (ints i) f = no_row-paired tw
-  checked-paired r e (longs i) f = no_row-paired tw
+  checked-paired r e (ints i) f = stuck_row-paired tw
+  checked-paired r e (longs i) f = stuck_row-paired tw
   checked-paired r e nulls f = f
   checked-paired r e (literals g) f = with_kind-paired tw (literals g) (λ x y h. stores-paired r e f h)
   checked-paired r e (objects g) f = with_kind-paired tw (objects g) (λ x y h. stores-paired r e f h)
@@ -174,15 +174,15 @@ module _ (tw : Twins) where
   arrays-paired (same.array_load c) f = popping-paired tw f.entries.top.stack (λ v w vs ws r rs. popping-paired tw rs (λ v' w' us xs k ks. on_int-paired tw r (λ i. on_object-paired tw _ _ (left_with f ks) k (λ a b x. both_read (heads x) (λ h h' e. loaded_from-paired i f x ks e)))))
   arrays-paired (same.array_store c) f = popping-paired tw f.entries.top.stack (λ v w vs ws r rs. popping-paired tw rs (λ v' w' us xs k ks. popping-paired tw ks (λ v'' w'' us' xs' l ls. on_int-paired tw k (λ i. on_object-paired tw _ _ (left_with f ls) l (λ a b x. both_read (heads x) (λ h h' e. stored_in-paired c i f x r ls e))))))
   arrays-paired same.array_length f = popping-paired tw f.entries.top.stack (λ v w vs ws r rs. on_object-paired tw _ _ (left_with f rs) r (λ a b x. both_read (heads x) (λ h h' e. on_array-paired e.kind (goes_on-paired tw f (one_more (length_int e.length) rs)))))
-  arrays-paired _ f = no_row-paired tw
+  arrays-paired _ f = stuck_row-paired tw
 
   -- casts
   pub cast_to-paired : {k l x y : Kind} {s t : Entries} {v w : Value} {vs ws : List Value} → KindsOf k l → Frames tw s t → V tw v w → PairedList (V tw) vs ws → KindsOf x y → Rows tw (cast_to tw.left k s v vs x) (cast_to tw.right l t w ws y)
   cast_to-paired e f r rs g = choose-paired tw _ _ (fits-paired tw.numbers tw.left tw.right tw.matched g e) (goes_on-paired tw f (one_more r rs)) (faults-paired tw (tw.matched.builtin class_cast_exception (omega arith)) (left_with f rs))
 
   pub cast-paired : {k l : Kind} {s t : Entries} {v w : Value} {vs ws : List Value} → KindsOf k l → Frames tw s t → V tw v w → PairedList (V tw) vs ws → Rows tw (cast tw.left k s v vs) (cast tw.right l t w ws)
-  cast-paired e f (ints i) rs = no_row-paired tw
-  cast-paired e f (longs i) rs = no_row-paired tw
+  cast-paired e f (ints i) rs = stuck_row-paired tw
+  cast-paired e f (longs i) rs = stuck_row-paired tw
   cast-paired e f nulls rs = goes_on-paired tw f (one_more nulls rs)
   cast-paired e f (literals g) rs = with_kind-paired tw (literals g) (λ x y h. cast_to-paired e f (literals g) rs h)
   cast-paired e f (objects g) rs = with_kind-paired tw (objects g) (λ x y h. cast_to-paired e f (objects g) rs h)
@@ -194,8 +194,8 @@ module _ (tw : Twins) where
   tested_for-paired e f rs g = goes_on-paired tw f (one_more (truth-paired (fits-paired tw.numbers tw.left tw.right tw.matched g e)) rs)
 
   pub tested-paired : {k l : Kind} {s t : Entries} {v w : Value} {vs ws : List Value} → KindsOf k l → Frames tw s t → V tw v w → PairedList (V tw) vs ws → Rows tw (tested tw.left k s v vs) (tested tw.right l t w ws)
-  tested-paired e f (ints i) rs = no_row-paired tw
-  tested-paired e f (longs i) rs = no_row-paired tw
+  tested-paired e f (ints i) rs = stuck_row-paired tw
+  tested-paired e f (longs i) rs = stuck_row-paired tw
   tested-paired e f nulls rs = goes_on-paired tw f (one_more (ints (pos 0)) rs)
   tested-paired e f (literals g) rs = with_kind-paired tw (literals g) (λ x y h. tested_for-paired e f rs h)
   tested-paired e f (objects g) rs = with_kind-paired tw (objects g) (λ x y h. tested_for-paired e f rs h)
@@ -204,7 +204,7 @@ module _ (tw : Twins) where
   unfolding row_casts
   casts-paired (same.check_cast e) f = popping-paired tw f.entries.top.stack (λ v w vs ws r rs. cast-paired e f r rs)
   casts-paired (same.instance_of e) f = popping-paired tw f.entries.top.stack (λ v w vs ws r rs. tested-paired e f r rs)
-  casts-paired _ f = no_row-paired tw
+  casts-paired _ f = stuck_row-paired tw
 
   -- calls
   pub enters_body-paired : (a b k : ℕ) {x y : Option Body} {s t : Entries} → PairedOption (PairedBody tw.numbers) x y → tw.numbers.method a b ≡ true → Frames tw s t → Rows tw (enters_body x a k s) (enters_body y b k t)
@@ -221,7 +221,7 @@ module _ (tw : Twins) where
   calls-paired a b k {s} {t} e f = let m = tw.matched.methods a b e in
       choose-paired tw _ _ (ap (λ (z : ℕ). nat_le k z) (length-paired (V tw) f.entries.top.stack))
       (subst (λ (z : Option Native). Rows tw (enters_native (method_at tw.left a).native (method_at tw.left a).body a k s) (enters_native z (method_at tw.right b).body b k t)) m.native
-      (native_or_body (method_at tw.left a).native a b k m.body e f)) (no_row-paired tw)
+      (native_or_body (method_at tw.left a).native a b k m.body e f)) (stuck_row-paired tw)
 
   pub called-with : (a b i j : ℕ) {s t : Entries} → i ≡ j → tw.numbers.method a b ≡ true → Frames tw s t → Rows tw (calls tw.left a i s) (calls tw.right b j t)
   called-with a b i j {s} {t} g e f = subst (λ (z : ℕ). Rows tw (calls tw.left a i s) (calls tw.right b z t)) g (calls-paired a b i e f)
@@ -241,7 +241,7 @@ module _ (tw : Twins) where
   receiver-paired a b {s} {t} e f = subst (λ (z : ℕ). PairedOption (V tw) (receiver tw.left a s) (slice_get t.top.stack z)) (count-paired a b e) (get-list (V tw) (argument_count tw.left a) f.entries.top.stack)
 
   pub on_receiver-paired : {s t : Entries} {x y : Option Value} {k l : Value → Access (Answer Entries)} → Frames tw s t → PairedOption (V tw) x y → ((v w : Value) → V tw v w → Rows tw (k v) (l w)) → Rows tw (on_receiver s x k) (on_receiver t y l)
-  on_receiver-paired f both_none g = no_row-paired tw
+  on_receiver-paired f both_none g = stuck_row-paired tw
   on_receiver-paired f (both_some r) g = on_reference-paired tw _ _ f.entries r (g _ _ r)
 
   pub calls_rows-paired : MatchedStarts tw.numbers tw.left tw.right → {i j : Instr} {s t : Entries} → PairedInstr tw.numbers i j → Frames tw s t → Rows tw (row_calls tw.left i s) (row_calls tw.right j t)
@@ -253,4 +253,4 @@ module _ (tw : Twins) where
       selected-paired _ _ (interface_call-paired tw.numbers tw.left tw.right tw.matched c d a b _ _ k e (class_of-paired tw.numbers tw.left tw.right tw.matched h)) (and_receiver a b e) f))
   calls_rows-paired st (same.invoke_special {a = a} {b = b} k e) f = on_receiver-paired f (receiver-paired a b e f) (λ v w r.
       selected-paired _ _ (special-paired tw.numbers tw.left tw.right tw.matched _ _ _ _ a b (tw.matched.methods _ _ f.method).class (named-paired tw.numbers tw.left tw.right tw.matched k) e) (and_receiver a b e) f)
-  calls_rows-paired st _ f = no_row-paired tw
+  calls_rows-paired st _ f = stuck_row-paired tw

@@ -26,7 +26,7 @@ use Rattle.order_law.specs.Forms as same
 use Rattle.order_law.proofs.Twins.{Twins}
 use Rattle.order_law.proofs.Lists.{test-paired, length-paired, get-list, set-list}
 use Rattle.order_law.proofs.States.{go, raised, leave, answered, stack-paired, popped-paired, frame_top}
-use Rattle.order_law.proofs.Combinators.{V, E, Frames, Rows, choose-paired, no_row-paired, faults-paired, goes_on-paired, goes_to-paired, popping-paired, on_int-paired, on_long-paired, on_object-paired, on_reference-paired}
+use Rattle.order_law.proofs.Combinators.{V, E, Frames, Rows, choose-paired, stuck_row-paired, faults-paired, goes_on-paired, goes_to-paired, popping-paired, on_int-paired, on_long-paired, on_object-paired, on_reference-paired}
 
 pub constant-paired : (n : Numbers) (P : ℕ → ℕ → Type 0) {v w : Value} → PairedConstant n v w → PairedValue (with_places n P) v w
 constant-paired n P (const_int k) = ints k
@@ -37,7 +37,7 @@ constant-paired n P (const_literal e) = literals e
 module _ (tw : Twins) where
   -- moves
   pub loaded-paired : {s t : Entries} {x y : Option Value} → Frames tw s t → PairedOption (V tw) x y → Rows tw (loaded tw.left s x) (loaded tw.right t y)
-  loaded-paired f both_none = no_row-paired tw
+  loaded-paired f both_none = stuck_row-paired tw
   loaded-paired f (both_some r) = goes_on-paired tw f (one_more r f.entries.top.stack)
 
   pub local-paired : {s t : Entries} {v w : Value} (i : ℕ) → Frames tw s t → V tw v w → Frames tw (with_local s i v) (with_local t i w)
@@ -47,7 +47,7 @@ module _ (tw : Twins) where
   }
 
   pub stored-paired : {s t : Entries} {v w : Value} {vs ws : List Value} (i : ℕ) → Frames tw s t → V tw v w → PairedList (V tw) vs ws → Rows tw (stored tw.left s i v vs) (stored tw.right t i w ws)
-  stored-paired i f r rs = choose-paired tw _ _ (ap (λ (k : ℕ). nat_lt i k) (length-paired (V tw) f.entries.top.locals)) (goes_on-paired tw (local-paired i f r) rs) (no_row-paired tw)
+  stored-paired i f r rs = choose-paired tw _ _ (ap (λ (k : ℕ). nat_lt i k) (length-paired (V tw) f.entries.top.locals)) (goes_on-paired tw (local-paired i f r) rs) (stuck_row-paired tw)
 
   pub long-paired : {v w : Value} → V tw v w → is_long v ≡ is_long w
   long-paired (ints i) = refl
@@ -87,7 +87,7 @@ module _ (tw : Twins) where
       (under_two-paired f r k ks)))
   moves-paired same.swap f = popping-paired tw f.entries.top.stack (λ a b vs ws r rs. popping-paired tw rs (λ c d us xs k ks. goes_on-paired tw f (one_more k (one_more r ks))))
   moves-paired same.monitor f = popping-paired tw f.entries.top.stack (λ a b vs ws r rs. on_reference-paired tw _ _ (stack-paired tw.numbers tw.place f rs).entries r (goes_on-paired tw f rs))
-  moves-paired _ f = no_row-paired tw
+  moves-paired _ f = stuck_row-paired tw
 
   -- arithmetic
   pub unless_zero-paired : (x : Op) (b : ℤ) {s t : Entries} {k l : Access (Answer Entries)} → E tw s t → Rows tw k l → Rows tw (unless_zero x b s k) (unless_zero x b t l)
@@ -113,7 +113,7 @@ module _ (tw : Twins) where
   converted-paired conv.I2s f = popping-paired tw f.entries.top.stack (λ a b vs ws r rs. on_int-paired tw r (λ i. goes_on-paired tw f (one_more (ints _) rs)))
 
   pub increased-paired : (i : ℕ) (by : ℤ) {s t : Entries} {x y : Option Value} → Frames tw s t → PairedOption (V tw) x y → Rows tw (increased tw.left i by s x) (increased tw.right i by t y)
-  increased-paired i by f both_none = no_row-paired tw
+  increased-paired i by f both_none = stuck_row-paired tw
   increased-paired i by f (both_some r) = on_int-paired tw r (λ a. stored-paired i f (ints _) f.entries.top.stack)
 
   pub arith-paired : {i j : Instr} {s t : Entries} → PairedInstr tw.numbers i j → Frames tw s t → Rows tw (row_arith tw.left i s) (row_arith tw.right j t)
@@ -125,7 +125,7 @@ module _ (tw : Twins) where
   arith-paired (same.inc i by) f = increased-paired i by f (get-list (V tw) i f.entries.top.locals)
   arith-paired (same.convert x) f = converted-paired x f
   arith-paired same.compare f = popping-paired tw f.entries.top.stack (λ a b vs ws r rs. popping-paired tw rs (λ c d us xs k ks. on_long-paired tw r (λ i. on_long-paired tw k (λ j. goes_on-paired tw f (one_more (ints _) ks)))))
-  arith-paired _ f = no_row-paired tw
+  arith-paired _ f = stuck_row-paired tw
 
   -- branches; equality of references wants places and constants one to one
   pub same_reference-paired : {v w x y : Value} → V tw v w → V tw x y → same_reference v x ≡ same_reference w y
@@ -153,7 +153,7 @@ module _ (tw : Twins) where
   branches-paired (same.goto to) f = goes_to-paired tw refl f f.entries.top.stack
   branches-paired (same.table low ts other) f = popping-paired tw f.entries.top.stack (λ a b vs ws r rs. on_int-paired tw r (λ i. goes_to-paired tw refl f rs))
   branches-paired (same.lookup ps other) f = popping-paired tw f.entries.top.stack (λ a b vs ws r rs. on_int-paired tw r (λ i. goes_to-paired tw refl f rs))
-  branches-paired _ f = no_row-paired tw
+  branches-paired _ f = stuck_row-paired tw
 
   -- returns
   pub narrow-paired : (u : ℕ) {v w : Value} → V tw v w → V tw (narrow u v) (narrow u w)
@@ -186,7 +186,7 @@ module _ (tw : Twins) where
   unfolding row_return
   return-paired (same.return None) f = hands-paired f.entries no_more
   return-paired (same.return (Some x)) f = popping-paired tw f.entries.top.stack (λ a b vs ws r rs. hands-paired f.entries (one_more (narrowed-paired (ap return_type (tw.matched.methods _ _ f.method).descriptor) r) no_more))
-  return-paired _ f = no_row-paired tw
+  return-paired _ f = stuck_row-paired tw
 
   -- athrow
   pub throw-paired : {s t : Entries} → Frames tw s t → Rows tw (row_throw s) (row_throw t)

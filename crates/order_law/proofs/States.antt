@@ -12,9 +12,9 @@ use Rattle.jvm_model.specs.declared.state.EntryKind.TheVariants.{Absent, InMetho
 use Rattle.jvm_model.specs.declared.state.Stage.{Stage}
 use Rattle.jvm_model.specs.declared.state.Stage.TheVariants.{First, Made, Built, SetUp, Called, Last}
 use Rattle.jvm_model.specs.Entries.{Entry, Entries, no_entries, entry_limit, all_entries, is_full, with_entry, entries_of, popped_entry, with_stack, with_place, class_entry, slots_of, filled, frame_of, frame_cost, called}
-use Rattle.jvm_model.specs.Rows.{Answer, answer, no_row, Used, ready, begun, refused}
+use Rattle.jvm_model.specs.Rows.{Answer, answer, stuck_row, Used, ready, begun, refused}
 use Rattle.jvm_model.specs.Working.{Working}
-use Rattle.jvm_model.specs.State.{State, Turn, next, ended, no_turn, test_at}
+use Rattle.jvm_model.specs.State.{State, Turn, next, ended, stuck_turn, test_at}
 use Rattle.order_law.specs.Pairing.{PairedList, no_more, one_more, PairedOption, PairedValue, ints, longs, nulls, literals, objects}
 use Rattle.order_law.specs.Numbers.{Numbers, with_places}
 use Rattle.order_law.specs.Matched.{PairedBody, PairedTest}
@@ -66,7 +66,7 @@ module _ (n : Numbers) (P : ℕ → ℕ → Type 0) where
   pub data PairedAnswer {S : Type 0} (E F : S → S → Type 0) : Answer S → Answer S → Type 0 where
     answered : {x y : Next} {s t : S} → PairedNext x y → E s t → PairedAnswer E F (answer x s) (answer y t)
     entering : {a b : ℕ} {s t : S} → n.method a b ≡ true → F s t → PairedAnswer E F (answer (Enter a) s) (answer (Enter b) t)
-    no_rows : PairedAnswer E F no_row no_row
+    no_rows : PairedAnswer E F stuck_row stuck_row
 
   pub data PairedUsed : Used → Used → Type 0 where
     both_ready : PairedUsed ready ready
@@ -166,4 +166,4 @@ module _ (n : Numbers) (P : ℕ → ℕ → Type 0) where
     pub data PairedTurn : Turn → Turn → Type 0 where
       both_next : {s t : State} → PairedState s t → PairedTurn (next s) (next t)
       both_ended : {v w : Verdict} {o r : List ℕ} → PairedVerdict n v w → o ≡ r → PairedTurn (ended v o) (ended w r)
-      no_turns : PairedTurn no_turn no_turn
+      no_turns : PairedTurn stuck_turn stuck_turn

@@ -35,7 +35,7 @@ use Rattle.order_law.proofs.Twins.{Twins}
 use Rattle.order_law.proofs.Lists.{both, length-paired, filter-paired, map-paired, cond-list}
 use Rattle.order_law.proofs.Programs.{pick-option, interface-paired, trivial-paired, defaults-paired, below-paired, upwards-paired, layout-paired, blank-paired, instance-paired, class_of-paired, handler-paired, form_at-paired}
 use Rattle.order_law.proofs.States.{PairedNext, go, fault, raised, leave, over, PairedAnswer, answered, entering, no_rows, PairedUsed, both_ready, both_begun, both_refused, PairedStage, both_first, both_made, both_built, both_set_up, both_called, both_last, PairedState, PairedTurn, both_next, both_ended, no_turns, full-paired, entry-paired, nothing-paired, popped-paired, class_entry-paired, frame-paired, cost-paired, frame_top, class_top}
-use Rattle.order_law.proofs.Combinators.{V, E, Frames, Rows, bind-paired, choose-paired, spend-paired, no_row-paired, faults-paired, goes_to-paired, on_object-paired, begin-paired}
+use Rattle.order_law.proofs.Combinators.{V, E, Frames, Rows, bind-paired, choose-paired, spend-paired, stuck_row-paired, faults-paired, goes_to-paired, on_object-paired, begin-paired}
 use Rattle.order_law.proofs.PlainRows.{moves-paired, arith-paired, branches-paired, return-paired, throw-paired}
 use Rattle.order_law.proofs.ObjectRows.{statics-paired, fields-paired, create-paired, arrays-paired, casts-paired, calls_rows-paired}
 use Rattle.order_law.proofs.NativeRows.{native-paired, W}
@@ -80,7 +80,7 @@ module _ (tw : Twins) where
 
   pub starts_body-paired : {x y : Option Body} (a b : ℕ) (i j : ℕ) {s t : Entries} {k : Bool} → PairedOption (PairedBody tw.numbers) x y → M a b → i ≡ j → E tw s t → s.top.kind ≡ InClass k →
       Rows tw (starts_body x a i s) (starts_body y b j t)
-  starts_body-paired a b i j both_none e g r h = no_row-paired tw
+  starts_body-paired a b i j both_none e g r h = stuck_row-paired tw
   starts_body-paired a b i j (both_some {x} {y} o) e g r h = choose-paired tw _ _ (full-paired tw.numbers tw.place r)
       (spend-paired tw g (faults-paired tw (tw.matched.builtin stack_overflow_error (omega arith)) r))
       (spend-paired tw (rw (g, cost-paired tw.numbers tw.place o) refl) (both_done (answered go (entry-paired tw.numbers tw.place (frame-paired tw.numbers tw.place o e no_more) (entered_class-paired r h)))))
@@ -296,8 +296,8 @@ module _ (tw : Twins) where
         (looked-paired x.class y.class (i + x.price) (j + y.price) c o.class price r (looks-paired (i + x.price) (j + y.price) os price r h)))
 
     pub finishing-paired : (k : EntryKind) {s t : Entries} → s.top.kind ≡ k → E tw s t → Rows tw (finishing k tw.left s) (finishing k tw.right t)
-    finishing-paired Absent h r = no_row-paired tw
-    finishing-paired InMethod h r = no_row-paired tw
+    finishing-paired Absent h r = stuck_row-paired tw
+    finishing-paired InMethod h r = stuck_row-paired tw
     finishing-paired (InClass false) h r = looks-paired 0 0 (parts-paired _ _ (class_top tw.numbers tw.place r h)) refl r h
     finishing-paired (InClass true) h r = finished-paired r h
 
@@ -341,7 +341,7 @@ module _ (tw : Twins) where
     row-paired {i} {j} {s} {t} e f = subst (λ (g : Group). Rows tw (row_of (group_of i) tw.left i s) (row_of g tw.right j t)) (same_group e) (row_of-paired (group_of i) e f)
 
     pub or_none : {x y : Option Instr} {s t : Entries} → PairedOption (PairedInstr tw.numbers) x y → Frames tw s t → Rows tw (row_or_none tw.left x s) (row_or_none tw.right y t)
-    or_none both_none f = no_row-paired tw
+    or_none both_none f = stuck_row-paired tw
     or_none (both_some e) f = row-paired e f
 
     pub here-paired : {s t : Entries} → Frames tw s t → Rows tw (row_here tw.left s) (row_here tw.right t)

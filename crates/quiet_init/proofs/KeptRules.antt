@@ -22,11 +22,11 @@ use Rattle.jvm_model.specs.declared.values.Value.TheVariants as value
 use Rattle.jvm_model.specs.Builtin.{object_class, string_class, throwable_class}
 use Rattle.jvm_model.specs.Classes.{no_class, class_at, field_at, method_at, is_interface, is_static, init_name}
 use Rattle.jvm_model.specs.Descriptors.{parameters, return_type}
-use Rattle.type_frames.specs.declared.sides.Need.{Need}
-use Rattle.type_frames.specs.declared.sides.Need.TheVariants.{Fits, One, Half, Ref, Raw, Small, Array, Never}
-use Rattle.type_frames.specs.declared.sides.Reading.{Reading}
-use Rattle.type_frames.specs.declared.sides.Sides.{Sides}
-use Rattle.type_frames.specs.declared.sides.Turn.TheVariants as turn
+use Rattle.type_frames.specs.declared.stack_effect.OperandConstraint.{OperandConstraint}
+use Rattle.type_frames.specs.declared.stack_effect.OperandConstraint.TheVariants.{Fits, One, Half, Ref, Raw, Small, Array, Never}
+use Rattle.type_frames.specs.declared.stack_effect.Reading.{Reading}
+use Rattle.type_frames.specs.declared.stack_effect.StackEffect.{StackEffect}
+use Rattle.type_frames.specs.declared.stack_effect.Substitution.TheVariants as turn
 use Rattle.type_frames.specs.declared.vtype.Frame.{Frame}
 use Rattle.type_frames.specs.declared.vtype.VType.{VType}
 use Rattle.type_frames.specs.declared.vtype.VType.TheVariants.{Top, Int, Long, Null, Object, UninitThis, Uninit}
@@ -36,7 +36,7 @@ use Rattle.type_frames.specs.Environment.{Environment, environment_of, given_at,
 use Rattle.type_frames.specs.Frames.{Slots, same, slots_of, spread}
 use Rattle.type_frames.specs.Given.{is_constructor, entry_types, body_frames, given_frames}
 use Rattle.type_frames.specs.Rules.{meets, meet_all, all_read, can_set, after, fit_all, is_sound, fits_given, fits_at, opening, is_entered, fits_next, covers, caught, handles, rule_1, rule_5, rule_6, rule_7, rule_10, rule_11, test, first_broken, broken}
-use Rattle.type_frames.specs.Sides.{plain, place_of, on_stack, needs_of, const_type, int_need, int_type, put_field_sides, argument_needs, result_types, call_sides, special_need, is_that, is_start, started, init_sides, special_sides, array_need, loaded, stored, leaving, sides}
+use Rattle.type_frames.specs.StackEffect.{plain, place_of, on_stack, needs_of, const_type, int_need, int_type, put_field_sides, argument_needs, result_types, call_sides, special_need, is_that, is_start, started, init_sides, special_sides, array_need, loaded, stored, leaving, sides}
 use Rattle.type_frames.specs.Typing.{passed, passed_on, taken_at, taken_by, incoming, breach_of, judged, breach_at, all_frames}
 use Rattle.quiet_init.specs.Quiet.{is_quiet, quiet_class, quiet}
 use Rattle.quiet_init.proofs.Kept.{is_below_kept}
@@ -187,7 +187,7 @@ module _ (p : Program) where
   init_kept e f m t = λ i. record (plain (argument_needs m.descriptor ++ Raw ∷ []) (result_types m.descriptor)) { turn = turn.All t (started_kept e m.class t i); starts_well = is_start_kept e m.class t i }
 
   special_kept : (e : Environment) (f : Slots) (named : Kind) (m : MethodRec) → special_sides (quiet p) e f named m ≡ special_sides p e f named m
-  special_kept e f named m = λ i. elim (bytes_eq m.name init_name) as (λ x. Sides) [
+  special_kept e f named m = λ i. elim (bytes_eq m.name init_name) as (λ x. StackEffect) [
     | true ↦ init_kept e f m (place_of f (length (argument_needs m.descriptor))) i
     | false ↦ call_sides m (special_need_kept e named i ∷ [])
   ]
@@ -246,7 +246,7 @@ module _ (p : Program) where
 
   -- ---- the rules
 
-  meets_kept : (n : Need) (t : VType) → meets (quiet p) n t ≡ meets p n t
+  meets_kept : (n : OperandConstraint) (t : VType) → meets (quiet p) n t ≡ meets p n t
   meets_kept (Fits u) t = assignable_kept t u
   meets_kept One t = refl
   meets_kept Half t = refl
@@ -256,7 +256,7 @@ module _ (p : Program) where
   meets_kept Array t = refl
   meets_kept Never t = refl
 
-  meet_all_kept : (ns : List Need) (ts : List VType) → meet_all (quiet p) ns ts ≡ meet_all p ns ts
+  meet_all_kept : (ns : List OperandConstraint) (ts : List VType) → meet_all (quiet p) ns ts ≡ meet_all p ns ts
   meet_all_kept [] ts = refl
   meet_all_kept (n ∷ ns) [] = refl
   meet_all_kept (n ∷ ns) (t ∷ ts) = λ i. meets_kept n t i && meet_all_kept ns ts i
@@ -289,7 +289,7 @@ module _ (p : Program) where
   handles_kept : (e : Environment) (pc : ℕ) (f : Slots) (h : Handler) → handles (quiet p) e pc f h ≡ handles p e pc f h
   handles_kept e pc f h = λ i. not (covers h pc) || (nat_lt 0 e.body.max_stack && (not (e.starts && f.flag) && fits_at_kept e (record f { stack = Object (names_kept p (caught h) i) ∷ [] }) h.at i))
 
-  broken_kept : (e : Environment) (k : ℕ) (x : Placed) (f : Slots) (s : Sides) → broken (quiet p) e k x f s ≡ broken p e k x f s
+  broken_kept : (e : Environment) (k : ℕ) (x : Placed) (f : Slots) (s : StackEffect) → broken (quiet p) e k x f s ≡ broken p e k x f s
   unfolding broken
   broken_kept e k x f s = λ i. first_broken (
       test 1 (rule_1 e f s)

@@ -22,7 +22,7 @@ use Rattle.jvm_model.specs.Classes.{no_field, class_at, field_at, method_at, is_
 use Rattle.jvm_model.specs.Entries.{Entry, Entries, no_entries, with_entry, entries_of, popped_entry, with_stack, with_place}
 use Rattle.jvm_model.specs.Linked.{IsMethod, NamesForm, NamesBody, NamesEntries}
 use Rattle.jvm_model.specs.Narrow.{narrowed}
-use Rattle.jvm_model.specs.Rows.{Answer, answer, no_row, goes_on, popping}
+use Rattle.jvm_model.specs.Rows.{Answer, answer, stuck_row, goes_on, popping}
 use Rattle.jvm_model.specs.RowsStatics.{read_static, write_static, row_statics}
 use Rattle.jvm_model.specs.Step.{row}
 use Rattle.jvm_model.specs.View.{IsSafe, IsRow, counted, ended, paid, counts_one, outcome}
@@ -75,12 +75,12 @@ grows i e = by i
     by _ = omega arith
 
 module _ (p : Program) (s : Entries) (w : World) where
-  safe : {x y : Access (Answer Entries)} → Both p s.below s x y → (run x w).value ≢ no_row → IsSafe IsRow x w
+  safe : {x y : Access (Answer Entries)} → Both p s.below s x y → (run x w).value ≢ stuck_row → IsSafe IsRow x w
   safe (both_go vs) h = tt
   safe both_stuck h = absurd (h refl)
 
   -- a calm instruction that has its row has it in every program
-  pub calm_there : (i : Instr) → is_calm i ≡ true → (run (row p i s) w).value ≢ no_row → HasRow i s
+  pub calm_there : (i : Instr) → is_calm i ≡ true → (run (row p i s) w).value ≢ stuck_row → HasRow i s
   calm_there i e h = has_row p w i s (calm_pure i e) (safe (calm_row p s.below s i e) h)
 
   pub still_world : {x y : Access (Answer Entries)} → Both p s.below s x y → (run x w).world ≡ w
@@ -100,7 +100,7 @@ module _ (p : Program) (s : Entries) (w : World) where
   left_by_go u n Leave t left e = absurd (cc)
   left_by_go u n Over t left e = absurd (cc)
 
-  none_left : (n : ℕ) (a : Next) (t : Entries) (left : ℕ) → ended no_row w n ≡ outcome a t w left → ⊥
+  none_left : (n : ℕ) (a : Next) (t : Entries) (left : ℕ) → ended stuck_row w n ≡ outcome a t w left → ⊥
   none_left n Go t left e = cc
   none_left n (Fault c) t left e = cc
   none_left n (Raise v) t left e = cc
@@ -110,7 +110,7 @@ module _ (p : Program) (s : Entries) (w : World) where
 
   stepped : {x y : Access (Answer Entries)} → Both p s.below s x y → (a : Next) (t : Entries) (left : ℕ) → counted (paid (counts_one p a) x) w 1 ≡ outcome a t w left → goes_with s (run x w).value ≡ t
   stepped (both_go vs) a t left e = let k = ends (counts_one p a) (answer Go (moved p s vs)) in left_by_go (moved p s vs) k.0 a t left (sym k.1 ∙ e)
-  stepped both_stuck a t left e = let k = ends (counts_one p a) no_row in absurd (none_left k.0 a t left (sym k.1 ∙ e))
+  stepped both_stuck a t left e = let k = ends (counts_one p a) stuck_row in absurd (none_left k.0 a t left (sym k.1 ∙ e))
 
 -- nor does it change what stands below
 calm_below : {p : Program} {b : List Entry} {s : Entries} {x y : Access (Answer Entries)} (w : World) → Both p b s x y → (goes_with s (run x w).value).below ≡ s.below
@@ -150,11 +150,11 @@ module _ (p : Program) (f : ℕ) (w : World) (g : IsBegun p f w) where
     world = ap (λ (r : Ran (Answer Entries)). r.world) (uses_write u) ∙ (λ i. put w (place.Static f) (sym e i));
   }
 
-  pub put_operand : (s : Entries) → (run (row p (form.PutStatic f) s) w).value ≢ no_row → 0 < length s.top.stack
+  pub put_operand : (s : Entries) → (run (row p (form.PutStatic f) s) w).value ≢ stuck_row → 0 < length s.top.stack
   unfolding write_static
   put_operand s h = by s.top.stack (λ e. h (ap (λ (r : Ran (Answer Entries)). r.value) (uses_write s) ∙ e))
     where
-      by : (vs : List Value) → (run (popping vs (λ v us. write (place.Static f) (narrowed (field_at p f).descriptor v) (goes_on p s us))) w).value ≢ no_row → 0 < length vs
+      by : (vs : List Value) → (run (popping vs (λ v us. write (place.Static f) (narrowed (field_at p f).descriptor v) (goes_on p s us))) w).value ≢ stuck_row → 0 < length vs
       by [] h = absurd (h refl)
       by (v ∷ vs) h = omega arith
 

@@ -14,17 +14,17 @@ use Rattle.jvm_model.specs.declared.values.Value.TheVariants as value
 use Rattle.jvm_model.specs.World.{World}
 use Rattle.jvm_model.specs.Classes.{field_at, method_at}
 use Rattle.jvm_model.specs.Entries.{Entries}
-use Rattle.type_frames.specs.declared.sides.Need.TheVariants.{One}
-use Rattle.type_frames.specs.declared.sides.Sides.{Sides}
+use Rattle.type_frames.specs.declared.stack_effect.OperandConstraint.TheVariants.{One}
+use Rattle.type_frames.specs.declared.stack_effect.StackEffect.{StackEffect}
 use Rattle.type_frames.specs.declared.vtype.VType.{VType}
 use Rattle.type_frames.specs.declared.vtype.VType.TheVariants.{Top, Int, Long, Object}
 use Rattle.type_frames.specs.Descriptors.{types_of, class_name}
 use Rattle.type_frames.specs.Environment.{Environment}
 use Rattle.type_frames.specs.Frames.{Slots, same}
-use Rattle.type_frames.specs.Sides.{sides, two, long_need, const_type}
+use Rattle.type_frames.specs.StackEffect.{sides, two, long_need, const_type}
 use Rattle.type_frames.specs.Typing.{IsTyped}
 use Rattle.check_sound.specs.ReachLaw.{most_operands, puts}
-use Rattle.check_sound.proofs.CallSides.{values_few, on_stack_length}
+use Rattle.check_sound.proofs.CallEffects.{values_few, on_stack_length}
 use Rattle.check_sound.proofs.DeclaredValues.{text_of_field}
 use Rattle.check_sound.proofs.ParameterTexts.{IsText}
 use Rattle.check_sound.proofs.Ready.{Ready, here, sides_at, names_form}
@@ -63,7 +63,7 @@ some_types (u ∷ us) h = elim (cases_Bool (nat_eq u 86)) [
     by false false false false false false h = omega arith
 
 -- nothing more, or as much as the instruction gives beyond what it takes
-Grown : Sides → Instr → Type 0
+Grown : StackEffect → Instr → Type 0
 Grown o i = (puts i ≡ 0) ⊎ (length o.takes + puts i ≤ length o.gives)
 
 -- the fields of static instructions have types

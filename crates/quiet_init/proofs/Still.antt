@@ -22,7 +22,7 @@ use Rattle.jvm_model.specs.World.{World, at, put}
 use Rattle.jvm_model.specs.Access.{Access, done, read, write, bind, read_of, Ran, run}
 use Rattle.jvm_model.specs.Classes.{field_at, is_trivial, next_place}
 use Rattle.jvm_model.specs.Entries.{Entry, Entries, with_stack, with_place, popped_entry}
-use Rattle.jvm_model.specs.Rows.{Answer, answer, no_row, none_here, goes_on, popping, on_int, on_long, ready, begun_at, begin, once, using}
+use Rattle.jvm_model.specs.Rows.{Answer, answer, stuck_row, none_here, goes_on, popping, on_int, on_long, ready, begun_at, begin, once, using}
 use Rattle.jvm_model.specs.RowsMoves.{is_long, two_under_long, two_under_two, row_moves}
 use Rattle.jvm_model.specs.RowsArith.{divides, shifts, unless_zero, two_ints, two_longs, converted, row_arith}
 use Rattle.jvm_model.specs.RowsStatics.{read_static, write_static, row_statics}
@@ -122,7 +122,7 @@ module _ (p : Program) (b : List Entry) (s : Entries) where
 -- both go on, or neither has a row
 pub data Met (p : Program) (b : List Entry) (s : Entries) : Answer Entries → Answer Entries → Type 0 where
   met_go : (vs : List Value) → Met p b s (answer Go (moved p s vs)) (answer Go (under b (moved p s vs)))
-  met_stuck : Met p b s no_row no_row
+  met_stuck : Met p b s stuck_row stuck_row
 
 pub next_alike : {p : Program} {b : List Entry} {s : Entries} {x y : Answer Entries} → Met p b s x y → goes_with (under b s) y ≡ under b (goes_with s x)
 next_alike (met_go vs) = refl
@@ -264,16 +264,16 @@ module _ (p : Program) (c : ℕ) (n : is_trivial p c ≡ false) (b : List Entry)
 
 -- ---- rows
 
-pub met_rows : {p : Program} {b : List Entry} {s : Entries} {x y : Answer Entries} → Met p b s x y → x ≢ no_row → y ≢ no_row
+pub met_rows : {p : Program} {b : List Entry} {s : Entries} {x y : Answer Entries} → Met p b s x y → x ≢ stuck_row → y ≢ stuck_row
 met_rows (met_go vs) h e = absurd (cc)
 met_rows met_stuck h e = h refl
 
-hands_row : (k : EntryKind) (p : Program) (s : Entries) (w : World) → (run (handed_on k p [] s) w).value ≢ no_row
+hands_row : (k : EntryKind) (p : Program) (s : Entries) (w : World) → (run (handed_on k p [] s) w).value ≢ stuck_row
 hands_row Absent p s w e = absurd (cc)
 hands_row InMethod p s w e = absurd (cc)
 hands_row (InClass x) p s w e = absurd (cc)
 
-pub end_row : (p : Program) (i : Instr) (s : Entries) (w : World) → is_end i ≡ true → (run (row p i s) w).value ≢ no_row
+pub end_row : (p : Program) (i : Instr) (s : Entries) (w : World) → is_end i ≡ true → (run (row p i s) w).value ≢ stuck_row
 unfolding row row_return hands_on
 end_row p (form.Return None) s w e = hands_row (popped_entry s).top.kind p (popped_entry s) w
 end_row p _ s w e = absurd (cc)

@@ -17,7 +17,7 @@ use Rattle.jvm_model.specs.Access.{Access, spend, bind, Ran, run}
 use Rattle.jvm_model.specs.Classes.{method_at, is_trivial, form_at, next_place}
 use Rattle.jvm_model.specs.Entries.{Entry, Entries, entries_of, frame_of}
 use Rattle.jvm_model.specs.Linked.{Ascends}
-use Rattle.jvm_model.specs.Rows.{Answer, answer, no_row}
+use Rattle.jvm_model.specs.Rows.{Answer, answer, stuck_row}
 use Rattle.jvm_model.specs.RowsReturn.{handed_on, hands_on, row_return}
 use Rattle.jvm_model.specs.State.{State, Turn, next, with_entries}
 use Rattle.jvm_model.specs.Step.{row, row_or_none, row_here, after_row, step, turn}
@@ -69,7 +69,7 @@ step_goes p s w i t k n f e =
     }
 
 -- the operands that an instruction leaves which has a row
-pub left_operands : {p : Program} {b : List Entry} {s : Entries} {x y : Answer Entries} → Met p b s x y → x ≢ no_row → (vs : List Value) × (x ≡ answer Go (moved p s vs))
+pub left_operands : {p : Program} {b : List Entry} {s : Entries} {x y : Answer Entries} → Met p b s x y → x ≢ stuck_row → (vs : List Value) × (x ≡ answer Go (moved p s vs))
 left_operands (met_go vs) h = (vs, refl)
 left_operands met_stuck h = absurd (h refl)
 

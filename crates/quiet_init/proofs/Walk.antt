@@ -19,7 +19,7 @@ use Rattle.jvm_model.specs.Descriptors.{parameters}
 use Rattle.jvm_model.specs.Entries.{Entries, entries_of, frame_of}
 use Rattle.jvm_model.specs.Driver.{no_arguments}
 use Rattle.jvm_model.specs.Linked.{Ascends, IsInitialiser, IsBody}
-use Rattle.jvm_model.specs.Rows.{Answer, answer, no_row}
+use Rattle.jvm_model.specs.Rows.{Answer, answer, stuck_row}
 use Rattle.jvm_model.specs.Step.{row, row_or_none, row_here}
 use Rattle.jvm_model.specs.Suite.{opening}
 use Rattle.jvm_model.proofs.Locations.{at_put_same}
@@ -71,8 +71,8 @@ module _ (p : Program) (ty : IsTyped p) (c m : ℕ) (n : is_trivial p c ≡ fals
   unfolding row_here
   row_typed x s w f k t = subst (λ (o : Option Instr). Row p w (row_or_none p o s)) f (here-typed p ty (groups p ty) w s k t)
 
-  ends_row : (w : World) (a : Answer Entries) → Ends p w a → a ≢ no_row
-  ends_row w no_row h e = h
+  ends_row : (w : World) (a : Answer Entries) → Ends p w a → a ≢ stuck_row
+  ends_row w stuck_row h e = h
   ends_row w (answer x s) h e = absurd (cc)
 
   ready_here : (x : Placed) (s : Entries) (w : World) → form_at p s.top.number s.top.pc ≡ Some x.form → s.top.kind ≡ InMethod → TypedEntries p w None s → Ready p w s x.form
@@ -86,7 +86,7 @@ module _ (p : Program) (ty : IsTyped p) (c m : ℕ) (n : is_trivial p c ≡ fals
       let hs = and_parts (is_calm x.form || is_own p c x.form) (is_still p c (y ∷ ys)) h in
       let r = run (row p x.form s) w in
       let l = tree_leaves p (Ends p) (row p x.form s) w w (alike_itself w) tw (row_typed x s w (form_is k x (y ∷ ys) s d hm hp) hk te) in
-      let has : r.value ≢ no_row = ends_row l.seen r.value l.answer in
+      let has : r.value ≢ stuck_row = ends_row l.seen r.value l.answer in
       let a = still_row p c n s.below s w w (record { left = i; right = i; own = λ f q. refl }) x.form hs.0 in
       let o = left_operands a.met has in
       let t = moved p s o.0 in

@@ -17,7 +17,7 @@ use Rattle.jvm_model.specs.Access.{run}
 use Rattle.jvm_model.specs.Classes.{no_class, no_field, field_at, is_trivial, next_place}
 use Rattle.jvm_model.specs.Entries.{Entries, entries_of, frame_of}
 use Rattle.jvm_model.specs.Linked.{IsField}
-use Rattle.jvm_model.specs.Rows.{no_row}
+use Rattle.jvm_model.specs.Rows.{stuck_row}
 use Rattle.jvm_model.specs.Step.{row}
 use Rattle.jvm_model.specs.View.{Exists}
 use Rattle.check_sound.specs.ReachLaw.{puts}
@@ -40,7 +40,7 @@ IsServed p i w = is_calm i ≡ true
 -- an instruction can be done: it has its row, and there is room for what it puts on the operands
 pub record CanDo (p : Program) (i : Instr) (s : Entries) (w : World) : Type 0 where
   pub served : IsServed p i w
-  pub has_row : (run (row p i s) w).value ≢ no_row
+  pub has_row : (run (row p i s) w).value ≢ stuck_row
   pub room : HasRoom (puts i) s
 
 -- and is done, with these entries and this world then

@@ -16,7 +16,7 @@ use Rattle.jvm_model.specs.World.{World, at, put}
 use Rattle.jvm_model.specs.Access.{run}
 use Rattle.jvm_model.specs.Classes.{class_at, field_at, method_at, is_interface, is_trivial, default_interfaces, upwards}
 use Rattle.jvm_model.specs.Entries.{Entries, entries_of, frame_of}
-use Rattle.jvm_model.specs.Rows.{Answer, answer, no_row}
+use Rattle.jvm_model.specs.Rows.{Answer, answer, stuck_row}
 use Rattle.jvm_model.specs.RowsArith.{divides}
 use Rattle.jvm_model.specs.Step.{row}
 use Rattle.jvm_model.specs.Suite.{opening}
@@ -84,7 +84,7 @@ is_quiet p c = is_still_start p c && cond (is_interface (class_at p c).flags)
 
 abbrev pub goes_with : Entries → Answer Entries → Entries
 goes_with s (answer x t) = t
-goes_with s no_row = s
+goes_with s stuck_row = s
 
 -- the world that these instructions leave, one after the other, begun with these entries
 abbrev pub left_after : Program → List Placed → Entries → World → World

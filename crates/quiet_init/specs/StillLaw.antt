@@ -11,7 +11,7 @@ use Rattle.jvm_model.specs.Access.{run}
 use Rattle.jvm_model.specs.Classes.{class_at, field_at, method_at, is_trivial}
 use Rattle.jvm_model.specs.Entries.{Entry, Entries, entries_of, frame_of}
 use Rattle.jvm_model.specs.Linked.{IsBody}
-use Rattle.jvm_model.specs.Rows.{no_row}
+use Rattle.jvm_model.specs.Rows.{stuck_row}
 use Rattle.jvm_model.specs.State.{State, next}
 use Rattle.jvm_model.specs.Step.{row, step, turn}
 use Rattle.quiet_init.specs.Quiet.{is_still, goes_with, begun_world, left_by}
@@ -24,7 +24,7 @@ pub data Leads (p : Program) : ℕ → State → World → State → World → T
 -- each of these instructions has a row
 abbrev pub HaveRows : Program → List Placed → Entries → World → Type 0
 HaveRows p [] s w = Unit {0}
-HaveRows p (x ∷ xs) s w = let r = run (row p x.form s) w in (r.value ≢ no_row) × HaveRows p xs (goes_with s r.value) r.world
+HaveRows p (x ∷ xs) s w = let r = run (row p x.form s) w in (r.value ≢ stuck_row) × HaveRows p xs (goes_with s r.value) r.world
 
 -- the second world has the statics of the class as the first has them
 abbrev pub HasOwn : Program → ℕ → World → World → Type 0

@@ -21,8 +21,8 @@ use Rattle.jvm_model.specs.Initialise.{row_finish, fails, fails_anew, row_fail}
 use Rattle.jvm_model.specs.Natives.{row_native}
 use Rattle.jvm_model.specs.Raising.{handled, row_raise}
 use Rattle.jvm_model.specs.Reached.{Reaches, begins, steps}
-use Rattle.jvm_model.specs.Rows.{Answer, answer, no_row, on_object, ready, begun, refused, begin, Used}
-use Rattle.jvm_model.specs.State.{State, Turn, next, ended, no_turn, raised_in, raise, test_at, with_entries}
+use Rattle.jvm_model.specs.Rows.{Answer, answer, stuck_row, on_object, ready, begun, refused, begin, Used}
+use Rattle.jvm_model.specs.State.{State, Turn, next, ended, stuck_turn, raised_in, raise, test_at, with_entries}
 use Rattle.jvm_model.specs.Step.{after_native, entered, after_row, row_here, acts, step}
 use Rattle.jvm_model.specs.Throwing.{throws}
 use Rattle.jvm_model.specs.Working.{Working}
@@ -65,13 +65,13 @@ IsCalm s = s.entries.top.kind ≡ Absent → s.raised ≡ None
 abbrev CalmTurn : Turn → Type 0
 CalmTurn (next s) = IsCalm s
 CalmTurn (ended v o) = Unit {0}
-CalmTurn no_turn = Unit {0}
+CalmTurn stuck_turn = Unit {0}
 
 -- the row enters a method
 abbrev Enters : Answer Entries → Type 0
 Enters (answer (Enter m) t) = Unit {0}
 Enters (answer x t) = ⊥
-Enters no_row = ⊥
+Enters stuck_row = ⊥
 
 abbrev EntersNone : Answer Entries → Type 0
 EntersNone a = Enters a → ⊥
@@ -91,7 +91,7 @@ unfolding throws
 throws_calm p c s = λ o. raise_calm (Obj o) s
 
 native_calm : (p : Program) (s : State) → s.raised ≡ None → (a : Answer Working) → EndsIn CalmTurn (after_native p s a)
-native_calm p s n no_row = tt
+native_calm p s n stuck_row = tt
 native_calm p s n (answer Go t) = λ q. n
 native_calm p s n (answer (Fault c) t) = throws_calm p c (record s { entries = t.entries; own = t.own })
 native_calm p s n (answer (Raise v) t) = tt
@@ -104,7 +104,7 @@ entered_calm p s n None t = λ q. refl
 entered_calm p s n (Some x) t = let u : Working = record { entries = t; own = s.own } in ends_bind CalmTurn Any (row_native p x u) (after_native p s) (ends_any (row_native p x u)) (λ a h. native_calm p s n a)
 
 after_calm : (p : Program) (s : State) (a : Answer Entries) → (Enters a → s.raised ≡ None) → EndsIn CalmTurn (after_row p s a)
-after_calm p s no_row h = tt
+after_calm p s stuck_row h = tt
 after_calm p s (answer Go t) h = λ q. refl
 after_calm p s (answer (Fault c) t) h = throws_calm p c (with_entries s t)
 after_calm p s (answer (Raise v) t) h = raise_calm v (with_entries s t)
@@ -200,7 +200,7 @@ module _ (p : Program) (s : State) (calm : s.raised ≡ None) where
   stage_calm : (x : Stage) → EndsIn CalmTurn (drive_at p x s)
   unfolding drive_init drive_method drive_set_up drive_tear_down
   stage_calm First = first_calm
-  stage_calm (Made o) = or_calm (plain_method_in p init_name (class_at p (test_at p s.test).class).methods) (done no_turn) (Obj o ∷ []) (Built o) tt
+  stage_calm (Made o) = or_calm (plain_method_in p init_name (class_at p (test_at p s.test).class).methods) (done stuck_turn) (Obj o ∷ []) (Built o) tt
   stage_calm (Built o) = or_calm (plain_method_of p set_up_name (upwards p (test_at p s.test).class)) _ (Obj o ∷ []) (SetUp o) (drives_calm _ (Obj o ∷ []) (Called o None))
   stage_calm (SetUp o) = drives_calm _ (Obj o ∷ []) (Called o None)
   stage_calm (Called o v) = or_calm (plain_method_of p tear_down_name (upwards p (test_at p s.test).class)) (judge p v s) (Obj o ∷ []) (Last v) (judge_calm v)

@@ -20,7 +20,7 @@ use Rattle.order_law.specs.Numbers.{same_numbers}
 use Rattle.order_law.specs.Forms.{PairedInstr}
 use Rattle.order_law.specs.Forms as same
 use Rattle.order_law.proofs.Programs.{class_of-paired, form_at-paired, named-paired, virtual-paired, interface_call-paired, special-paired}
-use Rattle.order_law.proofs.Combinators.{Frames, faults-paired, no_row-paired, popping-paired, on_int-paired, with_kind-paired}
+use Rattle.order_law.proofs.Combinators.{Frames, faults-paired, stuck_row-paired, popping-paired, on_int-paired, with_kind-paired}
 use Rattle.order_law.proofs.PlainRows.{throw-paired}
 use Rattle.order_law.proofs.ObjectRows.{read_static-paired, write_static-paired, new_object-paired, bare-paired, new_array-paired, sized-paired, called-with, count-paired, and_receiver, receiver-paired, on_receiver-paired, selected-paired}
 use Rattle.order_law.proofs.Steps.{States}
@@ -90,7 +90,7 @@ module _ (p : Program) (lk : Linked p) (s t : State) (w v : World) (o : States (
         let a = none_is p s.entries e in
         let b = none_is (quiet p) t.entries g in
         subst (λ (z : Access (Answer Entries)). RowsOut z (row_here (quiet p) t.entries)) (sym a) (subst (λ (z : Access (Answer Entries)). RowsOut none_here z) (sym b)
-        (rows_out p lk s t w v o bs (no_row-paired (twins p lk)) (paced_done none)))
+        (rows_out p lk s t w v o bs (stuck_row-paired (twins p lk)) (paced_done none)))
     here_of (both_some {x = i} {y = j} r) e g =
         let a = row_is p s.entries i e in
         let b = row_is (quiet p) t.entries j g in

@@ -26,7 +26,7 @@ use Rattle.jvm_model.specs.Step.{after_row}
 use Rattle.order_law.specs.Pairing.{PairedOption, both_none, both_some}
 use Rattle.order_law.specs.Numbers.{Tested, same_numbers}
 use Rattle.order_law.proofs.States.{class_top}
-use Rattle.order_law.proofs.Combinators.{V, no_row-paired}
+use Rattle.order_law.proofs.Combinators.{V, stuck_row-paired}
 use Rattle.order_law.proofs.Steps.{States, starts-paired, looked-paired, finished-paired, fail-paired}
 use Rattle.check_sound.proofs.Light.{light}
 use Rattle.check_sound.proofs.Paced.{either, paced_done, paced_write, paced_spend, PacedRow}
@@ -198,7 +198,7 @@ module _ (p : Program) (sd : Sound p) (s t : State) (w v : World) (o : States (t
     where
       stops : (st : InitState) → (run (looking p s x n none_here st) w).sound ≡ true → Out p s w (run (looking p s x n none_here st) w) (run (looking (quiet p) t x m none_here st) v)
       stops st k = out_right p s w (looked_cheaper (quiet p) t.entries v (after_row (quiet p) t) (m + x.price) (n + x.price) (omega arith) x.class st)
-          (rows_out p lk s t w v o bs (looked-paired (twins p lk) x.class x.class (n + x.price) (n + x.price) st (eq-eqb x.class x.class refl) refl o.entries (no_row-paired (twins p lk))) (cut p lk _ (looked_paced p lk w (n + x.price) s.entries x.class nh st)) k)
+          (rows_out p lk s t w v o bs (looked-paired (twins p lk) x.class x.class (n + x.price) (n + x.price) st (eq-eqb x.class x.class refl) refl o.entries (stuck_row-paired (twins p lk))) (cut p lk _ (looked_paced p lk w (n + x.price) s.entries x.class nh st)) k)
 
       found : (st : InitState) → at w (place.Init x.class) ≡ st → run (bind (looks p (x ∷ xs) n s.entries) (after_row p s)) w ≡ with_touch (read_of (place.Init x.class) st) (run (looking p s x n (looks p xs (n + x.price) s.entries) st) w)
       found st e = ap (λ (y : InitState). with_touch (read_of (place.Init x.class) y) (run (looking p s x n (looks p xs (n + x.price) s.entries) y) w)) e

@@ -8,24 +8,24 @@ use Rattle.jvm_model.specs.State.{test_at}
 use Rattle.jvm_model.specs.Suite.{Given, first_over_on, one_test, runs_on, units_of, world_after}
 use Rattle.jvm_model.specs.World.{World}
 use Rattle.jvm_model.proofs.Runs.{runs_more, with_last, split}
-use Rattle.vm_mem.specs.Story.{Story, next_test}
+use Rattle.vm_mem.specs.Trace.{Trace, next_test}
 use Rattle.test_run.specs.declared.run_fault.RunFault.{RunFault}
 use Rattle.test_run.specs.declared.run_fault.RunFault.TheVariants as fault
-use Rattle.test_run.specs.Lists.{IsListRefused, RanList, RanNext, story_after}
+use Rattle.test_run.specs.Lists.{IsListRefused, RanList, RanNext, trace_after}
 use Rattle.test_run.specs.Running.{IsRefused, Machined}
-use Rattle.test_run.specs.Outcomes.{given_in, touches_of, TellsOne}
+use Rattle.test_run.specs.Outcomes.{given_in, touches_of, TracesOne}
 use Rattle.test_run.proofs.After.{world_more}
 
 units_more : (xs : List Given) (x : Given) → units_of (xs ++ (x ∷ [])) ≡ units_of xs + x.outcome.units
 units_more [] x = omega arith
 units_more (y ∷ ys) x = let e = units_more ys x in omega arith
 
-story_more : (s : Story × List Touch) (l : List ℕ) (xs : List Given) (t : ℕ) (x : Given) → length xs ≡ length l →
-    story_after s (l ++ (t ∷ [])) (xs ++ (x ∷ [])) ≡ (next_test (story_after s l xs).0 (story_after s l xs).1 t, x.touches)
-story_more s [] [] t x e = refl
-story_more s [] (y ∷ ys) t x e = absurd (omega arith)
-story_more s (u ∷ l) [] t x e = absurd (omega arith)
-story_more s (u ∷ l) (y ∷ ys) t x e = story_more (next_test s.0 s.1 u, y.touches) l ys t x (omega arith)
+trace_more : (s : Trace × List Touch) (l : List ℕ) (xs : List Given) (t : ℕ) (x : Given) → length xs ≡ length l →
+    trace_after s (l ++ (t ∷ [])) (xs ++ (x ∷ [])) ≡ (next_test (trace_after s l xs).0 (trace_after s l xs).1 t, x.touches)
+trace_more s [] [] t x e = refl
+trace_more s [] (y ∷ ys) t x e = absurd (omega arith)
+trace_more s (u ∷ l) [] t x e = absurd (omega arith)
+trace_more s (u ∷ l) (y ∷ ys) t x e = trace_more (next_test s.0 s.1 u, y.touches) l ys t x (omega arith)
 
 -- the first test of a list that gives nothing
 pub over_at : (p : Program) (w : World) (l : List ℕ) (t : ℕ) (r : List ℕ) (xs : List Given) → runs_on p w l ≡ Some xs → one_test p (world_after w xs) t (test_at p t).budget ≡ None → first_over_on p w (l ++ (t ∷ r)) ≡ Some t
@@ -39,8 +39,8 @@ over_at p w (u ∷ l) t r xs e h =
     ∙ over_at p s.first.world l t r s.others s.others_are (subst (λ (z : List Given). one_test p (world_after w z) t (test_at p t).budget ≡ None) s.whole h)
 
 -- one test within its own budget
-pub ran_next : {M : Type 0} (world : M → World) (follows : M → Story → List Touch → Type 0) (p : Program) (old new : M) (t b : ℕ) (x : Outcome) (os more : List Outcome) (begun now : ℕ) →
-    b ≡ (test_at p t).budget → one_test p (world old) t b ≡ given_in p t (world old) b (Some x) (world new) → more ≡ os ++ (x ∷ []) → TellsOne p t (world old) b follows old new → now ≡ begun + x.units →
+pub ran_next : {M : Type 0} (world : M → World) (follows : M → Trace → List Touch → Type 0) (p : Program) (old new : M) (t b : ℕ) (x : Outcome) (os more : List Outcome) (begun now : ℕ) →
+    b ≡ (test_at p t).budget → one_test p (world old) t b ≡ given_in p t (world old) b (Some x) (world new) → more ≡ os ++ (x ∷ []) → TracesOne p t (world old) b follows old new → now ≡ begun + x.units →
     RanNext world follows p old new t os more begun now
 ran_next world follows p old new t b x os more begun now e f g h k = record {
   given = record { outcome = x; world = world new; touches = touches_of p t (world old) b };
@@ -51,7 +51,7 @@ ran_next world follows p old new t b x os more begun now e f g h k = record {
   counted = k;
 }
 
-module _ {M : Type 0} (world : M → World) (follows : M → Story → List Touch → Type 0) (p : Program) where
+module _ {M : Type 0} (world : M → World) (follows : M → Trace → List Touch → Type 0) (p : Program) where
   pub ran_first : (m : M) (begun : ℕ) → RanList world follows p m m [] [] begun begun
   ran_first m begun = record { given = []; ran = refl; each = refl; outcomes = refl; left = refl; told = λ h ts k. k; counted = omega arith }
 
@@ -75,7 +75,7 @@ module _ {M : Type 0} (world : M → World) (follows : M → Story → List Touc
         each = length-append a.given (b.given ∷ []) ∙ (let e = a.each in let f : length a.given + 1 ≡ length l + 1 = omega arith in f) ∙ sym (length-append l (t ∷ []));
         outcomes = b.outcomes ∙ ap (λ (z : List Outcome). z ++ (b.given.outcome ∷ [])) a.outcomes ∙ sym (map-append (λ x. x.outcome) a.given (b.given ∷ []));
         left = b.left ∙ sym (world_more (world old) a.given b.given);
-        told = λ h ts k. subst (λ (z : Story × List Touch). follows new z.0 z.1) (sym (story_more (h, ts) l a.given t b.given a.each)) (b.told (story_after (h, ts) l a.given).0 (story_after (h, ts) l a.given).1 (a.told h ts k));
+        told = λ h ts k. subst (λ (z : Trace × List Touch). follows new z.0 z.1) (sym (trace_more (h, ts) l a.given t b.given a.each)) (b.told (trace_after (h, ts) l a.given).0 (trace_after (h, ts) l a.given).1 (a.told h ts k));
         counted = (let e = units_more a.given b.given in let f = a.counted in let g = b.counted in omega arith);
       }
 

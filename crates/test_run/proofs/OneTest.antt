@@ -10,10 +10,10 @@ use Rattle.jvm_model.specs.Suite.{one_test, tree}
 use Rattle.jvm_model.specs.World.{World}
 use Rattle.jvm_model.proofs.Bridges.{touched_is}
 use Rattle.type_frames.specs.TypedState.{TypedWorld}
-use Rattle.vm_mem.specs.Story.{Story, next_test}
+use Rattle.vm_mem.specs.Trace.{Trace, next_test}
 use Rattle.vm_interp.specs.declared.state.State.{State as Kept}
-use Rattle.vm_interp.specs.Reaching.{TellsTest, given_by}
-use Rattle.test_run.specs.Outcomes.{given_in, TellsOne}
+use Rattle.vm_interp.specs.Reaching.{TracesTest, given_by}
+use Rattle.test_run.specs.Outcomes.{given_in, TracesOne}
 
 -- the outcome of a test that ended with this verdict
 abbrev pub outcome_with : Kept → ℕ → Option Verdict → Option Outcome
@@ -35,20 +35,20 @@ gives_same p q v w t n b x s u left o e f g k h =
     (subst (λ (z : ℕ). one_test q v z b ≡ given_in q z v b o u) g
     (k ∙ given_so q n v b x s u left ∙ ap (λ (z : Option Outcome). given_in q n v b z u) (sym h))))
 
-module _ {M : Type 0} (follows : M → Story → List Touch → Type 0) (m0 m1 m2 : M) (p : Program) (w : World) (t b : ℕ)
-    (begun : (h : Story) (ts : List Touch) → follows m0 h ts → follows m1 (next_test h ts t) []) where
-  tells_by : (s : Kept) (units : ℕ) (x : Option Verdict) → TellsTest p t w b x follows m1 m2 → IfSome (outcome_with s units x) (λ o. TellsOne p t w b follows m0 m2)
+module _ {M : Type 0} (follows : M → Trace → List Touch → Type 0) (m0 m1 m2 : M) (p : Program) (w : World) (t b : ℕ)
+    (begun : (h : Trace) (ts : List Touch) → follows m0 h ts → follows m1 (next_test h ts t) []) where
+  tells_by : (s : Kept) (units : ℕ) (x : Option Verdict) → TracesTest p t w b x follows m1 m2 → IfSome (outcome_with s units x) (λ o. TracesOne p t w b follows m0 m2)
   tells_by s units None tells = tt
   tells_by s units (Some x) tells = λ h ts k. subst (λ (us : List Touch). follows m2 (next_test h ts t) us) (touched_is (tree p t b) w []) (tells refl (next_test h ts t) [] (begun h ts k))
 
   pub tells_same : (q : Program) (v : World) (n : ℕ) (s : Kept) (units : ℕ) (x : Option Verdict) (o : Option Outcome) → q ≡ p → v ≡ w → n ≡ t →
-      TellsTest q n v b x follows m1 m2 → o ≡ outcome_with s units x → IfSome o (λ o. TellsOne p t w b follows m0 m2)
+      TracesTest q n v b x follows m1 m2 → o ≡ outcome_with s units x → IfSome o (λ o. TracesOne p t w b follows m0 m2)
   tells_same q v n s units x o e f g tells h =
-      subst (λ (z : Option Outcome). IfSome z (λ o. TellsOne p t w b follows m0 m2)) (sym h)
+      subst (λ (z : Option Outcome). IfSome z (λ o. TracesOne p t w b follows m0 m2)) (sym h)
       (tells_by s units x
-      (subst (λ (z : Program). TellsTest z t w b x follows m1 m2) e
-      (subst (λ (z : World). TellsTest q t z b x follows m1 m2) f
-      (subst (λ (z : ℕ). TellsTest q z v b x follows m1 m2) g tells))))
+      (subst (λ (z : Program). TracesTest z t w b x follows m1 m2) e
+      (subst (λ (z : World). TracesTest q t z b x follows m1 m2) f
+      (subst (λ (z : ℕ). TracesTest q z v b x follows m1 m2) g tells))))
 
 -- the world that it leaves is typed
 pub left_same : (p q : Program) (u : World) (s : Kept) (units : ℕ) (x : Option Verdict) (o : Option Outcome) → q ≡ p → IfSome x (λ y. TypedWorld q u) → o ≡ outcome_with s units x → IfSome o (λ y. TypedWorld p u)

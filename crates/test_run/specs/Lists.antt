@@ -6,37 +6,37 @@ use Rattle.jvm_model.specs.declared.values.Touch.{Touch}
 use Rattle.jvm_model.specs.State.{test_at}
 use Rattle.jvm_model.specs.Suite.{Given, first_over_on, one_test, runs_on, units_of, world_after}
 use Rattle.jvm_model.specs.World.{World}
-use Rattle.vm_mem.specs.Story.{Story, next_test}
+use Rattle.vm_mem.specs.Trace.{Trace, next_test}
 use Rattle.test_run.specs.declared.run_fault.RunFault.{RunFault}
 use Rattle.test_run.specs.declared.run_fault.RunFault.TheVariants as fault
 
 -- the story, and the touches of its last test, after these tests gave these
-abbrev pub story_after : Story × List Touch → List ℕ → List Given → Story × List Touch
-story_after s [] xs = s
-story_after s (t ∷ l) [] = s
-story_after s (t ∷ l) (x ∷ xs) = story_after (next_test s.0 s.1 t, x.touches) l xs
+abbrev pub trace_after : Trace × List Touch → List ℕ → List Given → Trace × List Touch
+trace_after s [] xs = s
+trace_after s (t ∷ l) [] = s
+trace_after s (t ∷ l) (x ∷ xs) = trace_after (next_test s.0 s.1 t, x.touches) l xs
 
 -- a memory then follows these tests and their touches
-abbrev pub TellsAll : {M : Type 0} → List ℕ → List Given → (M → Story → List Touch → Type 0) → M → M → Type 0
-TellsAll l xs follows old new = (h : Story) (ts : List Touch) → follows old h ts → follows new (story_after (h, ts) l xs).0 (story_after (h, ts) l xs).1
+abbrev pub TracesAll : {M : Type 0} → List ℕ → List Given → (M → Trace → List Touch → Type 0) → M → M → Type 0
+TracesAll l xs follows old new = (h : Trace) (ts : List Touch) → follows old h ts → follows new (trace_after (h, ts) l xs).0 (trace_after (h, ts) l xs).1
 
 -- the tests of a list ran one after the other, each within its own budget
-pub record RanList {M : Type 0} (world : M → World) (follows : M → Story → List Touch → Type 0) (p : Program) (old new : M) (l : List ℕ) (os : List Outcome) (begun now : ℕ) : Type 0 where
+pub record RanList {M : Type 0} (world : M → World) (follows : M → Trace → List Touch → Type 0) (p : Program) (old new : M) (l : List ℕ) (os : List Outcome) (begun now : ℕ) : Type 0 where
   pub given : List Given
   pub ran : runs_on p (world old) l ≡ Some given
   pub each : length given ≡ length l
   pub outcomes : os ≡ map (λ x. x.outcome) given
   pub left : world new ≡ world_after (world old) given
-  pub told : TellsAll l given follows old new
+  pub told : TracesAll l given follows old new
   pub counted : now ≡ begun + units_of given
 
 -- one test ran, and its outcome was added
-pub record RanNext {M : Type 0} (world : M → World) (follows : M → Story → List Touch → Type 0) (p : Program) (old new : M) (t : ℕ) (os more : List Outcome) (begun now : ℕ) : Type 0 where
+pub record RanNext {M : Type 0} (world : M → World) (follows : M → Trace → List Touch → Type 0) (p : Program) (old new : M) (t : ℕ) (os more : List Outcome) (begun now : ℕ) : Type 0 where
   pub given : Given
   pub gives : one_test p (world old) t (test_at p t).budget ≡ Some given
   pub outcomes : more ≡ os ++ (given.outcome ∷ [])
   pub left : world new ≡ given.world
-  pub told : (h : Story) (ts : List Touch) → follows old h ts → follows new (next_test h ts t) given.touches
+  pub told : (h : Trace) (ts : List Touch) → follows old h ts → follows new (next_test h ts t) given.touches
   pub counted : now ≡ begun + given.outcome.units
 
 -- a refusal of a list: the first of its tests that gives nothing, and the memory is still of the program; or want of memory

@@ -6,7 +6,7 @@ use Rattle.jvm_model.specs.declared.values.Touch.{Touch}
 use Rattle.jvm_model.specs.Access.{run}
 use Rattle.jvm_model.specs.Suite.{Given, tree}
 use Rattle.jvm_model.specs.World.{World}
-use Rattle.vm_mem.specs.Story.{Story, next_test}
+use Rattle.vm_mem.specs.Trace.{Trace, next_test}
 
 -- the touches of test t under the budget b, begun in the world w
 abbrev pub touches_of : Program → ℕ → World → ℕ → List Touch
@@ -18,5 +18,5 @@ given_in p t w b None v = None
 given_in p t w b (Some o) v = Some (record { outcome = o; world = v; touches = touches_of p t w b })
 
 -- a memory then follows one test more, and its touches
-abbrev pub TellsOne : {M : Type 0} → Program → ℕ → World → ℕ → (M → Story → List Touch → Type 0) → M → M → Type 0
-TellsOne p t w b follows old new = (h : Story) (ts : List Touch) → follows old h ts → follows new (next_test h ts t) (touches_of p t w b)
+abbrev pub TracesOne : {M : Type 0} → Program → ℕ → World → ℕ → (M → Trace → List Touch → Type 0) → M → M → Type 0
+TracesOne p t w b follows old new = (h : Trace) (ts : List Touch) → follows old h ts → follows new (next_test h ts t) (touches_of p t w b)

@@ -4,7 +4,7 @@ ghost use Rattle.std.specs.Prelude.{◌≡◌, ◌+◌, ◌≤◌, ◌++◌, ◌
 ghost use Rattle.jvm_model.specs.State.{test_at};
 ghost use Rattle.jvm_model.specs.Suite as suite;
 ghost use Rattle.test_run.specs.Lists.{IsListRefused, RanList, RanNext};
-ghost use Rattle.test_run.specs.Outcomes.{given_in, TellsOne};
+ghost use Rattle.test_run.specs.Outcomes.{given_in, TracesOne};
 ghost use Rattle.test_run.specs.Running.{IsRefused, IsTest, Stands, least};
 
 use crate::parts::{budget_of, with_last};
@@ -132,7 +132,7 @@ impl<'p, M: Memory> Machine<'p, M> {
             (Some o) (M.world self.new.memory)) }
         ensures last { IfOk result (λ o. suite.last_outcome
             self.old.program (self.old.list ++ test ∷ []) ≡ Some o) }
-        ensures told { OnOk result (TellsOne
+        ensures told { OnOk result (TracesOne
             self.old.program test (M.world self.old.memory) budget
             M.follows self.old.memory self.new.memory) }
         ensures counted { IfOk result (λ o. steps.new ≡ steps.old + o.units) }
@@ -191,7 +191,7 @@ impl<'p, M: Memory> Machine<'p, M> {
           list = self.old.list ++ test ∷ [];
           outcome = x.outcome;
         }) }
-        ensures told { OnOk result (TellsOne
+        ensures told { OnOk result (TracesOne
             self.old.program test (M.world self.old.memory) (least self.old.program test most)
             M.follows self.old.memory self.new.memory) }
         ensures counted { IfOk result (λ x. steps.new ≡ steps.old + x.outcome.units) }
@@ -240,7 +240,7 @@ impl<'p, M: Memory> Machine<'p, M> {
           list = self.old.list ++ test ∷ [];
           outcome = x.outcome;
         }) }
-        ensures told { OnOk result (TellsOne
+        ensures told { OnOk result (TracesOne
             self.old.program test (M.world self.old.memory) (test_at self.old.program test).budget
             M.follows self.old.memory self.new.memory) }
         ensures counted { IfOk result (λ x. steps.new ≡ steps.old + x.outcome.units) }

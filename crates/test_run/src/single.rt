@@ -6,7 +6,7 @@ ghost use Rattle.jvm_model.specs.Suite.{one_test};
 ghost use Rattle.type_frames.specs.Typing.{IsTyped};
 ghost use Rattle.type_frames.specs.TypedState.{TypedWorld};
 ghost use Rattle.check_sound.specs.ReachLaw.{HasStackLimits};
-ghost use Rattle.test_run.specs.Outcomes.{given_in, TellsOne};
+ghost use Rattle.test_run.specs.Outcomes.{given_in, TracesOne};
 ghost use Rattle.test_run.specs.Running.{IsTest};
 
 use et_base::NoMemory;
@@ -38,7 +38,7 @@ pub(crate) fn run_single<M: Memory>(
     ensures gives { IfOk result (λ o. one_test
         (M.program memory.old) (M.world memory.old) test budget
         ≡ given_in (M.program memory.old) test (M.world memory.old) budget o (M.world memory.new)) }
-    ensures told { IfOk result (λ o. IfSome o (λ x. TellsOne
+    ensures told { IfOk result (λ o. IfSome o (λ x. TracesOne
         (M.program memory.old) test (M.world memory.old) budget M.follows memory.old memory.new)) }
     ensures left { IfOk result (λ o. IfSome o (λ x.
         TypedWorld (M.program memory.old) (M.world memory.new))) }

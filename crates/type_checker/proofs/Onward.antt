@@ -9,9 +9,9 @@ use Rattle.type_frames.specs.declared.fault.CheckFault.{CheckFault}
 use Rattle.type_frames.specs.Frames.{Slots}
 use Rattle.type_frames.specs.Environment.{Environment}
 use Rattle.type_frames.specs.Rules.{opening, broken}
-use Rattle.type_frames.specs.Sides.{sides}
+use Rattle.type_frames.specs.StackEffect.{sides}
 use Rattle.type_frames.specs.Typing.{incoming, taken_at, taken_by, passed, passed_on, breach_of, judged, fault_of, breach_at, code_fault, or_later}
-use Rattle.type_frames.specs.declared.sides.Sides.{Sides}
+use Rattle.type_frames.specs.declared.stack_effect.StackEffect.{StackEffect}
 use Rattle.type_checker.specs.declared.judge.Step.TheVariants.{Faulty, Onward}
 use Rattle.type_checker.specs.declared.judge.Turned.{Turned}
 use Rattle.type_checker.specs.declared.judge.Turned.TheVariants as way
@@ -59,7 +59,7 @@ onward p name j e k f g s lt h =
 pub at_end : (p : Program) (name : List ℕ) (j : ℕ) (e : Environment) (k : ℕ) → length e.body.code ≤ k → code_fault p name j e k (drop k e.body.code) ≡ None
 at_end p name j e k h = ap (code_fault p name j e k) (drop_all k e.body.code h)
 
-pub turned_by : (p : Program) (e : Environment) (k : ℕ) (x : Placed) (f : Slots) (s : Sides) → s ≡ sides p e x.pc f x.form → (t : Turned) → IsJudged p e k x f s t → IsTurned p e k x (Some f) t
+pub turned_by : (p : Program) (e : Environment) (k : ℕ) (x : Placed) (f : Slots) (s : StackEffect) → s ≡ sides p e x.pc f x.form → (t : Turned) → IsJudged p e k x f s t → IsTurned p e k x (Some f) t
 turned_by p e k x f s q way.NoFrame h = absurd h
 turned_by p e k x f s q (way.Broken r) h = ap breach_of (subst (λ y. broken p e k x f y ≡ Some r) q h)
 turned_by p e k x f s q (way.On g) h = (ap breach_of (subst (λ y. broken p e k x f y ≡ None) q h.0), h.1 ∙ ap (passed f) q)

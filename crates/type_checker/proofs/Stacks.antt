@@ -3,8 +3,8 @@ use Rattle.std.proofs.Common.{◌≡◌, ℕ, zero, suc, List, [], ◌∷◌, �
 use Rattle.std.proofs.lemmas.Bool.{cases_lt}
 use Rattle.std.proofs.lemmas.List.{append_assoc, map-append, get_or-reverse, get_or_past, length-reverse, length-drop, reverse-append, take-append-drop, drop_all, drop_more, drop-set-lt, take_more_set}
 use Rattle.type_frames.specs.declared.vtype.VType.{VType}
-use Rattle.type_frames.specs.declared.sides.Turn.{Turn}
-use Rattle.type_frames.specs.declared.sides.Turn.TheVariants.{Keep, All}
+use Rattle.type_frames.specs.declared.stack_effect.Substitution.{Substitution}
+use Rattle.type_frames.specs.declared.stack_effect.Substitution.TheVariants.{Keep, All}
 use Rattle.type_frames.specs.Rules.{turned, turned_one}
 
 pub from_top : (s : List VType) (n : ℕ) (d : VType) → n < length s → get_or s (length s - 1 - n) d ≡ get_or (reverse s) n d
@@ -52,7 +52,7 @@ map-reverse : (f : VType → VType) (s : List VType) → reverse (map f s) ≡ m
 map-reverse f [] = refl
 map-reverse f (x ∷ s) = reverse-append (f x ∷ []) (map f s) ∙ ap (λ l. l ++ f x ∷ []) (map-reverse f s) ∙ sym (ap (map f) (reverse-append (x ∷ []) s) ∙ map-append f (reverse s) (x ∷ []))
 
-pub reverse_turned : (t : Turn) (s : List VType) → reverse (turned t s) ≡ turned t (reverse s)
+pub reverse_turned : (t : Substitution) (s : List VType) → reverse (turned t s) ≡ turned t (reverse s)
 reverse_turned Keep s = refl
 reverse_turned (All a b) s = map-reverse (turned_one a b) s
 

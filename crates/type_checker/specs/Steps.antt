@@ -2,7 +2,7 @@
 use Rattle.std.specs.Prelude.{ℕ, List, Option, Some, None, ◌≡◌}
 use Rattle.jvm_model.specs.declared.program.Program.{Program}
 use Rattle.jvm_model.specs.declared.program.Placed.{Placed}
-use Rattle.type_frames.specs.declared.sides.Sides.{Sides}
+use Rattle.type_frames.specs.declared.stack_effect.StackEffect.{StackEffect}
 use Rattle.type_frames.specs.Frames.{Slots}
 use Rattle.type_frames.specs.Environment.{Environment}
 use Rattle.type_frames.specs.Rules.{broken}
@@ -13,7 +13,7 @@ use Rattle.type_checker.specs.declared.judge.Step.{Step}
 use Rattle.type_checker.specs.declared.judge.Step.TheVariants.{Faulty, Onward}
 
 -- with these sides: the lowest broken rule, or the frame that goes on
-abbrev pub IsJudged : Program → Environment → ℕ → Placed → Slots → Sides → Turned → Type 0
+abbrev pub IsJudged : Program → Environment → ℕ → Placed → Slots → StackEffect → Turned → Type 0
 IsJudged p e k x f s way.NoFrame = ⊥
 IsJudged p e k x f s (way.Broken r) = broken p e k x f s ≡ Some r
 IsJudged p e k x f s (way.On g) = (broken p e k x f s ≡ None) × (g ≡ passed f s)

@@ -6,10 +6,10 @@ ghost use Rattle.type_frames.specs.declared.vtype.VType.TheVariants as types;
 ghost use Rattle.type_frames.specs.Rules as rules;
 
 use crate::context::Context;
-use crate::shape::Shape;
+use crate::frame_type::FrameType;
 use et_base::{Items, NoMemory};
 use std::alloc::Global;
-use type_frames::{Frame, Setting, Sides, Turn, VType, copy_type, padded, same};
+use type_frames::{Frame, LocalUpdate, StackEffect, Substitution, VType, copy_type, padded, same};
 
 fn turn_one(
     alloc: Global,
@@ -38,12 +38,12 @@ fn turn_each(alloc: Global, xs: &mut Vec<VType>, from: &VType, to: &VType) -> Re
     Ok(())
 }
 
-fn turn_all(alloc: Global, xs: &mut Vec<VType>, turn: &Turn) -> Result<(), NoMemory>
+fn turn_all(alloc: Global, xs: &mut Vec<VType>, turn: &Substitution) -> Result<(), NoMemory>
     ensures { OnOk result (xs.new.items ≡ rules.turned turn.now xs.old.items) }
 {
     match turn {
-        Turn::Keep => Ok(()),
-        Turn::All { from, to } => turn_each(alloc, xs, from, to),
+        Substitution::Keep => Ok(()),
+        Substitution::All { from, to } => turn_each(alloc, xs, from, to),
     }
 }
 
@@ -57,7 +57,7 @@ fn cut_long(xs: &mut Vec<VType>, n: usize)
     }
 }
 
-fn set_one(alloc: Global, xs: &mut Vec<VType>, s: &Setting) -> Result<(), NoMemory>
+fn set_one(alloc: Global, xs: &mut Vec<VType>, s: &LocalUpdate) -> Result<(), NoMemory>
     ensures { OnOk result (xs.new.items ≡ rules.set_one xs.old.items s.now) }
 {
     let n = s.local as usize;
@@ -69,7 +69,7 @@ fn set_one(alloc: Global, xs: &mut Vec<VType>, s: &Setting) -> Result<(), NoMemo
     Ok(())
 }
 
-fn set_all(alloc: Global, xs: &mut Vec<VType>, sets: &[Setting]) -> Result<(), NoMemory>
+fn set_all(alloc: Global, xs: &mut Vec<VType>, sets: &[LocalUpdate]) -> Result<(), NoMemory>
     ensures { OnOk result (xs.new.items ≡ rules.set_all xs.old.items sets.now) }
 {
     if let Some((s, rest)) = sets.split_first() {
@@ -99,24 +99,24 @@ fn push_all(alloc: Global, stack: &mut Vec<VType>, gives: &[VType]) -> Result<()
     Ok(())
 }
 
-fn flag_after(turn: &Turn, flag: bool) -> bool
+fn flag_after(turn: &Substitution, flag: bool) -> bool
     ensures { result ≡ rules.flag_after turn.now flag }
 {
     match turn {
-        Turn::Keep => flag,
-        Turn::All { from, to: _ } => !same(from, &VType::UninitThis) && flag,
+        Substitution::Keep => flag,
+        Substitution::All { from, to: _ } => !same(from, &VType::UninitThis) && flag,
     }
 }
 
 #[tactic(auto, using(crate::proofs::Stacks::reverse_turned))]
-fn turn_stack(alloc: Global, stack: &mut Vec<VType>, turn: &Turn) -> Result<(), NoMemory>
+fn turn_stack(alloc: Global, stack: &mut Vec<VType>, turn: &Substitution) -> Result<(), NoMemory>
     ensures { OnOk result (reverse stack.new.items ≡
         rules.turned turn.now (reverse stack.old.items)) }
 {
     turn_all(alloc, stack, turn)
 }
 
-fn stack_after(alloc: Global, stack: &mut Vec<VType>, s: &Sides) -> Result<(), NoMemory>
+fn stack_after(alloc: Global, stack: &mut Vec<VType>, s: &StackEffect) -> Result<(), NoMemory>
     ensures { OnOk result (reverse stack.new.items ≡
         s.now.gives ++
         rules.turned s.now.turn (drop (length s.now.takes) (reverse stack.old.items))) }
@@ -126,7 +126,7 @@ fn stack_after(alloc: Global, stack: &mut Vec<VType>, s: &Sides) -> Result<(), N
     push_all(alloc, stack, s.gives.as_slice())
 }
 
-fn locals_after(alloc: Global, locals: &mut Vec<VType>, s: &Sides) -> Result<(), NoMemory>
+fn locals_after(alloc: Global, locals: &mut Vec<VType>, s: &StackEffect) -> Result<(), NoMemory>
     ensures { OnOk result (locals.new.items ≡
         rules.set_all (rules.turned s.now.turn locals.old.items) s.now.sets) }
 {
@@ -135,17 +135,17 @@ fn locals_after(alloc: Global, locals: &mut Vec<VType>, s: &Sides) -> Result<(),
 }
 
 /// The frame after an instruction with these sides.
-pub(crate) fn after(alloc: Global, f: Shape, s: &Sides) -> Result<Shape, NoMemory>
+pub(crate) fn after(alloc: Global, f: FrameType, s: &StackEffect) -> Result<FrameType, NoMemory>
     ensures { IfOk result (λ g. g ≡ rules.after f s.now) }
 {
-    let Shape {
+    let FrameType {
         mut locals,
         mut stack,
         flag,
     } = f;
     locals_after(alloc, &mut locals, s)?;
     stack_after(alloc, &mut stack, s)?;
-    Ok(Shape {
+    Ok(FrameType {
         locals,
         stack,
         flag: flag_after(&s.turn, flag),
@@ -164,12 +164,12 @@ fn copy_types(alloc: Global, types: &[VType]) -> Result<Vec<VType>, NoMemory>
 }
 
 /// The frame of the descriptor.
-pub(crate) fn opening(alloc: Global, e: &Context) -> Result<Shape, NoMemory>
+pub(crate) fn opening(alloc: Global, e: &Context) -> Result<FrameType, NoMemory>
     ensures { IfOk result (λ g. g ≡ rules.opening e.now) }
 {
     let args = Items::from_vec(copy_types(alloc, e.args.as_slice())?);
     let locals = padded(args, e.body.max_locals)?.into_vec();
-    Ok(Shape {
+    Ok(FrameType {
         locals,
         stack: Vec::new(alloc),
         flag: e.starts,
@@ -177,10 +177,10 @@ pub(crate) fn opening(alloc: Global, e: &Context) -> Result<Shape, NoMemory>
 }
 
 /// A given frame as one that goes on.
-pub(crate) fn shape_of(alloc: Global, g: &Frame) -> Result<Shape, NoMemory>
+pub(crate) fn frame_type_of(alloc: Global, g: &Frame) -> Result<FrameType, NoMemory>
     ensures { IfOk result (λ f. f ≡ slots_of g.now) }
 {
-    Ok(Shape {
+    Ok(FrameType {
         locals: copy_types(alloc, g.locals.as_slice())?,
         stack: copy_types(alloc, g.stack.as_slice())?,
         flag: g.flag,

@@ -3,30 +3,33 @@
 ghost use Rattle.std.specs.Prelude.{◌≡◌, ◌∷◌, ◌++◌, [], IfOk, OnOk, flat_map, map, MatchOption, replicate, reverse, cond, length, slice_index_or};
 ghost use Rattle.jvm_model.specs.declared.values.Base.TheVariants as jvm;
 ghost use Rattle.type_frames.specs.declared.vtype.VType.TheVariants as types;
-ghost use Rattle.type_frames.specs.declared.sides.Need.TheVariants as wants;
+ghost use Rattle.type_frames.specs.declared.stack_effect.OperandConstraint.TheVariants as wants;
 ghost use Rattle.type_frames.specs.Frames.{same};
 ghost use Rattle.type_frames.specs.Descriptors.{base_text, kind_name, types_of};
-ghost use Rattle.type_frames.specs.Sides.{argument_needs, int_need, is_raw, int_type, long_need, long_type, needs_of, number_need, number_type, objects_text, on_stack, place_of, plain, result_types, two};
+ghost use Rattle.type_frames.specs.StackEffect.{argument_needs, int_need, is_raw, int_type, long_need, long_type, needs_of, number_need, number_type, objects_text, on_stack, place_of, plain, result_types, two};
 
-use crate::shape::Shape;
+use crate::frame_type::FrameType;
 use et_base::letters::{
     ARRAY, BOOLEAN, BYTE, CHAR, CLASS, DOUBLE, FLOAT, INT, LONG, SEMICOLON, SHORT, VOID,
 };
 use et_base::{Items, NoMemory, Units};
 use jvm_model::{Base, Kind, OBJECT, Program, parameters, return_type};
 use std::alloc::Global;
-use type_frames::{Need, Sides, Turn, VType, class_name, copy_type, push_types, same, spread};
+use type_frames::{
+    OperandConstraint, StackEffect, Substitution, VType, class_name, copy_type, push_types, same,
+    spread,
+};
 
 /// The sides of what takes and gives nothing; what an instruction takes and gives is added to them.
-pub(crate) fn nothing(alloc: Global) -> Sides
+pub(crate) fn nothing(alloc: Global) -> StackEffect
     ensures { result ≡ plain [] [] }
 {
-    Sides {
+    StackEffect {
         takes: Items::new(alloc),
         gives: Items::new(alloc),
         reads: Items::new(alloc),
         sets: Items::new(alloc),
-        turn: Turn::Keep,
+        turn: Substitution::Keep,
         falls: true,
         returns_well: true,
         starts_well: true,
@@ -35,22 +38,22 @@ pub(crate) fn nothing(alloc: Global) -> Sides
 }
 
 /// Appends the need of an int.
-pub(crate) fn push_int(needs: &mut Items<Need>) -> Result<(), NoMemory>
+pub(crate) fn push_int(needs: &mut Items<OperandConstraint>) -> Result<(), NoMemory>
     ensures { OnOk result (needs.new ≡ needs.old ++ int_need) }
 {
-    needs.push(Need::Fits(VType::Int))
+    needs.push(OperandConstraint::Fits(VType::Int))
 }
 
 /// Appends the needs of a long.
-pub(crate) fn push_long(needs: &mut Items<Need>) -> Result<(), NoMemory>
+pub(crate) fn push_long(needs: &mut Items<OperandConstraint>) -> Result<(), NoMemory>
     ensures { OnOk result (needs.new ≡ needs.old ++ long_need) }
 {
-    needs.push(Need::Half)?;
-    needs.push(Need::Fits(VType::Long))
+    needs.push(OperandConstraint::Half)?;
+    needs.push(OperandConstraint::Fits(VType::Long))
 }
 
 /// Appends the needs of a whole number of either width.
-pub(crate) fn push_number(needs: &mut Items<Need>, wide: bool) -> Result<(), NoMemory>
+pub(crate) fn push_number(needs: &mut Items<OperandConstraint>, wide: bool) -> Result<(), NoMemory>
     ensures { OnOk result (needs.new ≡ needs.old ++ number_need wide) }
 {
     if wide {
@@ -61,15 +64,15 @@ pub(crate) fn push_number(needs: &mut Items<Need>, wide: bool) -> Result<(), NoM
 }
 
 /// Appends the needs of two places: of a long, where the top one is the second half of one.
-pub(crate) fn push_two(needs: &mut Items<Need>, half: bool) -> Result<(), NoMemory>
+pub(crate) fn push_two(needs: &mut Items<OperandConstraint>, half: bool) -> Result<(), NoMemory>
     ensures { OnOk result (needs.new ≡
         needs.old ++ cond half long_need (wants.One ∷ wants.One ∷ [])) }
 {
     if half {
         return push_long(needs);
     }
-    needs.push(Need::One)?;
-    needs.push(Need::One)
+    needs.push(OperandConstraint::One)?;
+    needs.push(OperandConstraint::One)
 }
 
 /// Appends the places of a long, top first.
@@ -93,7 +96,7 @@ pub(crate) fn push_number_type(types: &mut Items<VType>, wide: bool) -> Result<(
 
 // The type of a place of the stack, from its top; none past its end.
 #[tactic(auto, using(crate::proofs::Stacks::from_top, crate::proofs::Stacks::from_top_past))]
-fn type_at(f: &Shape, n: usize) -> Option<&VType>
+fn type_at(f: &FrameType, n: usize) -> Option<&VType>
     ensures { MatchOption result (place_of f.now n ≡ types.Top) (λ t. t.now ≡ place_of f.now n) }
 {
     let depth = f.stack.len();
@@ -104,7 +107,7 @@ fn type_at(f: &Shape, n: usize) -> Option<&VType>
 }
 
 /// The type of a place of the stack, from its top.
-pub(crate) fn place_of(alloc: Global, f: &Shape, n: usize) -> Result<VType, NoMemory>
+pub(crate) fn place_of(alloc: Global, f: &FrameType, n: usize) -> Result<VType, NoMemory>
     ensures { IfOk result (λ t. t ≡ place_of f.now n) }
 {
     match type_at(f, n) {
@@ -114,7 +117,7 @@ pub(crate) fn place_of(alloc: Global, f: &Shape, n: usize) -> Result<VType, NoMe
 }
 
 /// Whether a place of the stack is the second half of a long.
-pub(crate) fn is_half(f: &Shape, n: usize) -> bool
+pub(crate) fn is_half(f: &FrameType, n: usize) -> bool
     ensures { result ≡ same (place_of f.now n) types.Top }
 {
     match type_at(f, n) {
@@ -134,7 +137,7 @@ pub(crate) fn is_raw(t: &VType) -> bool
 }
 
 /// Whether a place of the stack is one of an uninitialised object.
-pub(crate) fn is_raw_at(f: &Shape, n: usize) -> bool
+pub(crate) fn is_raw_at(f: &FrameType, n: usize) -> bool
     ensures { result ≡ is_raw (place_of f.now n) }
 {
     match type_at(f, n) {
@@ -147,7 +150,7 @@ pub(crate) fn is_raw_at(f: &Shape, n: usize) -> bool
 pub(crate) fn push_moved(
     alloc: Global,
     types: &mut Items<VType>,
-    f: &Shape,
+    f: &FrameType,
     order: &[usize],
 ) -> Result<(), NoMemory>
     ensures { OnOk result (types.new ≡ types.old ++ map (λ n. place_of f.now n) order.now) }
@@ -161,7 +164,7 @@ pub(crate) fn push_moved(
 /// Appends the needs of a value of a type's text, top first.
 pub(crate) fn push_needs(
     alloc: Global,
-    needs: &mut Items<Need>,
+    needs: &mut Items<OperandConstraint>,
     text: &[u16],
 ) -> Result<(), NoMemory>
     ensures { OnOk result (needs.new ≡ needs.old ++ needs_of text.now) }
@@ -173,26 +176,33 @@ pub(crate) fn push_needs(
         return push_long(needs);
     }
     if *u == CLASS {
-        return needs.push(Need::Fits(VType::Object(Items::from_slice(alloc, class_name(rest))?)));
+        return needs.push(OperandConstraint::Fits(VType::Object(Items::from_slice(
+            alloc,
+            class_name(rest),
+        )?)));
     }
     if *u == ARRAY {
-        return needs.push(Need::Fits(VType::Object(Items::from_slice(alloc, text)?)));
+        return needs.push(OperandConstraint::Fits(VType::Object(Items::from_slice(alloc, text)?)));
     }
     if *u == VOID {
         return Ok(());
     }
     if *u == FLOAT {
-        return needs.push(Need::Never);
+        return needs.push(OperandConstraint::Never);
     }
     if *u == DOUBLE {
-        needs.push(Need::Never)?;
-        return needs.push(Need::Never);
+        needs.push(OperandConstraint::Never)?;
+        return needs.push(OperandConstraint::Never);
     }
     push_int(needs)
 }
 
 // Appends the needs of values of these texts, the last one's first.
-fn push_all_needs(alloc: Global, needs: &mut Items<Need>, texts: &[Units]) -> Result<(), NoMemory>
+fn push_all_needs(
+    alloc: Global,
+    needs: &mut Items<OperandConstraint>,
+    texts: &[Units],
+) -> Result<(), NoMemory>
     ensures { OnOk result (needs.new ≡ needs.old ++ flat_map needs_of (reverse texts.now)) }
 {
     if let Some((text, rest)) = texts.split_last() {
@@ -205,7 +215,7 @@ fn push_all_needs(alloc: Global, needs: &mut Items<Need>, texts: &[Units]) -> Re
 /// Appends the needs of a call's arguments, top first.
 pub(crate) fn push_argument_needs(
     alloc: Global,
-    needs: &mut Items<Need>,
+    needs: &mut Items<OperandConstraint>,
     descriptor: &[u16],
 ) -> Result<(), NoMemory>
     ensures { OnOk result (needs.new ≡ needs.old ++ argument_needs descriptor.now) }

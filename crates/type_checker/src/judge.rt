@@ -6,15 +6,15 @@ ghost use Rattle.type_frames.specs.Rules.{first_broken, test};
 ghost use Rattle.type_frames.specs.Typing.{fault_of, taken_at};
 ghost use Rattle.type_checker.specs.Steps.{breach, IsJudged, IsStep, IsTurned};
 
-use crate::after::{after, shape_of};
+use crate::after::{after, frame_type_of};
 use crate::context::{Context, given_at, is_target};
+use crate::frame_type::FrameType;
 use crate::rules::{is_entered, leads_on, rule_1, rule_2, rule_3, rule_5, rule_9, rule_10};
-use crate::shape::Shape;
 use crate::sides::sides;
 use et_base::{Items, NoMemory};
 use jvm_model::{Placed, Program};
 use std::alloc::Global;
-use type_frames::{CheckFault, Sides};
+use type_frames::{CheckFault, StackEffect};
 
 /// How the walk over a method goes on after an instruction: there is no frame before it, this is the lowest rule that it
 /// breaks, or this frame goes on, if control does.
@@ -22,14 +22,14 @@ use type_frames::{CheckFault, Sides};
 pub(crate) enum Turned {
     NoFrame,
     Broken { rule: u32 },
-    On { next: Option<Shape> },
+    On { next: Option<FrameType> },
 }
 
 /// How the walk goes on, a broken rule or a missing frame as a fault that names class, method and place.
 #[derive(Drop)]
 pub(crate) enum Step {
     Faulty { fault: CheckFault },
-    Onward { next: Option<Shape> },
+    Onward { next: Option<FrameType> },
 }
 
 /// The number of the first rule that isn't kept, of numbers with whether each is.
@@ -56,8 +56,8 @@ fn broken(
     e: &Context,
     k: usize,
     x: &Placed,
-    f: Shape,
-    s: &Sides,
+    f: FrameType,
+    s: &StackEffect,
 ) -> Result<Turned, NoMemory>
     requires { k < length e.now.body.code }
     ensures { IfOk result (IsJudged p.now e.now k x.now f s.now) }
@@ -93,7 +93,7 @@ fn judge(
     e: &Context,
     k: usize,
     x: &Placed,
-    f: Shape,
+    f: FrameType,
 ) -> Result<Turned, NoMemory>
     requires { k < length e.now.body.code }
     ensures { IfOk result (IsTurned p.now e.now k x.now (Some f)) }
@@ -109,13 +109,13 @@ fn turned_at(
     e: &Context,
     k: usize,
     x: &Placed,
-    running: Option<Shape>,
+    running: Option<FrameType>,
 ) -> Result<Turned, NoMemory>
     requires { k < length e.now.body.code }
     ensures { IfOk result (λ t. IsTurned p.now e.now k x.now (taken_at e.now x.now.pc running) t) }
 {
     if let Some(g) = given_at(e, x.pc) {
-        let f = shape_of(alloc, g)?;
+        let f = frame_type_of(alloc, g)?;
         return judge(alloc, p, e, k, x, f);
     }
     if is_target(e, x.pc) {
@@ -157,7 +157,7 @@ fn named_step(
     method: u32,
     k: usize,
     x: &Placed,
-    running: Option<Shape>,
+    running: Option<FrameType>,
 ) -> Result<Step, NoMemory>
     requires { k < length e.now.body.code }
     ensures { IfOk result (λ t.
@@ -182,7 +182,7 @@ pub(crate) fn step_at(
     name: &[u16],
     method: u32,
     k: usize,
-    running: Option<Shape>,
+    running: Option<FrameType>,
 ) -> Result<Step, NoMemory>
     requires { k < length e.now.body.code }
     ensures { IfOk result (λ t.

@@ -5,11 +5,11 @@ mod after;
 mod build;
 mod checking;
 mod context;
+mod frame_type;
 mod judge;
 mod members;
 mod moves;
 mod rules;
-mod shape;
 mod sides;
 mod walk;
 

@@ -6,43 +6,44 @@ ghost use Rattle.type_frames.specs.Frames.{same};
 ghost use Rattle.jvm_model.specs.Classes.{class_at, field_at, method_at};
 ghost use Rattle.type_frames.specs.declared.vtype.VType.{VType};
 ghost use Rattle.type_frames.specs.declared.vtype.VType.TheVariants as types;
-ghost use Rattle.type_frames.specs.declared.sides.Need.TheVariants as wants;
-ghost use Rattle.type_frames.specs.declared.sides.Turn.TheVariants as turns;
+ghost use Rattle.type_frames.specs.declared.stack_effect.OperandConstraint.TheVariants as wants;
+ghost use Rattle.type_frames.specs.declared.stack_effect.Substitution.TheVariants as turns;
 ghost use Rattle.type_frames.specs.Descriptors.{kind_name, types_of};
-ghost use Rattle.type_frames.specs.Sides.{argument_needs, array_need, call_sides, element_type, init_sides, int_need, int_type, is_that, is_raw, is_start, is_unset, leaving, loaded, needs_of, new_sides, object_of, on_stack, owner_need, place_of, plain, put_field_sides, ref_sides, refs_sides, return_sides, return_typed, returns, special_need, special_sides, started, stored};
+ghost use Rattle.type_frames.specs.StackEffect.{argument_needs, array_need, call_sides, element_type, init_sides, int_need, int_type, is_that, is_raw, is_start, is_unset, leaving, loaded, needs_of, new_sides, object_of, on_stack, owner_need, place_of, plain, put_field_sides, ref_sides, refs_sides, return_sides, return_typed, returns, special_need, special_sides, started, stored};
 
 use crate::build::{
     is_raw_at, kind_name, objects_text, place_of, push_argument_needs, push_int, push_long,
     push_long_type, push_needs, result_types, text_types,
 };
 use crate::context::{Context, made_at};
-use crate::shape::Shape;
+use crate::frame_type::FrameType;
 use et_base::letters::{ARRAY, CHAR, CLASS, INT, LONG, SHORT};
 use et_base::{Items, NoMemory};
 use jvm_model::{CLINIT, Cell, INIT, Kind, OBJECT, Program, Sort, THROWABLE};
 use std::alloc::Global;
 use type_frames::{
-    Need, Sides, Turn, VType, class_name, copy_type, object_assignable, object_of, same,
+    OperandConstraint, StackEffect, Substitution, VType, class_name, copy_type, object_assignable,
+    object_of, same,
 };
 
-pub(crate) fn reference(s: &mut Sides, f: &Shape) -> Result<(), NoMemory>
+pub(crate) fn reference(s: &mut StackEffect, f: &FrameType) -> Result<(), NoMemory>
     requires { s.old ≡ plain [] [] }
     ensures { OnOk result (s.new ≡ ref_sides (place_of f.now 0)) }
 {
     s.starts_well = !is_raw_at(f, 0);
-    s.takes.push(Need::Ref)
+    s.takes.push(OperandConstraint::Ref)
 }
 
-pub(crate) fn references(s: &mut Sides, f: &Shape) -> Result<(), NoMemory>
+pub(crate) fn references(s: &mut StackEffect, f: &FrameType) -> Result<(), NoMemory>
     requires { s.old ≡ plain [] [] }
     ensures { OnOk result (s.new ≡ refs_sides (place_of f.now 0) (place_of f.now 1)) }
 {
     s.starts_well = !is_raw_at(f, 0) && !is_raw_at(f, 1);
-    s.takes.push(Need::Ref)?;
-    s.takes.push(Need::Ref)
+    s.takes.push(OperandConstraint::Ref)?;
+    s.takes.push(OperandConstraint::Ref)
 }
 
-pub(crate) fn test_two(s: &mut Sides) -> Result<(), NoMemory>
+pub(crate) fn test_two(s: &mut StackEffect) -> Result<(), NoMemory>
     requires { s.old ≡ plain [] [] }
     ensures { OnOk result (s.new ≡ plain (int_need ++ int_need) []) }
 {
@@ -51,7 +52,7 @@ pub(crate) fn test_two(s: &mut Sides) -> Result<(), NoMemory>
 }
 
 /// A jump by a table.
-pub(crate) fn jump(s: &mut Sides) -> Result<(), NoMemory>
+pub(crate) fn jump(s: &mut StackEffect) -> Result<(), NoMemory>
     requires { s.old ≡ plain [] [] }
     ensures { OnOk result (s.new ≡ leaving (plain int_need [])) }
 {
@@ -60,21 +61,21 @@ pub(crate) fn jump(s: &mut Sides) -> Result<(), NoMemory>
 }
 
 // The needs of a return of another type than the descriptor has.
-fn push_returned(needs: &mut Items<Need>, of: &Option<Sort>) -> Result<(), NoMemory>
+fn push_returned(needs: &mut Items<OperandConstraint>, of: &Option<Sort>) -> Result<(), NoMemory>
     ensures { OnOk result (needs.new ≡ needs.old ++ (return_typed (types.Top ∷ []) true of.now).takes) }
 {
     match of {
         None => Ok(()),
         Some(Sort::Int) => push_int(needs),
         Some(Sort::Long) => push_long(needs),
-        Some(Sort::Ref) => needs.push(Need::Ref),
+        Some(Sort::Ref) => needs.push(OperandConstraint::Ref),
     }
 }
 
 // The sides of a return, by the type that the descriptor has; a list of types is none or one of them.
 fn return_typed(
     alloc: Global,
-    s: &mut Sides,
+    s: &mut StackEffect,
     types: &[VType],
     early: bool,
     of: &Option<Sort>,
@@ -90,7 +91,7 @@ fn return_typed(
         ([VType::Long], Some(Sort::Long)) => push_long(&mut s.takes),
         ([VType::Object(name)], Some(Sort::Ref)) => {
             let name = Items::from_slice(alloc, name.as_slice())?;
-            s.takes.push(Need::Fits(VType::Object(name)))
+            s.takes.push(OperandConstraint::Fits(VType::Object(name)))
         }
         _ => {
             s.returns_well = false;
@@ -101,9 +102,9 @@ fn return_typed(
 
 pub(crate) fn give_back(
     alloc: Global,
-    s: &mut Sides,
+    s: &mut StackEffect,
     e: &Context,
-    f: &Shape,
+    f: &FrameType,
     of: &Option<Sort>,
 ) -> Result<(), NoMemory>
     requires { s.old ≡ plain [] [] }
@@ -114,7 +115,7 @@ pub(crate) fn give_back(
 
 pub(crate) fn get_static(
     alloc: Global,
-    s: &mut Sides,
+    s: &mut StackEffect,
     p: &Program,
     field: u32,
 ) -> Result<(), NoMemory>
@@ -127,15 +128,15 @@ pub(crate) fn get_static(
 }
 
 // The need of an object of a class.
-fn object_need(alloc: Global, p: &Program, class: u32) -> Result<Need, NoMemory>
+fn object_need(alloc: Global, p: &Program, class: u32) -> Result<OperandConstraint, NoMemory>
     ensures { IfOk result (λ n. n ≡ wants.Fits (object_of p.now class)) }
 {
-    Ok(Need::Fits(object_of(alloc, p, class)?))
+    Ok(OperandConstraint::Fits(object_of(alloc, p, class)?))
 }
 
 pub(crate) fn get_field(
     alloc: Global,
-    s: &mut Sides,
+    s: &mut StackEffect,
     p: &Program,
     named: u32,
     field: u32,
@@ -158,21 +159,21 @@ fn owner_need(
     named: u32,
     field: u32,
     t: &VType,
-) -> Result<Need, NoMemory>
+) -> Result<OperandConstraint, NoMemory>
     ensures { IfOk result (λ n. n ≡ owner_need p.now e.now named (field_at p.now field) t.now) }
 {
     if same(t, &VType::UninitThis) && (named == e.class && p.field_class(field) == e.class) {
-        return Ok(Need::Fits(VType::UninitThis));
+        return Ok(OperandConstraint::Fits(VType::UninitThis));
     }
     object_need(alloc, p, named)
 }
 
 pub(crate) fn put_field(
     alloc: Global,
-    s: &mut Sides,
+    s: &mut StackEffect,
     p: &Program,
     e: &Context,
-    f: &Shape,
+    f: &FrameType,
     named: u32,
     field: u32,
 ) -> Result<(), NoMemory>
@@ -186,7 +187,12 @@ pub(crate) fn put_field(
 }
 
 /// A call without its receiver; `<clinit>` and `<init>` aren't called so.
-pub(crate) fn call(alloc: Global, s: &mut Sides, p: &Program, method: u32) -> Result<(), NoMemory>
+pub(crate) fn call(
+    alloc: Global,
+    s: &mut StackEffect,
+    p: &Program,
+    method: u32,
+) -> Result<(), NoMemory>
     requires { s.old ≡ plain [] [] }
     ensures { OnOk result (s.new ≡ call_sides (method_at p.now method) []) }
 {
@@ -200,7 +206,7 @@ pub(crate) fn call(alloc: Global, s: &mut Sides, p: &Program, method: u32) -> Re
 
 pub(crate) fn call_virtual(
     alloc: Global,
-    s: &mut Sides,
+    s: &mut StackEffect,
     p: &Program,
     named: &Kind,
     method: u32,
@@ -211,13 +217,12 @@ pub(crate) fn call_virtual(
         (wants.Fits (types.Object (kind_name p.now named.now)) ∷ [])) }
 {
     call(alloc, s, p, method)?;
-    s.takes
-        .push(Need::Fits(VType::Object(kind_name(alloc, p, named)?)))
+    s.takes.push(OperandConstraint::Fits(VType::Object(kind_name(alloc, p, named)?)))
 }
 
 pub(crate) fn call_interface(
     alloc: Global,
-    s: &mut Sides,
+    s: &mut StackEffect,
     p: &Program,
     named: u32,
     method: u32,
@@ -231,14 +236,19 @@ pub(crate) fn call_interface(
 }
 
 // The receiver of invokespecial.
-fn special_need(alloc: Global, p: &Program, e: &Context, named: &Kind) -> Result<Need, NoMemory>
+fn special_need(
+    alloc: Global,
+    p: &Program,
+    e: &Context,
+    named: &Kind,
+) -> Result<OperandConstraint, NoMemory>
     ensures { IfOk result (λ n. n ≡ special_need p.now e.now named.now) }
 {
     let other = VType::Object(kind_name(alloc, p, named)?);
     if object_assignable(p, p.class_name(e.class), &other) {
         return object_need(alloc, p, e.class);
     }
-    Ok(Need::Never)
+    Ok(OperandConstraint::Never)
 }
 
 fn is_superclass(p: &Program, e: &Context, class: u32) -> bool
@@ -282,7 +292,7 @@ fn started(
 // The object that an `<init>` of the class starts.
 fn start(
     alloc: Global,
-    s: &mut Sides,
+    s: &mut StackEffect,
     p: &Program,
     e: &Context,
     class: u32,
@@ -296,16 +306,16 @@ fn start(
 {
     s.starts_well = is_start(p, e, class, &t);
     let to = started(alloc, p, e, class, &t)?;
-    s.turn = Turn::All { from: t, to };
+    s.turn = Substitution::All { from: t, to };
     Ok(())
 }
 
 fn init(
     alloc: Global,
-    s: &mut Sides,
+    s: &mut StackEffect,
     p: &Program,
     e: &Context,
-    f: &Shape,
+    f: &FrameType,
     method: u32,
 ) -> Result<(), NoMemory>
     requires { s.old ≡ plain [] [] }
@@ -316,17 +326,17 @@ fn init(
     let descriptor = p.method_descriptor(method);
     push_argument_needs(alloc, &mut s.takes, descriptor)?;
     let t = place_of(alloc, f, s.takes.len())?;
-    s.takes.push(Need::Raw)?;
+    s.takes.push(OperandConstraint::Raw)?;
     s.gives = result_types(alloc, descriptor)?;
     start(alloc, s, p, e, p.method_class(method), t)
 }
 
 pub(crate) fn call_special(
     alloc: Global,
-    s: &mut Sides,
+    s: &mut StackEffect,
     p: &Program,
     e: &Context,
-    f: &Shape,
+    f: &FrameType,
     named: &Kind,
     method: u32,
 ) -> Result<(), NoMemory>
@@ -363,11 +373,11 @@ fn holds_made(stack: &[VType], pc: u32) -> bool
     stack.iter().rev().any(|t| is_made(t, pc))
 }
 
-pub(crate) fn create(s: &mut Sides, f: &Shape, pc: u32) -> Result<(), NoMemory>
+pub(crate) fn create(s: &mut StackEffect, f: &FrameType, pc: u32) -> Result<(), NoMemory>
     requires { s.old ≡ plain [] [] }
     ensures { OnOk result (s.new ≡ new_sides f.now pc) }
 {
-    s.turn = Turn::All {
+    s.turn = Substitution::All {
         from: VType::Uninit { pc },
         to: VType::Top,
     };
@@ -376,16 +386,28 @@ pub(crate) fn create(s: &mut Sides, f: &Shape, pc: u32) -> Result<(), NoMemory>
 }
 
 // The array that a load or a store works on.
-fn array_need(alloc: Global, p: &Program, of: &Cell) -> Result<Need, NoMemory>
+fn array_need(alloc: Global, p: &Program, of: &Cell) -> Result<OperandConstraint, NoMemory>
     ensures { IfOk result (λ n. n ≡ array_need p.now of.now) }
 {
     match of {
-        Cell::Int => Ok(Need::Fits(VType::Object(Items::from_slice(alloc, &[ARRAY, INT])?))),
-        Cell::Long => Ok(Need::Fits(VType::Object(Items::from_slice(alloc, &[ARRAY, LONG])?))),
-        Cell::Ref => Ok(Need::Fits(VType::Object(objects_text(alloc, p)?))),
-        Cell::Byte => Ok(Need::Small),
-        Cell::Char => Ok(Need::Fits(VType::Object(Items::from_slice(alloc, &[ARRAY, CHAR])?))),
-        Cell::Short => Ok(Need::Fits(VType::Object(Items::from_slice(alloc, &[ARRAY, SHORT])?))),
+        Cell::Int => Ok(OperandConstraint::Fits(VType::Object(Items::from_slice(
+            alloc,
+            &[ARRAY, INT],
+        )?))),
+        Cell::Long => Ok(OperandConstraint::Fits(VType::Object(Items::from_slice(
+            alloc,
+            &[ARRAY, LONG],
+        )?))),
+        Cell::Ref => Ok(OperandConstraint::Fits(VType::Object(objects_text(alloc, p)?))),
+        Cell::Byte => Ok(OperandConstraint::Small),
+        Cell::Char => Ok(OperandConstraint::Fits(VType::Object(Items::from_slice(
+            alloc,
+            &[ARRAY, CHAR],
+        )?))),
+        Cell::Short => Ok(OperandConstraint::Fits(VType::Object(Items::from_slice(
+            alloc,
+            &[ARRAY, SHORT],
+        )?))),
     }
 }
 
@@ -420,7 +442,7 @@ fn element_type(alloc: Global, t: &VType) -> Result<VType, NoMemory>
 fn push_loaded(
     alloc: Global,
     types: &mut Items<VType>,
-    f: &Shape,
+    f: &FrameType,
     of: &Cell,
 ) -> Result<(), NoMemory>
     ensures { OnOk result (types.new ≡ types.old ++ loaded f.now of.now) }
@@ -435,7 +457,7 @@ fn push_loaded(
 // Appends what a store into an array takes on top.
 fn push_stored(
     alloc: Global,
-    needs: &mut Items<Need>,
+    needs: &mut Items<OperandConstraint>,
     p: &Program,
     of: &Cell,
 ) -> Result<(), NoMemory>
@@ -450,9 +472,9 @@ fn push_stored(
 
 pub(crate) fn array_load(
     alloc: Global,
-    s: &mut Sides,
+    s: &mut StackEffect,
     p: &Program,
-    f: &Shape,
+    f: &FrameType,
     of: &Cell,
 ) -> Result<(), NoMemory>
     requires { s.old ≡ plain [] [] }
@@ -466,7 +488,7 @@ pub(crate) fn array_load(
 
 pub(crate) fn array_store(
     alloc: Global,
-    s: &mut Sides,
+    s: &mut StackEffect,
     p: &Program,
     of: &Cell,
 ) -> Result<(), NoMemory>
@@ -493,7 +515,7 @@ fn push_kind(
 
 pub(crate) fn new_array(
     alloc: Global,
-    s: &mut Sides,
+    s: &mut StackEffect,
     p: &Program,
     kind: &Kind,
 ) -> Result<(), NoMemory>
@@ -504,7 +526,7 @@ pub(crate) fn new_array(
     push_kind(alloc, &mut s.gives, p, kind)
 }
 
-fn push_ints(needs: &mut Items<Need>, count: u8) -> Result<(), NoMemory>
+fn push_ints(needs: &mut Items<OperandConstraint>, count: u8) -> Result<(), NoMemory>
     ensures { OnOk result (needs.new ≡ needs.old ++ replicate count (wants.Fits types.Int)) }
 {
     for done in 0..count {
@@ -515,7 +537,7 @@ fn push_ints(needs: &mut Items<Need>, count: u8) -> Result<(), NoMemory>
 
 pub(crate) fn new_arrays(
     alloc: Global,
-    s: &mut Sides,
+    s: &mut StackEffect,
     p: &Program,
     kind: &Kind,
     dims: u8,
@@ -529,15 +551,15 @@ pub(crate) fn new_arrays(
     push_kind(alloc, &mut s.gives, p, kind)
 }
 
-pub(crate) fn array_length(s: &mut Sides) -> Result<(), NoMemory>
+pub(crate) fn array_length(s: &mut StackEffect) -> Result<(), NoMemory>
     requires { s.old ≡ plain [] [] }
     ensures { OnOk result (s.new ≡ plain (wants.Array ∷ []) int_type) }
 {
-    s.takes.push(Need::Array)?;
+    s.takes.push(OperandConstraint::Array)?;
     s.gives.push(VType::Int)
 }
 
-pub(crate) fn throw(alloc: Global, s: &mut Sides, p: &Program) -> Result<(), NoMemory>
+pub(crate) fn throw(alloc: Global, s: &mut StackEffect, p: &Program) -> Result<(), NoMemory>
     requires { s.old ≡ plain [] [] }
     ensures { OnOk result (s.new ≡ leaving (plain (wants.Fits (object_of p.now 7) ∷ []) [])) }
 {
@@ -545,7 +567,12 @@ pub(crate) fn throw(alloc: Global, s: &mut Sides, p: &Program) -> Result<(), NoM
     s.takes.push(object_need(alloc, p, THROWABLE)?)
 }
 
-pub(crate) fn cast(alloc: Global, s: &mut Sides, p: &Program, kind: &Kind) -> Result<(), NoMemory>
+pub(crate) fn cast(
+    alloc: Global,
+    s: &mut StackEffect,
+    p: &Program,
+    kind: &Kind,
+) -> Result<(), NoMemory>
     requires { s.old ≡ plain [] [] }
     ensures { OnOk result (s.new ≡
         plain (wants.Fits (object_of p.now 0) ∷ [])
@@ -555,7 +582,7 @@ pub(crate) fn cast(alloc: Global, s: &mut Sides, p: &Program, kind: &Kind) -> Re
     push_kind(alloc, &mut s.gives, p, kind)
 }
 
-pub(crate) fn instance_of(alloc: Global, s: &mut Sides, p: &Program) -> Result<(), NoMemory>
+pub(crate) fn instance_of(alloc: Global, s: &mut StackEffect, p: &Program) -> Result<(), NoMemory>
     requires { s.old ≡ plain [] [] }
     ensures { OnOk result (s.new ≡ plain (wants.Fits (object_of p.now 0) ∷ []) int_type) }
 {

@@ -2,28 +2,30 @@
 
 ghost use Rattle.std.specs.Prelude.{◌≡◌, ◌∷◌, ◌++◌, [], IfOk, OnOk, slice_index_or, ◌+◌};
 ghost use Rattle.type_frames.specs.declared.vtype.VType.TheVariants as types;
-ghost use Rattle.type_frames.specs.declared.sides.Need.TheVariants as wants;
-ghost use Rattle.type_frames.specs.Sides.{const_type, convert_sides, dup2_sides, dup2_x1_sides, dup2_x2_sides, dup_sides, dup_x1_sides, dup_x2_sides, inc_sides, int_type, load_sides, long_need, long_type, number_need, number_type, place_of, plain, reading, second_need, setting, store_sides, swap_sides, two};
+ghost use Rattle.type_frames.specs.declared.stack_effect.OperandConstraint.TheVariants as wants;
+ghost use Rattle.type_frames.specs.StackEffect.{const_type, convert_sides, dup2_sides, dup2_x1_sides, dup2_x2_sides, dup_sides, dup_x1_sides, dup_x2_sides, inc_sides, int_type, load_sides, long_need, long_type, number_need, number_type, place_of, plain, reading, second_need, setting, store_sides, swap_sides, two};
 
 use crate::build::{
     is_half, place_of, push_int, push_long, push_long_type, push_moved, push_number,
     push_number_type, push_two,
 };
-use crate::shape::Shape;
+use crate::frame_type::FrameType;
 use et_base::{Items, NoMemory};
 use jvm_model::{Conv, Op, Program, STRING, Sort, Value};
 use std::alloc::Global;
-use type_frames::{Need, Reading, Setting, Sides, VType, copy_type, object_of};
+use type_frames::{
+    LocalUpdate, OperandConstraint, Reading, StackEffect, VType, copy_type, object_of,
+};
 
-pub(crate) fn dup(alloc: Global, s: &mut Sides, f: &Shape) -> Result<(), NoMemory>
+pub(crate) fn dup(alloc: Global, s: &mut StackEffect, f: &FrameType) -> Result<(), NoMemory>
     requires { s.old ≡ plain [] [] }
     ensures { OnOk result (s.new ≡ dup_sides (place_of f.now 0)) }
 {
-    s.takes.push(Need::One)?;
+    s.takes.push(OperandConstraint::One)?;
     push_moved(alloc, &mut s.gives, f, &[0, 0])
 }
 
-pub(crate) fn dup_x1(alloc: Global, s: &mut Sides, f: &Shape) -> Result<(), NoMemory>
+pub(crate) fn dup_x1(alloc: Global, s: &mut StackEffect, f: &FrameType) -> Result<(), NoMemory>
     requires { s.old ≡ plain [] [] }
     ensures { OnOk result (s.new ≡ dup_x1_sides (place_of f.now 0) (place_of f.now 1)) }
 {
@@ -31,17 +33,17 @@ pub(crate) fn dup_x1(alloc: Global, s: &mut Sides, f: &Shape) -> Result<(), NoMe
     push_moved(alloc, &mut s.gives, f, &[0, 1, 0])
 }
 
-pub(crate) fn dup_x2(alloc: Global, s: &mut Sides, f: &Shape) -> Result<(), NoMemory>
+pub(crate) fn dup_x2(alloc: Global, s: &mut StackEffect, f: &FrameType) -> Result<(), NoMemory>
     requires { s.old ≡ plain [] [] }
     ensures { OnOk result (s.new ≡
         dup_x2_sides (place_of f.now 0) (place_of f.now 1) (place_of f.now 2)) }
 {
-    s.takes.push(Need::One)?;
+    s.takes.push(OperandConstraint::One)?;
     push_two(&mut s.takes, is_half(f, 1))?;
     push_moved(alloc, &mut s.gives, f, &[0, 1, 2, 0])
 }
 
-pub(crate) fn dup2(alloc: Global, s: &mut Sides, f: &Shape) -> Result<(), NoMemory>
+pub(crate) fn dup2(alloc: Global, s: &mut StackEffect, f: &FrameType) -> Result<(), NoMemory>
     requires { s.old ≡ plain [] [] }
     ensures { OnOk result (s.new ≡ dup2_sides (place_of f.now 0) (place_of f.now 1)) }
 {
@@ -49,17 +51,17 @@ pub(crate) fn dup2(alloc: Global, s: &mut Sides, f: &Shape) -> Result<(), NoMemo
     push_moved(alloc, &mut s.gives, f, &[0, 1, 0, 1])
 }
 
-pub(crate) fn dup2_x1(alloc: Global, s: &mut Sides, f: &Shape) -> Result<(), NoMemory>
+pub(crate) fn dup2_x1(alloc: Global, s: &mut StackEffect, f: &FrameType) -> Result<(), NoMemory>
     requires { s.old ≡ plain [] [] }
     ensures { OnOk result (s.new ≡
         dup2_x1_sides (place_of f.now 0) (place_of f.now 1) (place_of f.now 2)) }
 {
     push_two(&mut s.takes, is_half(f, 0))?;
-    s.takes.push(Need::One)?;
+    s.takes.push(OperandConstraint::One)?;
     push_moved(alloc, &mut s.gives, f, &[0, 1, 2, 0, 1])
 }
 
-pub(crate) fn dup2_x2(alloc: Global, s: &mut Sides, f: &Shape) -> Result<(), NoMemory>
+pub(crate) fn dup2_x2(alloc: Global, s: &mut StackEffect, f: &FrameType) -> Result<(), NoMemory>
     requires { s.old ≡ plain [] [] }
     ensures { OnOk result (s.new ≡
         dup2_x2_sides (place_of f.now 0) (place_of f.now 1) (place_of f.now 2) (place_of f.now 3)) }
@@ -69,7 +71,7 @@ pub(crate) fn dup2_x2(alloc: Global, s: &mut Sides, f: &Shape) -> Result<(), NoM
     push_moved(alloc, &mut s.gives, f, &[0, 1, 2, 3, 0, 1])
 }
 
-pub(crate) fn swap(alloc: Global, s: &mut Sides, f: &Shape) -> Result<(), NoMemory>
+pub(crate) fn swap(alloc: Global, s: &mut StackEffect, f: &FrameType) -> Result<(), NoMemory>
     requires { s.old ≡ plain [] [] }
     ensures { OnOk result (s.new ≡ swap_sides (place_of f.now 0) (place_of f.now 1)) }
 {
@@ -95,7 +97,7 @@ pub(crate) fn push_constant(
 }
 
 // Appends the needs of the second operand: an int for a shift of longs too.
-fn push_second(needs: &mut Items<Need>, op: &Op, wide: bool) -> Result<(), NoMemory>
+fn push_second(needs: &mut Items<OperandConstraint>, op: &Op, wide: bool) -> Result<(), NoMemory>
     ensures { OnOk result (needs.new ≡ needs.old ++ second_need op.now wide) }
 {
     match op {
@@ -106,7 +108,7 @@ fn push_second(needs: &mut Items<Need>, op: &Op, wide: bool) -> Result<(), NoMem
     }
 }
 
-pub(crate) fn binary(s: &mut Sides, op: &Op, wide: bool) -> Result<(), NoMemory>
+pub(crate) fn binary(s: &mut StackEffect, op: &Op, wide: bool) -> Result<(), NoMemory>
     requires { s.old ≡ plain [] [] }
     ensures { OnOk result (s.new ≡
         plain (second_need op.now wide ++ number_need wide) (number_type wide)) }
@@ -117,7 +119,7 @@ pub(crate) fn binary(s: &mut Sides, op: &Op, wide: bool) -> Result<(), NoMemory>
 }
 
 /// From a whole number of one width to one of another.
-pub(crate) fn number(s: &mut Sides, from: bool, to: bool) -> Result<(), NoMemory>
+pub(crate) fn number(s: &mut StackEffect, from: bool, to: bool) -> Result<(), NoMemory>
     requires { s.old ≡ plain [] [] }
     ensures { OnOk result (s.new ≡ plain (number_need from) (number_type to)) }
 {
@@ -125,7 +127,7 @@ pub(crate) fn number(s: &mut Sides, from: bool, to: bool) -> Result<(), NoMemory
     push_number_type(&mut s.gives, to)
 }
 
-pub(crate) fn conversion(s: &mut Sides, to: &Conv) -> Result<(), NoMemory>
+pub(crate) fn conversion(s: &mut StackEffect, to: &Conv) -> Result<(), NoMemory>
     requires { s.old ≡ plain [] [] }
     ensures { OnOk result (s.new ≡ convert_sides to.now) }
 {
@@ -136,7 +138,7 @@ pub(crate) fn conversion(s: &mut Sides, to: &Conv) -> Result<(), NoMemory>
     }
 }
 
-pub(crate) fn comparison(s: &mut Sides) -> Result<(), NoMemory>
+pub(crate) fn comparison(s: &mut StackEffect) -> Result<(), NoMemory>
     requires { s.old ≡ plain [] [] }
     ensures { OnOk result (s.new ≡ plain (long_need ++ long_need) int_type) }
 {
@@ -145,7 +147,7 @@ pub(crate) fn comparison(s: &mut Sides) -> Result<(), NoMemory>
     s.gives.push(VType::Int)
 }
 
-fn local_of(alloc: Global, f: &Shape, n: u16) -> Result<VType, NoMemory>
+fn local_of(alloc: Global, f: &FrameType, n: u16) -> Result<VType, NoMemory>
     ensures { IfOk result (λ t. t ≡ slice_index_or f.now.locals n types.Top) }
 {
     match f.locals.get(n as usize) {
@@ -155,7 +157,11 @@ fn local_of(alloc: Global, f: &Shape, n: u16) -> Result<VType, NoMemory>
 }
 
 /// Asks this of a local.
-pub(crate) fn read(reads: &mut Items<Reading>, local: u16, need: Need) -> Result<(), NoMemory>
+pub(crate) fn read(
+    reads: &mut Items<Reading>,
+    local: u16,
+    need: OperandConstraint,
+) -> Result<(), NoMemory>
     ensures { OnOk result (reads.new ≡ reads.old ++ reading local need ∷ []) }
 {
     reads.push(Reading {
@@ -164,24 +170,24 @@ pub(crate) fn read(reads: &mut Items<Reading>, local: u16, need: Need) -> Result
     })
 }
 
-fn load_long(s: &mut Sides, local: u16) -> Result<(), NoMemory>
+fn load_long(s: &mut StackEffect, local: u16) -> Result<(), NoMemory>
     requires { s.old ≡ plain [] [] }
     ensures { OnOk result (s.new ≡
         record (plain [] long_type)
         { reads = reading local (wants.Fits types.Long) ∷ reading (local + 1) wants.Half ∷ [] }) }
 {
     push_long_type(&mut s.gives)?;
-    read(&mut s.reads, local, Need::Fits(VType::Long))?;
+    read(&mut s.reads, local, OperandConstraint::Fits(VType::Long))?;
     s.reads.push(Reading {
         local: u32::from(local) + 1,
-        need: Need::Half,
+        need: OperandConstraint::Half,
     })
 }
 
 pub(crate) fn load(
     alloc: Global,
-    s: &mut Sides,
-    f: &Shape,
+    s: &mut StackEffect,
+    f: &FrameType,
     of: &Sort,
     local: u16,
 ) -> Result<(), NoMemory>
@@ -191,34 +197,34 @@ pub(crate) fn load(
     match of {
         Sort::Int => {
             s.gives.push(VType::Int)?;
-            read(&mut s.reads, local, Need::Fits(VType::Int))
+            read(&mut s.reads, local, OperandConstraint::Fits(VType::Int))
         }
         Sort::Long => load_long(s, local),
         Sort::Ref => {
             s.gives.push(local_of(alloc, f, local)?)?;
-            read(&mut s.reads, local, Need::Ref)
+            read(&mut s.reads, local, OperandConstraint::Ref)
         }
     }
 }
 
 // Sets a local.
-fn set(sets: &mut Items<Setting>, local: u16, to: VType) -> Result<(), NoMemory>
+fn set(sets: &mut Items<LocalUpdate>, local: u16, to: VType) -> Result<(), NoMemory>
     ensures { OnOk result (sets.new ≡ sets.old ++ setting local to ∷ []) }
 {
-    sets.push(Setting {
+    sets.push(LocalUpdate {
         local: u32::from(local),
         to,
     })
 }
 
-fn store_long(s: &mut Sides, local: u16) -> Result<(), NoMemory>
+fn store_long(s: &mut StackEffect, local: u16) -> Result<(), NoMemory>
     requires { s.old ≡ plain [] [] }
     ensures { OnOk result (s.new ≡
         record (plain long_need [])
         { sets = setting (local + 1) types.Top ∷ setting local types.Long ∷ [] }) }
 {
     push_long(&mut s.takes)?;
-    s.sets.push(Setting {
+    s.sets.push(LocalUpdate {
         local: u32::from(local) + 1,
         to: VType::Top,
     })?;
@@ -227,8 +233,8 @@ fn store_long(s: &mut Sides, local: u16) -> Result<(), NoMemory>
 
 pub(crate) fn store(
     alloc: Global,
-    s: &mut Sides,
-    f: &Shape,
+    s: &mut StackEffect,
+    f: &FrameType,
     of: &Sort,
     local: u16,
 ) -> Result<(), NoMemory>
@@ -242,7 +248,7 @@ pub(crate) fn store(
         }
         Sort::Long => store_long(s, local),
         Sort::Ref => {
-            s.takes.push(Need::Ref)?;
+            s.takes.push(OperandConstraint::Ref)?;
             set(&mut s.sets, local, place_of(alloc, f, 0)?)
         }
     }

@@ -11,13 +11,14 @@ ghost use Rattle.type_frames.specs.Rules as rules;
 use crate::after::opening;
 use crate::build::is_raw;
 use crate::context::{Context, given_at, made_at};
-use crate::shape::Shape;
+use crate::frame_type::FrameType;
 use et_base::NoMemory;
 use et_base::letters::{ARRAY, BOOLEAN, BYTE};
 use jvm_model::{Handler, Instr, Placed, Program, THROWABLE};
 use std::alloc::Global;
 use type_frames::{
-    Frame, Need, Reading, Setting, Sides, VType, assignable, object_assignable, same,
+    Frame, LocalUpdate, OperandConstraint, Reading, StackEffect, VType, assignable,
+    object_assignable, same,
 };
 
 fn is_ref(t: &VType) -> bool
@@ -70,22 +71,22 @@ fn is_array(t: &VType) -> bool
     }
 }
 
-fn meets(p: &Program, need: &Need, t: &VType) -> bool
+fn meets(p: &Program, need: &OperandConstraint, t: &VType) -> bool
     ensures { result ≡ rules.meets p.now need.now t.now }
 {
     match need {
-        Need::Fits(u) => assignable(p, t, u),
-        Need::One => is_one(t),
-        Need::Half => same(t, &VType::Top),
-        Need::Ref => is_ref(t),
-        Need::Raw => is_raw(t),
-        Need::Small => is_small(t),
-        Need::Array => is_array(t),
-        Need::Never => false,
+        OperandConstraint::Fits(u) => assignable(p, t, u),
+        OperandConstraint::One => is_one(t),
+        OperandConstraint::Half => same(t, &VType::Top),
+        OperandConstraint::Ref => is_ref(t),
+        OperandConstraint::Raw => is_raw(t),
+        OperandConstraint::Small => is_small(t),
+        OperandConstraint::Array => is_array(t),
+        OperandConstraint::Never => false,
     }
 }
 
-fn meet_all(p: &Program, needs: &[Need], stack: &[VType]) -> bool
+fn meet_all(p: &Program, needs: &[OperandConstraint], stack: &[VType]) -> bool
     ensures { result ≡ rules.meet_all p.now needs.now (reverse stack.now) }
 {
     match needs.split_first() {
@@ -118,7 +119,7 @@ fn all_read(p: &Program, most: u16, locals: &[VType], reads: &[Reading]) -> bool
     }
 }
 
-fn can_set(most: u16, sets: &[Setting]) -> bool
+fn can_set(most: u16, sets: &[LocalUpdate]) -> bool
     ensures { result ≡ rules.can_set most sets.now }
 {
     match sets.split_first() {
@@ -185,7 +186,7 @@ fn is_sound(e: &Context, g: &Frame) -> bool
         && (stack.len() <= e.body.max_stack as usize && (all_made(e, locals) && all_made(e, stack)))
 }
 
-fn slots_fit(p: &Program, f: &Shape, g: &Frame) -> bool
+fn slots_fit(p: &Program, f: &FrameType, g: &Frame) -> bool
     ensures { result ≡ rules.slots_fit p.now f.now (slots_of g.now) }
 {
     fit_all(p, &f.locals, g.locals.as_slice())
@@ -193,7 +194,7 @@ fn slots_fit(p: &Program, f: &Shape, g: &Frame) -> bool
 }
 
 /// Whether what is given at a place, if something is, takes a frame.
-pub(crate) fn fits_at(p: &Program, e: &Context, f: &Shape, pc: u32) -> bool
+pub(crate) fn fits_at(p: &Program, e: &Context, f: &FrameType, pc: u32) -> bool
     ensures { result ≡ rules.fits_at p.now e.now f.now pc }
 {
     match given_at(e, pc) {
@@ -202,19 +203,19 @@ pub(crate) fn fits_at(p: &Program, e: &Context, f: &Shape, pc: u32) -> bool
     }
 }
 
-fn fits_targets(p: &Program, e: &Context, f: &Shape, targets: &[u32]) -> bool
+fn fits_targets(p: &Program, e: &Context, f: &FrameType, targets: &[u32]) -> bool
     ensures { result ≡ rules.fits_targets p.now e.now f.now targets.now }
 {
     targets.iter().all(|k| fits_at(p, e, f, *k))
 }
 
-fn fits_pairs(p: &Program, e: &Context, f: &Shape, pairs: &[(i32, u32)]) -> bool
+fn fits_pairs(p: &Program, e: &Context, f: &FrameType, pairs: &[(i32, u32)]) -> bool
     ensures { result ≡ rules.fits_targets p.now e.now f.now (map (λ x. x.1) pairs.now) }
 {
     pairs.iter().map(|x| x.1).all(|k| fits_at(p, e, f, k))
 }
 
-fn fits_leads(p: &Program, e: &Context, f: &Shape, form: &Instr) -> bool
+fn fits_leads(p: &Program, e: &Context, f: &FrameType, form: &Instr) -> bool
     ensures { result ≡ rules.fits_targets p.now e.now f.now (leads form.now) }
 {
     match form {
@@ -235,7 +236,7 @@ fn fits_leads(p: &Program, e: &Context, f: &Shape, form: &Instr) -> bool
 }
 
 // Whether a handler's frame takes the locals, with what is caught alone on the stack.
-fn takes_caught(p: &Program, f: &Shape, h: &Handler, g: &Frame) -> bool
+fn takes_caught(p: &Program, f: &FrameType, h: &Handler, g: &Frame) -> bool
     ensures { result ≡ rules.slots_fit p.now (rules.thrown p.now f.now h.now) (slots_of g.now) }
 {
     fit_all(p, &f.locals, g.locals.as_slice())
@@ -257,7 +258,7 @@ fn caught_name<'a>(p: &'a Program, h: &Handler) -> &'a [u16]
     p.class_name(caught(h))
 }
 
-fn handles(p: &Program, e: &Context, pc: u32, f: &Shape, h: &Handler) -> bool
+fn handles(p: &Program, e: &Context, pc: u32, f: &FrameType, h: &Handler) -> bool
     ensures { result ≡ rules.handles p.now e.now pc f.now h.now }
 {
     if !(h.from <= pc && pc < h.to) {
@@ -273,7 +274,7 @@ fn handles(p: &Program, e: &Context, pc: u32, f: &Shape, h: &Handler) -> bool
 }
 
 /// Rule 9: handlers take what may be thrown.
-pub(crate) fn rule_9(p: &Program, e: &Context, x: &Placed, f: &Shape) -> bool
+pub(crate) fn rule_9(p: &Program, e: &Context, x: &Placed, f: &FrameType) -> bool
     ensures { result ≡ rules.rule_9 p.now e.now x.now f.now }
 {
     e.body
@@ -285,7 +286,7 @@ pub(crate) fn rule_9(p: &Program, e: &Context, x: &Placed, f: &Shape) -> bool
 
 /// Rule 1: the stack has enough places, and doesn't grow past its end.
 #[tactic(auto, using(crate::proofs::Stacks::length_reverse))]
-pub(crate) fn rule_1(e: &Context, f: &Shape, s: &Sides) -> bool
+pub(crate) fn rule_1(e: &Context, f: &FrameType, s: &StackEffect) -> bool
     ensures { result ≡ rules.rule_1 e.now f.now s.now }
 {
     let depth = f.stack.len();
@@ -299,21 +300,21 @@ pub(crate) fn rule_1(e: &Context, f: &Shape, s: &Sides) -> bool
 }
 
 /// Rule 2: the operands are of the types needed.
-pub(crate) fn rule_2(p: &Program, f: &Shape, s: &Sides) -> bool
+pub(crate) fn rule_2(p: &Program, f: &FrameType, s: &StackEffect) -> bool
     ensures { result ≡ rules.rule_2 p.now f.now s.now }
 {
     meet_all(p, s.takes.as_slice(), &f.stack)
 }
 
 /// Rule 3: the locals are there, and of the types needed.
-pub(crate) fn rule_3(p: &Program, e: &Context, f: &Shape, s: &Sides) -> bool
+pub(crate) fn rule_3(p: &Program, e: &Context, f: &FrameType, s: &StackEffect) -> bool
     ensures { result ≡ rules.rule_3 p.now e.now f.now s.now }
 {
     let most = e.body.max_locals;
     all_read(p, most, &f.locals, s.reads.as_slice()) && can_set(most, s.sets.as_slice())
 }
 
-fn fits_next(p: &Program, e: &Context, g: &Shape, k: usize) -> bool
+fn fits_next(p: &Program, e: &Context, g: &FrameType, k: usize) -> bool
     requires { k < length e.now.body.code }
     ensures { result ≡ rules.fits_next p.now e.now g.now (slice_get e.now.body.code (k + 1)) }
 {
@@ -329,7 +330,7 @@ pub(crate) fn leads_on(
     e: &Context,
     k: usize,
     x: &Placed,
-    g: &Shape,
+    g: &FrameType,
     falls: bool,
 ) -> bool
     requires { k < length e.now.body.code }

@@ -1,16 +1,16 @@
 //! What each instruction needs and leaves.
 
 ghost use Rattle.std.specs.Prelude.{◌≡◌, IfOk, OnOk, []};
-ghost use Rattle.type_frames.specs.Sides.{plain, sides};
+ghost use Rattle.type_frames.specs.StackEffect.{plain, sides};
 
 use crate::build::{is_half, nothing, push_int, push_needs, push_two};
 use crate::context::Context;
-use crate::shape::Shape;
+use crate::frame_type::FrameType;
 use crate::{members, moves};
 use et_base::NoMemory;
 use jvm_model::{Instr, Program};
 use std::alloc::Global;
-use type_frames::{Need, Sides, VType};
+use type_frames::{OperandConstraint, StackEffect, VType};
 
 /// The sides of an instruction at a place, with the frame before it.
 pub(crate) fn sides(
@@ -18,9 +18,9 @@ pub(crate) fn sides(
     p: &Program,
     e: &Context,
     pc: u32,
-    f: &Shape,
+    f: &FrameType,
     form: &Instr,
-) -> Result<Sides, NoMemory>
+) -> Result<StackEffect, NoMemory>
     ensures { IfOk result (λ s. s ≡ sides p.now e.now pc f.now form.now) }
 {
     let mut s = nothing(alloc);
@@ -28,14 +28,14 @@ pub(crate) fn sides(
     Ok(s)
 }
 
-#[tactic(auto, unfolding(type_frames::specs::Sides::sides))]
+#[tactic(auto, unfolding(type_frames::specs::StackEffect::sides))]
 fn add_sides(
     alloc: Global,
-    s: &mut Sides,
+    s: &mut StackEffect,
     p: &Program,
     e: &Context,
     pc: u32,
-    f: &Shape,
+    f: &FrameType,
     form: &Instr,
 ) -> Result<(), NoMemory>
     requires { s.old ≡ plain [] [] }
@@ -48,7 +48,7 @@ fn add_sides(
         Instr::Store { of, local } => moves::store(alloc, s, f, of, *local),
         Instr::ArrayLoad { of } => members::array_load(alloc, s, p, f, of),
         Instr::ArrayStore { of } => members::array_store(alloc, s, p, of),
-        Instr::Pop => s.takes.push(Need::One),
+        Instr::Pop => s.takes.push(OperandConstraint::One),
         Instr::Pop2 => push_two(&mut s.takes, is_half(f, 0)),
         Instr::Dup => moves::dup(alloc, s, f),
         Instr::DupX1 => moves::dup_x1(alloc, s, f),
@@ -59,7 +59,11 @@ fn add_sides(
         Instr::Swap => moves::swap(alloc, s, f),
         Instr::Binary { op, wide } => moves::binary(s, op, *wide),
         Instr::Neg { wide } => moves::number(s, *wide, *wide),
-        Instr::Inc { local, by: _ } => moves::read(&mut s.reads, *local, Need::Fits(VType::Int)),
+        Instr::Inc { local, by: _ } => moves::read(
+            &mut s.reads,
+            *local,
+            OperandConstraint::Fits(VType::Int),
+        ),
         Instr::Convert { to } => moves::conversion(s, to),
         Instr::Compare => moves::comparison(s),
         Instr::IfZero { test: _, to: _ } => push_int(&mut s.takes),

@@ -29,7 +29,7 @@ use Rattle.type_frames.specs.Frames.{index_of}
 use Rattle.type_frames.specs.Assign.{takes_any, extends, class_fits, object_fits}
 use Rattle.type_frames.specs.Given.{given_frames, body_frames}
 use Rattle.type_frames.specs.Environment.{given_at, is_target}
-use Rattle.type_frames.specs.Sides.{sides}
+use Rattle.type_frames.specs.StackEffect.{sides}
 use Rattle.type_frames.specs.Typing.{incoming}
 use Rattle.type_frames.specs.TypedState.{IsDeclared, IsInRange, TypedWorld, TypedState, Goes, Waits, Initialises, IsPushedBy}
 use Rattle.type_frames.proofs.Started.{started_law}

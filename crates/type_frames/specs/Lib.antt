@@ -6,7 +6,7 @@ pub mod Given
 pub mod Places
 pub mod MapReading
 pub mod Environment
-pub mod Sides
+pub mod StackEffect
 pub mod Rules
 pub mod Typing
 pub mod TypedState

@@ -8,17 +8,17 @@ use Rattle.jvm_model.specs.Builtin.{throwable_class}
 use Rattle.type_frames.specs.declared.vtype.VType.{VType}
 use Rattle.type_frames.specs.declared.vtype.VType.TheVariants.{Top, Int, Long, Null, Object, UninitThis, Uninit}
 use Rattle.type_frames.specs.declared.vtype.Frame.{Frame}
-use Rattle.type_frames.specs.declared.sides.Need.{Need}
-use Rattle.type_frames.specs.declared.sides.Need.TheVariants.{Fits, One, Half, Ref, Raw, Small, Array, Never}
-use Rattle.type_frames.specs.declared.sides.Reading.{Reading}
-use Rattle.type_frames.specs.declared.sides.Setting.{Setting}
-use Rattle.type_frames.specs.declared.sides.Turn.{Turn}
-use Rattle.type_frames.specs.declared.sides.Turn.TheVariants.{Keep, All}
-use Rattle.type_frames.specs.declared.sides.Sides.{Sides}
+use Rattle.type_frames.specs.declared.stack_effect.OperandConstraint.{OperandConstraint}
+use Rattle.type_frames.specs.declared.stack_effect.OperandConstraint.TheVariants.{Fits, One, Half, Ref, Raw, Small, Array, Never}
+use Rattle.type_frames.specs.declared.stack_effect.Reading.{Reading}
+use Rattle.type_frames.specs.declared.stack_effect.LocalUpdate.{LocalUpdate}
+use Rattle.type_frames.specs.declared.stack_effect.Substitution.{Substitution}
+use Rattle.type_frames.specs.declared.stack_effect.Substitution.TheVariants.{Keep, All}
+use Rattle.type_frames.specs.declared.stack_effect.StackEffect.{StackEffect}
 use Rattle.type_frames.specs.Frames.{Slots, same, slots_of, padded}
 use Rattle.type_frames.specs.Assign.{assignable, is_array}
 use Rattle.type_frames.specs.Environment.{Environment, given_at, made_at, leads}
-use Rattle.type_frames.specs.Sides.{is_raw, object_of}
+use Rattle.type_frames.specs.StackEffect.{is_raw, object_of}
 
 -- a reference, also one to an uninitialised object
 abbrev pub is_ref : VType → Bool
@@ -41,7 +41,7 @@ is_any_array Null = true
 is_any_array (Object a) = is_array a
 is_any_array _ = false
 
-abbrev pub meets : Program → Need → VType → Bool
+abbrev pub meets : Program → OperandConstraint → VType → Bool
 meets p (Fits u) t = assignable p t u
 meets p One t = is_one t
 meets p Half t = same t Top
@@ -52,7 +52,7 @@ meets p Array t = is_any_array t
 meets p Never t = false
 
 -- the needs as far as there are places
-abbrev pub meet_all : Program → List Need → List VType → Bool
+abbrev pub meet_all : Program → List OperandConstraint → List VType → Bool
 meet_all p [] ts = true
 meet_all p (n ∷ ns) [] = true
 meet_all p (n ∷ ns) (t ∷ ts) = meets p n t && meet_all p ns ts
@@ -64,7 +64,7 @@ abbrev pub all_read : Program → ℕ → List VType → List Reading → Bool
 all_read p most ts [] = true
 all_read p most ts (r ∷ rs) = is_read p most ts r && all_read p most ts rs
 
-abbrev pub can_set : ℕ → List Setting → Bool
+abbrev pub can_set : ℕ → List LocalUpdate → Bool
 can_set most [] = true
 can_set most (s ∷ ss) = nat_lt s.local most && can_set most ss
 
@@ -73,12 +73,12 @@ can_set most (s ∷ ss) = nat_lt s.local most && can_set most ss
 abbrev pub turned_one : VType → VType → VType → VType
 turned_one a b t = cond (same t a) b t
 
-abbrev pub turned : Turn → List VType → List VType
+abbrev pub turned : Substitution → List VType → List VType
 turned Keep ts = ts
 turned (All a b) ts = map (turned_one a b) ts
 
 -- once this was initialised
-abbrev pub flag_after : Turn → Bool → Bool
+abbrev pub flag_after : Substitution → Bool → Bool
 flag_after Keep b = b
 flag_after (All a t) b = not (same a UninitThis) && b
 
@@ -87,14 +87,14 @@ abbrev pub cut_long : List VType → ℕ → List VType
 cut_long ts zero = ts
 cut_long ts (suc n) = cond (same (slice_index_or ts n Top) Long) (slice_set ts n Top) ts
 
-abbrev pub set_one : List VType → Setting → List VType
+abbrev pub set_one : List VType → LocalUpdate → List VType
 set_one ts s = slice_set (cut_long ts s.local) s.local s.to
 
-abbrev pub set_all : List VType → List Setting → List VType
+abbrev pub set_all : List VType → List LocalUpdate → List VType
 set_all ts [] = ts
 set_all ts (s ∷ ss) = set_all (set_one ts s) ss
 
-abbrev pub after : Slots → Sides → Slots
+abbrev pub after : Slots → StackEffect → Slots
 after f s = record { locals = set_all (turned s.turn f.locals) s.sets; stack = s.gives ++ turned s.turn (drop (length s.takes) f.stack); flag = flag_after s.turn f.flag }
 
 -- Frames that are assignable to given ones.
@@ -167,31 +167,31 @@ all_handle p e pc f hs = list_all (λ h. handles p e pc f h) hs
 -- isn't malformed, comes before all else of a method.
 
 -- the stack has enough places, and doesn't grow past its end
-abbrev pub rule_1 : Environment → Slots → Sides → Bool
+abbrev pub rule_1 : Environment → Slots → StackEffect → Bool
 rule_1 e f s = nat_le (length s.takes) (length f.stack) && nat_le (length s.gives + (length f.stack - length s.takes)) e.body.max_stack
 
 -- the operands are of the types needed
-abbrev pub rule_2 : Program → Slots → Sides → Bool
+abbrev pub rule_2 : Program → Slots → StackEffect → Bool
 rule_2 p f s = meet_all p s.takes f.stack
 
 -- the locals are there, and of the types needed
-abbrev pub rule_3 : Program → Environment → Slots → Sides → Bool
+abbrev pub rule_3 : Program → Environment → Slots → StackEffect → Bool
 rule_3 p e f s = all_read p e.body.max_locals f.locals s.reads && can_set e.body.max_locals s.sets
 
 -- what stands afterwards is assignable to what is given where control goes
-abbrev pub rule_4 : Program → Environment → ℕ → Placed → Slots → Sides → Bool
+abbrev pub rule_4 : Program → Environment → ℕ → Placed → Slots → StackEffect → Bool
 rule_4 p e k x f s = is_entered p e k x.pc && (fits_targets p e (after f s) (leads x.form) && (not s.falls || fits_next p e (after f s) (slice_get e.body.code (k + 1))))
 
 -- control doesn't pass the end of the code
-abbrev pub rule_5 : Environment → ℕ → Sides → Bool
+abbrev pub rule_5 : Environment → ℕ → StackEffect → Bool
 rule_5 e k s = not s.falls || nat_lt (k + 1) (length e.body.code)
 
 -- a return fits the descriptor, and an `<init>` called another one before
-abbrev pub rule_6 : Sides → Bool
+abbrev pub rule_6 : StackEffect → Bool
 rule_6 s = s.returns_well
 
 -- an uninitialised object is used by its own `<init>` alone
-abbrev pub rule_7 : Sides → Bool
+abbrev pub rule_7 : StackEffect → Bool
 rule_7 s = s.starts_well
 
 -- handlers take what may be thrown
@@ -204,7 +204,7 @@ rule_10 e zero = nat_le (length e.args) e.body.max_locals
 rule_10 e (suc k) = true
 
 -- `<clinit>` isn't called, and `<init>` by invokespecial alone
-abbrev pub rule_11 : Sides → Bool
+abbrev pub rule_11 : StackEffect → Bool
 rule_11 s = s.calls_well
 
 pub record Test : Type 0 where
@@ -219,9 +219,9 @@ abbrev pub first_broken : List Test → Option ℕ
 first_broken [] = None
 first_broken (t ∷ ts) = elim t.kept [ true ↦ first_broken ts | false ↦ Some t.rule ]
 
-abbrev pub tests : Program → Environment → ℕ → Placed → Slots → Sides → List Test
+abbrev pub tests : Program → Environment → ℕ → Placed → Slots → StackEffect → List Test
 tests p e k x f s = test 1 (rule_1 e f s) ∷ test 2 (rule_2 p f s) ∷ test 3 (rule_3 p e f s) ∷ test 4 (rule_4 p e k x f s) ∷ test 5 (rule_5 e k s) ∷ test 6 (rule_6 s) ∷ test 7 (rule_7 s) ∷ test 9 (rule_9 p e x f) ∷ test 10 (rule_10 e k) ∷ test 11 (rule_11 s) ∷ []
 
 -- the lowest rule that instruction k breaks
-unfoldable pub broken : Program → Environment → ℕ → Placed → Slots → Sides → Option ℕ
+unfoldable pub broken : Program → Environment → ℕ → Placed → Slots → StackEffect → Option ℕ
 broken p e k x f s = first_broken (tests p e k x f s)

@@ -37,7 +37,7 @@ use Rattle.type_frames.specs.Descriptors.{types_of, kind_name}
 use Rattle.type_frames.specs.Assign.{assignable}
 use Rattle.type_frames.specs.Given.{given_frames}
 use Rattle.type_frames.specs.Environment.{Environment, environment_of, made_at}
-use Rattle.type_frames.specs.Sides.{sides, is_that}
+use Rattle.type_frames.specs.StackEffect.{sides, is_that}
 use Rattle.type_frames.specs.Typing.{before}
 
 -- Values.

@@ -11,18 +11,18 @@ use Rattle.jvm_model.specs.Classes.{field_at, method_at, is_private, is_interfac
 use Rattle.jvm_model.specs.Builtin.{builtin_count}
 use Rattle.jvm_model.specs.Linked.{Linked}
 use Rattle.type_frames.specs.declared.vtype.Frame.{Frame}
-use Rattle.type_frames.specs.declared.sides.Sides.{Sides}
+use Rattle.type_frames.specs.declared.stack_effect.StackEffect.{StackEffect}
 use Rattle.type_frames.specs.declared.fault.CheckFault.{CheckFault}
 use Rattle.type_frames.specs.declared.fault.CheckFault.TheVariants.{Rule, NoFrame, Unsupported}
 use Rattle.type_frames.specs.Frames.{Slots, slots_of}
 use Rattle.type_frames.specs.Descriptors.{has_float, is_float}
 use Rattle.type_frames.specs.Given.{given_frames}
 use Rattle.type_frames.specs.Environment.{Environment, environment_of, given_at, is_target}
-use Rattle.type_frames.specs.Sides.{sides}
+use Rattle.type_frames.specs.StackEffect.{sides}
 use Rattle.type_frames.specs.Rules.{after, opening, broken}
 
 -- what goes on to the next instruction: the frame after, unless control never does
-abbrev pub passed : Slots → Sides → Option Slots
+abbrev pub passed : Slots → StackEffect → Option Slots
 passed f s = cond s.falls (Some (after f s)) None
 
 abbrev pub passed_on : Program → Environment → Option Slots → Option Placed → Option Slots

@@ -8,7 +8,7 @@ mod fault;
 mod given;
 mod laws;
 mod places;
-mod sides;
+mod stack_effect;
 mod vtype;
 
 pub use assign::{assignable, object_assignable, same};
@@ -21,5 +21,5 @@ pub use given::{
 };
 pub use laws::{itself_law, reference_law, started_law, transitive_law};
 pub use places::Places;
-pub use sides::{Need, Reading, Setting, Sides, Turn};
+pub use stack_effect::{LocalUpdate, OperandConstraint, Reading, StackEffect, Substitution};
 pub use vtype::{Frame, VType};

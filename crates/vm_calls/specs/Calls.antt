@@ -11,7 +11,7 @@ use Rattle.jvm_model.specs.RowsCalls.{row_calls, calls, calls_selected, on_recei
 use Rattle.jvm_model.specs.RowsReturn.{row_return, hands_on}
 use Rattle.jvm_model.specs.Selection.{Selected}
 use Rattle.vm_frames.specs.Stack.{HasRoom}
-use Rattle.vm_mem.specs.Meets.{Row}
+use Rattle.vm_mem.specs.Refines.{Row}
 use Rattle.vm_calls.specs.Choices.{dispatched}
 
 abbrev pub call_row : Instr → Row Entries

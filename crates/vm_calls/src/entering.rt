@@ -3,8 +3,8 @@
 ghost use Rattle.std.specs.Prelude.{◌≡◌, ◌≤◌, ◌<◌, ℕ, IfOk, None, Some, length};
 ghost use Rattle.jvm_model.specs.Entries.{Entries};
 ghost use Rattle.jvm_model.specs.World.{World};
-ghost use Rattle.vm_mem.specs.Meets.{Meets};
-ghost use Rattle.vm_tables.specs.Methods.{entrance_of};
+ghost use Rattle.vm_mem.specs.Refines.{Refines};
+ghost use Rattle.vm_tables.specs.Methods.{call_descriptor_of};
 ghost use Rattle.vm_calls.specs.Calls.{method_row, selected_row};
 ghost use Rattle.vm_calls.specs.Choices.{selected_of};
 
@@ -29,22 +29,22 @@ pub(crate) fn enter_method(
 ) -> Result<Next, NoMemory>
     requires tables { tables.now ≡ p.now }
     requires arguments { arguments ≤ length stack.old.top.stack }
-    ensures { IfOk result (λ x. (w : World) → Meets (method_row method arguments)
+    ensures { IfOk result (λ x. (w : World) → Refines (method_row method arguments)
         p.now w stack.old left.old x stack.new w left.new) }
 {
-    let Some(entrance) = tables.entrance(method) else {
-        return Ok(without_entrance(p, method));
+    let Some(call_descriptor) = tables.call_descriptor(method) else {
+        return Ok(without_descriptor(p, method));
     };
     if stack.is_full() {
         return Ok(Next::Fault {
             class: STACK_OVERFLOW_ERROR,
         });
     }
-    let cost = u64::from(entrance.cost);
+    let cost = u64::from(call_descriptor.cost);
     if *left < cost {
         return Ok(Next::Over);
     }
-    match stack.enter(method, entrance.max_locals, arguments) {
+    match stack.enter(method, call_descriptor.max_locals, arguments) {
         Ok(()) => {}
         Err(PushFault::Deep) => unreachable!(),
         Err(PushFault::NoMemory) => return Err(NoMemory {}),
@@ -56,10 +56,10 @@ pub(crate) fn enter_method(
 /// What the call of a method answers that is built-in or has no code.
 #[inline(never)]
 #[tactic(auto, unfolding(jvm_model::specs::RowsCalls::calls))]
-fn without_entrance(p: &Program, method: u32) -> Next
-    requires { entrance_of p.now method ≡ None }
+fn without_descriptor(p: &Program, method: u32) -> Next
+    requires { call_descriptor_of p.now method ≡ None }
     ensures { (n left : ℕ) (s : Entries) (w : World) → n ≤ length s.top.stack
-        → Meets (method_row method n) p.now w s left result s w left }
+        → Refines (method_row method n) p.now w s left result s w left }
 {
     if let Some(record) = p.method(method) {
         if record.native.is_some() {
@@ -83,7 +83,7 @@ pub(crate) fn enter_choice(
 ) -> Result<Next, NoMemory>
     requires tables { tables.now ≡ p.now }
     requires arguments { arguments ≤ length stack.old.top.stack }
-    ensures { IfOk result (λ x. (w : World) → Meets (selected_row (selected_of choice) arguments)
+    ensures { IfOk result (λ x. (w : World) → Refines (selected_row (selected_of choice) arguments)
         p.now w stack.old left.old x stack.new w left.new) }
 {
     match choice {

@@ -4,10 +4,10 @@
 ghost use Rattle.std.specs.Prelude.{◌≡◌, ◌≢◌, ◌<◌, IfOk, OnOk, length};
 ghost use Rattle.jvm_model.specs.Classes.{method_at};
 ghost use Rattle.jvm_model.specs.World.{World};
-ghost use Rattle.class_init.specs.Uses.{IsUsable, MeetsUse, TellsUse};
+ghost use Rattle.class_init.specs.Uses.{IsUsable, RefinesUse, TracesUse};
 ghost use Rattle.jvm_model.specs.RowsCalls.{argument_count};
 ghost use Rattle.jvm_model.specs.declared.instr.Instr.TheVariants as form;
-ghost use Rattle.vm_mem.specs.Meets.{IsReady, Meets, Tells};
+ghost use Rattle.vm_mem.specs.Refines.{IsReady, Refines, Traces};
 ghost use Rattle.vm_calls.specs.Calls.{call_row, kind_row, object_row};
 
 use crate::entering::{enter_choice, enter_method};
@@ -39,10 +39,10 @@ pub fn call<M: Memory>(
     requires selections { selections.old ≡ M.program memory.old }
     requires row { IsReady (call_row form.now)
         (M.program memory.old) (M.world memory.old) stack.old }
-    ensures meets { IfOk result (λ x. Meets (call_row form.now)
+    ensures meets { IfOk result (λ x. Refines (call_row form.now)
         (M.program memory.old) (M.world memory.old) stack.old left.old
         x stack.new (M.world memory.new) left.new) }
-    ensures told { IfOk result (λ x. Tells (call_row form.now)
+    ensures told { IfOk result (λ x. Traces (call_row form.now)
         (M.program memory.old) (M.world memory.old) stack.old
         x M.follows memory.old memory.new) }
     ensures of { OnOk result (M.program memory.new ≡ M.program memory.old) }
@@ -78,10 +78,10 @@ pub fn invoke_static<M: Memory>(
     requires tables { tables.now ≡ M.program memory.old }
     requires row { IsReady (call_row (form.InvokeStatic method))
         (M.program memory.old) (M.world memory.old) stack.old }
-    ensures meets { IfOk result (λ x. Meets (call_row (form.InvokeStatic method))
+    ensures meets { IfOk result (λ x. Refines (call_row (form.InvokeStatic method))
         (M.program memory.old) (M.world memory.old) stack.old left.old
         x stack.new (M.world memory.new) left.new) }
-    ensures told { IfOk result (λ x. Tells (call_row (form.InvokeStatic method))
+    ensures told { IfOk result (λ x. Traces (call_row (form.InvokeStatic method))
         (M.program memory.old) (M.world memory.old) stack.old
         x M.follows memory.old memory.new) }
     ensures of { OnOk result (M.program memory.new ≡ M.program memory.old) }
@@ -113,17 +113,17 @@ fn begin_method_use<M: Memory>(
     requires tables { tables.now ≡ M.program memory.old }
     requires safe { IsUsable (method_at p.now method).class
         (M.program memory.old) (M.world memory.old) stack.old }
-    ensures meets { IfOk result (λ u. MeetsUse (method_at p.now method).class
+    ensures meets { IfOk result (λ u. RefinesUse (method_at p.now method).class
         (M.program memory.old) (M.world memory.old) stack.old left.old
         u stack.new (M.world memory.new) left.new) }
-    ensures told { IfOk result (λ u. TellsUse (method_at p.now method).class
+    ensures told { IfOk result (λ u. TracesUse (method_at p.now method).class
         (M.program memory.old) (M.world memory.old) stack.old
         u M.follows memory.old memory.new) }
     ensures entries { IfOk result (λ u. u ≢ Use.Begun → stack.new ≡ stack.old) }
     ensures of { OnOk result (M.program memory.new ≡ M.program memory.old) }
 {
-    if let Some(entrance) = tables.entrance(method) {
-        if entrance.is_trivial {
+    if let Some(call_descriptor) = tables.call_descriptor(method) {
+        if call_descriptor.is_trivial {
             return Ok(Use::Ready);
         }
     }
@@ -147,7 +147,7 @@ fn enter_selected(
     requires selections { selections.old ≡ p.now }
     requires arguments { argument_count p.now method < length stack.old.top.stack }
     requires few { argument_count p.now method < 65535 }
-    ensures meets { IfOk result (λ x. (w : World) → Meets (kind_row interface method kind)
+    ensures meets { IfOk result (λ x. (w : World) → Refines (kind_row interface method kind)
         p.now w stack.old left.old x stack.new w left.new) }
     ensures kept { selections.new ≡ selections.old }
 {
@@ -174,10 +174,10 @@ fn invoke_on_object<M: Memory>(
     requires selections { selections.old ≡ M.program memory.old }
     requires row { IsReady (object_row interface method)
         (M.program memory.old) (M.world memory.old) stack.old }
-    ensures meets { IfOk result (λ x. Meets (object_row interface method)
+    ensures meets { IfOk result (λ x. Refines (object_row interface method)
         (M.program memory.old) (M.world memory.old) stack.old left.old
         x stack.new (M.world memory.new) left.new) }
-    ensures told { IfOk result (λ x. Tells (object_row interface method)
+    ensures told { IfOk result (λ x. Traces (object_row interface method)
         (M.program memory.old) (M.world memory.old) stack.old
         x M.follows memory.old memory.new) }
     ensures of { OnOk result (M.program memory.new ≡ M.program memory.old) }
@@ -224,10 +224,10 @@ pub fn invoke_virtual<M: Memory>(
     requires selections { selections.old ≡ M.program memory.old }
     requires row { IsReady (call_row (form.InvokeVirtual named method))
         (M.program memory.old) (M.world memory.old) stack.old }
-    ensures meets { IfOk result (λ x. Meets (call_row (form.InvokeVirtual named method))
+    ensures meets { IfOk result (λ x. Refines (call_row (form.InvokeVirtual named method))
         (M.program memory.old) (M.world memory.old) stack.old left.old
         x stack.new (M.world memory.new) left.new) }
-    ensures told { IfOk result (λ x. Tells (call_row (form.InvokeVirtual named method))
+    ensures told { IfOk result (λ x. Traces (call_row (form.InvokeVirtual named method))
         (M.program memory.old) (M.world memory.old) stack.old
         x M.follows memory.old memory.new) }
     ensures of { OnOk result (M.program memory.new ≡ M.program memory.old) }
@@ -256,10 +256,10 @@ pub fn invoke_interface<M: Memory>(
     requires selections { selections.old ≡ M.program memory.old }
     requires row { IsReady (call_row (form.InvokeInterface named method))
         (M.program memory.old) (M.world memory.old) stack.old }
-    ensures meets { IfOk result (λ x. Meets (call_row (form.InvokeInterface named method))
+    ensures meets { IfOk result (λ x. Refines (call_row (form.InvokeInterface named method))
         (M.program memory.old) (M.world memory.old) stack.old left.old
         x stack.new (M.world memory.new) left.new) }
-    ensures told { IfOk result (λ x. Tells (call_row (form.InvokeInterface named method))
+    ensures told { IfOk result (λ x. Traces (call_row (form.InvokeInterface named method))
         (M.program memory.old) (M.world memory.old) stack.old
         x M.follows memory.old memory.new) }
     ensures of { OnOk result (M.program memory.new ≡ M.program memory.old) }
@@ -292,10 +292,10 @@ pub fn invoke_special<M: Memory>(
     requires selections { selections.old ≡ M.program memory.old }
     requires row { IsReady (call_row (form.InvokeSpecial named method))
         (M.program memory.old) (M.world memory.old) stack.old }
-    ensures meets { IfOk result (λ x. Meets (call_row (form.InvokeSpecial named method))
+    ensures meets { IfOk result (λ x. Refines (call_row (form.InvokeSpecial named method))
         (M.program memory.old) (M.world memory.old) stack.old left.old
         x stack.new (M.world memory.new) left.new) }
-    ensures told { IfOk result (λ x. Tells (call_row (form.InvokeSpecial named method))
+    ensures told { IfOk result (λ x. Traces (call_row (form.InvokeSpecial named method))
         (M.program memory.old) (M.world memory.old) stack.old
         x M.follows memory.old memory.new) }
     ensures of { OnOk result (M.program memory.new ≡ M.program memory.old) }

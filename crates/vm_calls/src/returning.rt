@@ -6,7 +6,7 @@ ghost use Rattle.jvm_model.specs.Entries.{with_stack};
 ghost use Rattle.jvm_model.specs.Narrow.{narrow};
 ghost use Rattle.jvm_model.specs.declared.instr.Instr.TheVariants as form;
 ghost use Rattle.jvm_model.specs.declared.values.Value.TheVariants.{Null};
-ghost use Rattle.vm_mem.specs.Meets.{IsReady, Meets, Tells};
+ghost use Rattle.vm_mem.specs.Refines.{IsReady, Refines, Traces};
 ghost use Rattle.vm_calls.specs.Calls.{HasRoomBelow, hands_row, return_row};
 
 use et_base::NoMemory;
@@ -32,10 +32,10 @@ pub fn give_back<M: Memory>(
     requires row { IsReady (return_row (form.Return of))
         (M.program memory.old) (M.world memory.old) stack.old }
     requires room { HasRoomBelow stack.old }
-    ensures meets { IfOk result (λ x. Meets (return_row (form.Return of))
+    ensures meets { IfOk result (λ x. Refines (return_row (form.Return of))
         (M.program memory.old) (M.world memory.old) stack.old left.old
         x stack.new (M.world memory.new) left.new) }
-    ensures told { IfOk result (λ x. Tells (return_row (form.Return of))
+    ensures told { IfOk result (λ x. Traces (return_row (form.Return of))
         (M.program memory.old) (M.world memory.old) stack.old
         x M.follows memory.old memory.new) }
     ensures of { OnOk result (M.program memory.new ≡ M.program memory.old) }
@@ -53,7 +53,7 @@ pub fn give_back<M: Memory>(
 #[inline(always)]
 #[tactic(auto, unfolding(jvm_model::specs::RowsReturn::hands_on))]
 fn hand_nothing(stack: &mut FrameStack, tables: &Tables, left: &mut u64) -> Next
-    ensures { (w : World) → Meets (hands_row []) tables.now w stack.old left.old result stack.new w left.new }
+    ensures { (w : World) → Refines (hands_row []) tables.now w stack.old left.old result stack.new w left.new }
 {
     if *left == 0 {
         return Next::Over;
@@ -79,7 +79,7 @@ fn hand_top(stack: &mut FrameStack, tables: &Tables, unit: u16, left: &mut u64) 
     requires operand { 0 < length stack.old.top.stack }
     requires room { HasRoomBelow stack.old }
     ensures { (w : World)
-        → Meets (hands_row (narrow unit (get_or stack.old.top.stack 0 Null) ∷ []))
+        → Refines (hands_row (narrow unit (get_or stack.old.top.stack 0 Null) ∷ []))
         tables.now w stack.old left.old result stack.new w left.new }
 {
     if *left == 0 {

@@ -18,25 +18,25 @@ use Rattle.jvm_model.specs.Working.{Working}
 use Rattle.jvm_model.proofs.Binds.{counted_bind, touched_bind, safe_rest}
 use Rattle.jvm_model.proofs.Bridges.{spent_later}
 use Rattle.jvm_model.proofs.Steps.{safe_native}
-use Rattle.vm_mem.specs.Meets.{IsReady, Meets, Tells}
-use Rattle.vm_mem.specs.Story.{Story}
+use Rattle.vm_mem.specs.Refines.{IsReady, Refines, Traces}
+use Rattle.vm_mem.specs.Trace.{Trace}
 use Rattle.vm_natives.specs.Rows.{with_own, native_row}
 use Rattle.vm_interp.specs.Turns.{builtin_part}
 
 pub native_ready : (x : Native) (p : Program) (w : World) (s : State) → IsSafe IsTurn (builtin_part x p s) w → IsReady (native_row x) p w (with_own s.entries s.own)
 native_ready x p w s h = safe_native p s (row_native p x (with_own s.entries s.own)) w h
 
-module _ {M : Type 0} (program : M → Program) (world : M → World) (follows : M → Story → List Touch → Type 0)
+module _ {M : Type 0} (program : M → Program) (world : M → World) (follows : M → Trace → List Touch → Type 0)
     (x : Native) (m0 m1 m2 : M) (s : State) (t : Working) (left left1 : ℕ) (y : Next)
-    (of : program m1 ≡ program m0) (meets : Meets (native_row x) (program m0) (world m0) (with_own s.entries s.own) left y t (world m1) left1) where
+    (of : program m1 ≡ program m0) (meets : Refines (native_row x) (program m0) (world m0) (with_own s.entries s.own) left y t (world m1) left1) where
   abbrev method : Access (Answer Working)
   method = row_native (program m0) x (with_own s.entries s.own)
 
   abbrev then : State
   then = record s { entries = t.entries; own = t.own }
 
-  met : (z : Next) → y ≡ z → Meets (native_row x) (program m0) (world m0) (with_own s.entries s.own) left z t (world m1) left1
-  met z e = subst (λ (z : Next). Meets (native_row x) (program m0) (world m0) (with_own s.entries s.own) left z t (world m1) left1) e meets
+  met : (z : Next) → y ≡ z → Refines (native_row x) (program m0) (world m0) (with_own s.entries s.own) left z t (world m1) left1
+  met z e = subst (λ (z : Next). Refines (native_row x) (program m0) (world m0) (with_own s.entries s.own) left z t (world m1) left1) e meets
 
   pub over_native : y ≡ Over → counted (builtin_part x (program m0) s) (world m0) left ≡ over
   over_native e = counted_bind (spend 1 method) (after_native (program m0) s) (world m0) left ∙ ap (λ z. and_then z (after_native (program m0) s)) (met Over e)
@@ -44,7 +44,7 @@ module _ {M : Type 0} (program : M → Program) (world : M → World) (follows :
   pub go_native : y ≡ Go → counted (builtin_part x (program m0) s) (world m0) left ≡ ended (next then) (world m1) left1
   go_native e = counted_bind (spend 1 method) (after_native (program m0) s) (world m0) left ∙ ap (λ z. and_then z (after_native (program m0) s)) (met Go e)
 
-  pub go_tells : y ≡ Go → Tells (native_row x) (program m0) (world m0) (with_own s.entries s.own) y follows m0 m1 → (h : Story) (ts : List Touch) → follows m0 h ts → follows m1 h (touched (builtin_part x (program m0) s) (world m0) ts)
+  pub go_tells : y ≡ Go → Traces (native_row x) (program m0) (world m0) (with_own s.entries s.own) y follows m0 m1 → (h : Trace) (ts : List Touch) → follows m0 h ts → follows m1 h (touched (builtin_part x (program m0) s) (world m0) ts)
   go_tells e told h ts k = subst (λ (us : List Touch). follows m1 h us)
       (sym (touched_bind (spend 1 method) (after_native (program m0) s) (world m0) left (answer Go t) (world m1) left1 (met Go e) ts))
       (told (λ q. let z : Go ≡ Over = sym e ∙ q in cc) h ts k)
@@ -53,9 +53,9 @@ module _ {M : Type 0} (program : M → Program) (world : M → World) (follows :
   fault_native c e = spent_later 1 method (after_native (program m0) s) (world m0) left (answer (Fault c) t) (world m1) left1 (met (Fault c) e)
       ∙ ap (λ (p : Program). counted (spend 1 (throws p c then)) (world m1) left1) (sym of)
 
-  pub fault_tells : (c : ℕ) → y ≡ Fault c → Tells (native_row x) (program m0) (world m0) (with_own s.entries s.own) y follows m0 m1 →
-      ((h : Story) (ts : List Touch) → follows m1 h ts → follows m2 h (touched (throws (program m1) c then) (world m1) ts)) →
-      (h : Story) (ts : List Touch) → follows m0 h ts → follows m2 h (touched (builtin_part x (program m0) s) (world m0) ts)
+  pub fault_tells : (c : ℕ) → y ≡ Fault c → Traces (native_row x) (program m0) (world m0) (with_own s.entries s.own) y follows m0 m1 →
+      ((h : Trace) (ts : List Touch) → follows m1 h ts → follows m2 h (touched (throws (program m1) c then) (world m1) ts)) →
+      (h : Trace) (ts : List Touch) → follows m0 h ts → follows m2 h (touched (builtin_part x (program m0) s) (world m0) ts)
   fault_tells c e told f h ts k = subst (λ (us : List Touch). follows m2 h us)
       (ap (λ (p : Program). touched (throws p c then) (world m1) (touched method (world m0) ts)) of
       ∙ sym (touched_bind method (after_native (program m0) s) (world m0) left (answer (Fault c) t) (world m1) left1 (met (Fault c) e) ts))

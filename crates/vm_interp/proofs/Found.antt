@@ -16,12 +16,12 @@ use Rattle.jvm_model.specs.View.{counted, touched, IsSafe, IsRow, IsTurn}
 use Rattle.jvm_model.proofs.Steps.{step_runs, safe_row}
 use Rattle.vm_arith.specs.Pure.{GoesOn, Branches, is_pure}
 use Rattle.vm_frames.specs.Stack.{HasRoom}
-use Rattle.vm_mem.specs.Meets.{Meets, Tells}
-use Rattle.vm_mem.specs.Story.{Story}
+use Rattle.vm_mem.specs.Refines.{Refines, Traces}
+use Rattle.vm_mem.specs.Trace.{Trace}
 use Rattle.vm_arith.proofs.Rows.{has_row}
 use Rattle.check_sound.specs.ReachLaw.{puts}
 use Rattle.vm_interp.specs.Reaching.{CanStep}
-use Rattle.vm_interp.specs.Gliding.{CanGo, CanGlide}
+use Rattle.vm_interp.specs.Dispatching.{CanGo, CanRun}
 use Rattle.vm_interp.specs.Rows.{form_row}
 use Rattle.vm_interp.proofs.Quiet.{grows}
 
@@ -41,23 +41,23 @@ branches i b to n s u h = record { frame = h.frame.kind; number = h.frame.number
 
 -- the row of such a form
 module _ (p : Program) (s : Entries) (w : World) (i : Instr) (n : ℕ) (u : Entries) (place : next_place p s.top.number s.top.pc ≡ n) (h : Goes i n s u) where
-  quick_meets : (left left1 : ℕ) → left ≡ suc left1 → Meets (form_row i) p w s left Go u w left1
-  quick_meets left left1 e = ap (λ (a : Access (Answer Entries)). counted (spend 1 a) w left) (h.row p place) ∙
+  hot_meets : (left left1 : ℕ) → left ≡ suc left1 → Refines (form_row i) p w s left Go u w left1
+  hot_meets left left1 e = ap (λ (a : Access (Answer Entries)). counted (spend 1 a) w left) (h.row p place) ∙
       (let d : left - 1 ≡ left1 = omega arith in let k : nat_le 1 left ≡ true = grind arith in rw (k, d) refl)
 
-  quick_touches : (ts : List Touch) → touched (row p i s) w ts ≡ ts
-  quick_touches ts = ap (λ (a : Access (Answer Entries)). touched a w ts) (h.row p place)
+  hot_touches : (ts : List Touch) → touched (row p i s) w ts ≡ ts
+  hot_touches ts = ap (λ (a : Access (Answer Entries)). touched a w ts) (h.row p place)
 
-  went_meets : (left : ℕ) → 0 < left → Meets (form_row i) p w s left Go u w (left - 1)
-  went_meets left l = quick_meets left (left - 1) (omega arith)
+  went_meets : (left : ℕ) → 0 < left → Refines (form_row i) p w s left Go u w (left - 1)
+  went_meets left l = hot_meets left (left - 1) (omega arith)
 
-  went_tells : {M : Type 0} (follows : M → Story → List Touch → Type 0) (m : M) → Tells (form_row i) p w s Go follows m m
-  went_tells follows m o h ts k = subst (λ (us : List Touch). follows m h us) (sym (quick_touches ts)) k
+  went_tells : {M : Type 0} (follows : M → Trace → List Touch → Type 0) (m : M) → Traces (form_row i) p w s Go follows m m
+  went_tells follows m o h ts k = subst (λ (us : List Touch). follows m h us) (sym (hot_touches ts)) k
 
-pub branch_meets : (p : Program) (w : World) (i : ℕ → Instr) (b : Bool) (to n : ℕ) (s u : Entries) (left : ℕ) → Branches i b s u → next_place p s.top.number s.top.pc ≡ n → 0 < left → Meets (form_row (i to)) p w s left Go (with_place u (cond b to n)) w (left - 1)
+pub branch_meets : (p : Program) (w : World) (i : ℕ → Instr) (b : Bool) (to n : ℕ) (s u : Entries) (left : ℕ) → Branches i b s u → next_place p s.top.number s.top.pc ≡ n → 0 < left → Refines (form_row (i to)) p w s left Go (with_place u (cond b to n)) w (left - 1)
 branch_meets p w i b to n s u left h e l = went_meets p s w (i to) n (with_place u (cond b to n)) e (branches i b to n s u h) left l
 
-pub branch_tells : {M : Type 0} (follows : M → Story → List Touch → Type 0) (m : M) (p : Program) (w : World) (i : ℕ → Instr) (b : Bool) (to : ℕ) (s u : Entries) → Branches i b s u → Tells (form_row (i to)) p w s Go follows m m
+pub branch_tells : {M : Type 0} (follows : M → Trace → List Touch → Type 0) (m : M) (p : Program) (w : World) (i : ℕ → Instr) (b : Bool) (to : ℕ) (s u : Entries) → Branches i b s u → Traces (form_row (i to)) p w s Go follows m m
 branch_tells follows m p w i b to s u h = went_tells p s w (i to) (next_place p s.top.number s.top.pc) (with_place u (cond b to (next_place p s.top.number s.top.pc))) refl (branches i b to (next_place p s.top.number s.top.pc) s u h) follows m
 
 there : (p : Program) (s : Entries) (i : Instr) (w : World) → form_at p s.top.number s.top.pc ≡ Some i → IsSafe IsRow (row_here p s) w → IsSafe IsRow (row p i s) w
@@ -76,12 +76,12 @@ module _ (p : Program) (s : State) (w : World) (can : CanStep p w s) (k : s.entr
   pub row_safe : IsSafe IsRow (row_here p s.entries) w
   row_safe = safe_row p s (row_here p s.entries) w fits
 
-  pub can_glide : (i : Instr) → form_at p s.entries.top.number s.entries.top.pc ≡ Some i → CanGlide i s.entries
-  can_glide i e = by_pure p i s.entries w (is_pure (group_of i)) refl (there p s.entries i w e row_safe) ((can.space k r).room i e)
+  pub can_run : (i : Instr) → form_at p s.entries.top.number s.entries.top.pc ≡ Some i → CanRun i s.entries
+  can_run i e = by_pure p i s.entries w (is_pure (group_of i)) refl (there p s.entries i w e row_safe) ((can.space k r).room i e)
 
 -- a form that goes on, and the place of the next instruction
-pub straight_meets : (p : Program) (w : World) (i : Instr) (n : ℕ) (s u : Entries) (left : ℕ) → GoesOn i s u → next_place p s.top.number s.top.pc ≡ n → 0 < left → Meets (form_row i) p w s left Go (with_place u n) w (left - 1)
+pub straight_meets : (p : Program) (w : World) (i : Instr) (n : ℕ) (s u : Entries) (left : ℕ) → GoesOn i s u → next_place p s.top.number s.top.pc ≡ n → 0 < left → Refines (form_row i) p w s left Go (with_place u n) w (left - 1)
 straight_meets p w i n s u left h e l = went_meets p s w i n (with_place u n) e (goes i n s u h) left l
 
-pub straight_tells : {M : Type 0} (follows : M → Story → List Touch → Type 0) (m : M) (p : Program) (w : World) (i : Instr) (s u : Entries) → GoesOn i s u → Tells (form_row i) p w s Go follows m m
+pub straight_tells : {M : Type 0} (follows : M → Trace → List Touch → Type 0) (m : M) (p : Program) (w : World) (i : Instr) (s u : Entries) → GoesOn i s u → Traces (form_row i) p w s Go follows m m
 straight_tells follows m p w i s u h = went_tells p s w i (next_place p s.top.number s.top.pc) (with_place u (next_place p s.top.number s.top.pc)) refl (goes i (next_place p s.top.number s.top.pc) s u h) follows m

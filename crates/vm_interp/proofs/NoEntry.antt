@@ -21,7 +21,7 @@ use Rattle.jvm_model.specs.Raising.{handled, handler_for, row_raise}
 use Rattle.jvm_model.specs.Rows.{Answer, answer}
 use Rattle.jvm_model.specs.View.{paid, counts_one}
 use Rattle.jvm_model.proofs.Bridges.{counted_is}
-use Rattle.vm_mem.specs.Meets.{Row, Meets}
+use Rattle.vm_mem.specs.Refines.{Row, Refines}
 use Rattle.vm_interp.proofs.Leaves.{Each, each_run, each_either}
 use Rattle.vm_interp.proofs.Whole.{ended_so}
 use Rattle.vm_interp.proofs.Stepped.{answered}
@@ -94,7 +94,7 @@ paid_value : (b : Bool) (t : Access (Answer Entries)) (w : World) → (run (paid
 paid_value true t w = refl
 paid_value false t w = refl
 
-module _ (r : Row Entries) (p : Program) (w : World) (s : Entries) (left : ℕ) (x : Next) (t : Entries) (w' : World) (left' : ℕ) (h : x ≢ Over) (e : Meets r p w s left x t w' left') where
+module _ (r : Row Entries) (p : Program) (w : World) (s : Entries) (left : ℕ) (x : Next) (t : Entries) (w' : World) (left' : ℕ) (h : x ≢ Over) (e : Refines r p w s left x t w' left') where
   row_value : (run (r p s) w).value ≡ answer x t
   row_value = sym (paid_value (counts_one p x) (r p s) w)
       ∙ (ended_so (run (paid (counts_one p x) (r p s)) w) left (answer x t) w' left' (sym (counted_is (paid (counts_one p x) (r p s)) w left) ∙ e ∙ answered x t w' left' h)).value

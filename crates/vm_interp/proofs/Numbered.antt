@@ -19,9 +19,9 @@ use Rattle.jvm_model.specs.World.{World}
 use Rattle.vm_tables.specs.Numbers.{instruction, instruction_of, after_or, no_placed}
 use Rattle.vm_tables.proofs.Places.{ascending_number, form_bare, form_some, get_some, next_found, place_at, place_past}
 use Rattle.check_sound.proofs.Arrive.{has_number}
-use Rattle.vm_interp.specs.Gliding.{IsAtForm, IsIn, IsInCode, IsLeft, IsRest, Stands, StaysAt}
-use Rattle.vm_interp.specs.declared.went.Went.{Went}
-use Rattle.vm_interp.specs.declared.went.Went.TheVariants.{On, Aside, Into, By}
+use Rattle.vm_interp.specs.Dispatching.{IsAtForm, IsIn, IsInCode, IsLeft, IsRest, Stands, StaysAt}
+use Rattle.vm_interp.specs.declared.flow.Flow.{Flow}
+use Rattle.vm_interp.specs.declared.flow.Flow.TheVariants.{FallThrough, Jump, Call, Other}
 
 chosen : (b c : Bool) (o f : Option Found) → b ≡ c → (elim b as (λ _. Option Found) [ true ↦ o | false ↦ f ]) ≡ cond c o f
 chosen true c o f e = subst (λ (x : Bool). o ≡ cond x o f) e refl
@@ -108,11 +108,11 @@ stands_there p b s i h l e = record { code = h; placed = record { of = record { 
 in_code : (p : Program) (b : Body) (m : ℕ) (s : Entries) → (method_at p m).body ≡ Some b → IsIn m s → IsInCode p b s
 in_code p b m s e h = record { frame = h.frame; own = subst (λ (n : ℕ). (method_at p n).body ≡ Some b) (sym h.number) e }
 
-pub left_in : (p : Program) (b : Body) (m n : ℕ) (s : Entries) (x : Went) → (method_at p m).body ≡ Some b → IsLeft x m n s → StaysAt p b x n s
-left_in p b m n s On e h = (in_code p b m s e h.0, h.1)
-left_in p b m n s Aside e h = in_code p b m s e h
-left_in p b m n s (Into k) e h = tt
-left_in p b m n s (By y) e h = tt
+pub left_in : (p : Program) (b : Body) (m n : ℕ) (s : Entries) (x : Flow) → (method_at p m).body ≡ Some b → IsLeft x m n s → StaysAt p b x n s
+left_in p b m n s FallThrough e h = (in_code p b m s e h.0, h.1)
+left_in p b m n s Jump e h = in_code p b m s e h
+left_in p b m n s (Call k) e h = tt
+left_in p b m n s (Other y) e h = tt
 
 -- the instruction of a number stands at its place
 pub form_here : (p : Program) (m i : ℕ) (b : Body) (x : Placed) → IsBody b → (method_at p m).body ≡ Some b → Some x ≡ slice_get b.code i → form_at p m x.pc ≡ Some x.form
@@ -189,7 +189,7 @@ some_or p s w (Some i) e h = refl
 pub has_form : (p : Program) (s : Entries) (w : World) → IsSafe IsRow (row_here p s) w → IsSome (form_at p s.top.number s.top.pc)
 has_form p s w h = some_or p s w (form_at p s.top.number s.top.pc) refl h
 
-pub stands_next_to : (p : Program) (b : Body) (rest : List Placed) (s : Entries) → Linked p → IsRest b rest → StaysAt p b On (place_after (drop 1 rest) b.length) s → IsAtForm p s → Stands p b (drop 1 rest) s
+pub stands_next_to : (p : Program) (b : Body) (rest : List Placed) (s : Entries) → Linked p → IsRest b rest → StaysAt p b FallThrough (place_after (drop 1 rest) b.length) s → IsAtForm p s → Stands p b (drop 1 rest) s
 stands_next_to p b rest s linked h at some =
     let one : drop 1 rest ≡ drop (suc h.from) b.code = ap (λ (xs : List Placed). drop 1 xs) h.all ∙ drop_one b.code h.from in
     let within : suc h.from < length b.code = lt_of_not-le (λ l.

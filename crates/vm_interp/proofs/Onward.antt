@@ -20,15 +20,15 @@ use Rattle.jvm_model.specs.Step.{after_native, entered, row_here, step}
 use Rattle.jvm_model.specs.View.{counted, ended, paid, touched, IsSafe, IsTurn}
 use Rattle.jvm_model.specs.Working.{answers}
 use Rattle.jvm_model.proofs.Steps.{step_runs}
-use Rattle.vm_mem.specs.Meets.{Meets, Tells}
-use Rattle.vm_mem.specs.Story.{Story}
-use Rattle.vm_interp.specs.Gliding.{Steps, here, on, StepsOn, Advances, Rolls, EndsInit, EndsWithRow, HasObject, IsAtForm}
+use Rattle.vm_mem.specs.Refines.{Refines, Traces}
+use Rattle.vm_mem.specs.Trace.{Trace}
+use Rattle.vm_interp.specs.Dispatching.{Steps, here, on, StepsOn, RunsSlice, Dispatches, EndsInit, EndsWithRow, HasObject, IsAtForm}
 use Rattle.vm_interp.specs.Reaching.{AllSafe, HasRoomAfter}
-use Rattle.vm_interp.specs.Seen.{seen}
-use Rattle.vm_interp.specs.Turns.{after, by_row, turned}
+use Rattle.vm_interp.specs.Abs.{abs}
+use Rattle.vm_interp.specs.Turns.{after, by_row, step_outcome}
 use Rattle.vm_interp.specs.declared.state.State.{State as Kept}
-use Rattle.vm_interp.specs.declared.turned.Turned.{Turned}
-use Rattle.vm_interp.specs.declared.turned.Turned.TheVariants.{Over}
+use Rattle.vm_interp.specs.declared.step_outcome.StepOutcome.{StepOutcome}
+use Rattle.vm_interp.specs.declared.step_outcome.StepOutcome.TheVariants.{OutOfBudget}
 use Rattle.vm_interp.proofs.NoEntry.{room_then}
 use Rattle.vm_interp.proofs.Found.{fits, row_safe}
 use Rattle.vm_interp.proofs.Numbered.{has_form}
@@ -76,14 +76,14 @@ not_spent p Spent h = absurd h
 -- these entries.
 pub record IsEnded (p : Program) (s : Kept) (x : Next) (t : Entries) (n : ℕ) (v : Entries) (l : ℕ) (w : World) : Type 0 where
   pub spent : x ≢ Spent
-  pub goes : counted (after x p (record (seen s) { entries = t })) w n ≡ ended (next (record (seen s) { entries = v })) w l
-  pub still : (ts : List Touch) → touched (after x p (record (seen s) { entries = t })) w ts ≡ ts
+  pub goes : counted (after x p (record (abs s) { entries = t })) w n ≡ ended (next (record (abs s) { entries = v })) w l
+  pub still : (ts : List Touch) → touched (after x p (record (abs s) { entries = t })) w ts ≡ ts
 
 pub ended_with_row : (p : Program) (s : Kept) (x : Next) (t : Entries) (n : ℕ) (w : World) → s.raised ≡ None → EndsWithRow p x → IsEnded p s x t n t n w
 ended_with_row p s x t n w quiet h = record {
   spent = not_spent p x h;
-  goes = ap (λ (a : Access Turn). counted a w n) (after_row_ends p (record (seen s) { entries = t }) x h) ∙ ap (λ (o : Option Value). ended (next (record (seen s) { entries = t; raised = o })) w n) (sym quiet);
-  still = λ ts. ap (λ (a : Access Turn). touched a w ts) (after_row_ends p (record (seen s) { entries = t }) x h);
+  goes = ap (λ (a : Access Turn). counted a w n) (after_row_ends p (record (abs s) { entries = t }) x h) ∙ ap (λ (o : Option Value). ended (next (record (abs s) { entries = t; raised = o })) w n) (sym quiet);
+  still = λ ts. ap (λ (a : Access Turn). touched a w ts) (after_row_ends p (record (abs s) { entries = t }) x h);
 }
 
 -- the constructor of Object, over these entries
@@ -105,7 +105,7 @@ object_there p s t w m h safe = empty_or p (record s { entries = t }) w t.top.st
 
 pub ended_with_init : (p : Program) (s : Kept) (x : Next) (t : Entries) (n : ℕ) (v : Entries) (l : ℕ) (w : World) → EndsInit p x t n v l → IsEnded p s x t n v l w
 ended_with_init p s x t n v l w h =
-    let z = record (seen s) { entries = t } in
+    let z = record (abs s) { entries = t } in
     let runs : after x p z ≡ spend 1 (done (next (record z { entries = v }))) =
     ap (λ (y : Next). after y p z) h.enters ∙ init_after p z h.method h.native
     ∙ ap (λ (a : Access Turn). spend 1 a) (init_row p z h.object h.popped.top.stack (ap (λ (e : Entries). e.top.stack) h.before))
@@ -117,55 +117,55 @@ ended_with_init p s x t n v l w h =
       still = λ ts. ap (λ (a : Access Turn). touched a w ts) runs;
     }
 
-module _ {M : Type 0} (world : M → World) (follows : M → Story → List Touch → Type 0) (p q : Program) (same : q ≡ p) where
-  module _ (m0 m1 : M) (s : Kept) (left : ℕ) (x : Turned) (s' : Kept) (left' : ℕ) where
+module _ {M : Type 0} (world : M → World) (follows : M → Trace → List Touch → Type 0) (p q : Program) (same : q ≡ p) where
+  module _ (m0 m1 : M) (s : Kept) (left : ℕ) (x : StepOutcome) (s' : Kept) (left' : ℕ) where
     -- one step alone
-    pub alone : counted (step q (seen s)) (world m0) left ≡ turned x s' (world m1) left' →
-        (x ≢ Over → (h : Story) (ts : List Touch) → follows m0 h ts → follows m1 h (touched (step q (seen s)) (world m0) ts)) → Advances p world follows m0 m1 s left x s' left'
-    alone e f = subst (λ (z : Program). Advances z world follows m0 m1 s left x s' left') same
-        (record { last = seen s; there = world m0; units = left; so_far = λ ts. ts; steps = here; meets = e; told = f })
+    pub alone : counted (step q (abs s)) (world m0) left ≡ step_outcome x s' (world m1) left' →
+        (x ≢ OutOfBudget → (h : Trace) (ts : List Touch) → follows m0 h ts → follows m1 h (touched (step q (abs s)) (world m0) ts)) → RunsSlice p world follows m0 m1 s left x s' left'
+    alone e f = subst (λ (z : Program). RunsSlice z world follows m0 m1 s left x s' left') same
+        (record { last = abs s; there = world m0; units = left; so_far = λ ts. ts; steps = here; meets = e; told = f })
 
     -- what is left of the test before the last step
-    pub advanced : (t : ℕ) (v : World) (b : ℕ) (f : List Touch → List Touch) → IsRest p t v b (seen s) (world m0) left f → (a : Advances q world follows m0 m1 s left x s' left') → IsRest p t v b a.last a.there a.units (λ ts. a.so_far (f ts))
-    advanced t v b f r a = steps_rest p t v b (seen s) (world m0) left f (subst (λ (z : Program). Steps z (seen s) (world m0) left a.last a.there a.units a.so_far) same a.steps) r
+    pub advanced : (t : ℕ) (v : World) (b : ℕ) (f : List Touch → List Touch) → IsRest p t v b (abs s) (world m0) left f → (a : RunsSlice q world follows m0 m1 s left x s' left') → IsRest p t v b a.last a.there a.units (λ ts. a.so_far (f ts))
+    advanced t v b f r a = steps_rest p t v b (abs s) (world m0) left f (subst (λ (z : Program). Steps z (abs s) (world m0) left a.last a.there a.units a.so_far) same a.steps) r
 
-    pub no_more : (a : Advances q world follows m0 m1 s left x s' left') → a.units ≤ left
-    no_more a = never_more q (seen s) (world m0) left a.steps
+    pub no_more : (a : RunsSlice q world follows m0 m1 s left x s' left') → a.units ≤ left
+    no_more a = never_more q (abs s) (world m0) left a.steps
 
   -- steps so far up to these entries, in a memory that follows their touches
   module _ (m0 m1 m2 : M) (s : Kept) (quiet : s.raised ≡ None) (e : Entries) (n0 n : ℕ) (f : List Touch → List Touch)
-      (g : Steps p (seen s) (world m0) n0 (record (seen s) { entries = e }) (world m1) n f)
-      (told : (h : Story) (ts : List Touch) → follows m0 h ts → follows m1 h (f ts)) (k : e.top.kind ≡ InMethod) where
+      (g : Steps p (abs s) (world m0) n0 (record (abs s) { entries = e }) (world m1) n f)
+      (told : (h : Trace) (ts : List Touch) → follows m0 h ts → follows m1 h (f ts)) (k : e.top.kind ≡ InMethod) where
     abbrev pub at : State
-    at = record (seen s) { entries = e }
+    at = record (abs s) { entries = e }
 
     -- no unit is left
-    pub rolled_over : n ≡ 0 → (t : Entries) (n' : ℕ) → Rolls p world follows m0 m1 s n0 Spent t n'
-    rolled_over z t n' = record {
+    pub looped_over : n ≡ 0 → (t : Entries) (n' : ℕ) → Dispatches p world follows m0 m1 s n0 Spent t n'
+    looped_over z t n' = record {
       last = e;
       there = world m1;
       units = n;
       so_far = f;
       steps = g;
       frame = k;
-      meets = subst (λ (l : ℕ). Meets row_here p (world m1) e l Spent t (world m1) n') (sym z) refl;
+      meets = subst (λ (l : ℕ). Refines row_here p (world m1) e l Spent t (world m1) n') (sym z) refl;
       told = λ o h ts l. absurd (o refl);
     }
 
     -- and the row of one more
-    module _ (x : Next) (t : Entries) (n' : ℕ) (meets : Meets row_here q (world m1) e n x t (world m2) n') (tells : Tells row_here q (world m1) e x follows m1 m2) where
-      same_meets : Meets row_here p (world m1) e n x t (world m2) n'
-      same_meets = subst (λ (z : Program). Meets row_here z (world m1) e n x t (world m2) n') same meets
+    module _ (x : Next) (t : Entries) (n' : ℕ) (meets : Refines row_here q (world m1) e n x t (world m2) n') (tells : Traces row_here q (world m1) e x follows m1 m2) where
+      same_meets : Refines row_here p (world m1) e n x t (world m2) n'
+      same_meets = subst (λ (z : Program). Refines row_here z (world m1) e n x t (world m2) n') same meets
 
-      same_tells : Tells row_here p (world m1) e x follows m1 m2
-      same_tells = subst (λ (z : Program). Tells row_here z (world m1) e x follows m1 m2) same tells
+      same_tells : Traces row_here p (world m1) e x follows m1 m2
+      same_tells = subst (λ (z : Program). Traces row_here z (world m1) e x follows m1 m2) same tells
 
-      pub rolled : Rolls p world follows m0 m2 s n0 x t n'
-      rolled = record { last = e; there = world m1; units = n; so_far = f; steps = g; frame = k; meets = same_meets; told = λ o h ts l. same_tells o h (f ts) (told h ts l) }
+      pub looped : Dispatches p world follows m0 m2 s n0 x t n'
+      looped = record { last = e; there = world m1; units = n; so_far = f; steps = g; frame = k; meets = same_meets; told = λ o h ts l. same_tells o h (f ts) (told h ts l) }
 
       -- its step ends over these entries
       module _ (v : Entries) (l : ℕ) (ends : IsEnded p s x t n' v l (world m2)) where
-        row_goes : counted (step p at) (world m1) n ≡ ended (next (record (seen s) { entries = v })) (world m2) l
+        row_goes : counted (step p at) (world m1) n ≡ ended (next (record (abs s) { entries = v })) (world m2) l
         row_goes = ap (λ (a : Access Turn). counted a (world m1) n) (step_runs p at k quiet)
             ∙ row_counted row_here p (world m1) at n t (world m2) n' x ends.spent same_meets ∙ ends.goes
 
@@ -174,68 +174,68 @@ module _ {M : Type 0} (world : M → World) (follows : M → Story → List Touc
             ∙ row_touches row_here p (world m1) at n t (world m2) n' x ends.spent same_meets ts
             ∙ ends.still (touched (row_here p e) (world m1) ts)
 
-        pub row_on : Steps p (seen s) (world m0) n0 (record (seen s) { entries = v }) (world m2) l (λ ts. touched (step p at) (world m1) (f ts))
-        row_on = on at (world m1) n f (record (seen s) { entries = v }) (world m2) l g row_goes
+        pub row_on : Steps p (abs s) (world m0) n0 (record (abs s) { entries = v }) (world m2) l (λ ts. touched (step p at) (world m1) (f ts))
+        row_on = on at (world m1) n f (record (abs s) { entries = v }) (world m2) l g row_goes
 
-        pub row_told : (h : Story) (ts : List Touch) → follows m0 h ts → follows m2 h (touched (step p at) (world m1) (f ts))
+        pub row_told : (h : Trace) (ts : List Touch) → follows m0 h ts → follows m2 h (touched (step p at) (world m1) (f ts))
         row_told h ts j = subst (λ (us : List Touch). follows m2 h us) (sym (touches (f ts))) (same_tells ends.spent h (f ts) (told h ts j))
 
         -- where the test goes on in a method, an instruction stands there
-        pub row_there : StepsOn p (seen s) (world m0) n0 → IsAtForm p v
+        pub row_there : StepsOn p (abs s) (world m0) n0 → IsAtForm p v
         row_there can h = has_form p v (world m2)
-            (row_safe p (record (seen s) { entries = v }) (world m2) (can (record (seen s) { entries = v }) (world m2) l (λ ts. touched (step p at) (world m1) (f ts)) row_on) h quiet)
+            (row_safe p (record (abs s) { entries = v }) (world m2) (can (record (abs s) { entries = v }) (world m2) l (λ ts. touched (step p at) (world m1) (f ts)) row_on) h quiet)
 
         pub row_falls : l < n
-        row_falls = step_falls p at (world m1) n (next (record (seen s) { entries = v })) (world m2) l row_goes
+        row_falls = step_falls p at (world m1) n (next (record (abs s) { entries = v })) (world m2) l row_goes
 
       -- where it enters the constructor of Object, its object is there
-      pub row_object : StepsOn p (seen s) (world m0) n0 → HasObject p x t
+      pub row_object : StepsOn p (abs s) (world m0) n0 → HasObject p x t
       row_object can m e h = object_there p at t (world m2) m h (subst (λ (y : Next). IsSafe IsTurn (after y p (record at { entries = t })) (world m2)) e
           (row_fit row_here p (world m1) at n t (world m2) n' x (λ z. let bad : Enter m ≡ Spent = sym e ∙ z in cc) same_meets (fits p at (world m1) (can at (world m1) n f g) k quiet)))
 
   -- steps and a row, over which a state stands
   module _ (m0 m1 m2 : M) (s : Kept) (quiet : s.raised ≡ None) (left : ℕ) (x : Next) (z : Kept) (left1 : ℕ) (stands : z ≡ record s { frames = z.frames })
-      (can : StepsOn p (seen s) (world m0) left) (a : Rolls p world follows m0 m1 s left x z.frames left1) where
+      (can : StepsOn p (abs s) (world m0) left) (a : Dispatches p world follows m0 m1 s left x z.frames left1) where
     abbrev before : State
-    before = record (seen s) { entries = a.last }
+    before = record (abs s) { entries = a.last }
 
     runs : step p before ≡ by_row row_here p before
     runs = step_runs p before a.frame quiet
 
-    seen_is : record before { entries = z.frames } ≡ seen z
-    seen_is = sym (ap seen stands)
+    seen_is : record before { entries = z.frames } ≡ abs z
+    seen_is = sym (ap abs stands)
 
-    pub ends_over : x ≡ Spent → (s' : Kept) (left' : ℕ) → Advances p world follows m0 m1 s left Over s' left'
+    pub ends_over : x ≡ Spent → (s' : Kept) (left' : ℕ) → RunsSlice p world follows m0 m1 s left OutOfBudget s' left'
     ends_over e s' left' = record {
       last = before;
       there = a.there;
       units = a.units;
       so_far = a.so_far;
       steps = a.steps;
-      meets = ap (λ (b : Access Turn). counted b a.there a.units) runs ∙ row_over row_here p a.there before a.units z.frames (world m1) left1 (subst (λ (y : Next). Meets row_here p a.there a.last a.units y z.frames (world m1) left1) e a.meets);
+      meets = ap (λ (b : Access Turn). counted b a.there a.units) runs ∙ row_over row_here p a.there before a.units z.frames (world m1) left1 (subst (λ (y : Next). Refines row_here p a.there a.last a.units y z.frames (world m1) left1) e a.meets);
       told = λ n. absurd (n refl);
     }
 
     module _ (n : x ≢ Spent) where
-      pub rolled_fit : IsSafe IsTurn (after x q (seen z)) (world m1)
-      rolled_fit = subst (λ (u : State). IsSafe IsTurn (after x q u) (world m1)) seen_is (subst (λ (r : Program). IsSafe IsTurn (after x r (record before { entries = z.frames })) (world m1)) (sym same)
+      pub looped_fit : IsSafe IsTurn (after x q (abs z)) (world m1)
+      looped_fit = subst (λ (u : State). IsSafe IsTurn (after x q u) (world m1)) seen_is (subst (λ (r : Program). IsSafe IsTurn (after x r (record before { entries = z.frames })) (world m1)) (sym same)
           (row_fit row_here p a.there before a.units z.frames (world m1) left1 x n a.meets (fits p before a.there (can before a.there a.units a.so_far a.steps) a.frame quiet)))
 
-      pub rolled_room : HasRoomAfter x q z.frames
-      rolled_room = subst (λ (r : Program). HasRoomAfter x r z.frames) (sym same)
+      pub looped_room : HasRoomAfter x q z.frames
+      looped_room = subst (λ (r : Program). HasRoomAfter x r z.frames) (sym same)
           (room_then row_here p a.there a.last a.units x z.frames (world m1) left1 n a.meets ((can before a.there a.units a.so_far a.steps).native_space a.frame quiet))
 
-      counts : counted (step p before) a.there a.units ≡ counted (after x q (seen z)) (world m1) left1
+      counts : counted (step p before) a.there a.units ≡ counted (after x q (abs z)) (world m1) left1
       counts = ap (λ (b : Access Turn). counted b a.there a.units) runs ∙ row_counted row_here p a.there before a.units z.frames (world m1) left1 x n a.meets
-          ∙ ap (λ (u : State). counted (after x p u) (world m1) left1) seen_is ∙ ap (λ (r : Program). counted (after x r (seen z)) (world m1) left1) (sym same)
+          ∙ ap (λ (u : State). counted (after x p u) (world m1) left1) seen_is ∙ ap (λ (r : Program). counted (after x r (abs z)) (world m1) left1) (sym same)
 
-      rolled_touches : (ts : List Touch) → touched (step p before) a.there ts ≡ touched (after x q (seen z)) (world m1) (touched (row_here p a.last) a.there ts)
-      rolled_touches ts = ap (λ (b : Access Turn). touched b a.there ts) runs ∙ row_touches row_here p a.there before a.units z.frames (world m1) left1 x n a.meets ts
-          ∙ ap (λ (u : State). touched (after x p u) (world m1) (touched (row_here p a.last) a.there ts)) seen_is ∙ ap (λ (r : Program). touched (after x r (seen z)) (world m1) (touched (row_here p a.last) a.there ts)) (sym same)
+      looped_touches : (ts : List Touch) → touched (step p before) a.there ts ≡ touched (after x q (abs z)) (world m1) (touched (row_here p a.last) a.there ts)
+      looped_touches ts = ap (λ (b : Access Turn). touched b a.there ts) runs ∙ row_touches row_here p a.there before a.units z.frames (world m1) left1 x n a.meets ts
+          ∙ ap (λ (u : State). touched (after x p u) (world m1) (touched (row_here p a.last) a.there ts)) seen_is ∙ ap (λ (r : Program). touched (after x r (abs z)) (world m1) (touched (row_here p a.last) a.there ts)) (sym same)
 
       -- and what comes after the row
-      pub concluded : (y : Turned) (s' : Kept) (left' : ℕ) → counted (after x q (seen z)) (world m1) left1 ≡ turned y s' (world m2) left' →
-          (y ≢ Over → (h : Story) (ts : List Touch) → follows m1 h ts → follows m2 h (touched (after x q (seen z)) (world m1) ts)) → Advances p world follows m0 m2 s left y s' left'
+      pub concluded : (y : StepOutcome) (s' : Kept) (left' : ℕ) → counted (after x q (abs z)) (world m1) left1 ≡ step_outcome y s' (world m2) left' →
+          (y ≢ OutOfBudget → (h : Trace) (ts : List Touch) → follows m1 h ts → follows m2 h (touched (after x q (abs z)) (world m1) ts)) → RunsSlice p world follows m0 m2 s left y s' left'
       concluded y s' left' meets tells = record {
         last = before;
         there = a.there;
@@ -243,5 +243,5 @@ module _ {M : Type 0} (world : M → World) (follows : M → Story → List Touc
         so_far = a.so_far;
         steps = a.steps;
         meets = counts ∙ meets;
-        told = λ o h ts l. subst (λ (us : List Touch). follows m2 h us) (sym (rolled_touches (a.so_far ts))) (tells o h (touched (row_here p a.last) a.there (a.so_far ts)) (a.told n h ts l));
+        told = λ o h ts l. subst (λ (us : List Touch). follows m2 h us) (sym (looped_touches (a.so_far ts))) (tells o h (touched (row_here p a.last) a.there (a.so_far ts)) (a.told n h ts l));
       }

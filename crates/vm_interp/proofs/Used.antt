@@ -13,10 +13,10 @@ use Rattle.jvm_model.specs.Rows.{ready, begun, refused, begin}
 use Rattle.jvm_model.specs.State.{State, Turn, next, with_entries, test_at}
 use Rattle.jvm_model.specs.Throwing.{throws}
 use Rattle.jvm_model.specs.View.{over, ended, counted, and_then, touched, IsSafe, IsTurn, Any}
-use Rattle.vm_mem.specs.Story.{Story}
+use Rattle.vm_mem.specs.Trace.{Trace}
 use Rattle.class_init.specs.declared.uses.Use.{Use}
 use Rattle.class_init.specs.declared.uses.Use.TheVariants.{Ready, Begun, Fault, Over}
-use Rattle.class_init.specs.Uses.{MeetsUse, TellsUse}
+use Rattle.class_init.specs.Uses.{RefinesUse, TracesUse}
 use Rattle.jvm_model.proofs.Binds.{counted_bind, touched_bind, safe_begins}
 use Rattle.jvm_model.proofs.Bridges.{spent_later}
 
@@ -50,10 +50,10 @@ module _ (p : Program) (c : ℕ) (s : State) (k : Access Turn) (w : World) where
   driven_over left e = counted_bind (spend 1 (begin p c s.entries)) (once_driven p s k) w left ∙ ap (λ x. and_then x (once_driven p s k)) e
 
 -- the same of a memory before and after the use, and after the whole step
-module _ {M : Type 0} (program : M → Program) (world : M → World) (follows : M → Story → List Touch → Type 0)
+module _ {M : Type 0} (program : M → Program) (world : M → World) (follows : M → Trace → List Touch → Type 0)
     (k : Program → State → Access Turn) (c : ℕ) (m0 m1 m2 : M) (s : State) (t : Entries) (left left1 : ℕ) (u : Use)
-    (of : program m1 ≡ program m0) (meets : MeetsUse c (program m0) (world m0) s.entries left u t (world m1) left1)
-    (told : TellsUse c (program m0) (world m0) s.entries u follows m0 m1) (same : u ≢ Begun → t ≡ s.entries) where
+    (of : program m1 ≡ program m0) (meets : RefinesUse c (program m0) (world m0) s.entries left u t (world m1) left1)
+    (told : TracesUse c (program m0) (world m0) s.entries u follows m0 m1) (same : u ≢ Begun → t ≡ s.entries) where
   abbrev part : Access Turn
   part = spend 1 (bind (begin (program m0) c s.entries) (once_driven (program m0) s (k (program m0) s)))
 
@@ -66,15 +66,15 @@ module _ {M : Type 0} (program : M → Program) (world : M → World) (follows :
   refused_not : (d : ℕ) → u ≡ Fault d → u ≢ Begun
   refused_not d e h = cc
 
-  at : (y : Use) → u ≡ y → MeetsUse c (program m0) (world m0) s.entries left y t (world m1) left1
-  at y e = subst (λ (y : Use). MeetsUse c (program m0) (world m0) s.entries left y t (world m1) left1) e meets
+  at : (y : Use) → u ≡ y → RefinesUse c (program m0) (world m0) s.entries left y t (world m1) left1
+  at y e = subst (λ (y : Use). RefinesUse c (program m0) (world m0) s.entries left y t (world m1) left1) e meets
 
   pub ready_counts : u ≡ Ready → counted part (world m0) left ≡ counted (spend 1 (k (program m1) (record s { entries = t }))) (world m1) left1
   ready_counts e = driven_ready (program m0) c s (k (program m0) s) (world m0) left (world m1) left1 (at Ready e)
       ∙ ap (λ (a : Access Turn). counted (spend 1 a) (world m1) left1) (sym (moved (ready_not e) k))
 
-  pub ready_tells : u ≡ Ready → ((h : Story) (ts : List Touch) → follows m1 h ts → follows m2 h (touched (k (program m1) (record s { entries = t })) (world m1) ts)) →
-      (h : Story) (ts : List Touch) → follows m0 h ts → follows m2 h (touched part (world m0) ts)
+  pub ready_tells : u ≡ Ready → ((h : Trace) (ts : List Touch) → follows m1 h ts → follows m2 h (touched (k (program m1) (record s { entries = t })) (world m1) ts)) →
+      (h : Trace) (ts : List Touch) → follows m0 h ts → follows m2 h (touched part (world m0) ts)
   ready_tells e f h ts q = subst (λ (us : List Touch). follows m2 h us)
       (ap (λ (a : Access Turn). touched a (world m1) (touched (begin (program m0) c s.entries) (world m0) ts)) (moved (ready_not e) k)
       ∙ sym (ready_touches (program m0) c s (k (program m0) s) (world m0) left (world m1) left1 (at Ready e) ts))
@@ -83,7 +83,7 @@ module _ {M : Type 0} (program : M → Program) (world : M → World) (follows :
   pub begun_counts : u ≡ Begun → counted part (world m0) left ≡ ended (next (with_entries s t)) (world m1) left1
   begun_counts e = driven_begun (program m0) c s (k (program m0) s) (world m0) left (world m1) left1 t (at Begun e)
 
-  pub begun_tells : u ≡ Begun → (h : Story) (ts : List Touch) → follows m0 h ts → follows m1 h (touched part (world m0) ts)
+  pub begun_tells : u ≡ Begun → (h : Trace) (ts : List Touch) → follows m0 h ts → follows m1 h (touched part (world m0) ts)
   begun_tells e h ts q = subst (λ (us : List Touch). follows m1 h us)
       (sym (begun_touches (program m0) c s (k (program m0) s) (world m0) left (world m1) left1 t (at Begun e) ts)) (told (λ x. absurd (cc)) h ts q)
 
@@ -91,8 +91,8 @@ module _ {M : Type 0} (program : M → Program) (world : M → World) (follows :
   refused_counts d e = driven_refused (program m0) c s (k (program m0) s) (world m0) left (world m1) left1 d (at (Fault d) e)
       ∙ ap (λ (a : Access Turn). counted (spend 1 a) (world m1) left1) (sym (moved (refused_not d e) (λ p v. throws p d v)))
 
-  pub refused_tells : (d : ℕ) → u ≡ Fault d → ((h : Story) (ts : List Touch) → follows m1 h ts → follows m2 h (touched (throws (program m1) d (record s { entries = t })) (world m1) ts)) →
-      (h : Story) (ts : List Touch) → follows m0 h ts → follows m2 h (touched part (world m0) ts)
+  pub refused_tells : (d : ℕ) → u ≡ Fault d → ((h : Trace) (ts : List Touch) → follows m1 h ts → follows m2 h (touched (throws (program m1) d (record s { entries = t })) (world m1) ts)) →
+      (h : Trace) (ts : List Touch) → follows m0 h ts → follows m2 h (touched part (world m0) ts)
   refused_tells d e f h ts q = subst (λ (us : List Touch). follows m2 h us)
       (ap (λ (a : Access Turn). touched a (world m1) (touched (begin (program m0) c s.entries) (world m0) ts)) (moved (refused_not d e) (λ p v. throws p d v))
       ∙ sym (refused_touches (program m0) c s (k (program m0) s) (world m0) left (world m1) left1 d (at (Fault d) e) ts))

@@ -7,7 +7,7 @@ use Rattle.jvm_model.specs.declared.program.Program.{Program}
 use Rattle.jvm_model.specs.World.{World, at, put, size, make_object}
 use Rattle.jvm_model.specs.Access.{Access, done, read, write, make, spend, bind, Ran, run}
 use Rattle.jvm_model.specs.Reached.{Reaches, begins, steps}
-use Rattle.jvm_model.specs.State.{State, Turn, next, ended as judged, no_turn, started}
+use Rattle.jvm_model.specs.State.{State, Turn, next, ended as judged, stuck_turn, started}
 use Rattle.jvm_model.specs.Step.{step, turn}
 use Rattle.jvm_model.specs.Suite.{finished, after_step, whole, tree, one_test}
 use Rattle.jvm_model.specs.View.{over, ended, counted, and_then, touched, IsSafe, IsTurn, Any}
@@ -16,10 +16,10 @@ use Rattle.jvm_model.proofs.Bridges.{compared, counted_is, safe_sound}
 use Rattle.jvm_model.proofs.Budgets.{step_costs}
 use Rattle.jvm_model.proofs.Tests.{one_test_ended, one_test_over}
 use Rattle.vm_interp.specs.Reaching.{AllSafe, given_by}
-use Rattle.vm_interp.specs.Seen.{seen}
-use Rattle.vm_interp.specs.Turns.{turned, as_turned}
+use Rattle.vm_interp.specs.Abs.{abs}
+use Rattle.vm_interp.specs.Turns.{step_outcome, as_step_outcome}
 use Rattle.vm_interp.specs.declared.state.State.{State as Kept}
-use Rattle.vm_interp.specs.declared.turned.Turned.TheVariants.{Goes, Ends, Over}
+use Rattle.vm_interp.specs.declared.step_outcome.StepOutcome.TheVariants.{Running, Done, OutOfBudget}
 
 -- a run that ended under a number of units
 pub record Ended {A : Type 0} (r : Ran A) (b : ℕ) (a : A) (w : World) (left : ℕ) : Type 0 where
@@ -110,7 +110,7 @@ module _ (p : Program) (t : ℕ) (v : World) (all : AllSafe p t v) where
       (x : Turn) → turn p s w ≡ x → IsTurn x → IsSafe Any (after_step (λ z. whole p n z) x) (run (step p s) w).world
   safe_turn n f s w r (next u) e g = f u (run (step p s) w).world (steps r e)
   safe_turn n f s w r (judged x o) e g = tt
-  safe_turn n f s w r no_turn e g = absurd g
+  safe_turn n f s w r stuck_turn e g = absurd g
 
   safe_whole : (n : ℕ) (s : State) (w : World) → Reaches p t v s w → IsSafe Any (whole p n s) w
   safe_whole zero s w r = tt
@@ -132,17 +132,17 @@ gives_none p t v b s w left f r e = gives_over p t v b (over_by p t v b s w left
 
 -- A step that the code made, in the same program q, and what it answered.
 module _ (p q : Program) (same : q ≡ p) (t : ℕ) (v : World) (b : ℕ) (s : State) (w : World) (left : ℕ) (f : List Touch → List Touch) (r : IsRest p t v b s w left f)
-    (o : Option (Option Verdict)) (s' : Kept) (w' : World) (left' : ℕ) (meets : counted (step q s) w left ≡ turned (as_turned o) s' w' left') where
-  so : (y : Option (Option Verdict)) → o ≡ y → counted (step p s) w left ≡ turned (as_turned y) s' w' left'
-  so y e = ap (λ (z : Program). counted (step z s) w left) (sym same) ∙ meets ∙ ap (λ (z : Option (Option Verdict)). turned (as_turned z) s' w' left') e
+    (o : Option (Option Verdict)) (s' : Kept) (w' : World) (left' : ℕ) (meets : counted (step q s) w left ≡ step_outcome (as_step_outcome o) s' w' left') where
+  so : (y : Option (Option Verdict)) → o ≡ y → counted (step p s) w left ≡ step_outcome (as_step_outcome y) s' w' left'
+  so y e = ap (λ (z : Program). counted (step z s) w left) (sym same) ∙ meets ∙ ap (λ (z : Option (Option Verdict)). step_outcome (as_step_outcome z) s' w' left') e
 
   -- the test goes on
-  pub goes_on_rest : o ≡ None → IsRest p t v b (seen s') w' left' (λ ts. touched (step q s) w (f ts))
-  goes_on_rest e = subst (λ (z : Program). IsRest p t v b (seen s') w' left' (λ ts. touched (step z s) w (f ts))) (sym same)
-      (goes_by p t v b s w left f r.fuel r.more r.same r.reached r.touches (seen s') w' left' (so None e))
+  pub goes_on_rest : o ≡ None → IsRest p t v b (abs s') w' left' (λ ts. touched (step q s) w (f ts))
+  goes_on_rest e = subst (λ (z : Program). IsRest p t v b (abs s') w' left' (λ ts. touched (step z s) w (f ts))) (sym same)
+      (goes_by p t v b s w left f r.fuel r.more r.same r.reached r.touches (abs s') w' left' (so None e))
 
   pub goes_on_falls : o ≡ None → left' < left
-  goes_on_falls e = step_falls p s w left (next (seen s')) w' left' (so None e)
+  goes_on_falls e = step_falls p s w left (next (abs s')) w' left' (so None e)
 
   -- it ended
   gives_by : (all : AllSafe p t v) (y : Option Verdict) → o ≡ Some y → one_test p v t b ≡ given_by p t v b y s' w' left'
@@ -158,9 +158,9 @@ module _ (p q : Program) (same : q ≡ p) (t : ℕ) (v : World) (b : ℕ) (s : S
       ∙ ap (λ (z : Program). touched (step z s) w (f ts)) (sym same)
 
 -- an answer that ends the test isn't over
-pub not_over : (o : Option (Option Verdict)) (y : Option Verdict) → o ≡ Some y → IsSome y → as_turned o ≢ Over
+pub not_over : (o : Option (Option Verdict)) (y : Option Verdict) → o ≡ Some y → IsSome y → as_step_outcome o ≢ OutOfBudget
 not_over o None e h k = absurd (cc)
-not_over o (Some x) e h k = let z : Ends x ≡ Over = ap as_turned (sym e) ∙ k in cc
+not_over o (Some x) e h k = let z : Done x ≡ OutOfBudget = ap as_step_outcome (sym e) ∙ k in cc
 
-pub goes_not_over : (o : Option (Option Verdict)) → o ≡ None → as_turned o ≢ Over
-goes_not_over o e k = let z : Goes ≡ Over = ap as_turned (sym e) ∙ k in cc
+pub goes_not_over : (o : Option (Option Verdict)) → o ≡ None → as_step_outcome o ≢ OutOfBudget
+goes_not_over o e k = let z : Running ≡ OutOfBudget = ap as_step_outcome (sym e) ∙ k in cc

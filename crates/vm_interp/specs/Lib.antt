@@ -1,6 +1,6 @@
-pub mod Seen
+pub mod Abs
 pub mod Turns
 pub mod Driving
 pub mod Rows
 pub mod Reaching
-pub mod Gliding
+pub mod Dispatching

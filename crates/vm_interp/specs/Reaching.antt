@@ -20,8 +20,8 @@ use Rattle.jvm_model.specs.Step.{row_here, step}
 use Rattle.jvm_model.specs.Suite.{tree, Given}
 use Rattle.jvm_model.specs.View.{IsSafe, IsTurn, touched}
 use Rattle.vm_frames.specs.Stack.{HasRoom}
-use Rattle.vm_mem.specs.Meets.{Row}
-use Rattle.vm_mem.specs.Story.{Story}
+use Rattle.vm_mem.specs.Refines.{Row}
+use Rattle.vm_mem.specs.Trace.{Trace}
 use Rattle.check_sound.specs.ReachLaw.{puts}
 use Rattle.vm_calls.specs.Calls.{HasRoomBelow}
 use Rattle.vm_natives.specs.Rows.{growth as native_growth}
@@ -78,5 +78,5 @@ given_by p t w b (Some v) s w' left = Some (record {
 })
 
 -- where it gives something, a memory then follows its touches
-abbrev pub TellsTest : {M : Type 0} → Program → ℕ → World → ℕ → Option Verdict → (M → Story → List Touch → Type 0) → M → M → Type 0
-TellsTest p t w b v follows old new = IsSome v → (h : Story) (ts : List Touch) → follows old h ts → follows new h (touched (tree p t b) w ts)
+abbrev pub TracesTest : {M : Type 0} → Program → ℕ → World → ℕ → Option Verdict → (M → Trace → List Touch → Type 0) → M → M → Type 0
+TracesTest p t w b v follows old new = IsSome v → (h : Trace) (ts : List Touch) → follows old h ts → follows new h (touched (tree p t b) w ts)

@@ -2,7 +2,7 @@
 use Rattle.jvm_model.specs.declared.instr.Instr.{Instr}
 use Rattle.jvm_model.specs.Entries.{Entries}
 use Rattle.jvm_model.specs.Step as steps
-use Rattle.vm_mem.specs.Meets.{Row}
+use Rattle.vm_mem.specs.Refines.{Row}
 
 abbrev pub form_row : Instr → Row Entries
 form_row i p s = steps.row p i s

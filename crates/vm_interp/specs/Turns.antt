@@ -9,17 +9,17 @@ use Rattle.jvm_model.specs.Access.{Access, spend, bind}
 use Rattle.jvm_model.specs.Entries.{Entries}
 use Rattle.jvm_model.specs.Rows.{answer}
 use Rattle.jvm_model.specs.State.{State, Turn, next, ended as judged}
-use Rattle.vm_interp.specs.Seen.{seen}
+use Rattle.vm_interp.specs.Abs.{abs}
 use Rattle.vm_interp.specs.declared.state.State.{State as Kept}
 use Rattle.jvm_model.specs.Natives.{row_native}
 use Rattle.jvm_model.specs.Step.{after_native, after_row}
 use Rattle.jvm_model.specs.declared.library.Native.{Native}
 use Rattle.vm_natives.specs.Rows.{with_own}
 use Rattle.jvm_model.specs.View.{Counted, over, ended, counted, paid, counts_one, touched, IsSafe, IsTurn}
-use Rattle.vm_mem.specs.Meets.{Row}
-use Rattle.vm_mem.specs.Story.{Story}
-use Rattle.vm_interp.specs.declared.turned.Turned.{Turned}
-use Rattle.vm_interp.specs.declared.turned.Turned.TheVariants.{Goes, Ends, Over}
+use Rattle.vm_mem.specs.Refines.{Row}
+use Rattle.vm_mem.specs.Trace.{Trace}
+use Rattle.vm_interp.specs.declared.step_outcome.StepOutcome.{StepOutcome}
+use Rattle.vm_interp.specs.declared.step_outcome.StepOutcome.TheVariants.{Running, Done, OutOfBudget}
 
 -- a step or a part of one, in a program, from a test's state
 abbrev pub Part : Type 0
@@ -27,27 +27,27 @@ Part = Program → State → Access Turn
 
 -- it comes to an end, and each location that it meets is there
 abbrev pub IsFit : Part → Program → World → Kept → Type 0
-IsFit t p w s = IsSafe IsTurn (t p (seen s)) w
+IsFit t p w s = IsSafe IsTurn (t p (abs s)) w
 
 -- how it ended, where the code answered this and left these; a verdict comes with what the test printed
-abbrev pub turned : Turned → Kept → World → ℕ → Counted Turn
-turned Goes s w left = ended (next (seen s)) w left
-turned (Ends v) s w left = ended (judged v s.own.output) w left
-turned Over s w left = over
+abbrev pub step_outcome : StepOutcome → Kept → World → ℕ → Counted Turn
+step_outcome Running s w left = ended (next (abs s)) w left
+step_outcome (Done v) s w left = ended (judged v s.own.output) w left
+step_outcome OutOfBudget s w left = over
 
 -- the same where none says that the test goes on, and no verdict that the cost is above the units left
-abbrev pub as_turned : Option (Option Verdict) → Turned
-as_turned None = Goes
-as_turned (Some None) = Over
-as_turned (Some (Some v)) = Ends v
+abbrev pub as_step_outcome : Option (Option Verdict) → StepOutcome
+as_step_outcome None = Running
+as_step_outcome (Some None) = OutOfBudget
+as_step_outcome (Some (Some v)) = Done v
 
 -- the part ends as a call answered, with this state, world and units left
-abbrev pub MeetsPart : Part → Program → World → Kept → ℕ → Turned → Kept → World → ℕ → Type 0
-MeetsPart t p w s left x s' w' left' = counted (t p (seen s)) w left ≡ turned x s' w' left'
+abbrev pub RefinesPart : Part → Program → World → Kept → ℕ → StepOutcome → Kept → World → ℕ → Type 0
+RefinesPart t p w s left x s' w' left' = counted (t p (abs s)) w left ≡ step_outcome x s' w' left'
 
 -- unless its cost is above the units left, a memory then follows its touches
-abbrev pub TellsPart : {M : Type 0} → Part → Program → World → Kept → Turned → (M → Story → List Touch → Type 0) → M → M → Type 0
-TellsPart t p w s x follows old new = x ≢ Over → (h : Story) (ts : List Touch) → follows old h ts → follows new h (touched (t p (seen s)) w ts)
+abbrev pub TracesPart : {M : Type 0} → Part → Program → World → Kept → StepOutcome → (M → Trace → List Touch → Type 0) → M → M → Type 0
+TracesPart t p w s x follows old new = x ≢ OutOfBudget → (h : Trace) (ts : List Touch) → follows old h ts → follows new h (touched (t p (abs s)) w ts)
 
 -- a step that makes this row
 abbrev pub by_row : Row Entries → Part

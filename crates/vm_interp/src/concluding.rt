@@ -6,11 +6,11 @@ ghost use Rattle.jvm_model.specs.Classes.{method_at};
 ghost use Rattle.vm_interp.specs.Reaching.{HasRoomAfter};
 ghost use Rattle.vm_natives.specs.Rows.{growth};
 ghost use Rattle.vm_frames.specs.Stack.{HasRoom};
-ghost use Rattle.vm_interp.specs.Turns.{IsFit, MeetsPart, TellsPart, after, builtin_part};
+ghost use Rattle.vm_interp.specs.Turns.{IsFit, RefinesPart, TracesPart, after, builtin_part};
 
 use crate::raising::{raise_into, throw_new};
 use crate::state::State;
-use crate::turned::Turned;
+use crate::step_outcome::StepOutcome;
 use et_base::NoMemory;
 use jvm_model::{Native, Next, Program};
 use std::alloc::Global;
@@ -29,15 +29,15 @@ pub fn conclude<M: Memory>(
     tables: &Tables,
     next: Next,
     left: &mut u64,
-) -> Result<Turned, NoMemory>
+) -> Result<StepOutcome, NoMemory>
     requires program { p.now ≡ M.program memory.old }
     requires tables { tables.now ≡ M.program memory.old }
     requires room { HasRoomAfter next (M.program memory.old) state.old.frames }
     requires fit { IsFit (after next) (M.program memory.old) (M.world memory.old) state.old }
-    ensures meets { IfOk result (λ x. MeetsPart (after next)
+    ensures meets { IfOk result (λ x. RefinesPart (after next)
         (M.program memory.old) (M.world memory.old) state.old left.old
         x state.new (M.world memory.new) left.new) }
-    ensures told { IfOk result (λ x. TellsPart (after next)
+    ensures told { IfOk result (λ x. TracesPart (after next)
         (M.program memory.old) (M.world memory.old) state.old
         x M.follows memory.old memory.new) }
     ensures of { OnOk result (M.program memory.new ≡ M.program memory.old) }
@@ -51,13 +51,13 @@ pub fn conclude<M: Memory>(
         Next::Raise(thrown) => {
             state.raised = None;
             raise_into(state, thrown);
-            return Ok(Turned::Goes);
+            return Ok(StepOutcome::Running);
         }
         Next::Enter { method } => return enter(alloc, state, memory, p, tables, method, left),
         Next::Over => unreachable!(),
     }
     state.raised = None;
-    Ok(Turned::Goes)
+    Ok(StepOutcome::Running)
 }
 
 /// A method is entered: one with code has its frame already, and a built-in one runs now.
@@ -69,15 +69,15 @@ fn enter<M: Memory>(
     tables: &Tables,
     method: u32,
     left: &mut u64,
-) -> Result<Turned, NoMemory>
+) -> Result<StepOutcome, NoMemory>
     requires program { p.now ≡ M.program memory.old }
     requires tables { tables.now ≡ M.program memory.old }
     requires room { HasRoomAfter (Enter method) (M.program memory.old) state.old.frames }
     requires fit { IsFit (after (Enter method)) (M.program memory.old) (M.world memory.old) state.old }
-    ensures meets { IfOk result (λ x. MeetsPart (after (Enter method))
+    ensures meets { IfOk result (λ x. RefinesPart (after (Enter method))
         (M.program memory.old) (M.world memory.old) state.old left.old
         x state.new (M.world memory.new) left.new) }
-    ensures told { IfOk result (λ x. TellsPart (after (Enter method))
+    ensures told { IfOk result (λ x. TracesPart (after (Enter method))
         (M.program memory.old) (M.world memory.old) state.old
         x M.follows memory.old memory.new) }
     ensures of { OnOk result (M.program memory.new ≡ M.program memory.old) }
@@ -85,7 +85,7 @@ fn enter<M: Memory>(
     match native_of(p, method) {
         None => {
             state.raised = None;
-            Ok(Turned::Goes)
+            Ok(StepOutcome::Running)
         }
         Some(which) => run_builtin(alloc, state, memory, p, tables, which, left),
     }
@@ -100,16 +100,16 @@ fn run_builtin<M: Memory>(
     tables: &Tables,
     which: Native,
     left: &mut u64,
-) -> Result<Turned, NoMemory>
+) -> Result<StepOutcome, NoMemory>
     requires program { p.now ≡ M.program memory.old }
     requires tables { tables.now ≡ M.program memory.old }
     requires room { HasRoom (growth which) state.old.frames }
     requires fit { IsFit (builtin_part which)
         (M.program memory.old) (M.world memory.old) state.old }
-    ensures meets { IfOk result (λ x. MeetsPart (builtin_part which)
+    ensures meets { IfOk result (λ x. RefinesPart (builtin_part which)
         (M.program memory.old) (M.world memory.old) state.old left.old
         x state.new (M.world memory.new) left.new) }
-    ensures told { IfOk result (λ x. TellsPart (builtin_part which)
+    ensures told { IfOk result (λ x. TracesPart (builtin_part which)
         (M.program memory.old) (M.world memory.old) state.old
         x M.follows memory.old memory.new) }
     ensures of { OnOk result (M.program memory.new ≡ M.program memory.old) }
@@ -118,9 +118,9 @@ fn run_builtin<M: Memory>(
     let frames = &mut state.frames;
     let next = native(alloc, frames, memory, p, &mut state.own, which, place, left)?;
     match next {
-        Next::Go => Ok(Turned::Goes),
+        Next::Go => Ok(StepOutcome::Running),
         Next::Fault { class } => throw_new(state, memory, class, left),
-        Next::Over => Ok(Turned::Over),
+        Next::Over => Ok(StepOutcome::OutOfBudget),
         Next::Raise(_) => unreachable!(),
         Next::Enter { .. } => unreachable!(),
         Next::Leave => unreachable!(),

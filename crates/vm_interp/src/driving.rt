@@ -2,14 +2,14 @@
 
 ghost use Rattle.std.specs.Prelude.{◌≡◌, IfOk, OnOk};
 ghost use Rattle.jvm_model.specs.Entries.{no_entries};
-ghost use Rattle.vm_interp.specs.Turns.{IsFit, MeetsPart, TellsPart};
+ghost use Rattle.vm_interp.specs.Turns.{IsFit, RefinesPart, TracesPart};
 ghost use Rattle.vm_interp.specs.Driving.{call_part, make_part, static_part, object_part, first_part, init_part, method_part, set_up_part, tear_down_part, drive_part};
 
 use crate::judging::judge;
 use crate::lookup::{plain_method_in, plain_method_of};
 use crate::raising::throw_new;
 use crate::state::{State, test_entry};
-use crate::turned::Turned;
+use crate::step_outcome::StepOutcome;
 use class_init::{Use, begin_use};
 use et_base::NoMemory;
 use jvm_model::{ABSTRACT_METHOD_ERROR, Head, Kind, Program, Stage, Value};
@@ -30,13 +30,13 @@ fn call_method<M: Memory>(
     receiver: Option<Value>,
     after: Stage,
     left: &mut u64,
-) -> Result<Turned, NoMemory>
+) -> Result<StepOutcome, NoMemory>
     requires program { p.now ≡ M.program memory.old }
     requires empty { state.old.frames ≡ no_entries }
-    ensures meets { IfOk result (λ x. MeetsPart (call_part method receiver after)
+    ensures meets { IfOk result (λ x. RefinesPart (call_part method receiver after)
         (M.program memory.old) (M.world memory.old) state.old left.old
         x state.new (M.world memory.new) left.new) }
-    ensures told { IfOk result (λ x. TellsPart (call_part method receiver after)
+    ensures told { IfOk result (λ x. TracesPart (call_part method receiver after)
         (M.program memory.old) (M.world memory.old) state.old
         x M.follows memory.old memory.new) }
     ensures of { OnOk result (M.program memory.new ≡ M.program memory.old) }
@@ -51,7 +51,7 @@ fn call_method<M: Memory>(
     };
     let cost = u64::from(body.max_stack) + u64::from(body.max_locals) + 1;
     if *left < cost {
-        return Ok(Turned::Over);
+        return Ok(StepOutcome::OutOfBudget);
     }
     match state.frames.push(method, body.max_locals, receiver) {
         Ok(()) => {}
@@ -60,7 +60,7 @@ fn call_method<M: Memory>(
     }
     state.stage = after;
     *left -= cost;
-    Ok(Turned::Goes)
+    Ok(StepOutcome::Running)
 }
 
 /// Makes an object of the test's class, as `new` does. It counts 2 and 1 for each cell. Over, with nothing made, where
@@ -71,19 +71,19 @@ fn make_object<M: Memory>(
     tables: &Tables,
     class: u32,
     left: &mut u64,
-) -> Result<Turned, NoMemory>
+) -> Result<StepOutcome, NoMemory>
     requires tables { tables.now ≡ M.program memory.old }
-    ensures meets { IfOk result (λ x. MeetsPart (make_part class)
+    ensures meets { IfOk result (λ x. RefinesPart (make_part class)
         (M.program memory.old) (M.world memory.old) state.old left.old
         x state.new (M.world memory.new) left.new) }
-    ensures told { IfOk result (λ x. TellsPart (make_part class)
+    ensures told { IfOk result (λ x. TracesPart (make_part class)
         (M.program memory.old) (M.world memory.old) state.old
         x M.follows memory.old memory.new) }
     ensures of { OnOk result (M.program memory.new ≡ M.program memory.old) }
 {
     let cells = tables.cells(class) as u64;
     if *left < 2 || *left - 2 < cells {
-        return Ok(Turned::Over);
+        return Ok(StepOutcome::OutOfBudget);
     }
     let object = memory.make(Head {
         kind: Kind::Class(class),
@@ -92,7 +92,7 @@ fn make_object<M: Memory>(
     *left -= 2;
     *left -= cells;
     state.stage = Stage::Made { object };
-    Ok(Turned::Goes)
+    Ok(StepOutcome::Running)
 }
 
 /// Calls a static method alone, once its class may be used (JVMS 5.5).
@@ -104,15 +104,15 @@ fn first_static<M: Memory>(
     class: u32,
     method: u32,
     left: &mut u64,
-) -> Result<Turned, NoMemory>
+) -> Result<StepOutcome, NoMemory>
     requires program { p.now ≡ M.program memory.old }
     requires tables { tables.now ≡ M.program memory.old }
     requires empty { state.old.frames ≡ no_entries }
     requires fit { IsFit (static_part class method) (M.program memory.old) (M.world memory.old) state.old }
-    ensures meets { IfOk result (λ x. MeetsPart (static_part class method)
+    ensures meets { IfOk result (λ x. RefinesPart (static_part class method)
         (M.program memory.old) (M.world memory.old) state.old left.old
         x state.new (M.world memory.new) left.new) }
-    ensures told { IfOk result (λ x. TellsPart (static_part class method)
+    ensures told { IfOk result (λ x. TracesPart (static_part class method)
         (M.program memory.old) (M.world memory.old) state.old
         x M.follows memory.old memory.new) }
     ensures of { OnOk result (M.program memory.new ≡ M.program memory.old) }
@@ -124,10 +124,10 @@ fn first_static<M: Memory>(
         }
         Use::Begun => {
             state.raised = None;
-            Ok(Turned::Goes)
+            Ok(StepOutcome::Running)
         }
         Use::Fault { class } => throw_new(state, memory, class, left),
-        Use::Over => Ok(Turned::Over),
+        Use::Over => Ok(StepOutcome::OutOfBudget),
     }
 }
 
@@ -138,13 +138,13 @@ fn first_object<M: Memory>(
     tables: &Tables,
     class: u32,
     left: &mut u64,
-) -> Result<Turned, NoMemory>
+) -> Result<StepOutcome, NoMemory>
     requires tables { tables.now ≡ M.program memory.old }
     requires fit { IsFit (object_part class) (M.program memory.old) (M.world memory.old) state.old }
-    ensures meets { IfOk result (λ x. MeetsPart (object_part class)
+    ensures meets { IfOk result (λ x. RefinesPart (object_part class)
         (M.program memory.old) (M.world memory.old) state.old left.old
         x state.new (M.world memory.new) left.new) }
-    ensures told { IfOk result (λ x. TellsPart (object_part class)
+    ensures told { IfOk result (λ x. TracesPart (object_part class)
         (M.program memory.old) (M.world memory.old) state.old
         x M.follows memory.old memory.new) }
     ensures of { OnOk result (M.program memory.new ≡ M.program memory.old) }
@@ -153,10 +153,10 @@ fn first_object<M: Memory>(
         Use::Ready => make_object(state, memory, tables, class, left),
         Use::Begun => {
             state.raised = None;
-            Ok(Turned::Goes)
+            Ok(StepOutcome::Running)
         }
         Use::Fault { class } => throw_new(state, memory, class, left),
-        Use::Over => Ok(Turned::Over),
+        Use::Over => Ok(StepOutcome::OutOfBudget),
     }
 }
 
@@ -168,15 +168,15 @@ fn drive_first<M: Memory>(
     p: &Program,
     tables: &Tables,
     left: &mut u64,
-) -> Result<Turned, NoMemory>
+) -> Result<StepOutcome, NoMemory>
     requires program { p.now ≡ M.program memory.old }
     requires tables { tables.now ≡ M.program memory.old }
     requires empty { state.old.frames ≡ no_entries }
     requires fit { IsFit first_part (M.program memory.old) (M.world memory.old) state.old }
-    ensures meets { IfOk result (λ x. MeetsPart first_part
+    ensures meets { IfOk result (λ x. RefinesPart first_part
         (M.program memory.old) (M.world memory.old) state.old left.old
         x state.new (M.world memory.new) left.new) }
-    ensures told { IfOk result (λ x. TellsPart first_part
+    ensures told { IfOk result (λ x. TracesPart first_part
         (M.program memory.old) (M.world memory.old) state.old
         x M.follows memory.old memory.new) }
     ensures of { OnOk result (M.program memory.new ≡ M.program memory.old) }
@@ -198,14 +198,14 @@ fn drive_init<M: Memory>(
     p: &Program,
     object: u64,
     left: &mut u64,
-) -> Result<Turned, NoMemory>
+) -> Result<StepOutcome, NoMemory>
     requires program { p.now ≡ M.program memory.old }
     requires empty { state.old.frames ≡ no_entries }
     requires fit { IsFit (init_part object) (M.program memory.old) (M.world memory.old) state.old }
-    ensures meets { IfOk result (λ x. MeetsPart (init_part object)
+    ensures meets { IfOk result (λ x. RefinesPart (init_part object)
         (M.program memory.old) (M.world memory.old) state.old left.old
         x state.new (M.world memory.new) left.new) }
-    ensures told { IfOk result (λ x. TellsPart (init_part object)
+    ensures told { IfOk result (λ x. TracesPart (init_part object)
         (M.program memory.old) (M.world memory.old) state.old
         x M.follows memory.old memory.new) }
     ensures of { OnOk result (M.program memory.new ≡ M.program memory.old) }
@@ -236,13 +236,13 @@ fn drive_method<M: Memory>(
     p: &Program,
     object: u64,
     left: &mut u64,
-) -> Result<Turned, NoMemory>
+) -> Result<StepOutcome, NoMemory>
     requires program { p.now ≡ M.program memory.old }
     requires empty { state.old.frames ≡ no_entries }
-    ensures meets { IfOk result (λ x. MeetsPart (method_part object)
+    ensures meets { IfOk result (λ x. RefinesPart (method_part object)
         (M.program memory.old) (M.world memory.old) state.old left.old
         x state.new (M.world memory.new) left.new) }
-    ensures told { IfOk result (λ x. TellsPart (method_part object)
+    ensures told { IfOk result (λ x. TracesPart (method_part object)
         (M.program memory.old) (M.world memory.old) state.old
         x M.follows memory.old memory.new) }
     ensures of { OnOk result (M.program memory.new ≡ M.program memory.old) }
@@ -271,13 +271,13 @@ fn drive_set_up<M: Memory>(
     p: &Program,
     object: u64,
     left: &mut u64,
-) -> Result<Turned, NoMemory>
+) -> Result<StepOutcome, NoMemory>
     requires program { p.now ≡ M.program memory.old }
     requires empty { state.old.frames ≡ no_entries }
-    ensures meets { IfOk result (λ x. MeetsPart (set_up_part object)
+    ensures meets { IfOk result (λ x. RefinesPart (set_up_part object)
         (M.program memory.old) (M.world memory.old) state.old left.old
         x state.new (M.world memory.new) left.new) }
-    ensures told { IfOk result (λ x. TellsPart (set_up_part object)
+    ensures told { IfOk result (λ x. TracesPart (set_up_part object)
         (M.program memory.old) (M.world memory.old) state.old
         x M.follows memory.old memory.new) }
     ensures of { OnOk result (M.program memory.new ≡ M.program memory.old) }
@@ -310,14 +310,14 @@ fn drive_tear_down<M: Memory>(
     object: u64,
     thrown: Option<Value>,
     left: &mut u64,
-) -> Result<Turned, NoMemory>
+) -> Result<StepOutcome, NoMemory>
     requires program { p.now ≡ M.program memory.old }
     requires empty { state.old.frames ≡ no_entries }
     requires fit { IsFit (tear_down_part object thrown) (M.program memory.old) (M.world memory.old) state.old }
-    ensures meets { IfOk result (λ x. MeetsPart (tear_down_part object thrown)
+    ensures meets { IfOk result (λ x. RefinesPart (tear_down_part object thrown)
         (M.program memory.old) (M.world memory.old) state.old left.old
         x state.new (M.world memory.new) left.new) }
-    ensures told { IfOk result (λ x. TellsPart (tear_down_part object thrown)
+    ensures told { IfOk result (λ x. TracesPart (tear_down_part object thrown)
         (M.program memory.old) (M.world memory.old) state.old
         x M.follows memory.old memory.new) }
     ensures of { OnOk result (M.program memory.new ≡ M.program memory.old) }
@@ -351,15 +351,15 @@ pub fn drive<M: Memory>(
     p: &Program,
     tables: &Tables,
     left: &mut u64,
-) -> Result<Turned, NoMemory>
+) -> Result<StepOutcome, NoMemory>
     requires program { p.now ≡ M.program memory.old }
     requires tables { tables.now ≡ M.program memory.old }
     requires empty { state.old.frames ≡ no_entries }
     requires fit { IsFit drive_part (M.program memory.old) (M.world memory.old) state.old }
-    ensures meets { IfOk result (λ x. MeetsPart drive_part
+    ensures meets { IfOk result (λ x. RefinesPart drive_part
         (M.program memory.old) (M.world memory.old) state.old left.old
         x state.new (M.world memory.new) left.new) }
-    ensures told { IfOk result (λ x. TellsPart drive_part
+    ensures told { IfOk result (λ x. TracesPart drive_part
         (M.program memory.old) (M.world memory.old) state.old
         x M.follows memory.old memory.new) }
     ensures of { OnOk result (M.program memory.new ≡ M.program memory.old) }

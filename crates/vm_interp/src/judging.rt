@@ -7,11 +7,11 @@ ghost use Rattle.jvm_model.specs.State as states;
 ghost use Rattle.jvm_model.specs.View.{counted};
 ghost use Rattle.jvm_model.specs.World.{World};
 ghost use Rattle.vm_interp.specs.declared.state.State.{State};
-ghost use Rattle.vm_interp.specs.Turns.{IsFit, MeetsPart, TellsPart, turned};
+ghost use Rattle.vm_interp.specs.Turns.{IsFit, RefinesPart, TracesPart, step_outcome};
 ghost use Rattle.vm_interp.specs.Driving.{judge_part, judge_value_part};
 
 use crate::state::State;
-use crate::turned::Turned;
+use crate::step_outcome::StepOutcome;
 use et_base::{NoMemory, Units};
 use jvm_model::{ASSERTION_ERROR, Cause, MESSAGE, Program, Value, Verdict};
 use std::alloc::Global;
@@ -28,13 +28,13 @@ pub fn judge<M: Memory>(
     p: &Program,
     thrown: Option<Value>,
     left: &mut u64,
-) -> Result<Turned, NoMemory>
+) -> Result<StepOutcome, NoMemory>
     requires program { p.now ≡ M.program memory.old }
     requires fit { IsFit (judge_part thrown) (M.program memory.old) (M.world memory.old) state.now }
-    ensures meets { IfOk result (λ x. MeetsPart (judge_part thrown)
+    ensures meets { IfOk result (λ x. RefinesPart (judge_part thrown)
         (M.program memory.old) (M.world memory.old) state.now left.old
         x state.now (M.world memory.new) left.new) }
-    ensures told { IfOk result (λ x. TellsPart (judge_part thrown)
+    ensures told { IfOk result (λ x. TracesPart (judge_part thrown)
         (M.program memory.old) (M.world memory.old) state.now
         x M.follows memory.old memory.new) }
     ensures of { OnOk result (M.program memory.new ≡ M.program memory.old) }
@@ -43,10 +43,10 @@ pub fn judge<M: Memory>(
         Some(value) => judge_value(alloc, state, memory, p, value, left),
         None => {
             if *left == 0 {
-                return Ok(Turned::Over);
+                return Ok(StepOutcome::OutOfBudget);
             }
             *left -= 1;
-            Ok(Turned::Ends(Verdict::Passed))
+            Ok(StepOutcome::Done(Verdict::Passed))
         }
     }
 }
@@ -59,14 +59,14 @@ fn judge_value<M: Memory>(
     p: &Program,
     thrown: Value,
     left: &mut u64,
-) -> Result<Turned, NoMemory>
+) -> Result<StepOutcome, NoMemory>
     requires program { p.now ≡ M.program memory.old }
     requires fit { IsFit (judge_value_part thrown)
         (M.program memory.old) (M.world memory.old) state.now }
-    ensures meets { IfOk result (λ x. MeetsPart (judge_value_part thrown)
+    ensures meets { IfOk result (λ x. RefinesPart (judge_value_part thrown)
         (M.program memory.old) (M.world memory.old) state.now left.old
         x state.now (M.world memory.new) left.new) }
-    ensures told { IfOk result (λ x. TellsPart (judge_value_part thrown)
+    ensures told { IfOk result (λ x. TracesPart (judge_value_part thrown)
         (M.program memory.old) (M.world memory.old) state.now
         x M.follows memory.old memory.new) }
     ensures of { OnOk result (M.program memory.new ≡ M.program memory.old) }
@@ -82,10 +82,10 @@ fn judge_value<M: Memory>(
     match memory.get_field(object, MESSAGE)? {
         Value::Null => {
             if *left == 0 {
-                return Ok(Turned::Over);
+                return Ok(StepOutcome::OutOfBudget);
             }
             *left -= 1;
-            Ok(Turned::Ends(verdict_of(p, class, None)))
+            Ok(StepOutcome::Done(verdict_of(p, class, None)))
         }
         Value::Lit(number) => {
             let text = Units::from_slice(alloc, p.literal(number))?;
@@ -101,18 +101,18 @@ fn judge_value<M: Memory>(
 }
 
 /// The same by the class of a throwable and its message.
-fn judge_text(p: &Program, class: u32, text: Units, left: &mut u64) -> Turned
+fn judge_text(p: &Program, class: u32, text: Units, left: &mut u64) -> StepOutcome
     ensures { (s : State) (w : World) →
         counted (spend 1 (driver.judged_text p.now s.own.output class text)) w left.old
-        ≡ turned result s w left.new }
+        ≡ step_outcome result s w left.new }
 {
     let cost = text.len() as u64;
     if *left == 0 || *left - 1 < cost {
-        return Turned::Over;
+        return StepOutcome::OutOfBudget;
     }
     *left -= 1;
     *left -= cost;
-    Turned::Ends(verdict_of(p, class, Some(text)))
+    StepOutcome::Done(verdict_of(p, class, Some(text)))
 }
 
 /// The verdict by the class of a throwable, with its message where there is one.

@@ -2,23 +2,23 @@
 #![tactic(auto)]
 
 mod concluding;
+mod dispatching;
 mod driving;
-mod gliding;
+mod flow;
+mod hot;
 mod judging;
 mod limits;
 mod lookup;
-mod quick;
 mod raising;
 mod rows;
 mod running;
 mod state;
+mod step_outcome;
 mod stepping;
 mod straight;
-mod turned;
-mod went;
 
 pub use limits::stack_limits;
 pub use running::run_frames;
 pub use state::State;
+pub use step_outcome::StepOutcome;
 pub use stepping::step;
-pub use turned::Turned;

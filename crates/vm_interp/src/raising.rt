@@ -2,19 +2,19 @@
 
 ghost use Rattle.std.specs.Prelude.{◌≡◌, IfOk, OnOk};
 ghost use Rattle.jvm_model.specs.State as states;
-ghost use Rattle.vm_interp.specs.Seen.{seen};
-ghost use Rattle.vm_interp.specs.Turns.{MeetsPart, TellsPart};
+ghost use Rattle.vm_interp.specs.Abs.{abs};
+ghost use Rattle.vm_interp.specs.Turns.{RefinesPart, TracesPart};
 ghost use Rattle.vm_interp.specs.Driving.{throw_part};
 
 use crate::state::State;
-use crate::turned::Turned;
+use crate::step_outcome::StepOutcome;
 use et_base::NoMemory;
 use jvm_model::{EntryKind, Head, Kind, Stage, Value};
 use vm_mem::Memory;
 
 /// Raises a throwable into the top entry, or hands it to the driver where no entry is left.
 pub fn raise_into(state: &mut State, thrown: Value)
-    ensures { seen state.new ≡ states.raise thrown (seen state.old) }
+    ensures { abs state.new ≡ states.raise thrown (abs state.old) }
 {
     match state.frames.kind() {
         EntryKind::Absent => {
@@ -73,17 +73,17 @@ pub fn throw_new<M: Memory>(
     memory: &mut M,
     class: u32,
     left: &mut u64,
-) -> Result<Turned, NoMemory>
-    ensures meets { IfOk result (λ x. MeetsPart (throw_part class)
+) -> Result<StepOutcome, NoMemory>
+    ensures meets { IfOk result (λ x. RefinesPart (throw_part class)
         (M.program memory.old) (M.world memory.old) state.old left.old
         x state.new (M.world memory.new) left.new) }
-    ensures told { IfOk result (λ x. TellsPart (throw_part class)
+    ensures told { IfOk result (λ x. TracesPart (throw_part class)
         (M.program memory.old) (M.world memory.old) state.old
         x M.follows memory.old memory.new) }
     ensures of { OnOk result (M.program memory.new ≡ M.program memory.old) }
 {
     if *left < 3 {
-        return Ok(Turned::Over);
+        return Ok(StepOutcome::OutOfBudget);
     }
     let object = memory.make(Head {
         kind: Kind::Class(class),
@@ -91,5 +91,5 @@ pub fn throw_new<M: Memory>(
     })?;
     raise_into(state, Value::Obj(object));
     *left -= 3;
-    Ok(Turned::Goes)
+    Ok(StepOutcome::Running)
 }

@@ -5,7 +5,7 @@ ghost use Rattle.jvm_model.specs.declared.instr.Instr.TheVariants as form;
 ghost use Rattle.jvm_model.specs.Step as steps;
 ghost use Rattle.vm_frames.specs.Stack.{HasRoom};
 ghost use Rattle.vm_arith.specs.Pure.{TouchesNothing};
-ghost use Rattle.vm_mem.specs.Meets.{IsReady, IsNext, Meets, Tells};
+ghost use Rattle.vm_mem.specs.Refines.{IsReady, IsNext, Refines, Traces};
 ghost use Rattle.vm_calls.specs.Calls.{return_row};
 ghost use Rattle.check_sound.specs.ReachLaw.{puts};
 ghost use Rattle.vm_interp.specs.Reaching.{HasPlaceBelow, HasSpace};
@@ -39,10 +39,10 @@ pub fn row_here<M: Memory>(
     requires selections { selections.old ≡ M.program memory.old }
     requires space { HasSpace (M.program memory.old) stack.old }
     requires row { IsReady steps.row_here (M.program memory.old) (M.world memory.old) stack.old }
-    ensures meets { IfOk result (λ x. Meets steps.row_here
+    ensures meets { IfOk result (λ x. Refines steps.row_here
         (M.program memory.old) (M.world memory.old) stack.old left.old
         x stack.new (M.world memory.new) left.new) }
-    ensures told { IfOk result (λ x. Tells steps.row_here
+    ensures told { IfOk result (λ x. Traces steps.row_here
         (M.program memory.old) (M.world memory.old) stack.old
         x M.follows memory.old memory.new) }
     ensures of { OnOk result (M.program memory.new ≡ M.program memory.old) }
@@ -82,10 +82,10 @@ pub fn row_of<M: Memory>(
     requires below { HasPlaceBelow form.now stack.old }
     requires row { IsReady (form_row form.now)
         (M.program memory.old) (M.world memory.old) stack.old }
-    ensures meets { IfOk result (λ x. Meets (form_row form.now)
+    ensures meets { IfOk result (λ x. Refines (form_row form.now)
         (M.program memory.old) (M.world memory.old) stack.old left.old
         x stack.new (M.world memory.new) left.new) }
-    ensures told { IfOk result (λ x. Tells (form_row form.now)
+    ensures told { IfOk result (λ x. Traces (form_row form.now)
         (M.program memory.old) (M.world memory.old) stack.old
         x M.follows memory.old memory.new) }
     ensures of { OnOk result (M.program memory.new ≡ M.program memory.old) }
@@ -139,10 +139,10 @@ fn quiet_row<M: Memory>(
     requires room { HasRoom (puts form.now) stack.old }
     requires row { IsReady (form_row form.now)
         (M.program _memory.old) (M.world _memory.old) stack.old }
-    ensures meets { IfOk result (λ x. Meets (form_row form.now)
+    ensures meets { IfOk result (λ x. Refines (form_row form.now)
         (M.program _memory.old) (M.world _memory.old) stack.old left.old
         x stack.new (M.world _memory.new) left.new) }
-    ensures told { IfOk result (λ x. Tells (form_row form.now)
+    ensures told { IfOk result (λ x. Traces (form_row form.now)
         (M.program _memory.old) (M.world _memory.old) stack.old
         x M.follows _memory.old _memory.new) }
     ensures of { OnOk result (M.program _memory.new ≡ M.program _memory.old) }
@@ -162,10 +162,10 @@ pub fn return_nothing<M: Memory>(
     left: &mut u64,
 ) -> Result<Next, NoMemory>
     requires tables { tables.now ≡ M.program _memory.old }
-    ensures meets { IfOk result (λ x. Meets (return_row (form.Return None))
+    ensures meets { IfOk result (λ x. Refines (return_row (form.Return None))
         (M.program _memory.old) (M.world _memory.old) stack.old left.old
         x stack.new (M.world _memory.new) left.new) }
-    ensures told { IfOk result (λ x. Tells (return_row (form.Return None))
+    ensures told { IfOk result (λ x. Traces (return_row (form.Return None))
         (M.program _memory.old) (M.world _memory.old) stack.old
         x M.follows _memory.old _memory.new) }
     ensures of { OnOk result (M.program _memory.new ≡ M.program _memory.old) }
@@ -195,10 +195,10 @@ fn throw_top<M: Memory>(
     left: &mut u64,
 ) -> Result<Next, NoMemory>
     requires row { IsReady throw_row (M.program _memory.old) (M.world _memory.old) stack.old }
-    ensures meets { IfOk result (λ x. Meets throw_row
+    ensures meets { IfOk result (λ x. Refines throw_row
         (M.program _memory.old) (M.world _memory.old) stack.old left.old
         x stack.new (M.world _memory.new) left.new) }
-    ensures told { IfOk result (λ x. Tells throw_row
+    ensures told { IfOk result (λ x. Traces throw_row
         (M.program _memory.old) (M.world _memory.old) stack.old
         x M.follows _memory.old _memory.new) }
     ensures of { OnOk result (M.program _memory.new ≡ M.program _memory.old) }

@@ -7,10 +7,10 @@ ghost use Rattle.jvm_model.specs.Suite.{one_test};
 ghost use Rattle.type_frames.specs.Typing.{IsTyped};
 ghost use Rattle.type_frames.specs.TypedState.{TypedWorld};
 ghost use Rattle.check_sound.specs.ReachLaw.{HasStackLimits};
-ghost use Rattle.vm_interp.specs.Reaching.{AllSafe, TellsTest, given_by};
-ghost use Rattle.vm_interp.specs.Seen.{seen};
+ghost use Rattle.vm_interp.specs.Reaching.{AllSafe, TracesTest, given_by};
+ghost use Rattle.vm_interp.specs.Abs.{abs};
 
-use crate::gliding::advance;
+use crate::dispatching::run_slice;
 use crate::state::State;
 use check_sound::{reach_law, step_law};
 use et_base::NoMemory;
@@ -40,12 +40,12 @@ pub fn run_frames<M: Memory>(
     requires typed { TypedWorld (M.program memory.old) (M.world memory.old) }
     requires low { 0 < state.old.test }
     requires high { state.old.test ≤ length (M.program memory.old).tests }
-    requires start { seen state.old ≡ started (M.program memory.old) state.old.test }
+    requires start { abs state.old ≡ started (M.program memory.old) state.old.test }
     ensures gives { IfOk result (λ v. one_test
         (M.program memory.old) (M.world memory.old) state.old.test left.old
         ≡ given_by (M.program memory.old) state.old.test (M.world memory.old) left.old
         v state.new (M.world memory.new) left.new) }
-    ensures told { IfOk result (λ v. TellsTest
+    ensures told { IfOk result (λ v. TracesTest
         (M.program memory.old) state.old.test (M.world memory.old) left.old
         v M.follows memory.old memory.new) }
     ensures left { IfOk result (λ v. IfSome v (λ x.
@@ -72,20 +72,20 @@ fn run_safe<M: Memory>(
     requires tables { tables.now ≡ M.program memory.old }
     requires selections { selections.old ≡ M.program memory.old }
     requires linked { Linked (M.program memory.old) }
-    requires start { seen state.old ≡ started (M.program memory.old) state.old.test }
+    requires start { abs state.old ≡ started (M.program memory.old) state.old.test }
     requires safe { AllSafe (M.program memory.old) state.old.test (M.world memory.old) }
     ensures gives { IfOk result (λ v. one_test
         (M.program memory.old) (M.world memory.old) state.old.test left.old
         ≡ given_by (M.program memory.old) state.old.test (M.world memory.old) left.old
         v state.new (M.world memory.new) left.new) }
-    ensures told { IfOk result (λ v. TellsTest
+    ensures told { IfOk result (λ v. TracesTest
         (M.program memory.old) state.old.test (M.world memory.old) left.old
         v M.follows memory.old memory.new) }
     ensures of { OnOk result (M.program memory.new ≡ M.program memory.old) }
     ensures kept { selections.new ≡ selections.old }
 {
     while *left > 0 {
-        if let Some(end) = advance(alloc, state, memory, p, tables, selections, left)? {
+        if let Some(end) = run_slice(alloc, state, memory, p, tables, selections, left)? {
             return Ok(end);
         }
     }

@@ -2,7 +2,7 @@
 
 ghost use Rattle.std.specs.Prelude.{◌≡◌, IfOk};
 ghost use Rattle.jvm_model.specs.State as states;
-ghost use Rattle.vm_interp.specs.Seen.{seen};
+ghost use Rattle.vm_interp.specs.Abs.{abs};
 
 use et_base::{NoMemory, Text};
 use jvm_model::{Own, Program, Stage, TestEntry, Value};
@@ -23,7 +23,7 @@ pub struct State {
 impl State {
     /// The state in which a test starts: no entries, and nothing printed.
     pub fn start(alloc: Global, p: &Program, test: u32) -> Result<State, NoMemory>
-        ensures { IfOk result (λ s. seen s ≡ states.started p.now test) }
+        ensures { IfOk result (λ s. abs s ≡ states.started p.now test) }
     {
         let entry = test_entry(p, test);
         Ok(State {

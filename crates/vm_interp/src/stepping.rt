@@ -10,14 +10,14 @@ ghost use Rattle.type_frames.specs.Typing.{IsTyped};
 ghost use Rattle.type_frames.specs.TypedState.{TypedState};
 ghost use Rattle.check_sound.specs.ReachLaw.{HasStackLimits};
 ghost use Rattle.vm_interp.specs.Reaching.{CanStep, HasNativeSpace, HasSpace};
-ghost use Rattle.vm_interp.specs.Seen.{seen};
-ghost use Rattle.vm_interp.specs.Turns.{IsFit, MeetsPart, TellsPart, by_row};
+ghost use Rattle.vm_interp.specs.Abs.{abs};
+ghost use Rattle.vm_interp.specs.Turns.{IsFit, RefinesPart, TracesPart, by_row};
 
 use crate::concluding::conclude;
 use crate::driving::drive;
 use crate::rows::row_here;
 use crate::state::State;
-use crate::turned::Turned;
+use crate::step_outcome::StepOutcome;
 use check_sound::{reach_law, step_law};
 use class_init::{fail, finish};
 use et_base::NoMemory;
@@ -37,7 +37,7 @@ fn run_step<M: Memory>(
     tables: &Tables,
     selections: &mut Selections,
     left: &mut u64,
-) -> Result<Turned, NoMemory>
+) -> Result<StepOutcome, NoMemory>
     requires program { p.now ≡ M.program memory.old }
     requires tables { tables.now ≡ M.program memory.old }
     requires selections { selections.old ≡ M.program memory.old }
@@ -45,10 +45,10 @@ fn run_step<M: Memory>(
     requires native_space { HasNativeSpace steps.row_here
         (M.program memory.old) (M.world memory.old) state.old.frames }
     requires fit { IsFit (by_row steps.row_here) (M.program memory.old) (M.world memory.old) state.old }
-    ensures meets { IfOk result (λ x. MeetsPart (by_row steps.row_here)
+    ensures meets { IfOk result (λ x. RefinesPart (by_row steps.row_here)
         (M.program memory.old) (M.world memory.old) state.old left.old
         x state.new (M.world memory.new) left.new) }
-    ensures told { IfOk result (λ x. TellsPart (by_row steps.row_here)
+    ensures told { IfOk result (λ x. TracesPart (by_row steps.row_here)
         (M.program memory.old) (M.world memory.old) state.old
         x M.follows memory.old memory.new) }
     ensures of { OnOk result (M.program memory.new ≡ M.program memory.old) }
@@ -64,7 +64,7 @@ fn run_step<M: Memory>(
         left,
     )?;
     if let Next::Over = next {
-        return Ok(Turned::Over);
+        return Ok(StepOutcome::OutOfBudget);
     }
     conclude(alloc, state, memory, p, tables, next, left)
 }
@@ -77,21 +77,21 @@ fn finish_step<M: Memory>(
     p: &Program,
     tables: &Tables,
     left: &mut u64,
-) -> Result<Turned, NoMemory>
+) -> Result<StepOutcome, NoMemory>
     requires program { p.now ≡ M.program memory.old }
     requires tables { tables.now ≡ M.program memory.old }
     requires fit { IsFit (by_row row_finish) (M.program memory.old) (M.world memory.old) state.old }
-    ensures meets { IfOk result (λ x. MeetsPart (by_row row_finish)
+    ensures meets { IfOk result (λ x. RefinesPart (by_row row_finish)
         (M.program memory.old) (M.world memory.old) state.old left.old
         x state.new (M.world memory.new) left.new) }
-    ensures told { IfOk result (λ x. TellsPart (by_row row_finish)
+    ensures told { IfOk result (λ x. TracesPart (by_row row_finish)
         (M.program memory.old) (M.world memory.old) state.old
         x M.follows memory.old memory.new) }
     ensures of { OnOk result (M.program memory.new ≡ M.program memory.old) }
 {
     let next = finish(&mut state.frames, memory, p, tables, left)?;
     if let Next::Over = next {
-        return Ok(Turned::Over);
+        return Ok(StepOutcome::OutOfBudget);
     }
     conclude(alloc, state, memory, p, tables, next, left)
 }
@@ -105,21 +105,21 @@ fn fail_step<M: Memory>(
     tables: &Tables,
     thrown: Value,
     left: &mut u64,
-) -> Result<Turned, NoMemory>
+) -> Result<StepOutcome, NoMemory>
     requires program { p.now ≡ M.program memory.old }
     requires tables { tables.now ≡ M.program memory.old }
     requires fit { IsFit (by_row (fail_row thrown)) (M.program memory.old) (M.world memory.old) state.old }
-    ensures meets { IfOk result (λ x. MeetsPart (by_row (fail_row thrown))
+    ensures meets { IfOk result (λ x. RefinesPart (by_row (fail_row thrown))
         (M.program memory.old) (M.world memory.old) state.old left.old
         x state.new (M.world memory.new) left.new) }
-    ensures told { IfOk result (λ x. TellsPart (by_row (fail_row thrown))
+    ensures told { IfOk result (λ x. TracesPart (by_row (fail_row thrown))
         (M.program memory.old) (M.world memory.old) state.old
         x M.follows memory.old memory.new) }
     ensures of { OnOk result (M.program memory.new ≡ M.program memory.old) }
 {
     let next = fail(&mut state.frames, memory, p, thrown, left)?;
     if let Next::Over = next {
-        return Ok(Turned::Over);
+        return Ok(StepOutcome::OutOfBudget);
     }
     conclude(alloc, state, memory, p, tables, next, left)
 }
@@ -133,22 +133,22 @@ fn raise_step<M: Memory>(
     tables: &Tables,
     thrown: Value,
     left: &mut u64,
-) -> Result<Turned, NoMemory>
+) -> Result<StepOutcome, NoMemory>
     requires program { p.now ≡ M.program memory.old }
     requires tables { tables.now ≡ M.program memory.old }
     requires frame { state.old.frames.top.kind ≡ InMethod }
     requires fit { IsFit (by_row (raise_row thrown)) (M.program memory.old) (M.world memory.old) state.old }
-    ensures meets { IfOk result (λ x. MeetsPart (by_row (raise_row thrown))
+    ensures meets { IfOk result (λ x. RefinesPart (by_row (raise_row thrown))
         (M.program memory.old) (M.world memory.old) state.old left.old
         x state.new (M.world memory.new) left.new) }
-    ensures told { IfOk result (λ x. TellsPart (by_row (raise_row thrown))
+    ensures told { IfOk result (λ x. TracesPart (by_row (raise_row thrown))
         (M.program memory.old) (M.world memory.old) state.old
         x M.follows memory.old memory.new) }
     ensures of { OnOk result (M.program memory.new ≡ M.program memory.old) }
 {
     let next = raise(&mut state.frames, memory, p, thrown, left)?;
     if let Next::Over = next {
-        return Ok(Turned::Over);
+        return Ok(StepOutcome::OutOfBudget);
     }
     conclude(alloc, state, memory, p, tables, next, left)
 }
@@ -164,17 +164,17 @@ pub fn step<M: Memory>(
     tables: &Tables,
     selections: &mut Selections,
     left: &mut u64,
-) -> Result<Turned, NoMemory>
+) -> Result<StepOutcome, NoMemory>
     requires program { p.now ≡ M.program memory.old }
     requires tables { tables.now ≡ M.program memory.old }
     requires selections { selections.old ≡ M.program memory.old }
     requires checked { IsTyped (M.program memory.old) }
     requires limits { HasStackLimits (M.program memory.old) }
-    requires typed { TypedState (M.program memory.old) (M.world memory.old) (seen state.old) }
-    ensures meets { IfOk result (λ x. MeetsPart steps.step
+    requires typed { TypedState (M.program memory.old) (M.world memory.old) (abs state.old) }
+    ensures meets { IfOk result (λ x. RefinesPart steps.step
         (M.program memory.old) (M.world memory.old) state.old left.old
         x state.new (M.world memory.new) left.new) }
-    ensures told { IfOk result (λ x. TellsPart steps.step
+    ensures told { IfOk result (λ x. TracesPart steps.step
         (M.program memory.old) (M.world memory.old) state.old
         x M.follows memory.old memory.new) }
     ensures of { OnOk result (M.program memory.new ≡ M.program memory.old) }
@@ -196,15 +196,15 @@ pub fn step_safe<M: Memory>(
     tables: &Tables,
     selections: &mut Selections,
     left: &mut u64,
-) -> Result<Turned, NoMemory>
+) -> Result<StepOutcome, NoMemory>
     requires program { p.now ≡ M.program memory.old }
     requires tables { tables.now ≡ M.program memory.old }
     requires selections { selections.old ≡ M.program memory.old }
-    requires can { CanStep (M.program memory.old) (M.world memory.old) (seen state.old) }
-    ensures meets { IfOk result (λ x. MeetsPart steps.step
+    requires can { CanStep (M.program memory.old) (M.world memory.old) (abs state.old) }
+    ensures meets { IfOk result (λ x. RefinesPart steps.step
         (M.program memory.old) (M.world memory.old) state.old left.old
         x state.new (M.world memory.new) left.new) }
-    ensures told { IfOk result (λ x. TellsPart steps.step
+    ensures told { IfOk result (λ x. TracesPart steps.step
         (M.program memory.old) (M.world memory.old) state.old
         x M.follows memory.old memory.new) }
     ensures of { OnOk result (M.program memory.new ≡ M.program memory.old) }

@@ -1,5 +1,5 @@
-pub mod Story
-pub mod Meets
+pub mod Trace
+pub mod Refines
 pub mod Stores
 pub mod Kept
 pub mod Noting

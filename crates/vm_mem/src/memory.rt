@@ -9,7 +9,7 @@ ghost use Rattle.jvm_model.specs.Classes.{blank};
 ghost use Rattle.jvm_model.specs.declared.program.Program.{Program};
 ghost use Rattle.jvm_model.specs.declared.values.Touch.{Touch};
 ghost use Rattle.jvm_model.specs.declared.values.Location.TheVariants as place;
-ghost use Rattle.vm_mem.specs.Story.{Story, Adds, next_test};
+ghost use Rattle.vm_mem.specs.Trace.{Trace, Extends, next_test};
 ghost use Rattle.vm_mem.specs.Stores.{place_in, found_in, put_in};
 
 use et_base::{NoMemory, Units};
@@ -28,13 +28,13 @@ pub trait Memory {
     ghost world: { Self → World };
 
     /// It follows these tests, of which the one that runs made these touches.
-    ghost follows: { Self → Story → List Touch → Type 0 };
+    ghost follows: { Self → Trace → List Touch → Type 0 };
 
     /// Another test begins.
     fn begin_test(&mut self, test: u32) -> Result<(), NoMemory>
         ensures of { OnOk result (program self.new ≡ program self.old) }
         ensures kept { OnOk result (world self.new ≡ world self.old) }
-        ensures told { OnOk result ((h : Story) (ts : List Touch) → follows self.old h ts → follows self.new (next_test h ts test) []) };
+        ensures told { OnOk result ((h : Trace) (ts : List Touch) → follows self.old h ts → follows self.new (next_test h ts test) []) };
 
     /// The value of a static.
     fn get_static(&mut self, field: u32) -> Result<Value, NoMemory>
@@ -42,14 +42,14 @@ pub trait Memory {
         ensures gives { IfOk result (λ v. v ≡ at (world self.old) (place.Static field)) }
         ensures of { OnOk result (program self.new ≡ program self.old) }
         ensures kept { OnOk result (world self.new ≡ world self.old) }
-        ensures told { IfOk result (λ v. Adds follows self.old self.new (read_of (place.Static field) v ∷ [])) };
+        ensures told { IfOk result (λ v. Extends follows self.old self.new (read_of (place.Static field) v ∷ [])) };
 
     /// Gives a static another value.
     fn put_static(&mut self, field: u32, v: Value) -> Result<(), NoMemory>
         requires { Exists (world self.old) (place.Static field) }
         ensures of { OnOk result (program self.new ≡ program self.old) }
         ensures set { OnOk result (world self.new ≡ put (world self.old) (place.Static field) v) }
-        ensures told { OnOk result (Adds follows self.old self.new (write_of (place.Static field) ∷ [])) };
+        ensures told { OnOk result (Extends follows self.old self.new (write_of (place.Static field) ∷ [])) };
 
     /// How far a class is initialised.
     fn get_init(&mut self, class: u32) -> Result<InitState, NoMemory>
@@ -57,14 +57,14 @@ pub trait Memory {
         ensures gives { IfOk result (λ s. s ≡ at (world self.old) (place.Init class)) }
         ensures of { OnOk result (program self.new ≡ program self.old) }
         ensures kept { OnOk result (world self.new ≡ world self.old) }
-        ensures told { IfOk result (λ s. Adds follows self.old self.new (read_of (place.Init class) s ∷ [])) };
+        ensures told { IfOk result (λ s. Extends follows self.old self.new (read_of (place.Init class) s ∷ [])) };
 
     /// Notes how far a class is initialised.
     fn put_init(&mut self, class: u32, s: InitState) -> Result<(), NoMemory>
         requires { Exists (world self.old) (place.Init class) }
         ensures of { OnOk result (program self.new ≡ program self.old) }
         ensures set { OnOk result (world self.new ≡ put (world self.old) (place.Init class) s) }
-        ensures told { OnOk result (Adds follows self.old self.new (write_of (place.Init class) ∷ [])) };
+        ensures told { OnOk result (Extends follows self.old self.new (write_of (place.Init class) ∷ [])) };
 
     /// The head of an object.
     fn head(&mut self, object: u64) -> Result<Head, NoMemory>
@@ -72,7 +72,7 @@ pub trait Memory {
         ensures gives { IfOk result (λ x. x ≡ at (world self.old) (place.Head object)) }
         ensures of { OnOk result (program self.new ≡ program self.old) }
         ensures kept { OnOk result (world self.new ≡ world self.old) }
-        ensures told { IfOk result (λ x. Adds follows self.old self.new (read_of (place.Head object) x ∷ [])) };
+        ensures told { IfOk result (λ x. Extends follows self.old self.new (read_of (place.Head object) x ∷ [])) };
 
     /// The value of an object's field.
     fn get_field(&mut self, object: u64, field: u32) -> Result<Value, NoMemory>
@@ -80,14 +80,14 @@ pub trait Memory {
         ensures gives { IfOk result (λ v. v ≡ at (world self.old) (place.Field object field)) }
         ensures of { OnOk result (program self.new ≡ program self.old) }
         ensures kept { OnOk result (world self.new ≡ world self.old) }
-        ensures told { IfOk result (λ v. Adds follows self.old self.new (read_of (place.Field object field) v ∷ [])) };
+        ensures told { IfOk result (λ v. Extends follows self.old self.new (read_of (place.Field object field) v ∷ [])) };
 
     /// Gives an object's field another value.
     fn put_field(&mut self, object: u64, field: u32, v: Value) -> Result<(), NoMemory>
         requires { Exists (world self.old) (place.Field object field) }
         ensures of { OnOk result (program self.new ≡ program self.old) }
         ensures set { OnOk result (world self.new ≡ put (world self.old) (place.Field object field) v) }
-        ensures told { OnOk result (Adds follows self.old self.new (write_of (place.Field object field) ∷ [])) };
+        ensures told { OnOk result (Extends follows self.old self.new (write_of (place.Field object field) ∷ [])) };
 
     /// The value of an array's element.
     fn get_elem(&mut self, object: u64, index: u32) -> Result<Value, NoMemory>
@@ -95,27 +95,27 @@ pub trait Memory {
         ensures gives { IfOk result (λ v. v ≡ at (world self.old) (place.Elem object index)) }
         ensures of { OnOk result (program self.new ≡ program self.old) }
         ensures kept { OnOk result (world self.new ≡ world self.old) }
-        ensures told { IfOk result (λ v. Adds follows self.old self.new (read_of (place.Elem object index) v ∷ [])) };
+        ensures told { IfOk result (λ v. Extends follows self.old self.new (read_of (place.Elem object index) v ∷ [])) };
 
     /// Gives an array's element another value.
     fn put_elem(&mut self, object: u64, index: u32, v: Value) -> Result<(), NoMemory>
         requires { Exists (world self.old) (place.Elem object index) }
         ensures of { OnOk result (program self.new ≡ program self.old) }
         ensures set { OnOk result (world self.new ≡ put (world self.old) (place.Elem object index) v) }
-        ensures told { OnOk result (Adds follows self.old self.new (write_of (place.Elem object index) ∷ [])) };
+        ensures told { OnOk result (Extends follows self.old self.new (write_of (place.Elem object index) ∷ [])) };
 
     /// The text of a string or string builder, empty until one was written.
     fn get_text(&mut self, object: u64) -> Result<&Units, NoMemory>
         requires { Exists (world self.old) (place.Text object) }
         ensures gives { IfOk result (λ t. t.now ≡ at (world self.old) (place.Text object)) }
-        ensures* told { sem 𝓛 (follows_so Self.row Self.row self.entry.ghost_name none (λ _ _. ⊤) (λ new. OnOk result ((program new ≡ program self.old) × (world new ≡ world self.old) × Adds follows self.old new (read_of (place.Text object) (at (world self.old) (place.Text object)) ∷ [])))) };
+        ensures* told { sem 𝓛 (follows_so Self.row Self.row self.entry.ghost_name none (λ _ _. ⊤) (λ new. OnOk result ((program new ≡ program self.old) × (world new ≡ world self.old) × Extends follows self.old new (read_of (place.Text object) (at (world self.old) (place.Text object)) ∷ [])))) };
 
     /// Writes the text of a string or string builder.
     fn put_text(&mut self, object: u64, u: Units) -> Result<(), NoMemory>
         requires { Exists (world self.old) (place.Text object) }
         ensures of { OnOk result (program self.new ≡ program self.old) }
         ensures set { OnOk result (world self.new ≡ put (world self.old) (place.Text object) u) }
-        ensures told { OnOk result (Adds follows self.old self.new (write_of (place.Text object) ∷ [])) };
+        ensures told { OnOk result (Extends follows self.old self.new (write_of (place.Text object) ∷ [])) };
 
     /// Writes these units behind the text of a string or string builder.
     fn append_text(&mut self, object: u64, more: &[u16]) -> Result<(), NoMemory>
@@ -123,23 +123,23 @@ pub trait Memory {
         ensures of { OnOk result (program self.new ≡ program self.old) }
         ensures set { OnOk result (world self.new ≡ put (world self.old) (place.Text object)
             (at (world self.old) (place.Text object) ++ more.now)) }
-        ensures told { OnOk result (Adds follows self.old self.new (write_of (place.Text object) ∷ [])) };
+        ensures told { OnOk result (Extends follows self.old self.new (write_of (place.Text object) ∷ [])) };
 
     /// The text of a file or property; none where there is none.
     fn get_store(&mut self, part: Part, name: &Units) -> Result<Option<&Units>, NoMemory>
         ensures gives { IfOk result (λ o. MatchOption o (found_in part (world self.old) name.now ≡ None) (λ t. found_in part (world self.old) name.now ≡ Some t.now)) }
-        ensures* told { sem 𝓛 (follows_so Self.row Self.row self.entry.ghost_name none (λ _ _. ⊤) (λ new. OnOk result ((program new ≡ program self.old) × (world new ≡ world self.old) × Adds follows self.old new (record { write = false; location = place_in part name.now; gave = None } ∷ [])))) };
+        ensures* told { sem 𝓛 (follows_so Self.row Self.row self.entry.ghost_name none (λ _ _. ⊤) (λ new. OnOk result ((program new ≡ program self.old) × (world new ≡ world self.old) × Extends follows self.old new (record { write = false; location = place_in part name.now; gave = None } ∷ [])))) };
 
     /// Writes a file or property; `None` takes it away.
     fn put_store(&mut self, part: Part, name: Units, content: Option<Units>) -> Result<(), NoMemory>
         ensures of { OnOk result (program self.new ≡ program self.old) }
         ensures set { OnOk result (world self.new ≡ put_in part (world self.old) name content) }
-        ensures told { OnOk result (Adds follows self.old self.new (write_of (place_in part name) ∷ [])) };
+        ensures told { OnOk result (Extends follows self.old self.new (write_of (place_in part name) ∷ [])) };
 
     /// Makes a new object of a class or array type, with default cells and no text, and answers its place.
     fn make(&mut self, head: Head) -> Result<u64, NoMemory>
         ensures gives { IfOk result (λ o. o ≡ size (world self.old)) }
         ensures of { OnOk result (program self.new ≡ program self.old) }
         ensures set { OnOk result (world self.new ≡ make_object (world self.old) (blank (program self.old) head)) }
-        ensures told { OnOk result (Adds follows self.old self.new (made (size (world self.old)) (blank (program self.old) head))) };
+        ensures told { OnOk result (Extends follows self.old self.new (made (size (world self.old)) (blank (program self.old) head))) };
 }

@@ -3,7 +3,7 @@ ghost use Rattle.jvm_model.specs.Access.{made, fields_made, elems_made};
 ghost use Rattle.jvm_model.specs.Linked.{Linked};
 ghost use Rattle.jvm_model.specs.Suite as suite;
 ghost use Rattle.jvm_model.specs.declared.values.Touch.{Touch};
-ghost use Rattle.vm_mem.specs.Story.{Story, no_story};
+ghost use Rattle.vm_mem.specs.Trace.{Trace, empty_trace};
 ghost use Rattle.vm_mem.specs.Stores as stores;
 ghost use Rattle.vm_mem.specs.Noting.{noted_by, all_noted};
 
@@ -31,7 +31,7 @@ impl TraceMemory {
         requires { Linked p.now }
         ensures program { IfOk result (λ m. ⟦<TraceMemory as Memory>⟧.program m ≡ p.now) }
         ensures world { IfOk result (λ m. ⟦<TraceMemory as Memory>⟧.world m ≡ suite.opening p.now) }
-        ensures follows { IfOk result (λ m. ⟦<TraceMemory as Memory>⟧.follows m no_story []) }
+        ensures follows { IfOk result (λ m. ⟦<TraceMemory as Memory>⟧.follows m empty_trace []) }
     {
         Ok(TraceMemory {
             plain: PlainMemory::opening(alloc, p)?,
@@ -43,7 +43,7 @@ impl TraceMemory {
 
     /// The touches so far, each with its test. It takes no memory.
     pub fn touches(&self) -> &[Noted]
-        ensures { (h : Story) (ts : List Touch) → ⟦<TraceMemory as Memory>⟧.follows self.now h ts → result.now ≡ all_noted h ts }
+        ensures { (h : Trace) (ts : List Touch) → ⟦<TraceMemory as Memory>⟧.follows self.now h ts → result.now ≡ all_noted h ts }
     {
         self.noted.as_slice()
     }

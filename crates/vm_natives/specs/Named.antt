@@ -7,7 +7,7 @@ use Rattle.jvm_model.specs.Access.{read, write, spend}
 use Rattle.jvm_model.specs.Rows.{on_text}
 use Rattle.jvm_model.specs.Working.{Working, operands, with_operands, answers, answers_found, truth}
 use Rattle.jvm_model.specs.NativesOutside.{one_text, two_texts, changes_property}
-use Rattle.vm_mem.specs.Meets.{Row}
+use Rattle.vm_mem.specs.Refines.{Row}
 use Rattle.vm_natives.specs.declared.named.Named.{Named}
 use Rattle.vm_natives.specs.declared.named.Named.TheVariants.{GetProperty, ClearProperty, ReadFile, DeleteFile, FileExists, Given}
 use Rattle.vm_natives.specs.declared.named.Change.{Change}

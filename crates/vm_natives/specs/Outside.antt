@@ -5,7 +5,7 @@ use Rattle.et_base.specs.Quotes.{utf8_of}
 use Rattle.jvm_model.specs.Rows.{on_int, on_long}
 use Rattle.jvm_model.specs.Working.{Working, operands, prints, boolean_text, char_of}
 use Rattle.jvm_model.specs.NativesOutside.{line_feed, on_printed, prints_string}
-use Rattle.vm_mem.specs.Meets.{Row}
+use Rattle.vm_mem.specs.Refines.{Row}
 
 -- the call prints these bytes
 abbrev pub bytes_row : List ℕ → Row Working

@@ -16,7 +16,7 @@ use Rattle.jvm_model.specs.NativesObject.{native_object, native_throwable, sets_
 use Rattle.jvm_model.specs.NativesString.{native_string, native_builder, text_index, answers_part, compares, joined, appends}
 use Rattle.jvm_model.specs.NativesOutside.{native_system, native_print, native_files, native_env}
 use Rattle.jvm_model.specs.Working.{Working, operands, with_operands, answers, answers_text, truth}
-use Rattle.vm_mem.specs.Meets.{Row}
+use Rattle.vm_mem.specs.Refines.{Row}
 
 -- what a built-in method works on: the entries, and what the test has of its own
 abbrev pub with_own : Entries → Own → Working

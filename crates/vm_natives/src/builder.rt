@@ -3,7 +3,7 @@
 ghost use Rattle.std.specs.Prelude.{◌≡◌, IfOk, OnOk};
 ghost use Rattle.jvm_model.specs.declared.library.Native.{Native};
 ghost use Rattle.vm_frames.specs.Stack.{HasRoom};
-ghost use Rattle.vm_mem.specs.Meets.{IsReady, IsNext, Meets, Tells};
+ghost use Rattle.vm_mem.specs.Refines.{IsReady, IsNext, Refines, Traces};
 ghost use Rattle.vm_natives.specs.Rows.{with_own, builder_row, begun_row, appended_row};
 
 use crate::texts::length_of;
@@ -29,10 +29,10 @@ pub fn init<M: Memory>(
     requires place { IsNext p.now stack.old next }
     requires row { IsReady (builder_row Native.BuilderInit)
         (M.program memory.old) (M.world memory.old) (with_own stack.old own.now) }
-    ensures meets { IfOk result (λ x. Meets (builder_row Native.BuilderInit)
+    ensures meets { IfOk result (λ x. Refines (builder_row Native.BuilderInit)
         (M.program memory.old) (M.world memory.old) (with_own stack.old own.now) left.old
         x (with_own stack.new own.now) (M.world memory.new) left.new) }
-    ensures told { IfOk result (λ x. Tells (builder_row Native.BuilderInit)
+    ensures told { IfOk result (λ x. Traces (builder_row Native.BuilderInit)
         (M.program memory.old) (M.world memory.old) (with_own stack.old own.now)
         x M.follows memory.old memory.new) }
     ensures of { OnOk result (M.program memory.new ≡ M.program memory.old) }
@@ -71,10 +71,10 @@ pub fn init_string<M: Memory>(
     requires place { IsNext p.now stack.old next }
     requires row { IsReady (builder_row Native.BuilderInitString)
         (M.program memory.old) (M.world memory.old) (with_own stack.old own.now) }
-    ensures meets { IfOk result (λ x. Meets (builder_row Native.BuilderInitString)
+    ensures meets { IfOk result (λ x. Refines (builder_row Native.BuilderInitString)
         (M.program memory.old) (M.world memory.old) (with_own stack.old own.now) left.old
         x (with_own stack.new own.now) (M.world memory.new) left.new) }
-    ensures told { IfOk result (λ x. Tells (builder_row Native.BuilderInitString)
+    ensures told { IfOk result (λ x. Traces (builder_row Native.BuilderInitString)
         (M.program memory.old) (M.world memory.old) (with_own stack.old own.now)
         x M.follows memory.old memory.new) }
     ensures of { OnOk result (M.program memory.new ≡ M.program memory.old) }
@@ -113,10 +113,10 @@ fn begin_with<M: Memory>(
     requires place { IsNext p.now stack.old next }
     requires row { IsReady (begun_row receiver text)
         (M.program memory.old) (M.world memory.old) (with_own stack.old own.now) }
-    ensures meets { IfOk result (λ x. Meets (begun_row receiver text)
+    ensures meets { IfOk result (λ x. Refines (begun_row receiver text)
         (M.program memory.old) (M.world memory.old) (with_own stack.old own.now) left.old
         x (with_own stack.new own.now) (M.world memory.new) left.new) }
-    ensures told { IfOk result (λ x. Tells (begun_row receiver text)
+    ensures told { IfOk result (λ x. Traces (begun_row receiver text)
         (M.program memory.old) (M.world memory.old) (with_own stack.old own.now)
         x M.follows memory.old memory.new) }
     ensures of { OnOk result (M.program memory.new ≡ M.program memory.old) }
@@ -157,10 +157,10 @@ pub fn append_string<M: Memory>(
     requires place { IsNext p.now stack.old next }
     requires row { IsReady (builder_row Native.BuilderAppendString)
         (M.program memory.old) (M.world memory.old) (with_own stack.old own.now) }
-    ensures meets { IfOk result (λ x. Meets (builder_row Native.BuilderAppendString)
+    ensures meets { IfOk result (λ x. Refines (builder_row Native.BuilderAppendString)
         (M.program memory.old) (M.world memory.old) (with_own stack.old own.now) left.old
         x (with_own stack.new own.now) (M.world memory.new) left.new) }
-    ensures told { IfOk result (λ x. Tells (builder_row Native.BuilderAppendString)
+    ensures told { IfOk result (λ x. Traces (builder_row Native.BuilderAppendString)
         (M.program memory.old) (M.world memory.old) (with_own stack.old own.now)
         x M.follows memory.old memory.new) }
     ensures of { OnOk result (M.program memory.new ≡ M.program memory.old) }
@@ -199,10 +199,10 @@ pub fn append<M: Memory>(
     requires room { HasRoom 1 stack.old }
     requires row { IsReady (appended_row receiver more.now)
         (M.program memory.old) (M.world memory.old) (with_own stack.old own.now) }
-    ensures meets { IfOk result (λ x. Meets (appended_row receiver more.now)
+    ensures meets { IfOk result (λ x. Refines (appended_row receiver more.now)
         (M.program memory.old) (M.world memory.old) (with_own stack.old own.now) left.old
         x (with_own stack.new own.now) (M.world memory.new) left.new) }
-    ensures told { IfOk result (λ x. Tells (appended_row receiver more.now)
+    ensures told { IfOk result (λ x. Traces (appended_row receiver more.now)
         (M.program memory.old) (M.world memory.old) (with_own stack.old own.now)
         x M.follows memory.old memory.new) }
     ensures of { OnOk result (M.program memory.new ≡ M.program memory.old) }
@@ -243,10 +243,10 @@ pub fn length<M: Memory>(
     requires place { IsNext p.now stack.old next }
     requires row { IsReady (builder_row Native.BuilderLength)
         (M.program memory.old) (M.world memory.old) (with_own stack.old own.now) }
-    ensures meets { IfOk result (λ x. Meets (builder_row Native.BuilderLength)
+    ensures meets { IfOk result (λ x. Refines (builder_row Native.BuilderLength)
         (M.program memory.old) (M.world memory.old) (with_own stack.old own.now) left.old
         x (with_own stack.new own.now) (M.world memory.new) left.new) }
-    ensures told { IfOk result (λ x. Tells (builder_row Native.BuilderLength)
+    ensures told { IfOk result (λ x. Traces (builder_row Native.BuilderLength)
         (M.program memory.old) (M.world memory.old) (with_own stack.old own.now)
         x M.follows memory.old memory.new) }
     ensures of { OnOk result (M.program memory.new ≡ M.program memory.old) }
@@ -280,10 +280,10 @@ pub fn to_string<M: Memory>(
     requires place { IsNext p.now stack.old next }
     requires row { IsReady (builder_row Native.BuilderToString)
         (M.program memory.old) (M.world memory.old) (with_own stack.old own.now) }
-    ensures meets { IfOk result (λ x. Meets (builder_row Native.BuilderToString)
+    ensures meets { IfOk result (λ x. Refines (builder_row Native.BuilderToString)
         (M.program memory.old) (M.world memory.old) (with_own stack.old own.now) left.old
         x (with_own stack.new own.now) (M.world memory.new) left.new) }
-    ensures told { IfOk result (λ x. Tells (builder_row Native.BuilderToString)
+    ensures told { IfOk result (λ x. Traces (builder_row Native.BuilderToString)
         (M.program memory.old) (M.world memory.old) (with_own stack.old own.now)
         x M.follows memory.old memory.new) }
     ensures of { OnOk result (M.program memory.new ≡ M.program memory.old) }

@@ -5,7 +5,7 @@ ghost use Rattle.jvm_model.specs.declared.library.Native.{Native};
 ghost use Rattle.jvm_model.specs.NativesOutside as natives;
 ghost use Rattle.jvm_model.specs.World.{World};
 ghost use Rattle.vm_frames.specs.Stack.{HasRoom};
-ghost use Rattle.vm_mem.specs.Meets.{IsReady, IsNext, Meets, Tells};
+ghost use Rattle.vm_mem.specs.Refines.{IsReady, IsNext, Refines, Traces};
 ghost use Rattle.vm_natives.specs.Rows.{with_own, env_row};
 
 use crate::stream::print as print_bytes;
@@ -31,10 +31,10 @@ pub fn print<M: Memory>(
     requires place { IsNext p.now stack.old next }
     requires row { IsReady (env_row Native.EnvPrint)
         (M.program memory.old) (M.world memory.old) (with_own stack.old own.old) }
-    ensures meets { IfOk result (λ x. Meets (env_row Native.EnvPrint)
+    ensures meets { IfOk result (λ x. Refines (env_row Native.EnvPrint)
         (M.program memory.old) (M.world memory.old) (with_own stack.old own.old) left.old
         x (with_own stack.new own.new) (M.world memory.new) left.new) }
-    ensures told { IfOk result (λ x. Tells (env_row Native.EnvPrint)
+    ensures told { IfOk result (λ x. Traces (env_row Native.EnvPrint)
         (M.program memory.old) (M.world memory.old) (with_own stack.old own.old)
         x M.follows memory.old memory.new) }
     ensures of { OnOk result (M.program memory.new ≡ M.program memory.old) }
@@ -51,7 +51,7 @@ pub fn print<M: Memory>(
 pub fn random(stack: &mut FrameStack, p: &Program, own: &mut Own, next: u32, left: &mut u64) -> Next
     requires place { IsNext p.now stack.old next }
     requires room { HasRoom 1 stack.old }
-    ensures { (w : World) → Meets (env_row Native.EnvRandom)
+    ensures { (w : World) → Refines (env_row Native.EnvRandom)
         p.now w (with_own stack.old own.old) left.old result (with_own stack.new own.new) w left.new }
 {
     if *left == 0 {

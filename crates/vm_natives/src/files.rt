@@ -2,7 +2,7 @@
 
 ghost use Rattle.std.specs.Prelude.{◌≡◌, IfOk, OnOk};
 ghost use Rattle.vm_frames.specs.Stack.{HasRoom};
-ghost use Rattle.vm_mem.specs.Meets.{IsReady, IsNext, Meets, Tells};
+ghost use Rattle.vm_mem.specs.Refines.{IsReady, IsNext, Refines, Traces};
 ghost use Rattle.vm_natives.specs.Rows.{with_own};
 ghost use Rattle.vm_natives.specs.Named.{file_row, write_row, append_row, put_row, delete_row, taken_row, exists_row};
 
@@ -32,10 +32,10 @@ pub fn read_at<M: Memory>(
     requires room { HasRoom 1 stack.old }
     requires row { IsReady (file_row name.now)
         (M.program memory.old) (M.world memory.old) (with_own stack.old own.now) }
-    ensures meets { IfOk result (λ x. Meets (file_row name.now)
+    ensures meets { IfOk result (λ x. Refines (file_row name.now)
         (M.program memory.old) (M.world memory.old) (with_own stack.old own.now) left.old
         x (with_own stack.new own.now) (M.world memory.new) left.new) }
-    ensures told { IfOk result (λ x. Tells (file_row name.now)
+    ensures told { IfOk result (λ x. Traces (file_row name.now)
         (M.program memory.old) (M.world memory.old) (with_own stack.old own.now)
         x M.follows memory.old memory.new) }
     ensures of { OnOk result (M.program memory.new ≡ M.program memory.old) }
@@ -66,10 +66,10 @@ pub fn write_at<M: Memory>(
     requires place { IsNext p.now stack.old next }
     requires row { IsReady (write_row name text)
         (M.program memory.old) (M.world memory.old) (with_own stack.old own.now) }
-    ensures meets { IfOk result (λ x. Meets (write_row name text)
+    ensures meets { IfOk result (λ x. Refines (write_row name text)
         (M.program memory.old) (M.world memory.old) (with_own stack.old own.now) left.old
         x (with_own stack.new own.now) (M.world memory.new) left.new) }
-    ensures told { IfOk result (λ x. Tells (write_row name text)
+    ensures told { IfOk result (λ x. Traces (write_row name text)
         (M.program memory.old) (M.world memory.old) (with_own stack.old own.now)
         x M.follows memory.old memory.new) }
     ensures of { OnOk result (M.program memory.new ≡ M.program memory.old) }
@@ -95,10 +95,10 @@ pub fn append_to<M: Memory>(
     requires place { IsNext p.now stack.old next }
     requires row { IsReady (append_row name text)
         (M.program memory.old) (M.world memory.old) (with_own stack.old own.now) }
-    ensures meets { IfOk result (λ x. Meets (append_row name text)
+    ensures meets { IfOk result (λ x. Refines (append_row name text)
         (M.program memory.old) (M.world memory.old) (with_own stack.old own.now) left.old
         x (with_own stack.new own.now) (M.world memory.new) left.new) }
-    ensures told { IfOk result (λ x. Tells (append_row name text)
+    ensures told { IfOk result (λ x. Traces (append_row name text)
         (M.program memory.old) (M.world memory.old) (with_own stack.old own.now)
         x M.follows memory.old memory.new) }
     ensures of { OnOk result (M.program memory.new ≡ M.program memory.old) }
@@ -130,10 +130,10 @@ fn put_file<M: Memory>(
     requires place { IsNext p.now stack.old next }
     requires row { IsReady (put_row cost name text)
         (M.program memory.old) (M.world memory.old) (with_own stack.old own.now) }
-    ensures meets { IfOk result (λ x. Meets (put_row cost name text)
+    ensures meets { IfOk result (λ x. Refines (put_row cost name text)
         (M.program memory.old) (M.world memory.old) (with_own stack.old own.now) left.old
         x (with_own stack.new own.now) (M.world memory.new) left.new) }
-    ensures told { IfOk result (λ x. Tells (put_row cost name text)
+    ensures told { IfOk result (λ x. Traces (put_row cost name text)
         (M.program memory.old) (M.world memory.old) (with_own stack.old own.now)
         x M.follows memory.old memory.new) }
     ensures of { OnOk result (M.program memory.new ≡ M.program memory.old) }
@@ -162,10 +162,10 @@ pub fn delete_at<M: Memory>(
     requires room { HasRoom 1 stack.old }
     requires row { IsReady (delete_row name)
         (M.program memory.old) (M.world memory.old) (with_own stack.old own.now) }
-    ensures meets { IfOk result (λ x. Meets (delete_row name)
+    ensures meets { IfOk result (λ x. Refines (delete_row name)
         (M.program memory.old) (M.world memory.old) (with_own stack.old own.now) left.old
         x (with_own stack.new own.now) (M.world memory.new) left.new) }
-    ensures told { IfOk result (λ x. Tells (delete_row name)
+    ensures told { IfOk result (λ x. Traces (delete_row name)
         (M.program memory.old) (M.world memory.old) (with_own stack.old own.now)
         x M.follows memory.old memory.new) }
     ensures of { OnOk result (M.program memory.new ≡ M.program memory.old) }
@@ -192,10 +192,10 @@ fn take_file<M: Memory>(
     requires room { HasRoom 1 stack.old }
     requires row { IsReady (taken_row name found)
         (M.program memory.old) (M.world memory.old) (with_own stack.old own.now) }
-    ensures meets { IfOk result (λ x. Meets (taken_row name found)
+    ensures meets { IfOk result (λ x. Refines (taken_row name found)
         (M.program memory.old) (M.world memory.old) (with_own stack.old own.now) left.old
         x (with_own stack.new own.now) (M.world memory.new) left.new) }
-    ensures told { IfOk result (λ x. Tells (taken_row name found)
+    ensures told { IfOk result (λ x. Traces (taken_row name found)
         (M.program memory.old) (M.world memory.old) (with_own stack.old own.now)
         x M.follows memory.old memory.new) }
     ensures of { OnOk result (M.program memory.new ≡ M.program memory.old) }
@@ -224,10 +224,10 @@ pub fn exists_at<M: Memory>(
     requires room { HasRoom 1 stack.old }
     requires row { IsReady (exists_row name.now)
         (M.program memory.old) (M.world memory.old) (with_own stack.old own.now) }
-    ensures meets { IfOk result (λ x. Meets (exists_row name.now)
+    ensures meets { IfOk result (λ x. Refines (exists_row name.now)
         (M.program memory.old) (M.world memory.old) (with_own stack.old own.now) left.old
         x (with_own stack.new own.now) (M.world memory.new) left.new) }
-    ensures told { IfOk result (λ x. Tells (exists_row name.now)
+    ensures told { IfOk result (λ x. Traces (exists_row name.now)
         (M.program memory.old) (M.world memory.old) (with_own stack.old own.now)
         x M.follows memory.old memory.new) }
     ensures of { OnOk result (M.program memory.new ≡ M.program memory.old) }

@@ -2,7 +2,7 @@
 
 ghost use Rattle.std.specs.Prelude.{◌≡◌, IfOk, OnOk};
 ghost use Rattle.vm_frames.specs.Stack.{HasRoom};
-ghost use Rattle.vm_mem.specs.Meets.{IsReady, IsNext, Meets, Tells};
+ghost use Rattle.vm_mem.specs.Refines.{IsReady, IsNext, Refines, Traces};
 ghost use Rattle.vm_natives.specs.Rows.{growth, with_own, object_row, string_row, builder_row, system_row, print_row, files_row, env_row, throwable_row};
 
 use crate::named::{Change, Named, with_name, with_texts};
@@ -32,10 +32,10 @@ pub fn of_object<M: Memory>(
     requires place { IsNext p.now stack.old next }
     requires row { IsReady (object_row which)
         (M.program memory.old) (M.world memory.old) (with_own stack.old own.now) }
-    ensures meets { IfOk result (λ x. Meets (object_row which)
+    ensures meets { IfOk result (λ x. Refines (object_row which)
         (M.program memory.old) (M.world memory.old) (with_own stack.old own.now) left.old
         x (with_own stack.new own.now) (M.world memory.new) left.new) }
-    ensures told { IfOk result (λ x. Tells (object_row which)
+    ensures told { IfOk result (λ x. Traces (object_row which)
         (M.program memory.old) (M.world memory.old) (with_own stack.old own.now)
         x M.follows memory.old memory.new) }
     ensures of { OnOk result (M.program memory.new ≡ M.program memory.old) }
@@ -78,10 +78,10 @@ pub fn of_string<M: Memory>(
     requires place { IsNext p.now stack.old next }
     requires row { IsReady (string_row which)
         (M.program memory.old) (M.world memory.old) (with_own stack.old own.now) }
-    ensures meets { IfOk result (λ x. Meets (string_row which)
+    ensures meets { IfOk result (λ x. Refines (string_row which)
         (M.program memory.old) (M.world memory.old) (with_own stack.old own.now) left.old
         x (with_own stack.new own.now) (M.world memory.new) left.new) }
-    ensures told { IfOk result (λ x. Tells (string_row which)
+    ensures told { IfOk result (λ x. Traces (string_row which)
         (M.program memory.old) (M.world memory.old) (with_own stack.old own.now)
         x M.follows memory.old memory.new) }
     ensures of { OnOk result (M.program memory.new ≡ M.program memory.old) }
@@ -142,10 +142,10 @@ pub fn of_builder<M: Memory>(
     requires place { IsNext p.now stack.old next }
     requires row { IsReady (builder_row which)
         (M.program memory.old) (M.world memory.old) (with_own stack.old own.now) }
-    ensures meets { IfOk result (λ x. Meets (builder_row which)
+    ensures meets { IfOk result (λ x. Refines (builder_row which)
         (M.program memory.old) (M.world memory.old) (with_own stack.old own.now) left.old
         x (with_own stack.new own.now) (M.world memory.new) left.new) }
-    ensures told { IfOk result (λ x. Tells (builder_row which)
+    ensures told { IfOk result (λ x. Traces (builder_row which)
         (M.program memory.old) (M.world memory.old) (with_own stack.old own.now)
         x M.follows memory.old memory.new) }
     ensures of { OnOk result (M.program memory.new ≡ M.program memory.old) }
@@ -204,10 +204,10 @@ pub fn of_system<M: Memory>(
     requires room { HasRoom (growth which) stack.old }
     requires row { IsReady (system_row which)
         (M.program memory.old) (M.world memory.old) (with_own stack.old own.old) }
-    ensures meets { IfOk result (λ x. Meets (system_row which)
+    ensures meets { IfOk result (λ x. Refines (system_row which)
         (M.program memory.old) (M.world memory.old) (with_own stack.old own.old) left.old
         x (with_own stack.new own.new) (M.world memory.new) left.new) }
-    ensures told { IfOk result (λ x. Tells (system_row which)
+    ensures told { IfOk result (λ x. Traces (system_row which)
         (M.program memory.old) (M.world memory.old) (with_own stack.old own.old)
         x M.follows memory.old memory.new) }
     ensures of { OnOk result (M.program memory.new ≡ M.program memory.old) }
@@ -261,10 +261,10 @@ pub fn of_stream<M: Memory>(
     requires place { IsNext p.now stack.old next }
     requires row { IsReady (print_row which)
         (M.program memory.old) (M.world memory.old) (with_own stack.old own.old) }
-    ensures meets { IfOk result (λ x. Meets (print_row which)
+    ensures meets { IfOk result (λ x. Refines (print_row which)
         (M.program memory.old) (M.world memory.old) (with_own stack.old own.old) left.old
         x (with_own stack.new own.new) (M.world memory.new) left.new) }
-    ensures told { IfOk result (λ x. Tells (print_row which)
+    ensures told { IfOk result (λ x. Traces (print_row which)
         (M.program memory.old) (M.world memory.old) (with_own stack.old own.old)
         x M.follows memory.old memory.new) }
     ensures of { OnOk result (M.program memory.new ≡ M.program memory.old) }
@@ -304,10 +304,10 @@ pub fn of_files<M: Memory>(
     requires place { IsNext p.now stack.old next }
     requires row { IsReady (files_row which)
         (M.program memory.old) (M.world memory.old) (with_own stack.old own.now) }
-    ensures meets { IfOk result (λ x. Meets (files_row which)
+    ensures meets { IfOk result (λ x. Refines (files_row which)
         (M.program memory.old) (M.world memory.old) (with_own stack.old own.now) left.old
         x (with_own stack.new own.now) (M.world memory.new) left.new) }
-    ensures told { IfOk result (λ x. Tells (files_row which)
+    ensures told { IfOk result (λ x. Traces (files_row which)
         (M.program memory.old) (M.world memory.old) (with_own stack.old own.now)
         x M.follows memory.old memory.new) }
     ensures of { OnOk result (M.program memory.new ≡ M.program memory.old) }
@@ -347,10 +347,10 @@ pub fn of_env<M: Memory>(
     requires room { HasRoom (growth which) stack.old }
     requires row { IsReady (env_row which)
         (M.program memory.old) (M.world memory.old) (with_own stack.old own.old) }
-    ensures meets { IfOk result (λ x. Meets (env_row which)
+    ensures meets { IfOk result (λ x. Refines (env_row which)
         (M.program memory.old) (M.world memory.old) (with_own stack.old own.old) left.old
         x (with_own stack.new own.new) (M.world memory.new) left.new) }
-    ensures told { IfOk result (λ x. Tells (env_row which)
+    ensures told { IfOk result (λ x. Traces (env_row which)
         (M.program memory.old) (M.world memory.old) (with_own stack.old own.old)
         x M.follows memory.old memory.new) }
     ensures of { OnOk result (M.program memory.new ≡ M.program memory.old) }
@@ -378,10 +378,10 @@ pub fn of_throwable<M: Memory>(
     requires place { IsNext p.now stack.old next }
     requires row { IsReady (throwable_row which)
         (M.program memory.old) (M.world memory.old) (with_own stack.old own.now) }
-    ensures meets { IfOk result (λ x. Meets (throwable_row which)
+    ensures meets { IfOk result (λ x. Refines (throwable_row which)
         (M.program memory.old) (M.world memory.old) (with_own stack.old own.now) left.old
         x (with_own stack.new own.now) (M.world memory.new) left.new) }
-    ensures told { IfOk result (λ x. Tells (throwable_row which)
+    ensures told { IfOk result (λ x. Traces (throwable_row which)
         (M.program memory.old) (M.world memory.old) (with_own stack.old own.now)
         x M.follows memory.old memory.new) }
     ensures of { OnOk result (M.program memory.new ≡ M.program memory.old) }

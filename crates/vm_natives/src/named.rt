@@ -2,7 +2,7 @@
 
 ghost use Rattle.std.specs.Prelude.{◌≡◌, IfOk, OnOk};
 ghost use Rattle.vm_frames.specs.Stack.{HasRoom};
-ghost use Rattle.vm_mem.specs.Meets.{IsReady, IsNext, Meets, Tells};
+ghost use Rattle.vm_mem.specs.Refines.{IsReady, IsNext, Refines, Traces};
 ghost use Rattle.vm_natives.specs.Rows.{with_own};
 ghost use Rattle.vm_natives.specs.Named.{name_row, named_row, given_row, texts_row, change_row, priced_row};
 ghost use Rattle.jvm_model.specs.declared.outcome.Own.{Own};
@@ -52,10 +52,10 @@ pub fn with_texts<M: Memory>(
     requires place { IsNext p.now stack.old next }
     requires row { IsReady (texts_row change)
         (M.program memory.old) (M.world memory.old) (with_own stack.old own.now) }
-    ensures meets { IfOk result (λ x. Meets (texts_row change)
+    ensures meets { IfOk result (λ x. Refines (texts_row change)
         (M.program memory.old) (M.world memory.old) (with_own stack.old own.now) left.old
         x (with_own stack.new own.now) (M.world memory.new) left.new) }
-    ensures told { IfOk result (λ x. Tells (texts_row change)
+    ensures told { IfOk result (λ x. Traces (texts_row change)
         (M.program memory.old) (M.world memory.old) (with_own stack.old own.now)
         x M.follows memory.old memory.new) }
     ensures of { OnOk result (M.program memory.new ≡ M.program memory.old) }
@@ -92,10 +92,10 @@ pub fn with_name<M: Memory>(
     requires place { IsNext p.now stack.old next }
     requires row { IsReady (named_row named)
         (M.program memory.old) (M.world memory.old) (with_own stack.old own.now) }
-    ensures meets { IfOk result (λ x. Meets (named_row named)
+    ensures meets { IfOk result (λ x. Refines (named_row named)
         (M.program memory.old) (M.world memory.old) (with_own stack.old own.now) left.old
         x (with_own stack.new own.now) (M.world memory.new) left.new) }
-    ensures told { IfOk result (λ x. Tells (named_row named)
+    ensures told { IfOk result (λ x. Traces (named_row named)
         (M.program memory.old) (M.world memory.old) (with_own stack.old own.now)
         x M.follows memory.old memory.new) }
     ensures of { OnOk result (M.program memory.new ≡ M.program memory.old) }
@@ -135,10 +135,10 @@ fn on_name<M: Memory>(
     requires room { HasRoom 1 stack.old }
     requires row { IsReady (name_row named name)
         (M.program memory.old) (M.world memory.old) (with_own stack.old own.now) }
-    ensures meets { IfOk result (λ x. Meets (name_row named name)
+    ensures meets { IfOk result (λ x. Refines (name_row named name)
         (M.program memory.old) (M.world memory.old) (with_own stack.old own.now) left.old
         x (with_own stack.new own.now) (M.world memory.new) left.new) }
-    ensures told { IfOk result (λ x. Tells (name_row named name)
+    ensures told { IfOk result (λ x. Traces (name_row named name)
         (M.program memory.old) (M.world memory.old) (with_own stack.old own.now)
         x M.follows memory.old memory.new) }
     ensures of { OnOk result (M.program memory.new ≡ M.program memory.old) }
@@ -175,10 +175,10 @@ fn with_text<M: Memory>(
     requires room { HasRoom 1 stack.old }
     requires row { IsReady (given_row change name text)
         (M.program memory.old) (M.world memory.old) (with_own stack.old own.now) }
-    ensures meets { IfOk result (λ x. Meets (given_row change name text)
+    ensures meets { IfOk result (λ x. Refines (given_row change name text)
         (M.program memory.old) (M.world memory.old) (with_own stack.old own.now) left.old
         x (with_own stack.new own.now) (M.world memory.new) left.new) }
-    ensures told { IfOk result (λ x. Tells (given_row change name text)
+    ensures told { IfOk result (λ x. Traces (given_row change name text)
         (M.program memory.old) (M.world memory.old) (with_own stack.old own.now)
         x M.follows memory.old memory.new) }
     ensures of { OnOk result (M.program memory.new ≡ M.program memory.old) }
@@ -219,10 +219,10 @@ fn on_texts<M: Memory>(
     requires room { HasRoom 1 stack.old }
     requires row { IsReady (change_row change name text)
         (M.program memory.old) (M.world memory.old) (with_own stack.old own.now) }
-    ensures meets { IfOk result (λ x. Meets (change_row change name text)
+    ensures meets { IfOk result (λ x. Refines (change_row change name text)
         (M.program memory.old) (M.world memory.old) (with_own stack.old own.now) left.old
         x (with_own stack.new own.now) (M.world memory.new) left.new) }
-    ensures told { IfOk result (λ x. Tells (change_row change name text)
+    ensures told { IfOk result (λ x. Traces (change_row change name text)
         (M.program memory.old) (M.world memory.old) (with_own stack.old own.now)
         x M.follows memory.old memory.new) }
     ensures of { OnOk result (M.program memory.new ≡ M.program memory.old) }
@@ -260,7 +260,7 @@ pub fn answer_for(
 ) -> Next
     requires place { IsNext p.now stack.old next }
     requires room { HasRoom 1 stack.old }
-    ensures { (w : World) (o : Own) → Meets (priced_row cost value)
+    ensures { (w : World) (o : Own) → Refines (priced_row cost value)
         p.now w (with_own stack.old o) left.old result (with_own stack.new o) w left.new }
 {
     if *left <= cost {

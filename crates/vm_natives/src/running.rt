@@ -2,7 +2,7 @@
 
 ghost use Rattle.std.specs.Prelude.{◌≡◌, IfOk, OnOk};
 ghost use Rattle.vm_frames.specs.Stack.{HasRoom};
-ghost use Rattle.vm_mem.specs.Meets.{IsReady, IsNext, Meets, Tells};
+ghost use Rattle.vm_mem.specs.Refines.{IsReady, IsNext, Refines, Traces};
 ghost use Rattle.vm_natives.specs.Rows.{with_own, native_row, growth};
 
 use crate::groups::{
@@ -33,10 +33,10 @@ pub fn native<M: Memory>(
     requires room { HasRoom (growth which) stack.old }
     requires row { IsReady (native_row which)
         (M.program memory.old) (M.world memory.old) (with_own stack.old own.old) }
-    ensures meets { IfOk result (λ x. Meets (native_row which)
+    ensures meets { IfOk result (λ x. Refines (native_row which)
         (M.program memory.old) (M.world memory.old) (with_own stack.old own.old) left.old
         x (with_own stack.new own.new) (M.world memory.new) left.new) }
-    ensures told { IfOk result (λ x. Tells (native_row which)
+    ensures told { IfOk result (λ x. Traces (native_row which)
         (M.program memory.old) (M.world memory.old) (with_own stack.old own.old)
         x M.follows memory.old memory.new) }
     ensures of { OnOk result (M.program memory.new ≡ M.program memory.old) }

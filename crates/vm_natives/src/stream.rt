@@ -4,7 +4,7 @@
 ghost use Rattle.std.specs.Prelude.{◌≡◌, ◌++◌, IfOk, OnOk};
 ghost use Rattle.et_base.specs.Quotes.{utf8_of};
 ghost use Rattle.jvm_model.specs.World.{World};
-ghost use Rattle.vm_mem.specs.Meets.{IsReady, IsNext, Meets, Tells};
+ghost use Rattle.vm_mem.specs.Refines.{IsReady, IsNext, Refines, Traces};
 ghost use Rattle.vm_natives.specs.Rows.{with_own};
 ghost use Rattle.vm_natives.specs.Outside.{boolean_print_row, bytes_row, char_print_row, ended, int_print_row, long_print_row, string_print_row};
 
@@ -26,7 +26,7 @@ pub fn print(
     left: &mut u64,
 ) -> Result<Next, NoMemory>
     requires place { IsNext p.now stack.old next }
-    ensures { IfOk result (λ x. (w : World) → Meets (bytes_row bytes.now)
+    ensures { IfOk result (λ x. (w : World) → Refines (bytes_row bytes.now)
         p.now w (with_own stack.old own.old) left.old x (with_own stack.new own.new) w left.new) }
 {
     let cost = bytes.len() as u64;
@@ -51,7 +51,7 @@ fn print_units(
     left: &mut u64,
 ) -> Result<Next, NoMemory>
     requires place { IsNext p.now stack.old next }
-    ensures { IfOk result (λ x. (w : World) → Meets (bytes_row (utf8_of units.now ++ end.now))
+    ensures { IfOk result (λ x. (w : World) → Refines (bytes_row (utf8_of units.now ++ end.now))
         p.now w (with_own stack.old own.old) left.old x (with_own stack.new own.new) w left.new) }
 {
     let mut bytes = bytes_of_units(alloc, units)?;
@@ -75,10 +75,10 @@ pub fn print_text<M: Memory>(
     requires place { IsNext p.now stack.old next }
     requires row { IsReady (string_print_row end.now)
         (M.program memory.old) (M.world memory.old) (with_own stack.old own.old) }
-    ensures meets { IfOk result (λ x. Meets (string_print_row end.now)
+    ensures meets { IfOk result (λ x. Refines (string_print_row end.now)
         (M.program memory.old) (M.world memory.old) (with_own stack.old own.old) left.old
         x (with_own stack.new own.new) (M.world memory.new) left.new) }
-    ensures told { IfOk result (λ x. Tells (string_print_row end.now)
+    ensures told { IfOk result (λ x. Traces (string_print_row end.now)
         (M.program memory.old) (M.world memory.old) (with_own stack.old own.old)
         x M.follows memory.old memory.new) }
     ensures of { OnOk result (M.program memory.new ≡ M.program memory.old) }
@@ -130,10 +130,10 @@ pub fn print_int<M: Memory>(
     requires place { IsNext p.now stack.old next }
     requires row { IsReady (int_print_row line)
         (M.program memory.old) (M.world memory.old) (with_own stack.old own.old) }
-    ensures meets { IfOk result (λ x. Meets (int_print_row line)
+    ensures meets { IfOk result (λ x. Refines (int_print_row line)
         (M.program memory.old) (M.world memory.old) (with_own stack.old own.old) left.old
         x (with_own stack.new own.new) (M.world memory.new) left.new) }
-    ensures told { IfOk result (λ x. Tells (int_print_row line)
+    ensures told { IfOk result (λ x. Traces (int_print_row line)
         (M.program memory.old) (M.world memory.old) (with_own stack.old own.old)
         x M.follows memory.old memory.new) }
     ensures of { OnOk result (M.program memory.new ≡ M.program memory.old) }
@@ -159,10 +159,10 @@ pub fn print_long<M: Memory>(
     requires place { IsNext p.now stack.old next }
     requires row { IsReady (long_print_row line)
         (M.program memory.old) (M.world memory.old) (with_own stack.old own.old) }
-    ensures meets { IfOk result (λ x. Meets (long_print_row line)
+    ensures meets { IfOk result (λ x. Refines (long_print_row line)
         (M.program memory.old) (M.world memory.old) (with_own stack.old own.old) left.old
         x (with_own stack.new own.new) (M.world memory.new) left.new) }
-    ensures told { IfOk result (λ x. Tells (long_print_row line)
+    ensures told { IfOk result (λ x. Traces (long_print_row line)
         (M.program memory.old) (M.world memory.old) (with_own stack.old own.old)
         x M.follows memory.old memory.new) }
     ensures of { OnOk result (M.program memory.new ≡ M.program memory.old) }
@@ -188,10 +188,10 @@ pub fn print_boolean<M: Memory>(
     requires place { IsNext p.now stack.old next }
     requires row { IsReady (boolean_print_row line)
         (M.program memory.old) (M.world memory.old) (with_own stack.old own.old) }
-    ensures meets { IfOk result (λ x. Meets (boolean_print_row line)
+    ensures meets { IfOk result (λ x. Refines (boolean_print_row line)
         (M.program memory.old) (M.world memory.old) (with_own stack.old own.old) left.old
         x (with_own stack.new own.new) (M.world memory.new) left.new) }
-    ensures told { IfOk result (λ x. Tells (boolean_print_row line)
+    ensures told { IfOk result (λ x. Traces (boolean_print_row line)
         (M.program memory.old) (M.world memory.old) (with_own stack.old own.old)
         x M.follows memory.old memory.new) }
     ensures of { OnOk result (M.program memory.new ≡ M.program memory.old) }
@@ -217,10 +217,10 @@ pub fn print_char<M: Memory>(
     requires place { IsNext p.now stack.old next }
     requires row { IsReady (char_print_row line)
         (M.program memory.old) (M.world memory.old) (with_own stack.old own.old) }
-    ensures meets { IfOk result (λ x. Meets (char_print_row line)
+    ensures meets { IfOk result (λ x. Refines (char_print_row line)
         (M.program memory.old) (M.world memory.old) (with_own stack.old own.old) left.old
         x (with_own stack.new own.new) (M.world memory.new) left.new) }
-    ensures told { IfOk result (λ x. Tells (char_print_row line)
+    ensures told { IfOk result (λ x. Traces (char_print_row line)
         (M.program memory.old) (M.world memory.old) (with_own stack.old own.old)
         x M.follows memory.old memory.new) }
     ensures of { OnOk result (M.program memory.new ≡ M.program memory.old) }

@@ -6,7 +6,7 @@ ghost use Rattle.jvm_model.specs.declared.outcome.Own.{Own};
 ghost use Rattle.jvm_model.specs.declared.values.Value.TheVariants.{Obj};
 ghost use Rattle.jvm_model.specs.World.{World};
 ghost use Rattle.vm_frames.specs.Stack.{HasRoom};
-ghost use Rattle.vm_mem.specs.Meets.{IsReady, IsNext, Meets, Tells};
+ghost use Rattle.vm_mem.specs.Refines.{IsReady, IsNext, Refines, Traces};
 ghost use Rattle.vm_natives.specs.Rows.{with_own, string_row, unit_row, compared_row, same_row, concat_row, concat_text_row, cut_row, joined_row, part_row};
 
 use crate::texts::{hash_of, length_of, part_from, part_of, same_text};
@@ -33,10 +33,10 @@ pub fn length<M: Memory>(
     requires place { IsNext p.now stack.old next }
     requires row { IsReady (string_row Native.StringLength)
         (M.program memory.old) (M.world memory.old) (with_own stack.old own.now) }
-    ensures meets { IfOk result (λ x. Meets (string_row Native.StringLength)
+    ensures meets { IfOk result (λ x. Refines (string_row Native.StringLength)
         (M.program memory.old) (M.world memory.old) (with_own stack.old own.now) left.old
         x (with_own stack.new own.now) (M.world memory.new) left.new) }
-    ensures told { IfOk result (λ x. Tells (string_row Native.StringLength)
+    ensures told { IfOk result (λ x. Traces (string_row Native.StringLength)
         (M.program memory.old) (M.world memory.old) (with_own stack.old own.now)
         x M.follows memory.old memory.new) }
     ensures of { OnOk result (M.program memory.new ≡ M.program memory.old) }
@@ -72,10 +72,10 @@ pub fn is_empty<M: Memory>(
     requires place { IsNext p.now stack.old next }
     requires row { IsReady (string_row Native.StringIsEmpty)
         (M.program memory.old) (M.world memory.old) (with_own stack.old own.now) }
-    ensures meets { IfOk result (λ x. Meets (string_row Native.StringIsEmpty)
+    ensures meets { IfOk result (λ x. Refines (string_row Native.StringIsEmpty)
         (M.program memory.old) (M.world memory.old) (with_own stack.old own.now) left.old
         x (with_own stack.new own.now) (M.world memory.new) left.new) }
-    ensures told { IfOk result (λ x. Tells (string_row Native.StringIsEmpty)
+    ensures told { IfOk result (λ x. Traces (string_row Native.StringIsEmpty)
         (M.program memory.old) (M.world memory.old) (with_own stack.old own.now)
         x M.follows memory.old memory.new) }
     ensures of { OnOk result (M.program memory.new ≡ M.program memory.old) }
@@ -112,10 +112,10 @@ pub fn char_at<M: Memory>(
     requires place { IsNext p.now stack.old next }
     requires row { IsReady (string_row Native.StringCharAt)
         (M.program memory.old) (M.world memory.old) (with_own stack.old own.now) }
-    ensures meets { IfOk result (λ x. Meets (string_row Native.StringCharAt)
+    ensures meets { IfOk result (λ x. Refines (string_row Native.StringCharAt)
         (M.program memory.old) (M.world memory.old) (with_own stack.old own.now) left.old
         x (with_own stack.new own.now) (M.world memory.new) left.new) }
-    ensures told { IfOk result (λ x. Tells (string_row Native.StringCharAt)
+    ensures told { IfOk result (λ x. Traces (string_row Native.StringCharAt)
         (M.program memory.old) (M.world memory.old) (with_own stack.old own.now)
         x M.follows memory.old memory.new) }
     ensures of { OnOk result (M.program memory.new ≡ M.program memory.old) }
@@ -146,7 +146,7 @@ fn answer_unit(
 ) -> Next
     requires place { IsNext p.now stack.old next }
     requires room { HasRoom 1 stack.old }
-    ensures { (w : World) (o : Own) → Meets (unit_row text.now place)
+    ensures { (w : World) (o : Own) → Refines (unit_row text.now place)
         p.now w (with_own stack.old o) left.old result (with_own stack.new o) w left.new }
 {
     if place < 0 {
@@ -179,10 +179,10 @@ pub fn equals<M: Memory>(
     requires place { IsNext p.now stack.old next }
     requires row { IsReady (string_row Native.StringEquals)
         (M.program memory.old) (M.world memory.old) (with_own stack.old own.now) }
-    ensures meets { IfOk result (λ x. Meets (string_row Native.StringEquals)
+    ensures meets { IfOk result (λ x. Refines (string_row Native.StringEquals)
         (M.program memory.old) (M.world memory.old) (with_own stack.old own.now) left.old
         x (with_own stack.new own.now) (M.world memory.new) left.new) }
-    ensures told { IfOk result (λ x. Tells (string_row Native.StringEquals)
+    ensures told { IfOk result (λ x. Traces (string_row Native.StringEquals)
         (M.program memory.old) (M.world memory.old) (with_own stack.old own.now)
         x M.follows memory.old memory.new) }
     ensures of { OnOk result (M.program memory.new ≡ M.program memory.old) }
@@ -228,10 +228,10 @@ fn compare<M: Memory>(
     requires argument { argument ≢ Value.Null }
     requires row { IsReady (compared_row receiver argument)
         (M.program memory.old) (M.world memory.old) (with_own stack.old own.now) }
-    ensures meets { IfOk result (λ x. Meets (compared_row receiver argument)
+    ensures meets { IfOk result (λ x. Refines (compared_row receiver argument)
         (M.program memory.old) (M.world memory.old) (with_own stack.old own.now) left.old
         x (with_own stack.new own.now) (M.world memory.new) left.new) }
-    ensures told { IfOk result (λ x. Tells (compared_row receiver argument)
+    ensures told { IfOk result (λ x. Traces (compared_row receiver argument)
         (M.program memory.old) (M.world memory.old) (with_own stack.old own.now)
         x M.follows memory.old memory.new) }
     ensures of { OnOk result (M.program memory.new ≡ M.program memory.old) }
@@ -275,7 +275,7 @@ fn answer_same(
 ) -> Next
     requires place { IsNext p.now stack.old next }
     requires room { HasRoom 1 stack.old }
-    ensures { (w : World) (o : Own) → Meets (same_row text.now other.now)
+    ensures { (w : World) (o : Own) → Refines (same_row text.now other.now)
         p.now w (with_own stack.old o) left.old result (with_own stack.new o) w left.new }
 {
     let cost = text.len() as u64;
@@ -297,10 +297,10 @@ pub fn hash_code<M: Memory>(
     requires place { IsNext p.now stack.old next }
     requires row { IsReady (string_row Native.StringHashCode)
         (M.program memory.old) (M.world memory.old) (with_own stack.old own.now) }
-    ensures meets { IfOk result (λ x. Meets (string_row Native.StringHashCode)
+    ensures meets { IfOk result (λ x. Refines (string_row Native.StringHashCode)
         (M.program memory.old) (M.world memory.old) (with_own stack.old own.now) left.old
         x (with_own stack.new own.now) (M.world memory.new) left.new) }
-    ensures told { IfOk result (λ x. Tells (string_row Native.StringHashCode)
+    ensures told { IfOk result (λ x. Traces (string_row Native.StringHashCode)
         (M.program memory.old) (M.world memory.old) (with_own stack.old own.now)
         x M.follows memory.old memory.new) }
     ensures of { OnOk result (M.program memory.new ≡ M.program memory.old) }
@@ -340,10 +340,10 @@ pub fn substring_from<M: Memory>(
     requires place { IsNext p.now stack.old next }
     requires row { IsReady (string_row Native.StringSubstringFrom)
         (M.program memory.old) (M.world memory.old) (with_own stack.old own.now) }
-    ensures meets { IfOk result (λ x. Meets (string_row Native.StringSubstringFrom)
+    ensures meets { IfOk result (λ x. Refines (string_row Native.StringSubstringFrom)
         (M.program memory.old) (M.world memory.old) (with_own stack.old own.now) left.old
         x (with_own stack.new own.now) (M.world memory.new) left.new) }
-    ensures told { IfOk result (λ x. Tells (string_row Native.StringSubstringFrom)
+    ensures told { IfOk result (λ x. Traces (string_row Native.StringSubstringFrom)
         (M.program memory.old) (M.world memory.old) (with_own stack.old own.now)
         x M.follows memory.old memory.new) }
     ensures of { OnOk result (M.program memory.new ≡ M.program memory.old) }
@@ -382,10 +382,10 @@ pub fn substring<M: Memory>(
     requires place { IsNext p.now stack.old next }
     requires row { IsReady (string_row Native.StringSubstring)
         (M.program memory.old) (M.world memory.old) (with_own stack.old own.now) }
-    ensures meets { IfOk result (λ x. Meets (string_row Native.StringSubstring)
+    ensures meets { IfOk result (λ x. Refines (string_row Native.StringSubstring)
         (M.program memory.old) (M.world memory.old) (with_own stack.old own.now) left.old
         x (with_own stack.new own.now) (M.world memory.new) left.new) }
-    ensures told { IfOk result (λ x. Tells (string_row Native.StringSubstring)
+    ensures told { IfOk result (λ x. Traces (string_row Native.StringSubstring)
         (M.program memory.old) (M.world memory.old) (with_own stack.old own.now)
         x M.follows memory.old memory.new) }
     ensures of { OnOk result (M.program memory.new ≡ M.program memory.old) }
@@ -424,10 +424,10 @@ fn cut_text<M: Memory>(
     requires room { HasRoom 1 stack.old }
     requires row { IsReady (cut_row (Obj object) from to)
         (M.program memory.old) (M.world memory.old) (with_own stack.old own.now) }
-    ensures meets { IfOk result (λ x. Meets (cut_row (Obj object) from to)
+    ensures meets { IfOk result (λ x. Refines (cut_row (Obj object) from to)
         (M.program memory.old) (M.world memory.old) (with_own stack.old own.now) left.old
         x (with_own stack.new own.now) (M.world memory.new) left.new) }
-    ensures told { IfOk result (λ x. Tells (cut_row (Obj object) from to)
+    ensures told { IfOk result (λ x. Traces (cut_row (Obj object) from to)
         (M.program memory.old) (M.world memory.old) (with_own stack.old own.now)
         x M.follows memory.old memory.new) }
     ensures of { OnOk result (M.program memory.new ≡ M.program memory.old) }
@@ -449,10 +449,10 @@ fn answer_part<M: Memory>(
     requires program { p.now ≡ M.program memory.old }
     requires place { IsNext p.now stack.old next }
     requires room { HasRoom 1 stack.old }
-    ensures meets { IfOk result (λ x. Meets (part_row part)
+    ensures meets { IfOk result (λ x. Refines (part_row part)
         (M.program memory.old) (M.world memory.old) (with_own stack.old own.now) left.old
         x (with_own stack.new own.now) (M.world memory.new) left.new) }
-    ensures told { IfOk result (λ x. Tells (part_row part)
+    ensures told { IfOk result (λ x. Traces (part_row part)
         (M.program memory.old) (M.world memory.old) (with_own stack.old own.now)
         x M.follows memory.old memory.new) }
     ensures of { OnOk result (M.program memory.new ≡ M.program memory.old) }
@@ -481,10 +481,10 @@ pub fn concat<M: Memory>(
     requires place { IsNext p.now stack.old next }
     requires row { IsReady (string_row Native.StringConcat)
         (M.program memory.old) (M.world memory.old) (with_own stack.old own.now) }
-    ensures meets { IfOk result (λ x. Meets (string_row Native.StringConcat)
+    ensures meets { IfOk result (λ x. Refines (string_row Native.StringConcat)
         (M.program memory.old) (M.world memory.old) (with_own stack.old own.now) left.old
         x (with_own stack.new own.now) (M.world memory.new) left.new) }
-    ensures told { IfOk result (λ x. Tells (string_row Native.StringConcat)
+    ensures told { IfOk result (λ x. Traces (string_row Native.StringConcat)
         (M.program memory.old) (M.world memory.old) (with_own stack.old own.now)
         x M.follows memory.old memory.new) }
     ensures of { OnOk result (M.program memory.new ≡ M.program memory.old) }
@@ -519,10 +519,10 @@ fn concat_to<M: Memory>(
     requires room { HasRoom 1 stack.old }
     requires row { IsReady (concat_row receiver argument)
         (M.program memory.old) (M.world memory.old) (with_own stack.old own.now) }
-    ensures meets { IfOk result (λ x. Meets (concat_row receiver argument)
+    ensures meets { IfOk result (λ x. Refines (concat_row receiver argument)
         (M.program memory.old) (M.world memory.old) (with_own stack.old own.now) left.old
         x (with_own stack.new own.now) (M.world memory.new) left.new) }
-    ensures told { IfOk result (λ x. Tells (concat_row receiver argument)
+    ensures told { IfOk result (λ x. Traces (concat_row receiver argument)
         (M.program memory.old) (M.world memory.old) (with_own stack.old own.now)
         x M.follows memory.old memory.new) }
     ensures of { OnOk result (M.program memory.new ≡ M.program memory.old) }
@@ -566,10 +566,10 @@ fn concat_text<M: Memory>(
     requires room { HasRoom 1 stack.old }
     requires row { IsReady (concat_text_row receiver text argument)
         (M.program memory.old) (M.world memory.old) (with_own stack.old own.now) }
-    ensures meets { IfOk result (λ x. Meets (concat_text_row receiver text argument)
+    ensures meets { IfOk result (λ x. Refines (concat_text_row receiver text argument)
         (M.program memory.old) (M.world memory.old) (with_own stack.old own.now) left.old
         x (with_own stack.new own.now) (M.world memory.new) left.new) }
-    ensures told { IfOk result (λ x. Tells (concat_text_row receiver text argument)
+    ensures told { IfOk result (λ x. Traces (concat_text_row receiver text argument)
         (M.program memory.old) (M.world memory.old) (with_own stack.old own.now)
         x M.follows memory.old memory.new) }
     ensures of { OnOk result (M.program memory.new ≡ M.program memory.old) }
@@ -606,10 +606,10 @@ fn join<M: Memory>(
     requires program { p.now ≡ M.program memory.old }
     requires place { IsNext p.now stack.old next }
     requires room { HasRoom 1 stack.old }
-    ensures meets { IfOk result (λ x. Meets (joined_row receiver text more)
+    ensures meets { IfOk result (λ x. Refines (joined_row receiver text more)
         (M.program memory.old) (M.world memory.old) (with_own stack.old own.now) left.old
         x (with_own stack.new own.now) (M.world memory.new) left.new) }
-    ensures told { IfOk result (λ x. Tells (joined_row receiver text more)
+    ensures told { IfOk result (λ x. Traces (joined_row receiver text more)
         (M.program memory.old) (M.world memory.old) (with_own stack.old own.now)
         x M.follows memory.old memory.new) }
     ensures of { OnOk result (M.program memory.new ≡ M.program memory.old) }

@@ -4,7 +4,7 @@ ghost use Rattle.std.specs.Prelude.{◌≡◌, IfOk, OnOk};
 ghost use Rattle.jvm_model.specs.declared.library.Native.{Native};
 ghost use Rattle.jvm_model.specs.World.{World};
 ghost use Rattle.vm_frames.specs.Stack.{HasRoom};
-ghost use Rattle.vm_mem.specs.Meets.{IsReady, IsNext, Meets, Tells};
+ghost use Rattle.vm_mem.specs.Refines.{IsReady, IsNext, Refines, Traces};
 ghost use Rattle.vm_natives.specs.Rows.{with_own, system_row};
 ghost use Rattle.vm_natives.specs.Named.{property_row, property_change_row};
 
@@ -23,7 +23,7 @@ use vm_mem::Memory;
 pub fn clock(stack: &mut FrameStack, p: &Program, own: &mut Own, next: u32, left: &mut u64) -> Next
     requires place { IsNext p.now stack.old next }
     requires room { HasRoom 1 stack.old }
-    ensures { (w : World) → Meets (system_row Native.SystemClock)
+    ensures { (w : World) → Refines (system_row Native.SystemClock)
         p.now w (with_own stack.old own.old) left.old result (with_own stack.new own.new) w left.new }
 {
     if *left == 0 {
@@ -51,10 +51,10 @@ pub fn property_at<M: Memory>(
     requires room { HasRoom 1 stack.old }
     requires row { IsReady (property_row name.now)
         (M.program memory.old) (M.world memory.old) (with_own stack.old own.now) }
-    ensures meets { IfOk result (λ x. Meets (property_row name.now)
+    ensures meets { IfOk result (λ x. Refines (property_row name.now)
         (M.program memory.old) (M.world memory.old) (with_own stack.old own.now) left.old
         x (with_own stack.new own.now) (M.world memory.new) left.new) }
-    ensures told { IfOk result (λ x. Tells (property_row name.now)
+    ensures told { IfOk result (λ x. Traces (property_row name.now)
         (M.program memory.old) (M.world memory.old) (with_own stack.old own.now)
         x M.follows memory.old memory.new) }
     ensures of { OnOk result (M.program memory.new ≡ M.program memory.old) }
@@ -89,10 +89,10 @@ pub fn change_property<M: Memory>(
     requires room { HasRoom 1 stack.old }
     requires row { IsReady (property_change_row name text units)
         (M.program memory.old) (M.world memory.old) (with_own stack.old own.now) }
-    ensures meets { IfOk result (λ x. Meets (property_change_row name text units)
+    ensures meets { IfOk result (λ x. Refines (property_change_row name text units)
         (M.program memory.old) (M.world memory.old) (with_own stack.old own.now) left.old
         x (with_own stack.new own.now) (M.world memory.new) left.new) }
-    ensures told { IfOk result (λ x. Tells (property_change_row name text units)
+    ensures told { IfOk result (λ x. Traces (property_change_row name text units)
         (M.program memory.old) (M.world memory.old) (with_own stack.old own.now)
         x M.follows memory.old memory.new) }
     ensures of { OnOk result (M.program memory.new ≡ M.program memory.old) }

@@ -2,7 +2,7 @@
 
 ghost use Rattle.std.specs.Prelude.{◌≡◌, IfOk, OnOk};
 ghost use Rattle.jvm_model.specs.declared.library.Native.{Native};
-ghost use Rattle.vm_mem.specs.Meets.{IsReady, IsNext, Meets, Tells};
+ghost use Rattle.vm_mem.specs.Refines.{IsReady, IsNext, Refines, Traces};
 ghost use Rattle.vm_natives.specs.Rows.{with_own, throwable_row, kept_row, told_row};
 
 use crate::working::{answer, end};
@@ -27,10 +27,10 @@ pub fn keep_message<M: Memory>(
     requires place { IsNext p.now stack.old next }
     requires row { IsReady (kept_row receiver message)
         (M.program memory.old) (M.world memory.old) (with_own stack.old own.now) }
-    ensures meets { IfOk result (λ x. Meets (kept_row receiver message)
+    ensures meets { IfOk result (λ x. Refines (kept_row receiver message)
         (M.program memory.old) (M.world memory.old) (with_own stack.old own.now) left.old
         x (with_own stack.new own.now) (M.world memory.new) left.new) }
-    ensures told { IfOk result (λ x. Tells (kept_row receiver message)
+    ensures told { IfOk result (λ x. Traces (kept_row receiver message)
         (M.program memory.old) (M.world memory.old) (with_own stack.old own.now)
         x M.follows memory.old memory.new) }
     ensures of { OnOk result (M.program memory.new ≡ M.program memory.old) }
@@ -68,10 +68,10 @@ pub fn get_message<M: Memory>(
     requires place { IsNext p.now stack.old next }
     requires row { IsReady (throwable_row Native.ThrowableGetMessage)
         (M.program memory.old) (M.world memory.old) (with_own stack.old own.now) }
-    ensures meets { IfOk result (λ x. Meets (throwable_row Native.ThrowableGetMessage)
+    ensures meets { IfOk result (λ x. Refines (throwable_row Native.ThrowableGetMessage)
         (M.program memory.old) (M.world memory.old) (with_own stack.old own.now) left.old
         x (with_own stack.new own.now) (M.world memory.new) left.new) }
-    ensures told { IfOk result (λ x. Tells (throwable_row Native.ThrowableGetMessage)
+    ensures told { IfOk result (λ x. Traces (throwable_row Native.ThrowableGetMessage)
         (M.program memory.old) (M.world memory.old) (with_own stack.old own.now)
         x M.follows memory.old memory.new) }
     ensures of { OnOk result (M.program memory.new ≡ M.program memory.old) }
@@ -106,10 +106,10 @@ pub fn assertion_object<M: Memory>(
     requires place { IsNext p.now stack.old next }
     requires row { IsReady (throwable_row Native.AssertionInitObject)
         (M.program memory.old) (M.world memory.old) (with_own stack.old own.now) }
-    ensures meets { IfOk result (λ x. Meets (throwable_row Native.AssertionInitObject)
+    ensures meets { IfOk result (λ x. Refines (throwable_row Native.AssertionInitObject)
         (M.program memory.old) (M.world memory.old) (with_own stack.old own.now) left.old
         x (with_own stack.new own.now) (M.world memory.new) left.new) }
-    ensures told { IfOk result (λ x. Tells (throwable_row Native.AssertionInitObject)
+    ensures told { IfOk result (λ x. Traces (throwable_row Native.AssertionInitObject)
         (M.program memory.old) (M.world memory.old) (with_own stack.old own.now)
         x M.follows memory.old memory.new) }
     ensures of { OnOk result (M.program memory.new ≡ M.program memory.old) }
@@ -154,10 +154,10 @@ pub fn make_message<M: Memory>(
     requires place { IsNext p.now stack.old next }
     requires row { IsReady (told_row receiver text)
         (M.program memory.old) (M.world memory.old) (with_own stack.old own.now) }
-    ensures meets { IfOk result (λ x. Meets (told_row receiver text)
+    ensures meets { IfOk result (λ x. Refines (told_row receiver text)
         (M.program memory.old) (M.world memory.old) (with_own stack.old own.now) left.old
         x (with_own stack.new own.now) (M.world memory.new) left.new) }
-    ensures told { IfOk result (λ x. Tells (told_row receiver text)
+    ensures told { IfOk result (λ x. Traces (told_row receiver text)
         (M.program memory.old) (M.world memory.old) (with_own stack.old own.now)
         x M.follows memory.old memory.new) }
     ensures of { OnOk result (M.program memory.new ≡ M.program memory.old) }

@@ -6,7 +6,7 @@ ghost use Rattle.jvm_model.specs.declared.program.Program.{Program};
 ghost use Rattle.jvm_model.specs.Working as working;
 ghost use Rattle.jvm_model.specs.World.{World};
 ghost use Rattle.vm_frames.specs.Stack.{HasRoom};
-ghost use Rattle.vm_mem.specs.Meets.{IsReady, IsNext, Meets, Tells};
+ghost use Rattle.vm_mem.specs.Refines.{IsReady, IsNext, Refines, Traces};
 ghost use Rattle.vm_natives.specs.Rows.{with_own, end_row, value_row, costly_row, text_row};
 
 use et_base::{NoMemory, Units};
@@ -17,7 +17,7 @@ use vm_mem::Memory;
 /// The call is over without an answer. It counts the 1 of the step. Over, with nothing done, where no unit is left.
 pub fn end(stack: &mut FrameStack, p: &Program, next: u32, left: &mut u64) -> Next
     requires place { IsNext p.now stack.old next }
-    ensures { (w : World) (o : Own) → Meets end_row
+    ensures { (w : World) (o : Own) → Refines end_row
         p.now w (with_own stack.old o) left.old result (with_own stack.new o) w left.new }
 {
     if *left == 0 {
@@ -32,7 +32,7 @@ pub fn end(stack: &mut FrameStack, p: &Program, next: u32, left: &mut u64) -> Ne
 pub fn answer(stack: &mut FrameStack, p: &Program, value: Value, next: u32, left: &mut u64) -> Next
     requires place { IsNext p.now stack.old next }
     requires room { HasRoom 1 stack.old }
-    ensures { (w : World) (o : Own) → Meets (value_row value)
+    ensures { (w : World) (o : Own) → Refines (value_row value)
         p.now w (with_own stack.old o) left.old result (with_own stack.new o) w left.new }
 {
     if *left == 0 {
@@ -56,7 +56,7 @@ pub fn answer_costly(
 ) -> Next
     requires place { IsNext p.now stack.old next }
     requires room { HasRoom 1 stack.old }
-    ensures { (w : World) (o : Own) → Meets (costly_row cost value)
+    ensures { (w : World) (o : Own) → Refines (costly_row cost value)
         p.now w (with_own stack.old o) left.old result (with_own stack.new o) w left.new }
 {
     if *left <= cost {
@@ -90,10 +90,10 @@ pub fn answer_text<M: Memory>(
     requires program { p.now ≡ M.program memory.old }
     requires place { IsNext p.now stack.old next }
     requires room { HasRoom 1 stack.old }
-    ensures meets { IfOk result (λ x. Meets (text_row besides text)
+    ensures meets { IfOk result (λ x. Refines (text_row besides text)
         (M.program memory.old) (M.world memory.old) (with_own stack.old own.now) left.old
         x (with_own stack.new own.now) (M.world memory.new) left.new) }
-    ensures told { IfOk result (λ x. Tells (text_row besides text)
+    ensures told { IfOk result (λ x. Traces (text_row besides text)
         (M.program memory.old) (M.world memory.old) (with_own stack.old own.now)
         x M.follows memory.old memory.new) }
     ensures of { OnOk result (M.program memory.new ≡ M.program memory.old) }

@@ -12,7 +12,7 @@ use Rattle.jvm_model.specs.Entries.{Entries}
 use Rattle.jvm_model.specs.Rows.{goes_on}
 use Rattle.jvm_model.specs.RowsCreate.{children, nest, nested}
 use Rattle.jvm_model.specs.View.{counted, ended, and_then, touched, Exists, IsSafe, Any}
-use Rattle.vm_mem.specs.Story.{Story}
+use Rattle.vm_mem.specs.Trace.{Trace}
 use Rattle.jvm_model.proofs.Binds.{counted_bind, touched_bind, safe_begins, safe_rest}
 
 one_less : (n i : ℕ) → i < n → n - i ≡ suc (n - (i + 1))
@@ -43,9 +43,9 @@ none_left n i o one h = let z : n - i ≡ 0 = omega arith in ap (λ m. children 
 pub ends_in : (p p' : Program) (k : Kind) (n : ℕ) (ms : List ℕ) (w w' : World) (q : ℕ) → p' ≡ p → ((left : ℕ) → counted (nest p' k n ms) w left ≡ ended q w' left) → (left : ℕ) → counted (nest p k n ms) w left ≡ ended q w' left
 ends_in p p' k n ms w w' q e h = subst (λ x. (left : ℕ) → counted (nest x k n ms) w left ≡ ended q w' left) e h
 
-pub tells_in : {M : Type 0} (follows : M → Story → List Touch → Type 0) (m m' : M) (p p' : Program) (k : Kind) (n : ℕ) (ms : List ℕ) (w : World) → p' ≡ p →
-    ((h : Story) (ts : List Touch) → follows m h ts → follows m' h (touched (nest p' k n ms) w ts)) → (h : Story) (ts : List Touch) → follows m h ts → follows m' h (touched (nest p k n ms) w ts)
-tells_in follows m m' p p' k n ms w e h = subst (λ x. (q : Story) (ts : List Touch) → follows m q ts → follows m' q (touched (nest x k n ms) w ts)) e h
+pub tells_in : {M : Type 0} (follows : M → Trace → List Touch → Type 0) (m m' : M) (p p' : Program) (k : Kind) (n : ℕ) (ms : List ℕ) (w : World) → p' ≡ p →
+    ((h : Trace) (ts : List Touch) → follows m h ts → follows m' h (touched (nest p' k n ms) w ts)) → (h : Trace) (ts : List Touch) → follows m h ts → follows m' h (touched (nest p k n ms) w ts)
+tells_in follows m m' p p' k n ms w e h = subst (λ x. (q : Trace) (ts : List Touch) → follows m q ts → follows m' q (touched (nest x k n ms) w ts)) e h
 
 -- what is left of the row touches no more than the arrays
 pub nested_touches : (p : Program) (k : Kind) (s : Entries) (vs : List Value) (ns : List ℕ) (n : ℕ) (ms : List ℕ) (w w' : World) (o : ℕ) → ns ≡ n ∷ ms → ((left : ℕ) → counted (nest p k n ms) w left ≡ ended o w' left) →

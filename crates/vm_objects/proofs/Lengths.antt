@@ -14,8 +14,8 @@ use Rattle.jvm_model.specs.World.{World}
 use Rattle.jvm_model.specs.Entries.{Entries, with_stack}
 use Rattle.jvm_model.specs.RowsCreate.{row_create, sized, nested}
 use Rattle.jvm_model.specs.View.{IsSafe, IsRow, counted, paid, counts_one, touched}
-use Rattle.vm_mem.specs.Story.{Story}
-use Rattle.vm_mem.specs.Meets.{Row, IsReady, Meets, Tells}
+use Rattle.vm_mem.specs.Trace.{Trace}
+use Rattle.vm_mem.specs.Refines.{Row, IsReady, Refines, Traces}
 use Rattle.vm_objects.specs.Forms.{create_row, count_of}
 use Rattle.vm_objects.specs.Nests.{HasInts, nested_row, taken}
 
@@ -86,11 +86,11 @@ module _ (t u : Row Entries) (p : Program) (s s' : Entries) (w : World) (e : t p
   same_ready h = subst (λ r. IsSafe IsRow r w) e h
 
   pub same_meets : {E : Type 0} (left : ℕ) (r : Result Next E) (s2 : Entries) (w2 : World) (left2 : ℕ) →
-      IfOk r (λ y. Meets u p w s' left y s2 w2 left2) → IfOk r (λ y. Meets t p w s left y s2 w2 left2)
-  same_meets left r s2 w2 left2 = IfOk-weaker r (λ y. Meets u p w s' left y s2 w2 left2) (λ y. Meets t p w s left y s2 w2 left2)
+      IfOk r (λ y. Refines u p w s' left y s2 w2 left2) → IfOk r (λ y. Refines t p w s left y s2 w2 left2)
+  same_meets left r s2 w2 left2 = IfOk-weaker r (λ y. Refines u p w s' left y s2 w2 left2) (λ y. Refines t p w s left y s2 w2 left2)
       (λ y h. ap (λ z. counted (paid (counts_one p y) z) w left) e ∙ h)
 
-  pub same_tells : {E M : Type 0} (follows : M → Story → List Touch → Type 0) (m0 m2 : M) (r : Result Next E) →
-      IfOk r (λ y. Tells u p w s' y follows m0 m2) → IfOk r (λ y. Tells t p w s y follows m0 m2)
-  same_tells follows m0 m2 r = IfOk-weaker r (λ y. Tells u p w s' y follows m0 m2) (λ y. Tells t p w s y follows m0 m2)
+  pub same_tells : {E M : Type 0} (follows : M → Trace → List Touch → Type 0) (m0 m2 : M) (r : Result Next E) →
+      IfOk r (λ y. Traces u p w s' y follows m0 m2) → IfOk r (λ y. Traces t p w s y follows m0 m2)
+  same_tells follows m0 m2 r = IfOk-weaker r (λ y. Traces u p w s' y follows m0 m2) (λ y. Traces t p w s y follows m0 m2)
       (λ y h n q ts f. subst (λ z. follows m2 q z) (sym (ap (λ z. touched z w ts) e)) (h n q ts f))

@@ -12,7 +12,7 @@ use Rattle.jvm_model.specs.RowsFields.{row_fields}
 use Rattle.jvm_model.specs.RowsArrays.{row_arrays, stored_in}
 use Rattle.jvm_model.specs.RowsCasts.{row_casts}
 use Rattle.jvm_model.specs.RowsCreate.{row_create, new_object}
-use Rattle.vm_mem.specs.Meets.{Row}
+use Rattle.vm_mem.specs.Refines.{Row}
 
 abbrev pub static_row : Instr → Row Entries
 static_row i p s = row_statics p i s

@@ -9,7 +9,7 @@ use Rattle.jvm_model.specs.Entries.{Entries, with_stack}
 use Rattle.jvm_model.specs.Rows.{Answer, faults}
 use Rattle.jvm_model.specs.RowsCreate.{nested}
 use Rattle.vm_frames.specs.Slots.{IsInt}
-use Rattle.vm_mem.specs.Meets.{Row}
+use Rattle.vm_mem.specs.Refines.{Row}
 
 -- the n topmost operands are ints
 abbrev pub HasInts : ℕ → List Value → Type 0

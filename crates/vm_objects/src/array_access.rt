@@ -11,8 +11,8 @@ ghost use Rattle.jvm_model.specs.Access.{write_of};
 ghost use Rattle.jvm_model.specs.Entries.{with_place};
 ghost use Rattle.jvm_model.specs.RowsArrays.{element_letter};
 ghost use Rattle.jvm_model.specs.View.{Exists};
-ghost use Rattle.vm_mem.specs.Story.{Adds};
-ghost use Rattle.vm_mem.specs.Meets.{IsReady, IsNext, Meets, Tells};
+ghost use Rattle.vm_mem.specs.Trace.{Extends};
+ghost use Rattle.vm_mem.specs.Refines.{IsReady, IsNext, Refines, Traces};
 ghost use Rattle.vm_objects.specs.Forms.{array_row, store_row, place_in};
 
 use et_base::letters::{BOOLEAN, BYTE, CHAR, CLASS, INT, LONG, SHORT};
@@ -43,10 +43,10 @@ pub fn arrays<M: Memory>(
     requires row { IsReady (array_row form.now)
         (M.program memory.old) (M.world memory.old) stack.old }
     requires place { IsNext (M.program memory.old) stack.old next }
-    ensures meets { IfOk result (λ x. Meets (array_row form.now)
+    ensures meets { IfOk result (λ x. Refines (array_row form.now)
         (M.program memory.old) (M.world memory.old) stack.old left.old
         x stack.new (M.world memory.new) left.new) }
-    ensures told { IfOk result (λ x. Tells (array_row form.now)
+    ensures told { IfOk result (λ x. Traces (array_row form.now)
         (M.program memory.old) (M.world memory.old) stack.old
         x M.follows memory.old memory.new) }
     ensures of { OnOk result (M.program memory.new ≡ M.program memory.old) }
@@ -70,10 +70,10 @@ pub fn array_length<M: Memory>(
     requires row { IsReady (array_row form.ArrayLength)
         (M.program memory.old) (M.world memory.old) stack.old }
     requires place { IsNext (M.program memory.old) stack.old next }
-    ensures meets { IfOk result (λ x. Meets (array_row form.ArrayLength)
+    ensures meets { IfOk result (λ x. Refines (array_row form.ArrayLength)
         (M.program memory.old) (M.world memory.old) stack.old left.old
         x stack.new (M.world memory.new) left.new) }
-    ensures told { IfOk result (λ x. Tells (array_row form.ArrayLength)
+    ensures told { IfOk result (λ x. Traces (array_row form.ArrayLength)
         (M.program memory.old) (M.world memory.old) stack.old
         x M.follows memory.old memory.new) }
     ensures of { OnOk result (M.program memory.new ≡ M.program memory.old) }
@@ -113,10 +113,10 @@ pub fn array_load<M: Memory>(
     requires row { IsReady (array_row (form.ArrayLoad cell.Ref))
         (M.program memory.old) (M.world memory.old) stack.old }
     requires place { IsNext (M.program memory.old) stack.old next }
-    ensures meets { IfOk result (λ x. Meets (array_row (form.ArrayLoad cell.Ref))
+    ensures meets { IfOk result (λ x. Refines (array_row (form.ArrayLoad cell.Ref))
         (M.program memory.old) (M.world memory.old) stack.old left.old
         x stack.new (M.world memory.new) left.new) }
-    ensures told { IfOk result (λ x. Tells (array_row (form.ArrayLoad cell.Ref))
+    ensures told { IfOk result (λ x. Traces (array_row (form.ArrayLoad cell.Ref))
         (M.program memory.old) (M.world memory.old) stack.old
         x M.follows memory.old memory.new) }
     ensures of { OnOk result (M.program memory.new ≡ M.program memory.old) }
@@ -162,10 +162,10 @@ pub fn array_store<M: Memory>(
     requires row { IsReady (array_row (form.ArrayStore of))
         (M.program memory.old) (M.world memory.old) stack.old }
     requires place { IsNext (M.program memory.old) stack.old next }
-    ensures meets { IfOk result (λ x. Meets (array_row (form.ArrayStore of))
+    ensures meets { IfOk result (λ x. Refines (array_row (form.ArrayStore of))
         (M.program memory.old) (M.world memory.old) stack.old left.old
         x stack.new (M.world memory.new) left.new) }
-    ensures told { IfOk result (λ x. Tells (array_row (form.ArrayStore of))
+    ensures told { IfOk result (λ x. Traces (array_row (form.ArrayStore of))
         (M.program memory.old) (M.world memory.old) stack.old
         x M.follows memory.old memory.new) }
     ensures of { OnOk result (M.program memory.new ≡ M.program memory.old) }
@@ -200,10 +200,10 @@ pub fn array_store_number<M: Memory>(
     requires row { IsReady (array_row (form.ArrayStore cell.Int))
         (M.program memory.old) (M.world memory.old) stack.old }
     requires place { IsNext (M.program memory.old) stack.old next }
-    ensures meets { IfOk result (λ x. Meets (array_row (form.ArrayStore cell.Int))
+    ensures meets { IfOk result (λ x. Refines (array_row (form.ArrayStore cell.Int))
         (M.program memory.old) (M.world memory.old) stack.old left.old
         x stack.new (M.world memory.new) left.new) }
-    ensures told { IfOk result (λ x. Tells (array_row (form.ArrayStore cell.Int))
+    ensures told { IfOk result (λ x. Traces (array_row (form.ArrayStore cell.Int))
         (M.program memory.old) (M.world memory.old) stack.old
         x M.follows memory.old memory.new) }
     ensures of { OnOk result (M.program memory.new ≡ M.program memory.old) }
@@ -237,10 +237,10 @@ fn store_number<M: Memory>(
         (M.program memory.old) (M.world memory.old) stack.old }
     requires units { 0 < left.old }
     requires place { IsNext (M.program memory.old) stack.old next }
-    ensures meets { IfOk result (λ x. Meets (store_row cell.Int array index v)
+    ensures meets { IfOk result (λ x. Refines (store_row cell.Int array index v)
         (M.program memory.old) (M.world memory.old) stack.old left.old
         x stack.new (M.world memory.new) left.new) }
-    ensures told { IfOk result (λ x. Tells (store_row cell.Int array index v)
+    ensures told { IfOk result (λ x. Traces (store_row cell.Int array index v)
         (M.program memory.old) (M.world memory.old) stack.old
         x M.follows memory.old memory.new) }
     ensures of { OnOk result (M.program memory.new ≡ M.program memory.old) }
@@ -275,10 +275,10 @@ fn store_reference<M: Memory>(
         (M.program memory.old) (M.world memory.old) stack.old }
     requires units { 0 < left.old }
     requires place { IsNext (M.program memory.old) stack.old next }
-    ensures meets { IfOk result (λ x. Meets (store_row cell.Ref array index v)
+    ensures meets { IfOk result (λ x. Refines (store_row cell.Ref array index v)
         (M.program memory.old) (M.world memory.old) stack.old left.old
         x stack.new (M.world memory.new) left.new) }
-    ensures told { IfOk result (λ x. Tells (store_row cell.Ref array index v)
+    ensures told { IfOk result (λ x. Traces (store_row cell.Ref array index v)
         (M.program memory.old) (M.world memory.old) stack.old
         x M.follows memory.old memory.new) }
     ensures of { OnOk result (M.program memory.new ≡ M.program memory.old) }
@@ -331,7 +331,7 @@ fn put_element<M: Memory>(
     ensures set { OnOk result
         (M.world memory.new ≡ put (M.world memory.old) (place.Elem array i) v) }
     ensures told { OnOk result
-        (Adds M.follows memory.old memory.new (write_of (place.Elem array i) ∷ [])) }
+        (Extends M.follows memory.old memory.new (write_of (place.Elem array i) ∷ [])) }
 {
     memory.put_elem(array, i, v)?;
     stack.set_pc(next);

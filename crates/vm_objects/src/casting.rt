@@ -8,7 +8,7 @@ ghost use Rattle.jvm_model.specs.declared.values.Value.TheVariants.{Int};
 ghost use Rattle.jvm_model.specs.Builtin.{class_cast_exception};
 ghost use Rattle.jvm_model.specs.Entries.{with_stack, with_place};
 ghost use Rattle.vm_frames.specs.Stack.{HasRoom};
-ghost use Rattle.vm_mem.specs.Meets.{IsReady, IsNext, Meets, Tells};
+ghost use Rattle.vm_mem.specs.Refines.{IsReady, IsNext, Refines, Traces};
 ghost use Rattle.vm_objects.specs.Forms.{cast_row};
 
 use et_base::NoMemory;
@@ -33,10 +33,10 @@ pub fn casts<M: Memory>(
     requires row { IsReady (cast_row form.now)
         (M.program memory.old) (M.world memory.old) stack.old }
     requires place { IsNext (M.program memory.old) stack.old next }
-    ensures meets { IfOk result (λ x. Meets (cast_row form.now)
+    ensures meets { IfOk result (λ x. Refines (cast_row form.now)
         (M.program memory.old) (M.world memory.old) stack.old left.old
         x stack.new (M.world memory.new) left.new) }
-    ensures told { IfOk result (λ x. Tells (cast_row form.now)
+    ensures told { IfOk result (λ x. Traces (cast_row form.now)
         (M.program memory.old) (M.world memory.old) stack.old
         x M.follows memory.old memory.new) }
     ensures of { OnOk result (M.program memory.new ≡ M.program memory.old) }
@@ -61,10 +61,10 @@ pub fn check_cast<M: Memory>(
     requires row { IsReady (cast_row (form.CheckCast kind))
         (M.program memory.old) (M.world memory.old) stack.old }
     requires place { IsNext (M.program memory.old) stack.old next }
-    ensures meets { IfOk result (λ x. Meets (cast_row (form.CheckCast kind))
+    ensures meets { IfOk result (λ x. Refines (cast_row (form.CheckCast kind))
         (M.program memory.old) (M.world memory.old) stack.old left.old
         x stack.new (M.world memory.new) left.new) }
-    ensures told { IfOk result (λ x. Tells (cast_row (form.CheckCast kind))
+    ensures told { IfOk result (λ x. Traces (cast_row (form.CheckCast kind))
         (M.program memory.old) (M.world memory.old) stack.old
         x M.follows memory.old memory.new) }
     ensures of { OnOk result (M.program memory.new ≡ M.program memory.old) }
@@ -126,10 +126,10 @@ pub fn instance_of<M: Memory>(
     requires row { IsReady (cast_row (form.InstanceOf kind))
         (M.program memory.old) (M.world memory.old) stack.old }
     requires place { IsNext (M.program memory.old) stack.old next }
-    ensures meets { IfOk result (λ x. Meets (cast_row (form.InstanceOf kind))
+    ensures meets { IfOk result (λ x. Refines (cast_row (form.InstanceOf kind))
         (M.program memory.old) (M.world memory.old) stack.old left.old
         x stack.new (M.world memory.new) left.new) }
-    ensures told { IfOk result (λ x. Tells (cast_row (form.InstanceOf kind))
+    ensures told { IfOk result (λ x. Traces (cast_row (form.InstanceOf kind))
         (M.program memory.old) (M.world memory.old) stack.old
         x M.follows memory.old memory.new) }
     ensures of { OnOk result (M.program memory.new ≡ M.program memory.old) }

@@ -5,7 +5,7 @@ ghost use Rattle.std.specs.Prelude.{◌≡◌, IfOk, OnOk};
 ghost use Rattle.jvm_model.specs.declared.instr.Instr.TheVariants as form;
 ghost use Rattle.jvm_model.specs.RowsCreate.{is_bare};
 ghost use Rattle.vm_frames.specs.Stack.{HasRoom};
-ghost use Rattle.vm_mem.specs.Meets.{IsReady, IsNext, Meets, Tells};
+ghost use Rattle.vm_mem.specs.Refines.{IsReady, IsNext, Refines, Traces};
 ghost use Rattle.vm_objects.specs.Forms.{create_row, object_row, count_of};
 
 use crate::nesting::multi_new_array;
@@ -39,10 +39,10 @@ pub fn create<M: Memory>(
         (M.program memory.old) (M.world memory.old) stack.old }
     requires room { HasRoom 1 stack.old }
     requires place { IsNext (M.program memory.old) stack.old next }
-    ensures meets { IfOk result (λ x. Meets (create_row form.now)
+    ensures meets { IfOk result (λ x. Refines (create_row form.now)
         (M.program memory.old) (M.world memory.old) stack.old left.old
         x stack.new (M.world memory.new) left.new) }
-    ensures told { IfOk result (λ x. Tells (create_row form.now)
+    ensures told { IfOk result (λ x. Traces (create_row form.now)
         (M.program memory.old) (M.world memory.old) stack.old
         x M.follows memory.old memory.new) }
     ensures of { OnOk result (M.program memory.new ≡ M.program memory.old) }
@@ -79,10 +79,10 @@ pub fn new_object<M: Memory>(
         (M.program memory.old) (M.world memory.old) stack.old }
     requires room { HasRoom 1 stack.old }
     requires place { IsNext (M.program memory.old) stack.old next }
-    ensures meets { IfOk result (λ x. Meets (create_row (form.New class))
+    ensures meets { IfOk result (λ x. Refines (create_row (form.New class))
         (M.program memory.old) (M.world memory.old) stack.old left.old
         x stack.new (M.world memory.new) left.new) }
-    ensures told { IfOk result (λ x. Tells (create_row (form.New class))
+    ensures told { IfOk result (λ x. Traces (create_row (form.New class))
         (M.program memory.old) (M.world memory.old) stack.old
         x M.follows memory.old memory.new) }
     ensures of { OnOk result (M.program memory.new ≡ M.program memory.old) }
@@ -127,10 +127,10 @@ fn make_object<M: Memory>(
         (M.program memory.old) (M.world memory.old) stack.old }
     requires room { HasRoom 1 stack.old }
     requires place { IsNext (M.program memory.old) stack.old next }
-    ensures meets { IfOk result (λ x. Meets (object_row class)
+    ensures meets { IfOk result (λ x. Refines (object_row class)
         (M.program memory.old) (M.world memory.old) stack.old left.old
         x stack.new (M.world memory.new) left.new) }
-    ensures told { IfOk result (λ x. Tells (object_row class)
+    ensures told { IfOk result (λ x. Traces (object_row class)
         (M.program memory.old) (M.world memory.old) stack.old
         x M.follows memory.old memory.new) }
     ensures of { OnOk result (M.program memory.new ≡ M.program memory.old) }
@@ -164,10 +164,10 @@ pub fn new_array<M: Memory>(
     requires row { IsReady (create_row (form.NewArray kind))
         (M.program memory.old) (M.world memory.old) stack.old }
     requires place { IsNext (M.program memory.old) stack.old next }
-    ensures meets { IfOk result (λ x. Meets (create_row (form.NewArray kind))
+    ensures meets { IfOk result (λ x. Refines (create_row (form.NewArray kind))
         (M.program memory.old) (M.world memory.old) stack.old left.old
         x stack.new (M.world memory.new) left.new) }
-    ensures told { IfOk result (λ x. Tells (create_row (form.NewArray kind))
+    ensures told { IfOk result (λ x. Traces (create_row (form.NewArray kind))
         (M.program memory.old) (M.world memory.old) stack.old
         x M.follows memory.old memory.new) }
     ensures of { OnOk result (M.program memory.new ≡ M.program memory.old) }

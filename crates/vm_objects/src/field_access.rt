@@ -3,7 +3,7 @@
 
 ghost use Rattle.std.specs.Prelude.{◌≡◌, IfOk, OnOk};
 ghost use Rattle.jvm_model.specs.declared.instr.Instr.TheVariants as form;
-ghost use Rattle.vm_mem.specs.Meets.{IsReady, IsNext, Meets, Tells};
+ghost use Rattle.vm_mem.specs.Refines.{IsReady, IsNext, Refines, Traces};
 ghost use Rattle.vm_objects.specs.Forms.{field_row};
 
 use et_base::NoMemory;
@@ -28,10 +28,10 @@ pub fn fields<M: Memory>(
     requires row { IsReady (field_row form.now)
         (M.program memory.old) (M.world memory.old) stack.old }
     requires place { IsNext (M.program memory.old) stack.old next }
-    ensures meets { IfOk result (λ x. Meets (field_row form.now)
+    ensures meets { IfOk result (λ x. Refines (field_row form.now)
         (M.program memory.old) (M.world memory.old) stack.old left.old
         x stack.new (M.world memory.new) left.new) }
-    ensures told { IfOk result (λ x. Tells (field_row form.now)
+    ensures told { IfOk result (λ x. Traces (field_row form.now)
         (M.program memory.old) (M.world memory.old) stack.old
         x M.follows memory.old memory.new) }
     ensures of { OnOk result (M.program memory.new ≡ M.program memory.old) }
@@ -55,10 +55,10 @@ pub fn get_field<M: Memory>(
     requires row { IsReady (field_row (form.GetField 0 field))
         (M.program memory.old) (M.world memory.old) stack.old }
     requires place { IsNext (M.program memory.old) stack.old next }
-    ensures meets { IfOk result (λ x. Meets (field_row (form.GetField 0 field))
+    ensures meets { IfOk result (λ x. Refines (field_row (form.GetField 0 field))
         (M.program memory.old) (M.world memory.old) stack.old left.old
         x stack.new (M.world memory.new) left.new) }
-    ensures told { IfOk result (λ x. Tells (field_row (form.GetField 0 field))
+    ensures told { IfOk result (λ x. Traces (field_row (form.GetField 0 field))
         (M.program memory.old) (M.world memory.old) stack.old
         x M.follows memory.old memory.new) }
     ensures of { OnOk result (M.program memory.new ≡ M.program memory.old) }
@@ -96,10 +96,10 @@ pub fn put_field<M: Memory>(
     requires row { IsReady (field_row (form.PutField 0 field))
         (M.program memory.old) (M.world memory.old) stack.old }
     requires place { IsNext (M.program memory.old) stack.old next }
-    ensures meets { IfOk result (λ x. Meets (field_row (form.PutField 0 field))
+    ensures meets { IfOk result (λ x. Refines (field_row (form.PutField 0 field))
         (M.program memory.old) (M.world memory.old) stack.old left.old
         x stack.new (M.world memory.new) left.new) }
-    ensures told { IfOk result (λ x. Tells (field_row (form.PutField 0 field))
+    ensures told { IfOk result (λ x. Traces (field_row (form.PutField 0 field))
         (M.program memory.old) (M.world memory.old) stack.old
         x M.follows memory.old memory.new) }
     ensures of { OnOk result (M.program memory.new ≡ M.program memory.old) }

@@ -9,8 +9,8 @@ ghost use Rattle.jvm_model.specs.Entries.{Entries, with_stack};
 ghost use Rattle.jvm_model.specs.RowsCreate as create;
 ghost use Rattle.jvm_model.specs.View.{IsSafe, Any, counted, ended, touched};
 ghost use Rattle.vm_frames.specs.Stack.{HasRoom};
-ghost use Rattle.vm_mem.specs.Meets.{IsReady, IsNext, Meets, Tells};
-ghost use Rattle.vm_mem.specs.Story.{Story};
+ghost use Rattle.vm_mem.specs.Refines.{IsReady, IsNext, Refines, Traces};
+ghost use Rattle.vm_mem.specs.Trace.{Trace};
 ghost use Rattle.vm_objects.specs.Forms.{create_row};
 ghost use Rattle.vm_objects.specs.Nests.{nested_row, taken, HasInts};
 
@@ -43,10 +43,10 @@ pub fn multi_new_array<M: Memory>(
     requires row { IsReady (create_row (form.MultiNewArray kind dims))
         (M.program memory.old) (M.world memory.old) stack.old }
     requires place { IsNext (M.program memory.old) stack.old next }
-    ensures meets { IfOk result (λ x. Meets (create_row (form.MultiNewArray kind dims))
+    ensures meets { IfOk result (λ x. Refines (create_row (form.MultiNewArray kind dims))
         (M.program memory.old) (M.world memory.old) stack.old left.old
         x stack.new (M.world memory.new) left.new) }
-    ensures told { IfOk result (λ x. Tells (create_row (form.MultiNewArray kind dims))
+    ensures told { IfOk result (λ x. Traces (create_row (form.MultiNewArray kind dims))
         (M.program memory.old) (M.world memory.old) stack.old
         x M.follows memory.old memory.new) }
     ensures of { OnOk result (M.program memory.new ≡ M.program memory.old) }
@@ -112,10 +112,10 @@ fn put_nested<M: Memory>(
         (M.program memory.old) (M.world memory.old) stack.old }
     requires room { HasRoom 1 stack.old }
     requires place { IsNext (M.program memory.old) stack.old next }
-    ensures meets { IfOk result (λ x. Meets (nested_row kind lengths.now)
+    ensures meets { IfOk result (λ x. Refines (nested_row kind lengths.now)
         (M.program memory.old) (M.world memory.old) stack.old left.old
         x stack.new (M.world memory.new) left.new) }
-    ensures told { IfOk result (λ x. Tells (nested_row kind lengths.now)
+    ensures told { IfOk result (λ x. Traces (nested_row kind lengths.now)
         (M.program memory.old) (M.world memory.old) stack.old
         x M.follows memory.old memory.new) }
     ensures of { OnOk result (M.program memory.new ≡ M.program memory.old) }
@@ -156,7 +156,7 @@ fn nest<M: Memory>(memory: &mut M, kind: Kind, length: u32, inner: &[u32]) -> Re
     ensures meets { IfOk result (λ o. (left : ℕ) → counted
         (create.nest (M.program memory.old) kind length inner.now) (M.world memory.old) left
         ≡ ended o (M.world memory.new) left) }
-    ensures told { OnOk result ((h : Story) (ts : List Touch) → M.follows memory.old h ts
+    ensures told { OnOk result ((h : Trace) (ts : List Touch) → M.follows memory.old h ts
         → M.follows memory.new h (touched (create.nest (M.program memory.old) kind length inner.now)
         (M.world memory.old) ts)) }
     ensures of { OnOk result (M.program memory.new ≡ M.program memory.old) }
@@ -183,7 +183,7 @@ fn fill<M: Memory>(
     ensures meets { OnOk result ((left : ℕ) → counted (create.children count 0 object
         (create.nest (M.program memory.old) kind length inner.now)) (M.world memory.old) left
         ≡ ended object (M.world memory.new) left) }
-    ensures told { OnOk result ((h : Story) (ts : List Touch) → M.follows memory.old h ts
+    ensures told { OnOk result ((h : Trace) (ts : List Touch) → M.follows memory.old h ts
         → M.follows memory.new h (touched (create.children count 0 object
         (create.nest (M.program memory.old) kind length inner.now)) (M.world memory.old) ts)) }
     ensures of { OnOk result (M.program memory.new ≡ M.program memory.old) }

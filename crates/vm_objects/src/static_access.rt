@@ -4,7 +4,7 @@
 ghost use Rattle.std.specs.Prelude.{◌≡◌, IfOk, OnOk};
 ghost use Rattle.jvm_model.specs.declared.instr.Instr.TheVariants as form;
 ghost use Rattle.vm_frames.specs.Stack.{HasRoom};
-ghost use Rattle.vm_mem.specs.Meets.{IsReady, IsNext, Meets, Tells};
+ghost use Rattle.vm_mem.specs.Refines.{IsReady, IsNext, Refines, Traces};
 ghost use Rattle.vm_objects.specs.Forms.{static_row, read_row, write_row};
 
 use class_init::{Use, begin_use};
@@ -34,10 +34,10 @@ pub fn statics<M: Memory>(
         (M.program memory.old) (M.world memory.old) stack.old }
     requires room { HasRoom 1 stack.old }
     requires place { IsNext (M.program memory.old) stack.old next }
-    ensures meets { IfOk result (λ x. Meets (static_row form.now)
+    ensures meets { IfOk result (λ x. Refines (static_row form.now)
         (M.program memory.old) (M.world memory.old) stack.old left.old
         x stack.new (M.world memory.new) left.new) }
-    ensures told { IfOk result (λ x. Tells (static_row form.now)
+    ensures told { IfOk result (λ x. Traces (static_row form.now)
         (M.program memory.old) (M.world memory.old) stack.old
         x M.follows memory.old memory.new) }
     ensures of { OnOk result (M.program memory.new ≡ M.program memory.old) }
@@ -70,10 +70,10 @@ pub fn get_static<M: Memory>(
         (M.program memory.old) (M.world memory.old) stack.old }
     requires room { HasRoom 1 stack.old }
     requires place { IsNext (M.program memory.old) stack.old next }
-    ensures meets { IfOk result (λ x. Meets (static_row (form.GetStatic field))
+    ensures meets { IfOk result (λ x. Refines (static_row (form.GetStatic field))
         (M.program memory.old) (M.world memory.old) stack.old left.old
         x stack.new (M.world memory.new) left.new) }
-    ensures told { IfOk result (λ x. Tells (static_row (form.GetStatic field))
+    ensures told { IfOk result (λ x. Traces (static_row (form.GetStatic field))
         (M.program memory.old) (M.world memory.old) stack.old
         x M.follows memory.old memory.new) }
     ensures of { OnOk result (M.program memory.new ≡ M.program memory.old) }
@@ -100,10 +100,10 @@ fn read_static<M: Memory>(
         (M.program memory.old) (M.world memory.old) stack.old }
     requires room { HasRoom 1 stack.old }
     requires place { IsNext (M.program memory.old) stack.old next }
-    ensures meets { IfOk result (λ x. Meets (read_row field)
+    ensures meets { IfOk result (λ x. Refines (read_row field)
         (M.program memory.old) (M.world memory.old) stack.old left.old
         x stack.new (M.world memory.new) left.new) }
-    ensures told { IfOk result (λ x. Tells (read_row field)
+    ensures told { IfOk result (λ x. Traces (read_row field)
         (M.program memory.old) (M.world memory.old) stack.old
         x M.follows memory.old memory.new) }
     ensures of { OnOk result (M.program memory.new ≡ M.program memory.old) }
@@ -135,10 +135,10 @@ pub fn put_static<M: Memory>(
     requires row { IsReady (static_row (form.PutStatic field))
         (M.program memory.old) (M.world memory.old) stack.old }
     requires place { IsNext (M.program memory.old) stack.old next }
-    ensures meets { IfOk result (λ x. Meets (static_row (form.PutStatic field))
+    ensures meets { IfOk result (λ x. Refines (static_row (form.PutStatic field))
         (M.program memory.old) (M.world memory.old) stack.old left.old
         x stack.new (M.world memory.new) left.new) }
-    ensures told { IfOk result (λ x. Tells (static_row (form.PutStatic field))
+    ensures told { IfOk result (λ x. Traces (static_row (form.PutStatic field))
         (M.program memory.old) (M.world memory.old) stack.old
         x M.follows memory.old memory.new) }
     ensures of { OnOk result (M.program memory.new ≡ M.program memory.old) }
@@ -166,10 +166,10 @@ fn write_static<M: Memory>(
     requires row { IsReady (write_row field)
         (M.program memory.old) (M.world memory.old) stack.old }
     requires place { IsNext (M.program memory.old) stack.old next }
-    ensures meets { IfOk result (λ x. Meets (write_row field)
+    ensures meets { IfOk result (λ x. Refines (write_row field)
         (M.program memory.old) (M.world memory.old) stack.old left.old
         x stack.new (M.world memory.new) left.new) }
-    ensures told { IfOk result (λ x. Tells (write_row field)
+    ensures told { IfOk result (λ x. Traces (write_row field)
         (M.program memory.old) (M.world memory.old) stack.old
         x M.follows memory.old memory.new) }
     ensures of { OnOk result (M.program memory.new ≡ M.program memory.old) }

@@ -13,7 +13,7 @@ use Rattle.jvm_model.proofs.Ranges.{default_in}
 use Rattle.jvm_model.proofs.Upwards.{member_class}
 use Rattle.jvm_model.proofs.Walks.{all_member}
 use Rattle.member_lookup.proofs.Ancestry.{any_append, member_get}
-use Rattle.vm_tables.specs.Above.{AreOwn, AreInterfaces, AreImplemented, AreBelow}
+use Rattle.vm_tables.specs.Hierarchy.{AreOwn, AreInterfaces, AreImplemented, AreBelow}
 use Rattle.vm_tables.proofs.Started.{table_all}
 
 -- what holds of each member holds of each entry

@@ -9,7 +9,7 @@ use Rattle.jvm_model.specs.Initialise.{Part as Before, parts_of, superclass_part
 use Rattle.jvm_model.specs.Classes.{method_at, no_method}
 use Rattle.jvm_model.specs.Descriptors.{parameters, return_type}
 use Rattle.vm_tables.specs.declared.methods.MethodFacts.{MethodFacts}
-use Rattle.vm_tables.specs.declared.parts.Part.{Part}
+use Rattle.vm_tables.specs.declared.init_plan.Part.{Part}
 use Rattle.vm_tables.specs.Methods.{AreFacts, facts_of, no_facts}
 use Rattle.vm_tables.specs.Interfaces.{AreDefaults}
 use Rattle.vm_tables.specs.Starts.{AreTrivial, AreParts, part_of, interface_part, is_started}

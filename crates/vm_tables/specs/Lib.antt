@@ -1,4 +1,4 @@
-pub mod Above
+pub mod Hierarchy
 pub mod FieldPlaces
 pub mod FieldUnits
 pub mod Interfaces

@@ -77,4 +77,4 @@ pub record AreTables (p : Program) (tables afters : List (List ℕ)) (sizes firs
   pub defaults : q ≡ p
   pub trivial : r ≡ p
   pub parts : s ≡ p
-  pub above : t ≡ p
+  pub hierarchy : t ≡ p

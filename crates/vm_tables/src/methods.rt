@@ -2,7 +2,7 @@
 
 ghost use Rattle.std.specs.Prelude.{◌≡◌, IfOk};
 ghost use Rattle.jvm_model.specs.Linked.{first_or};
-ghost use Rattle.vm_tables.specs.Methods.{entrance_in, facts_in, facts_of};
+ghost use Rattle.vm_tables.specs.Methods.{call_descriptor_in, facts_in, facts_of};
 
 use crate::trivial::TrivialClasses;
 use et_base::{Items, NoMemory};
@@ -13,7 +13,7 @@ use std::snapshot::Snapshot;
 
 /// What entering a method takes that has code and isn't built-in.
 #[derive(Clone, Copy)]
-pub struct Entrance {
+pub struct CallDescriptor {
     /// How many units: the greatest depth of its operands, its locals, and the 1 of the step.
     pub cost: u32,
     /// How many slots its locals have.
@@ -28,7 +28,7 @@ pub(crate) struct MethodFacts {
     /// How many arguments its descriptor asks for, the receiver left aside.
     pub arguments: usize,
     /// What entering it takes.
-    pub entrance: Option<Entrance>,
+    pub call_descriptor: Option<CallDescriptor>,
     /// The first unit of the type that it returns, 0 where its descriptor lacks one.
     pub return_unit: u16,
     /// Whether its name is `<init>`.
@@ -82,7 +82,7 @@ impl MethodTable {
         match self.table.get(method as usize) {
             None => MethodFacts {
                 arguments: 0,
-                entrance: None,
+                call_descriptor: None,
                 return_unit: 0,
                 is_initialiser: false,
             },
@@ -97,15 +97,15 @@ fn facts_of(trivial: &TrivialClasses, method: &MethodRec) -> MethodFacts
 {
     MethodFacts {
         arguments: parameter_count(method.descriptor.as_slice()),
-        entrance: entrance_of(trivial, method),
+        call_descriptor: call_descriptor_of(trivial, method),
         return_unit: first_unit(return_type(method.descriptor.as_slice())),
         is_initialiser: method.name.as_slice() == &INIT[..],
     }
 }
 
 /// What entering a method takes, None of a built-in one and one without code.
-fn entrance_of(trivial: &TrivialClasses, method: &MethodRec) -> Option<Entrance>
-    ensures { result ≡ entrance_in trivial.now method.now }
+fn call_descriptor_of(trivial: &TrivialClasses, method: &MethodRec) -> Option<CallDescriptor>
+    ensures { result ≡ call_descriptor_in trivial.now method.now }
 {
     if method.native.is_some() {
         return None;
@@ -113,7 +113,7 @@ fn entrance_of(trivial: &TrivialClasses, method: &MethodRec) -> Option<Entrance>
     let Some(body) = &method.body else {
         return None;
     };
-    Some(Entrance {
+    Some(CallDescriptor {
         cost: u32::from(body.max_stack) + u32::from(body.max_locals) + 1,
         max_locals: body.max_locals,
         is_trivial: trivial.contains(method.class),

@@ -10,15 +10,15 @@ ghost use Rattle.jvm_model.specs.Linked.{IsBody, Linked};
 ghost use Rattle.jvm_model.specs.Kinds as kinds;
 ghost use Rattle.jvm_model.specs.Selection.{all_interfaces};
 ghost use Rattle.vm_tables.specs.FieldUnits.{field_unit, AreUnits};
-ghost use Rattle.vm_tables.specs.Methods.{entrance_of, return_unit};
+ghost use Rattle.vm_tables.specs.Methods.{call_descriptor_of, return_unit};
 ghost use Rattle.vm_tables.specs.Numbers.{code_of, instruction_of, no_placed, AllNexts, AreCells, AreNexts, AreNumbers, ArePlaces};
 ghost use Rattle.vm_tables.specs.Starts.{part_of};
 
-use crate::above::Above;
+use crate::hierarchy::Hierarchy;
+use crate::init_plan::{InitPlan, Part};
 use crate::interfaces::DefaultInterfaces;
-use crate::methods::{Entrance, MethodTable, first_unit};
+use crate::methods::{CallDescriptor, MethodTable, first_unit};
 use crate::numbers::{nexts_of, numbers_of};
-use crate::parts::{Part, Parts};
 use crate::trivial::TrivialClasses;
 use et_base::{Items, NoMemory};
 use jvm_model::{Instr, Kind, MethodRec, Program};
@@ -37,8 +37,8 @@ pub struct Tables {
     methods: MethodTable,
     defaults: DefaultInterfaces,
     trivial: TrivialClasses,
-    parts: Parts,
-    above: Above,
+    parts: InitPlan,
+    hierarchy: Hierarchy,
     program: Snapshot<Program>,
 }
 
@@ -50,7 +50,7 @@ impl Model for Tables {
 
     ghost view = { λ t. t.program.value };
 
-    ghost invariant = { λ t. AreTables t.program.value t.numbers t.nexts t.cells t.units t.methods t.defaults t.trivial t.parts t.above };
+    ghost invariant = { λ t. AreTables t.program.value t.numbers t.nexts t.cells t.units t.methods t.defaults t.trivial t.parts t.hierarchy };
 }
 
 impl Tables {
@@ -61,8 +61,8 @@ impl Tables {
     {
         let defaults = DefaultInterfaces::of(alloc, p)?;
         let trivial = TrivialClasses::of(alloc, p, &defaults)?;
-        let parts = Parts::of(alloc, p, &defaults, &trivial)?;
-        let above = Above::of(alloc, p)?;
+        let parts = InitPlan::of(alloc, p, &defaults, &trivial)?;
+        let hierarchy = Hierarchy::of(alloc, p)?;
         let (numbers, nexts) = all_places(alloc, p)?;
         Ok(Tables {
             numbers,
@@ -73,7 +73,7 @@ impl Tables {
             defaults,
             trivial,
             parts,
-            above,
+            hierarchy,
             program: Snapshot::of(p),
         })
     }
@@ -106,10 +106,10 @@ impl Tables {
 
     /// What entering a method takes, None of a built-in one and one without code.
     #[inline(always)]
-    pub fn entrance(&self, method: u32) -> Option<Entrance>
-        ensures { result ≡ entrance_of self.now method }
+    pub fn call_descriptor(&self, method: u32) -> Option<CallDescriptor>
+        ensures { result ≡ call_descriptor_of self.now method }
     {
-        self.methods.get(method).entrance
+        self.methods.get(method).call_descriptor
     }
 
     /// How many cells an instance of a class has: one for each instance field, those of superclasses too.
@@ -163,28 +163,28 @@ impl Tables {
     pub fn own_interfaces(&self, class: u32) -> &[u32]
         ensures { result.now ≡ classes.own_interfaces self.now class }
     {
-        self.above.own_interfaces(class)
+        self.hierarchy.own_interfaces(class)
     }
 
     /// The superinterfaces of a class or interface, those of its superclasses among them, each once.
     pub fn interfaces(&self, class: u32) -> &[u32]
         ensures { result.now ≡ all_interfaces self.now class }
     {
-        self.above.interfaces(class)
+        self.hierarchy.interfaces(class)
     }
 
     /// Whether a class is another one or below it (JVMS 4.10.1.2).
     pub fn is_below(&self, class: u32, above: u32) -> bool
         ensures { result ≡ classes.is_below self.now class above }
     {
-        self.above.is_below(class, above)
+        self.hierarchy.is_below(class, above)
     }
 
     /// Whether a class or one above it implements an interface (JVMS 6.5, instanceof).
     pub fn implements(&self, class: u32, interface: u32) -> bool
         ensures { result ≡ classes.implements self.now class interface }
     {
-        self.above.implements(class, interface)
+        self.hierarchy.implements(class, interface)
     }
 
     /// Whether an instance of a class or interface is one of another: that is the same, above it, or implemented by it
@@ -192,7 +192,7 @@ impl Tables {
     pub fn class_fits(&self, class: u32, other: u32) -> bool
         ensures { result ≡ kinds.class_fits self.now class other }
     {
-        self.above.class_fits(class, other)
+        self.hierarchy.class_fits(class, other)
     }
 
     /// Whether an object of one kind is an instance of another (JVMS 6.5, instanceof and aastore). At run time an array
@@ -200,7 +200,7 @@ impl Tables {
     pub fn kind_fits(&self, kind: Kind, other: Kind) -> bool
         ensures { result ≡ kinds.kind_fits self.now kind other }
     {
-        self.above.kind_fits(kind, other)
+        self.hierarchy.kind_fits(kind, other)
     }
 
     /// The number of the instruction at a byte place of a method's code, from 0. With `instruction_of` of the program's

@@ -1,31 +1,31 @@
 use Rattle.std.proofs.Common.{◌<◌, List, length, flat_map, arith, sym, subst}
-use Rattle.access_tags.specs.declared.hit.Hit.{Hit}
-use Rattle.access_tags.specs.declared.hit.Spot.{Spot}
-use Rattle.access_tags.specs.declared.hit.Touched.{Touched}
-use Rattle.access_tags.specs.declared.stretch.Stretch.{Stretch}
+use Rattle.access_tags.specs.declared.conflict.Conflict.{Conflict}
+use Rattle.access_tags.specs.declared.conflict.LocationKey.{LocationKey}
+use Rattle.access_tags.specs.declared.conflict.Touched.{Touched}
+use Rattle.access_tags.specs.declared.interval.Interval.{Interval}
 use Rattle.access_tags.specs.Counted.{HaveCounted}
 use Rattle.access_tags.specs.Numbering.{tag_at}
 use Rattle.access_tags.specs.Shelf.{tag_in}
-use Rattle.access_tags.specs.Stretches.{parts_of}
-use Rattle.access_tags.specs.Tag.{hits_at}
+use Rattle.access_tags.specs.Intervals.{parts_of}
+use Rattle.access_tags.specs.Tag.{conflicts_at}
 use Rattle.access_tags.specs.Within.{AreWithin}
 use Rattle.access_tags.proofs.Parted.{counted_parts}
-use Rattle.access_tags.proofs.Spanned.{within_stretch}
+use Rattle.access_tags.proofs.Spanned.{within_interval}
 use Rattle.access_tags.proofs.tags.count_all.Goals as goal
 
-pub count_stretch-requires-clause-within : goal.count_stretch-requires-clause-within
-count_stretch-requires-clause-within c =
+pub count_interval-requires-clause-within : goal.count_interval-requires-clause-within
+count_interval-requires-clause-within c =
     let o = c.args in
-    let ss = o.touched.now.stretches in
+    let ss = o.touched.now.intervals in
     let h : c.loop-i.i < length ss = omega (arith, c.loop-i-test.true, c.len-i-end.ensures) in
-    subst (λ (s : Stretch). AreWithin o.cells.now o.named.now (parts_of s)) (sym c.get.ensures.is) (within_stretch o.cells.now o.named.now ss c.loop-i.i c.get.result c.requires h)
+    subst (λ (s : Interval). AreWithin o.cells.now o.named.now (parts_of s)) (sym c.get.ensures.is) (within_interval o.cells.now o.named.now ss c.loop-i.i c.get.result c.requires h)
 
 pub loop-i-preserved : goal.loop-i-preserved
 loop-i-preserved c =
     let o = c.args in
     let l = c.loop-i in
-    let ss = o.touched.now.stretches in
+    let ss = o.touched.now.intervals in
     let h : l.i < length ss = omega (arith, c.loop-i-test.true, c.len-i-end.ensures) in
-    let f : Touched → List (Hit Spot) = λ x. hits_at x.spot (tag_at (tag_in o.cells.now) (tag_in o.named.now) x) in
-    counted_parts f o.table.now l.table c.count_stretch.new.table ss l.i c.get.result h l.invariant
-    (subst (λ (s : Stretch). HaveCounted l.table c.count_stretch.new.table (flat_map f (parts_of s))) c.get.ensures.is c.in_ok-count_stretch.ensures)
+    let f : Touched → List (Conflict LocationKey) = λ x. conflicts_at x.spot (tag_at (tag_in o.cells.now) (tag_in o.named.now) x) in
+    counted_parts f o.table.now l.table c.count_interval.new.table ss l.i c.get.result h l.invariant
+    (subst (λ (s : Interval). HaveCounted l.table c.count_interval.new.table (flat_map f (parts_of s))) c.get.ensures.is c.in_ok-count_interval.ensures)

@@ -1,9 +1,9 @@
 use Rattle.std.proofs.Common.{take}
 use Rattle.access_tags.specs.Counted.{HaveCounted}
-use Rattle.access_tags.specs.Numbering.{hits_in}
+use Rattle.access_tags.specs.Numbering.{conflicts_in}
 use Rattle.access_tags.specs.Shelf.{tag_in}
-use Rattle.access_tags.specs.Stretches.{parts}
+use Rattle.access_tags.specs.Intervals.{parts}
 use Rattle.access_tags.proofs.tags.count_all.Given as goal
 
 abbrev pub invariant-loop-i : goal.invariant-loop-i
-invariant-loop-i l = HaveCounted l.fn.table l.table (hits_in (tag_in l.cells) (tag_in l.named) (parts (take l.i l.touched.stretches)))
+invariant-loop-i l = HaveCounted l.fn.table l.table (conflicts_in (tag_in l.cells) (tag_in l.named) (parts (take l.i l.touched.intervals)))

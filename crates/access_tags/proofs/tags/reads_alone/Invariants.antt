@@ -1,8 +1,8 @@
 use Rattle.std.proofs.Common.{◌≡◌, true}
 use Rattle.access_tags.specs.Numbering.{are_alone}
 use Rattle.access_tags.specs.Shelf.{tag_in}
-use Rattle.access_tags.specs.Stretches.{parts_to}
+use Rattle.access_tags.specs.Intervals.{parts_to}
 use Rattle.access_tags.proofs.tags.reads_alone.Given as goal
 
 abbrev pub invariant-loop-index : goal.invariant-loop-index
-invariant-loop-index l = are_alone (tag_in l.cells) (tag_in l.named) l.field (parts_to l.stretch l.index) ≡ true
+invariant-loop-index l = are_alone (tag_in l.cells) (tag_in l.named) l.field (parts_to l.interval l.index) ≡ true

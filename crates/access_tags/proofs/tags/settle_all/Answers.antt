@@ -1,32 +1,32 @@
 use Rattle.std.proofs.Common.{◌<◌, ◌∙◌, length, arith, sym, subst}
-use Rattle.access_tags.specs.declared.stretch.Stretch.{Stretch}
+use Rattle.access_tags.specs.declared.interval.Interval.{Interval}
 use Rattle.access_tags.specs.HaveEnded.{HaveEnded}
 use Rattle.access_tags.specs.Shelf.{tag_in}
-use Rattle.access_tags.specs.Stretches.{parts, parts_of}
+use Rattle.access_tags.specs.Intervals.{parts, parts_of}
 use Rattle.access_tags.specs.Within.{AreWithin}
 use Rattle.access_tags.proofs.More.{within_more}
 use Rattle.access_tags.proofs.Parted.{ended_parts}
-use Rattle.access_tags.proofs.Spanned.{within_stretch}
+use Rattle.access_tags.proofs.Spanned.{within_interval}
 use Rattle.access_tags.proofs.tags.settle_all.Goals as goal
 
-pub settle_stretch-requires-clause-within : goal.settle_stretch-requires-clause-within
-settle_stretch-requires-clause-within c =
+pub fold_interval-requires-clause-within : goal.fold_interval-requires-clause-within
+fold_interval-requires-clause-within c =
     let o = c.args in
     let l = c.loop-i in
-    let ss = o.touched.now.stretches in
+    let ss = o.touched.now.intervals in
     let h : l.i < length ss = omega (arith, c.loop-i-test.true, c.len-i-end.ensures) in
     let a = within_more (parts ss) o.cells.now l.cells o.named.now l.named (omega (arith, l.invariant.0)) (omega (arith, l.invariant.1)) c.requires in
-    subst (λ (s : Stretch). AreWithin l.cells l.named (parts_of s)) (sym c.get.ensures.is) (within_stretch l.cells l.named ss l.i c.get.result a h)
+    subst (λ (s : Interval). AreWithin l.cells l.named (parts_of s)) (sym c.get.ensures.is) (within_interval l.cells l.named ss l.i c.get.result a h)
 
 pub loop-i-preserved : goal.loop-i-preserved
 loop-i-preserved c =
     let o = c.args in
     let l = c.loop-i in
-    let n = c.settle_stretch.new in
-    let ss = o.touched.now.stretches in
+    let n = c.fold_interval.new in
+    let ss = o.touched.now.intervals in
     let h : l.i < length ss = omega (arith, c.loop-i-test.true, c.len-i-end.ensures) in (
-      c.in_ok-settle_stretch.ensures.cells_count ∙ l.invariant.0,
-      c.in_ok-settle_stretch.ensures.named_count ∙ l.invariant.1,
+      c.in_ok-fold_interval.ensures.cells_count ∙ l.invariant.0,
+      c.in_ok-fold_interval.ensures.named_count ∙ l.invariant.1,
       ended_parts o.test (tag_in o.cells.now) (tag_in o.named.now) (tag_in l.cells) (tag_in l.named) (tag_in n.cells) (tag_in n.named) ss l.i c.get.result h l.invariant.2
-          (subst (λ (s : Stretch). HaveEnded o.test (tag_in l.cells) (tag_in l.named) (tag_in n.cells) (tag_in n.named) (parts_of s)) c.get.ensures.is c.in_ok-settle_stretch.ensures.tags),
+          (subst (λ (s : Interval). HaveEnded o.test (tag_in l.cells) (tag_in l.named) (tag_in n.cells) (tag_in n.named) (parts_of s)) c.get.ensures.is c.in_ok-fold_interval.ensures.tags),
     )

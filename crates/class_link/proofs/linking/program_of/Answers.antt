@@ -3,7 +3,7 @@ use Rattle.class_reader.specs.declared.parts.ClassParts.{ClassParts}
 use Rattle.class_reader.specs.declared.parts.CodePart.{CodePart}
 use Rattle.class_link.specs.Assembly.{bodies_of, assembled}
 use Rattle.class_link.specs.Bodies.{linked_body}
-use Rattle.class_link.specs.References.{Setting}
+use Rattle.class_link.specs.References.{LinkEnvironment}
 use Rattle.class_link.specs.Link.{setting}
 use Rattle.class_link.proofs.linking.program_of.Goals as goal
 
@@ -12,5 +12,5 @@ returns c =
     let cs = c.args.classes.now in
     let is = c.requires.setting in
     let body = λ (x : ClassParts) (code : CodePart). linked_body (setting cs) x.pool code in
-    let bodies : c.in_ok-bodies.bodies ≡ bodies_of body cs = c.in_ok-bodies.ensures ∙ ap (λ (s : Setting). bodies_of (λ x code. linked_body s x.pool code) cs) is in
-    c.with_bodies.ensures body cs (ap (λ (s : Setting). s.program) is) bodies ∙ ap (λ (xs : List (List ℕ × List ℕ)). assembled body cs c.args.tests xs) c.in_ok-files.ensures
+    let bodies : c.in_ok-bodies.bodies ≡ bodies_of body cs = c.in_ok-bodies.ensures ∙ ap (λ (s : LinkEnvironment). bodies_of (λ x code. linked_body s x.pool code) cs) is in
+    c.with_bodies.ensures body cs (ap (λ (s : LinkEnvironment). s.program) is) bodies ∙ ap (λ (xs : List (List ℕ × List ℕ)). assembled body cs c.args.tests xs) c.in_ok-files.ensures

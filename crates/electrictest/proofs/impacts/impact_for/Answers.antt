@@ -3,7 +3,7 @@ use Rattle.std.proofs.lemmas.Result.{err_from_is_err_and}
 use Rattle.electrictest.specs.declared.words.Command.TheVariants as command
 use Rattle.electrictest.specs.Records.{nameless}
 use Rattle.electrictest.specs.Words.{ask}
-use Rattle.electrictest.proofs.Begun.{not_begun, not_begun_ends, begins}
+use Rattle.electrictest.proofs.Request.{not_begun, not_begun_ends, begins}
 use Rattle.electrictest.proofs.ImpactLaws.{impact_reports}
 use Rattle.electrictest.proofs.PlanLaws.{unplanned}
 use Rattle.electrictest.proofs.impacts.impact_for.Goals as goal

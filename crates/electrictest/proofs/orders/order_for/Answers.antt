@@ -9,7 +9,7 @@ use Rattle.electrictest.specs.Records.{beginning}
 use Rattle.electrictest.specs.Running.{OrderRefused}
 use Rattle.electrictest.specs.Selections.{ordered}
 use Rattle.electrictest.specs.Words.{ask, word_at}
-use Rattle.electrictest.proofs.Begun.{begins, tests_are, not_begun, not_begun_ends, unnamed, unnamed_ends}
+use Rattle.electrictest.proofs.Request.{begins, tests_are, not_begun, not_begun_ends, unnamed, unnamed_ends}
 use Rattle.electrictest.proofs.OrderLaws.{order_reports, order_refused, order_ends}
 use Rattle.electrictest.proofs.PoolReplies.{is_of_suite}
 use Rattle.electrictest.proofs.orders.order_for.Goals as goal

@@ -4,7 +4,7 @@ use Rattle.electrictest.specs.declared.words.Command.TheVariants as command
 use Rattle.electrictest.specs.Records.{beginning}
 use Rattle.electrictest.specs.Selections.{selected}
 use Rattle.electrictest.specs.Words.{ask, word_at}
-use Rattle.electrictest.proofs.Begun.{unnamed, unnamed_ends, not_begun, not_begun_ends, begins}
+use Rattle.electrictest.proofs.Request.{unnamed, unnamed_ends, not_begun, not_begun_ends, begins}
 use Rattle.electrictest.proofs.OrderLaws.{plan_reports}
 use Rattle.electrictest.proofs.PlanLaws.{tests_have, unplanned}
 use Rattle.electrictest.proofs.plans.plan_for.Goals as goal

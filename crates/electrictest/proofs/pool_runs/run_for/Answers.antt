@@ -8,7 +8,7 @@ use Rattle.electrictest.specs.PoolRuns.{PoolReports, PoolRefused}
 use Rattle.electrictest.specs.Records.{beginning}
 use Rattle.electrictest.specs.Selections.{selected}
 use Rattle.electrictest.specs.Words.{ask, word_at}
-use Rattle.electrictest.proofs.Begun.{begins, not_begun, not_begun_ends, unnamed, unnamed_ends}
+use Rattle.electrictest.proofs.Request.{begins, not_begun, not_begun_ends, unnamed, unnamed_ends}
 use Rattle.electrictest.proofs.PlanLaws.{tests_have}
 use Rattle.electrictest.proofs.PoolReplies.{is_of_suite, pool_reports, pool_refused, pool_ends}
 use Rattle.electrictest.proofs.pool_runs.run_for.Goals as goal

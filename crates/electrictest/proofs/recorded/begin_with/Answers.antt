@@ -1,5 +1,5 @@
 use Rattle.std.proofs.lemmas.Result.{err_from_is_err_and}
-use Rattle.electrictest.proofs.Begun.{proper_fails}
+use Rattle.electrictest.proofs.Request.{proper_fails}
 use Rattle.electrictest.proofs.recorded.begin_with.Goals as goal
 
 pub returns-in_err-record_fits-clause-fails : goal.returns-in_err-record_fits-clause-fails

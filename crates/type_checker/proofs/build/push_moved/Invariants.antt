@@ -1,5 +1,5 @@
 use Rattle.std.proofs.Common.{◌≡◌, ◌++◌, take, map}
-use Rattle.type_frames.specs.Sides.{place_of}
+use Rattle.type_frames.specs.StackEffect.{place_of}
 use Rattle.type_checker.proofs.build.push_moved.Given as goal
 
 abbrev pub invariant-loop-n : goal.invariant-loop-n

@@ -2,7 +2,7 @@ use Rattle.std.proofs.Common.{◌≡◌, ℕ, ◌-◌, ◌+◌, ◌*◌, List, l
 use Rattle.jvm_model.specs.declared.values.Touch.{Touch}
 use Rattle.jvm_model.specs.RowsCreate as create
 use Rattle.jvm_model.specs.View.{IsSafe, Any, counted, touched}
-use Rattle.vm_mem.specs.Story.{Story}
+use Rattle.vm_mem.specs.Trace.{Trace}
 use Rattle.vm_objects.proofs.nesting.+nest.Given as goal
 
 abbrev pub decreases-nest : goal.decreases-nest
@@ -22,5 +22,5 @@ invariant-fill-loop-i g l =
       of : program l.memory ≡ program l.fn.memory;
       safe : IsSafe Any (create.children (l.count - l.i) l.i l.object one) (world l.memory);
       rest : (left : ℕ) → counted (create.children (l.count - l.i) l.i l.object one) (world l.memory) left ≡ counted (create.children l.count 0 l.object one) (world l.fn.memory) left;
-      told : (h : Story) (ts : List Touch) → follows l.fn.memory h ts → (us : List Touch) × follows l.memory h us × (touched (create.children (l.count - l.i) l.i l.object one) (world l.memory) us ≡ touched (create.children l.count 0 l.object one) (world l.fn.memory) ts);
+      told : (h : Trace) (ts : List Touch) → follows l.fn.memory h ts → (us : List Touch) × follows l.memory h us × (touched (create.children (l.count - l.i) l.i l.object one) (world l.memory) us ≡ touched (create.children l.count 0 l.object one) (world l.fn.memory) ts);
     }

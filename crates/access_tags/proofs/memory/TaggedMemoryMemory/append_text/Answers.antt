@@ -1,7 +1,7 @@
 use Rattle.std.proofs.Common.{◌++◌, refl}
 use Rattle.jvm_model.specs.World.{at}
 use Rattle.jvm_model.specs.declared.values.Location.TheVariants as place
-use Rattle.access_tags.specs.declared.hit.Spot.TheVariants as spot
+use Rattle.access_tags.specs.declared.conflict.LocationKey.TheVariants as spot
 use Rattle.access_tags.proofs.Following.{write_noted}
 use Rattle.access_tags.proofs.memory.TaggedMemoryMemory.append_text.Goals as goal
 

@@ -1,5 +1,5 @@
 use Rattle.std.proofs.Common.{◌<◌, List, [], subst, sym, arith}
-use Rattle.vm_mem.specs.Story.{next_test}
+use Rattle.vm_mem.specs.Trace.{next_test}
 use Rattle.access_tags.specs.declared.ended.Ended.{Ended}
 use Rattle.access_tags.specs.Followed.{Follows}
 use Rattle.access_tags.proofs.Ending.{begun_first, begun_next}

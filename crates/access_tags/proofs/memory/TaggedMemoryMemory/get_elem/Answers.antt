@@ -1,7 +1,7 @@
 use Rattle.std.proofs.Common.{refl, sym}
 use Rattle.jvm_model.specs.Access.{read_of}
 use Rattle.jvm_model.specs.declared.values.Location.TheVariants as place
-use Rattle.access_tags.specs.declared.hit.Spot.TheVariants as spot
+use Rattle.access_tags.specs.declared.conflict.LocationKey.TheVariants as spot
 use Rattle.access_tags.proofs.Following.{read_noted}
 use Rattle.access_tags.proofs.memory.TaggedMemoryMemory.get_elem.Goals as goal
 

@@ -2,7 +2,7 @@ use Rattle.std.proofs.Common.{Some, refl, ap}
 use Rattle.jvm_model.specs.declared.values.Head.{Head}
 use Rattle.jvm_model.specs.Access.{read_of}
 use Rattle.jvm_model.specs.declared.values.Location.TheVariants as place
-use Rattle.access_tags.specs.declared.hit.Spot.TheVariants as spot
+use Rattle.access_tags.specs.declared.conflict.LocationKey.TheVariants as spot
 use Rattle.access_tags.proofs.Following.{read_noted}
 use Rattle.access_tags.proofs.memory.TaggedMemoryMemory.head.Goals as goal
 

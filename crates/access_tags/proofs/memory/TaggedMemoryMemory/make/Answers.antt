@@ -27,6 +27,6 @@ returns-clause-told c h ts f =
       heads = λ kinds T us y o a q k. c.in_ok-note.ensures.stands kinds T us y o a (q ∙ ap (λ (z : Head). z.kind) (head_blank p c.args.head)) k;
       names = refl;
       ended = refl;
-      meetings = refl;
+      discovery_tree = refl;
       test = refl;
     }) f

@@ -1,5 +1,5 @@
 use Rattle.std.proofs.Common.{refl}
-use Rattle.access_tags.specs.declared.hit.Spot.TheVariants as spot
+use Rattle.access_tags.specs.declared.conflict.LocationKey.TheVariants as spot
 use Rattle.access_tags.proofs.Following.{write_noted}
 use Rattle.access_tags.proofs.memory.TaggedMemoryMemory.put_field.Goals as goal
 

@@ -1,11 +1,11 @@
 use Rattle.std.proofs.Common.{◌≡◌, ◌∙◌, ℕ, List, [], ◌∷◌, ◌++◌, true, false, not, ◌&&◌, cond, nat_eq, sym, subst}
 use Rattle.std.proofs.lemmas.List.{append-nil}
-use Rattle.access_tags.specs.declared.hit.Touched.{Touched}
+use Rattle.access_tags.specs.declared.conflict.Touched.{Touched}
 use Rattle.access_tags.specs.Tag.{noted}
 use Rattle.access_tags.specs.Numbering.{is_name}
 use Rattle.access_tags.specs.Shelf.{tag_in}
 use Rattle.access_tags.specs.Stands.{StandFor}
-use Rattle.access_tags.specs.Trails.{touched_in}
+use Rattle.access_tags.specs.AccessLogs.{touched_in}
 use Rattle.access_tags.proofs.Stood.{noted_stands}
 use Rattle.access_tags.proofs.tags.Tags.note.Goals as goal
 

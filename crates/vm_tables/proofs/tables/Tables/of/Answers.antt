@@ -6,7 +6,7 @@ use Rattle.vm_tables.proofs.tables.Tables.of.Goals as goal
 pub invariant_of-result : goal.invariant_of-result
 invariant_of-result c =
     let p = c.args.p.now in
-    let all : AreTables p c.in_ok-numbers.numbers c.in_ok-numbers.nexts c.in_ok-all_cells.field-0 c.in_ok-all_units.field-0 c.in_ok-of.field-0 c.in_ok-defaults.defaults c.in_ok-trivial.trivial c.in_ok-parts.parts c.in_ok-above.above =
+    let all : AreTables p c.in_ok-numbers.numbers c.in_ok-numbers.nexts c.in_ok-all_cells.field-0 c.in_ok-all_units.field-0 c.in_ok-of.field-0 c.in_ok-defaults.defaults c.in_ok-trivial.trivial c.in_ok-parts.parts c.in_ok-hierarchy.hierarchy =
     record {
       numbers = c.in_ok-numbers.ensures.numbers;
       nexts = c.in_ok-numbers.ensures.nexts;
@@ -16,6 +16,6 @@ invariant_of-result c =
       defaults = c.in_ok-defaults.ensures;
       trivial = c.in_ok-trivial.ensures;
       parts = c.in_ok-parts.ensures;
-      above = c.in_ok-above.ensures;
+      hierarchy = c.in_ok-hierarchy.ensures;
     } in
-    subst (λ (q : Program). AreTables q c.in_ok-numbers.numbers c.in_ok-numbers.nexts c.in_ok-all_cells.field-0 c.in_ok-all_units.field-0 c.in_ok-of.field-0 c.in_ok-defaults.defaults c.in_ok-trivial.trivial c.in_ok-parts.parts c.in_ok-above.above) (sym c.of-6.ensures) all
+    subst (λ (q : Program). AreTables q c.in_ok-numbers.numbers c.in_ok-numbers.nexts c.in_ok-all_cells.field-0 c.in_ok-all_units.field-0 c.in_ok-of.field-0 c.in_ok-defaults.defaults c.in_ok-trivial.trivial c.in_ok-parts.parts c.in_ok-hierarchy.hierarchy) (sym c.of-6.ensures) all

@@ -1,4 +1,0 @@
-use Rattle.vm_tables.proofs.above.+push_upwards.Given as goal
-
-abbrev pub decreases-push_upwards : goal.decreases-push_upwards
-decreases-push_upwards l = l.steps

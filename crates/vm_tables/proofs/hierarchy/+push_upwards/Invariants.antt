@@ -1,0 +1,4 @@
+use Rattle.vm_tables.proofs.hierarchy.+push_upwards.Given as goal
+
+abbrev pub decreases-push_upwards : goal.decreases-push_upwards
+decreases-push_upwards l = l.steps

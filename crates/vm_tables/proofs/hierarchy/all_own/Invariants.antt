@@ -1,0 +1,9 @@
+use Rattle.std.proofs.Common.{◌≡◌, ℕ, ◌<◌, [], get_or, length}
+use Rattle.jvm_model.specs.Classes.{own_interfaces}
+use Rattle.vm_tables.proofs.hierarchy.all_own.Given as goal
+
+abbrev pub invariant-loop-class : goal.invariant-loop-class
+invariant-loop-class l = record {
+  many : length l.table ≡ l.class;
+  listed : (c : ℕ) → c < l.class → get_or l.table c [] ≡ own_interfaces l.p c;
+}
