@@ -28,6 +28,10 @@ no_field = record { class = 0; name = []; descriptor = []; flags = 0; opening = 
 abbrev pub no_method : MethodRec
 no_method = record { class = 0; name = []; descriptor = []; flags = 0; native = None; body = None }
 
+-- a program of nothing
+abbrev pub no_program : Program
+no_program = record { classes = []; fields = []; methods = []; literals = []; tests = []; files = [] }
+
 abbrev pub class_at : Program → ℕ → ClassRec
 class_at p c = get_or p.classes c no_class
 

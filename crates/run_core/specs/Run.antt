@@ -6,9 +6,6 @@ use Rattle.order_law.specs.Plan as law
 use Rattle.run_core.specs.declared.events.Event.{Event}
 use Rattle.run_core.specs.declared.events.Event.TheVariants.{Claim, Post}
 
-abbrev pub no_program : Program
-no_program = record { classes = []; fields = []; methods = []; literals = []; tests = []; files = [] }
-
 -- the last test of a list, and those before it
 abbrev pub last_of : List ℕ → ℕ
 last_of l = get_or l (length l - 1) 0

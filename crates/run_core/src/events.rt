@@ -1,7 +1,7 @@
 //! What workers do, and why it may be refused.
 
 use std::marker::Brand;
-use test_run::Piece;
+use test_run::{Piece, PoolName};
 
 /// What a worker does: it claims a chain, or posts what its last test gave. Workers and chains are numbered from 1.
 #[derive(Drop)]
@@ -33,25 +33,15 @@ pub struct Rejected {
     pub event: Event,
 }
 
-/// Which run it is, for contracts: its program, chains and number of workers.
-pub trait RunName {
+/// Which run it is, for contracts: its pool's program and number of workers, and its chains.
+pub trait RunName: PoolName {
     ghost use Rattle.std.specs.Prelude.{ℕ, List};
-    ghost use Rattle.jvm_model.specs.declared.program.Program.{Program};
-
-    ghost program: { Program };
 
     ghost chains: { List (List ℕ) };
-
-    ghost workers: { ℕ };
 }
 
 impl RunName for Brand {
     ghost use Rattle.std.specs.Prelude.{[]};
-    ghost use Rattle.run_core.specs.Run.{no_program};
-
-    ghost program = { no_program };
 
     ghost chains = { [] };
-
-    ghost workers = { 0 };
 }

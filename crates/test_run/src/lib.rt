@@ -5,10 +5,12 @@ mod lines;
 mod machine;
 mod parts;
 mod piece;
+mod pool_name;
 mod run_fault;
 mod single;
 
 pub use lines::{count_line, outcome_lines};
 pub use machine::Machine;
 pub use piece::Piece;
+pub use pool_name::PoolName;
 pub use run_fault::RunFault;

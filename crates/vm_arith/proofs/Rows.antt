@@ -17,7 +17,8 @@ use Rattle.jvm_model.specs.RowsArith.{divides, shifts, unless_zero, two_ints, tw
 use Rattle.jvm_model.specs.RowsBranches.{goes_if, row_branches}
 use Rattle.jvm_model.specs.Step.{row}
 use Rattle.jvm_model.specs.View.{IsSafe, IsRow}
-use Rattle.vm_arith.specs.Pure.{no_program, no_world, HasRow, TouchesNothing}
+use Rattle.jvm_model.specs.Classes.{no_program}
+use Rattle.vm_arith.specs.Pure.{no_world, HasRow, TouchesNothing}
 
 -- where one program has its end in a row, the other has
 abbrev Follows : Access (Answer Entries) → Access (Answer Entries) → Type 0

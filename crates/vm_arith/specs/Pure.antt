@@ -9,15 +9,12 @@ use Rattle.jvm_model.specs.declared.outcome.Next.TheVariants.{Go, Fault, Raise, 
 use Rattle.jvm_model.specs.declared.program.Program.{Program}
 use Rattle.jvm_model.specs.World.{World}
 use Rattle.jvm_model.specs.Access.{Access, done}
-use Rattle.jvm_model.specs.Classes.{next_place}
+use Rattle.jvm_model.specs.Classes.{next_place, no_program}
 use Rattle.jvm_model.specs.Entries.{Entries, with_place}
 use Rattle.jvm_model.specs.Rows.{Answer, answer}
 use Rattle.jvm_model.specs.Step.{Group, moves, arith, branches, statics, fields, create, arrays, casts, calls, returns, throw, group_of, row}
 use Rattle.jvm_model.specs.View.{IsSafe, IsRow, counted, paid, counts_one, outcome}
 use Rattle.vm_frames.specs.Stack.{HasIntOnTop}
-
-abbrev pub no_program : Program
-no_program = record { classes = []; fields = []; methods = []; literals = []; tests = []; files = [] }
 
 abbrev pub no_world : World
 no_world = record { objects = []; statics = []; states = []; files = []; props = [] }

@@ -5,7 +5,7 @@ use Rattle.worker_pool.proofs.worker.take_chain.Goals as goal
 
 pub run_chain-requires-clause-tests : goal.run_chain-requires-clause-tests
 run_chain-requires-clause-tests g c =
-    let p = g.N.RunName.program in
+    let p = g.N.PoolName.program in
     let have = subst (λ (z : List (List ℕ)). HaveTests p z) (sym c.requires.chains) c.requires.tests in
     let k = c.index-chains-number in
     subst (λ (z : List ℕ). AreTests p z) (sym c.as_slice-tests.ensures) (chain_in p c.args.chains.now c.args.number k.result have (omega (arith, c.if-number-chains.false)) k.is)
