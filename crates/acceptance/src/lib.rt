@@ -1,4 +1,15 @@
 //! Tests of the top call over depots and sinks that fail, and of workers in threads.
+//!
+//! Begin with `asking.rt`, which asks `electrictest`'s `electric_plain` about files in memory and
+//! keeps its clause on statuses; then `tests.rt` (failing depots and sinks) and `threads.rt`
+//! (workers).
+//!
+//! - `turns.rt` is a `Gate` that decides which of two workers goes first, and notes whom it let
+//!   pass.
+//! - `outsides.rt` has sinks that fail at chosen calls.
+//!
+//! A crate with tests is proved twice, so these stand in a crate of their own above all others.
+//! Whole runs are folders of `examples`, which the built program runs and which cost no proof.
 #![tactic(auto)]
 
 pub mod asking;

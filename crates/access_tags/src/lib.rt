@@ -1,4 +1,17 @@
 //! Tags beside the cells of a memory, which give the conflicts of a run of the suite.
+//!
+//! Begin with `specs/Tag.antt`, the tag of a location as a function of the touches of each test,
+//! and `specs/Numbering.antt`; then `memory.rt`, the `Memory` over `vm_heap`'s, and `tags.rt`.
+//!
+//! - `TaggedMemory::found` gives the edges of a run of the tests in order, with their first
+//!   locations and the walks there.
+//! - `TaggedMemory::reaches` gives what each test of such a run reaches, and whether it is settled.
+//! - `tags_law` says that conflicts read off the tags are those of the definition.
+//!
+//! Nothing that ties the tags to the world is an invariant, as a memory says nothing after a
+//! refusal: `follows` holds all of that. Intervals stand in a region, so that none is moved as it
+//! grows, with 32 bits for an object and a number; past that there is no memory. Readers are never
+//! given back.
 #![tactic(auto)]
 
 ghost use Rattle.access_tags.specs.Tag.{TagsLaw, RowsLaw};

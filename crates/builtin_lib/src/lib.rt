@@ -1,4 +1,17 @@
-//! The built-in classes: those of the Java library that the machine serves, and `electric/Files` and `electric/Env`.
+//! The built-in classes: those of the Java library that the machine serves, and `electric/Files`
+//! and `electric/Env`.
+//!
+//! Begin with `jvm_model/specs/Library.antt`, which lists the classes with their fields and
+//! methods, then `tables.rt`, the same as data, and `rows.rt`, which reads the data.
+//!
+//! - `builtins` gives the classes, each after its superclass.
+//! - `native_of` gives the built-in method of a class, name and descriptor, `None` exactly where
+//!   none is.
+//! - `builtin_records` gives the records with which every program begins.
+//!
+//! Constants with references aren't exported to proofs, so the tables are lent by `class_rows`,
+//! whose clause says what they stand for. Built-in classes have fixed numbers: one that is added
+//! moves the numbers of all given classes.
 #![tactic(auto)]
 
 ghost use Rattle.std.specs.Prelude.{◌≡◌, IfOk};

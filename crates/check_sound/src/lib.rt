@@ -1,5 +1,16 @@
-//! Checked code never gets stuck: each step of a typed state has a row, which meets only what is there, and leaves
-//! a typed state or the end of the test over a typed world.
+//! Checked code never gets stuck: each step of a typed state has a row, which meets only what is
+//! there, and leaves a typed state or the end of the test over a typed world.
+//!
+//! Laws about the definitions: the soundness of type checking (JVMS 4.10.1) for the machine. Begin
+//! with `specs/StepLaw.antt`, then `specs/TestLaw.antt` and `specs/PaceLaw.antt`.
+//!
+//! - `step_law`: a step of a typed state of a typed program has a row, and what it leaves is typed.
+//! - `reach_law`: the states that a test comes to in a typed world are typed, and so is what it
+//!   leaves.
+//! - `pace_law`: how much a step and a test touch for their units, and which statics and states.
+//!
+//! Each is a clause of a function with an empty body, so that callers cite it as any contract. One
+//! tree of accesses carries a row's pace, statics and touches; a new row needs its case there.
 #![tactic(auto)]
 
 ghost use Rattle.check_sound.specs.PaceLaw.{PaceLaw, StaticsLaw, TouchesLaw, TestPaceLaw, GivenPaceLaw, TestStaticsLaw};

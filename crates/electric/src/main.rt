@@ -1,4 +1,16 @@
-//! The program `electric`: the words of the command line, the files of the current folder and standard output.
+//! The program `electric`: the words of the command line, the files of the current folder and
+//! standard output.
+//!
+//! Begin with `main`, which hands the words to `electrictest`'s `electric` over a `FolderDepot` and
+//! a `StdSink`; what is promised of a run is that call's contract (`docs/CLAIMS.md`).
+//!
+//! - `heard.rt` is a sink that keeps the fault line that goes through it; contracts see the sink
+//!   behind it alone.
+//! - `hints.rt` says on standard error which word isn't understood, and what is accepted there.
+//!
+//! Hints are no part of a promise, and standard output stays what is proved of it, byte for byte.
+//! The files beside `src` (`args`, `data`, `stdout`) are what the gate runs the program on, and
+//! what it has to write.
 #![tactic(auto)]
 
 ghost use Rattle.std.specs.Prelude.{◌≡◌, ◌<◌};

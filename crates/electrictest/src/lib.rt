@@ -1,4 +1,17 @@
 //! The commands: from the words of a command line, the files of a depot to the text on a sink.
+//!
+//! Begin with `specs/Commands.antt`, what the top call promises, `specs/Words.antt`, the forms of
+//! words, and `specs/Replies.antt`, what answers them; then `threaded.rt`, `commands.rt` and a
+//! command's own file, say `quiet_lists.rt`.
+//!
+//! - `electric` serves every command: what is on the sink by each status is what is defined for
+//!   these words, where the depot tells its files (`served`), and whatever it tells as `taken`
+//!   says.
+//! - `electric_plain` serves in the same way what needs no threads.
+//! - `own_orders_law` and `own_runs_law` say what the suite's own record gives.
+//!
+//! One enum, `Command`, has all forms of words. A command over a loaded suite is a function of its
+//! own file with the same three clauses: what it reports, why it doesn't, and how that ends.
 #![tactic(auto)]
 
 mod commands;

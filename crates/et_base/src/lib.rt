@@ -1,4 +1,17 @@
 //! Texts, code units, whole numbers and lists that every other crate speaks of.
+//!
+//! It has the whole-number arithmetic of JVMS 6.5, modified UTF-8 (JVMS 4.4.7), the spellings of
+//! numbers and names in reports, and `NoMemory`, the error of a refused allocation. Begin with
+//! `specs/Numbers.antt`, `specs/Utf.antt` and `specs/Answers.antt`, then `items.rt`.
+//!
+//! - `Items` is a list type that contracts see as the list of its items, and that a refused push
+//!   leaves as it was.
+//! - `units_of_modified` gives the units that bytes spell, and `BadUtf` exactly where they spell
+//!   none.
+//! - `add32` and its kind are the exact result, wrapped.
+//!
+//! After a refusal a free `push_` function may leave part of its text, so callers drop the text. A
+//! change here has every crate that uses `et_base` proved again.
 #![tactic(auto)]
 
 mod items;

@@ -1,15 +1,17 @@
 //! Which tests are run again after class files changed.
 //!
-//! A version 2 record keeps a sum of each class file, and of each test which of them it may reach and whether it is settled.
-//! With the sums of the files as they are now, this tells which files have changed and which tests may end otherwise than they
-//! did: those that reach a changed file, and behind the first of these each one that isn't settled, or each one at all where
-//! some code now puts the static `System.out`.
+//! A version 2 record keeps a sum of each class file, and of each test which of them it may reach
+//! and whether it is settled. With the sums now, the tests picked are those that reach a changed
+//! file, and behind the first of these each that isn't settled, or each at all where some code now
+//! puts the static `System.out`. Begin with `specs/Pick.antt`, what is picked, and
+//! `specs/ImpactLaw.antt`.
 //!
-//! - `impact` lists these tests, `changed` the files, and `impact_text` writes both.
-//! - `impact_law` says that every other test has the report lines that it had. `carried_law` and `unpicked_law` are its two
-//!   halves that know nothing of class files: two programs that match, and what a record says of them.
+//! - `changed` lists the files, `impact` the tests, and `impact_text` writes both.
+//! - `impact_law`: where both runs end within their limits and equal sums mean equal files, every
+//!   other test has the report lines that it had. `carried_law` and `unpicked_law` are its halves.
 //!
-//! Begin with `specs/Pick.antt`, which says what is picked, and `specs/ImpactLaw.antt`.
+//! Classes are matched by numbers, as the files stand in the order of one suite text, and fields,
+//! methods and string constants by names and contents.
 #![tactic(auto)]
 
 mod hits;

@@ -1,4 +1,16 @@
-//! The definitions of the machine: its plain types, and in `specs/` the world, the rows of the table of steps, one test and lists of tests.
+//! The definitions of the machine: its plain types, and in `specs/` the world, the rows of the
+//! table of steps, one test and lists of tests.
+//!
+//! Begin with `specs/Suite.antt` (one test and lists), `specs/Step.antt` (the step), one file of
+//! rows, say `specs/RowsFields.antt`, then `specs/Access.antt` (what a row does to a world) and
+//! `specs/World.antt`. `docs/DEFINITIONS.md` is the guide.
+//!
+//! The sources are the types (`instr.rt`, `program.rt`, `values.rt`) and the questions to a program
+//! (`questions.rt`), each of which answers its definition; of these only `layout` takes memory.
+//!
+//! A row is a program of accesses, and its total run is what it means; code is proved against
+//! `specs/View.antt`, where units count down, and `proofs/Bridges` ties the two. Suites that are
+//! computed in the proofs refuse some wrong rows. A change here has nearly all be proved again.
 #![tactic(auto)]
 
 mod builtin;

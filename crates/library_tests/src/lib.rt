@@ -1,4 +1,13 @@
 //! Tests of the libraries' public calls, a module for each library.
+//!
+//! Begin with the module of a library, say `class_reader_tests.rt`; `class_files.rt` has class
+//! files as the usual compiler lays them out, and one made by hand.
+//!
+//! Tests show what no clause says, as that a call answers where memory is ample: want of memory is
+//! a free answer, which a body that always gives up would meet too.
+//!
+//! A crate with tests is proved twice, so these stand in a crate of their own. It has no edit that
+//! must fail: outside its tests it has no code, and edits are tried without tests.
 #![tactic(auto)]
 
 #[cfg(test)]

@@ -1,4 +1,16 @@
-//! The law of order: what two runs that agree on what they read have in common, and which lists of tests give each test its outcome.
+//! The law of order: what two runs that agree on what they read have in common, and which lists of
+//! tests give each test its outcome.
+//!
+//! Begin with `specs/Conflicts.antt` (conflicts and lawful lists), `specs/Histories.antt` (the law)
+//! and `specs/Plan.antt` (workers); then `records.rt`. `specs/FrameLaw.antt` is what all rest on.
+//!
+//! - `lawful_order_law`: in a list that is lawful by a detected suite's own record each test gives
+//!   its outcome of the suite's order.
+//! - `interleavings_law`: so does each post of a legal history over the chains of a closed set.
+//! - `frame_law`: a test does the same in worlds that agree on what it reads before writing it.
+//!
+//! Each is a clause of a function with an empty body. The computed examples of
+//! `proofs/RecordExamples` and `proofs/ListExamples` refuse wrong definitions.
 #![tactic(auto)]
 
 ghost use Rattle.order_law.specs.FrameLaw.{FrameLaw};

@@ -1,4 +1,17 @@
-//! The outside that a run reads and writes: depots of files, sinks of text, gates before tests, and counted units.
+//! The outside that a run reads and writes: depots of files, sinks of text, gates before tests, and
+//! counted units.
+//!
+//! Begin with `specs/Depot.antt` and `specs/Sink.antt`, which say what contracts see of either,
+//! then `depot.rt` and `sink.rt`: the traits that folders, standard output and their stand-ins in
+//! memory keep.
+//!
+//! - `Depot::read` gives at most as many bytes as asked, those of the file where the depot tells
+//!   its files; `Failed` comes only where its count of faults rose.
+//! - `Sink::write` takes bytes from the front of a piece, and none only where its count of faults
+//!   rose.
+//! - `write_text` has all of a text taken, or the sink took a prefix and its count of faults rose.
+//!
+//! A count ends at the greatest u64, and `Rose` is also said of one that stands there.
 #![tactic(auto)]
 
 mod buffer;

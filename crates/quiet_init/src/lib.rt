@@ -1,13 +1,17 @@
 //! Class initialisers that only set constants (JVMS 2.9 and 5.5), and the program without them.
 //!
-//! Many a `<clinit>` only puts constants into statics of its own class. Run by the test that comes to the class first, it makes
-//! that test a writer that later ones read from. `quiet` takes such initialisers away and lets the fields open with what they
-//! leave; `quiet_classes` and `quiet_text` say which classes these are.
+//! Such a `<clinit>` makes the test that comes to the class first a writer that later ones read
+//! from. Begin with `specs/Quiet.antt`; then `program.rt`, which puts the program together of the
+//! flags of `quietness.rt` (each class by itself in `starts.rt`) and the opening values of
+//! `leaving.rt`, which runs the code over a memory of statics (`memory.rt`).
 //!
-//! Begin with specs/Quiet.antt: which initialisers are quiet, what one leaves, and the program without them. Then `program`, which
-//! puts that program together of the flags of `quietness` (each class by itself in `starts`) and the opening values of `leaving`,
-//! which runs the code over a `memory` of statics. The laws below say that the machine does with such code what the
-//! definition says, and that the program stays typed.
+//! - `quiet` gives the program whose fields open with what these initialisers leave.
+//! - `quiet_classes` and `quiet_text` say which classes these are.
+//! - `typed_law`, `still_law` and `left_law`: it stays typed, and the machine does with such code
+//!   as the definition says.
+//!
+//! That the program stays typed is a lemma and no second check: that would answer with faults that
+//! never come. What an initialiser leaves is the run of the machine's own rows.
 #![tactic(auto)]
 
 mod leaving;

@@ -1,4 +1,15 @@
 //! Generated suites: their text, and the class file of their tests.
+//!
+//! Begin with `specs/Generated.antt`, the suite of k tests and the parts of its class, and
+//! `specs/Bytes.antt`, the class byte by byte (JVMS 4); then `tests.rt`, `class.rt` and `text.rt`.
+//!
+//! - `generate` gives the suite text and the class file of the suite of k tests, for k from 1 to
+//!   1,024: static methods in groups of four that share a static int.
+//!
+//! The class is defined by its parts, as `class_write` spells them, and written byte by byte: a
+//! pool that is built piece by piece would have to be shown in form before it could be written. A
+//! law says that the bytes are the spelling. What all such classes have in common stands first in
+//! the pool, as one constant.
 #![tactic(auto)]
 
 ghost use Rattle.std.specs.Prelude.{◌≡◌, ◌≤◌, IfOk};

@@ -1,4 +1,16 @@
-//! A machine that runs tests one after the other on its own memory, and the lines of a report on a test.
+//! A machine that runs tests one after the other on its own memory, and the lines of a report on a
+//! test.
+//!
+//! Begin with `jvm_model/specs/Suite.antt` and `specs/Running.antt`, what a machine keeps, then
+//! `machine.rt`, `piece.rt` and `lines.rt`.
+//!
+//! - `Machine::run_test` runs one more test: its outcome is the definition's after the tests before
+//!   it, or `OverBudget` comes where its units would pass its budget.
+//! - `Machine::run_list` does so for each test of a list, and names the first that is refused.
+//! - `Machine::reset` sets it back to the opening world; it takes no memory.
+//!
+//! A machine is spent while a test runs, and fresh again once the outcome is there, so that each
+//! early return leaves it spent. A `Piece` keeps that its outcome is that of its list's last test.
 #![tactic(auto)]
 
 mod lines;

@@ -1,4 +1,16 @@
 //! A core behind one lock.
+//!
+//! Begin with `run_core`: each call of a board but the last takes the lock and makes one call of
+//! the core. All of the code is `lib.rt`.
+//!
+//! - `Board::claim` and `Board::post` claim a chain and post a piece, or refuse: the reason names
+//!   only chains and workers of the run.
+//! - `Board::into_core` gives the core back, and takes no lock.
+//!
+//! Of a value under a lock nothing is known but what its type keeps. So a `Board` is generic in a
+//! `RunName`, and that program, chains and workers are this run's are ghost fields of what it
+//! holds. That its history is legal is the core's own invariant; which events it has, no clause of
+//! a board says.
 #![tactic(auto)]
 
 ghost use Rattle.std.specs.Prelude.{◌≡◌, ◌<◌, ◌≤◌, length, IfErr};
