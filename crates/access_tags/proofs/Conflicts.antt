@@ -1,7 +1,8 @@
 -- The conflicts that the tags give are those of the record.
-use Rattle.std.proofs.Common.{◌≡◌, ◌≢◌, ℕ, zero, suc, ◌<◌, ◌≤◌, Bool, true, false, not, ◌||◌, ◌&&◌, cond, List, [], ◌∷◌, ◌++◌, map, filter, flat_map, refl, sym, ◌∙◌, ap, subst, arith, nat_eq, inl, inr}
+use Rattle.std.proofs.Common.{◌≡◌, ℕ, zero, suc, ◌<◌, ◌≤◌, Bool, true, false, not, ◌||◌, ◌&&◌, cond, List, [], ◌∷◌, ◌++◌, map, filter, flat_map, refl, sym, ◌∙◌, ap, subst, arith, nat_eq, inl, inr}
 use Rattle.std.specs.List.{list_any}
-use Rattle.std.proofs.lemmas.Bool.{cases_Bool, cases_eq, eqb-true, eq-eqb, lt-ltb, le-ltb}
+use Rattle.std.proofs.lemmas.Bool.{cases_Bool, cases_eq, eqb-true, eq-eqb, ne_eqb, lt-ltb, le-ltb}
+use Rattle.std.proofs.Math.Bool.{and-false}
 use Rattle.std.proofs.lemmas.List.{map-append}
 use Rattle.std.proofs.lemmas.List.Elements.{filter-append}
 use Rattle.access_tags.specs.declared.conflict.Conflict.{Conflict}
@@ -14,9 +15,6 @@ use Rattle.order_law.specs.OwnRecord.{none_between, conflicts, conflict_places_i
 use Rattle.access_tags.specs.Tag.{tag, writer, readers, conflict, with_writer, conflicts_at, conflicts_found, is_conflict, same_kind, found, places}
 use Rattle.access_tags.specs.Cells.{Apart}
 
-apart_eq : (a b : ℕ) → a ≢ b → nat_eq a b ≡ false
-apart_eq a b n = elim (cases_Bool (nat_eq a b)) [ inl e ↦ absurd (n (eqb-true a b e)) | inr e ↦ e ]
-
 writer_le : (T : Touches) (t : ℕ) (l : Location) → writer T t l ≤ t
 writer_le T zero l = omega arith
 writer_le T (suc t) l = elim (cases_Bool (written (T (suc t)) l)) [ inl e ↦ rw e (omega arith) | inr e ↦ rw e (let h = writer_le T t l in omega arith) ]
@@ -26,7 +24,7 @@ no_reader T zero l u h = refl
 no_reader T (suc t) l u h = elim (cases_Bool (written (T (suc t)) l)) [
   | inl e ↦ rw e refl
   | inr e ↦ rw e (elim (cases_Bool (exposed (T (suc t)) l)) [
-    | inl x ↦ rw x (rw (apart_eq u (suc t) (λ q. absurd (omega arith))) (no_reader T t l u (omega arith)))
+    | inl x ↦ rw x (rw (ne_eqb u (suc t) (λ q. absurd (omega arith))) (no_reader T t l u (omega arith)))
     | inr x ↦ rw x (no_reader T t l u (omega arith))
   ])
 ]
@@ -41,20 +39,16 @@ readers_apart T (suc t) l = elim (cases_Bool (written (T (suc t)) l)) [
   ])
 ]
 
-and_false : (a : Bool) → false ≡ (a && false)
-and_false true = refl
-and_false false = refl
-
 -- the last writer
 pub writer_is : (T : Touches) (t u : ℕ) (l : Location) → 0 < u → u ≤ t → nat_eq u (writer T t l) ≡ (written (T u) l && none_between (writes_in T) u (suc t) l)
 writer_is T zero u l o h = absurd (omega arith)
 writer_is T (suc t) u l o h = elim (cases_eq u (suc t)) [
   | inl q ↦ subst (λ (x : ℕ). nat_eq x (writer T (suc t) l) ≡ (written (T x) l && none_between (writes_in T) x (suc (suc t)) l)) (sym q) (rw (le-ltb (suc t) (suc t) (omega arith)) (elim (cases_Bool (written (T (suc t)) l)) [
     | inl e ↦ rw e (eq-eqb (suc t) (suc t) refl)
-    | inr e ↦ rw e (apart_eq (suc t) (writer T t l) (λ z. let k = writer_le T t l in absurd (omega arith)))
+    | inr e ↦ rw e (ne_eqb (suc t) (writer T t l) (λ z. let k = writer_le T t l in absurd (omega arith)))
   ]))
   | inr n ↦ rw (lt-ltb u (suc t) (omega arith)) (elim (cases_Bool (written (T (suc t)) l)) [
-    | inl e ↦ rw e (apart_eq u (suc t) n ∙ and_false (written (T u) l))
+    | inl e ↦ rw e (ne_eqb u (suc t) n ∙ sym (and-false (written (T u) l)))
     | inr e ↦ rw e (writer_is T t u l o (omega arith))
   ])
 ]
@@ -64,16 +58,16 @@ pub reader_is : (T : Touches) (t u : ℕ) (l : Location) → 0 < u → u ≤ t �
 reader_is T zero u l o h = absurd (omega arith)
 reader_is T (suc t) u l o h = elim (cases_eq u (suc t)) [
   | inl q ↦ subst (λ (x : ℕ). list_any (nat_eq x) (readers T (suc t) l) ≡ (exposed (T x) l && (not (written (T x) l) && none_between (writes_in T) x (suc (suc t)) l))) (sym q) (rw (le-ltb (suc t) (suc t) (omega arith)) (elim (cases_Bool (written (T (suc t)) l)) [
-    | inl e ↦ rw e (and_false (exposed (T (suc t)) l))
+    | inl e ↦ rw e (sym (and-false (exposed (T (suc t)) l)))
     | inr e ↦ rw e (elim (cases_Bool (exposed (T (suc t)) l)) [
       | inl x ↦ rw x (rw (eq-eqb (suc t) (suc t) refl) refl)
       | inr x ↦ rw x (no_reader T t l (suc t) (omega arith))
     ])
   ]))
   | inr n ↦ rw (lt-ltb u (suc t) (omega arith)) (elim (cases_Bool (written (T (suc t)) l)) [
-    | inl e ↦ rw e (and_false (exposed (T u) l) ∙ ap (λ (b : Bool). exposed (T u) l && b) (and_false (not (written (T u) l))))
+    | inl e ↦ rw e (sym (and-false (exposed (T u) l)) ∙ ap (λ (b : Bool). exposed (T u) l && b) (sym (and-false (not (written (T u) l)))))
     | inr e ↦ rw e (elim (cases_Bool (exposed (T (suc t)) l)) [
-      | inl x ↦ rw x (rw (apart_eq u (suc t) n) (reader_is T t u l o (omega arith)))
+      | inl x ↦ rw x (rw (ne_eqb u (suc t) n) (reader_is T t u l o (omega arith)))
       | inr x ↦ rw x (reader_is T t u l o (omega arith))
     ])
   ])
@@ -87,8 +81,8 @@ abbrev at_if : Bool → Location → List Location
 at_if b l = cond b (l ∷ []) []
 
 found_one : (k j : EdgeKind) (u : ℕ) (l : Location) (w : ℕ) → 0 < u → found k u (with_writer j l w) ≡ at_if (same_kind k j && nat_eq u w) l
-found_one k j u l zero o = rw (apart_eq u 0 (λ q. absurd (omega arith))) (ap (λ (b : Bool). at_if b l) (and_false (same_kind k j)))
-found_one k j u l (suc w) o = rw (apart_eq (suc w) 0 (λ q. absurd (omega arith))) (one (same_kind k j && nat_eq u (suc w)))
+found_one k j u l zero o = rw (ne_eqb u 0 (λ q. absurd (omega arith))) (ap (λ (b : Bool). at_if b l) (sym (and-false (same_kind k j))))
+found_one k j u l (suc w) o = rw (ne_eqb (suc w) 0 (λ q. absurd (omega arith))) (one (same_kind k j && nat_eq u (suc w)))
   where
     one : (b : Bool) → map (λ (h : Conflict Location). h.place) (cond b (conflict j l (suc w) ∷ []) []) ≡ at_if b l
     one true = refl

@@ -1,9 +1,10 @@
 -- What a memory with tags follows after another name came, and after another test began.
 use Rattle.std.proofs.Common.{◌≡◌, ◌⊎◌, ℕ, zero, suc, ◌+◌, ◌-◌, ◌<◌, Bool, true, false, not, ◌||◌, List, [], ◌∷◌, ◌++◌, length, get_or, slice_get, map, refl, sym, ◌∙◌, ap, subst, arith, inl, inr, Option, None, Some, Result, OnOk, length-append, append_assoc}
 use Rattle.std.specs.List.{list_all, list_any}
+use Rattle.std.proofs.Math.Bool.{or-true}
 use Rattle.std.proofs.Math.Seq.{get_or-append_seam}
 use Rattle.std.proofs.lemmas.Bool.{cases_Bool, cases_lt}
-use Rattle.std.proofs.lemmas.List.{append-nil, get_or_append_left, length-map}
+use Rattle.std.proofs.lemmas.List.{append-nil, get_or_append_left, length-map, same_from_push}
 use Rattle.std.proofs.lemmas.Result.{on_ok_weaker}
 use Rattle.std.proofs.lemmas.Option.{get_or_from_slice_get, slice_get-get_or, slice_get_within}
 use Rattle.jvm_model.specs.declared.program.Program.{Program}
@@ -79,11 +80,7 @@ named_last names L k e h = record {
 
     there : (ls : List Location) → list_any (same L) (ls ++ L ∷ []) ≡ true
     there [] = rw (same_self L L refl) refl
-    there (M ∷ ls) = rw (there ls) (or_true (same L M))
-      where
-        or_true : (b : Bool) → (b || true) ≡ true
-        or_true true = refl
-        or_true false = refl
+    there (M ∷ ls) = rw (there ls) (or-true (same L M))
 
 pub placed_name : (n : Numbering) (part : Part) (name : List ℕ) (k : ℕ) → IsNamed n.names (place_in part name) k → IsPlaced n (record { spot = spot.Named k; at = k })
 placed_name n part name k i = let L = place_in part name in
@@ -111,6 +108,7 @@ after_name m g L h ts c d s f = record {
   cells = c ∙ f.cells;
   named = let l = length-append m.names (L ∷ []) in let j = f.named in omega arith;
   program = f.program;
+  classes = f.classes;
   told = λ T e. let t = f.told T e in record {
     stands = s (numbering m) T (h.test - 1) ts (L ∷ []) (sym f.named) t.stands;
     size = t.size;
@@ -120,16 +118,6 @@ after_name m g L h ts c d s f = record {
     ended = λ i x v. ended_names T m.names (L ∷ []) (i + 1) x (t.ended i x v);
   };
 }
-
--- lists with another item at the end
-last_same : {A : Type 0} (xs ys : List A) (a b : A) → xs ++ a ∷ [] ≡ ys ++ b ∷ [] → (xs ≡ ys) × (a ≡ b)
-last_same [] [] a b e = (refl, cc)
-last_same [] (y ∷ []) a b e = absurd (cc)
-last_same [] (y ∷ z ∷ ys) a b e = absurd (cc)
-last_same (x ∷ []) [] a b e = absurd (cc)
-last_same (x ∷ z ∷ xs) [] a b e = absurd (cc)
-last_same (x ∷ xs) (y ∷ ys) a b e =
-    let h : x ≡ y = cc in let t : xs ++ a ∷ [] ≡ ys ++ b ∷ [] = cc in let r = last_same xs ys a b t in let p = r.0 in (cc, r.1)
 
 same_trace : (h k : Trace) → h.ended ≡ k.ended → h.test ≡ k.test → h ≡ k
 same_trace h k e f = ap (λ (xs : List (ℕ × List Touch)). record { ended = xs; test = h.test }) e ∙ ap (λ (t : ℕ). record { ended = k.ended; test = t }) f
@@ -147,7 +135,7 @@ before T h ts zero e = absurd (none h.ended (ap (λ (k : Trace). k.ended) e))
     none [] q = absurd (cc)
     none (x ∷ xs) q = absurd (cc)
 before T h ts (suc t) e =
-    let l = last_same h.ended (trace_to T t).ended (h.test, ts) ((trace_to T t).test, touched_by T t) (ap (λ (k : Trace). k.ended) e) in
+    let l = same_from_push h.ended (trace_to T t).ended (h.test, ts) ((trace_to T t).test, touched_by T t) (ap (λ (k : Trace). k.ended) e) in
     let n : h.test ≡ t = ap (λ (x : ℕ × List Touch). x.0) l.1 ∙ trace_test T t in
     let s : h ≡ trace_to T t = same_trace h (trace_to T t) l.0 (n ∙ sym (trace_test T t)) in
     record { number = ap suc (sym n); trace = subst (λ (u : ℕ). h ≡ trace_to T u) (sym n) s; touches = subst (λ (u : ℕ). ts ≡ touched_by T u) (sym n) (ap (λ (x : ℕ × List Touch). x.1) l.1) }
@@ -163,6 +151,7 @@ begun_first m h ts test z f = record {
   cells = f.cells;
   named = f.named;
   program = f.program;
+  classes = f.classes;
   told = λ T e. let b = before T h ts test e in let t = f.told T b.trace in
       let y : h.test ≡ 0 = sym f.test ∙ z in
       let q : h.test - 1 ≡ test - 1 = let w = b.number in omega arith in
@@ -194,6 +183,7 @@ begun_next m x g h ts test z k r s f = record {
   cells = r.cells ∙ f.cells;
   named = r.named ∙ f.named;
   program = f.program;
+  classes = f.classes;
   told = λ T e. let b = before T h ts test e in let t = f.told T b.trace in let y = f.test in
       let i : h.test ≡ suc (h.test - 1) = omega arith in
       let w : T h.test ≡ ts = ran_touches T h.test i ∙ sym b.touches in
@@ -249,12 +239,12 @@ summed m x h ts T z rows walks size_is alone f e w =
     }
 
 -- before the first test
-pub opened : (p : Program) (m : TaggedMemory) → m.memory.world ≡ opening p → m.memory.program ≡ p → m.numbers.statics ≡ length p.fields → m.numbers.bases.items ≡ [] → m.numbers.layouts ≡ m.numbers.places → m.numbers.places ≡ p →
+pub opened : (p : Program) (m : TaggedMemory) → m.memory.world ≡ opening p → m.memory.program ≡ p → m.numbers.statics ≡ length p.fields → m.numbers.bases.items ≡ [] → m.numbers.layouts ≡ m.numbers.places → m.numbers.places ≡ p → m.heads.classes ≡ length p.classes →
     count m.tags.cells ≡ length p.fields + length p.classes → count m.tags.named ≡ 0 → m.names ≡ [] → m.ended ≡ [] → m.test ≡ 0 →
     ((T : Touches) (n : Numbering) → n.cells ≡ [] ++ statics_of (opening p) ++ states_of (opening p) → Stands n T 0 [] m.tags) → ((t : ℕ) → HasDiscovered t [] m.discovery_tree) →
     ((kinds : ℕ → ℕ → Kind) (T : Touches) → HeadsStand kinds T 0 [] m.heads) → Follows m empty_trace []
 unfolding opening
-opened p m q o a b l r c d n e t s met heads =
+opened p m q o a b l r h c d n e t s met heads =
     let w = opening p in
     let f = length-map p.fields (λ f. f.opening) in let g = length-map p.classes (λ c. Idle) in
     let i = length-statics w in let j = length-states w in
@@ -263,10 +253,11 @@ opened p m q o a b l r c d n e t s met heads =
     let x = ap (λ (ls : List Location). length ls) z in
     record {
       test = t;
-      numbered = subst (λ (v : World). IsNumbered v m.numbers) (sym q) (record { statics = a ∙ sym f; bases = b; layouts = l; laid = λ u h. absurd (omega arith) });
+      numbered = subst (λ (v : World). IsNumbered v m.numbers) (sym q) (record { statics = a ∙ sym f; bases = b; layouts = l; laid = λ u y. absurd (omega arith) });
       cells = let u : count m.tags.cells ≡ length (cells_of w) = omega arith in u ∙ ap (λ (v : World). length (cells_of v)) (sym q);
       named = d ∙ ap (λ (ls : List Location). length ls) (sym n);
       program = r ∙ sym o;
+      classes = h ∙ ap (λ (z : Program). length z.classes) (sym r);
       told = λ T u. record {
         stands = s T (numbering m) (ap cells_of q ∙ z);
         size = ap size q;
@@ -291,6 +282,7 @@ name_notes m g part name k write i r s = let x : Touch = record { write = write;
   met = λ ts a. meet_ungiven m.test ts x m.discovery_tree.met a refl;
   heads = λ kinds T ts q a. heads_quiet kinds T m.test ts m.heads.classes (x ∷ []) m.heads.marks (λ o c. quiet part o c) a;
   size = same_size part write (size m.memory.world);
+  classes = refl;
 }
   where
     quiet : (part : Part) (o : ℕ → Kind) (c : ℕ) → touches_class o c (record { write = write; location = place_in part name; gave = None } ∷ []) ≡ false

@@ -79,6 +79,7 @@ moved m k h ts a f = record {
   cells = f.cells ∙ ap (λ (ls : List Location). length ls) (sym a.cells);
   named = f.named;
   program = f.program ∙ sym a.program;
+  classes = f.classes;
   told = λ T e. let g = f.told T e in record {
     stands = subst (λ (ls : List Location). Stands (record { cells = ls; names = m.names }) T (h.test - 1) ts m.tags) (sym a.cells) g.stands;
     size = a.size ∙ g.size;
@@ -190,6 +191,7 @@ pub record NotesOne (m : TaggedMemory) (g : Tags) (a : DiscoveryTree) (b : Heads
   pub met : (ts : List Touch) → HasDiscovered m.test ts m.discovery_tree → HasDiscovered m.test (ts ++ x ∷ []) a
   pub heads : (kinds : ℕ → ℕ → Kind) (T : Touches) (ts : List Touch) → AreKinds kinds m.memory.world → HeadsStand kinds T m.test ts m.heads → HeadsStand kinds T m.test (ts ++ x ∷ []) b
   pub size : size_after (size m.memory.world) (x ∷ []) ≡ size m.memory.world
+  pub classes : b.classes ≡ m.heads.classes
 
 pub noted : (m : TaggedMemory) (g : Tags) (a : DiscoveryTree) (b : Heads) (x : Touch) (h : Trace) (ts : List Touch) → NotesOne m g a b x → Follows m h ts → Follows (record m { tags = g; discovery_tree = a; heads = b }) h (ts ++ x ∷ [])
 noted m g a b x h ts n f = record {
@@ -198,6 +200,7 @@ noted m g a b x h ts n f = record {
   cells = n.room.cells ∙ f.cells;
   named = n.room.named ∙ f.named;
   program = f.program;
+  classes = n.classes ∙ f.classes;
   told = λ T e. let t = f.told T e in record {
     stands = n.tags T (h.test - 1) ts t.stands;
     size = sym n.size ∙ (ap (λ (j : ℕ). size_after j (x ∷ [])) t.size ∙ sym (size_append (size_in T (h.test - 1)) ts (x ∷ [])));
@@ -298,6 +301,7 @@ pub record NotesMade (m n : TaggedMemory) (g : Tags) (x : Object) : Type 0 where
   pub grown : (T : Touches) (t : ℕ) (ts : List Touch) → count m.tags.cells ≡ length (cells_of m.memory.world) → Stands (numbering m) T t ts m.tags → Stands (numbering_in (make_object m.memory.world x) m.names) T t ts g
   pub tags : HaveNoted (numbering_in (make_object m.memory.world x) m.names) g n.tags (made (size m.memory.world) x)
   pub heads : (kinds : ℕ → ℕ → Kind) (T : Touches) (ts : List Touch) (y : Touch) (o : ℕ) → y.location ≡ place.Head o → kinds m.test o ≡ x.head.kind → HeadsStand kinds T m.test ts m.heads → HeadsStand kinds T m.test (ts ++ y ∷ []) n.heads
+  pub classes : n.heads.classes ≡ m.heads.classes
   pub names : n.names ≡ m.names
   pub ended : n.ended ≡ m.ended
   pub discovery_tree : n.discovery_tree ≡ m.discovery_tree
@@ -313,6 +317,7 @@ after_make m n g x h ts k f = record {
       y ∙ ap (λ (ls : List Location). length ls) (sym (made_cells w x) ∙ ap cells_of (sym k.world));
   named = k.named ∙ (f.named ∙ ap (λ (ls : List Location). length ls) (sym k.names));
   program = k.places ∙ (f.program ∙ sym k.program);
+  classes = k.classes ∙ (f.classes ∙ ap (λ (p : Program). length p.classes) (sym k.places));
   told = λ T u. let t = f.told T u in record {
     stands = subst (λ (z : World). Stands (numbering_in z n.names) T (h.test - 1) (ts ++ made a x) n.tags) (sym k.world)
         (subst (λ (ls : List Location). Stands (numbering_in v ls) T (h.test - 1) (ts ++ made a x) n.tags) (sym k.names) (k.tags T (h.test - 1) ts (k.grown T (h.test - 1) ts f.cells t.stands)));

@@ -30,12 +30,12 @@ more_pasts ps rs ms n c = let a = c.full in let e = length-append ps (replicate 
 
 pub more_cells : (ps : List Past) (rs : List Reader) (ms : List Mark) (n : ℕ) → AreCells ps rs ms → AreCells (ps ++ replicate n no_past) rs (ms ++ replicate n no_mark)
 more_cells ps rs ms n c = let a = c.full in let e = length-append ps (replicate n no_past) in let f = length-append ms (replicate n no_mark) in
-    let g = length-replicate n no_past in let h = length-replicate n no_mark in record {
+    let g = length-replicate n no_past in let h = length-replicate n no_mark in let more = more_pasts ps rs ms n c in record {
       full = omega arith;
       down = c.down;
-      below = λ i. let g = ap (λ (x : Past). x.readers) (get_or-defaults ps n i no_past) in let k = c.below i in omega arith;
+      below = more.below;
       few = c.few;
-      free = λ i k. get_or-defaults ps n i no_past ∙ c.free i (omega arith);
+      free = λ i k. more.free i (omega arith);
     }
 
 -- past the end stand no tags

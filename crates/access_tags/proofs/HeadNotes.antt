@@ -4,7 +4,7 @@ use Rattle.std.proofs.lemmas.Bool.{cases_Bool, cases_eq, cases_order, eqb-true, 
 use Rattle.std.proofs.lemmas.List.{append_assoc, get_or-set_other}
 use Rattle.std.proofs.lemmas.List.Folds.{list_any-append}
 use Rattle.std.proofs.lemmas.Grind.{get_or-set_at}
-use Rattle.std.proofs.Math.Bool.{or-false}
+use Rattle.std.proofs.Math.Bool.{or-false, or-true}
 use Rattle.std.proofs.Math.Nat.{mul_comm}
 use Rattle.std.proofs.lemmas.Nat.{mul-add-lt}
 use Rattle.jvm_model.specs.declared.values.Kind.{Kind}
@@ -85,15 +85,11 @@ pub one_marked : (n : ℕ) (ms ns : List Bool) (t d at : ℕ) → at ≡ t * n +
     (u c : ℕ) → c < n → is_marked n (set ns at true) u c ≡ (is_marked n ms u c || (nat_eq u t && nat_eq d c))
 one_marked n ms ns t d at p k same there u c h = elim (cases_eq (u * n + c) at) [
   | inl e ↦ let q = apart n u c t d h k (e ∙ p) in
-      rw (lt-ltb c n h) (rw (eq-eqb u t q.0) (rw (eq-eqb d c (sym q.1)) (get_or-set_at ns at (u * n + c) true false e there ∙ sym (or_true (get_or ms (u * n + c) false)))))
+      rw (lt-ltb c n h) (rw (eq-eqb u t q.0) (rw (eq-eqb d c (sym q.1)) (get_or-set_at ns at (u * n + c) true false e there ∙ sym (or-true (get_or ms (u * n + c) false)))))
   | inr e ↦
       let f : (nat_eq u t && nat_eq d c) ≡ false = both_false (nat_eq u t) (nat_eq d c) (λ a b. e (ap (λ (i : ℕ). i * n + c) (eqb-true u t a) ∙ (ap (λ (i : ℕ). t * n + i) (sym (eqb-true d c b)) ∙ sym p))) in
       rw (lt-ltb c n h) (rw f (get_or-set_other ns at (u * n + c) true false e ∙ (same (u * n + c) ∙ sym (or-false (get_or ms (u * n + c) false)))))
 ]
-  where
-    or_true : (a : Bool) → (a || true) ≡ true
-    or_true true = refl
-    or_true false = refl
 
 -- classes that are looked at one after another
 pub class_more : (c d : ℕ) (m g a b e : Bool) → b ≡ (a || ((nat_lt c d && m) && g)) → (c ≡ d → m ≡ true) → e ≡ (b || (nat_eq c d && g)) → e ≡ (a || ((nat_lt c (d + 1) && m) && g))

@@ -3,6 +3,7 @@ use Rattle.std.proofs.Common.{◌≡◌, ℕ, suc, ◌<◌, ◌≤◌, Bool, tru
 use Rattle.std.specs.List.{list_any}
 use Rattle.std.proofs.lemmas.Bool.{cases_Bool, cases_lt}
 use Rattle.std.proofs.lemmas.List.{get_or_past, get_or_append_left}
+use Rattle.std.proofs.lemmas.List.Folds.{list_any-append}
 use Rattle.jvm_model.specs.declared.values.Location.{Location}
 use Rattle.jvm_model.specs.declared.values.Location.TheVariants as place
 use Rattle.jvm_model.specs.declared.values.Touch.{Touch}
@@ -25,12 +26,8 @@ within_more xs c c' d d' h k f i e l = by_sort (is_name (get_or xs i e).spot) (f
     by_sort true g = omega arith
     by_sort false g = omega arith
 
-any_more : (L : Location) (ls ms : List Location) → list_any (same L) ls ≡ true → list_any (same L) (ls ++ ms) ≡ true
-any_more L [] ms h = absurd (cc)
-any_more L (M ∷ ls) ms h = elim (cases_Bool (same L M)) [
-  | inl e ↦ rw e refl
-  | inr e ↦ rw e (any_more L ls ms (rw e at h))
-]
+pub any_more : (L : Location) (ls ms : List Location) → list_any (same L) ls ≡ true → list_any (same L) (ls ++ ms) ≡ true
+any_more L ls ms h = list_any-append (same L) ls ms ∙ rw h refl
 
 pub position_more : (L : Location) (ls ms : List Location) → list_any (same L) ls ≡ true → position (ls ++ ms) L ≡ position ls L
 position_more L [] ms h = absurd (cc)

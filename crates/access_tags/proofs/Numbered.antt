@@ -1,7 +1,8 @@
 -- The tags of locations by those of their numbers.
-use Rattle.std.proofs.Common.{◌≡◌, ◌≢◌, ℕ, suc, Bool, true, false, not, ◌||◌, ◌&&◌, cond, List, [], ◌∷◌, refl, sym, ◌∙◌, ap, subst, arith, nat_eq, inl, inr}
+use Rattle.std.proofs.Common.{◌≡◌, ℕ, suc, Bool, true, false, not, ◌||◌, ◌&&◌, cond, List, [], ◌∷◌, refl, sym, ◌∙◌, ap, subst, arith, nat_eq, inl, inr}
 use Rattle.std.specs.List.{list_any}
-use Rattle.std.proofs.lemmas.Bool.{cases_Bool, eqb-true, eq-eqb}
+use Rattle.std.proofs.lemmas.Bool.{cases_Bool, eq-eqb, ne_eqb}
+use Rattle.std.proofs.Math.Dec.{eqb-suc-suc}
 use Rattle.jvm_model.specs.declared.values.Location.{Location}
 use Rattle.jvm_model.specs.World.{same}
 use Rattle.jvm_model.proofs.Locations.{same_true}
@@ -9,16 +10,6 @@ use Rattle.access_tags.specs.declared.conflict.Touched.{Touched}
 use Rattle.access_tags.specs.Tag.{Tag}
 use Rattle.access_tags.specs.Numbering.{Numbering, located, is_name, is_named, position, view, IsPlaced, locations, is_at, tag_at}
 use Rattle.access_tags.proofs.Marks.{same_self, swap_same}
-use Rattle.access_tags.proofs.Settle.{differ}
-
-apart_eq : (a b : ℕ) → a ≢ b → nat_eq a b ≡ false
-apart_eq a b n = elim (cases_Bool (nat_eq a b)) [ inl e ↦ absurd (n (eqb-true a b e)) | inr e ↦ e ]
-
-next_eq : (a b : ℕ) → nat_eq (suc a) (suc b) ≡ nat_eq a b
-next_eq a b = elim (cases_Bool (nat_eq a b)) [
-  | inl e ↦ let g = eqb-true a b e in eq-eqb (suc a) (suc b) (ap suc g) ∙ sym e
-  | inr e ↦ let d = differ a b e in apart_eq (suc a) (suc b) (λ q. absurd (d (omega arith))) ∙ sym e
-]
 
 second : (a b : Bool) → (a || b) ≡ true → a ≡ false → b ≡ true
 second true b e f = absurd (cc)
@@ -30,11 +21,11 @@ same_position [] L M h = absurd (cc)
 same_position (N ∷ ls) L M h = elim (cases_Bool (same L N)) [
   | inl l ↦ elim (cases_Bool (same M N)) [
     | inl m ↦ rw l (rw m (eq-eqb 0 0 refl ∙ sym (same_self L M (same_true L N l ∙ sym (same_true M N m)))))
-    | inr m ↦ rw l (rw m (apart_eq 0 (suc (position ls M)) (λ q. absurd (omega arith)) ∙ sym (ap (λ (x : Location). same x M) (same_true L N l) ∙ (swap_same M N ∙ m))))
+    | inr m ↦ rw l (rw m (ne_eqb 0 (suc (position ls M)) (λ q. absurd (omega arith)) ∙ sym (ap (λ (x : Location). same x M) (same_true L N l) ∙ (swap_same M N ∙ m))))
   ]
   | inr l ↦ elim (cases_Bool (same M N)) [
-    | inl m ↦ rw l (rw m (apart_eq (suc (position ls L)) 0 (λ q. absurd (omega arith)) ∙ sym (ap (λ (x : Location). same L x) (same_true M N m) ∙ l)))
-    | inr m ↦ rw l (rw m (next_eq (position ls L) (position ls M) ∙ same_position ls L M (second (same M N) _ h m)))
+    | inl m ↦ rw l (rw m (ne_eqb (suc (position ls L)) 0 (λ q. absurd (omega arith)) ∙ sym (ap (λ (x : Location). same L x) (same_true M N m) ∙ l)))
+    | inr m ↦ rw l (rw m (eqb-suc-suc (position ls L) (position ls M) ∙ same_position ls L M (second (same M N) _ h m)))
   ]
 ]
 

@@ -1,6 +1,7 @@
 -- Touches of the parts of a world, noted at their numbers.
-use Rattle.std.proofs.Common.{◌≡◌, ℕ, zero, suc, ◌+◌, ◌<◌, Bool, true, false, ◌||◌, cond, List, [], ◌∷◌, ◌++◌, length, get_or, nat_eq, take, map, Option, None, refl, sym, ◌∙◌, ap, subst, arith, append_assoc}
+use Rattle.std.proofs.Common.{◌≡◌, ℕ, zero, suc, ◌+◌, ◌<◌, true, false, cond, List, [], ◌∷◌, ◌++◌, length, get_or, nat_eq, take, map, Option, None, refl, sym, ◌∙◌, ap, subst, arith, append_assoc}
 use Rattle.std.specs.List.{list_any}
+use Rattle.std.proofs.Math.Bool.{or-true}
 use Rattle.std.proofs.Math.ListN.{get_or-map}
 use Rattle.std.proofs.Math.Seq.{take-length}
 use Rattle.std.proofs.lemmas.Bool.{eq-eqb}
@@ -83,11 +84,7 @@ elems_more o xs i d h = let l = length-take-le i xs (omega arith) in let e : 0 +
 member_here : (ks : List ℕ) (i d : ℕ) → i < length ks → member (get_or ks i d) ks ≡ true
 member_here [] i d h = absurd (omega arith)
 member_here (k ∷ ks) zero d h = rw (eq-eqb k k refl) refl
-member_here (k ∷ ks) (suc i) d h = rw (member_here ks i d (omega arith)) (or_true (nat_eq (get_or ks i d) k))
-  where
-    or_true : (b : Bool) → (b || true) ≡ true
-    or_true true = refl
-    or_true false = refl
+member_here (k ∷ ks) (suc i) d h = rw (member_here ks i d (omega arith)) (or-true (nat_eq (get_or ks i d) k))
 
 -- the field of an entry is there
 pub field_there : (w : World) (o i : ℕ) (xs : List (ℕ × Value)) (x : ℕ × Value) → o < size w → keys (object_at w o).fields ≡ keys xs → i < length xs → Exists w (place.Field o (get_or xs i x).0)

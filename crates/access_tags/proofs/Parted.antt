@@ -1,7 +1,7 @@
 -- The tags after a test ended at some parts and then at more, and the conflicts there.
 use Rattle.std.proofs.Common.{◌≡◌, ℕ, ◌+◌, ◌<◌, ◌≤◌, Bool, true, false, ◌||◌, ◌&&◌, not, cond, List, [], ◌∷◌, ◌++◌, length, get_or, take, flat_map, nat_eq, refl, sym, ◌∙◌, ap, subst, inl, inr}
 use Rattle.std.specs.List.{list_any}
-use Rattle.std.proofs.lemmas.Bool.{cases_Bool}
+use Rattle.std.proofs.lemmas.Bool.{cases_Bool, or_parts}
 use Rattle.std.proofs.lemmas.Grind.{flat_map-append}
 use Rattle.std.proofs.lemmas.List.{append-nil, append_assoc, map-append, take_more}
 use Rattle.std.proofs.lemmas.List.Folds.{list_any-append}
@@ -33,17 +33,9 @@ placed_right : (n : Numbering) (xs ys : List Touched) → ArePlaced n (xs ++ ys)
 placed_right n [] ys p = p
 placed_right n (x ∷ xs) ys p = placed_right n xs ys p.1
 
-left_none : (a b : Bool) → (a || b) ≡ false → a ≡ false
-left_none true b e = absurd (cc)
-left_none false b e = refl
-
-right_none : (a b : Bool) → (a || b) ≡ false → b ≡ false
-right_none true b e = absurd (cc)
-right_none false b e = e
-
 apart_left : (ls ms : List Location) → Apart same (ls ++ ms) → Apart same ls
 apart_left [] ms a = tt
-apart_left (L ∷ ls) ms a = (left_none (list_any (same L) ls) _ (sym (list_any-append (same L) ls ms) ∙ a.0), apart_left ls ms a.1)
+apart_left (L ∷ ls) ms a = ((or_parts (list_any (same L) ls) _ (sym (list_any-append (same L) ls ms) ∙ a.0)).0, apart_left ls ms a.1)
 
 apart_right : (ls ms : List Location) → Apart same (ls ++ ms) → Apart same ms
 apart_right [] ms a = a
@@ -53,7 +45,7 @@ apart_right (L ∷ ls) ms a = apart_right ls ms a.1
 apart_both : (L : Location) (ls ms : List Location) → Apart same (ls ++ ms) → list_any (same L) ls ≡ true → list_any (same L) ms ≡ false
 apart_both L [] ms a e = absurd (cc)
 apart_both L (M ∷ ls) ms a e = elim (cases_Bool (same L M)) [
-  | inl s ↦ subst (λ (N : Location). list_any (same N) ms ≡ false) (sym (same_true L M s)) (right_none (list_any (same M) ls) _ (sym (list_any-append (same M) ls ms) ∙ a.0))
+  | inl s ↦ subst (λ (N : Location). list_any (same N) ms ≡ false) (sym (same_true L M s)) (or_parts (list_any (same M) ls) _ (sym (list_any-append (same M) ls ms) ∙ a.0)).1
   | inr s ↦ apart_both L ls ms a.1 (rw s at e)
 ]
 

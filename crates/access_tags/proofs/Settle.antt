@@ -1,6 +1,6 @@
 -- The tags after a change at one location.
-use Rattle.std.proofs.Common.{◌≡◌, ◌≢◌, ℕ, zero, suc, ◌+◌, ◌^◌, ◌<◌, ◌≤◌, Bool, true, false, cond, List, [], ◌∷◌, ◌++◌, length, get_or, set, reverse, refl, sym, ◌∙◌, ap, subst, arith, nat_eq, inl, inr}
-use Rattle.std.proofs.lemmas.Bool.{cases_Bool, cases_eq, eqb-true, eq-eqb}
+use Rattle.std.proofs.Common.{◌≡◌, ℕ, zero, suc, ◌+◌, ◌^◌, ◌<◌, ◌≤◌, Bool, true, false, cond, List, [], ◌∷◌, ◌++◌, length, get_or, set, reverse, refl, sym, ◌∙◌, ap, subst, arith, nat_eq, inl, inr}
+use Rattle.std.proofs.lemmas.Bool.{cases_Bool, cases_eq, eqb-true, eqb-false}
 use Rattle.std.proofs.lemmas.List.{get_or-set_other, length-set, length-reverse, reverse-append, length-append}
 use Rattle.std.proofs.lemmas.Grind.{get_or-set_at}
 use Rattle.access_tags.specs.declared.mark.Mark.{Mark}
@@ -26,9 +26,6 @@ yes x y e = rw e
 no : {A : Type 0} {b : Bool} (x y : A) → b ≡ false → cond b x y ≡ y
 no x y e = rw e
 
-pub differ : (l at : ℕ) → nat_eq l at ≡ false → l ≢ at
-differ l at e q = let f = eq-eqb l at q in absurd (cc)
-
 -- the mark after the test ended, from a mark that is taken first
 abbrev pub past : ℕ → ℕ → Past
 past w r = record { writer = w; readers = r }
@@ -47,7 +44,7 @@ written_look ps rs ms at t l c h w = let x = past t 0 in elim (cases_Bool (nat_e
       (ap (λ (y : Past). y.writer) g ∙ sym (yes t (get_or ps at no_past).writer w))
       (ap (λ (y : Past). chain (reverse rs) y.readers) g ∙ (chain_end (reverse rs) ∙ sym (yes [] (cond (get_or ms at no_mark).exposed (t ∷ chain (reverse rs) (get_or ps at no_past).readers) (chain (reverse rs) (get_or ps at no_past).readers)) w)))
       (get_or-set_at ms at l no_mark no_mark q h))
-  | inr e ↦ rw e (same_past (reverse rs) (set ms at no_mark) ms l l (get_or (set ps at x) l no_past) (get_or ps l no_past) (get_or-set_other ps at l x no_past (differ l at e)) (get_or-set_other ms at l no_mark no_mark (differ l at e)))
+  | inr e ↦ rw e (same_past (reverse rs) (set ms at no_mark) ms l l (get_or (set ps at x) l no_past) (get_or ps l no_past) (get_or-set_other ps at l x no_past (eqb-false l at e)) (get_or-set_other ms at l no_mark no_mark (eqb-false l at e)))
 ]
 
 exposed_in : (ps : List Past) (rs : List Reader) (ms : List Mark) (at t n l : ℕ) → n ≡ suc (length rs) → at < length ps → at < length ms → ((i : ℕ) → (get_or ps i no_past).readers ≤ length rs) → (get_or ms at no_mark).written ≡ false → (get_or ms at no_mark).exposed ≡ true →
@@ -57,7 +54,7 @@ exposed_in ps rs ms at t n l top there h below w x = let v = past (get_or ps at 
       (ap (λ (y : Past). y.writer) g ∙ sym (no t (get_or ps at no_past).writer w))
       (ap (λ (y : Past). chain (r ∷ rs) y.readers) g ∙ (ap (λ (i : ℕ). chain (r ∷ rs) i) top ∙ (chain_top r rs ∙ sym (no [] _ w ∙ yes _ _ x))))
       (get_or-set_at ms at l no_mark no_mark q h))
-  | inr e ↦ let d = differ l at e in let g = get_or-set_other ps at l v no_past d in rw e (same_tag
+  | inr e ↦ let d = eqb-false l at e in let g = get_or-set_other ps at l v no_past d in rw e (same_tag
       (ap (λ (y : Past). y.writer) g)
       (ap (λ (y : Past). chain (r ∷ rs) y.readers) g ∙ chain_lower r rs (get_or ps l no_past).readers (below l))
       (get_or-set_other ms at l no_mark no_mark d))
@@ -79,14 +76,14 @@ clear_look ps rs ms at t l h w x = elim (cases_Bool (nat_eq l at)) [
       (ap (λ (i : ℕ). (get_or ps i no_past).writer) q ∙ sym (no t (get_or ps at no_past).writer w))
       (ap (λ (i : ℕ). chain (reverse rs) (get_or ps i no_past).readers) q ∙ sym (no [] _ w ∙ no _ _ x))
       (get_or-set_at ms at l no_mark no_mark q h))
-  | inr e ↦ rw e (same_tag refl refl (get_or-set_other ms at l no_mark no_mark (differ l at e)))
+  | inr e ↦ rw e (same_tag refl refl (get_or-set_other ms at l no_mark no_mark (eqb-false l at e)))
 ]
 
 pub marked_look : (ps : List Past) (rs : List Reader) (ms : List Mark) (at l : ℕ) (write : Bool) → at < length ms →
     look ps rs (set ms at (marked write (get_or ms at no_mark))) l ≡ cond (nat_eq l at) (noted write (look ps rs ms at)) (look ps rs ms l)
 marked_look ps rs ms at l write h = let m = marked write (get_or ms at no_mark) in elim (cases_Bool (nat_eq l at)) [
   | inl e ↦ let q = eqb-true l at e in rw e (same_tag (ap (λ (i : ℕ). (get_or ps i no_past).writer) q) (ap (λ (i : ℕ). chain (reverse rs) (get_or ps i no_past).readers) q) (get_or-set_at ms at l m no_mark q h))
-  | inr e ↦ rw e (same_tag refl refl (get_or-set_other ms at l m no_mark (differ l at e)))
+  | inr e ↦ rw e (same_tag refl refl (get_or-set_other ms at l m no_mark (eqb-false l at e)))
 ]
 
 -- what stays true of the lists

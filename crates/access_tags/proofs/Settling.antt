@@ -1,17 +1,16 @@
 -- The reach of one test more, and when a test is settled.
 use Rattle.std.proofs.Common.{◌≡◌, ◌⊎◌, ◌+◌, ◌<◌, ℕ, zero, suc, Bool, not, ◌&&◌, List, [], ◌∷◌, ◌++◌, length, slice_get, refl, sym, ◌∙◌, ap, subst, arith, inl, inr, Some}
-use Rattle.std.specs.List.{list_any}
 use Rattle.std.proofs.lemmas.Bool.{cases_order, eq-eqb, ne_eqb, lt-ltb}
 use Rattle.jvm_model.specs.declared.program.Program.{Program}
 use Rattle.jvm_model.specs.declared.values.Kind.{Kind}
 use Rattle.order_law.specs.declared.records.Reach.{Reach}
 use Rattle.order_law.specs.Histories.{Touches}
-use Rattle.order_law.specs.Reach.{is_settled_in, IsReachIn, body_puts_out}
+use Rattle.order_law.specs.Reach.{is_settled_in, IsReachIn, puts_out_somewhere}
 use Rattle.access_tags.specs.HeadMarks.{touches_so_far}
 use Rattle.access_tags.specs.Ran.{touched_by}
 use Rattle.access_tags.specs.Settled.{AreReaches, reads_out_alone}
 
-pub settled_is : (p : Program) (S : Touches) (t : ℕ) (a q : Bool) → a ≡ reads_out_alone S t → q ≡ list_any (λ m. body_puts_out m.body) p.methods → (a && not q) ≡ is_settled_in p S t
+pub settled_is : (p : Program) (S : Touches) (t : ℕ) (a q : Bool) → a ≡ reads_out_alone S t → q ≡ puts_out_somewhere p → (a && not q) ≡ is_settled_in p S t
 unfolding is_settled_in
 settled_is p S t a q e f = rw e (rw f refl)
 

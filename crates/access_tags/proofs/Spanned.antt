@@ -7,7 +7,7 @@ use Rattle.std.proofs.lemmas.List.{append-nil, append_assoc, length-append, leng
 use Rattle.std.proofs.lemmas.List.Concat.{get_or-flat_map}
 use Rattle.std.proofs.lemmas.List.Folds.{length-flat_map-take, list_all-append, list_all_at}
 use Rattle.std.proofs.lemmas.List.FromFn.{get_or-map-range_with_len, length-map-range_with_len, map-range_with_len_more}
-use Rattle.std.proofs.Math.Bool.{and-true}
+use Rattle.std.proofs.Math.Bool.{and-true, and-false}
 use Rattle.std.proofs.Math.Seq.{take-length}
 use Rattle.access_tags.specs.declared.cells.Cells.{Cells}
 use Rattle.access_tags.specs.declared.conflict.LocationKey.{LocationKey}
@@ -92,11 +92,7 @@ less_than i n m h e = omega arith
 pub all_fails : (f : Touched → Bool) (ss : List Interval) (i : ℕ) (d : Interval) → i < length ss → list_all f (parts_of (get_or ss i d)) ≡ false → list_all f (parts ss) ≡ false
 all_fails f [] i d h e = absurd (omega arith)
 all_fails f (s ∷ ss) zero d h e = list_all-append f (parts_of s) (parts ss) ∙ ap (λ (b : Bool). b && list_all f (parts ss)) e
-all_fails f (s ∷ ss) (suc i) d h e = list_all-append f (parts_of s) (parts ss) ∙ (ap (λ (b : Bool). list_all f (parts_of s) && b) (all_fails f ss i d (omega arith) e) ∙ and_false (list_all f (parts_of s)))
-  where
-    and_false : (b : Bool) → (b && false) ≡ false
-    and_false true = refl
-    and_false false = refl
+all_fails f (s ∷ ss) (suc i) d h e = list_all-append f (parts_of s) (parts ss) ∙ (ap (λ (b : Bool). list_all f (parts_of s) && b) (all_fails f ss i d (omega arith) e) ∙ and-false (list_all f (parts_of s)))
 
 pub one_fails : (f : Touched → Bool) (s : Interval) (i : ℕ) → s.first ≤ i → i < s.end → f (part_at s i) ≡ false → list_all f (parts_of s) ≡ false
 one_fails f s i h l e =

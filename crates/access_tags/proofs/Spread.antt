@@ -1,7 +1,7 @@
 -- Where the locations of a world stand among them.
-use Rattle.std.proofs.Common.{◌≡◌, ◌≢◌, ℕ, zero, suc, ◌+◌, ◌-◌, ◌<◌, ◌≤◌, Bool, true, false, ◌||◌, List, [], ◌∷◌, ◌++◌, length, get_or, map, refl, sym, ◌∙◌, ap, subst, arith, nat_eq, inl, inr, Some, length-append}
+use Rattle.std.proofs.Common.{◌≡◌, ◌≢◌, ℕ, zero, suc, ◌+◌, ◌-◌, ◌<◌, ◌≤◌, true, false, ◌||◌, List, [], ◌∷◌, ◌++◌, length, get_or, map, refl, sym, ◌∙◌, ap, subst, arith, nat_eq, inl, inr, Some, length-append}
 use Rattle.std.specs.List.{list_any, range_with_len}
-use Rattle.std.proofs.lemmas.Bool.{cases_Bool, cases_eq, eqb-true, eq-eqb}
+use Rattle.std.proofs.lemmas.Bool.{cases_Bool, cases_eq, eq-eqb, ne_eqb, or_from}
 use Rattle.std.proofs.lemmas.List.{length-map}
 use Rattle.std.proofs.lemmas.List.Folds.{list_any-append}
 use Rattle.std.proofs.lemmas.Option.{same_Some}
@@ -15,14 +15,11 @@ use Rattle.jvm_model.proofs.Locations.{same_true}
 use Rattle.vm_tables.specs.FieldPlaces.{place as place_in}
 use Rattle.access_tags.specs.Numbering.{position}
 use Rattle.access_tags.specs.Worlds.{parts, all_parts, statics_of, states_of, cells_of, width, bases, base_of, number_in, StandsAt, NumbersLaw}
-use Rattle.access_tags.proofs.More.{position_more}
-
-there_left : (L : Location) (ls ms : List Location) → list_any (same L) ls ≡ true → list_any (same L) (ls ++ ms) ≡ true
-there_left L ls ms h = list_any-append (same L) ls ms ∙ rw h refl
+use Rattle.access_tags.proofs.More.{any_more, position_more}
 
 -- in the first of two lists, and in the second
 pub on_left : (ls ms : List Location) (L : Location) (n : ℕ) → StandsAt ls L n → StandsAt (ls ++ ms) L n
-on_left ls ms L n s = record { at = position_more L ls ms s.there ∙ s.at; there = there_left L ls ms s.there }
+on_left ls ms L n s = record { at = position_more L ls ms s.there ∙ s.at; there = any_more L ls ms s.there }
 
 skip : (ls ms : List Location) (L : Location) → list_any (same L) ls ≡ false → position (ls ++ ms) L ≡ length ls + position ms L
 skip [] ms L h = omega arith
@@ -45,12 +42,9 @@ pub in_range : (mk : ℕ → Location) → ((i j : ℕ) → same (mk i) (mk j) �
 in_range mk s zero a f lo hi = absurd (omega arith)
 in_range mk s (suc n) a f lo hi = elim (cases_eq f a) [
   | inl e ↦ let q : same (mk f) (mk a) ≡ true = s f a ∙ eq-eqb f a e in record { at = rw q (omega arith); there = rw q refl }
-  | inr d ↦ let q : same (mk f) (mk a) ≡ false = s f a ∙ apart f a d in
+  | inr d ↦ let q : same (mk f) (mk a) ≡ false = s f a ∙ ne_eqb f a d in
       next (mk a) (map mk (range_with_len (a + 1) n)) (mk f) (f - (a + 1)) (f - a) q (in_range mk s n (a + 1) f (omega arith) (omega arith)) (omega arith)
 ]
-  where
-    apart : (a b : ℕ) → a ≢ b → nat_eq a b ≡ false
-    apart a b n = elim (cases_Bool (nat_eq a b)) [ inl e ↦ absurd (n (eqb-true a b e)) | inr e ↦ e ]
 
 -- among the fields
 in_fields : (o f : ℕ) (ks : List ℕ) → member f ks ≡ true → StandsAt (map (λ k. place.Field o k) ks) (place.Field o f) (place_in f ks)
@@ -64,9 +58,6 @@ in_fields o f (k ∷ ks) h = let z : same (place.Field o f) (place.Field o k) �
 pub none_in : (L : Location) (mk : ℕ → Location) (ns : List ℕ) → ((i : ℕ) → same L (mk i) ≡ false) → list_any (same L) (map mk ns) ≡ false
 none_in L mk [] f = refl
 none_in L mk (i ∷ ns) f = rw (f i) (none_in L mk ns f)
-
-both_false : (a b : Bool) → a ≡ false → b ≡ false → (a || b) ≡ false
-both_false a b e f = rw e f
 
 -- the parts of an object
 pub head_at : (o : ℕ) (x : Object) → StandsAt (parts o x) (place.Head o) 0
@@ -110,9 +101,9 @@ of_other L M o a e f d = elim (cases_Bool (same L M)) [
 ]
 
 other_object : (L : Location) (o a : ℕ) (x : Object) → place_of L ≡ Some o → o ≢ a → list_any (same L) (parts a x) ≡ false
-other_object L o a x e d = both_false _ _ (of_other L (place.Head a) o a e refl d) (both_false _ _ (of_other L (place.Text a) o a e refl d)
+other_object L o a x e d = or_from _ _ (of_other L (place.Head a) o a e refl d) (or_from _ _ (of_other L (place.Text a) o a e refl d)
     (list_any-append (same L) (map (λ k. place.Field a k) (keys x.fields)) (map (λ i. place.Elem a i) (range_with_len 0 (length x.elems)))
-    ∙ both_false _ _ (none_in L (λ k. place.Field a k) (keys x.fields) (λ k. of_other L (place.Field a k) o a e refl d)) (none_in L (λ i. place.Elem a i) (range_with_len 0 (length x.elems)) (λ i. of_other L (place.Elem a i) o a e refl d))))
+    ∙ or_from _ _ (none_in L (λ k. place.Field a k) (keys x.fields) (λ k. of_other L (place.Field a k) o a e refl d)) (none_in L (λ i. place.Elem a i) (range_with_len 0 (length x.elems)) (λ i. of_other L (place.Elem a i) o a e refl d))))
 
 bases_low : (b : ℕ) (xs : List Object) (k : ℕ) → k < length xs → b ≤ get_or (bases b xs) k 0
 bases_low b [] k h = absurd (omega arith)

@@ -50,13 +50,13 @@ module _ (n : Numbering) (T : Touches) (t : ℕ) (ts : List Touch) (c d : ℕ �
   locations_more true y = map-append (λ (x : Touched). located n.names x.spot) xs (y ∷ [])
   locations_more false y = map-append (λ (x : Touched). located n.names x.spot) xs []
 
-  pub noted_stands : (y : Touched) (x : Touch) (c' d' : ℕ → Tag) (b : Bool) → IsPlaced n y → x.location ≡ located n.names y.spot → b ≡ is_new (tag_at c d y).mark →
-      ((l : ℕ) → c' l ≡ cond (not (is_name y.spot) && nat_eq l y.at) (noted x.write (c y.at)) (c l)) → ((l : ℕ) → d' l ≡ cond (is_name y.spot && nat_eq l y.at) (noted x.write (d y.at)) (d l)) →
+  pub noted_stands : (y : Touched) (x : Touch) (write : Bool) (c' d' : ℕ → Tag) (b : Bool) → x.write ≡ write → IsPlaced n y → x.location ≡ located n.names y.spot → b ≡ is_new (tag_at c d y).mark →
+      ((l : ℕ) → c' l ≡ cond (not (is_name y.spot) && nat_eq l y.at) (noted write (c y.at)) (c l)) → ((l : ℕ) → d' l ≡ cond (is_name y.spot && nat_eq l y.at) (noted write (d y.at)) (d l)) →
       StandFor n T t (ts ++ x ∷ []) c' d' (xs ++ cond b (y ∷ []) [])
-  noted_stands y x c' d' b p e k g h = let M = located n.names y.spot in
+  noted_stands y x write c' d' b w p e k g h = let M = located n.names y.spot in
       let m : b ≡ is_new (mark ts M) = k ∙ ap (λ (z : Tag). is_new z.mark) (tag_there n c d y p ∙ s.tags M) in
       record {
-        tags = λ L. changed n y (λ (z : Tag). noted x.write z) c d c' d' p g h L ∙ (rw (s.tags L) (rw (s.tags M) (elim (cases_Bool (same L M)) [
+        tags = λ L. changed n y (λ (z : Tag). noted x.write z) c d c' d' p (rw w g) (rw w h) L ∙ (rw (s.tags L) (rw (s.tags M) (elim (cases_Bool (same L M)) [
           | inl f ↦ rw f (ap (λ (N : Location). noted x.write (tag T t ts N)) (sym (same_true L M f)) ∙ ap (λ (z : Mark). tag_with (writer T t L) (readers T t L) z) (sym (mark_more ts x L ∙ rw e (rw f refl))))
           | inr f ↦ rw f (ap (λ (z : Mark). tag_with (writer T t L) (readers T t L) z) (sym (mark_more ts x L ∙ rw e (rw f refl))))
         ])));

@@ -1,7 +1,7 @@
 -- Rows by the conflicts, one conflict more at a time.
 use Rattle.std.proofs.Common.{◌≡◌, ◌≢◌, ℕ, zero, suc, ◌+◌, ◌*◌, ◌-◌, ◌<◌, ◌≤◌, Bool, true, false, ◌&&◌, cond, List, [], ◌∷◌, ◌++◌, length, get_or, set, map, filter, flat_map, take, refl, sym, ◌∙◌, ap, subst, arith, nat_eq, inl, inr}
 use Rattle.std.specs.List.{range_with_len}
-use Rattle.std.proofs.lemmas.Bool.{cases_Bool, cases_lt, eqb-true, eq-eqb}
+use Rattle.std.proofs.lemmas.Bool.{cases_Bool, cases_lt, eqb-true, eq-eqb, eqb-false, ne_eqb}
 use Rattle.std.proofs.lemmas.List.{get_or-set_other, length-append, append-nil, append_assoc, map-append, map-id, flat_map_more}
 use Rattle.std.proofs.lemmas.List.Elements.{filter-append}
 use Rattle.std.proofs.lemmas.List.FromFn.{map-range_with_len_more}
@@ -13,7 +13,6 @@ use Rattle.access_tags.specs.declared.conflict.LocationKey.{LocationKey}
 use Rattle.access_tags.specs.declared.rows.Row.{Row}
 use Rattle.access_tags.specs.Tag.{found, is_conflict, same_kind, kind_number}
 use Rattle.access_tags.specs.Rows.{key, row_with, row_of, rows_between, IsTable}
-use Rattle.access_tags.proofs.Settle.{differ}
 
 -- the first 8 of one more
 take_all : {A : Type 0} (xs : List A) (n : ℕ) → length xs ≤ n → take n xs ≡ xs
@@ -46,25 +45,22 @@ shown_same k u n xs x e h = let l = length-append xs (x ∷ []) in
     ∙ ap (λ (ys : List LocationKey). row k u (length (xs ++ x ∷ [])) ys) (sym (take_left xs (x ∷ []) 8 (elim (cases_lt (length xs) 8) [ inl g ↦ absurd (let z = ap (λ (ys : List LocationKey). length ys) (take_all xs 8 (omega arith)) in omega arith) | inr g ↦ g ])))
 
 -- one conflict more
-apart_eq : (a b : ℕ) → a ≢ b → nat_eq a b ≡ false
-apart_eq a b n = elim (cases_Bool (nat_eq a b)) [ inl e ↦ absurd (n (eqb-true a b e)) | inr e ↦ e ]
-
 same_three : (u v a : ℕ) → nat_eq (3 * u + a) (3 * v + a) ≡ nat_eq u v
 same_three u v a = elim (cases_Bool (nat_eq u v)) [
   | inl e ↦ let g = eqb-true u v e in eq-eqb (3 * u + a) (3 * v + a) (omega arith) ∙ sym e
-  | inr e ↦ let d = differ u v e in apart_eq (3 * u + a) (3 * v + a) (λ q. absurd (d (omega arith))) ∙ sym e
+  | inr e ↦ let d = eqb-false u v e in ne_eqb (3 * u + a) (3 * v + a) (λ q. absurd (d (omega arith))) ∙ sym e
 ]
 
 same_key : (k j : EdgeKind) (u v : ℕ) → nat_eq (key k u) (key j v) ≡ (same_kind k j && nat_eq u v)
 same_key Raw Raw u v = same_three u v 0
 same_key Waw Waw u v = same_three u v 1
 same_key War War u v = same_three u v 2
-same_key Raw Waw u v = apart_eq (3 * u + 0) (3 * v + 1) (λ q. absurd (omega arith))
-same_key Raw War u v = apart_eq (3 * u + 0) (3 * v + 2) (λ q. absurd (omega arith))
-same_key Waw Raw u v = apart_eq (3 * u + 1) (3 * v + 0) (λ q. absurd (omega arith))
-same_key Waw War u v = apart_eq (3 * u + 1) (3 * v + 2) (λ q. absurd (omega arith))
-same_key War Raw u v = apart_eq (3 * u + 2) (3 * v + 0) (λ q. absurd (omega arith))
-same_key War Waw u v = apart_eq (3 * u + 2) (3 * v + 1) (λ q. absurd (omega arith))
+same_key Raw Waw u v = ne_eqb (3 * u + 0) (3 * v + 1) (λ q. absurd (omega arith))
+same_key Raw War u v = ne_eqb (3 * u + 0) (3 * v + 2) (λ q. absurd (omega arith))
+same_key Waw Raw u v = ne_eqb (3 * u + 1) (3 * v + 0) (λ q. absurd (omega arith))
+same_key Waw War u v = ne_eqb (3 * u + 1) (3 * v + 2) (λ q. absurd (omega arith))
+same_key War Raw u v = ne_eqb (3 * u + 2) (3 * v + 0) (λ q. absurd (omega arith))
+same_key War Waw u v = ne_eqb (3 * u + 2) (3 * v + 1) (λ q. absurd (omega arith))
 
 found_more : (k : EdgeKind) (u : ℕ) (hs : List (Conflict LocationKey)) (x : Conflict LocationKey) → found k u (hs ++ x ∷ []) ≡ found k u hs ++ cond (nat_eq (key k u) (key x.kind x.earlier)) (x.place ∷ []) []
 found_more k u hs x =
@@ -92,13 +88,13 @@ tally_in t hs x rows o r l f low q g k u e b = let at = key x.kind x.earlier in 
       let w : o ≡ row_with k u (found k u hs) = q ∙ (ap (λ (j : ℕ). get_or rows j o) (sym z) ∙ f k u o b) in
       get_or-set_at rows at (key k u) r e z (key_within x.kind x.earlier t (length rows) low l)
       ∙ (g k u (found k u hs) w ∙ ap (λ (ys : List LocationKey). row_with k u ys) (sym (found_more k u hs x ∙ rw y refl)))
-  | inr y ↦ get_or-set_other rows at (key k u) r e (differ (key k u) at y)
+  | inr y ↦ get_or-set_other rows at (key k u) r e (eqb-false (key k u) at y)
       ∙ (f k u e b ∙ ap (λ (ys : List LocationKey). row_with k u ys) (sym (found_more k u hs x ∙ rw y (append-nil (found k u hs)))))
 ]
 
 pub tally_out : (t : ℕ) (hs : List (Conflict LocationKey)) (x : Conflict LocationKey) (rows : List Row) → IsTable t hs rows → t ≤ x.earlier → IsTable t (hs ++ x ∷ []) rows
 tally_out t hs x rows f high k u e b =
-    let y : nat_eq (key k u) (key x.kind x.earlier) ≡ false = apart_eq (key k u) (key x.kind x.earlier) (λ q. absurd (let a = kind_below k in let c = kind_below x.kind in omega arith)) in
+    let y : nat_eq (key k u) (key x.kind x.earlier) ≡ false = ne_eqb (key k u) (key x.kind x.earlier) (λ q. absurd (let a = kind_below k in let c = kind_below x.kind in omega arith)) in
     f k u e b ∙ ap (λ (ys : List LocationKey). row_with k u ys) (sym (found_more k u hs x ∙ rw y (append-nil (found k u hs))))
 
 -- a table of no conflicts, with the rows of one test more

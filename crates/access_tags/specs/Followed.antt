@@ -91,6 +91,7 @@ pub record Follows (m : TaggedMemory) (h : Trace) (ts : List Touch) : Type 0 whe
   pub cells : count m.tags.cells ≡ length (cells_of m.memory.world)
   pub named : count m.tags.named ≡ length m.names
   pub program : m.numbers.places ≡ m.memory.program
+  pub classes : m.heads.classes ≡ length m.numbers.places.classes
   pub told : (T : Touches) → h ≡ trace_to T h.test → IsTold T h.test ts m
 
 -- A touch of a spot was noted: a read that gave this, or a write, of the head of an object of this kind or of another part.

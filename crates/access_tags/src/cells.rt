@@ -192,7 +192,8 @@ fn conflict_readers(
     Ok(())
 }
 
-/// Adds a reader and answers its number. After a refusal the readers are as before.
+/// Adds a reader and answers its number. More than 2^32 - 1 readers are refused as want of memory, and after a refusal the
+/// readers are as before.
 fn link(readers: &mut Region<Reader>, reader: Reader) -> Result<u32, NoMemory>
     ensures gives { IfOk result (λ n. n ≡ length readers.old + 1) }
     ensures linked { OnOk result (readers.new ≡ readers.old ++ reader ∷ []) }

@@ -42,13 +42,6 @@ impl Heads {
         }
     }
 
-    /// How many classes have marks. Takes no memory.
-    pub fn classes(&self) -> u32
-        ensures { result ≡ self.now.classes }
-    {
-        self.classes
-    }
-
     /// The running test, with this number, touched the head of an object of this kind, or where none is told another part.
     pub fn note_touch(&mut self, test: u32, kind: Option<Kind>) -> Result<(), NoMemory>
         ensures classes { self.new.classes ≡ self.old.classes }

@@ -35,7 +35,6 @@ mod reaches;
 mod reads;
 mod room;
 mod rows;
-mod settled;
 mod shown_text;
 mod table;
 mod tags;

@@ -26,18 +26,18 @@ use crate::names::Names;
 use crate::noting::{elements, note_made, note_part};
 use crate::numbers::Numbers;
 use crate::reaches::reaches_of;
-use crate::settled::OUT;
 use crate::tags::Tags;
 use et_base::{Items, NoMemory, Units};
 use jvm_model::{Head, InitState, Kind, Program, Value};
-use order_law::{Edge, Reach, Shown};
+use order_law::{Edge, OUT, Reach, Shown};
 use sim_store::Part;
 use std::alloc::Global;
 use vm_heap::RegionMemory;
 use vm_mem::Memory;
 
 /// The world, and beside each location the last test that wrote it and the tests that read it since. It follows the tests
-/// that run on it.
+/// that run on it. More than 2^32 - 1 readers, each a location and a test, or 2^32 names of files and properties are refused
+/// as want of memory.
 #[derive(Drop)]
 pub struct TaggedMemory {
     memory: RegionMemory,
@@ -100,16 +100,15 @@ impl TaggedMemory {
 
     /// The reach of each test of a program, where the memory follows a run of its tests in order: the least set of classes
     /// that holds the test's own, those of the objects whose heads it touched, and with each class all that it mentions;
-    /// and whether the test is settled. There is no memory for the reach of a program with another number of classes.
+    /// and whether the test is settled. It asks for the memory's own program.
     pub fn reaches(&self, p: &Program) -> Result<Items<Reach>, NoMemory>
+        requires program { ⟦<TaggedMemory as Memory>⟧.program self.now ≡ p.now }
+        requires linked { Linked p.now }
         ensures each { IfOk result (λ rs. length rs ≡ length p.now.tests) }
         ensures reach { IfOk result (λ rs. (T : Touches) → ⟦<TaggedMemory as Memory>⟧.follows self.now (trace_to T (length p.now.tests)) (touched_by T (length p.now.tests))
             → (i : ℕ) (r : Reached) → slice_get rs i ≡ Some r
             → IsReachIn p.now T (kinds_in (⟦<TaggedMemory as Memory>⟧.world self.now)) (i + 1) r) }
     {
-        if self.heads.classes() as usize != p.classes.len() {
-            return Err(NoMemory {});
-        }
         let alone = self.alone()?;
         let reaches = reaches_of(self.alloc, p, &self.heads, &alone)?;
         Ok(reaches)
@@ -145,7 +144,8 @@ impl TaggedMemory {
         Ok(())
     }
 
-    /// The number of a file or property among the names, of which it is then one.
+    /// The number of a file or property among the names, of which it is then one. More than 2^32 names are refused as want
+    /// of memory.
     fn name_number(&mut self, part: Part, name: &Units) -> Result<u32, NoMemory>
         ensures memory { self.new.memory ≡ self.old.memory }
         ensures number { IfOk result (λ k. IsNamed self.new.names (place_in part name.now) k) }

@@ -1,6 +1,6 @@
 //! What the tests of a program reach.
 
-ghost use Rattle.std.specs.Prelude.{◌≡◌, ◌<◌, ◌+◌, ℕ, List, not, ◌&&◌, length, get_or, false, IfOk};
+ghost use Rattle.std.specs.Prelude.{◌≡◌, ◌<◌, ◌≤◌, ◌+◌, ℕ, List, not, ◌&&◌, length, get_or, false, IfOk};
 ghost use Rattle.jvm_model.specs.declared.values.Kind.{Kind as KindOf};
 ghost use Rattle.jvm_model.specs.declared.values.Touch.{Touch};
 ghost use Rattle.order_law.specs.Histories.{Touches};
@@ -9,28 +9,25 @@ ghost use Rattle.access_tags.specs.HeadsStand.{HeadsStand};
 ghost use Rattle.access_tags.specs.Settled.{AreReaches, reads_out_alone};
 
 use crate::heads::Heads;
-use crate::settled::puts_out;
 use et_base::{Items, NoMemory};
 use jvm_model::Program;
-use order_law::Reach;
+use order_law::{Reach, puts_out};
 use std::alloc::Global;
 
 /// What each test of a program reaches, by the heads that the tests touched and by whether the exposed reads of each are of
-/// the static `System.out` alone. Of more tests than a program has there is want of memory.
+/// the static `System.out` alone.
 pub fn reaches_of(
     alloc: Global,
     p: &Program,
     heads: &Heads,
     alone: &[bool],
 ) -> Result<Items<Reach>, NoMemory>
+    requires few { length p.now.tests ≤ 1024 }
     ensures each { IfOk result (λ rs. length rs ≡ length p.now.tests) }
     ensures reach { IfOk result (λ rs. (kinds : ℕ → ℕ → KindOf) (T S : Touches) (t : ℕ) (ts : List Touch) → heads.now.classes ≡ length p.now.classes → HeadsStand kinds T t ts heads.now
         → ((i : ℕ) → i < length p.now.tests → touches_so_far T t ts (i + 1) ≡ S (i + 1)) → ((i : ℕ) → i < length p.now.tests → get_or alone.now i false ≡ reads_out_alone S (i + 1))
         → AreReaches p.now S kinds rs) }
 {
-    if p.tests.len() >= u32::MAX as usize {
-        return Err(NoMemory {});
-    }
     let puts = puts_out(p);
     let mut reaches = Items::new(alloc);
     for i in 0..p.tests.len() {

@@ -6,10 +6,10 @@ ghost use Rattle.order_law.specs.Walk.{read_text};
 ghost use Rattle.access_tags.specs.Numbering.{located};
 
 use crate::conflict::LocationKey;
-use crate::settled::OUT;
 use crate::texts::push_field;
 use et_base::{Items, NoMemory, Text, push_decimal};
 use jvm_model::Program;
+use order_law::OUT;
 use std::alloc::Global;
 
 /// The texts of a walk's reads: `static CLASS.FIELD`, `field CLASS.FIELD` or `elem INDEX`.

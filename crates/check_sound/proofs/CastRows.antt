@@ -1,5 +1,5 @@
 -- The rows of checkcast and instanceof, and athrow's.
-use Rattle.std.proofs.Common.{◌≡◌, ℕ, ◌<◌, List, [], ◌∷◌, get_or, Bool, true, false, not, cond, nat_eq, Some, refl, sym, ◌∙◌, ap, subst, arith}
+use Rattle.std.proofs.Common.{◌≡◌, ℕ, List, [], ◌∷◌, Bool, true, false, not, cond, nat_eq, refl, sym, subst, arith}
 use Rattle.jvm_model.specs.declared.values.Value.{Value}
 use Rattle.jvm_model.specs.declared.values.Value.TheVariants as value
 use Rattle.jvm_model.specs.declared.values.Kind.{Kind}
@@ -8,12 +8,10 @@ use Rattle.jvm_model.specs.declared.instr.Instr.{Instr}
 use Rattle.jvm_model.specs.declared.instr.Instr.TheVariants as form
 use Rattle.jvm_model.specs.declared.program.Program.{Program}
 use Rattle.jvm_model.specs.World.{World}
-use Rattle.jvm_model.specs.Builtin.{builtin_count, object_class, throwable_class, string_class, stream_class, class_cast_exception, null_pointer_exception}
-use Rattle.jvm_model.specs.declared.program.ClassRec.{ClassRec}
+use Rattle.jvm_model.specs.Builtin.{object_class, throwable_class, string_class, stream_class, class_cast_exception, null_pointer_exception}
 use Rattle.jvm_model.specs.Library.{builtin_defs, builtin_classes}
-use Rattle.jvm_model.specs.Classes.{is_below, is_interface, no_class, upwards, member}
-use Rattle.jvm_model.proofs.BuiltinRules.{builtin_class, class_keeps}
-use Rattle.jvm_model.proofs.Upwards.{upwards_step, upwards_root}
+use Rattle.jvm_model.specs.Classes.{is_below, is_interface, member}
+use Rattle.jvm_model.proofs.BuiltinRules.{class_keeps}
 use Rattle.type_frames.proofs.AssignLaws.{builtin_plain}
 use Rattle.check_sound.proofs.Instances.{takes_every, instance_below}
 use Rattle.std.proofs.lemmas.Bool.{not-true}
@@ -35,7 +33,7 @@ use Rattle.check_sound.proofs.Held.{Is, Held, on_top, int_on}
 use Rattle.check_sound.proofs.Operands.{rest_of, popping-fits, head-typed, choose-typed}
 use Rattle.check_sound.proofs.Ready.{Ends, Row, Ready, here, rest, operands, on, raised_typed}
 use Rattle.check_sound.proofs.Ends.{fault_typed}
-use Rattle.check_sound.proofs.Thrown.{builtin_is, class_cast_thrown, null_pointer_thrown}
+use Rattle.check_sound.proofs.Thrown.{under_object, builtin_is, class_cast_thrown, null_pointer_thrown}
 use Rattle.check_sound.proofs.KindNames.{kind_instance}
 use Rattle.check_sound.proofs.Ready.{names_form}
 
@@ -58,18 +56,13 @@ module _ (p : Program) (lk : Linked p) where
       let b = instance_below p lk x throwable_class h (builtin_is p lk throwable_class (omega arith)) not_every i in
       subst (λ (k : Kind). is_below p (class_of k) throwable_class ≡ true) (sym b.is) b.below
 
-  under_object : (c : ℕ) → c < builtin_count → (get_or builtin_classes c no_class).superclass ≡ Some object_class → upwards p c ≡ c ∷ object_class ∷ []
-  under_object c h e =
-      upwards_step p lk c object_class (builtin_is p lk c h) (ap (λ (x : ClassRec). x.superclass) (builtin_class p lk.builtins c h) ∙ e)
-      ∙ ap {B = List ℕ} (λ xs. c ∷ xs) (upwards_root p lk object_class lk.listed.top)
-
   string_apart : is_below p string_class throwable_class ≡ true → ⊥
   unfolding is_below builtin_classes builtin_defs
-  string_apart e = let q : member throwable_class (string_class ∷ object_class ∷ []) ≡ true = subst (λ (xs : List ℕ). member throwable_class xs ≡ true) (under_object string_class (omega arith) refl) e in cc
+  string_apart e = let q : member throwable_class (string_class ∷ object_class ∷ []) ≡ true = subst (λ (xs : List ℕ). member throwable_class xs ≡ true) (under_object p lk string_class (omega arith) refl) e in cc
 
   stream_apart : is_below p stream_class throwable_class ≡ true → ⊥
   unfolding is_below builtin_classes builtin_defs
-  stream_apart e = let q : member throwable_class (stream_class ∷ object_class ∷ []) ≡ true = subst (λ (xs : List ℕ). member throwable_class xs ≡ true) (under_object stream_class (omega arith) refl) e in cc
+  stream_apart e = let q : member throwable_class (stream_class ∷ object_class ∷ []) ≡ true = subst (λ (xs : List ℕ). member throwable_class xs ≡ true) (under_object p lk stream_class (omega arith) refl) e in cc
 
   no_constant : (n : ℕ) → IsInstance p (constant_kind n) (name_of p throwable_class) → ⊥
   no_constant n i = by (nat_eq n 0) (throwable_below (constant_kind n) (constant_is_kind p lk n) i)

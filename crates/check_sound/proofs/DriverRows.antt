@@ -125,7 +125,7 @@ plain_of p name (c ∷ cs) m e = by (plain_method_in p name (class_at p c).metho
 
 module _ (p : Program) (ty : IsTyped p) (w : World) where
   -- a static method without arguments
-  enters_static : (m : ℕ) → is_static (method_at p m).flags ≡ true → (method_at p m).descriptor ≡ no_arguments → EntersWith p w m []
+  pub enters_static : (m : ℕ) → is_static (method_at p m).flags ≡ true → (method_at p m).descriptor ≡ no_arguments → EntersWith p w m []
   unfolding parameters
   enters_static m f d e c = subst (λ (ts : List VType). HaveTypes p w e (spread ts) [])
       (sym (ap (λ (x : Bool). elim x as (λ z. List VType) [ true ↦ [] | false ↦ elim (is_constructor (method_at p m)) as (λ z. List VType) [ true ↦ UninitThis ∷ [] | false ↦ Object (name_of p (method_at p m).class) ∷ [] ] ] ++ flat_map types_of (parameters (method_at p m).descriptor)) f

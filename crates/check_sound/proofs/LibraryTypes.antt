@@ -24,7 +24,7 @@ use Rattle.jvm_model.specs.Linked.{Linked, IsClass, IsKind}
 use Rattle.jvm_model.specs.Natives.{NativeGroup, of_object, of_string, of_builder, of_system, of_stream, of_files, of_env, of_throwable, native_group}
 use Rattle.jvm_model.specs.Rows.{constant_kind}
 use Rattle.jvm_model.proofs.BuiltinRules.{builtin_class, builtin_field, class_keeps, method_keeps}
-use Rattle.jvm_model.proofs.Upwards.{below_same, upwards_step, upwards_root}
+use Rattle.jvm_model.proofs.Upwards.{below_same}
 use Rattle.type_frames.specs.declared.vtype.VType.{VType}
 use Rattle.type_frames.specs.declared.vtype.VType.TheVariants.{Int, Long, Object}
 use Rattle.type_frames.specs.Frames.{same}
@@ -37,7 +37,7 @@ use Rattle.check_sound.proofs.Held.{same_is}
 use Rattle.check_sound.proofs.Arrive.{counted_at, all_at_index}
 use Rattle.check_sound.proofs.Instances.{takes_every, instance_below, instance_itself, below_is}
 use Rattle.check_sound.proofs.Ready.{Takes, operand_types}
-use Rattle.check_sound.proofs.Thrown.{builtin_is, above}
+use Rattle.check_sound.proofs.Thrown.{under_object, builtin_is, above}
 
 abbrev pub object_name : List ℕ
 object_name = codes "java/lang/Object"
@@ -340,11 +340,6 @@ module _ (p : Program) (lk : Linked p) where
       by true = builtin_is p lk 4 (omega arith)
       by false = builtin_is p lk 1 (omega arith)
 
-  chain_of : (c : ℕ) → c < 32 → (get_or builtin_classes c no_class).superclass ≡ Some 0 → upwards p c ≡ c ∷ 0 ∷ []
-  unfolding builtin_classes builtin_defs
-  chain_of c h e = upwards_step p lk c 0 (builtin_is p lk c h) (ap (λ (r : ClassRec). r.superclass) (builtin_class p lk.builtins c h) ∙ e)
-      ∙ ap {B = List ℕ} (λ xs. c ∷ xs) (upwards_root p lk 0 (ap (λ (r : ClassRec). r.superclass) (builtin_class p lk.builtins 0 (omega arith))))
-
   -- no constant is one of a class that isn't Object, the stream's or String
   no_constant : (c : ℕ) → IsClass p c → takes_every p c ≡ false → nat_eq c 4 ≡ false → nat_eq c 1 ≡ false → nat_eq c 0 ≡ false → (n : ℕ) → IsInstance p (constant_kind n) (name_of p c) → ⊥
   unfolding is_below builtin_classes builtin_defs
@@ -356,7 +351,7 @@ module _ (p : Program) (lk : Linked p) where
       same_class q = cc
 
       one : (a : ℕ) → a < 32 → (get_or builtin_classes a no_class).superclass ≡ Some 0 → nat_eq c a ≡ false → is_below p a c ≡ true → ⊥
-      one a l e q b = let z : member c (a ∷ 0 ∷ []) ≡ true = subst (λ (xs : List ℕ). member c xs ≡ true) (chain_of a l e) b in
+      one a l e q b = let z : member c (a ∷ 0 ∷ []) ≡ true = subst (λ (xs : List ℕ). member c xs ≡ true) (under_object p lk a l e) b in
           let y = rw (q, o) at z in cc
 
       by : (x : Bool) → (d : ℕ) → kind.Class (cond x stream_class string_class) ≡ kind.Class d → is_below p d c ≡ true → ⊥

@@ -135,28 +135,28 @@ grown p e pc f (form.GetStatic n) t = inr (let l = on_stack_length (types_of (fi
 grown p e pc f (form.New c) t = inr (omega arith)
 grown p e pc f _ t = inl refl
 
-module _ (p : Program) (ty : IsTyped p) (limits : HasStackLimits p) where
-  limit_of : (m : ℕ) (b : Body) → (method_at p m).body ≡ Some b → b.max_stack ≤ most_operands
-  limit_of m b h = subst (λ (o : Option Body). IfSome o (λ b. b.max_stack ≤ most_operands)) h (limits m)
-
+module _ (p : Program) (ty : IsTyped p) where
   field_type : {w : World} {s : Entries} (i : Instr) → Ready p w s i → HasFieldType p i
   field_type (form.GetStatic f) r = some_types (field_at p f).descriptor (text_of_field (field_at p f).descriptor (ty.linked.listed.field_names f (names_form p ty r)).1)
   field_type _ r = tt
 
-  room : {w : World} (s : Entries) (i : Instr) → Ready p w s i → length s.top.stack + puts i ≤ most_operands
+  pub room : {w : World} (s : Entries) (i : Instr) (r : Ready p w s i) → r.body.max_stack ≤ most_operands → length s.top.stack + puts i ≤ most_operands
   unfolding Grown
-  room {w = w} s i r =
+  room {w = w} s i r m =
       let o = sides_at r in
       let q = and_parts (nat_le (length o.takes) (length r.types.stack)) (nat_le (length o.gives + (length r.types.stack - length o.takes)) r.body.max_stack) r.kept.one in
       let a = leb-true _ _ q.0 in
       let b = leb-true _ _ q.1 in
       let f = r.fits in
-      let m = limit_of s.top.number r.body r.has_code in
       let v = values_few p w (here r) r.types.stack s.top.stack r.stack.types in
       elim (grown p (here r) s.top.pc r.types i (field_type i r)) [
         | inl z ↦ omega arith
         | inr z ↦ omega arith
       ]
+
+module _ (p : Program) (ty : IsTyped p) (limits : HasStackLimits p) where
+  limit_of : (m : ℕ) (b : Body) → (method_at p m).body ≡ Some b → b.max_stack ≤ most_operands
+  limit_of m b h = subst (λ (o : Option Body). IfSome o (λ b. b.max_stack ≤ most_operands)) h (limits m)
 
   some_result : (rs : List VType) (x : Sort) → SortOf rs (Some x) → 1 ≤ length rs
   some_result rs sort.Int e = subst (λ (ts : List VType). 1 ≤ length ts) (sym e) (omega arith)
@@ -190,7 +190,7 @@ module _ (p : Program) (ty : IsTyped p) (limits : HasStackLimits p) (gs : Groups
       subst (λ (j : Instr). Ready p w s.entries j) e r.2
 
   pub instruction_room : (w : World) (s : State) (i : Instr) → TypedState p w s → s.entries.top.kind ≡ InMethod → s.raised ≡ None → form_at p s.entries.top.number s.entries.top.pc ≡ Some i → length s.entries.top.stack + puts i ≤ most_operands
-  instruction_room w s i t k n f = room p ty limits s.entries i (ready_at w s i t k n f)
+  instruction_room w s i t k n f = let r = ready_at w s i t k n f in room p ty s.entries i r (limit_of p ty limits s.entries.top.number r.body r.has_code)
 
   pub result_room : (w : World) (s : State) (x : Sort) → TypedState p w s → s.entries.top.kind ≡ InMethod → s.raised ≡ None → form_at p s.entries.top.number s.entries.top.pc ≡ Some (form.Return (Some x)) → (popped_entry s.entries).top.kind ≡ InMethod → length (popped_entry s.entries).top.stack + 1 ≤ most_operands
   result_room w s x t k n f q = return_room p ty limits s.entries x (ready_at w s (form.Return (Some x)) t k n f) q

@@ -1,19 +1,31 @@
 -- The classes that steps throw by themselves are classes of throwables.
-use Rattle.std.proofs.Common.{◌≡◌, ℕ, ◌<◌, List, length, get_or, true, nat_eq, Some, refl, sym, ◌∙◌, ap, subst, arith}
+use Rattle.std.proofs.Common.{◌≡◌, ℕ, ◌<◌, List, [], ◌∷◌, length, get_or, true, nat_eq, Some, refl, sym, ◌∙◌, ap, subst, arith}
+use Rattle.std.specs.Prelude.{codes}
 use Rattle.std.proofs.lemmas.Bool.{or_right}
 use Rattle.jvm_model.specs.declared.program.Program.{Program}
 use Rattle.jvm_model.specs.declared.program.ClassRec.{ClassRec}
-use Rattle.jvm_model.specs.Builtin.{throwable_class, builtin_count}
+use Rattle.jvm_model.specs.Builtin.{object_class, throwable_class, builtin_count}
 use Rattle.jvm_model.specs.Library.{builtin_defs, builtin_classes}
 use Rattle.jvm_model.specs.Classes.{no_class, class_at, is_below, upwards, member}
 use Rattle.jvm_model.specs.Linked.{Linked}
 use Rattle.jvm_model.proofs.BuiltinRules.{enough_classes, builtin_class}
-use Rattle.jvm_model.proofs.Upwards.{upwards_step, below_same}
+use Rattle.jvm_model.proofs.Upwards.{upwards_step, upwards_root, below_same}
+use Rattle.type_frames.specs.Descriptors.{name_of}
 use Rattle.check_sound.proofs.Ready.{IsThrown}
 
 module _ (p : Program) (lk : Linked p) where
   pub builtin_is : (c : ℕ) → c < builtin_count → c < length p.classes
   builtin_is c h = let b = enough_classes p lk.builtins in omega arith
+
+  -- a class right under Object
+  pub under_object : (c : ℕ) → c < builtin_count → (get_or builtin_classes c no_class).superclass ≡ Some object_class → upwards p c ≡ c ∷ object_class ∷ []
+  under_object c h e =
+      upwards_step p lk c object_class (builtin_is c h) (ap (λ (x : ClassRec). x.superclass) (builtin_class p lk.builtins c h) ∙ e)
+      ∙ ap {B = List ℕ} (λ xs. c ∷ xs) (upwards_root p lk object_class lk.listed.top)
+
+  pub object_named : name_of p object_class ≡ codes "java/lang/Object"
+  unfolding builtin_classes builtin_defs
+  object_named = ap (λ (r : ClassRec). r.name) (builtin_class p lk.builtins 0 (omega arith))
 
   pub above : (c d : ℕ) → c < builtin_count → (get_or builtin_classes c no_class).superclass ≡ Some d → is_below p d throwable_class ≡ true → is_below p c throwable_class ≡ true
   unfolding is_below

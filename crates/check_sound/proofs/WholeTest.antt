@@ -10,7 +10,7 @@ use Rattle.std.proofs.lemmas.List.Elements.{All-nil, All-cons}
 use Rattle.jvm_model.specs.declared.values.Touch.{Touch}
 use Rattle.check_sound.proofs.Blank.{null_at, not_float}
 use Rattle.check_sound.proofs.Instances.{takes_all, instance_itself}
-use Rattle.check_sound.proofs.Thrown.{builtin_is}
+use Rattle.check_sound.proofs.Thrown.{object_named, builtin_is}
 use Rattle.check_sound.proofs.LibraryTypes.{string_named}
 use Rattle.std.proofs.Math.Seq.{take-append_seam}
 use Rattle.jvm_model.specs.declared.values.Value.{Value}
@@ -118,10 +118,6 @@ class_type name = ap {B = List VType} (λ a. Object a ∷ []) (name_again name)
         ap (λ (n : ℕ). take n (name ++ (59 ∷ []))) k ∙ take-append_seam name (59 ∷ [])
 
 module _ (p : Program) (ty : IsTyped p) where
-  object_named : name_of p object_class ≡ codes "java/lang/Object"
-  unfolding builtin_classes builtin_defs
-  object_named = ap (λ (r : ClassRec). r.name) (builtin_class p ty.linked.builtins 0 (omega arith))
-
   stream_named : name_of p stream_class ≡ codes "java/io/PrintStream"
   unfolding builtin_classes builtin_defs
   stream_named = ap (λ (r : ClassRec). r.name) (builtin_class p ty.linked.builtins 4 (omega arith))
@@ -141,7 +137,7 @@ module _ (p : Program) (ty : IsTyped p) where
   taken w d name n c k i m h t = elim (or_cases (bytes_eq d (class_descriptor name)) (bytes_eq d (codes "Ljava/lang/Object;") || list_any (λ c. is_interface c.flags && bytes_eq d (class_descriptor c.name)) p.classes) t) [
     | inl q ↦ referred w d (name_of p c) n (units_true d (class_descriptor name) q ∙ ap class_descriptor (sym m)) h (subst (λ x. IsInstance p x (name_of p c)) (sym k) (instance_itself p ty.linked c i))
     | inr q ↦ elim (or_cases (bytes_eq d (codes "Ljava/lang/Object;")) (list_any (λ c. is_interface c.flags && bytes_eq d (class_descriptor c.name)) p.classes) q) [
-      | inl r ↦ referred w d (name_of p object_class) n (units_true d (codes "Ljava/lang/Object;") r ∙ ap class_descriptor (sym object_named)) h (takes_all p ty.linked object_class (builtin_is p ty.linked object_class (omega arith)) refl (constant_kind n))
+      | inl r ↦ referred w d (name_of p object_class) n (units_true d (codes "Ljava/lang/Object;") r ∙ ap class_descriptor (sym (object_named p ty.linked))) h (takes_all p ty.linked object_class (builtin_is p ty.linked object_class (omega arith)) refl (constant_kind n))
       | inr r ↦ (let x = interface_found p.classes d r in referred w d (name_of p x.0) n x.3 h (takes_all p ty.linked x.0 x.1 (or_right (nat_eq x.0 object_class) (is_interface_at p x.0) x.2) (constant_kind n)))
     ]
   ]

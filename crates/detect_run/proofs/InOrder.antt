@@ -11,7 +11,7 @@ use Rattle.jvm_model.proofs.Runs.{split}
 use Rattle.order_law.specs.Conflicts.{down}
 use Rattle.order_law.specs.Histories.{ran, after_history, touches_of}
 use Rattle.order_law.specs.Reach.{units_in}
-use Rattle.order_law.proofs.FrameLaw.{ran_to}
+use Rattle.order_law.proofs.FrameLaw.{ran_as}
 use Rattle.vm_mem.specs.Trace.{Trace}
 use Rattle.test_run.specs.Lists.{trace_after}
 use Rattle.access_tags.specs.Ran.{trace_to, touched_by}
@@ -31,10 +31,8 @@ pub record OfRun (r : Ran End) (x : Given) : Type 0 where
   pub units : r.units ≡ x.outcome.units
 
 pub of_run : (p : Program) (i : ℕ) (x : Given) → gives_at p i ≡ Some x → OfRun (ran p (suc i) (world_at p i)) x
-unfolding one_test
 of_run p i x e =
-    let r = ran p (suc i) (world_at p i) in
-    let f = ran_to (test_at p (suc i)).budget r.sound r.value r.world r.touches r.units x e in
+    let f = ran_as p (world_at p i) (suc i) (test_at p (suc i)).budget x e in
     record { sound = f.sound; world = ap (λ (z : Given). z.world) f.is; touches = ap (λ (z : Given). z.touches) f.is; units = ap (λ (z : Given). z.outcome.units) f.is }
 
 -- n tests after the first i gave these

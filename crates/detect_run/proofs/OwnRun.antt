@@ -1,8 +1,8 @@
 -- What a run of the suite by its touches says of the suite's own order: whose an object is, by which reads a test came to
 -- it, and of what kind it is.
-use Rattle.std.proofs.Common.{◌≡◌, ◌⊎◌, ℕ, zero, suc, ◌+◌, ◌-◌, ◌<◌, ◌≤◌, Bool, true, false, not, ◌&&◌, ◌||◌, cond, List, [], ◌∷◌, map, filter, length, Some, refl, sym, ◌∙◌, ap, subst, inl, inr, arith}
+use Rattle.std.proofs.Common.{◌≡◌, ◌⊎◌, ℕ, zero, suc, ◌+◌, ◌-◌, ◌<◌, ◌≤◌, true, not, List, [], ◌∷◌, map, length, Some, refl, sym, ◌∙◌, ap, subst, inl, inr, arith}
 use Rattle.std.specs.List.{range_with_len}
-use Rattle.std.proofs.lemmas.Bool.{and_parts, or_cases}
+use Rattle.std.proofs.lemmas.Bool.{and_parts}
 use Rattle.jvm_model.specs.declared.values.Head.{Head}
 use Rattle.jvm_model.specs.declared.values.Kind.{Kind}
 use Rattle.jvm_model.specs.declared.values.Location.{Location}
@@ -12,16 +12,15 @@ use Rattle.jvm_model.specs.declared.program.Program.{Program}
 use Rattle.jvm_model.specs.State.{test_at}
 use Rattle.jvm_model.specs.World.{World, size, same, place_of}
 use Rattle.jvm_model.specs.Suite.{Given, runs, all_tests}
-use Rattle.jvm_model.proofs.Locations.{same_true}
 use Rattle.order_law.specs.declared.edges.EdgeKind.{EdgeKind}
 use Rattle.order_law.specs.declared.edges.EdgeKind.TheVariants.{Raw, Waw, War}
 use Rattle.order_law.specs.declared.records.Reach.{Reach as ReachOf}
 use Rattle.order_law.specs.Conflicts.{Tests, Member}
-use Rattle.order_law.specs.Exposed.{written, exposed}
 use Rattle.order_law.specs.Histories.{Touches, touches_of, writes_in, exposed_in, IsTestNumber}
 use Rattle.order_law.specs.OwnRecord.{conflicts, first_places, places_in, conflict_places_in, made_by, owner, owner_in}
 use Rattle.order_law.specs.Reach.{ReachesIn, own, touched, mentioned, IsReachIn, kinds_of, inner_class}
 use Rattle.order_law.specs.Walk.{Walk}
+use Rattle.order_law.proofs.OwnRecord.{filter_both, touched as touched_place}
 use Rattle.order_law.proofs.WalksThere.{walk_law}
 use Rattle.type_frames.specs.Typing.{IsTyped}
 use Rattle.access_tags.specs.Ran.{size_in, made_in, owner_by, HaveWalks, kinds_in}
@@ -30,14 +29,6 @@ use Rattle.detect_run.proofs.InOrder.{world_at, of_run}
 use Rattle.detect_run.proofs.Sizes.{stands_at}
 
 -- members of lists
-kept_both : {A : Type 0} (f : A → Bool) (b : Bool) (x y : A) (xs ys : List A) → f y ≡ b → Member x (cond b (y ∷ ys) ys) → (Member x ys → Member x xs × (f x ≡ true)) → Member x (y ∷ xs) × (f x ≡ true)
-kept_both f true x y xs ys e i k = elim i [ inl g ↦ (inl g, ap f g ∙ e) | inr j ↦ (inr (k j).0, (k j).1) ]
-kept_both f false x y xs ys e i k = (inr (k i).0, (k i).1)
-
-filter_both : {A : Type 0} (f : A → Bool) (xs : List A) (x : A) → Member x (filter f xs) → Member x xs × (f x ≡ true)
-filter_both f [] x i = absurd i
-filter_both f (y ∷ xs) x i = kept_both f (f y) x y xs (filter f xs) refl i (λ j. filter_both f xs x j)
-
 first_from : (ls : List Location) (L : Location) → Member L (first_places ls) → Member L ls
 first_from [] L i = absurd i
 first_from (M ∷ ls) L i = elim i [ inl e ↦ inl e | inr j ↦ inr (first_from ls L (filter_both (λ N. not (same M N)) (first_places ls) L j).0) ]
@@ -45,14 +36,6 @@ first_from (M ∷ ls) L i = elim i [ inl e ↦ inl e | inr j ↦ inr (first_from
 located_from : (ts : List Touch) (L : Location) → Member L (map (λ (x : Touch). x.location) ts) → (y : Touch) × Member y ts × (L ≡ y.location)
 located_from [] L i = absurd i
 located_from (x ∷ ts) L i = elim i [ inl e ↦ (x, inl refl, e) | inr j ↦ let r = located_from ts L j in (r.0, inr r.1, r.2) ]
-
-touched_at : (ts : List Touch) (L : Location) → (written ts L ≡ true) ⊎ (exposed ts L ≡ true) → (y : Touch) × Member y ts × (L ≡ y.location)
-touched_at [] L e = absurd (elim e [ inl a ↦ (cc) | inr a ↦ (cc) ])
-touched_at (x ∷ ts) L e = at_write x.write (same L x.location) (written ts L) (exposed ts L) e (λ s. (x, inl refl, same_true L x.location s)) (λ r. let q = touched_at ts L r in (q.0, inr q.1, q.2))
-  where
-    at_write : {R : Type 0} (w s a b : Bool) → (cond w (s || a) a ≡ true) ⊎ (cond w (not s && b) (s || b) ≡ true) → (s ≡ true → R) → ((a ≡ true) ⊎ (b ≡ true) → R) → R
-    at_write true s a b e f g = elim e [ inl y ↦ elim (or_cases s a y) [ inl z ↦ f z | inr z ↦ g (inl z) ] | inr y ↦ g (inr (and_parts (not s) b y).1) ]
-    at_write false s a b e f g = elim e [ inl y ↦ g (inl y) | inr y ↦ elim (or_cases s b y) [ inl z ↦ f z | inr z ↦ g (inr z) ] ]
 
 -- both tests of a conflict touch the location
 earlier_touched : (W E : Tests) (k : EdgeKind) (u t : ℕ) (L : Location) → conflicts W E k u t L ≡ true → (W u L ≡ true) ⊎ (E u L ≡ true)
@@ -93,7 +76,7 @@ module _ (p : Program) (ty : IsTyped p) (xs : List Given) (ran : runs p (all_tes
       let T = touches_of p in
       let hi = high.1 in
       let c = conflict_parts T k (suc u) (suc t) L i in
-      let y = touched_at (T (suc u)) L (earlier_touched (writes_in T) (exposed_in T) k (suc u) (suc t) L c.1) in
+      let y = located_from (T (suc u)) L (touched_place (T (suc u)) L (earlier_touched (writes_in T) (exposed_in T) k (suc u) (suc t) L c.1)) in
       let stood = stands_at (size (world_at p (suc u))) (T (suc u)) y.0 o (stands_after p ty xs ran u (omega arith)) y.1 (ap place_of (sym y.2) ∙ e) in
       let more = (over_at p ty xs ran (suc u) t (omega arith) (omega arith)).sizes in
       let z = located_from (T (suc t)) L (first_from _ L c.0) in

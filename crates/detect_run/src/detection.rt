@@ -41,6 +41,7 @@ fn recorded(
     units: Items<u64>,
 ) -> Result<Detected, NoMemory>
     requires classes { length prints.now.classes ≡ length p.now.classes - builtin_count }
+    requires program { ⟦<TaggedMemory as Memory>⟧.program memory.now ≡ p.now }
     requires ran { IsOwnRun ⟦<TaggedMemory as Memory>⟧.world ⟦<TaggedMemory as Memory>⟧.follows
         p.now memory.now units }
     ensures found { IfOk result (IsDetection p.now prints.now) }

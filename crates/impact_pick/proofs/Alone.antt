@@ -3,6 +3,7 @@ use Rattle.std.proofs.Common.{◌≡◌, ℕ, zero, suc, get_or, List, [], ◌�
 use Rattle.std.specs.List.{list_any, list_all}
 use Rattle.std.proofs.lemmas.Bool.{and_parts, or_left, or_right, eqb-true, not-true}
 use Rattle.std.proofs.Math.ListN.{get_or-map}
+use Rattle.et_base.proofs.Cases.{implied}
 use Rattle.jvm_model.specs.declared.values.Value.{Value}
 use Rattle.jvm_model.specs.declared.values.Value.TheVariants.{Lit}
 use Rattle.jvm_model.specs.declared.values.Location.{Location}
@@ -29,7 +30,7 @@ use Rattle.order_law.specs.Conflicts.{Member}
 use Rattle.order_law.specs.Exposed.{exposed}
 use Rattle.order_law.specs.Histories.{after_history, touches_of}
 use Rattle.order_law.specs.OwnRecord.{places_in}
-use Rattle.order_law.specs.Reach.{puts_out, body_puts_out, is_settled_in, is_settled}
+use Rattle.order_law.specs.Reach.{puts_out, body_puts_out, puts_out_somewhere, is_settled_in, is_settled}
 use Rattle.order_law.specs.Pairing.{PairedList, no_more, one_more, PairedValue, literals, PairedLocation, statics, inits, heads, at_field, at_elem, texts, files, props, PairedContent}
 use Rattle.order_law.specs.Numbers.{Numbers, Tested, with_places}
 use Rattle.order_law.specs.Matched.{Matched, PairedTest}
@@ -37,7 +38,6 @@ use Rattle.order_law.specs.Outcomes.{PairedOutcome}
 use Rattle.order_law.specs.FrameLaw.{PairsObjects}
 use Rattle.order_law.proofs.FrameLaw.{frame_law}
 use Rattle.order_law.proofs.OwnRecord.{first_in, touched}
-use Rattle.impact_pick.specs.Pick.{puts_out_somewhere}
 
 abbrev pub out : Location
 out = place.Static out_field
@@ -88,15 +88,11 @@ all_member : (f : Location → Bool) (ls : List Location) (L : Location) → lis
 all_member f [] L e i = absurd i
 all_member f (M ∷ ls) L e i = let p = and_parts (f M) (list_all f ls) e in elim i [ inl g ↦ ap f g ∙ p.0 | inr j ↦ all_member f ls L p.1 j ]
 
-read_out : (a b : Bool) → (not a || b) ≡ true → a ≡ true → b ≡ true
-read_out true b e h = e
-read_out false b e h = absurd (cc)
-
 pub settled_reads : (p : Program) (t : ℕ) → is_settled p t ≡ true → (L : Location) → exposed (touches_of p t) L ≡ true → same L out ≡ true
 unfolding is_settled_in
 settled_reads p t e L h =
     let a = and_parts (list_all (λ M. not (exposed (touches_of p t) M) || same M out) (places_in (touches_of p) t)) _ e in
-    read_out (exposed (touches_of p t) L) (same L out) (all_member (λ M. not (exposed (touches_of p t) M) || same M out) (places_in (touches_of p) t) L a.0 (first_in _ L (touched (touches_of p t) L (inr h)))) h
+    implied (exposed (touches_of p t) L) (same L out) (all_member (λ M. not (exposed (touches_of p t) M) || same M out) (places_in (touches_of p) t) L a.0 (first_in _ L (touched (touches_of p t) L (inr h)))) h
 
 pub settled_puts : (p : Program) (t : ℕ) → is_settled p t ≡ true → puts_out_somewhere p ≡ false
 unfolding is_settled_in

@@ -16,24 +16,18 @@ use Rattle.jvm_model.specs.State.{test_at}
 use Rattle.jvm_model.specs.Suite.{opening, Given, one_test, is_detected}
 use Rattle.order_law.specs.Conflicts.{down}
 use Rattle.order_law.specs.Exposed.{exposed}
-use Rattle.order_law.specs.Forms.{PairedConstant, const_int, const_long, const_null, const_literal}
 use Rattle.order_law.specs.Histories.{after_history, given_after, touches_of, IsTestNumber}
-use Rattle.order_law.specs.Pairing.{PairedValue, ints, longs, nulls, literals, PairedLocation, statics, inits, heads, at_field, at_elem, texts, files, props, PairedContent}
+use Rattle.order_law.specs.Pairing.{PairedValue, PairedLocation, statics, inits, heads, at_field, at_elem, texts, files, props, PairedContent}
 use Rattle.order_law.specs.Numbers.{Numbers, Tested, with_places}
 use Rattle.order_law.specs.Matched.{Matched}
 use Rattle.order_law.specs.Outcomes.{PairedOutcome}
-use Rattle.order_law.specs.Reach.{is_settled}
-use Rattle.order_law.proofs.Histories.{InSuite, in_suite}
-use Rattle.impact_pick.specs.Pick.{puts_out_somewhere}
+use Rattle.order_law.specs.Reach.{is_settled, puts_out_somewhere}
+use Rattle.order_law.proofs.FrameLaw.{ran_as}
+use Rattle.order_law.proofs.Histories.{InSuite, in_suite, world_as}
+use Rattle.order_law.proofs.PlainRows.{constant-paired}
 use Rattle.impact_pick.specs.Carried.{IsCarried, GivesSame, CarriedLaw}
-use Rattle.impact_pick.proofs.Worlds.{AlikeWorlds, itself, itself_is, ran_as, stays_alike}
+use Rattle.impact_pick.proofs.Worlds.{AlikeWorlds, itself, itself_is, stays_alike}
 use Rattle.impact_pick.proofs.Alone.{out_stays, settled_reads, settled_puts, gives_alone}
-
-constant_value : (n : Numbers) (P : ℕ → ℕ → Type 0) {x y : Value} → PairedConstant n x y → PairedValue (with_places n P) x y
-constant_value n P (const_int k) = ints k
-constant_value n P (const_long k) = longs k
-constant_value n P const_null = nulls
-constant_value n P (const_literal e) = literals e
 
 all_idle : (cs : List ClassRec) (c : ℕ) → get_or (map (λ (x : ClassRec). Idle) cs) c Idle ≡ Idle
 all_idle [] c = refl
@@ -51,7 +45,7 @@ module _ (p q : Program) (n : Numbers) (mt : Matched n p q) (same_files : p.file
       let a : at (opening p) L ≡ (field_at p f).opening = get_or-map (λ (x : FieldRec). x.opening) p.fields f no_field in
       let c : at (opening q) M ≡ (field_at q g).opening = get_or-map (λ (x : FieldRec). x.opening) q.fields g no_field in
       subst (λ (z : Value). PairedValue (with_places n (Tested (itself (size (opening p))))) z (at (opening q) M)) (sym a)
-      (subst (λ (z : Value). PairedValue (with_places n (Tested (itself (size (opening p))))) (field_at p f).opening z) (sym c) (constant_value n (Tested (itself (size (opening p)))) (mt.starts.openings f g e)))
+      (subst (λ (z : Value). PairedValue (with_places n (Tested (itself (size (opening p))))) (field_at p f).opening z) (sym c) (constant-paired n (Tested (itself (size (opening p)))) (mt.starts.openings f g e)))
   opening_held L M (inits {c} {d} e) = all_idle p.classes c ∙ sym (all_idle q.classes d)
   opening_held L M (files k) = ap (λ (fs : List (List ℕ × List ℕ)). look bytes_eq None (map (λ x. (x.0, Some x.1)) fs) k) same_files
   opening_held L M (props k) = refl
@@ -66,9 +60,6 @@ module _ (p q : Program) (n : Numbers) (mt : Matched n p q) (same_files : p.file
 
   abbrev before : Program → ℕ → World
   before r t = after_history r (down t)
-
-  world_as : (r : Program) (D : List ℕ) (t : ℕ) (x : Given) → given_after r D t ≡ Some x → x.world ≡ after_history r (t ∷ D)
-  world_as r D t x e = let f = ran_as r (after_history r D) t (test_at r t).budget x e in sym (ap (λ (z : Given). z.world) f.is)
 
   module _ (dp : is_detected p ≡ true) (dq : is_detected q ≡ true) (tests : length p.tests ≡ length q.tests) where
     -- the second program's test under the first one's budget

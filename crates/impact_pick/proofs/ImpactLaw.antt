@@ -1,5 +1,5 @@
 -- From class files and the record to report lines.
-use Rattle.std.proofs.Common.{◌≡◌, ℕ, zero, suc, ◌+◌, ◌-◌, ◌<◌, ◌≤◌, List, [], ◌∷◌, length, get_or, slice_get, filter, Bool, true, false, not, ◌||◌, cond, nat_eq, refl, sym, ◌∙◌, ap, subst, inl, inr, arith, Option, Some, None, Result, Ok, All, IsSome}
+use Rattle.std.proofs.Common.{◌≡◌, ℕ, zero, suc, ◌+◌, ◌-◌, ◌<◌, ◌≤◌, List, [], ◌∷◌, length, get_or, slice_get, filter, Bool, true, false, ◌||◌, cond, nat_eq, refl, sym, ◌∙◌, ap, subst, inl, inr, arith, Option, Some, None, Result, Ok, All, IsSome}
 use Rattle.std.specs.List.{range_with_len}
 use Rattle.std.specs.Str.{bytes_eq}
 use Rattle.std.proofs.lemmas.Bool.{or_cases, or_right, eqb-true}
@@ -41,7 +41,7 @@ use Rattle.order_law.proofs.Members.{true_member}
 use Rattle.impact_pick.specs.Carried.{PairedEntry, IsCarried}
 use Rattle.impact_pick.specs.Pick.{is_changed, is_picked}
 use Rattle.impact_pick.specs.Unpicked.{is_kept, lines_of, KeptClasses}
-use Rattle.impact_pick.proofs.Unpicked.{kept_law, unpicked_law}
+use Rattle.impact_pick.proofs.Unpicked.{not_false, kept_law, unpicked_law}
 use Rattle.impact_pick.specs.ImpactLaw.{HasSums, SumsTell, ImpactLaw}
 use Rattle.impact_pick.proofs.Names.{AreKept}
 use Rattle.impact_pick.proofs.Records.{n}
@@ -156,16 +156,12 @@ module _ (cs ds : List ClassParts) (lines : TestLines) (p q : Program) (x y : Pr
   unchanged_is i c f h =
       let w = slice_get_within cs i c h in
       let same : m.classes ≡ x.classes = (is.more m e).classes in
-      let t : bytes_eq (get_or m.classes (suc i - 1) []) (get_or y.classes (suc i - 1) []) ≡ true = unnot (bytes_eq (get_or m.classes (suc i - 1) []) (get_or y.classes (suc i - 1) [])) f in
+      let t : bytes_eq (get_or m.classes (suc i - 1) []) (get_or y.classes (suc i - 1) []) ≡ true = not_false (bytes_eq (get_or m.classes (suc i - 1) []) (get_or y.classes (suc i - 1) [])) f in
       let z : suc i - 1 ≡ i = omega arith in
       let u : get_or x.classes i [] ≡ get_or y.classes i [] = ap (λ (l : List (List ℕ)). get_or l i []) (sym same) ∙ (ap (λ (k : ℕ). get_or m.classes k []) (sym z) ∙ (units_true _ _ t ∙ ap (λ (k : ℕ). get_or y.classes k []) z)) in
       let v = slice_get-get_or x.classes i [] (omega arith) in
       let l = slice_get-get_or y.classes i [] (omega arith) in
       sym (tell i (get_or x.classes i []) v (l ∙ ap (λ (g : List ℕ). Some g) (sym u))) ∙ h
-    where
-      unnot : (b : Bool) → not b ≡ false → b ≡ true
-      unnot true g = refl
-      unnot false g = absurd (cc)
 
   kept : AreKept cs ds keeps
   kept = record {

@@ -10,7 +10,7 @@ use Rattle.class_reader.specs.declared.parts.ClassParts.{ClassParts}
 use Rattle.class_reader.specs.declared.parts.CodePart.{CodePart}
 use Rattle.class_reader.specs.declared.parts.RawHandler.{RawHandler}
 use Rattle.jvm_model.specs.declared.values.Kind.{Kind}
-use Rattle.jvm_model.specs.declared.values.Value.TheVariants.{Int, Long, Null}
+use Rattle.jvm_model.specs.declared.values.Value.TheVariants.{Lit, Obj}
 use Rattle.jvm_model.specs.declared.instr.Instr.{Instr}
 use Rattle.jvm_model.specs.declared.instr.Instr.TheVariants as form
 use Rattle.jvm_model.specs.Builtin.{builtin_count}
@@ -30,10 +30,11 @@ use Rattle.class_link.specs.References.{pair_of, field_target, method_target, ta
 use Rattle.class_link.specs.Bodies.{placed, caught, handler_rec, linked_body}
 use Rattle.order_law.specs.Pairing.{PairedList, no_more, one_more, PairedOption, both_none, both_some, booleans, bytes, chars, shorts, int_bases, long_bases, class_bases, PairedKind, class_kinds, array_kinds}
 use Rattle.order_law.specs.Numbers.{Numbers, Tested}
-use Rattle.order_law.specs.Forms.{PairedConstant, const_int, const_long, const_null, const_literal, PairedInstr}
+use Rattle.order_law.specs.Forms.{const_int, const_long, const_literal, PairedInstr}
 use Rattle.order_law.specs.Forms as same
 use Rattle.order_law.specs.Matched.{PairedPlaced, PairedHandler, PairedBody, MatchedCode}
 use Rattle.order_law.proofs.Programs.{named-paired}
+use Rattle.order_law.proofs.Same.{is_free, free_alone}
 use Rattle.impact_pick.specs.ByName.{same_class, by_name}
 use Rattle.impact_pick.proofs.ByNames.{class_from, literal_from}
 use Rattle.impact_pick.proofs.Names.{AreKept, IsKept, number_alike}
@@ -44,61 +45,10 @@ use Rattle.impact_pick.proofs.Targets.{NamesClasses, set, PairedTarget, constant
 
 -- ---- forms without numbers of the program
 
-abbrev is_free : Instr → Bool
-is_free (form.IfZero x to) = true
-is_free (form.IfInts x to) = true
-is_free (form.IfRefs x to) = true
-is_free (form.IfNull x to) = true
-is_free (form.Goto to) = true
-is_free (form.Table low ts other) = true
-is_free (form.Lookup ps other) = true
-is_free i = is_plain i
-
-free_alone : (m : Numbers) (f : Instr) → is_free f ≡ true → PairedInstr m f f
-free_alone m (form.Const (Int k)) h = same.const (const_int k)
-free_alone m (form.Const (Long k)) h = same.const (const_long k)
-free_alone m (form.Const Null) h = same.const const_null
-free_alone m form.Nop h = same.nop
-free_alone m (form.Load s k) h = same.load s k
-free_alone m (form.Store s k) h = same.store s k
-free_alone m (form.ArrayLoad c) h = same.array_load c
-free_alone m (form.ArrayStore c) h = same.array_store c
-free_alone m form.Pop h = same.pop
-free_alone m form.Pop2 h = same.pop2
-free_alone m form.Dup h = same.dup
-free_alone m form.DupX1 h = same.dup_x1
-free_alone m form.DupX2 h = same.dup_x2
-free_alone m form.Dup2 h = same.dup2
-free_alone m form.Dup2X1 h = same.dup2_x1
-free_alone m form.Dup2X2 h = same.dup2_x2
-free_alone m form.Swap h = same.swap
-free_alone m (form.Binary x w) h = same.binary x w
-free_alone m (form.Neg w) h = same.neg w
-free_alone m (form.Inc k z) h = same.inc k z
-free_alone m (form.Convert c) h = same.convert c
-free_alone m form.Compare h = same.compare
-free_alone m (form.Return s) h = same.return s
-free_alone m form.ArrayLength h = same.array_length
-free_alone m form.Throw h = same.throw
-free_alone m form.Monitor h = same.monitor
-free_alone m (form.IfZero x to) h = same.if_zero x to
-free_alone m (form.IfInts x to) h = same.if_ints x to
-free_alone m (form.IfRefs x to) h = same.if_refs x to
-free_alone m (form.IfNull x to) h = same.if_null x to
-free_alone m (form.Goto to) h = same.goto to
-free_alone m (form.Table low ts other) h = same.table low ts other
-free_alone m (form.Lookup ps other) h = same.lookup ps other
-free_alone m _ h = absurd (cc)
-
 plain_free : (f : Instr) → is_plain f ≡ true → is_free f ≡ true
-plain_free (form.IfZero x to) h = refl
-plain_free (form.IfInts x to) h = refl
-plain_free (form.IfRefs x to) h = refl
-plain_free (form.IfNull x to) h = refl
-plain_free (form.Goto to) h = refl
-plain_free (form.Table low ts other) h = refl
-plain_free (form.Lookup ps other) h = refl
-plain_free _ h = h
+plain_free (form.Const (Lit n)) h = h
+plain_free (form.Const (Obj o)) h = h
+plain_free _ h = (cc)
 
 branches_free : (o : RawOp) → is_free (branches o) ≡ true
 unfolding branches

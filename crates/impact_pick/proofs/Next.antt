@@ -8,7 +8,8 @@ use Rattle.jvm_model.specs.declared.program.Program.{Program}
 use Rattle.order_law.specs.declared.records.Prints.{Prints}
 use Rattle.order_law.specs.declared.records.More.{More}
 use Rattle.order_law.specs.declared.records.Reach.{Reach}
-use Rattle.impact_pick.specs.Pick.{is_changed, is_hit, is_open, is_after_hit, is_picked, reach_at, no_reach, puts_out_somewhere}
+use Rattle.order_law.specs.Reach.{puts_out_somewhere}
+use Rattle.impact_pick.specs.Pick.{is_changed, is_hit, is_open, is_after_hit, is_picked, reach_at, no_reach}
 
 or_none : (b c : Bool) → (b || (c || false)) ≡ (b || c)
 or_none true c = refl

@@ -1,5 +1,5 @@
 -- What a kept class's pool entries stand for is paired, where it is something in the first list.
-use Rattle.std.proofs.Common.{◌≡◌, ℕ, ◌+◌, List, [], slice_get, Bool, true, false, cond, refl, sym, ◌∙◌, ap, subst, Option, Some, None}
+use Rattle.std.proofs.Common.{◌≡◌, ℕ, ◌+◌, List, [], slice_get, Bool, true, cond, refl, sym, ◌∙◌, ap, subst, Option, Some, None}
 use Rattle.std.specs.Prelude.{option_map, unwrap_or}
 use Rattle.class_pool.specs.declared.pool.Entry.{Entry}
 use Rattle.class_pool.specs.declared.pool.Entry.TheVariants as entry
@@ -14,7 +14,7 @@ use Rattle.jvm_model.specs.Builtin.{builtin_count}
 use Rattle.jvm_model.specs.Linked.{IsDistinct}
 use Rattle.jvm_model.specs.Lookup.{find_field, find_method, lacks_method}
 use Rattle.jvm_model.specs.Selection.{named_class}
-use Rattle.dep_record.proofs.FieldLaws.{some_mapped}
+use Rattle.dep_record.proofs.FieldLaws.{none_chosen, some_mapped}
 use Rattle.code_forms.specs.declared.references.Target.{Target}
 use Rattle.code_forms.specs.declared.references.Target.TheVariants as target
 use Rattle.class_link.specs.declared.link_environment.LinkEnvironment.{LinkEnvironment}
@@ -64,10 +64,6 @@ pub record Partner (R : ℕ → ℕ → Type 0) (r : Option ℕ) (x : ℕ) : Typ
 pub partner : {R : ℕ → ℕ → Type 0} {o r : Option ℕ} (x : ℕ) → PairedOption R o r → o ≡ Some x → Partner R r x
 partner x both_none e = absurd (cc)
 partner {R} x (both_some {x = a} {y = b} p) e = let k : a ≡ x = cc in record { other = b; is = refl; paired = subst (λ (z : ℕ). R z b) k p }
-
-unless_some : (b : Bool) (o : Option Target) (t : Target) → cond b None o ≡ Some t → (b ≡ false) × (o ≡ Some t)
-unless_some true o t e = absurd (cc)
-unless_some false o t e = (refl, e)
 
 module _ (cs ds : List ClassParts) (keeps : ℕ → Bool) (kept : AreKept cs ds keeps) (dp : IsDistinct (skeleton cs)) (dq : IsDistinct (skeleton ds)) where
   abbrev N : Numbers
@@ -125,7 +121,7 @@ module _ (cs ds : List ClassParts) (keeps : ℕ → Bool) (kept : AreKept cs ds 
     method_alike class name pair t None e g h = absurd (cc)
     method_alike class name pair t (Some k) e g h =
         let r = named_alike class name k e g in
-        let u = unless_some (lacks_method k pair.0) _ t h in
+        let u = none_chosen (lacks_method k pair.0) _ t h in
         let m = some_mapped (find_method (skeleton cs) (named_class k) pair.0 pair.1) (λ a. target.Method k a) t u.1 in
         let f = partner m.0 (method_found N (skeleton cs) (skeleton ds) sk (method_once keeps (skeleton cs) (skeleton ds) dp dq) (named_class k) (named_class k) pair.0 pair.1 (class_named r.1)) m.1 in
         record {

@@ -3,8 +3,8 @@ use Rattle.std.proofs.Common.{◌≡◌, ℕ, zero, suc, ◌+◌, ◌-◌, ◌<�
 use Rattle.std.specs.Prelude.{option_map, IsSome, is_some, codes, decimal, ◌++◌}
 use Rattle.std.specs.List.{list_any, range_with_len}
 use Rattle.std.proofs.lemmas.Bool.{cases_Bool, cases_lt, and_parts, and_from, or_cases, or_parts, not-true, not_from_false, leb-true, le-leb}
-use Rattle.std.proofs.lemmas.List.Folds.{list_any_at}
-use Rattle.std.proofs.lemmas.Option.{slice_get_within, get_or_from_slice_get, slice_get-get_or}
+use Rattle.std.proofs.lemmas.Map.Keys.{any_passes_from_place}
+use Rattle.std.proofs.lemmas.Option.{slice_get-get_or}
 use Rattle.std.proofs.Math.ListN.{get_or-map}
 use Rattle.et_base.specs.Quotes.{name_of}
 use Rattle.jvm_model.specs.declared.outcome.Cause.{Cause}
@@ -25,10 +25,10 @@ use Rattle.order_law.specs.Histories.{IsTestNumber}
 use Rattle.order_law.specs.Matched.{Matched}
 use Rattle.order_law.specs.Numbers.{Numbers}
 use Rattle.order_law.specs.Outcomes.{PairedCause, PairedVerdict, both_passed, both_failed, both_error, PairedOutcome}
-use Rattle.order_law.specs.Reach.{Reaches, own, touched, mentioned, IsMoreOf, is_settled}
+use Rattle.order_law.specs.Reach.{Reaches, own, touched, mentioned, IsMoreOf, is_settled, puts_out_somewhere}
 use Rattle.order_law.proofs.Members.{member_true, true_member}
 use Rattle.impact_pick.specs.Carried.{IsCarried, GivesSame}
-use Rattle.impact_pick.specs.Pick.{is_changed, is_hit, is_open, is_after_hit, is_picked, reach_at, no_reach, puts_out_somewhere}
+use Rattle.impact_pick.specs.Pick.{is_changed, is_hit, is_open, is_after_hit, is_picked, reach_at, no_reach}
 use Rattle.impact_pick.specs.Unpicked.{holds_unchanged, is_kept, named, lines_of, KeptClasses, KeptLaw, UnpickedLaw}
 use Rattle.impact_pick.proofs.Carried.{carried_law}
 
@@ -48,8 +48,9 @@ finds f (x ∷ xs) e = elim (or_cases (f x) (list_any f xs) e) [
   | inr h ↦ let r = finds f xs h in record { place = suc r.place; item = r.item; there = r.there; passes = r.passes }
 ]
 
-found_at : {A : Type 0} (f : A → Bool) (xs : List A) (i : ℕ) (x : A) → slice_get xs i ≡ Some x → f x ≡ true → list_any f xs ≡ true
-found_at f xs i x e h = list_any_at f xs i x (slice_get_within xs i x e) (ap f (get_or_from_slice_get xs i x x e) ∙ h)
+pub not_false : (b : Bool) → not b ≡ false → b ≡ true
+not_false true e = refl
+not_false false e = absurd (cc)
 
 none_member : (f : ℕ → Bool) (xs : List ℕ) (j : ℕ) → list_any f xs ≡ false → Member j xs → f j ≡ false
 none_member f [] j e i = absurd i
@@ -99,7 +100,7 @@ module _ (p : Program) (x y : Prints) (m : More) (is : IsMoreOf p x m) where
 
   kept_from : (c : ℕ) → Kept c → is_kept m y c ≡ true
   unfolding is_kept
-  kept_from c k = and_from (nat_le builtin_count c) _ (le-leb builtin_count c k.above) (found_at (holds_unchanged m y c) m.reach k.test k.reach k.there
+  kept_from c k = and_from (nat_le builtin_count c) _ (le-leb builtin_count c k.above) (any_passes_from_place (holds_unchanged m y c) m.reach k.test k.reach k.there
       (and_from (not (list_any (is_changed m y) k.reach.classes)) _ (not_from_false _ k.unhit) (member_true _ k.reach.classes k.listed)))
 
   kept_closed : (c d : ℕ) → is_kept m y c ≡ true → Member d (class_at p c).mentions → IsGiven p d → is_kept m y d ≡ true
@@ -195,13 +196,9 @@ unpicked_law n p q x y r m tests t lp lq fs ts dp dq is e mt carried low unpicke
       | inl f ↦
           let o : is_open m q t ≡ false = closed_by (is_open m q t) (is_after_hit m y t) a.1 f in
           let b = or_parts (not (reach_at m t).settled) (puts_out_somewhere q) o in
-          inr (sym (settled_said p x y m more lp t low a.0) ∙ settled_from (reach_at m t).settled b.0, b.1)
+          inr (sym (settled_said p x y m more lp t low a.0) ∙ not_false (reach_at m t).settled b.0, b.1)
     ]))
   where
     closed_by : (b c : Bool) → (b && c) ≡ false → c ≡ true → b ≡ false
     closed_by true c g h = absurd (cc)
     closed_by false c g h = refl
-
-    settled_from : (b : Bool) → not b ≡ false → b ≡ true
-    settled_from true g = refl
-    settled_from false g = absurd (cc)

@@ -10,8 +10,7 @@ use Rattle.order_law.specs.Histories.{IsTestNumber}
 use Rattle.order_law.specs.Matched.{Matched, PairedTest}
 use Rattle.order_law.specs.Numbers.{Numbers}
 use Rattle.order_law.specs.Outcomes.{PairedOutcome}
-use Rattle.order_law.specs.Reach.{is_settled}
-use Rattle.impact_pick.specs.Pick.{puts_out_somewhere}
+use Rattle.order_law.specs.Reach.{is_settled, puts_out_somewhere}
 
 -- the same test under the same budget
 pub record PairedEntry (n : Numbers) (t u : TestEntry) : Type 0 where

@@ -5,10 +5,10 @@ ghost use Rattle.std.specs.List.{list_all};
 ghost use Rattle.impact_pick.specs.Form.{are_within, fits_prints};
 ghost use Rattle.impact_pick.specs.Pick as pick;
 
-use crate::hits::{is_changed, is_hit, puts_out};
+use crate::hits::{is_changed, is_hit};
 use et_base::{Items, NoMemory};
 use jvm_model::Program;
-use order_law::{More, Prints, Record};
+use order_law::{More, Prints, Record, puts_out};
 use std::alloc::Global;
 use type_frames::Checked;
 

@@ -22,9 +22,4 @@ pub mod Pointwise
 pub mod Standing
 pub mod NarrowedFits
 pub mod OnLiterals
-pub mod ExampleParts
 pub mod Examples
-mod LargerExamples
-mod MoreExamples
-mod NativeExamples
-pub mod LinkedExample

@@ -41,7 +41,7 @@ module _ (p : Program) (l : Linked p) where
     | inr q ↦ further (inl s) (ancestor_above k d e (class_at p d).superclass refl (λ g t n. chain_ancestor k d g e t n) q)
   ]
 
-  all_apart : (c : ℕ) (xs : List ℕ) → ((y : ℕ) → member y xs ≡ true → eqb c y ≡ false) → AllByRecursion (λ y. eqb c y ≡ false) xs
+  pub all_apart : (c : ℕ) (xs : List ℕ) → ((y : ℕ) → member y xs ≡ true → eqb c y ≡ false) → AllByRecursion (λ y. eqb c y ≡ false) xs
   all_apart c [] f = tt
   all_apart c (x ∷ xs) f = (f x (rw (eq-eqb x x refl) refl), all_apart c xs (λ y m. f y (or_right (nat_eq y x) (member y xs) m)))
 

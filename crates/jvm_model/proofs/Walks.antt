@@ -2,14 +2,14 @@
 -- up differ, and there are fewer than the bound.
 use Rattle.std.proofs.Common.{◌≡◌, ℕ, zero, suc, ◌+◌, ◌≤◌, List, [], ◌∷◌, ◌++◌, length, true, false, nat_eq, eqb, refl, sym, ◌∙◌, ap, subst, inl, inr, arith, Option, Some, None, All}
 use Rattle.std.specs.Prelude.{flat_map}
-use Rattle.std.specs.List.{IsDistinct, AllByRecursion}
+use Rattle.std.specs.List.{IsDistinct}
 use Rattle.std.proofs.lemmas.Bool.{eqb-true, eq-eqb, false_from_ne_true, or_cases, or_right}
 use Rattle.std.proofs.lemmas.Map.Steps.{length-le_from_distinct_below}
 use Rattle.jvm_model.specs.declared.program.Program.{Program}
 use Rattle.jvm_model.specs.Classes.{class_at, class_bound, member, lineage_in}
 use Rattle.jvm_model.specs.Lookup.{field_path_in, pedigree_in}
 use Rattle.jvm_model.specs.Linked.{IsClass, IsDirect, IsAncestor, direct, further, Linked}
-use Rattle.jvm_model.proofs.Upwards.{superclass_is}
+use Rattle.jvm_model.proofs.Upwards.{superclass_is, all_apart}
 
 -- what holds of each entry holds of each member
 pub all_member : (P : ℕ → Type 0) (xs : List ℕ) → All P xs → (d : ℕ) → member d xs ≡ true → P d
@@ -46,13 +46,9 @@ module _ (p : Program) where
       | inr q ↦ let a : IsAncestor p y d = later (w.ancestor y q) e in l.acyclic y (subst (λ x. IsAncestor p y x) (eqb-true d y t) a)
     ])
 
-    all_apart : (c : ℕ) (xs : List ℕ) → ((y : ℕ) → member y xs ≡ true → eqb c y ≡ false) → AllByRecursion (λ y. eqb c y ≡ false) xs
-    all_apart c [] f = tt
-    all_apart c (x ∷ xs) f = (f x (rw (eq-eqb x x refl) refl), all_apart c xs (λ y m. f y (or_right (nat_eq y x) (member y xs) m)))
-
     distinct_more : (ws : List ℕ) (c d : ℕ) → Way ws c → IsDirect p c d → IsDistinct eqb (d ∷ c ∷ ws)
     unfolding IsDistinct
-    distinct_more ws c d w e = (all_apart d (c ∷ ws) (apart ws c d w e), w.distinct)
+    distinct_more ws c d w e = (all_apart p l d (c ∷ ws) (apart ws c d w e), w.distinct)
 
     way_more : (ws : List ℕ) (c d : ℕ) → Way ws c → IsDirect p c d → Way (c ∷ ws) d
     way_more ws c d w e = record {

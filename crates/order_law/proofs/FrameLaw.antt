@@ -1,15 +1,17 @@
 -- The frame law for two programs.
 use Rattle.std.proofs.Common.{◌≡◌, ℕ, List, Bool, true, false, nat_le, refl, sym, ◌∙◌, ap, subst, inl, inr, arith, Some, None}
 use Rattle.std.proofs.lemmas.Bool.{cases_Bool}
+use Rattle.jvm_model.specs.declared.values.Location.{Location}
 use Rattle.jvm_model.specs.declared.values.Touch.{Touch}
 use Rattle.jvm_model.specs.declared.outcome.Verdict.{Verdict}
 use Rattle.jvm_model.specs.declared.program.Program.{Program}
-use Rattle.jvm_model.specs.World.{World, size, at}
+use Rattle.jvm_model.specs.World.{World, no_object, part, size, at}
 use Rattle.jvm_model.specs.Access.{Ran, run}
 use Rattle.jvm_model.specs.State.{test_at}
 use Rattle.jvm_model.specs.Suite.{End, finished, stuck, out_of_steps, tree, Given, given_at, one_test}
 use Rattle.jvm_model.proofs.Locations.{at_past}
-use Rattle.order_law.specs.Pairing.{OneToOne, statics, inits, heads, at_field, at_elem, texts, files, props}
+use Rattle.order_law.specs.Exposed.{exposed}
+use Rattle.order_law.specs.Pairing.{Matching, OneToOne, PairedLocation, PairedContent, statics, inits, heads, at_field, at_elem, texts, files, props}
 use Rattle.order_law.specs.Frame.{Agree, Forward, Alike}
 use Rattle.order_law.specs.Numbers.{Numbers, Tested, with_places}
 use Rattle.order_law.specs.Matched.{Matched, PairedTest}
@@ -49,6 +51,11 @@ pub given_then : (b : ℕ) (r : Ran End) (v : Verdict) (o : List ℕ) → r.soun
     given_at b r.sound r.value r.world r.touches r.units ≡ Some (given_of v o r)
 given_then b r v o s e h = ap (λ (z : Bool). given_at b z r.value r.world r.touches r.units) s ∙ ap (λ (z : End). given_at b true z r.world r.touches r.units) e ∙ rw h refl
 
+-- what a test gave is what its run came to
+pub ran_as : (p : Program) (w : World) (t b : ℕ) (x : Given) → one_test p w t b ≡ Some x → RanTo b (run (tree p t b) w) x
+unfolding one_test
+ran_as p w t b x e = let r = run (tree p t b) w in ran_to b r.sound r.value r.world r.touches r.units x e
+
 -- the end of the second run
 pub record SecondEnd (n : Numbers) (v : Verdict) (o : List ℕ) (f : End) : Type 0 where
   pub verdict : Verdict
@@ -67,6 +74,43 @@ second_end n v o (both_finished {v = x} {w = y} {o = k} {r = l} p s) g = record 
   alike = (let h : x ≡ v = cc in subst (λ (z : Verdict). PairedVerdict n z y) h p);
   same = (let h : k ≡ o = cc in sym h ∙ s);
 }
+
+-- At an old location the given pairing says what is paired; at one of an object that the runs make nothing stands on either side.
+module _ (n : Numbers) (w v : World) (π : ℕ → ℕ → Bool) (end : ℕ) (root : n.class 0 0 ≡ true) where
+  abbrev old : Matching
+  old = with_places n (Tested π)
+
+  abbrev new : Matching
+  new = with_places n (AlsoMade π w v end)
+
+  still : {L M : Location} → PairedLocation old L M → PairedContent old L M (at w L) (at v M) → PairedContent new L M (at w L) (at v M)
+  still {L} {M} y r = content-more n (Tested π) (AlsoMade π w v end) (λ a b y. inl y) y (at w L) (at v M) r
+
+  none : {L M : Location} → PairedLocation new L M → PairedContent new L M (part no_object L) (part no_object M)
+  none y = nothing_there n (AlsoMade π w v end) (AlsoMade π w v end) root y
+
+  pub also_paired : (P : Location → Type 0) → ((L M : Location) → PairedLocation old L M → P L → PairedContent old L M (at w L) (at v M)) →
+      (L M : Location) → PairedLocation new L M → P L → PairedContent new L M (at w L) (at v M)
+  also_paired P ag L M (statics e) x = still (statics e) (ag L M (statics e) x)
+  also_paired P ag L M (inits e) x = ag L M (inits e) x
+  also_paired P ag L M (files e) x = ag L M (files e) x
+  also_paired P ag L M (props e) x = ag L M (props e) x
+  also_paired P ag L M (heads {a} {b} y) x = elim y [
+    | inl k ↦ still (heads k) (ag L M (heads k) x)
+    | inr k ↦ rw (at_past w L a refl k.0, at_past v M b refl (omega arith)) (none (heads (inr k)))
+  ]
+  also_paired P ag L M (texts {a} {b} y) x = elim y [
+    | inl k ↦ still (texts k) (ag L M (texts k) x)
+    | inr k ↦ rw (at_past w L a refl k.0, at_past v M b refl (omega arith)) (none (texts (inr k)))
+  ]
+  also_paired P ag L M (at_field {a} {b} y e) x = elim y [
+    | inl k ↦ still (at_field k e) (ag L M (at_field k e) x)
+    | inr k ↦ rw (at_past w L a refl k.0, at_past v M b refl (omega arith)) (none (at_field (inr k) e))
+  ]
+  also_paired P ag L M (at_elem {a} {b} i y) x = elim y [
+    | inl k ↦ still (at_elem i k) (ag L M (at_elem i k) x)
+    | inr k ↦ rw (at_past w L a refl k.0, at_past v M b refl (omega arith)) (none (at_elem i (inr k)))
+  ]
 
 module _ (p q : Program) (n : Numbers) (t u b : ℕ) (w v : World) (π : ℕ → ℕ → Bool) (mt : Matched n p q) (pt : PairedTest n (test_at p t) (test_at q u)) (po : PairsObjects π w v) where
   abbrev first : Ran End
@@ -93,35 +137,10 @@ module _ (p q : Program) (n : Numbers) (t u b : ℕ) (w v : World) (π : ℕ →
   forward_all : Forward (with_places n all) w v
   forward_all a b x lt = elim x [ inl u ↦ po.right a b u | inr u ↦ absurd (omega arith) ]
 
-  root : n.class 0 0 ≡ true
-  root = mt.code.builtin 0 (omega arith)
-
-  -- at an old location the given pairing says it; at a new one nothing stands on either side
-  agree_all : (ts : List Touch) → Agree (with_places n (Tested π)) ts w v → Agree (with_places n all) ts w v
-  agree_all ts ag L M (statics e) x = content-more n (Tested π) all (λ a b y. inl y) (statics e) (at w L) (at v M) (ag L M (statics e) x)
-  agree_all ts ag L M (inits e) x = ag L M (inits e) x
-  agree_all ts ag L M (files e) x = ag L M (files e) x
-  agree_all ts ag L M (props e) x = ag L M (props e) x
-  agree_all ts ag L M (heads {a} {b} y) x = elim y [
-    | inl k ↦ content-more n (Tested π) all (λ a b y. inl y) (heads k) (at w L) (at v M) (ag L M (heads k) x)
-    | inr k ↦ rw (at_past w L a refl k.0, at_past v M b refl (omega arith)) (nothing_there n all all root (heads (inr k)))
-  ]
-  agree_all ts ag L M (texts {a} {b} y) x = elim y [
-    | inl k ↦ content-more n (Tested π) all (λ a b y. inl y) (texts k) (at w L) (at v M) (ag L M (texts k) x)
-    | inr k ↦ rw (at_past w L a refl k.0, at_past v M b refl (omega arith)) (nothing_there n all all root (texts (inr k)))
-  ]
-  agree_all ts ag L M (at_field {a} {b} y e) x = elim y [
-    | inl k ↦ content-more n (Tested π) all (λ a b y. inl y) (at_field k e) (at w L) (at v M) (ag L M (at_field k e) x)
-    | inr k ↦ rw (at_past w L a refl k.0, at_past v M b refl (omega arith)) (nothing_there n all all root (at_field (inr k) e))
-  ]
-  agree_all ts ag L M (at_elem {a} {b} i y) x = elim y [
-    | inl k ↦ content-more n (Tested π) all (λ a b y. inl y) (at_elem i k) (at w L) (at v M) (ag L M (at_elem i k) x)
-    | inr k ↦ rw (at_past w L a refl k.0, at_past v M b refl (omega arith)) (nothing_there n all all root (at_elem i (inr k)))
-  ]
-
   alike : first.sound ≡ true → Agree (with_places n (Tested π)) first.touches w v → Alike (with_places n all) (PairedEnd n) w v (run (tree p t b) w) (run (tree q u b) v)
   alike ok ag = frame (with_places n all) one_all mt.code.one_field mt.code.one_class
-      (tree-paired (record { numbers = n; place = all; one = one_all; left = p; right = q; matched = mt.code }) mt.starts t u b pt) w v ok forward_all (λ i j lo hi e. inr (lo, hi, e)) (agree_all first.touches ag)
+      (tree-paired (record { numbers = n; place = all; one = one_all; left = p; right = q; matched = mt.code }) mt.starts t u b pt) w v ok forward_all (λ i j lo hi e. inr (lo, hi, e))
+      (also_paired n w v π (size (run (tree p t b) w).world) (mt.code.builtin 0 (omega arith)) (λ L. exposed first.touches L ≡ true) ag)
 
   same_test : (x : Verdict) (o : List ℕ) → first.sound ≡ true → first.value ≡ finished x o → nat_le first.units b ≡ true → Agree (with_places n (Tested π)) first.touches w v →
       SameTest n (with_places n (AlsoMade π w v (size (given_of x o (run (tree p t b) w)).world))) q w v u b (given_of x o (run (tree p t b) w))
@@ -139,9 +158,7 @@ module _ (p q : Program) (n : Numbers) (t u b : ℕ) (w v : World) (π : ℕ →
       }
 
 pub frame_law : FrameLaw
-unfolding one_test
 frame_law p q n t u b w v π mt pt po x e =
-    let r = run (tree p t b) w in
-    let f = ran_to b r.sound r.value r.world r.touches r.units x e in
+    let f = ran_as p w t b x e in
     subst (λ (z : Given). Agree (with_places n (Tested π)) z.touches w v → SameTest n (with_places n (AlsoMade π w v (size z.world))) q w v u b z) f.is
     (same_test p q n t u b w v π mt pt po f.verdict f.output f.sound f.value f.within)

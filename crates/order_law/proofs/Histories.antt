@@ -35,7 +35,7 @@ use Rattle.order_law.proofs.Leaves.{unwritten, written_partner}
 use Rattle.order_law.proofs.Steps.{tree-paired}
 use Rattle.order_law.proofs.Grow.{content-more, location-more, nothing_there, given_place}
 use Rattle.order_law.proofs.Same.{equal_one, NoObject, opens_no_object, self_matched, verdict_is}
-use Rattle.order_law.proofs.FrameLaw.{given_of, RanTo, ran_to, given_then, second_end}
+use Rattle.order_law.proofs.FrameLaw.{given_of, RanTo, ran_as, given_then, second_end}
 
 abbrev pub alone_with : (ℕ → ℕ → Type 0) → Matching
 alone_with P = with_places same_numbers P
@@ -255,12 +255,8 @@ again p D t x r s f e ok pe u =
       world = ap (λ (z : Ran End). z.world) e;
     }
 
-ran_as : (p : Program) (D : List ℕ) (t : ℕ) (x : Given) → given_after p D t ≡ Some x → RanTo (test_at p t).budget (ran_after p D t) x
-unfolding one_test
-ran_as p D t x e = let r = ran_after p D t in ran_to (test_at p t).budget r.sound r.value r.world r.touches r.units x e
-
-world_as : (p : Program) (D : List ℕ) (t : ℕ) (x : Given) → given_after p D t ≡ Some x → x.world ≡ after_history p (t ∷ D)
-world_as p D t x e = let f = ran_as p D t x e in sym (ap (λ (z : Given). z.world) f.is)
+pub world_as : (p : Program) (D : List ℕ) (t : ℕ) (x : Given) → given_after p D t ≡ Some x → x.world ≡ after_history p (t ∷ D)
+world_as p D t x e = let f = ran_as p (after_history p D) t (test_at p t).budget x e in sym (ap (λ (z : Given). z.world) f.is)
 
 -- the i-th test of the suite, in the suite's own order
 record InOrderAt (p : Program) (xs : List Given) (i t : ℕ) : Type 0 where
@@ -345,7 +341,7 @@ module _ (p : Program) (linked : Linked p) (R : List Edge) (is_record : RecordOf
   next_test D zero h hs fits low al = absurd (let k = low.0 in omega arith)
   next_test D (suc k) h hs fits low al =
       let x = in_suite p (suc k) detected low in
-      let f = ran_as p (down (suc k)) (suc k) x.given x.is in
+      let f = ran_as p (after_history p (down (suc k))) (suc k) (test_at p (suc k)).budget x.given x.is in
       let a = alike p linked D k h fits.is_new R is_record hs fits f.sound low.1 al in
       record {
         first = x;

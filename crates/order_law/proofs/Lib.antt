@@ -25,5 +25,4 @@ pub mod Plans
 pub mod Walks
 pub mod WalksThere
 pub mod OnLiterals
-mod RecordExamples
-mod ListExamples
+mod Examples

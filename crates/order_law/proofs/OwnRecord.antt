@@ -56,13 +56,13 @@ filter_in f (y ∷ xs) x i e = elim (cases_Bool (f y)) [
   | inr b ↦ rw b (elim i [ inl g ↦ absurd (let z = ap f g in cc) | inr j ↦ filter_in f xs x j e ])
 ]
 
-kept_true : {A : Type 0} (f : A → Bool) (b : Bool) (x y : A) (ys : List A) → f y ≡ b → Member x (cond b (y ∷ ys) ys) → (Member x ys → f x ≡ true) → f x ≡ true
-kept_true f true x y ys e i k = elim i [ inl g ↦ ap f g ∙ e | inr j ↦ k j ]
-kept_true f false x y ys e i k = k i
+kept_both : {A : Type 0} (f : A → Bool) (b : Bool) (x y : A) (xs ys : List A) → f y ≡ b → Member x (cond b (y ∷ ys) ys) → (Member x ys → Member x xs × (f x ≡ true)) → Member x (y ∷ xs) × (f x ≡ true)
+kept_both f true x y xs ys e i k = elim i [ inl g ↦ (inl g, ap f g ∙ e) | inr j ↦ (inr (k j).0, (k j).1) ]
+kept_both f false x y xs ys e i k = (inr (k i).0, (k i).1)
 
-filter_true : {A : Type 0} (f : A → Bool) (xs : List A) (x : A) → Member x (filter f xs) → f x ≡ true
-filter_true f [] x i = absurd i
-filter_true f (y ∷ xs) x i = kept_true f (f y) x y (filter f xs) refl i (λ j. filter_true f xs x j)
+pub filter_both : {A : Type 0} (f : A → Bool) (xs : List A) (x : A) → Member x (filter f xs) → Member x xs × (f x ≡ true)
+filter_both f [] x i = absurd i
+filter_both f (y ∷ xs) x i = kept_both f (f y) x y xs (filter f xs) refl i (λ j. filter_both f xs x j)
 
 pub first_in : (ls : List Location) (L : Location) → Member L ls → Member L (first_places ls)
 first_in [] L i = absurd i
@@ -122,7 +122,7 @@ module _ (p : Program) (T : Touches) (by : ℕ → ℕ × ℕ) where
   -- a listed location is one of a conflict, and the other way round
   place_true : (k : EdgeKind) (u t : ℕ) (L : Location) → u < t → Member L (conflict_places_in T k u t) → Conflict (writes_in T) (exposed_in T) k u t L
   unfolding conflict_places_in
-  place_true k u t L h i = conflicts-true (writes_in T) (exposed_in T) k u t L h (filter_true (λ L. conflicts (writes_in T) (exposed_in T) k u t L) (places_in T t) L i)
+  place_true k u t L h i = conflicts-true (writes_in T) (exposed_in T) k u t L h (filter_both (λ L. conflicts (writes_in T) (exposed_in T) k u t L) (places_in T t) L i).1
 
   is_touched : (k : EdgeKind) (u t : ℕ) (L : Location) → Conflict (writes_in T) (exposed_in T) k u t L → Member L (places_in T t)
   is_touched Raw u t L c = first_in _ L (touched (T t) L (inr c.1))

@@ -33,6 +33,16 @@ pick-option false false e p q = q
 pick-option true false e p q = absurd (cc)
 pick-option false true e p q = absurd (cc)
 
+pub first-paired : {R : ℕ → ℕ → Type 0} (f g : ℕ → Bool) → ((x y : ℕ) → R x y → f x ≡ g y) → {xs ys : List ℕ} → PairedList R xs ys → PairedOption R (find f xs) (find g ys)
+first-paired f g h no_more = both_none
+first-paired f g h (one_more {x} {y} r rs) = pick-option (f x) (g y) (h x y r) (both_some r) (first-paired f g h rs)
+
+-- what is above a class, where there is one
+pub above-paired : {R : ℕ → ℕ → Type 0} (f g : ℕ → List ℕ) {o r : Option ℕ} → PairedOption R o r → ((c d : ℕ) → R c d → PairedList R (f c) (g d)) →
+    PairedList R (elim o [ None ↦ [] | Some d ↦ f d ]) (elim r [ None ↦ [] | Some d ↦ g d ])
+above-paired f g both_none h = no_more
+above-paired f g (both_some {x} {y} e) h = h x y e
+
 module _ (n : Numbers) (p q : Program) (mt : MatchedCode n p q) where
   abbrev C : ℕ → ℕ → Type 0
   C = Tested n.class
@@ -43,14 +53,9 @@ module _ (n : Numbers) (p q : Program) (mt : MatchedCode n p q) where
   abbrev M : ℕ → ℕ → Type 0
   M = Tested n.method
 
-  above-paired : (k : ℕ) {o r : Option ℕ} → PairedOption C o r → ((c d : ℕ) → C c d → PairedList C (upwards_in p k c) (upwards_in q k d)) →
-      PairedList C (elim o [ None ↦ [] | Some d ↦ upwards_in p k d ]) (elim r [ None ↦ [] | Some d ↦ upwards_in q k d ])
-  above-paired k both_none h = no_more
-  above-paired k (both_some {x} {y} e) h = h x y e
-
   upwards_in-paired : (k c d : ℕ) → C c d → PairedList C (upwards_in p k c) (upwards_in q k d)
   upwards_in-paired zero c d e = no_more
-  upwards_in-paired (suc k) c d e = one_more e (above-paired k (mt.classes c d e).superclass (upwards_in-paired k))
+  upwards_in-paired (suc k) c d e = one_more e (above-paired (upwards_in p k) (upwards_in q k) (mt.classes c d e).superclass (upwards_in-paired k))
 
   pub upwards-paired : (c d : ℕ) → C c d → PairedList C (upwards p c) (upwards q d)
   upwards-paired c d e = upwards_in-paired class_bound c d e
@@ -275,10 +280,6 @@ module _ (n : Numbers) (p q : Program) (mt : MatchedCode n p q) where
 
   open_like-paired : (a b x y : ℕ) → M a b → M x y → is_open_like p a x ≡ is_open_like q b y
   open_like-paired a b x y e g = both _ _ _ _ (ap (λ (f : ℕ). not (is_private f)) (mt.methods x y g).flags) (like-paired a b x y e g)
-
-  pub first-paired : (f g : ℕ → Bool) → ((x y : ℕ) → M x y → f x ≡ g y) → {xs ys : List ℕ} → PairedList M xs ys → PairedOption M (find f xs) (find g ys)
-  first-paired f g h no_more = both_none
-  first-paired f g h (one_more {x} {y} r rs) = pick-option (f x) (g y) (h x y r) (both_some r) (first-paired f g h rs)
 
   pub methods-paired : {xs ys : List ℕ} → PairedList C xs ys → PairedList M (flat_map (λ c. (class_at p c).methods) xs) (flat_map (λ c. (class_at q c).methods) ys)
   methods-paired r = flat_map-paired C M (λ c. (class_at p c).methods) (λ c. (class_at q c).methods) (λ c d e. (mt.classes c d e).methods) r

@@ -1,5 +1,5 @@
 -- A linked program is matched with itself.
-use Rattle.std.proofs.Common.{◌≡◌, ℕ, suc, ◌<◌, true, List, [], ◌∷◌, length, slice_index_or, refl, sym, ◌∙◌, ap, subst, inl, inr, arith, nat_eq, Option, Some, None}
+use Rattle.std.proofs.Common.{◌≡◌, ℕ, suc, ◌<◌, Bool, true, false, List, [], ◌∷◌, length, slice_index_or, refl, sym, ◌∙◌, ap, subst, inl, inr, arith, nat_eq, Option, Some, None}
 use Rattle.std.specs.Prelude.{IfSome}
 use Rattle.std.proofs.lemmas.Bool.{eqb-true, eq-eqb, cases_lt}
 use Rattle.std.proofs.lemmas.List.{get_or_past}
@@ -23,7 +23,7 @@ use Rattle.jvm_model.specs.declared.program.Handler.{Handler}
 use Rattle.jvm_model.specs.Classes.{class_at, field_at, method_at, literal_at, no_field, no_method}
 use Rattle.jvm_model.specs.Linked.{Linked, IsForm, IsBody, opens}
 use Rattle.order_law.specs.Pairing.{OneToOne, PairedList, no_more, one_more, PairedOption, both_none, both_some, PairedBase, booleans, bytes, chars, shorts, int_bases, long_bases, class_bases, PairedKind, class_kinds, array_kinds}
-use Rattle.order_law.specs.Numbers.{Tested, same_numbers}
+use Rattle.order_law.specs.Numbers.{Numbers, Tested, same_numbers}
 use Rattle.order_law.specs.Forms.{PairedConstant, const_int, const_long, const_null, const_literal, PairedInstr}
 use Rattle.order_law.specs.Forms as same
 use Rattle.order_law.specs.Matched.{PairedPlaced, PairedHandler, PairedBody, PairedMethod, PairedField, PairedClass, Matched}
@@ -81,35 +81,63 @@ constant_form b Null h = tt
 constant_form b (Lit n) h = tt
 constant_form b (Obj o) h = h
 
+-- no number of a program stands in it
+abbrev pub is_free : Instr → Bool
+is_free (form.Const (Lit n)) = false
+is_free (form.Const (Obj o)) = false
+is_free (form.GetStatic f) = false
+is_free (form.PutStatic f) = false
+is_free (form.GetField c f) = false
+is_free (form.PutField c f) = false
+is_free (form.InvokeVirtual k m) = false
+is_free (form.InvokeSpecial k m) = false
+is_free (form.InvokeStatic m) = false
+is_free (form.InvokeInterface c m) = false
+is_free (form.New c) = false
+is_free (form.NewArray k) = false
+is_free (form.MultiNewArray k d) = false
+is_free (form.CheckCast k) = false
+is_free (form.InstanceOf k) = false
+is_free _ = true
+
+pub free_alone : (m : Numbers) (f : Instr) → is_free f ≡ true → PairedInstr m f f
+free_alone m (form.Const (Int k)) h = same.const (const_int k)
+free_alone m (form.Const (Long k)) h = same.const (const_long k)
+free_alone m (form.Const Null) h = same.const const_null
+free_alone m form.Nop h = same.nop
+free_alone m (form.Load s k) h = same.load s k
+free_alone m (form.Store s k) h = same.store s k
+free_alone m (form.ArrayLoad c) h = same.array_load c
+free_alone m (form.ArrayStore c) h = same.array_store c
+free_alone m form.Pop h = same.pop
+free_alone m form.Pop2 h = same.pop2
+free_alone m form.Dup h = same.dup
+free_alone m form.DupX1 h = same.dup_x1
+free_alone m form.DupX2 h = same.dup_x2
+free_alone m form.Dup2 h = same.dup2
+free_alone m form.Dup2X1 h = same.dup2_x1
+free_alone m form.Dup2X2 h = same.dup2_x2
+free_alone m form.Swap h = same.swap
+free_alone m (form.Binary x w) h = same.binary x w
+free_alone m (form.Neg w) h = same.neg w
+free_alone m (form.Inc k z) h = same.inc k z
+free_alone m (form.Convert c) h = same.convert c
+free_alone m form.Compare h = same.compare
+free_alone m (form.Return s) h = same.return s
+free_alone m form.ArrayLength h = same.array_length
+free_alone m form.Throw h = same.throw
+free_alone m form.Monitor h = same.monitor
+free_alone m (form.IfZero x to) h = same.if_zero x to
+free_alone m (form.IfInts x to) h = same.if_ints x to
+free_alone m (form.IfRefs x to) h = same.if_refs x to
+free_alone m (form.IfNull x to) h = same.if_null x to
+free_alone m (form.Goto to) h = same.goto to
+free_alone m (form.Table low ts other) h = same.table low ts other
+free_alone m (form.Lookup ps other) h = same.lookup ps other
+free_alone m _ h = absurd (cc)
+
 self_form : (b : Body) (i : Instr) → IsForm b i → PairedInstr same_numbers i i
-self_form b form.Nop h = same.nop
 self_form b (form.Const v) h = same.const (self_constant v (constant_form b v h))
-self_form b (form.Load x i) h = same.load x i
-self_form b (form.Store x i) h = same.store x i
-self_form b (form.ArrayLoad x) h = same.array_load x
-self_form b (form.ArrayStore x) h = same.array_store x
-self_form b form.Pop h = same.pop
-self_form b form.Pop2 h = same.pop2
-self_form b form.Dup h = same.dup
-self_form b form.DupX1 h = same.dup_x1
-self_form b form.DupX2 h = same.dup_x2
-self_form b form.Dup2 h = same.dup2
-self_form b form.Dup2X1 h = same.dup2_x1
-self_form b form.Dup2X2 h = same.dup2_x2
-self_form b form.Swap h = same.swap
-self_form b (form.Binary x w) h = same.binary x w
-self_form b (form.Neg w) h = same.neg w
-self_form b (form.Inc i by) h = same.inc i by
-self_form b (form.Convert x) h = same.convert x
-self_form b form.Compare h = same.compare
-self_form b (form.IfZero x to) h = same.if_zero x to
-self_form b (form.IfInts x to) h = same.if_ints x to
-self_form b (form.IfRefs x to) h = same.if_refs x to
-self_form b (form.IfNull x to) h = same.if_null x to
-self_form b (form.Goto to) h = same.goto to
-self_form b (form.Table low ts other) h = same.table low ts other
-self_form b (form.Lookup ps other) h = same.lookup ps other
-self_form b (form.Return x) h = same.return x
 self_form b (form.GetStatic f) h = same.get_static (self f)
 self_form b (form.PutStatic f) h = same.put_static (self f)
 self_form b (form.GetField c f) h = same.get_field (self c) (self f)
@@ -121,11 +149,9 @@ self_form b (form.InvokeInterface c m) h = same.invoke_interface (self c) (self 
 self_form b (form.New c) h = same.new (self c)
 self_form b (form.NewArray k) h = same.new_array (self_kind k)
 self_form b (form.MultiNewArray k d) h = same.multi_new_array d (self_kind k)
-self_form b form.ArrayLength h = same.array_length
-self_form b form.Throw h = same.throw
 self_form b (form.CheckCast k) h = same.check_cast (self_kind k)
 self_form b (form.InstanceOf k) h = same.instance_of (self_kind k)
-self_form b form.Monitor h = same.monitor
+self_form b f h = free_alone same_numbers f refl
 
 self_code : (b : Body) (xs : List Placed) → ((k : ℕ) (d : Placed) → k < length xs → IsForm b (slice_index_or xs k d).form) → PairedList (PairedPlaced same_numbers) xs xs
 self_code b [] f = no_more

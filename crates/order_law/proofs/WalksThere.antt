@@ -13,7 +13,7 @@ use Rattle.jvm_model.specs.World.{Object, World, Content, size, at, put, make_ob
 use Rattle.jvm_model.specs.Access.{Access, read_of, write_of, given, given_by, made, fields_made, elems_made, text_made, run}
 use Rattle.jvm_model.specs.declared.program.Program.{Program}
 use Rattle.jvm_model.specs.State.{test_at}
-use Rattle.jvm_model.specs.Suite.{tree, Given, one_test}
+use Rattle.jvm_model.specs.Suite.{tree, Given}
 use Rattle.jvm_model.specs.Linked.{Linked}
 use Rattle.jvm_model.proofs.Locations.{same_true, same_false, at_put_same, at_put_other, size_put, size_make, IsOf, is_of_cases, at_make_new, at_make_other, at_past}
 use Rattle.order_law.specs.Pairing.{Matching, OneToOne, PairedList, no_more, one_more, PairedValue, ints, longs, nulls, literals, objects, PairedLocation, statics, inits, heads, at_field, at_elem, texts, files, props, PairedContent, PairedCell, PairedObject, Paired, both_done, both_read, both_write, both_make, both_spend}
@@ -23,7 +23,7 @@ use Rattle.order_law.specs.Conflicts.{Member}
 use Rattle.order_law.specs.Matched.{PairedTest}
 use Rattle.order_law.proofs.Same.{self_kind, self_matched}
 use Rattle.order_law.proofs.Steps.{tree-paired}
-use Rattle.order_law.proofs.FrameLaw.{ran_to}
+use Rattle.order_law.proofs.FrameLaw.{ran_as}
 use Rattle.order_law.proofs.Walks.{walk_one}
 
 -- the first read that gives an object, in longer lists
@@ -317,10 +317,9 @@ test_met p w t b linked ok =
     (nothing_held (size w) T w refl) (λ o x e. absurd (cc))
 
 pub walk_law : WalkLaw
-unfolding one_test
 walk_law p w t b o x y linked e low i at_o =
     let r = run (tree p t b) w in
-    let f = ran_to b r.sound r.value r.world r.touches r.units x e in
+    let f = ran_as p w t b x e in
     let same_touches : r.touches ≡ x.touches = ap (λ (z : Given). z.touches) f.is in
     elim (met_at (size w) r.touches r.touches y o (test_met p w t b linked f.sound) (subst (λ (z : List Touch). Member y z) (sym same_touches) i) at_o) [
       | inl h ↦ absurd (omega arith)

@@ -53,9 +53,13 @@ abbrev pub body_puts_out : Option Body → Bool
 body_puts_out None = false
 body_puts_out (Some b) = list_any (λ x. puts_out x.form) b.code
 
+-- some code puts the static `System.out`
+abbrev pub puts_out_somewhere : Program → Bool
+puts_out_somewhere p = list_any (λ m. body_puts_out m.body) p.methods
+
 -- The test is settled: each of its exposed reads is of the static `System.out`, and no code puts that.
 unfoldable pub is_settled_in : Program → Touches → ℕ → Bool
-is_settled_in p T t = list_all (λ L. not (exposed_in T t L) || same L (place.Static out_field)) (places_in T t) && not (list_any (λ m. body_puts_out m.body) p.methods)
+is_settled_in p T t = list_all (λ L. not (exposed_in T t L) || same L (place.Static out_field)) (places_in T t) && not (puts_out_somewhere p)
 
 abbrev pub is_settled : Program → ℕ → Bool
 is_settled p t = is_settled_in p (touches_of p) t

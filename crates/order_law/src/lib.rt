@@ -24,10 +24,12 @@ ghost use Rattle.order_law.specs.Walk.{WalkLaw};
 mod edges;
 mod locations;
 mod records;
+mod settled;
 
 pub use edges::{Edge, EdgeKind};
 pub use locations::same_location;
 pub use records::{Chains, More, Place, Prints, Reach, Record, Shown};
+pub use settled::{OUT, puts_out};
 
 /// The frame law. Where two worlds, of one program or of two that match, agree on all that a test reads before it writes
 /// it, the test does the same in both: outcome, touches, the objects that it makes, and what it leaves at the locations

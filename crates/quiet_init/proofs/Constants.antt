@@ -1,8 +1,8 @@
 -- A value of a field's type opens the field where there is no object.
 use Rattle.std.proofs.Common.{◌≡◌, ◌⊎◌, ℕ, zero, suc, ◌<◌, ◌≤◌, List, [], ◌∷◌, ◌++◌, length, get_or, drop, replicate, codes, Bool, true, false, not, ◌&&◌, ◌||◌, cond, nat_eq, nat_le, Option, Some, None, refl, sym, ◌∙◌, ap, subst, inl, inr, arith}
-use Rattle.std.specs.List.{list_any}
 use Rattle.std.specs.Str.{bytes_eq}
 use Rattle.std.proofs.lemmas.Bool.{and_parts, and_from, or_cases, or_left, or_right, eqb-true, eq-eqb, le-leb}
+use Rattle.std.proofs.lemmas.List.Folds.{list_any_at}
 use Rattle.std.proofs.lemmas.List.Quantifiers.{position-Some}
 use Rattle.std.proofs.lemmas.Iterator.Adapters.{position_from-zero}
 use Rattle.et_base.specs.Names.{is_field_descriptor}
@@ -15,13 +15,12 @@ use Rattle.jvm_model.specs.declared.values.Kind.TheVariants as kind
 use Rattle.jvm_model.specs.declared.program.ClassRec.{ClassRec}
 use Rattle.jvm_model.specs.declared.program.Program.{Program}
 use Rattle.jvm_model.specs.World.{World, size}
-use Rattle.jvm_model.specs.Builtin.{builtin_count, object_class, string_class, stream_class}
+use Rattle.jvm_model.specs.Builtin.{object_class, string_class, stream_class}
 use Rattle.jvm_model.specs.Library.{builtin_defs, builtin_classes}
 use Rattle.jvm_model.specs.Classes.{no_class, class_at, is_below, is_interface, member, upwards}
 use Rattle.jvm_model.specs.Rows.{constant_kind}
 use Rattle.jvm_model.specs.Linked.{Linked, IsClass, is_interface_at, class_descriptor, takes, opens}
-use Rattle.jvm_model.proofs.BuiltinRules.{enough_classes, builtin_class}
-use Rattle.jvm_model.proofs.Upwards.{upwards_root, upwards_step}
+use Rattle.jvm_model.proofs.BuiltinRules.{builtin_class}
 use Rattle.type_frames.specs.declared.vtype.VType.{VType}
 use Rattle.type_frames.specs.declared.vtype.VType.TheVariants.{Object, Long, Top, Int}
 use Rattle.type_frames.specs.Assign.{class_named, takes_any, extends, class_fits, element_fits, is_array, object_fits}
@@ -30,6 +29,7 @@ use Rattle.type_frames.specs.TypedState.{IsInstance, IsReferenceOf, IsDeclared}
 use Rattle.type_frames.proofs.AssignLaws.{first_named}
 use Rattle.check_sound.proofs.Instances.{plain_name}
 use Rattle.check_sound.proofs.KindNames.{class_within}
+use Rattle.check_sound.proofs.Thrown.{builtin_is, object_named, under_object}
 
 -- ---- texts
 
@@ -42,11 +42,6 @@ class_text us h = let t = field_taken (76 ∷ us) h in by t.dimensions t.element
     by zero e s (inr (name, is, x)) = let q : us ≡ name ++ 59 ∷ [] = cc in ap (λ (z : List ℕ). 76 ∷ z) (q ∙ ap (λ (a : List ℕ). a ++ 59 ∷ []) (sym (class_within name) ∙ ap class_name (sym q)))
     by (suc n) e s x = absurd (let z : true ≡ false = ap (λ (xs : List ℕ). nat_eq (get_or xs 0 0) 76) s in cc)
 
-any_from : {A : Type 0} (f : A → Bool) (xs : List A) (i : ℕ) (d : A) → i < length xs → f (get_or xs i d) ≡ true → list_any f xs ≡ true
-any_from f [] i d h e = absurd (omega arith)
-any_from f (x ∷ xs) zero d h e = or_left (f x) (list_any f xs) e
-any_from f (x ∷ xs) (suc i) d h e = or_right (f x) (list_any f xs) (any_from f xs i d (omega arith) e)
-
 module _ (p : Program) (lk : Linked p) where
   named : (a : List ℕ) (c : ℕ) → class_named p a ≡ Some c → (c < length p.classes) × (name_of p c ≡ a)
   named a c e =
@@ -54,21 +49,17 @@ module _ (p : Program) (lk : Linked p) where
       let r = position-Some test p.classes c no_class (position_from-zero test p.classes ∙ e) in
       (r.0, units_true (class_at p c).name a r.1)
 
-  object_named : name_of p object_class ≡ codes "java/lang/Object"
-  unfolding builtin_classes builtin_defs
-  object_named = ap (λ (r : ClassRec). r.name) (builtin_class p lk.builtins 0 (omega arith))
-
   module _ (k : ℕ) (ik : IsClass p k) (up : upwards p k ≡ k ∷ object_class ∷ []) (d a : List ℕ) (da : d ≡ class_descriptor a) where
     itself : name_of p k ≡ a → takes p d (name_of p k) ≡ true
     itself e = or_left (bytes_eq d (class_descriptor (name_of p k))) _ (units_same d (class_descriptor (name_of p k)) (da ∙ ap class_descriptor (sym e)))
 
     object : name_of p object_class ≡ a → takes p d (name_of p k) ≡ true
-    object e = or_right (bytes_eq d (class_descriptor (name_of p k))) _ (or_left (bytes_eq d (codes "Ljava/lang/Object;")) _ (units_same d (codes "Ljava/lang/Object;") (da ∙ ap class_descriptor (sym e ∙ object_named))))
+    object e = or_right (bytes_eq d (class_descriptor (name_of p k))) _ (or_left (bytes_eq d (codes "Ljava/lang/Object;")) _ (units_same d (codes "Ljava/lang/Object;") (da ∙ ap class_descriptor (sym e ∙ object_named p lk))))
 
     interface : (c : ℕ) → c < length p.classes → is_interface_at p c ≡ true → name_of p c ≡ a → takes p d (name_of p k) ≡ true
     interface c h i e =
         or_right (bytes_eq d (class_descriptor (name_of p k))) _ (or_right (bytes_eq d (codes "Ljava/lang/Object;")) _
-        (any_from (λ (c : ClassRec). is_interface c.flags && bytes_eq d (class_descriptor c.name)) p.classes c no_class h
+        (list_any_at (λ (c : ClassRec). is_interface c.flags && bytes_eq d (class_descriptor c.name)) p.classes c no_class h
         (and_from (is_interface (class_at p c).flags) _ i (units_same d (class_descriptor (class_at p c).name) (da ∙ ap class_descriptor (sym e))))))
 
     of_any : (o : Option ℕ) → class_named p a ≡ o → takes_any p a ≡ true → takes p d (name_of p k) ≡ true
@@ -162,24 +153,16 @@ module _ (p : Program) (lk : Linked p) where
       | inr q ↦ subst (λ (y : ℕ). IsTaken w n k (y ∷ us)) (sym (eqb-true u 91 q)) (of_array us) h
     ]
 
-  builtin_is : (c : ℕ) → c < builtin_count → IsClass p c
-  builtin_is c h = let b = enough_classes p lk.builtins in omega arith
-
-  under_object : (c : ℕ) → c < builtin_count → (get_or builtin_classes c no_class).superclass ≡ Some object_class → upwards p c ≡ c ∷ object_class ∷ []
-  under_object c h e =
-      upwards_step p lk c object_class (builtin_is c h) (ap (λ (x : ClassRec). x.superclass) (builtin_class p lk.builtins c h) ∙ e)
-      ∙ ap {B = List ℕ} (λ xs. c ∷ xs) (upwards_root p lk object_class lk.listed.top)
-
   literal_opens : (w : World) (d : List ℕ) (n : ℕ) → is_field_descriptor d ≡ true → IsReferenceOf p w (types_of d) (value.Lit n) → opens p d (value.Lit n) ≡ true
   unfolding builtin_classes builtin_defs
   literal_opens w d n f h = by (nat_eq n 0) refl
     where
       by : (b : Bool) → nat_eq n 0 ≡ b → cond b (takes p d (codes "java/io/PrintStream")) (nat_le n (length p.literals) && takes p d (codes "java/lang/String")) ≡ true
       by true q =
-          let t = class_takes w n stream_class (ap (λ (b : Bool). kind.Class (cond b stream_class string_class)) q) (builtin_is stream_class (omega arith)) (under_object stream_class (omega arith) refl) d f h in
+          let t = class_takes w n stream_class (ap (λ (b : Bool). kind.Class (cond b stream_class string_class)) q) (builtin_is p lk stream_class (omega arith)) (under_object p lk stream_class (omega arith) refl) d f h in
           subst (λ (a : List ℕ). takes p d a ≡ true) (ap (λ (r : ClassRec). r.name) (builtin_class p lk.builtins stream_class (omega arith))) t.1
       by false q =
-          let t = class_takes w n string_class (ap (λ (b : Bool). kind.Class (cond b stream_class string_class)) q) (builtin_is string_class (omega arith)) (under_object string_class (omega arith) refl) d f h in
+          let t = class_takes w n string_class (ap (λ (b : Bool). kind.Class (cond b stream_class string_class)) q) (builtin_is p lk string_class (omega arith)) (under_object p lk string_class (omega arith) refl) d f h in
           and_from (nat_le n (length p.literals)) _ (le-leb n (length p.literals) t.0) (subst (λ (a : List ℕ). takes p d a ≡ true) (ap (λ (r : ClassRec). r.name) (builtin_class p lk.builtins string_class (omega arith))) t.1)
 
   pub declared_opens : (w : World) (d : List ℕ) (v : Value) → size w ≡ 0 → is_field_descriptor d ≡ true → IsDeclared p w d v → opens p d v ≡ true

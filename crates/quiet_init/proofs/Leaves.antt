@@ -31,6 +31,7 @@ use Rattle.jvm_model.specs.Suite.{opening}
 use Rattle.jvm_model.proofs.Locations.{at_put_same}
 use Rattle.type_frames.specs.Typing.{IsTyped}
 use Rattle.check_sound.specs.ReachLaw.{most_operands, puts}
+use Rattle.check_sound.proofs.InitRows.{nontrivial_class}
 use Rattle.vm_frames.specs.Stack.{HasRoom, frame_with}
 use Rattle.vm_arith.specs.Pure.{HasRow, TouchesNothing, growth, IsStep}
 use Rattle.vm_arith.proofs.Rows.{has_row}
@@ -42,7 +43,6 @@ use Rattle.quiet_init.specs.Starts.{IsStart}
 use Rattle.quiet_init.proofs.Ends.{before_is, left_before}
 use Rattle.quiet_init.proofs.Lists.{below_next}
 use Rattle.quiet_init.proofs.Rooms.{room_of}
-use Rattle.quiet_init.proofs.Sounds.{there}
 use Rattle.quiet_init.proofs.Trivials.{quiet_loud}
 use Rattle.quiet_init.proofs.Walk.{AllReady, walked}
 
@@ -288,14 +288,14 @@ module _ (p : Program) (ty : IsTyped p) (c m : ℕ) (n : is_trivial p c ≡ fals
   rooms_of l (x ∷ y ∷ ys) s w e r =
       let g = and_parts (is_calm x.form || is_own p c x.form) (is_still p c (y ∷ ys)) e in
       let q = run (row p x.form s) w in
-      (room_of p ty c m b hb l s x.form g.0 r.0 r.1, rooms_of l (y ∷ ys) (goes_with s q.value) q.world g.1 r.2)
+      (room_of p ty m b hb l s x.form r.0 r.1, rooms_of l (y ∷ ys) (goes_with s q.value) q.world g.1 r.2)
 
   -- the instructions name what is there
   names : All (λ x. NamesForm p x.form) b.code
   names = (subst (λ (o : Option Body). IfSome o (λ b. NamesBody p b)) hb (ty.linked.numbers.bodies m (there_of ty.linked.numbers))).forms
     where
       there_of : NamesEntries p → IsMethod p m
-      there_of k = subst (λ (o : Option ℕ). IfSome o (λ m. IsMethod p m)) hi (k.classes c (there p ty.linked c n)).initialiser
+      there_of k = subst (λ (o : Option ℕ). IfSome o (λ m. IsMethod p m)) hi (k.classes c (nontrivial_class p ty.linked c n)).initialiser
 
   twin : (w : World) → at w (place.Init c) ≡ Running → HasOwn p c (begun_world p c) w → Twin p c (begun_world p c) w
   unfolding opening
@@ -324,7 +324,7 @@ module _ (p : Program) (ty : IsTyped p) (c : ℕ) (q : is_quiet p c ≡ true) wh
   loud = quiet_loud p c q
 
   pub quiet_there : c < length p.classes
-  quiet_there = there p ty.linked c loud
+  quiet_there = nontrivial_class p ty.linked c loud
 
   still_start : is_still_start p c ≡ true
   unfolding is_quiet

@@ -27,10 +27,10 @@ use Rattle.jvm_model.specs.Step.{row}
 use Rattle.jvm_model.specs.Suite.{opening}
 use Rattle.jvm_model.proofs.Locations.{at_put_same, at_put_other}
 use Rattle.type_frames.specs.Typing.{IsTyped}
+use Rattle.check_sound.proofs.InitRows.{nontrivial_class}
 use Rattle.quiet_init.specs.Quiet.{is_calm, is_own, is_still, no_handler, is_still_body, starts_still, is_still_start, is_quiet, goes_with, left_after, begun_world, left_by_start, left_by_body, left_by, quiet_class, quiet}
 use Rattle.quiet_init.proofs.Still.{Both, both_go, both_stuck, calm_row, still_row, used, end_world}
 use Rattle.quiet_init.proofs.Parts.{field_count, field_is}
-use Rattle.quiet_init.proofs.Sounds.{there}
 use Rattle.quiet_init.proofs.Trivials.{quiet_loud}
 use Rattle.quiet_init.proofs.Walk.{left_law}
 
@@ -94,7 +94,7 @@ module _ (p : Program) (ty : IsTyped p) (c : ℕ) (q : is_quiet p c ≡ true) (g
 
   of_start : (o : Option ℕ) → (class_at p c).initialiser ≡ o → starts_still p c o ≡ true → at (left_by p c) (place.Static g) ≡ (field_at p g).opening
   of_start None e h = absurd (cc)
-  of_start (Some m) e h = of_body m (method_at p m).body e refl (subst (λ (o : Option ℕ). IfSome o (λ m. IsMethod p m)) e (ty.linked.numbers.classes c (there p ty.linked c n)).initialiser) h
+  of_start (Some m) e h = of_body m (method_at p m).body e refl (subst (λ (o : Option ℕ). IfSome o (λ m. IsMethod p m)) e (ty.linked.numbers.classes c (nontrivial_class p ty.linked c n)).initialiser) h
 
   instance_stays : at (left_by p c) (place.Static g) ≡ (field_at p g).opening
   unfolding is_quiet

@@ -10,9 +10,9 @@ use Rattle.jvm_model.specs.declared.program.ClassRec.{ClassRec}
 use Rattle.jvm_model.specs.declared.program.Program.{Program}
 use Rattle.jvm_model.specs.Builtin.{builtin_count}
 use Rattle.jvm_model.specs.Library.{builtin_defs, builtin_classes}
-use Rattle.jvm_model.specs.Classes.{no_class, class_at, method_at, is_interface, is_trivial, is_default_method, default_interfaces, own_interfaces, first_mentions, lineage_in, class_bound}
+use Rattle.jvm_model.specs.Classes.{no_class, class_at, method_at, is_interface, is_default_method, default_interfaces, own_interfaces, first_mentions, lineage_in, class_bound}
 use Rattle.jvm_model.specs.Entries.{entries_of, frame_of}
-use Rattle.jvm_model.specs.Linked.{Linked, IsClass, IsMethod, IsBody, is_interface_at}
+use Rattle.jvm_model.specs.Linked.{Linked, IsMethod, IsBody, is_interface_at}
 use Rattle.jvm_model.proofs.BuiltinRules.{lengths, all_at, builtin_class}
 use Rattle.check_sound.proofs.InitRows.{nontrivial_class}
 use Rattle.quiet_init.specs.Quiet.{is_quiet, begun_world}
@@ -110,10 +110,6 @@ module _ (p : Program) (lk : Linked p) where
       (listed_first (flat_map (λ j. lineage_in p class_bound j) (class_at p c).interfaces) i
       (listed_filter (λ i. list_any (λ m. is_default_method (method_at p m)) (class_at p i).methods) (own_interfaces p c) i m))
 
-  -- a class that isn't trivial is there
-  pub there : (c : ℕ) → is_trivial p c ≡ false → IsClass p c
-  there c n = nontrivial_class p lk c n
-
   pub bodies : (c m : ℕ) (b : Body) → (class_at p c).initialiser ≡ Some m → (method_at p m).body ≡ Some b → IsBody b
   bodies c m b e h = elim (cases_lt c (length p.classes)) [
     | inl g ↦ subst (λ (o : Option Body). IfSome o (λ b. IsBody b)) h (lk.bodies m (subst (λ (o : Option ℕ). IfSome o (λ m. IsMethod p m)) e (lk.numbers.classes c g).initialiser))
@@ -122,4 +118,4 @@ module _ (p : Program) (lk : Linked p) where
 
   -- so the rows of quiet initialisers are all that is left to give
   pub sound : ((c m : ℕ) (b : Body) → is_quiet p c ≡ true → (class_at p c).initialiser ≡ Some m → (method_at p m).body ≡ Some b → HaveRows p b.code (entries_of (frame_of b m [] ∷ [])) (begun_world p c)) → Sound p
-  sound rows = record { linked = lk; above = above; beside = beside; there = there; bodies = bodies; rows = rows }
+  sound rows = record { linked = lk; above = above; beside = beside; there = nontrivial_class p lk; bodies = bodies; rows = rows }

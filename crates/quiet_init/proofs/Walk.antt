@@ -1,6 +1,5 @@
 -- The code of a quiet initialiser in the world of the opening values: each instruction has its row, and the world stays typed.
-use Rattle.std.proofs.Common.{◌≡◌, ◌≢◌, ℕ, suc, List, [], ◌∷◌, ◌++◌, length, drop, Bool, true, false, ◌||◌, Option, Some, None, IfSome, refl, sym, ◌∙◌, ap, subst, arith}
-use Rattle.std.specs.Prelude.{flat_map}
+use Rattle.std.proofs.Common.{◌≡◌, ◌≢◌, ℕ, suc, List, [], ◌∷◌, length, drop, true, false, ◌||◌, Option, Some, None, IfSome, refl, sym, ◌∙◌, ap, subst, arith}
 use Rattle.std.specs.List.{IsDistinct}
 use Rattle.std.proofs.lemmas.Bool.{and_parts}
 use Rattle.std.proofs.lemmas.Option.{same_Some}
@@ -14,28 +13,23 @@ use Rattle.jvm_model.specs.declared.program.Placed.{Placed}
 use Rattle.jvm_model.specs.declared.program.Program.{Program}
 use Rattle.jvm_model.specs.World.{World, Object, at, size}
 use Rattle.jvm_model.specs.Access.{run}
-use Rattle.jvm_model.specs.Classes.{class_at, field_at, method_at, is_static, is_trivial, form_at, next_place}
-use Rattle.jvm_model.specs.Descriptors.{parameters}
+use Rattle.jvm_model.specs.Classes.{class_at, field_at, method_at, is_trivial, form_at, next_place}
 use Rattle.jvm_model.specs.Entries.{Entries, entries_of, frame_of}
-use Rattle.jvm_model.specs.Driver.{no_arguments}
 use Rattle.jvm_model.specs.Linked.{Ascends, IsInitialiser, IsBody}
 use Rattle.jvm_model.specs.Rows.{Answer, answer, stuck_row}
 use Rattle.jvm_model.specs.Step.{row, row_or_none, row_here}
 use Rattle.jvm_model.specs.Suite.{opening}
 use Rattle.jvm_model.proofs.Locations.{at_put_same}
 use Rattle.jvm_model.proofs.Places.{form_at_index}
-use Rattle.type_frames.specs.declared.vtype.VType.{VType}
-use Rattle.type_frames.specs.declared.vtype.VType.TheVariants as vtype
-use Rattle.type_frames.specs.Descriptors.{types_of, name_of}
-use Rattle.type_frames.specs.Frames.{spread}
-use Rattle.type_frames.specs.Given.{is_constructor}
 use Rattle.type_frames.specs.Typing.{IsTyped}
-use Rattle.type_frames.specs.TypedState.{HaveTypes, TypedWorld}
+use Rattle.type_frames.specs.TypedState.{TypedWorld}
 use Rattle.check_sound.proofs.TreeRuns.{alike_itself, tree_leaves}
 use Rattle.check_sound.proofs.WorldKept.{world_mark}
 use Rattle.check_sound.proofs.Ready.{TypedEntries, closed, Ends, Row, Ready, ready}
 use Rattle.check_sound.proofs.Onward.{grows_alike, entries_grow}
-use Rattle.check_sound.proofs.Arguments.{EntersWith, entered_frame}
+use Rattle.check_sound.proofs.Arguments.{entered_frame}
+use Rattle.check_sound.proofs.DriverRows.{enters_static}
+use Rattle.check_sound.proofs.InitRows.{nontrivial_class}
 use Rattle.check_sound.proofs.WholeStep.{here-typed}
 use Rattle.check_sound.proofs.WholeTest.{opening_typed}
 use Rattle.check_sound.proofs.AllGroups.{groups}
@@ -44,7 +38,7 @@ use Rattle.quiet_init.specs.StillLaw.{HaveRows}
 use Rattle.quiet_init.proofs.Still.{moved, still_row, end_world, end_row}
 use Rattle.quiet_init.proofs.StillSteps.{drop_first, drop_more, drop_within, left_operands, first_place, starts_at, next_is}
 use Rattle.quiet_init.proofs.Trivials.{quiet_loud}
-use Rattle.quiet_init.proofs.Sounds.{bodies, there}
+use Rattle.quiet_init.proofs.Sounds.{bodies}
 use Rattle.quiet_init.specs.Opens.{LeavesTyped, LeftLaw}
 use Rattle.quiet_init.proofs.Constants.{declared_opens}
 
@@ -101,16 +95,9 @@ module _ (p : Program) (ty : IsTyped p) (c m : ℕ) (n : is_trivial p c ≡ fals
         objects = subst (λ (q : Entries). (left_after p (y ∷ ys) q r.world).objects ≡ w.objects) (sym z) (v.objects ∙ a.alone.objects);
       }
 
--- a static method without arguments
-enters_none : (p : Program) (w : World) (m : ℕ) → is_static (method_at p m).flags ≡ true → (method_at p m).descriptor ≡ no_arguments → EntersWith p w m []
-unfolding parameters
-enters_none p w m f d e c = subst (λ (ts : List VType). HaveTypes p w e (spread ts) [])
-    (sym (ap (λ (x : Bool). elim x as (λ z. List VType) [ true ↦ [] | false ↦ elim (is_constructor (method_at p m)) as (λ z. List VType) [ true ↦ vtype.UninitThis ∷ [] | false ↦ vtype.Object (name_of p (method_at p m).class) ∷ [] ] ] ++ flat_map types_of (parameters (method_at p m).descriptor)) f
-    ∙ ap (λ (x : List ℕ). flat_map types_of (parameters x)) d)) tt
-
 module _ (p : Program) (ty : IsTyped p) (c m : ℕ) (b : Body) (n : is_trivial p c ≡ false) (hi : (class_at p c).initialiser ≡ Some m) (hb : (method_at p m).body ≡ Some b) (h : is_still p c b.code ≡ true) where
   is_init : IsInitialiser p c m
-  is_init = subst (λ (o : Option ℕ). IfSome o (λ m. IsInitialiser p c m)) hi (ty.linked.listed.initialisers c (there p ty.linked c n))
+  is_init = subst (λ (o : Option ℕ). IfSome o (λ m. IsInitialiser p c m)) hi (ty.linked.listed.initialisers c (nontrivial_class p ty.linked c n))
 
   body : IsBody b
   body = bodies p ty.linked c m b hi hb
@@ -118,14 +105,14 @@ module _ (p : Program) (ty : IsTyped p) (c m : ℕ) (b : Body) (n : is_trivial p
   begun : TypedEntries p (begun_world p c) None (entries_of (frame_of b m [] ∷ []))
   unfolding IsDistinct
   begun = let i = is_init in
-      let e = entered_frame p ty (begun_world p c) m b [] hb (enters_none p (begun_world p c) m i.static i.descriptor) tt in
+      let e = entered_frame p ty (begun_world p c) m b [] hb (enters_static p ty (begun_world p c) m i.static i.descriptor) tt in
       closed None (frame_of b m []) tt e.goes tt e.range (record { each = tt; range = tt; few = omega arith; apart = tt })
 
   pub walked : Walked p m b.code (entries_of (frame_of b m [] ∷ [])) (begun_world p c)
   unfolding opening
   walked = walk p ty c m n b hb body.ascending 0 b.code (entries_of (frame_of b m [] ∷ [])) (begun_world p c) refl h refl refl
       (starts_at b.code (record { pc = 0; form = form.Nop }) body.some body.first) (at_put_same (opening p) (place.Init c) Running refl)
-      (world_mark p (opening p) c Running (opening_typed p ty) (there p ty.linked c n)) begun
+      (world_mark p (opening p) c Running (opening_typed p ty) (nontrivial_class p ty.linked c n)) begun
 
 module _ (p : Program) (c : ℕ) (ty : IsTyped p) (n : is_trivial p c ≡ false) where
   by_body : (m : ℕ) → (class_at p c).initialiser ≡ Some m → (o : Option Body) → (method_at p m).body ≡ o → is_still_body p c o ≡ true → LeavesTyped p c

@@ -24,7 +24,7 @@ use Rattle.jvm_model.specs.Initialise.{parts_of}
 use Rattle.jvm_model.specs.Linked.{IsField}
 use Rattle.jvm_model.specs.State.{started}
 use Rattle.jvm_model.specs.Suite.{opening}
-use Rattle.jvm_model.proofs.ExampleParts.{program, class, body, fixed, static_int, test, int_const, get_static, put_static, call_static, returns}
+use Rattle.jvm_model.proofs.Examples.Parts.{program, class, body, fixed, static_int, test, int_const, get_static, put_static, call_static, returns}
 use Rattle.type_frames.specs.Frames.{index_of}
 use Rattle.type_frames.specs.Assign.{takes_any, extends, class_fits, object_fits}
 use Rattle.type_frames.specs.Given.{given_frames, body_frames}

@@ -13,8 +13,8 @@ use Rattle.jvm_model.specs.declared.values.Head.{Head}
 use Rattle.jvm_model.specs.World.{Object, look, keep, put_at, no_object}
 use Rattle.jvm_model.specs.Classes.{member, layout, field_at, default_of, fields_of, elems_of, blank}
 use Rattle.jvm_model.specs.View.{keys}
-use Rattle.vm_heap.specs.Entries.{Entry}
-use Rattle.vm_heap.specs.Objects.{field_numbers, new_cells, cell_count, object_of, objects_of, IsWhole}
+use Rattle.vm_heap.specs.Entries.{Entry, no_entry}
+use Rattle.vm_heap.specs.Objects.{field_numbers, new_cells, cell_count, object_of, objects_of, IsWhole, IsHeap}
 use Rattle.vm_tables.specs.FieldPlaces.{place, IsHeld}
 use Rattle.vm_heap.specs.Held.{Held}
 use Rattle.jvm_model.proofs.Ranges.{put_at_is_set}
@@ -221,12 +221,6 @@ new_object p x h e t =
     ∙ ap (λ y. blank_of h y (drop (length (field_numbers p h)) (new_cells p h))) (zip_back (fields_of p h.kind) (elems_of h.kind h.length))
     ∙ ap (λ y. blank_of h (fields_of p h.kind) y) (drop_back (fields_of p h.kind) (elems_of h.kind h.length))
 
-pub text_there : (p : Program) (xs : List Entry) (cs : List Value) (o : ℕ) (x : Entry) (e : Object) → o < length xs → x ≡ get_or xs o x → x.text ≡ (get_or (objects_of p xs cs) o e).text
-text_there p xs cs o x e w q = ap (λ y. y.text) q ∙ ap (λ y. y.text) (sym (object_there p xs cs o x e w))
-
-pub head_there : (p : Program) (xs : List Entry) (cs : List Value) (o : ℕ) (x : Entry) (e : Object) → o < length xs → x ≡ get_or xs o x → x.head ≡ (get_or (objects_of p xs cs) o e).head
-head_there p xs cs o x e w q = ap (λ y. y.head) q ∙ ap (λ y. y.head) (sym (object_there p xs cs o x e w))
-
 -- a heap's view, and one with a part of an object changed
 abbrev pub held : Program → List Object → Held
 held p xs = record { program = p; objects = xs }
@@ -240,18 +234,57 @@ elem_changed h o i v = record h { objects = set h.objects o (with_elems (get_or 
 abbrev pub text_changed : Held → ℕ → List ℕ → Held
 text_changed h o t = record h { objects = set h.objects o (record (get_or h.objects o no_object) { text = Some t }) }
 
-pub headers_there : (p : Program) (xs : List Entry) (cs : List Value) (h : Held) (o : ℕ) → held p (objects_of p xs cs) ≡ h → o < length h.objects → o < length xs
-headers_there p xs cs h o e w = let l = length-objects_of p xs cs in let m : length (objects_of p xs cs) ≡ length h.objects = ap (λ y. length y.objects) e in omega arith
-
 pub got : (cs : List Value) (n : ℕ) (r v : Value) → r ≡ get_or cs n r → n < length cs → get_or cs n Null ≡ v → r ≡ v
 got cs n r v e w g = e ∙ get_or_default cs n r Null w ∙ g
 
 -- an object with another text
-pub text_written : (p : Program) (xs : List Entry) (cs : List Value) (o : ℕ) (x : Entry) (u : Option (List ℕ)) (t : List ℕ) → o < length xs → x ≡ get_or xs o x → u ≡ Some t →
+text_written : (p : Program) (xs : List Entry) (cs : List Value) (o : ℕ) (x : Entry) (u : Option (List ℕ)) (t : List ℕ) → o < length xs → x ≡ get_or xs o x → u ≡ Some t →
     held p (objects_of p (set xs o (with_text x u)) cs) ≡ text_changed (held p (objects_of p xs cs)) o t
 text_written p xs cs o x u t w q e =
     ap (λ y. held p (objects_of p (set xs o (with_text x y)) cs)) e ∙ ap (λ y. held p (objects_of p (set xs o (with_text y (Some t))) cs)) q
     ∙ ap (held p) (text_set p xs cs o x no_object (Some t) w)
+
+-- what a call on an object of a heap needs, by what the heap is seen as
+module _ (p q : Program) (xs : List Entry) (cs : Vec Value Global) (is : IsHeap p q xs cs.items) {h : Held} (seen : held p (objects_of p xs cs.items) ≡ h) {o : ℕ} (low : o < length h.objects) where
+  abbrev entry : Entry
+  entry = get_or xs o no_entry
+
+  abbrev object : Object
+  object = get_or h.objects o no_object
+
+  pub there : o < length xs
+  there = let l = length-objects_of p xs cs.items in let m : length (objects_of p xs cs.items) ≡ length h.objects = ap (λ (y : Held). length y.objects) seen in omega arith
+
+  here : entry ≡ get_or xs o entry
+  here = get_or_default xs o no_entry entry there
+
+  pub head_seen : entry.head ≡ object.head
+  head_seen = ap (λ (y : Entry). y.head) here ∙ ap (λ (y : Object). y.head) (sym (object_there p xs cs.items o entry no_object there) ∙ ap (λ (y : Held). get_or y.objects o no_object) seen)
+
+  pub text_seen : entry.text ≡ object.text
+  text_seen = ap (λ (y : Entry). y.text) here ∙ ap (λ (y : Object). y.text) (sym (object_there p xs cs.items o entry no_object there) ∙ ap (λ (y : Held). get_or y.objects o no_object) seen)
+
+  pub text_set_there : {ys : List Entry} (u : Option (List ℕ)) (t : List ℕ) → ys ≡ set xs o (with_text entry u) → u ≡ Some t → held p (objects_of p ys cs.items) ≡ text_changed h o t
+  text_set_there u t e k = ap (λ y. held p (objects_of p y cs.items)) e ∙ text_written p xs cs.items o entry u t there here k ∙ ap (λ (y : Held). text_changed y o t) seen
+
+  -- the heap with other objects
+  pub with_objects : (ys : List Object) → held p ys ≡ record h { objects = ys }
+  with_objects ys = ap (λ (y : Held). record y { objects = ys }) seen
+
+  module _ (f : ℕ) (listed : member f (keys object.fields) ≡ true) where
+    seen_field : member f (keys (get_or (objects_of p xs cs.items) o no_object).fields) ≡ true
+    seen_field = subst (λ (y : Held). member f (keys (get_or y.objects o no_object).fields) ≡ true) (sym seen) listed
+
+    pub field_known : IsHeld q f
+    field_known = field_held p q xs cs.items o entry no_object f is.same is.whole there here seen_field
+
+    pub field_there : {n m : ℕ} → IsPlaceOf q f n → m ≡ entry.start + n → Cell p xs cs.items m (look nat_eq Null object.fields f) (λ w. (field_changed h o f w).objects)
+    field_there {n} {m} at e = subst (λ (y : Held). Cell p xs cs.items m (look nat_eq Null (get_or y.objects o no_object).fields f) (λ w. (field_changed y o f w).objects)) seen
+        (moved (field_cell p q xs cs.items o entry no_object f n is.same at is.whole there here seen_field) e)
+
+  pub elem_there : {i m : ℕ} → i < length object.elems → m ≡ entry.start + i → Cell p xs cs.items m (get_or object.elems i Null) (λ w. (elem_changed h o i w).objects)
+  elem_there {i} {m} within e = subst (λ (y : Held). Cell p xs cs.items m (get_or (get_or y.objects o no_object).elems i Null) (λ w. (elem_changed y o i w).objects)) seen
+      (moved (elem_cell p xs cs.items o entry no_object i is.whole there here (subst (λ (y : Held). i < length (get_or y.objects o no_object).elems) (sym seen) within)) e)
 
 -- one more object of a heap
 pub held_last : (p : Program) (xs : List Entry) (x : Entry) (cs : List Value) (h : Head) → IsWhole p xs cs → x.head ≡ h → x.text ≡ None →

@@ -1,7 +1,15 @@
 use Rattle.std.proofs.Common.{ℕ, ◌+◌, List, map, sum, refl, sym, ap, ◌∙◌}
 use Rattle.jvm_model.specs.declared.outcome.Outcome.{Outcome}
+use Rattle.test_run.specs.Running.{Machined}
+use Rattle.access_tags.specs.declared.memory.TaggedMemory.{TaggedMemory}
 use Rattle.detect_run.proofs.Detected.{own_run_on, units_counted}
 use Rattle.detect_run.proofs.detection.found_on.Goals as goal
+
+pub recorded-requires-clause-program : goal.recorded-requires-clause-program
+recorded-requires-clause-program g c =
+    let after = c.in_ok-outcomes.ensures.after in
+    let stands = c.memory.ensures.stands (ap (λ (m : Machined TaggedMemory). m.spent) after ∙ c.requires.ready) in
+    ap (λ (m : TaggedMemory). m.memory.program) c.memory.ensures.lent ∙ (stands.of ∙ (ap (λ (m : Machined TaggedMemory). m.program) after ∙ c.requires.program))
 
 pub recorded-requires-clause-ran : goal.recorded-requires-clause-ran
 recorded-requires-clause-ran g c =

@@ -1,10 +1,17 @@
 use Rattle.std.proofs.Common.{◌≡◌, length, refl, ap, subst, sym, ◌∙◌, Some}
+use Rattle.jvm_model.specs.Linked.{Linked}
 use Rattle.order_law.specs.declared.records.More.{More}
 use Rattle.order_law.specs.Reach.{IsMoreOf}
 use Rattle.order_law.proofs.Lists.{length-paired}
 use Rattle.detect_run.proofs.Detected.{edges_found, shown_found, reach_each, reach_found}
 use Rattle.detect_run.proofs.Kept.{record_form, reach_form}
 use Rattle.detect_run.proofs.detection.recorded.Goals as goal
+
+pub reaches-requires-clause-program : goal.reaches-requires-clause-program
+reaches-requires-clause-program c = c.requires.program ∙ sym c.program-program.ensures.same
+
+pub reaches-requires-clause-linked : goal.reaches-requires-clause-linked
+reaches-requires-clause-linked c = subst Linked (sym c.program-program.ensures.same) c.program-program.ensures.typed.linked
 
 pub invariant_of-kept-clause-form : goal.invariant_of-kept-clause-form
 invariant_of-kept-clause-form c =

@@ -15,4 +15,5 @@ returns-clause-told c x i e w l v a z h ts f =
       heads = λ kinds T us q k. c.in_ok-note_touch.ensures.stands kinds T us x
           (subst (λ (L : Location). IsKindAt (kinds m.test) L c.args.kind) (sym l) (kind_at kinds m.memory.world m.test (located [] c.args.spot) c.args.kind q e a)) k;
       size = z;
+      classes = c.in_ok-note_touch.ensures.classes;
     }) f

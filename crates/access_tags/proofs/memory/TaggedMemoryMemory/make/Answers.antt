@@ -25,6 +25,7 @@ returns-clause-told c h ts f =
       grown = λ T t us e s. grown m c.grow.new.self x T t us c.in_ok-grow.ensures.stands e s;
       tags = made_told w m.names c.push.new.self c.grow.new.self c.note_made.new.tags c.in_ok-object.object p c.args.head c.in_ok-object.ensures.gives (c.in_ok-push.ensures.places ∙ f.program) c.in_ok-note_made.ensures.told i;
       heads = λ kinds T us y o a q k. c.in_ok-note.ensures.stands kinds T us y o a (q ∙ ap (λ (z : Head). z.kind) (head_blank p c.args.head)) k;
+      classes = c.in_ok-note.ensures.classes;
       names = refl;
       ended = refl;
       discovery_tree = refl;

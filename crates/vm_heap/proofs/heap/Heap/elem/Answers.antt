@@ -1,47 +1,23 @@
-use Rattle.std.proofs.Common.{◌<◌, length, get_or, arith, rules, ◌+◌, ap}
-use Rattle.std.proofs.lemmas.List.{get_or_default}
-use Rattle.vm_heap.specs.Entries.{no_entry}
-use Rattle.jvm_model.specs.World.{no_object}
-use Rattle.vm_heap.specs.Objects.{objects_of}
-use Rattle.vm_heap.proofs.Cells.{few, within_vec, moved, elem_cell, headers_there, got}
+use Rattle.std.proofs.Common.{arith, ◌+◌, ap}
+use Rattle.vm_heap.proofs.Cells.{few, within_vec, there, elem_there, got}
 use Rattle.vm_heap.proofs.heap.Heap.elem.Goals as goal
 
 pub of-header-requires : goal.of-header-requires
-of-header-requires c =
-    let p = c.self.inside.layouts in
-    let xs = c.self.inside.headers in
-    let cs = c.self.inside.cells.items in
-    let w : c.args.object < length xs = headers_there p xs cs c.args.self.now c.args.object c.self.view_is c.requires.object in
-    search rules
+of-header-requires c = there c.self.inside.layouts c.self.inside.places c.self.inside.headers c.self.inside.cells c.self.invariant c.self.view_is c.requires.object
 
 pub overflow_add-header : goal.overflow_add-header
 overflow_add-header c =
-    let p = c.self.inside.layouts in
-    let xs = c.self.inside.headers in
-    let cs = c.self.inside.cells.items in
-    let w : c.args.object < length xs = headers_there p xs cs c.args.self.now c.args.object c.self.view_is c.requires.object in
-    let m : c.args.index < length (get_or (objects_of p xs cs) c.args.object no_object).elems = rw (← c.self.view_is) at c.requires.index in
-    let k = moved (elem_cell p xs cs c.args.object (get_or xs c.args.object no_entry) no_object c.args.index c.self.invariant.whole w (get_or_default xs c.args.object no_entry _ w) m) (ap (λ h. h.start + c.args.index) c.of-header.ensures) in
+    let k = elem_there c.self.inside.layouts c.self.inside.places c.self.inside.headers c.self.inside.cells c.self.invariant c.self.view_is c.requires.object c.requires.index (ap (λ h. h.start + c.args.index) c.of-header.ensures) in
     let b = k.within in
     let f = few c.self.inside.cells in
     omega arith
 
 pub index-requires : goal.index-requires
 index-requires c =
-    let p = c.self.inside.layouts in
-    let xs = c.self.inside.headers in
-    let cs = c.self.inside.cells.items in
-    let w : c.args.object < length xs = headers_there p xs cs c.args.self.now c.args.object c.self.view_is c.requires.object in
-    let m : c.args.index < length (get_or (objects_of p xs cs) c.args.object no_object).elems = rw (← c.self.view_is) at c.requires.index in
-    let k = moved (elem_cell p xs cs c.args.object (get_or xs c.args.object no_entry) no_object c.args.index c.self.invariant.whole w (get_or_default xs c.args.object no_entry _ w) m) (ap (λ h. h.start + c.args.index) c.of-header.ensures) in
+    let k = elem_there c.self.inside.layouts c.self.inside.places c.self.inside.headers c.self.inside.cells c.self.invariant c.self.view_is c.requires.object c.requires.index (ap (λ h. h.start + c.args.index) c.of-header.ensures) in
     within_vec c.self.inside.cells _ k.within
 
 pub returns : goal.returns
 returns c =
-    let p = c.self.inside.layouts in
-    let xs = c.self.inside.headers in
-    let cs = c.self.inside.cells.items in
-    let w : c.args.object < length xs = headers_there p xs cs c.args.self.now c.args.object c.self.view_is c.requires.object in
-    let m : c.args.index < length (get_or (objects_of p xs cs) c.args.object no_object).elems = rw (← c.self.view_is) at c.requires.index in
-    let k = moved (elem_cell p xs cs c.args.object (get_or xs c.args.object no_entry) no_object c.args.index c.self.invariant.whole w (get_or_default xs c.args.object no_entry _ w) m) (ap (λ h. h.start + c.args.index) c.of-header.ensures) in
-    rw (← c.self.view_is) (got cs _ c.index.result.now _ c.index.ensures k.within k.value)
+    let k = elem_there c.self.inside.layouts c.self.inside.places c.self.inside.headers c.self.inside.cells c.self.invariant c.self.view_is c.requires.object c.requires.index (ap (λ h. h.start + c.args.index) c.of-header.ensures) in
+    got c.self.inside.cells.items _ c.index.result.now _ c.index.ensures k.within k.value

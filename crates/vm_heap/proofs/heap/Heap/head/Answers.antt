@@ -1,22 +1,9 @@
-use Rattle.std.proofs.Common.{◌<◌, ◌∙◌, ap, get_or, length, rules}
-use Rattle.std.proofs.lemmas.List.{get_or_default}
-use Rattle.vm_heap.specs.Entries.{no_entry}
-use Rattle.jvm_model.specs.World.{no_object}
-use Rattle.vm_heap.proofs.Cells.{headers_there, head_there}
+use Rattle.std.proofs.Common.{◌∙◌, ap}
+use Rattle.vm_heap.proofs.Cells.{there, head_seen}
 use Rattle.vm_heap.proofs.heap.Heap.head.Goals as goal
 
 pub of-requires : goal.of-requires
-of-requires c =
-    let p = c.self.inside.layouts in
-    let xs = c.self.inside.headers in
-    let cs = c.self.inside.cells.items in
-    let w : c.args.object < length xs = headers_there p xs cs c.args.self.now c.args.object c.self.view_is c.requires in
-    search rules
+of-requires c = there c.self.inside.layouts c.self.inside.places c.self.inside.headers c.self.inside.cells c.self.invariant c.self.view_is c.requires
 
 pub returns : goal.returns
-returns c =
-    let p = c.self.inside.layouts in
-    let xs = c.self.inside.headers in
-    let cs = c.self.inside.cells.items in
-    let w : c.args.object < length xs = headers_there p xs cs c.args.self.now c.args.object c.self.view_is c.requires in
-    rw (← c.self.view_is) (ap (λ h. h.head) c.of.ensures ∙ head_there p xs cs c.args.object (get_or xs c.args.object no_entry) no_object w (get_or_default xs c.args.object no_entry _ w))
+returns c = ap (λ h. h.head) c.of.ensures ∙ head_seen c.self.inside.layouts c.self.inside.places c.self.inside.headers c.self.inside.cells c.self.invariant c.self.view_is c.requires

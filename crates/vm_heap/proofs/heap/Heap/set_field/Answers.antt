@@ -1,51 +1,24 @@
-use Rattle.std.proofs.Common.{◌≡◌, ◌<◌, ◌∙◌, ap, length, get_or, arith, true, rules, ◌+◌}
-use Rattle.std.proofs.lemmas.List.{get_or_default}
-use Rattle.vm_heap.specs.Entries.{no_entry}
-use Rattle.jvm_model.specs.World.{no_object}
-use Rattle.jvm_model.specs.View.{keys}
-use Rattle.jvm_model.specs.Classes.{member}
-use Rattle.vm_heap.specs.Objects.{objects_of}
+use Rattle.std.proofs.Common.{◌∙◌, arith, ◌+◌, ap}
 use Rattle.vm_heap.proofs.Objects.{whole_set}
-use Rattle.vm_heap.proofs.Cells.{few, within_vec, moved, field_cell, field_held, headers_there, held, field_changed}
+use Rattle.vm_heap.proofs.Cells.{few, within_vec, there, field_known, field_there, held, with_objects}
 use Rattle.vm_heap.proofs.heap.Heap.set_field.Goals as goal
 
 pub of-requires : goal.of-requires
-of-requires c =
-    let p = c.self.inside.layouts in
-    let xs = c.self.inside.headers in
-    let cs = c.self.inside.cells.items in
-    let w : c.args.object < length xs = headers_there p xs cs c.args.self.now c.args.object c.self.view_is c.requires.object in
-    search rules
+of-requires c = there c.self.inside.layouts c.self.inside.places c.self.inside.headers c.self.inside.cells c.self.invariant c.self.view_is c.requires.object
 
 pub place_of-requires : goal.place_of-requires
-place_of-requires c =
-    let p = c.self.inside.layouts in
-    let xs = c.self.inside.headers in
-    let cs = c.self.inside.cells.items in
-    let w : c.args.object < length xs = headers_there p xs cs c.args.self.now c.args.object c.self.view_is c.requires.object in
-    let m : member c.args.field (keys (get_or (objects_of p xs cs) c.args.object no_object).fields) ≡ true = rw (← c.self.view_is) at c.requires.field in
-    field_held p c.self.inside.places xs cs c.args.object (get_or xs c.args.object no_entry) no_object c.args.field c.self.invariant.same c.self.invariant.whole w (get_or_default xs c.args.object no_entry _ w) m
+place_of-requires c = field_known c.self.inside.layouts c.self.inside.places c.self.inside.headers c.self.inside.cells c.self.invariant c.self.view_is c.requires.object c.args.field c.requires.field
 
 pub overflow_add-start : goal.overflow_add-start
 overflow_add-start c =
-    let p = c.self.inside.layouts in
-    let xs = c.self.inside.headers in
-    let cs = c.self.inside.cells.items in
-    let w : c.args.object < length xs = headers_there p xs cs c.args.self.now c.args.object c.self.view_is c.requires.object in
-    let m : member c.args.field (keys (get_or (objects_of p xs cs) c.args.object no_object).fields) ≡ true = rw (← c.self.view_is) at c.requires.field in
-    let k = moved (field_cell p c.self.inside.places xs cs c.args.object (get_or xs c.args.object no_entry) no_object c.args.field c.place_of.result c.self.invariant.same c.place_of.ensures c.self.invariant.whole w (get_or_default xs c.args.object no_entry _ w) m) (ap (λ h. h.start + c.place_of.result) c.of.ensures) in
+    let k = field_there c.self.inside.layouts c.self.inside.places c.self.inside.headers c.self.inside.cells c.self.invariant c.self.view_is c.requires.object c.args.field c.requires.field c.place_of.ensures (ap (λ h. h.start + c.place_of.result) c.of.ensures) in
     let b = k.within in
     let f = few c.self.inside.cells in
     omega arith
 
 pub index_mut-requires : goal.index_mut-requires
 index_mut-requires c =
-    let p = c.self.inside.layouts in
-    let xs = c.self.inside.headers in
-    let cs = c.self.inside.cells.items in
-    let w : c.args.object < length xs = headers_there p xs cs c.args.self.now c.args.object c.self.view_is c.requires.object in
-    let m : member c.args.field (keys (get_or (objects_of p xs cs) c.args.object no_object).fields) ≡ true = rw (← c.self.view_is) at c.requires.field in
-    let k = moved (field_cell p c.self.inside.places xs cs c.args.object (get_or xs c.args.object no_entry) no_object c.args.field c.place_of.result c.self.invariant.same c.place_of.ensures c.self.invariant.whole w (get_or_default xs c.args.object no_entry _ w) m) (ap (λ h. h.start + c.place_of.result) c.of.ensures) in
+    let k = field_there c.self.inside.layouts c.self.inside.places c.self.inside.headers c.self.inside.cells c.self.invariant c.self.view_is c.requires.object c.args.field c.requires.field c.place_of.ensures (ap (λ h. h.start + c.place_of.result) c.of.ensures) in
     within_vec c.self.inside.cells _ k.within
 
 pub invariant_of-self : goal.invariant_of-self
@@ -53,10 +26,5 @@ invariant_of-self c = record { same = c.self.invariant.same; whole = whole_set _
 
 pub returns : goal.returns
 returns c =
-    let p = c.self.inside.layouts in
-    let xs = c.self.inside.headers in
-    let cs = c.self.inside.cells.items in
-    let w : c.args.object < length xs = headers_there p xs cs c.args.self.now c.args.object c.self.view_is c.requires.object in
-    let m : member c.args.field (keys (get_or (objects_of p xs cs) c.args.object no_object).fields) ≡ true = rw (← c.self.view_is) at c.requires.field in
-    let k = moved (field_cell p c.self.inside.places xs cs c.args.object (get_or xs c.args.object no_entry) no_object c.args.field c.place_of.result c.self.invariant.same c.place_of.ensures c.self.invariant.whole w (get_or_default xs c.args.object no_entry _ w) m) (ap (λ h. h.start + c.place_of.result) c.of.ensures) in
-    ap (held p) (k.after c.args.v) ∙ ap (λ h. field_changed h c.args.object c.args.field c.args.v) c.self.view_is
+    let k = field_there c.self.inside.layouts c.self.inside.places c.self.inside.headers c.self.inside.cells c.self.invariant c.self.view_is c.requires.object c.args.field c.requires.field c.place_of.ensures (ap (λ h. h.start + c.place_of.result) c.of.ensures) in
+    ap (held c.self.inside.layouts) (k.after c.args.v) ∙ with_objects c.self.inside.layouts c.self.inside.places c.self.inside.headers c.self.inside.cells c.self.invariant c.self.view_is c.requires.object _

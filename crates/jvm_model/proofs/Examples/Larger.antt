@@ -11,7 +11,7 @@ use Rattle.jvm_model.specs.declared.instr.IfTest.TheVariants as if_test
 use Rattle.jvm_model.specs.declared.program.Program.{Program}
 use Rattle.jvm_model.specs.Suite.{runs, all_tests}
 use Rattle.jvm_model.proofs.OnLiterals.{machine_on_literals}
-use Rattle.jvm_model.proofs.ExampleParts.{program, class, body, fixed, plain, field, static_int, test, int_const, get_static, put_static, call_static, returns, load_this, dup, print_number, gets, sets, shown, passed, line}
+use Rattle.jvm_model.proofs.Examples.Parts.{program, class, body, fixed, plain, field, static_int, test, int_const, get_static, put_static, call_static, returns, load_this, dup, print_number, gets, sets, shown, passed, line}
 
 -- a method that calls itself until no entry may be pushed
 abbrev recursion_suite : Program

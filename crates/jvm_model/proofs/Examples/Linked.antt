@@ -18,8 +18,8 @@ use Rattle.jvm_model.specs.Linked.{IsClass, IsField, IsMethod, IsGiven, HoldsBui
 use Rattle.std.proofs.lemmas.List.{get_or_past}
 use Rattle.jvm_model.proofs.BuiltinRules.{all_at}
 use Rattle.jvm_model.proofs.Interfaces.{none_listed}
-use Rattle.jvm_model.proofs.ExampleParts.{body, returns, test}
-use Rattle.jvm_model.proofs.Examples.{return_suite}
+use Rattle.jvm_model.proofs.Examples.Parts.{body, returns, test}
+use Rattle.jvm_model.proofs.Examples.Suites.{return_suite}
 
 -- whether a test holds of all numbers below n
 abbrev below : ℕ → (ℕ → Bool) → Bool

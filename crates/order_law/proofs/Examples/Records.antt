@@ -11,8 +11,8 @@ use Rattle.jvm_model.specs.declared.instr.Instr.TheVariants as form
 use Rattle.jvm_model.specs.declared.program.Program.{Program}
 use Rattle.jvm_model.specs.Classes.{class_at}
 use Rattle.jvm_model.specs.Linked.{IsGiven}
-use Rattle.jvm_model.proofs.ExampleParts.{program, class, body, fixed, plain, static, field, static_int, test, int_const, literal, get_static, put_static, print_number, returns, load_this}
-use Rattle.jvm_model.proofs.Examples.{counter_suite, again_suite, read_write_suite, node_suite, bad_init_suite, kept_error_suite, files_suite}
+use Rattle.jvm_model.proofs.Examples.Parts.{program, class, body, fixed, plain, static, field, static_int, test, int_const, literal, get_static, put_static, print_number, returns, load_this}
+use Rattle.jvm_model.proofs.Examples.Suites.{counter_suite, again_suite, read_write_suite, node_suite, bad_init_suite, kept_error_suite, files_suite}
 use Rattle.order_law.specs.declared.edges.Edge.{Edge}
 use Rattle.order_law.specs.declared.edges.EdgeKind.{EdgeKind}
 use Rattle.order_law.specs.declared.edges.EdgeKind.TheVariants.{Raw, Waw, War}

@@ -23,7 +23,7 @@ use Rattle.jvm_model.specs.State.{State, started, next, ended, stuck_turn}
 use Rattle.jvm_model.specs.Step.{step, turn}
 use Rattle.jvm_model.specs.Reached.{thrown_itself}
 use Rattle.jvm_model.proofs.OnLiterals.{machine_on_literals}
-use Rattle.jvm_model.proofs.ExampleParts.{program, class, body, fixed, plain, test, int_const, literal, static_int, get_static, put_static, returns, load_this, print, print_number, gets, sets, shown, passed, error, line}
+use Rattle.jvm_model.proofs.Examples.Parts.{program, class, body, fixed, plain, test, int_const, literal, static_int, get_static, put_static, returns, load_this, print, print_number, gets, sets, shown, passed, error, line}
 
 -- `<init>` that calls that of Object
 abbrev plain_init : List (ℕ × Instr)

@@ -6,9 +6,9 @@ use Rattle.jvm_model.specs.declared.outcome.Outcome.{Outcome}
 use Rattle.jvm_model.specs.declared.program.Program.{Program}
 use Rattle.jvm_model.specs.Suite.{is_detected, all_tests}
 use Rattle.jvm_model.specs.Linked.{Linked}
-use Rattle.jvm_model.proofs.ExampleParts.{passed, line}
-use Rattle.jvm_model.proofs.Examples.{counter_suite, return_suite}
-use Rattle.jvm_model.proofs.LinkedExample.{return_linked}
+use Rattle.jvm_model.proofs.Examples.Parts.{passed, line}
+use Rattle.jvm_model.proofs.Examples.Suites.{counter_suite, return_suite}
+use Rattle.jvm_model.proofs.Examples.Linked.{return_linked}
 use Rattle.order_law.specs.declared.edges.Edge.{Edge}
 use Rattle.order_law.specs.declared.edges.EdgeKind.{EdgeKind}
 use Rattle.order_law.specs.declared.edges.EdgeKind.TheVariants.{Raw, Waw, War}
@@ -21,7 +21,7 @@ use Rattle.order_law.proofs.OnLiterals.{records_on_literals}
 use Rattle.order_law.proofs.OrderFaults.{order_fault, lawful_list, before-true, before-from}
 use Rattle.order_law.proofs.Members.{joined_within}
 use Rattle.order_law.proofs.Posts.{ascending_from}
-use Rattle.order_law.proofs.RecordExamples.{edge_at, triple, links}
+use Rattle.order_law.proofs.Examples.Records.{edge_at, triple, links}
 
 -- read before write, and the suite of three writers and a reader
 abbrev read_write : List Edge

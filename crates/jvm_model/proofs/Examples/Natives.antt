@@ -22,7 +22,7 @@ use Rattle.jvm_model.specs.Rows.{Answer, answer, stuck_row}
 use Rattle.jvm_model.specs.Working.{Working}
 use Rattle.jvm_model.specs.Natives.{row_native}
 use Rattle.jvm_model.proofs.OnLiterals.{machine_on_literals}
-use Rattle.jvm_model.proofs.ExampleParts.{program, gets, sets, line}
+use Rattle.jvm_model.proofs.Examples.Parts.{program, gets, sets, line}
 
 -- the string constants 1 to 5; the last is an e with an acute accent and half of a surrogate pair
 abbrev texts : Program

@@ -12,7 +12,7 @@ pub const OUT: u32 = 0;
 /// Whether some code of the program puts the static `System.out`. Takes no memory.
 #[tactic(auto, using(std::proofs::lemmas::List::Folds::list_any_more))]
 pub fn puts_out(p: &Program) -> bool
-    ensures { result ≡ list_any (λ m. reach.body_puts_out m.body) p.now.methods }
+    ensures { result ≡ reach.puts_out_somewhere p.now }
 {
     let mut found = false;
     for method in p.methods.as_slice() {

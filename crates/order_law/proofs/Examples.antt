@@ -1,0 +1,3 @@
+-- The definitions at small records, computed.
+mod Records
+mod Lists
