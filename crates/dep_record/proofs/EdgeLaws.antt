@@ -63,7 +63,7 @@ one_more : (front : List Edge) (e : Edge) (found : Result (List Edge) ℕ) → e
 one_more front e (Ok es) = ap Ok (sym (append_assoc front (e ∷ []) es))
 one_more front e (Err n) = refl
 
-last_pushed : (front : List Edge) (e : Edge) → last_of (front ++ e ∷ []) ≡ Some e
+pub last_pushed : (front : List Edge) (e : Edge) → last_of (front ++ e ∷ []) ≡ Some e
 last_pushed front e = by front
   where
     at_length : (es : List Edge) → slice_get (es ++ e ∷ []) (length es) ≡ Some e

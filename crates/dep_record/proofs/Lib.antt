@@ -2,6 +2,7 @@ mod AppendLaws
 mod CutLaws
 mod DepsLaws
 mod EdgeLaws
+mod EdgeCount
 pub mod FieldLaws
 mod FoundLaws
 mod GivenFields

@@ -113,18 +113,6 @@ fn edge_in(
     }))
 }
 
-// The number of the line after so many conflicts. The form of a record is left long before there is no such number.
-fn line_number(first: u32, edges: usize) -> Result<u32, NoMemory>
-    requires { first ≤ 5000 }
-    ensures number { IfOk result (λ n. n ≡ first + edges) }
-    ensures small { IfOk result (λ n. n ≤ 4000005000) }
-{
-    if edges > 4_000_000_000 {
-        return Err(NoMemory {});
-    }
-    Ok(first + edges as u32)
-}
-
 // That nothing is left at line `n`.
 #[tactic(auto, using(crate::proofs::EdgeLaws::over_is))]
 fn over_at(n: u32, text: &[u8]) -> Result<(), RecordRefusal>
@@ -137,7 +125,8 @@ fn over_at(n: u32, text: &[u8]) -> Result<(), RecordRefusal>
     }
 }
 
-// The next conflict and the text after its line, or the end.
+// The next conflict and the text after its line, or the end. Each conflict comes after the one before it, so 1,024 tests
+// have fewer than 4,000,000.
 #[tactic(auto, unfolding(crate::specs::RecordReading::next_step))]
 fn step_at<'a>(
     alloc: Global,
@@ -146,12 +135,13 @@ fn step_at<'a>(
     first: u32,
     text: &'a [u8],
 ) -> Result<Option<(Edge, &'a [u8])>, RecordRefusal>
-    requires { first ≤ 5000 }
+    requires first { first ≤ 5000 }
+    requires few { length edges.now ≤ 4000000 }
     ensures gives { Gives (option_map (λ x. (x.0, pieces x.1.now))) result
         (reading.next_step tests (reading.last_of edges.now) (first + length edges.now) (pieces text.now)) }
     ensures shorter { IfOk result (λ o. IfSome o (λ x. length x.1.now < length text.now)) }
 {
-    let n = line_number(first, edges.len())?;
+    let n = first + edges.len() as u32;
     let (line, rest) = next_line(n, text)?;
     if line == b"end".as_slice() {
         over_at(n + 1, rest)?;
@@ -169,7 +159,8 @@ fn edges_at(
     first: u32,
     text: &[u8],
 ) -> Result<Items<Edge>, RecordRefusal>
-    requires { first ≤ 5000 }
+    requires tests { tests ≤ 1024 }
+    requires first { first ≤ 5000 }
     ensures { Gives same result (reading.edges_from tests None first (pieces text.now)) }
 {
     let mut edges = Items::new(alloc);

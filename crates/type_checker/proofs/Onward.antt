@@ -15,7 +15,7 @@ use Rattle.type_frames.specs.declared.stack_effect.StackEffect.{StackEffect}
 use Rattle.type_checker.specs.declared.judge.Step.TheVariants.{Faulty, Onward}
 use Rattle.type_checker.specs.declared.judge.Turned.{Turned}
 use Rattle.type_checker.specs.declared.judge.Turned.TheVariants as way
-use Rattle.type_checker.specs.Steps.{IsJudged, IsTurned, IsStep}
+use Rattle.type_checker.specs.Steps.{number_of, IsJudged, IsTurned, IsStep}
 
 pub at_start : (p : Program) (e : Environment) → Some (opening e) ≡ incoming p e 0
 unfolding incoming
@@ -61,5 +61,5 @@ at_end p name j e k h = ap (code_fault p name j e k) (drop_all k e.body.code h)
 
 pub turned_by : (p : Program) (e : Environment) (k : ℕ) (x : Placed) (f : Slots) (s : StackEffect) → s ≡ sides p e x.pc f x.form → (t : Turned) → IsJudged p e k x f s t → IsTurned p e k x (Some f) t
 turned_by p e k x f s q way.NoFrame h = absurd h
-turned_by p e k x f s q (way.Broken r) h = ap breach_of (subst (λ y. broken p e k x f y ≡ Some r) q h)
+turned_by p e k x f s q (way.Broken r) h = ap breach_of (subst (λ y. broken p e k x f y ≡ Some (number_of r)) q h)
 turned_by p e k x f s q (way.On g) h = (ap breach_of (subst (λ y. broken p e k x f y ≡ None) q h.0), h.1 ∙ ap (passed f) q)

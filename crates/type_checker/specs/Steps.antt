@@ -1,8 +1,10 @@
 -- What the parts of the walk over a method answer.
-use Rattle.std.specs.Prelude.{ℕ, List, Option, Some, None, ◌≡◌}
+use Rattle.std.specs.Prelude.{ℕ, List, Option, Some, None, map, ◌≡◌}
 use Rattle.jvm_model.specs.declared.program.Program.{Program}
 use Rattle.jvm_model.specs.declared.program.Placed.{Placed}
 use Rattle.type_frames.specs.declared.stack_effect.StackEffect.{StackEffect}
+use Rattle.type_frames.specs.declared.vtype.Frame.{Frame}
+use Rattle.type_frames.specs.Given.{given_frames}
 use Rattle.type_frames.specs.Frames.{Slots}
 use Rattle.type_frames.specs.Environment.{Environment}
 use Rattle.type_frames.specs.Rules.{broken}
@@ -11,17 +13,37 @@ use Rattle.type_checker.specs.declared.judge.Turned.{Turned}
 use Rattle.type_checker.specs.declared.judge.Turned.TheVariants as way
 use Rattle.type_checker.specs.declared.judge.Step.{Step}
 use Rattle.type_checker.specs.declared.judge.Step.TheVariants.{Faulty, Onward}
+use Rattle.type_checker.specs.declared.rule.Rule.{Rule}
+use Rattle.type_checker.specs.declared.rule.Rule.TheVariants as rules
+
+-- what the stack map of each method gives, in order
+abbrev pub stack_maps : Program → List (Option (List Frame))
+stack_maps p = map (given_frames p) p.methods
+
+-- the number by which a fault names a rule
+abbrev pub number_of : Rule → ℕ
+number_of rules.StackRoom = 1
+number_of rules.Operands = 2
+number_of rules.Locals = 3
+number_of rules.Targets = 4
+number_of rules.End = 5
+number_of rules.Return = 6
+number_of rules.Initialised = 7
+number_of rules.StackMap = 8
+number_of rules.Handlers = 9
+number_of rules.Arguments = 10
+number_of rules.Calls = 11
 
 -- with these sides: the lowest broken rule, or the frame that goes on
 abbrev pub IsJudged : Program → Environment → ℕ → Placed → Slots → StackEffect → Turned → Type 0
 IsJudged p e k x f s way.NoFrame = ⊥
-IsJudged p e k x f s (way.Broken r) = broken p e k x f s ≡ Some r
+IsJudged p e k x f s (way.Broken r) = broken p e k x f s ≡ Some (number_of r)
 IsJudged p e k x f s (way.On g) = (broken p e k x f s ≡ None) × (g ≡ passed f s)
 
 -- with the frame before the instruction, if there is one
 abbrev pub IsTurned : Program → Environment → ℕ → Placed → Option Slots → Turned → Type 0
 IsTurned p e k x f way.NoFrame = judged p e k x f ≡ Some no_frame
-IsTurned p e k x f (way.Broken r) = judged p e k x f ≡ Some (rule r)
+IsTurned p e k x f (way.Broken r) = judged p e k x f ≡ Some (rule (number_of r))
 IsTurned p e k x f (way.On g) = (judged p e k x f ≡ None) × (g ≡ passed_on p e f (Some x))
 
 abbrev pub IsStep : Program → Environment → List ℕ → ℕ → ℕ → Placed → Option Slots → Step → Type 0
@@ -29,6 +51,6 @@ IsStep p e name j k x f (Faulty c) = fault_of name j x.pc (judged p e k x f) ≡
 IsStep p e name j k x f (Onward g) = (fault_of name j x.pc (judged p e k x f) ≡ None) × (g ≡ passed_on p e f (Some x))
 
 -- no frame, or a broken rule
-abbrev pub breach : Option ℕ → Breach
+abbrev pub breach : Option Rule → Breach
 breach None = no_frame
-breach (Some r) = rule r
+breach (Some r) = rule (number_of r)

@@ -14,17 +14,17 @@ use type_frames::{Frame, LocalUpdate, StackEffect, Substitution, VType, copy_typ
 fn turn_one(
     alloc: Global,
     xs: &mut Vec<VType>,
-    i: usize,
+    index: usize,
     from: &VType,
     to: &VType,
 ) -> Result<(), NoMemory>
-    requires { i < length xs.old.items }
+    requires { index < length xs.old.items }
     ensures { OnOk result (xs.new.items ≡
-        slice_set xs.old.items i
-        (rules.turned_one from.now to.now (slice_index_or xs.old.items i types.Top))) }
+        slice_set xs.old.items index
+        (rules.turned_one from.now to.now (slice_index_or xs.old.items index types.Top))) }
 {
-    if same(&xs[i], from) {
-        xs[i] = copy_type(alloc, to)?;
+    if same(&xs[index], from) {
+        xs[index] = copy_type(alloc, to)?;
     }
     Ok(())
 }
@@ -47,21 +47,21 @@ fn turn_all(alloc: Global, xs: &mut Vec<VType>, turn: &Substitution) -> Result<(
     }
 }
 
-fn cut_long(xs: &mut Vec<VType>, n: usize)
-    ensures { xs.new.items ≡ rules.cut_long xs.old.items n }
+fn cut_long(xs: &mut Vec<VType>, local: usize)
+    ensures { xs.new.items ≡ rules.cut_long xs.old.items local }
 {
-    if n > 0 && n - 1 < xs.len() {
-        if same(&xs[n - 1], &VType::Long) {
-            xs[n - 1] = VType::Top;
+    if local > 0 && local - 1 < xs.len() {
+        if same(&xs[local - 1], &VType::Long) {
+            xs[local - 1] = VType::Top;
         }
     }
 }
 
-fn set_one(alloc: Global, xs: &mut Vec<VType>, s: &LocalUpdate) -> Result<(), NoMemory>
-    ensures { OnOk result (xs.new.items ≡ rules.set_one xs.old.items s.now) }
+fn set_one(alloc: Global, xs: &mut Vec<VType>, setting: &LocalUpdate) -> Result<(), NoMemory>
+    ensures { OnOk result (xs.new.items ≡ rules.set_one xs.old.items setting.now) }
 {
-    let n = s.local as usize;
-    let to = copy_type(alloc, &s.to)?;
+    let n = setting.local as usize;
+    let to = copy_type(alloc, &setting.to)?;
     cut_long(xs, n);
     if n < xs.len() {
         xs[n] = to;
@@ -116,39 +116,47 @@ fn turn_stack(alloc: Global, stack: &mut Vec<VType>, turn: &Substitution) -> Res
     turn_all(alloc, stack, turn)
 }
 
-fn stack_after(alloc: Global, stack: &mut Vec<VType>, s: &StackEffect) -> Result<(), NoMemory>
+fn stack_after(alloc: Global, stack: &mut Vec<VType>, effect: &StackEffect) -> Result<(), NoMemory>
     ensures { OnOk result (reverse stack.new.items ≡
-        s.now.gives ++
-        rules.turned s.now.turn (drop (length s.now.takes) (reverse stack.old.items))) }
+        effect.now.gives ++
+        rules.turned effect.now.turn (drop (length effect.now.takes) (reverse stack.old.items))) }
 {
-    take_off(stack, s.takes.len());
-    turn_stack(alloc, stack, &s.turn)?;
-    push_all(alloc, stack, s.gives.as_slice())
+    take_off(stack, effect.takes.len());
+    turn_stack(alloc, stack, &effect.turn)?;
+    push_all(alloc, stack, effect.gives.as_slice())
 }
 
-fn locals_after(alloc: Global, locals: &mut Vec<VType>, s: &StackEffect) -> Result<(), NoMemory>
+fn locals_after(
+    alloc: Global,
+    locals: &mut Vec<VType>,
+    effect: &StackEffect,
+) -> Result<(), NoMemory>
     ensures { OnOk result (locals.new.items ≡
-        rules.set_all (rules.turned s.now.turn locals.old.items) s.now.sets) }
+        rules.set_all (rules.turned effect.now.turn locals.old.items) effect.now.sets) }
 {
-    turn_all(alloc, locals, &s.turn)?;
-    set_all(alloc, locals, s.sets.as_slice())
+    turn_all(alloc, locals, &effect.turn)?;
+    set_all(alloc, locals, effect.sets.as_slice())
 }
 
 /// The frame after an instruction with these sides.
-pub(crate) fn after(alloc: Global, f: FrameType, s: &StackEffect) -> Result<FrameType, NoMemory>
-    ensures { IfOk result (λ g. g ≡ rules.after f s.now) }
+pub(crate) fn after(
+    alloc: Global,
+    frame: FrameType,
+    effect: &StackEffect,
+) -> Result<FrameType, NoMemory>
+    ensures { IfOk result (λ g. g ≡ rules.after frame effect.now) }
 {
     let FrameType {
         mut locals,
         mut stack,
         flag,
-    } = f;
-    locals_after(alloc, &mut locals, s)?;
-    stack_after(alloc, &mut stack, s)?;
+    } = frame;
+    locals_after(alloc, &mut locals, effect)?;
+    stack_after(alloc, &mut stack, effect)?;
     Ok(FrameType {
         locals,
         stack,
-        flag: flag_after(&s.turn, flag),
+        flag: flag_after(&effect.turn, flag),
     })
 }
 
@@ -164,25 +172,25 @@ fn copy_types(alloc: Global, types: &[VType]) -> Result<Vec<VType>, NoMemory>
 }
 
 /// The frame of the descriptor.
-pub(crate) fn opening(alloc: Global, e: &Context) -> Result<FrameType, NoMemory>
-    ensures { IfOk result (λ g. g ≡ rules.opening e.now) }
+pub(crate) fn opening(alloc: Global, context: &Context) -> Result<FrameType, NoMemory>
+    ensures { IfOk result (λ g. g ≡ rules.opening context.now) }
 {
-    let args = Items::from_vec(copy_types(alloc, e.args.as_slice())?);
-    let locals = padded(args, e.body.max_locals)?.into_vec();
+    let args = Items::from_vec(copy_types(alloc, context.args.as_slice())?);
+    let locals = padded(args, context.body.max_locals)?.into_vec();
     Ok(FrameType {
         locals,
         stack: Vec::new(alloc),
-        flag: e.starts,
+        flag: context.starts,
     })
 }
 
 /// A given frame as one that goes on.
-pub(crate) fn frame_type_of(alloc: Global, g: &Frame) -> Result<FrameType, NoMemory>
-    ensures { IfOk result (λ f. f ≡ slots_of g.now) }
+pub(crate) fn frame_type_of(alloc: Global, given: &Frame) -> Result<FrameType, NoMemory>
+    ensures { IfOk result (λ f. f ≡ slots_of given.now) }
 {
     Ok(FrameType {
-        locals: copy_types(alloc, g.locals.as_slice())?,
-        stack: copy_types(alloc, g.stack.as_slice())?,
-        flag: g.flag,
+        locals: copy_types(alloc, given.locals.as_slice())?,
+        stack: copy_types(alloc, given.stack.as_slice())?,
+        flag: given.flag,
     })
 }

@@ -96,51 +96,52 @@ pub(crate) fn push_number_type(types: &mut Items<VType>, wide: bool) -> Result<(
 
 // The type of a place of the stack, from its top; none past its end.
 #[tactic(auto, using(crate::proofs::Stacks::from_top, crate::proofs::Stacks::from_top_past))]
-fn type_at(f: &FrameType, n: usize) -> Option<&VType>
-    ensures { MatchOption result (place_of f.now n ≡ types.Top) (λ t. t.now ≡ place_of f.now n) }
+fn type_at(frame: &FrameType, place: usize) -> Option<&VType>
+    ensures { MatchOption result (place_of frame.now place ≡ types.Top)
+        (λ t. t.now ≡ place_of frame.now place) }
 {
-    let depth = f.stack.len();
-    if n < depth {
-        return Some(&f.stack[depth - 1 - n]);
+    let depth = frame.stack.len();
+    if place < depth {
+        return Some(&frame.stack[depth - 1 - place]);
     }
     None
 }
 
 /// The type of a place of the stack, from its top.
-pub(crate) fn place_of(alloc: Global, f: &FrameType, n: usize) -> Result<VType, NoMemory>
-    ensures { IfOk result (λ t. t ≡ place_of f.now n) }
+pub(crate) fn place_of(alloc: Global, frame: &FrameType, place: usize) -> Result<VType, NoMemory>
+    ensures { IfOk result (λ t. t ≡ place_of frame.now place) }
 {
-    match type_at(f, n) {
+    match type_at(frame, place) {
         None => Ok(VType::Top),
         Some(t) => copy_type(alloc, t),
     }
 }
 
 /// Whether a place of the stack is the second half of a long.
-pub(crate) fn is_half(f: &FrameType, n: usize) -> bool
-    ensures { result ≡ same (place_of f.now n) types.Top }
+pub(crate) fn is_half(frame: &FrameType, place: usize) -> bool
+    ensures { result ≡ same (place_of frame.now place) types.Top }
 {
-    match type_at(f, n) {
+    match type_at(frame, place) {
         None => true,
         Some(t) => same(t, &VType::Top),
     }
 }
 
 /// Whether a type is one of an uninitialised object.
-pub(crate) fn is_raw(t: &VType) -> bool
-    ensures { result ≡ is_raw t.now }
+pub(crate) fn is_raw(vtype: &VType) -> bool
+    ensures { result ≡ is_raw vtype.now }
 {
-    match t {
+    match vtype {
         VType::UninitThis | VType::Uninit { pc: _ } => true,
         _ => false,
     }
 }
 
 /// Whether a place of the stack is one of an uninitialised object.
-pub(crate) fn is_raw_at(f: &FrameType, n: usize) -> bool
-    ensures { result ≡ is_raw (place_of f.now n) }
+pub(crate) fn is_raw_at(frame: &FrameType, place: usize) -> bool
+    ensures { result ≡ is_raw (place_of frame.now place) }
 {
-    match type_at(f, n) {
+    match type_at(frame, place) {
         None => false,
         Some(t) => is_raw(t),
     }
@@ -150,13 +151,13 @@ pub(crate) fn is_raw_at(f: &FrameType, n: usize) -> bool
 pub(crate) fn push_moved(
     alloc: Global,
     types: &mut Items<VType>,
-    f: &FrameType,
+    frame: &FrameType,
     order: &[usize],
 ) -> Result<(), NoMemory>
-    ensures { OnOk result (types.new ≡ types.old ++ map (λ n. place_of f.now n) order.now) }
+    ensures { OnOk result (types.new ≡ types.old ++ map (λ n. place_of frame.now n) order.now) }
 {
     for n in order {
-        types.push(place_of(alloc, f, *n)?)?;
+        types.push(place_of(alloc, frame, *n)?)?;
     }
     Ok(())
 }
@@ -258,16 +259,16 @@ fn push_brackets(text: &mut Units, dims: u8) -> Result<(), NoMemory>
     Ok(())
 }
 
-fn push_class(p: &Program, text: &mut Units, class: u32) -> Result<(), NoMemory>
-    ensures { OnOk result (text.new ≡ text.old ++ base_text p.now (jvm.Class class)) }
+fn push_class(program: &Program, text: &mut Units, class: u32) -> Result<(), NoMemory>
+    ensures { OnOk result (text.new ≡ text.old ++ base_text program.now (jvm.Class class)) }
 {
     text.push(CLASS)?;
-    text.extend_from_slice(p.class_name(class))?;
+    text.extend_from_slice(program.class_name(class))?;
     text.push(SEMICOLON)
 }
 
-fn push_base(p: &Program, text: &mut Units, base: &Base) -> Result<(), NoMemory>
-    ensures { OnOk result (text.new ≡ text.old ++ base_text p.now base.now) }
+fn push_base(program: &Program, text: &mut Units, base: &Base) -> Result<(), NoMemory>
+    ensures { OnOk result (text.new ≡ text.old ++ base_text program.now base.now) }
 {
     match base {
         Base::Boolean => text.push(BOOLEAN),
@@ -276,31 +277,31 @@ fn push_base(p: &Program, text: &mut Units, base: &Base) -> Result<(), NoMemory>
         Base::Short => text.push(SHORT),
         Base::Int => text.push(INT),
         Base::Long => text.push(LONG),
-        Base::Class(class) => push_class(p, text, *class),
+        Base::Class(class) => push_class(program, text, *class),
     }
 }
 
 /// The name of a class, or the descriptor of an array.
-pub(crate) fn kind_name(alloc: Global, p: &Program, kind: &Kind) -> Result<Units, NoMemory>
-    ensures { IfOk result (λ name. name ≡ kind_name p.now kind.now) }
+pub(crate) fn kind_name(alloc: Global, program: &Program, kind: &Kind) -> Result<Units, NoMemory>
+    ensures { IfOk result (λ name. name ≡ kind_name program.now kind.now) }
 {
     match kind {
-        Kind::Class(class) => Items::from_slice(alloc, p.class_name(*class)),
+        Kind::Class(class) => Items::from_slice(alloc, program.class_name(*class)),
         Kind::Array { dims, base } => {
             let mut text = Items::new(alloc);
             push_brackets(&mut text, *dims)?;
-            push_base(p, &mut text, base)?;
+            push_base(program, &mut text, base)?;
             Ok(text)
         }
     }
 }
 
 /// The array type of one dimension over Object.
-pub(crate) fn objects_text(alloc: Global, p: &Program) -> Result<Units, NoMemory>
-    ensures { IfOk result (λ text. text ≡ objects_text p.now) }
+pub(crate) fn objects_text(alloc: Global, program: &Program) -> Result<Units, NoMemory>
+    ensures { IfOk result (λ text. text ≡ objects_text program.now) }
 {
     let mut text = Items::new(alloc);
     text.push(ARRAY)?;
-    push_class(p, &mut text, OBJECT)?;
+    push_class(program, &mut text, OBJECT)?;
     Ok(text)
 }

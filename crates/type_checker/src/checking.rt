@@ -6,17 +6,16 @@ ghost use Rattle.jvm_model.specs.Linked.{Linked};
 ghost use Rattle.type_frames.specs.declared.fault.CheckFault.TheVariants as faults;
 ghost use Rattle.type_frames.specs.Descriptors as descriptors;
 ghost use Rattle.std.specs.List.{list_any};
-ghost use Rattle.type_frames.specs.Typing as typing;
 ghost use Rattle.type_frames.specs.Typing.{IsTyped, all_frames, check_fault, class_fault, classes_fault, fields_fault, given_classes, is_native, is_unserved, members_fault, methods_fault, unsupported_field, unsupported_method};
 
-use crate::walk::method_fault;
+use crate::maps::Mapped;
 use et_base::letters::{ARRAY, DOUBLE, FLOAT, VOID};
 use et_base::{Items, NoMemory, Units};
 use jvm_model::{
     BUILTIN_COUNT, CLINIT, ClassRec, FieldRec, MethodRec, Program, parameters, return_type,
 };
 use std::alloc::Global;
-use type_frames::{CheckFault, Checked, Frame, given_frames};
+use type_frames::{CheckFault, Checked, Frame};
 
 // The letter of the innermost element type of a type.
 fn element_letter(text: &[u16]) -> u16
@@ -62,41 +61,44 @@ fn unsupported(alloc: Global, class: &[u16], member: &[u16]) -> Result<CheckFaul
 
 fn unsupported_field(
     alloc: Global,
-    c: &ClassRec,
-    x: &FieldRec,
+    class: &ClassRec,
+    field: &FieldRec,
 ) -> Result<Option<CheckFault>, NoMemory>
-    ensures { IfOk result (λ o. o ≡ unsupported_field c.now x.now) }
+    ensures { IfOk result (λ o. o ≡ unsupported_field class.now field.now) }
 {
-    if is_float(x.descriptor.as_slice()) {
-        return Ok(Some(unsupported(alloc, c.name.as_slice(), x.name.as_slice())?));
+    if is_float(field.descriptor.as_slice()) {
+        return Ok(Some(unsupported(alloc, class.name.as_slice(), field.name.as_slice())?));
     }
     Ok(None)
 }
 
 // An interface method with code, other than `<clinit>`, that is private or of a class file of version 50 or 51.
-fn is_unserved(c: &ClassRec, m: &MethodRec) -> bool
-    ensures { result ≡ is_unserved c.now m.now }
+fn is_unserved(class: &ClassRec, method: &MethodRec) -> bool
+    ensures { result ≡ is_unserved class.now method.now }
 {
-    m.has_code()
-        && (c.is_interface()
-            && (m.name.as_slice() != CLINIT.as_slice() && (m.is_private() || c.version < 52)))
+    method.has_code()
+        && (class.is_interface()
+            && (method.name.as_slice() != CLINIT.as_slice()
+                && (method.is_private() || class.version < 52)))
 }
 
-fn is_native(m: &MethodRec) -> bool
-    ensures { result ≡ is_native m.now.flags }
+fn is_native(method: &MethodRec) -> bool
+    ensures { result ≡ is_native method.now.flags }
 {
-    m.flags / 0x0100 % 2 == 1
+    method.flags / 0x0100 % 2 == 1
 }
 
 fn unsupported_method(
     alloc: Global,
-    c: &ClassRec,
-    m: &MethodRec,
+    class: &ClassRec,
+    method: &MethodRec,
 ) -> Result<Option<CheckFault>, NoMemory>
-    ensures { IfOk result (λ o. o ≡ unsupported_method c.now m.now) }
+    ensures { IfOk result (λ o. o ≡ unsupported_method class.now method.now) }
 {
-    if has_float(alloc, m.descriptor.as_slice())? || (is_native(m) || is_unserved(c, m)) {
-        return Ok(Some(unsupported(alloc, c.name.as_slice(), m.name.as_slice())?));
+    if has_float(alloc, method.descriptor.as_slice())?
+        || (is_native(method) || is_unserved(class, method))
+    {
+        return Ok(Some(unsupported(alloc, class.name.as_slice(), method.name.as_slice())?));
     }
     Ok(None)
 }
@@ -104,66 +106,59 @@ fn unsupported_method(
 // The fault of the field of a number, if it has one; of a member in the two functions after it.
 fn field_fault(
     alloc: Global,
-    p: &Program,
-    c: &ClassRec,
+    program: &Program,
+    class: &ClassRec,
     field: u32,
 ) -> Result<Option<CheckFault>, NoMemory>
-    ensures { IfOk result (λ o. o ≡ unsupported_field c.now (classes.field_at p.now field)) }
+    ensures { IfOk result (λ o.
+        o ≡ unsupported_field class.now (classes.field_at program.now field)) }
 {
-    match p.field(field) {
+    match program.field(field) {
         None => Ok(None),
-        Some(x) => unsupported_field(alloc, c, x),
+        Some(x) => unsupported_field(alloc, class, x),
     }
 }
 
 #[tactic(auto, unfolding(jvm_model::specs::Descriptors::parameters, jvm_model::specs::Descriptors::return_type))]
 fn member_fault(
     alloc: Global,
-    p: &Program,
-    c: &ClassRec,
-    method: u32,
-) -> Result<Option<CheckFault>, NoMemory>
-    ensures { IfOk result (λ o. o ≡ unsupported_method c.now (classes.method_at p.now method)) }
-{
-    match p.method(method) {
-        None => Ok(None),
-        Some(m) => unsupported_method(alloc, c, m),
-    }
-}
-
-#[tactic(auto, unfolding(type_frames::specs::Typing::method_fault))]
-fn numbered_fault(
-    alloc: Global,
-    p: &Program,
-    name: &[u16],
-    number: u32,
+    program: &Program,
+    class: &ClassRec,
     method: u32,
 ) -> Result<Option<CheckFault>, NoMemory>
     ensures { IfOk result (λ o.
-        o ≡ typing.method_fault p.now name.now number (classes.method_at p.now method)) }
+        o ≡ unsupported_method class.now (classes.method_at program.now method)) }
 {
-    match p.method(method) {
+    match program.method(method) {
         None => Ok(None),
-        Some(m) => method_fault(alloc, p, name, number, m),
+        Some(m) => unsupported_method(alloc, class, m),
     }
 }
 
-fn fields_fault(alloc: Global, p: &Program, c: &ClassRec) -> Result<Option<CheckFault>, NoMemory>
-    ensures { IfOk result (λ o. o ≡ fields_fault p.now c.now c.now.fields) }
+fn fields_fault(
+    alloc: Global,
+    program: &Program,
+    class: &ClassRec,
+) -> Result<Option<CheckFault>, NoMemory>
+    ensures { IfOk result (λ o. o ≡ fields_fault program.now class.now class.now.fields) }
 {
-    for n in c.fields.as_slice() {
-        if let Some(fault) = field_fault(alloc, p, c, *n)? {
+    for n in class.fields.as_slice() {
+        if let Some(fault) = field_fault(alloc, program, class, *n)? {
             return Ok(Some(fault));
         }
     }
     Ok(None)
 }
 
-fn members_fault(alloc: Global, p: &Program, c: &ClassRec) -> Result<Option<CheckFault>, NoMemory>
-    ensures { IfOk result (λ o. o ≡ members_fault p.now c.now c.now.methods) }
+fn members_fault(
+    alloc: Global,
+    program: &Program,
+    class: &ClassRec,
+) -> Result<Option<CheckFault>, NoMemory>
+    ensures { IfOk result (λ o. o ≡ members_fault program.now class.now class.now.methods) }
 {
-    for n in c.methods.as_slice() {
-        if let Some(fault) = member_fault(alloc, p, c, *n)? {
+    for n in class.methods.as_slice() {
+        if let Some(fault) = member_fault(alloc, program, class, *n)? {
             return Ok(Some(fault));
         }
     }
@@ -171,12 +166,16 @@ fn members_fault(alloc: Global, p: &Program, c: &ClassRec) -> Result<Option<Chec
 }
 
 // Methods are numbered from 1. A class of more than a u32 counts is none that memory holds.
-fn methods_fault(alloc: Global, p: &Program, c: &ClassRec) -> Result<Option<CheckFault>, NoMemory>
-    ensures { IfOk result (λ o. o ≡ methods_fault p.now c.now.name 1 c.now.methods) }
+fn methods_fault(
+    alloc: Global,
+    mapped: &Mapped,
+    class: &ClassRec,
+) -> Result<Option<CheckFault>, NoMemory>
+    ensures { IfOk result (λ o. o ≡ methods_fault mapped.now class.now.name 1 class.now.methods) }
 {
     let mut number: u32 = 1;
-    for n in c.methods.as_slice() {
-        if let Some(fault) = numbered_fault(alloc, p, c.name.as_slice(), number, *n)? {
+    for n in class.methods.as_slice() {
+        if let Some(fault) = mapped.method_fault(alloc, class.name.as_slice(), number, *n)? {
             return Ok(Some(fault));
         }
         let Some(next) = number.checked_add(1) else {
@@ -188,24 +187,28 @@ fn methods_fault(alloc: Global, p: &Program, c: &ClassRec) -> Result<Option<Chec
 }
 
 #[tactic(auto, unfolding(type_frames::specs::Typing::class_fault))]
-fn class_fault(alloc: Global, p: &Program, c: &ClassRec) -> Result<Option<CheckFault>, NoMemory>
-    ensures { IfOk result (λ o. o ≡ class_fault p.now c.now) }
+fn class_fault(
+    alloc: Global,
+    mapped: &Mapped,
+    class: &ClassRec,
+) -> Result<Option<CheckFault>, NoMemory>
+    ensures { IfOk result (λ o. o ≡ class_fault mapped.now class.now) }
 {
-    if let Some(fault) = fields_fault(alloc, p, c)? {
+    if let Some(fault) = fields_fault(alloc, mapped.program, class)? {
         return Ok(Some(fault));
     }
-    if let Some(fault) = members_fault(alloc, p, c)? {
+    if let Some(fault) = members_fault(alloc, mapped.program, class)? {
         return Ok(Some(fault));
     }
-    methods_fault(alloc, p, c)
+    methods_fault(alloc, mapped, class)
 }
 
 // The classes of the suite's files.
 #[tactic(auto, using(crate::proofs::Typed::given_none, crate::proofs::Typed::given_rest))]
-fn given_classes(p: &Program) -> &[ClassRec]
-    ensures { result.now ≡ given_classes p.now }
+fn given_classes(program: &Program) -> &[ClassRec]
+    ensures { result.now ≡ given_classes program.now }
 {
-    let classes = p.classes.as_slice();
+    let classes = program.classes.as_slice();
     let builtin = BUILTIN_COUNT as usize;
     if classes.len() < builtin {
         return &[];
@@ -216,13 +219,13 @@ fn given_classes(p: &Program) -> &[ClassRec]
 
 fn classes_fault(
     alloc: Global,
-    p: &Program,
+    mapped: &Mapped,
     cs: &[ClassRec],
 ) -> Result<Option<CheckFault>, NoMemory>
-    ensures { IfOk result (λ o. o ≡ classes_fault p.now cs.now) }
+    ensures { IfOk result (λ o. o ≡ classes_fault mapped.now cs.now) }
 {
     for c in cs {
-        if let Some(fault) = class_fault(alloc, p, c)? {
+        if let Some(fault) = class_fault(alloc, mapped, c)? {
             return Ok(Some(fault));
         }
     }
@@ -230,57 +233,36 @@ fn classes_fault(
 }
 
 #[tactic(auto, unfolding(type_frames::specs::Typing::check_fault))]
-fn first_fault(alloc: Global, p: &Program) -> Result<Option<CheckFault>, NoMemory>
-    ensures { IfOk result (λ o. o ≡ check_fault p.now) }
+fn first_fault(alloc: Global, mapped: &Mapped) -> Result<Option<CheckFault>, NoMemory>
+    ensures { IfOk result (λ o. o ≡ check_fault mapped.now) }
 {
-    classes_fault(alloc, p, given_classes(p))
-}
-
-// The given frames of a method, none of one whose stack map is malformed.
-fn frames_or_none(alloc: Global, p: &Program, m: &MethodRec) -> Result<Items<Frame>, NoMemory>
-    ensures { IfOk result (λ gs. gs ≡ typing.frames_or_none p.now m.now) }
-{
-    match given_frames(alloc, p, m)? {
-        None => Ok(Items::new(alloc)),
-        Some(frames) => Ok(frames),
-    }
-}
-
-// The given frames of all methods in order.
-#[tactic(auto, unfolding(type_frames::specs::Typing::all_frames))]
-fn all_frames(alloc: Global, p: &Program) -> Result<Items<Items<Frame>>, NoMemory>
-    ensures { IfOk result (λ all. all ≡ all_frames p.now) }
-{
-    let mut all = Items::new(alloc);
-    for m in p.methods.as_slice() {
-        all.push(frames_or_none(alloc, p, m)?)?;
-    }
-    Ok(all)
+    classes_fault(alloc, mapped, given_classes(mapped.program))
 }
 
 // The given frames of all methods, where the program has no fault.
-fn checked_frames(alloc: Global, p: &Program) -> Result<Items<Items<Frame>>, CheckFault>
-    ensures frames { IfOk result (λ all. all ≡ all_frames p.now) }
-    ensures none { IfOk result (λ _. check_fault p.now ≡ None) }
+fn checked_frames(alloc: Global, program: &Program) -> Result<Items<Items<Frame>>, CheckFault>
+    ensures frames { IfOk result (λ all. all ≡ all_frames program.now) }
+    ensures none { IfOk result (λ _. check_fault program.now ≡ None) }
     ensures fault { IfErr result (λ e.
-        (e ≡ faults.NoMemory → ⊥) → check_fault p.now ≡ Some e) }
+        (e ≡ faults.NoMemory → ⊥) → check_fault program.now ≡ Some e) }
 {
-    if let Some(fault) = first_fault(alloc, p)? {
+    let mapped = Mapped::new(alloc, program)?;
+    if let Some(fault) = first_fault(alloc, &mapped)? {
         return Err(fault);
     }
-    Ok(all_frames(alloc, p)?)
+    Ok(mapped.into_frames(alloc)?)
 }
 
 /// Checks a linked program by type checking with stack maps (JVMS 4.10.1). Ok comes exactly where the program is typed;
 /// otherwise the first fault is named: by class in suite order, in a class members that aren't supported first, then by
 /// method and place, and at a place `NoFrame` before the lowest rule that is broken.
 #[tactic(auto, using(crate::proofs::Typed::typed_none, crate::proofs::Typed::fault_untyped))]
-pub fn check(alloc: Global, p: Program) -> Result<Checked, CheckFault>
-    requires { Linked p }
-    ensures good { IfOk result (λ c. (c ≡ p) × IsTyped p) }
-    ensures untyped { IfErr result (λ e. (e ≡ faults.NoMemory → ⊥) → IsTyped p → ⊥) }
-    ensures fault { IfErr result (λ e. (e ≡ faults.NoMemory → ⊥) → check_fault p ≡ Some e) }
+pub fn check(alloc: Global, program: Program) -> Result<Checked, CheckFault>
+    requires { Linked program }
+    ensures good { IfOk result (λ c. (c ≡ program) × IsTyped program) }
+    ensures untyped { IfErr result (λ e. (e ≡ faults.NoMemory → ⊥) → IsTyped program → ⊥) }
+    ensures fault { IfErr result (λ e. (e ≡ faults.NoMemory → ⊥) → check_fault program ≡ Some e) }
 {
-    let frames = checked_frames(alloc, &p)?;
-    Ok(Checked::new(p, frames))
+    let frames = checked_frames(alloc, &program)?;
+    Ok(Checked::new(program, frames))
 }

@@ -25,7 +25,7 @@ pub(crate) struct Context<'a> {
     pub args: Items<VType>,
     pub result: Items<VType>,
     pub body: &'a Body,
-    pub given: Items<Frame>,
+    pub given: &'a [Frame],
     marks: Marks,
 }
 
@@ -44,9 +44,9 @@ impl<'a> Model for Context<'a> {
 
     ghost Value = { environments.Environment };
 
-    ghost view = { λ e. record { class = e.class; starts = e.starts; args = e.args; result = e.result; body = e.body.now; given = e.given } };
+    ghost view = { λ e. record { class = e.class; starts = e.starts; args = e.args; result = e.result; body = e.body.now; given = e.given.now } };
 
-    ghost invariant = { λ e. (e.marks.code ≡ maps.places e.body.now.code) × (e.marks.frames ≡ map (λ g. g.pc) e.given) × (e.marks.targets ≡ environments.targets e.body.now) };
+    ghost invariant = { λ e. (e.marks.code ≡ maps.places e.body.now.code) × (e.marks.frames ≡ map (λ g. g.pc) e.given.now) × (e.marks.targets ≡ environments.targets e.body.now) };
 }
 
 // The places of given frames.
@@ -97,11 +97,11 @@ fn push_seconds(places: &mut Vec<u32>, pairs: &[(i32, u32)]) -> Result<(), NoMem
 }
 
 // The places that a branch or a handler leads to.
-fn body_targets(alloc: Global, b: &Body) -> Result<Vec<u32>, NoMemory>
-    ensures { IfOk result (λ v. v.items ≡ targets b.now) }
+fn body_targets(alloc: Global, body: &Body) -> Result<Vec<u32>, NoMemory>
+    ensures { IfOk result (λ v. v.items ≡ targets body.now) }
 {
-    let mut places = branch_targets(alloc, b.code.as_slice())?;
-    for h in b.handlers.as_slice() {
+    let mut places = branch_targets(alloc, body.code.as_slice())?;
+    for h in body.handlers.as_slice() {
         places.push(h.at)?;
     }
     Ok(places)
@@ -117,55 +117,59 @@ fn branch_targets(alloc: Global, code: &[Placed]) -> Result<Vec<u32>, NoMemory>
     Ok(places)
 }
 
-fn marks_of(alloc: Global, b: &Body, given: &[Frame]) -> Result<Marks, NoMemory>
-    ensures code { IfOk result (λ m. m.code ≡ maps.places b.now.code) }
+fn marks_of(alloc: Global, body: &Body, given: &[Frame]) -> Result<Marks, NoMemory>
+    ensures code { IfOk result (λ m. m.code ≡ maps.places body.now.code) }
     ensures frames { IfOk result (λ m. m.frames ≡ map (λ g. g.pc) given.now) }
-    ensures targets { IfOk result (λ m. m.targets ≡ targets b.now) }
+    ensures targets { IfOk result (λ m. m.targets ≡ targets body.now) }
 {
-    let bound = b.length as usize;
-    let code = Places::new(alloc, bound, code_places(alloc, b.code.as_slice())?)?;
+    let bound = body.length as usize;
+    let code = Places::new(alloc, bound, code_places(alloc, body.code.as_slice())?)?;
     let frames = Places::new(alloc, bound, frame_places(alloc, given)?)?;
     Ok(Marks {
         code,
         frames,
-        targets: Places::new(alloc, bound, body_targets(alloc, b)?)?,
+        targets: Places::new(alloc, bound, body_targets(alloc, body)?)?,
     })
 }
 
 // The places of the locals that a method begins with.
-fn argument_types(alloc: Global, p: &Program, m: &MethodRec) -> Result<Items<VType>, NoMemory>
-    ensures { IfOk result (λ ts. ts ≡ spread (entry_types p.now m.now)) }
+fn argument_types(
+    alloc: Global,
+    program: &Program,
+    method: &MethodRec,
+) -> Result<Items<VType>, NoMemory>
+    ensures { IfOk result (λ ts. ts ≡ spread (entry_types program.now method.now)) }
 {
-    spread(alloc, entry_types(alloc, p, m)?.as_slice())
+    spread(alloc, entry_types(alloc, program, method)?.as_slice())
 }
 
 // The type that a method returns, none for void.
-fn result_types(alloc: Global, m: &MethodRec) -> Result<Items<VType>, NoMemory>
-    ensures { IfOk result (λ ts. ts ≡ types_of (return_type m.now.descriptor)) }
+fn result_types(alloc: Global, method: &MethodRec) -> Result<Items<VType>, NoMemory>
+    ensures { IfOk result (λ ts. ts ≡ types_of (return_type method.now.descriptor)) }
 {
     let mut types = Items::new(alloc);
-    push_types(alloc, &mut types, return_type(m.descriptor.as_slice()))?;
+    push_types(alloc, &mut types, return_type(method.descriptor.as_slice()))?;
     Ok(types)
 }
 
 /// The context of a method with this code and these given frames.
 pub(crate) fn context_of<'a>(
     alloc: Global,
-    p: &Program,
-    m: &MethodRec,
-    b: &'a Body,
-    given: Items<Frame>,
+    program: &Program,
+    method: &MethodRec,
+    body: &'a Body,
+    given: &'a [Frame],
 ) -> Result<Context<'a>, NoMemory>
-    ensures { IfOk result (λ e. e ≡ environment_of p.now m.now b.now given) }
+    ensures { IfOk result (λ e. e ≡ environment_of program.now method.now body.now given.now) }
 {
-    let marks = marks_of(alloc, b, given.as_slice())?;
-    let args = argument_types(alloc, p, m)?;
+    let marks = marks_of(alloc, body, given)?;
+    let args = argument_types(alloc, program, method)?;
     Ok(Context {
-        class: m.class,
-        starts: is_constructor(m),
+        class: method.class,
+        starts: is_constructor(method),
         args,
-        result: result_types(alloc, m)?,
-        body: b,
+        result: result_types(alloc, method)?,
+        body,
         given,
         marks,
     })
@@ -173,33 +177,34 @@ pub(crate) fn context_of<'a>(
 
 /// The frame that is given at a place.
 #[tactic(auto, unfolding(type_frames::specs::Environment::given_at))]
-pub(crate) fn given_at<'a>(e: &'a Context, pc: u32) -> Option<&'a Frame>
-    ensures { MatchOption result (given_at e.now pc ≡ None) (λ g. given_at e.now pc ≡ Some g.now) }
+pub(crate) fn given_at<'a>(context: &'a Context, pc: u32) -> Option<&'a Frame>
+    ensures { MatchOption result (given_at context.now pc ≡ None)
+        (λ g. given_at context.now pc ≡ Some g.now) }
 {
-    match e.marks.frames.find(u64::from(pc)) {
+    match context.marks.frames.find(u64::from(pc)) {
         None => None,
-        Some(index) => e.given.as_slice().get(index),
+        Some(index) => context.given.get(index),
     }
 }
 
 /// The class that the `new` at a place names, if there is one.
 #[tactic(auto, unfolding(type_frames::specs::Environment::made_at))]
-pub(crate) fn made_at(e: &Context, pc: u32) -> Option<u32>
-    ensures { result ≡ made_at e.now pc }
+pub(crate) fn made_at(context: &Context, pc: u32) -> Option<u32>
+    ensures { result ≡ made_at context.now pc }
 {
-    match e.marks.code.find(u64::from(pc)) {
+    match context.marks.code.find(u64::from(pc)) {
         None => None,
-        Some(index) => match e.body.code.as_slice().get(index) {
+        Some(index) => match context.body.code.as_slice().get(index) {
             None => None,
             Some(x) => class_made(x),
         },
     }
 }
 
-fn class_made(x: &Placed) -> Option<u32>
-    ensures { result ≡ class_made (Some x.now) }
+fn class_made(placed: &Placed) -> Option<u32>
+    ensures { result ≡ class_made (Some placed.now) }
 {
-    match x.form {
+    match placed.form {
         Instr::New { class } => Some(class),
         _ => None,
     }
@@ -207,8 +212,8 @@ fn class_made(x: &Placed) -> Option<u32>
 
 /// Whether a branch or a handler leads to a place.
 #[tactic(auto, unfolding(type_frames::specs::Environment::is_target))]
-pub(crate) fn is_target(e: &Context, pc: u32) -> bool
-    ensures { result ≡ is_target e.now pc }
+pub(crate) fn is_target(context: &Context, pc: u32) -> bool
+    ensures { result ≡ is_target context.now pc }
 {
-    e.marks.targets.find(u64::from(pc)).is_some()
+    context.marks.targets.find(u64::from(pc)).is_some()
 }

@@ -1,15 +1,19 @@
 //! One instruction judged, with the frame before it.
 
-ghost use Rattle.std.specs.Prelude.{◌≡◌, ◌<◌, IfOk, Some, length, map, slice_get};
+ghost use Rattle.std.specs.Prelude.{◌≡◌, ◌<◌, IfOk, Some, length, map, option_map, slice_get};
 ghost use Rattle.jvm_model.specs.declared.program.Placed.{Placed};
 ghost use Rattle.type_frames.specs.Rules.{first_broken, test};
 ghost use Rattle.type_frames.specs.Typing.{fault_of, taken_at};
-ghost use Rattle.type_checker.specs.Steps.{breach, IsJudged, IsStep, IsTurned};
+ghost use Rattle.type_checker.specs.Steps.{breach, number_of, IsJudged, IsStep, IsTurned};
 
 use crate::after::{after, frame_type_of};
 use crate::context::{Context, given_at, is_target};
 use crate::frame_type::FrameType;
-use crate::rules::{is_entered, leads_on, rule_1, rule_2, rule_3, rule_5, rule_9, rule_10};
+use crate::rule::Rule;
+use crate::rules::{
+    has_room, holds_arguments, is_entered, is_handled, leads_on, stays_within, takes_locals,
+    takes_operands,
+};
 use crate::sides::sides;
 use et_base::{Items, NoMemory};
 use jvm_model::{Placed, Program};
@@ -21,7 +25,7 @@ use type_frames::{CheckFault, StackEffect};
 #[derive(Drop)]
 pub(crate) enum Turned {
     NoFrame,
-    Broken { rule: u32 },
+    Broken { rule: Rule },
     On { next: Option<FrameType> },
 }
 
@@ -32,9 +36,10 @@ pub(crate) enum Step {
     Onward { next: Option<FrameType> },
 }
 
-/// The number of the first rule that isn't kept, of numbers with whether each is.
-fn first_broken(rules: &[(u32, bool)]) -> Option<u32>
-    ensures { result ≡ first_broken (map (λ x. test x.0 x.1) rules.now) }
+// The first rule that isn't kept, of rules with whether each is.
+fn first_broken(rules: &[(Rule, bool)]) -> Option<Rule>
+    ensures { option_map number_of result ≡
+        first_broken (map (λ x. test (number_of x.0) x.1) rules.now) }
 {
     match rules.split_first() {
         None => None,
@@ -52,78 +57,81 @@ fn first_broken(rules: &[(u32, bool)]) -> Option<u32>
 #[tactic(auto, unfolding(type_frames::specs::Rules::broken))]
 fn broken(
     alloc: Global,
-    p: &Program,
-    e: &Context,
-    k: usize,
-    x: &Placed,
-    f: FrameType,
-    s: &StackEffect,
+    program: &Program,
+    context: &Context,
+    index: usize,
+    placed: &Placed,
+    frame: FrameType,
+    effect: &StackEffect,
 ) -> Result<Turned, NoMemory>
-    requires { k < length e.now.body.code }
-    ensures { IfOk result (IsJudged p.now e.now k x.now f s.now) }
+    requires { index < length context.now.body.code }
+    ensures { IfOk result (IsJudged program.now context.now index placed.now frame effect.now) }
 {
-    let has_room = rule_1(e, &f, s);
-    let takes_operands = rule_2(p, &f, s);
-    let takes_locals = rule_3(p, e, &f, s);
-    let is_handled = rule_9(p, e, x, &f);
-    let is_entered = is_entered(alloc, p, e, k, x.pc)?;
-    let next = after(alloc, f, s)?;
+    let has_room = has_room(context, &frame, effect);
+    let takes_operands = takes_operands(program, &frame, effect);
+    let takes_locals = takes_locals(program, context, &frame, effect);
+    let is_handled = is_handled(program, context, placed, &frame);
+    let is_entered = is_entered(alloc, program, context, index, placed.pc)?;
+    let next = after(alloc, frame, effect)?;
+    let fits_targets = is_entered && leads_on(program, context, index, placed, &next, effect.falls);
     let rules = [
-        (1, has_room),
-        (2, takes_operands),
-        (3, takes_locals),
-        (4, is_entered && leads_on(p, e, k, x, &next, s.falls)),
-        (5, rule_5(e, k, s.falls)),
-        (6, s.returns_well),
-        (7, s.starts_well),
-        (9, is_handled),
-        (10, rule_10(e, k)),
-        (11, s.calls_well),
+        (Rule::StackRoom, has_room),
+        (Rule::Operands, takes_operands),
+        (Rule::Locals, takes_locals),
+        (Rule::Targets, fits_targets),
+        (Rule::End, stays_within(context, index, effect.falls)),
+        (Rule::Return, effect.returns_well),
+        (Rule::Initialised, effect.starts_well),
+        (Rule::Handlers, is_handled),
+        (Rule::Arguments, holds_arguments(context, index)),
+        (Rule::Calls, effect.calls_well),
     ];
     match first_broken(&rules) {
         Some(rule) => Ok(Turned::Broken { rule }),
-        None if s.falls => Ok(Turned::On { next: Some(next) }),
+        None if effect.falls => Ok(Turned::On { next: Some(next) }),
         None => Ok(Turned::On { next: None }),
     }
 }
 
 fn judge(
     alloc: Global,
-    p: &Program,
-    e: &Context,
-    k: usize,
-    x: &Placed,
-    f: FrameType,
+    program: &Program,
+    context: &Context,
+    index: usize,
+    placed: &Placed,
+    frame: FrameType,
 ) -> Result<Turned, NoMemory>
-    requires { k < length e.now.body.code }
-    ensures { IfOk result (IsTurned p.now e.now k x.now (Some f)) }
+    requires { index < length context.now.body.code }
+    ensures { IfOk result (IsTurned program.now context.now index placed.now (Some frame)) }
 {
-    let s = sides(alloc, p, e, x.pc, &f, &x.form)?;
-    broken(alloc, p, e, k, x, f, &s)
+    let effect = sides(alloc, program, context, placed.pc, &frame, &placed.form)?;
+    broken(alloc, program, context, index, placed, frame, &effect)
 }
 
 // Takes the frame given at the place, or the one that came in.
 fn turned_at(
     alloc: Global,
-    p: &Program,
-    e: &Context,
-    k: usize,
-    x: &Placed,
+    program: &Program,
+    context: &Context,
+    index: usize,
+    placed: &Placed,
     running: Option<FrameType>,
 ) -> Result<Turned, NoMemory>
-    requires { k < length e.now.body.code }
-    ensures { IfOk result (λ t. IsTurned p.now e.now k x.now (taken_at e.now x.now.pc running) t) }
+    requires { index < length context.now.body.code }
+    ensures { IfOk result (λ t.
+        IsTurned program.now context.now index placed.now
+        (taken_at context.now placed.now.pc running) t) }
 {
-    if let Some(g) = given_at(e, x.pc) {
-        let f = frame_type_of(alloc, g)?;
-        return judge(alloc, p, e, k, x, f);
+    if let Some(given) = given_at(context, placed.pc) {
+        let frame = frame_type_of(alloc, given)?;
+        return judge(alloc, program, context, index, placed, frame);
     }
-    if is_target(e, x.pc) {
+    if is_target(context, placed.pc) {
         return Ok(Turned::NoFrame);
     }
     match running {
         None => Ok(Turned::NoFrame),
-        Some(f) => judge(alloc, p, e, k, x, f),
+        Some(frame) => judge(alloc, program, context, index, placed, frame),
     }
 }
 
@@ -133,7 +141,7 @@ pub(crate) fn fault(
     name: &[u16],
     method: u32,
     pc: u32,
-    broken: Option<u32>,
+    broken: Option<Rule>,
 ) -> Result<CheckFault, NoMemory>
     ensures { IfOk result (λ c. fault_of name.now method pc (Some (breach broken)) ≡ Some c) }
 {
@@ -144,51 +152,55 @@ pub(crate) fn fault(
             class,
             method,
             pc,
-            rule,
+            rule: rule.number(),
         },
     })
 }
 
 fn named_step(
     alloc: Global,
-    p: &Program,
-    e: &Context,
+    program: &Program,
+    context: &Context,
     name: &[u16],
     method: u32,
-    k: usize,
-    x: &Placed,
+    index: usize,
+    placed: &Placed,
     running: Option<FrameType>,
 ) -> Result<Step, NoMemory>
-    requires { k < length e.now.body.code }
+    requires { index < length context.now.body.code }
     ensures { IfOk result (λ t.
-        IsStep p.now e.now name.now method k x.now (taken_at e.now x.now.pc running) t) }
+        IsStep program.now context.now name.now method index placed.now
+        (taken_at context.now placed.now.pc running) t) }
 {
-    match turned_at(alloc, p, e, k, x, running)? {
+    match turned_at(alloc, program, context, index, placed, running)? {
         Turned::NoFrame => Ok(Step::Faulty {
-            fault: fault(alloc, name, method, x.pc, None)?,
+            fault: fault(alloc, name, method, placed.pc, None)?,
         }),
         Turned::Broken { rule } => Ok(Step::Faulty {
-            fault: fault(alloc, name, method, x.pc, Some(rule))?,
+            fault: fault(alloc, name, method, placed.pc, Some(rule))?,
         }),
         Turned::On { next } => Ok(Step::Onward { next }),
     }
 }
 
-/// The step at the k-th instruction.
+/// The step at the instruction of this index.
 pub(crate) fn step_at(
     alloc: Global,
-    p: &Program,
-    e: &Context,
+    program: &Program,
+    context: &Context,
     name: &[u16],
     method: u32,
-    k: usize,
+    index: usize,
     running: Option<FrameType>,
 ) -> Result<Step, NoMemory>
-    requires { k < length e.now.body.code }
+    requires { index < length context.now.body.code }
     ensures { IfOk result (λ t.
-        (x : Placed) → slice_get e.now.body.code k ≡ Some x →
-        IsStep p.now e.now name.now method k x (taken_at e.now x.pc running) t) }
+        (x : Placed) → slice_get context.now.body.code index ≡ Some x →
+        IsStep program.now context.now name.now method index x
+        (taken_at context.now x.pc running) t) }
 {
-    let x = &e.body.code.as_slice()[k];
-    named_step(alloc, p, e, name, method, k, x, running)
+    let placed = &context.body.code.as_slice()[index];
+    named_step(
+        alloc, program, context, name, method, index, placed, running,
+    )
 }

@@ -26,43 +26,44 @@ use type_frames::{
     object_of, same,
 };
 
-pub(crate) fn reference(s: &mut StackEffect, f: &FrameType) -> Result<(), NoMemory>
-    requires { s.old ≡ plain [] [] }
-    ensures { OnOk result (s.new ≡ ref_sides (place_of f.now 0)) }
+pub(crate) fn reference(effect: &mut StackEffect, frame: &FrameType) -> Result<(), NoMemory>
+    requires { effect.old ≡ plain [] [] }
+    ensures { OnOk result (effect.new ≡ ref_sides (place_of frame.now 0)) }
 {
-    s.starts_well = !is_raw_at(f, 0);
-    s.takes.push(OperandConstraint::Ref)
+    effect.starts_well = !is_raw_at(frame, 0);
+    effect.takes.push(OperandConstraint::Ref)
 }
 
-pub(crate) fn references(s: &mut StackEffect, f: &FrameType) -> Result<(), NoMemory>
-    requires { s.old ≡ plain [] [] }
-    ensures { OnOk result (s.new ≡ refs_sides (place_of f.now 0) (place_of f.now 1)) }
+pub(crate) fn references(effect: &mut StackEffect, frame: &FrameType) -> Result<(), NoMemory>
+    requires { effect.old ≡ plain [] [] }
+    ensures { OnOk result (effect.new ≡ refs_sides (place_of frame.now 0) (place_of frame.now 1)) }
 {
-    s.starts_well = !is_raw_at(f, 0) && !is_raw_at(f, 1);
-    s.takes.push(OperandConstraint::Ref)?;
-    s.takes.push(OperandConstraint::Ref)
+    effect.starts_well = !is_raw_at(frame, 0) && !is_raw_at(frame, 1);
+    effect.takes.push(OperandConstraint::Ref)?;
+    effect.takes.push(OperandConstraint::Ref)
 }
 
-pub(crate) fn test_two(s: &mut StackEffect) -> Result<(), NoMemory>
-    requires { s.old ≡ plain [] [] }
-    ensures { OnOk result (s.new ≡ plain (int_need ++ int_need) []) }
+pub(crate) fn test_two(effect: &mut StackEffect) -> Result<(), NoMemory>
+    requires { effect.old ≡ plain [] [] }
+    ensures { OnOk result (effect.new ≡ plain (int_need ++ int_need) []) }
 {
-    push_int(&mut s.takes)?;
-    push_int(&mut s.takes)
+    push_int(&mut effect.takes)?;
+    push_int(&mut effect.takes)
 }
 
 /// A jump by a table.
-pub(crate) fn jump(s: &mut StackEffect) -> Result<(), NoMemory>
-    requires { s.old ≡ plain [] [] }
-    ensures { OnOk result (s.new ≡ leaving (plain int_need [])) }
+pub(crate) fn jump(effect: &mut StackEffect) -> Result<(), NoMemory>
+    requires { effect.old ≡ plain [] [] }
+    ensures { OnOk result (effect.new ≡ leaving (plain int_need [])) }
 {
-    s.falls = false;
-    push_int(&mut s.takes)
+    effect.falls = false;
+    push_int(&mut effect.takes)
 }
 
 // The needs of a return of another type than the descriptor has.
 fn push_returned(needs: &mut Items<OperandConstraint>, of: &Option<Sort>) -> Result<(), NoMemory>
-    ensures { OnOk result (needs.new ≡ needs.old ++ (return_typed (types.Top ∷ []) true of.now).takes) }
+    ensures { OnOk result (needs.new ≡
+        needs.old ++ (return_typed (types.Top ∷ []) true of.now).takes) }
 {
     match of {
         None => Ok(()),
@@ -75,280 +76,302 @@ fn push_returned(needs: &mut Items<OperandConstraint>, of: &Option<Sort>) -> Res
 // The sides of a return, by the type that the descriptor has; a list of types is none or one of them.
 fn return_typed(
     alloc: Global,
-    s: &mut StackEffect,
+    effect: &mut StackEffect,
     types: &[VType],
     early: bool,
     of: &Option<Sort>,
 ) -> Result<(), NoMemory>
-    requires { s.old ≡ plain [] [] }
-    ensures { OnOk result (s.new ≡ return_typed types.now early of.now) }
+    requires { effect.old ≡ plain [] [] }
+    ensures { OnOk result (effect.new ≡ return_typed types.now early of.now) }
 {
-    s.falls = false;
-    s.returns_well = !early;
+    effect.falls = false;
+    effect.returns_well = !early;
     match (types, of) {
         ([], None) => Ok(()),
-        ([VType::Int], Some(Sort::Int)) => push_int(&mut s.takes),
-        ([VType::Long], Some(Sort::Long)) => push_long(&mut s.takes),
+        ([VType::Int], Some(Sort::Int)) => push_int(&mut effect.takes),
+        ([VType::Long], Some(Sort::Long)) => push_long(&mut effect.takes),
         ([VType::Object(name)], Some(Sort::Ref)) => {
             let name = Items::from_slice(alloc, name.as_slice())?;
-            s.takes.push(OperandConstraint::Fits(VType::Object(name)))
+            effect
+                .takes
+                .push(OperandConstraint::Fits(VType::Object(name)))
         }
         _ => {
-            s.returns_well = false;
-            push_returned(&mut s.takes, of)
+            effect.returns_well = false;
+            push_returned(&mut effect.takes, of)
         }
     }
 }
 
 pub(crate) fn give_back(
     alloc: Global,
-    s: &mut StackEffect,
-    e: &Context,
-    f: &FrameType,
+    effect: &mut StackEffect,
+    context: &Context,
+    frame: &FrameType,
     of: &Option<Sort>,
 ) -> Result<(), NoMemory>
-    requires { s.old ≡ plain [] [] }
-    ensures { OnOk result (s.new ≡ return_sides e.now f.now of.now) }
+    requires { effect.old ≡ plain [] [] }
+    ensures { OnOk result (effect.new ≡ return_sides context.now frame.now of.now) }
 {
-    return_typed(alloc, s, e.result.as_slice(), e.starts && f.flag, of)
+    return_typed(
+        alloc,
+        effect,
+        context.result.as_slice(),
+        context.starts && frame.flag,
+        of,
+    )
 }
 
 pub(crate) fn get_static(
     alloc: Global,
-    s: &mut StackEffect,
-    p: &Program,
+    effect: &mut StackEffect,
+    program: &Program,
     field: u32,
 ) -> Result<(), NoMemory>
-    requires { s.old ≡ plain [] [] }
-    ensures { OnOk result (s.new ≡
-        plain [] (on_stack (types_of (field_at p.now field).descriptor))) }
+    requires { effect.old ≡ plain [] [] }
+    ensures { OnOk result (effect.new ≡
+        plain [] (on_stack (types_of (field_at program.now field).descriptor))) }
 {
-    s.gives = text_types(alloc, p.field_descriptor(field))?;
+    effect.gives = text_types(alloc, program.field_descriptor(field))?;
     Ok(())
 }
 
 // The need of an object of a class.
-fn object_need(alloc: Global, p: &Program, class: u32) -> Result<OperandConstraint, NoMemory>
-    ensures { IfOk result (λ n. n ≡ wants.Fits (object_of p.now class)) }
+fn object_need(alloc: Global, program: &Program, class: u32) -> Result<OperandConstraint, NoMemory>
+    ensures { IfOk result (λ n. n ≡ wants.Fits (object_of program.now class)) }
 {
-    Ok(OperandConstraint::Fits(object_of(alloc, p, class)?))
+    Ok(OperandConstraint::Fits(object_of(alloc, program, class)?))
 }
 
 pub(crate) fn get_field(
     alloc: Global,
-    s: &mut StackEffect,
-    p: &Program,
+    effect: &mut StackEffect,
+    program: &Program,
     named: u32,
     field: u32,
 ) -> Result<(), NoMemory>
-    requires { s.old ≡ plain [] [] }
-    ensures { OnOk result (s.new ≡
-        plain (wants.Fits (object_of p.now named) ∷ [])
-        (on_stack (types_of (field_at p.now field).descriptor))) }
+    requires { effect.old ≡ plain [] [] }
+    ensures { OnOk result (effect.new ≡
+        plain (wants.Fits (object_of program.now named) ∷ [])
+        (on_stack (types_of (field_at program.now field).descriptor))) }
 {
-    s.takes.push(object_need(alloc, p, named)?)?;
-    s.gives = text_types(alloc, p.field_descriptor(field))?;
+    effect.takes.push(object_need(alloc, program, named)?)?;
+    effect.gives = text_types(alloc, program.field_descriptor(field))?;
     Ok(())
 }
 
 // The object of a putfield: also an uninitialised `this`, where the named and the declaring class are the current one.
 fn owner_need(
     alloc: Global,
-    p: &Program,
-    e: &Context,
+    program: &Program,
+    context: &Context,
     named: u32,
     field: u32,
-    t: &VType,
+    vtype: &VType,
 ) -> Result<OperandConstraint, NoMemory>
-    ensures { IfOk result (λ n. n ≡ owner_need p.now e.now named (field_at p.now field) t.now) }
+    ensures { IfOk result (λ n.
+        n ≡ owner_need program.now context.now named (field_at program.now field) vtype.now) }
 {
-    if same(t, &VType::UninitThis) && (named == e.class && p.field_class(field) == e.class) {
+    if same(vtype, &VType::UninitThis)
+        && (named == context.class && program.field_class(field) == context.class)
+    {
         return Ok(OperandConstraint::Fits(VType::UninitThis));
     }
-    object_need(alloc, p, named)
+    object_need(alloc, program, named)
 }
 
 pub(crate) fn put_field(
     alloc: Global,
-    s: &mut StackEffect,
-    p: &Program,
-    e: &Context,
-    f: &FrameType,
+    effect: &mut StackEffect,
+    program: &Program,
+    context: &Context,
+    frame: &FrameType,
     named: u32,
     field: u32,
 ) -> Result<(), NoMemory>
-    requires { s.old ≡ plain [] [] }
-    ensures { OnOk result (s.new ≡
-        put_field_sides p.now e.now f.now named (field_at p.now field)) }
+    requires { effect.old ≡ plain [] [] }
+    ensures { OnOk result (effect.new ≡
+        put_field_sides program.now context.now frame.now named (field_at program.now field)) }
 {
-    push_needs(alloc, &mut s.takes, p.field_descriptor(field))?;
-    let t = place_of(alloc, f, s.takes.len())?;
-    s.takes.push(owner_need(alloc, p, e, named, field, &t)?)
+    push_needs(alloc, &mut effect.takes, program.field_descriptor(field))?;
+    let t = place_of(alloc, frame, effect.takes.len())?;
+    effect
+        .takes
+        .push(owner_need(alloc, program, context, named, field, &t)?)
 }
 
 /// A call without its receiver; `<clinit>` and `<init>` aren't called so.
 pub(crate) fn call(
     alloc: Global,
-    s: &mut StackEffect,
-    p: &Program,
+    effect: &mut StackEffect,
+    program: &Program,
     method: u32,
 ) -> Result<(), NoMemory>
-    requires { s.old ≡ plain [] [] }
-    ensures { OnOk result (s.new ≡ call_sides (method_at p.now method) []) }
+    requires { effect.old ≡ plain [] [] }
+    ensures { OnOk result (effect.new ≡ call_sides (method_at program.now method) []) }
 {
-    let descriptor = p.method_descriptor(method);
-    push_argument_needs(alloc, &mut s.takes, descriptor)?;
-    s.gives = result_types(alloc, descriptor)?;
-    let name = p.method_name(method);
-    s.calls_well = !(name == CLINIT.as_slice() || name == INIT.as_slice());
+    let descriptor = program.method_descriptor(method);
+    push_argument_needs(alloc, &mut effect.takes, descriptor)?;
+    effect.gives = result_types(alloc, descriptor)?;
+    let name = program.method_name(method);
+    effect.calls_well = !(name == CLINIT.as_slice() || name == INIT.as_slice());
     Ok(())
 }
 
 pub(crate) fn call_virtual(
     alloc: Global,
-    s: &mut StackEffect,
-    p: &Program,
+    effect: &mut StackEffect,
+    program: &Program,
     named: &Kind,
     method: u32,
 ) -> Result<(), NoMemory>
-    requires { s.old ≡ plain [] [] }
-    ensures { OnOk result (s.new ≡
-        call_sides (method_at p.now method)
-        (wants.Fits (types.Object (kind_name p.now named.now)) ∷ [])) }
+    requires { effect.old ≡ plain [] [] }
+    ensures { OnOk result (effect.new ≡
+        call_sides (method_at program.now method)
+        (wants.Fits (types.Object (kind_name program.now named.now)) ∷ [])) }
 {
-    call(alloc, s, p, method)?;
-    s.takes.push(OperandConstraint::Fits(VType::Object(kind_name(alloc, p, named)?)))
+    call(alloc, effect, program, method)?;
+    effect.takes.push(OperandConstraint::Fits(VType::Object(kind_name(alloc, program, named)?)))
 }
 
 pub(crate) fn call_interface(
     alloc: Global,
-    s: &mut StackEffect,
-    p: &Program,
+    effect: &mut StackEffect,
+    program: &Program,
     named: u32,
     method: u32,
 ) -> Result<(), NoMemory>
-    requires { s.old ≡ plain [] [] }
-    ensures { OnOk result (s.new ≡
-        call_sides (method_at p.now method) (wants.Fits (object_of p.now named) ∷ [])) }
+    requires { effect.old ≡ plain [] [] }
+    ensures { OnOk result (effect.new ≡
+        call_sides (method_at program.now method) (wants.Fits (object_of program.now named) ∷ [])) }
 {
-    call(alloc, s, p, method)?;
-    s.takes.push(object_need(alloc, p, named)?)
+    call(alloc, effect, program, method)?;
+    effect.takes.push(object_need(alloc, program, named)?)
 }
 
 // The receiver of invokespecial.
 fn special_need(
     alloc: Global,
-    p: &Program,
-    e: &Context,
+    program: &Program,
+    context: &Context,
     named: &Kind,
 ) -> Result<OperandConstraint, NoMemory>
-    ensures { IfOk result (λ n. n ≡ special_need p.now e.now named.now) }
+    ensures { IfOk result (λ n. n ≡ special_need program.now context.now named.now) }
 {
-    let other = VType::Object(kind_name(alloc, p, named)?);
-    if object_assignable(p, p.class_name(e.class), &other) {
-        return object_need(alloc, p, e.class);
+    let other = VType::Object(kind_name(alloc, program, named)?);
+    if object_assignable(program, program.class_name(context.class), &other) {
+        return object_need(alloc, program, context.class);
     }
     Ok(OperandConstraint::Never)
 }
 
-fn is_superclass(p: &Program, e: &Context, class: u32) -> bool
-    ensures { result ≡ is_that class (class_at p.now e.now.class).superclass }
+fn is_superclass(program: &Program, context: &Context, class: u32) -> bool
+    ensures { result ≡ is_that class (class_at program.now context.now.class).superclass }
 {
-    match p.superclass(e.class) {
+    match program.superclass(context.class) {
         None => false,
         Some(d) => class == d,
     }
 }
 
 // Whether an `<init>` of the class may start this.
-fn is_start(p: &Program, e: &Context, class: u32, t: &VType) -> bool
-    ensures { result ≡ is_start p.now e.now class t.now }
+fn is_start(program: &Program, context: &Context, class: u32, vtype: &VType) -> bool
+    ensures { result ≡ is_start program.now context.now class vtype.now }
 {
-    match t {
-        VType::Uninit { pc } => match made_at(e, *pc) {
+    match vtype {
+        VType::Uninit { pc } => match made_at(context, *pc) {
             None => false,
             Some(d) => class == d,
         },
-        VType::UninitThis => class == e.class || is_superclass(p, e, class),
+        VType::UninitThis => class == context.class || is_superclass(program, context, class),
         _ => false,
     }
 }
 
 fn started(
     alloc: Global,
-    p: &Program,
-    e: &Context,
+    program: &Program,
+    context: &Context,
     class: u32,
-    t: &VType,
+    vtype: &VType,
 ) -> Result<VType, NoMemory>
-    ensures { IfOk result (λ u. u ≡ started p.now e.now class t.now) }
+    ensures { IfOk result (λ u. u ≡ started program.now context.now class vtype.now) }
 {
-    match t {
-        VType::UninitThis => object_of(alloc, p, e.class),
-        _ => object_of(alloc, p, class),
+    match vtype {
+        VType::UninitThis => object_of(alloc, program, context.class),
+        _ => object_of(alloc, program, class),
     }
 }
 
 // The object that an `<init>` of the class starts.
 fn start(
     alloc: Global,
-    s: &mut StackEffect,
-    p: &Program,
-    e: &Context,
+    effect: &mut StackEffect,
+    program: &Program,
+    context: &Context,
     class: u32,
-    t: VType,
+    vtype: VType,
 ) -> Result<(), NoMemory>
-    ensures { OnOk result (s.new ≡
-        record s.old {
-          turn = turns.All t (started p.now e.now class t);
-          starts_well = is_start p.now e.now class t;
+    ensures { OnOk result (effect.new ≡
+        record effect.old {
+          turn = turns.All vtype (started program.now context.now class vtype);
+          starts_well = is_start program.now context.now class vtype;
         }) }
 {
-    s.starts_well = is_start(p, e, class, &t);
-    let to = started(alloc, p, e, class, &t)?;
-    s.turn = Substitution::All { from: t, to };
+    effect.starts_well = is_start(program, context, class, &vtype);
+    let to = started(alloc, program, context, class, &vtype)?;
+    effect.turn = Substitution::All { from: vtype, to };
     Ok(())
 }
 
 fn init(
     alloc: Global,
-    s: &mut StackEffect,
-    p: &Program,
-    e: &Context,
-    f: &FrameType,
+    effect: &mut StackEffect,
+    program: &Program,
+    context: &Context,
+    frame: &FrameType,
     method: u32,
 ) -> Result<(), NoMemory>
-    requires { s.old ≡ plain [] [] }
-    ensures { OnOk result (s.new ≡
-        init_sides p.now e.now f.now (method_at p.now method)
-        (place_of f.now (length (argument_needs (method_at p.now method).descriptor)))) }
+    requires { effect.old ≡ plain [] [] }
+    ensures { OnOk result (effect.new ≡
+        init_sides program.now context.now frame.now (method_at program.now method)
+        (place_of frame.now (length (argument_needs (method_at program.now method).descriptor)))) }
 {
-    let descriptor = p.method_descriptor(method);
-    push_argument_needs(alloc, &mut s.takes, descriptor)?;
-    let t = place_of(alloc, f, s.takes.len())?;
-    s.takes.push(OperandConstraint::Raw)?;
-    s.gives = result_types(alloc, descriptor)?;
-    start(alloc, s, p, e, p.method_class(method), t)
+    let descriptor = program.method_descriptor(method);
+    push_argument_needs(alloc, &mut effect.takes, descriptor)?;
+    let t = place_of(alloc, frame, effect.takes.len())?;
+    effect.takes.push(OperandConstraint::Raw)?;
+    effect.gives = result_types(alloc, descriptor)?;
+    start(
+        alloc,
+        effect,
+        program,
+        context,
+        program.method_class(method),
+        t,
+    )
 }
 
 pub(crate) fn call_special(
     alloc: Global,
-    s: &mut StackEffect,
-    p: &Program,
-    e: &Context,
-    f: &FrameType,
+    effect: &mut StackEffect,
+    program: &Program,
+    context: &Context,
+    frame: &FrameType,
     named: &Kind,
     method: u32,
 ) -> Result<(), NoMemory>
-    requires { s.old ≡ plain [] [] }
-    ensures { OnOk result (s.new ≡
-        special_sides p.now e.now f.now named.now (method_at p.now method)) }
+    requires { effect.old ≡ plain [] [] }
+    ensures { OnOk result (effect.new ≡
+        special_sides program.now context.now frame.now named.now (method_at program.now method)) }
 {
-    if p.method_name(method) == INIT.as_slice() {
-        return init(alloc, s, p, e, f, method);
+    if program.method_name(method) == INIT.as_slice() {
+        return init(alloc, effect, program, context, frame, method);
     }
-    call(alloc, s, p, method)?;
-    s.takes.push(special_need(alloc, p, e, named)?)
+    call(alloc, effect, program, method)?;
+    effect
+        .takes
+        .push(special_need(alloc, program, context, named)?)
 }
 
 // No place of the stack is what the `new` at this place made before.
@@ -358,10 +381,10 @@ fn is_unset(stack: &[VType], pc: u32) -> bool
     !holds_made(stack, pc)
 }
 
-fn is_made(t: &VType, pc: u32) -> bool
-    ensures { result ≡ same t.now (types.Uninit pc) }
+fn is_made(vtype: &VType, pc: u32) -> bool
+    ensures { result ≡ same vtype.now (types.Uninit pc) }
 {
-    match t {
+    match vtype {
         VType::Uninit { pc: place } => *place == pc,
         _ => false,
     }
@@ -373,21 +396,21 @@ fn holds_made(stack: &[VType], pc: u32) -> bool
     stack.iter().rev().any(|t| is_made(t, pc))
 }
 
-pub(crate) fn create(s: &mut StackEffect, f: &FrameType, pc: u32) -> Result<(), NoMemory>
-    requires { s.old ≡ plain [] [] }
-    ensures { OnOk result (s.new ≡ new_sides f.now pc) }
+pub(crate) fn create(effect: &mut StackEffect, frame: &FrameType, pc: u32) -> Result<(), NoMemory>
+    requires { effect.old ≡ plain [] [] }
+    ensures { OnOk result (effect.new ≡ new_sides frame.now pc) }
 {
-    s.turn = Substitution::All {
+    effect.turn = Substitution::All {
         from: VType::Uninit { pc },
         to: VType::Top,
     };
-    s.starts_well = is_unset(&f.stack, pc);
-    s.gives.push(VType::Uninit { pc })
+    effect.starts_well = is_unset(&frame.stack, pc);
+    effect.gives.push(VType::Uninit { pc })
 }
 
 // The array that a load or a store works on.
-fn array_need(alloc: Global, p: &Program, of: &Cell) -> Result<OperandConstraint, NoMemory>
-    ensures { IfOk result (λ n. n ≡ array_need p.now of.now) }
+fn array_need(alloc: Global, program: &Program, of: &Cell) -> Result<OperandConstraint, NoMemory>
+    ensures { IfOk result (λ n. n ≡ array_need program.now of.now) }
 {
     match of {
         Cell::Int => Ok(OperandConstraint::Fits(VType::Object(Items::from_slice(
@@ -398,7 +421,7 @@ fn array_need(alloc: Global, p: &Program, of: &Cell) -> Result<OperandConstraint
             alloc,
             &[ARRAY, LONG],
         )?))),
-        Cell::Ref => Ok(OperandConstraint::Fits(VType::Object(objects_text(alloc, p)?))),
+        Cell::Ref => Ok(OperandConstraint::Fits(VType::Object(objects_text(alloc, program)?))),
         Cell::Byte => Ok(OperandConstraint::Small),
         Cell::Char => Ok(OperandConstraint::Fits(VType::Object(Items::from_slice(
             alloc,
@@ -429,12 +452,12 @@ fn element_of(alloc: Global, name: &[u16]) -> Result<VType, NoMemory>
     }
 }
 
-fn element_type(alloc: Global, t: &VType) -> Result<VType, NoMemory>
-    ensures { IfOk result (λ u. u ≡ element_type t.now) }
+fn element_type(alloc: Global, vtype: &VType) -> Result<VType, NoMemory>
+    ensures { IfOk result (λ u. u ≡ element_type vtype.now) }
 {
-    match t {
+    match vtype {
         VType::Object(name) => element_of(alloc, name.as_slice()),
-        _ => copy_type(alloc, t),
+        _ => copy_type(alloc, vtype),
     }
 }
 
@@ -442,14 +465,14 @@ fn element_type(alloc: Global, t: &VType) -> Result<VType, NoMemory>
 fn push_loaded(
     alloc: Global,
     types: &mut Items<VType>,
-    f: &FrameType,
+    frame: &FrameType,
     of: &Cell,
 ) -> Result<(), NoMemory>
-    ensures { OnOk result (types.new ≡ types.old ++ loaded f.now of.now) }
+    ensures { OnOk result (types.new ≡ types.old ++ loaded frame.now of.now) }
 {
     match of {
         Cell::Long => push_long_type(types),
-        Cell::Ref => types.push(element_type(alloc, &place_of(alloc, f, 1)?)?),
+        Cell::Ref => types.push(element_type(alloc, &place_of(alloc, frame, 1)?)?),
         Cell::Int | Cell::Byte | Cell::Char | Cell::Short => types.push(VType::Int),
     }
 }
@@ -458,72 +481,76 @@ fn push_loaded(
 fn push_stored(
     alloc: Global,
     needs: &mut Items<OperandConstraint>,
-    p: &Program,
+    program: &Program,
     of: &Cell,
 ) -> Result<(), NoMemory>
-    ensures { OnOk result (needs.new ≡ needs.old ++ stored p.now of.now) }
+    ensures { OnOk result (needs.new ≡ needs.old ++ stored program.now of.now) }
 {
     match of {
         Cell::Long => push_long(needs),
-        Cell::Ref => needs.push(object_need(alloc, p, OBJECT)?),
+        Cell::Ref => needs.push(object_need(alloc, program, OBJECT)?),
         Cell::Int | Cell::Byte | Cell::Char | Cell::Short => push_int(needs),
     }
 }
 
 pub(crate) fn array_load(
     alloc: Global,
-    s: &mut StackEffect,
-    p: &Program,
-    f: &FrameType,
+    effect: &mut StackEffect,
+    program: &Program,
+    frame: &FrameType,
     of: &Cell,
 ) -> Result<(), NoMemory>
-    requires { s.old ≡ plain [] [] }
-    ensures { OnOk result (s.new ≡
-        plain (wants.Fits types.Int ∷ array_need p.now of.now ∷ []) (loaded f.now of.now)) }
+    requires { effect.old ≡ plain [] [] }
+    ensures { OnOk result (effect.new ≡
+        plain (wants.Fits types.Int ∷ array_need program.now of.now ∷ [])
+        (loaded frame.now of.now)) }
 {
-    push_int(&mut s.takes)?;
-    s.takes.push(array_need(alloc, p, of)?)?;
-    push_loaded(alloc, &mut s.gives, f, of)
+    push_int(&mut effect.takes)?;
+    effect.takes.push(array_need(alloc, program, of)?)?;
+    push_loaded(alloc, &mut effect.gives, frame, of)
 }
 
 pub(crate) fn array_store(
     alloc: Global,
-    s: &mut StackEffect,
-    p: &Program,
+    effect: &mut StackEffect,
+    program: &Program,
     of: &Cell,
 ) -> Result<(), NoMemory>
-    requires { s.old ≡ plain [] [] }
-    ensures { OnOk result (s.new ≡
-        plain (stored p.now of.now ++ (wants.Fits types.Int ∷ array_need p.now of.now ∷ [])) []) }
+    requires { effect.old ≡ plain [] [] }
+    ensures { OnOk result (effect.new ≡
+        plain (stored program.now of.now
+        ++ (wants.Fits types.Int ∷ array_need program.now of.now ∷ [])) []) }
 {
-    push_stored(alloc, &mut s.takes, p, of)?;
-    push_int(&mut s.takes)?;
-    s.takes.push(array_need(alloc, p, of)?)
+    push_stored(alloc, &mut effect.takes, program, of)?;
+    push_int(&mut effect.takes)?;
+    effect.takes.push(array_need(alloc, program, of)?)
 }
 
 // Appends the type of a class or an array.
 fn push_kind(
     alloc: Global,
     gives: &mut Items<VType>,
-    p: &Program,
+    program: &Program,
     kind: &Kind,
 ) -> Result<(), NoMemory>
-    ensures { OnOk result (gives.new ≡ gives.old ++ types.Object (kind_name p.now kind.now) ∷ []) }
+    ensures { OnOk result (gives.new ≡
+        gives.old ++ types.Object (kind_name program.now kind.now) ∷ []) }
 {
-    gives.push(VType::Object(kind_name(alloc, p, kind)?))
+    gives.push(VType::Object(kind_name(alloc, program, kind)?))
 }
 
 pub(crate) fn new_array(
     alloc: Global,
-    s: &mut StackEffect,
-    p: &Program,
+    effect: &mut StackEffect,
+    program: &Program,
     kind: &Kind,
 ) -> Result<(), NoMemory>
-    requires { s.old ≡ plain [] [] }
-    ensures { OnOk result (s.new ≡ plain int_need (types.Object (kind_name p.now kind.now) ∷ [])) }
+    requires { effect.old ≡ plain [] [] }
+    ensures { OnOk result (effect.new ≡
+        plain int_need (types.Object (kind_name program.now kind.now) ∷ [])) }
 {
-    push_int(&mut s.takes)?;
-    push_kind(alloc, &mut s.gives, p, kind)
+    push_int(&mut effect.takes)?;
+    push_kind(alloc, &mut effect.gives, program, kind)
 }
 
 fn push_ints(needs: &mut Items<OperandConstraint>, count: u8) -> Result<(), NoMemory>
@@ -537,55 +564,65 @@ fn push_ints(needs: &mut Items<OperandConstraint>, count: u8) -> Result<(), NoMe
 
 pub(crate) fn new_arrays(
     alloc: Global,
-    s: &mut StackEffect,
-    p: &Program,
+    effect: &mut StackEffect,
+    program: &Program,
     kind: &Kind,
     dims: u8,
 ) -> Result<(), NoMemory>
-    requires { s.old ≡ plain [] [] }
-    ensures { OnOk result (s.new ≡
+    requires { effect.old ≡ plain [] [] }
+    ensures { OnOk result (effect.new ≡
         plain (replicate dims (wants.Fits types.Int))
-        (types.Object (kind_name p.now kind.now) ∷ [])) }
+        (types.Object (kind_name program.now kind.now) ∷ [])) }
 {
-    push_ints(&mut s.takes, dims)?;
-    push_kind(alloc, &mut s.gives, p, kind)
+    push_ints(&mut effect.takes, dims)?;
+    push_kind(alloc, &mut effect.gives, program, kind)
 }
 
-pub(crate) fn array_length(s: &mut StackEffect) -> Result<(), NoMemory>
-    requires { s.old ≡ plain [] [] }
-    ensures { OnOk result (s.new ≡ plain (wants.Array ∷ []) int_type) }
+pub(crate) fn array_length(effect: &mut StackEffect) -> Result<(), NoMemory>
+    requires { effect.old ≡ plain [] [] }
+    ensures { OnOk result (effect.new ≡ plain (wants.Array ∷ []) int_type) }
 {
-    s.takes.push(OperandConstraint::Array)?;
-    s.gives.push(VType::Int)
+    effect.takes.push(OperandConstraint::Array)?;
+    effect.gives.push(VType::Int)
 }
 
-pub(crate) fn throw(alloc: Global, s: &mut StackEffect, p: &Program) -> Result<(), NoMemory>
-    requires { s.old ≡ plain [] [] }
-    ensures { OnOk result (s.new ≡ leaving (plain (wants.Fits (object_of p.now 7) ∷ []) [])) }
+pub(crate) fn throw(
+    alloc: Global,
+    effect: &mut StackEffect,
+    program: &Program,
+) -> Result<(), NoMemory>
+    requires { effect.old ≡ plain [] [] }
+    ensures { OnOk result (effect.new ≡
+        leaving (plain (wants.Fits (object_of program.now 7) ∷ []) [])) }
 {
-    s.falls = false;
-    s.takes.push(object_need(alloc, p, THROWABLE)?)
+    effect.falls = false;
+    effect.takes.push(object_need(alloc, program, THROWABLE)?)
 }
 
 pub(crate) fn cast(
     alloc: Global,
-    s: &mut StackEffect,
-    p: &Program,
+    effect: &mut StackEffect,
+    program: &Program,
     kind: &Kind,
 ) -> Result<(), NoMemory>
-    requires { s.old ≡ plain [] [] }
-    ensures { OnOk result (s.new ≡
-        plain (wants.Fits (object_of p.now 0) ∷ [])
-        (types.Object (kind_name p.now kind.now) ∷ [])) }
+    requires { effect.old ≡ plain [] [] }
+    ensures { OnOk result (effect.new ≡
+        plain (wants.Fits (object_of program.now 0) ∷ [])
+        (types.Object (kind_name program.now kind.now) ∷ [])) }
 {
-    s.takes.push(object_need(alloc, p, OBJECT)?)?;
-    push_kind(alloc, &mut s.gives, p, kind)
+    effect.takes.push(object_need(alloc, program, OBJECT)?)?;
+    push_kind(alloc, &mut effect.gives, program, kind)
 }
 
-pub(crate) fn instance_of(alloc: Global, s: &mut StackEffect, p: &Program) -> Result<(), NoMemory>
-    requires { s.old ≡ plain [] [] }
-    ensures { OnOk result (s.new ≡ plain (wants.Fits (object_of p.now 0) ∷ []) int_type) }
+pub(crate) fn instance_of(
+    alloc: Global,
+    effect: &mut StackEffect,
+    program: &Program,
+) -> Result<(), NoMemory>
+    requires { effect.old ≡ plain [] [] }
+    ensures { OnOk result (effect.new ≡
+        plain (wants.Fits (object_of program.now 0) ∷ []) int_type) }
 {
-    s.takes.push(object_need(alloc, p, OBJECT)?)?;
-    s.gives.push(VType::Int)
+    effect.takes.push(object_need(alloc, program, OBJECT)?)?;
+    effect.gives.push(VType::Int)
 }

@@ -17,81 +17,111 @@ use type_frames::{
     LocalUpdate, OperandConstraint, Reading, StackEffect, VType, copy_type, object_of,
 };
 
-pub(crate) fn dup(alloc: Global, s: &mut StackEffect, f: &FrameType) -> Result<(), NoMemory>
-    requires { s.old ≡ plain [] [] }
-    ensures { OnOk result (s.new ≡ dup_sides (place_of f.now 0)) }
+pub(crate) fn dup(
+    alloc: Global,
+    effect: &mut StackEffect,
+    frame: &FrameType,
+) -> Result<(), NoMemory>
+    requires { effect.old ≡ plain [] [] }
+    ensures { OnOk result (effect.new ≡ dup_sides (place_of frame.now 0)) }
 {
-    s.takes.push(OperandConstraint::One)?;
-    push_moved(alloc, &mut s.gives, f, &[0, 0])
+    effect.takes.push(OperandConstraint::One)?;
+    push_moved(alloc, &mut effect.gives, frame, &[0, 0])
 }
 
-pub(crate) fn dup_x1(alloc: Global, s: &mut StackEffect, f: &FrameType) -> Result<(), NoMemory>
-    requires { s.old ≡ plain [] [] }
-    ensures { OnOk result (s.new ≡ dup_x1_sides (place_of f.now 0) (place_of f.now 1)) }
+pub(crate) fn dup_x1(
+    alloc: Global,
+    effect: &mut StackEffect,
+    frame: &FrameType,
+) -> Result<(), NoMemory>
+    requires { effect.old ≡ plain [] [] }
+    ensures { OnOk result (effect.new ≡
+        dup_x1_sides (place_of frame.now 0) (place_of frame.now 1)) }
 {
-    push_two(&mut s.takes, false)?;
-    push_moved(alloc, &mut s.gives, f, &[0, 1, 0])
+    push_two(&mut effect.takes, false)?;
+    push_moved(alloc, &mut effect.gives, frame, &[0, 1, 0])
 }
 
-pub(crate) fn dup_x2(alloc: Global, s: &mut StackEffect, f: &FrameType) -> Result<(), NoMemory>
-    requires { s.old ≡ plain [] [] }
-    ensures { OnOk result (s.new ≡
-        dup_x2_sides (place_of f.now 0) (place_of f.now 1) (place_of f.now 2)) }
+pub(crate) fn dup_x2(
+    alloc: Global,
+    effect: &mut StackEffect,
+    frame: &FrameType,
+) -> Result<(), NoMemory>
+    requires { effect.old ≡ plain [] [] }
+    ensures { OnOk result (effect.new ≡
+        dup_x2_sides (place_of frame.now 0) (place_of frame.now 1) (place_of frame.now 2)) }
 {
-    s.takes.push(OperandConstraint::One)?;
-    push_two(&mut s.takes, is_half(f, 1))?;
-    push_moved(alloc, &mut s.gives, f, &[0, 1, 2, 0])
+    effect.takes.push(OperandConstraint::One)?;
+    push_two(&mut effect.takes, is_half(frame, 1))?;
+    push_moved(alloc, &mut effect.gives, frame, &[0, 1, 2, 0])
 }
 
-pub(crate) fn dup2(alloc: Global, s: &mut StackEffect, f: &FrameType) -> Result<(), NoMemory>
-    requires { s.old ≡ plain [] [] }
-    ensures { OnOk result (s.new ≡ dup2_sides (place_of f.now 0) (place_of f.now 1)) }
+pub(crate) fn dup2(
+    alloc: Global,
+    effect: &mut StackEffect,
+    frame: &FrameType,
+) -> Result<(), NoMemory>
+    requires { effect.old ≡ plain [] [] }
+    ensures { OnOk result (effect.new ≡ dup2_sides (place_of frame.now 0) (place_of frame.now 1)) }
 {
-    push_two(&mut s.takes, is_half(f, 0))?;
-    push_moved(alloc, &mut s.gives, f, &[0, 1, 0, 1])
+    push_two(&mut effect.takes, is_half(frame, 0))?;
+    push_moved(alloc, &mut effect.gives, frame, &[0, 1, 0, 1])
 }
 
-pub(crate) fn dup2_x1(alloc: Global, s: &mut StackEffect, f: &FrameType) -> Result<(), NoMemory>
-    requires { s.old ≡ plain [] [] }
-    ensures { OnOk result (s.new ≡
-        dup2_x1_sides (place_of f.now 0) (place_of f.now 1) (place_of f.now 2)) }
+pub(crate) fn dup2_x1(
+    alloc: Global,
+    effect: &mut StackEffect,
+    frame: &FrameType,
+) -> Result<(), NoMemory>
+    requires { effect.old ≡ plain [] [] }
+    ensures { OnOk result (effect.new ≡
+        dup2_x1_sides (place_of frame.now 0) (place_of frame.now 1) (place_of frame.now 2)) }
 {
-    push_two(&mut s.takes, is_half(f, 0))?;
-    s.takes.push(OperandConstraint::One)?;
-    push_moved(alloc, &mut s.gives, f, &[0, 1, 2, 0, 1])
+    push_two(&mut effect.takes, is_half(frame, 0))?;
+    effect.takes.push(OperandConstraint::One)?;
+    push_moved(alloc, &mut effect.gives, frame, &[0, 1, 2, 0, 1])
 }
 
-pub(crate) fn dup2_x2(alloc: Global, s: &mut StackEffect, f: &FrameType) -> Result<(), NoMemory>
-    requires { s.old ≡ plain [] [] }
-    ensures { OnOk result (s.new ≡
-        dup2_x2_sides (place_of f.now 0) (place_of f.now 1) (place_of f.now 2) (place_of f.now 3)) }
+pub(crate) fn dup2_x2(
+    alloc: Global,
+    effect: &mut StackEffect,
+    frame: &FrameType,
+) -> Result<(), NoMemory>
+    requires { effect.old ≡ plain [] [] }
+    ensures { OnOk result (effect.new ≡
+        dup2_x2_sides (place_of frame.now 0) (place_of frame.now 1)
+        (place_of frame.now 2) (place_of frame.now 3)) }
 {
-    push_two(&mut s.takes, is_half(f, 0))?;
-    push_two(&mut s.takes, is_half(f, 2))?;
-    push_moved(alloc, &mut s.gives, f, &[0, 1, 2, 3, 0, 1])
+    push_two(&mut effect.takes, is_half(frame, 0))?;
+    push_two(&mut effect.takes, is_half(frame, 2))?;
+    push_moved(alloc, &mut effect.gives, frame, &[0, 1, 2, 3, 0, 1])
 }
 
-pub(crate) fn swap(alloc: Global, s: &mut StackEffect, f: &FrameType) -> Result<(), NoMemory>
-    requires { s.old ≡ plain [] [] }
-    ensures { OnOk result (s.new ≡ swap_sides (place_of f.now 0) (place_of f.now 1)) }
+pub(crate) fn swap(
+    alloc: Global,
+    effect: &mut StackEffect,
+    frame: &FrameType,
+) -> Result<(), NoMemory>
+    requires { effect.old ≡ plain [] [] }
+    ensures { OnOk result (effect.new ≡ swap_sides (place_of frame.now 0) (place_of frame.now 1)) }
 {
-    push_two(&mut s.takes, false)?;
-    push_moved(alloc, &mut s.gives, f, &[1, 0])
+    push_two(&mut effect.takes, false)?;
+    push_moved(alloc, &mut effect.gives, frame, &[1, 0])
 }
 
 pub(crate) fn push_constant(
     alloc: Global,
     types: &mut Items<VType>,
-    p: &Program,
-    v: &Value,
+    program: &Program,
+    value: &Value,
 ) -> Result<(), NoMemory>
-    ensures { OnOk result (types.new ≡ types.old ++ const_type p.now v.now) }
+    ensures { OnOk result (types.new ≡ types.old ++ const_type program.now value.now) }
 {
-    match v {
+    match value {
         Value::Int(_) => types.push(VType::Int),
         Value::Long(_) => push_long_type(types),
         Value::Null => types.push(VType::Null),
-        Value::Lit(_) => types.push(object_of(alloc, p, STRING)?),
+        Value::Lit(_) => types.push(object_of(alloc, program, STRING)?),
         Value::Obj(_) => types.push(VType::Top),
     }
 }
@@ -108,49 +138,49 @@ fn push_second(needs: &mut Items<OperandConstraint>, op: &Op, wide: bool) -> Res
     }
 }
 
-pub(crate) fn binary(s: &mut StackEffect, op: &Op, wide: bool) -> Result<(), NoMemory>
-    requires { s.old ≡ plain [] [] }
-    ensures { OnOk result (s.new ≡
+pub(crate) fn binary(effect: &mut StackEffect, op: &Op, wide: bool) -> Result<(), NoMemory>
+    requires { effect.old ≡ plain [] [] }
+    ensures { OnOk result (effect.new ≡
         plain (second_need op.now wide ++ number_need wide) (number_type wide)) }
 {
-    push_second(&mut s.takes, op, wide)?;
-    push_number(&mut s.takes, wide)?;
-    push_number_type(&mut s.gives, wide)
+    push_second(&mut effect.takes, op, wide)?;
+    push_number(&mut effect.takes, wide)?;
+    push_number_type(&mut effect.gives, wide)
 }
 
 /// From a whole number of one width to one of another.
-pub(crate) fn number(s: &mut StackEffect, from: bool, to: bool) -> Result<(), NoMemory>
-    requires { s.old ≡ plain [] [] }
-    ensures { OnOk result (s.new ≡ plain (number_need from) (number_type to)) }
+pub(crate) fn number(effect: &mut StackEffect, from: bool, to: bool) -> Result<(), NoMemory>
+    requires { effect.old ≡ plain [] [] }
+    ensures { OnOk result (effect.new ≡ plain (number_need from) (number_type to)) }
 {
-    push_number(&mut s.takes, from)?;
-    push_number_type(&mut s.gives, to)
+    push_number(&mut effect.takes, from)?;
+    push_number_type(&mut effect.gives, to)
 }
 
-pub(crate) fn conversion(s: &mut StackEffect, to: &Conv) -> Result<(), NoMemory>
-    requires { s.old ≡ plain [] [] }
-    ensures { OnOk result (s.new ≡ convert_sides to.now) }
+pub(crate) fn conversion(effect: &mut StackEffect, to: &Conv) -> Result<(), NoMemory>
+    requires { effect.old ≡ plain [] [] }
+    ensures { OnOk result (effect.new ≡ convert_sides to.now) }
 {
     match to {
-        Conv::I2l => number(s, false, true),
-        Conv::L2i => number(s, true, false),
-        Conv::I2b | Conv::I2c | Conv::I2s => number(s, false, false),
+        Conv::I2l => number(effect, false, true),
+        Conv::L2i => number(effect, true, false),
+        Conv::I2b | Conv::I2c | Conv::I2s => number(effect, false, false),
     }
 }
 
-pub(crate) fn comparison(s: &mut StackEffect) -> Result<(), NoMemory>
-    requires { s.old ≡ plain [] [] }
-    ensures { OnOk result (s.new ≡ plain (long_need ++ long_need) int_type) }
+pub(crate) fn comparison(effect: &mut StackEffect) -> Result<(), NoMemory>
+    requires { effect.old ≡ plain [] [] }
+    ensures { OnOk result (effect.new ≡ plain (long_need ++ long_need) int_type) }
 {
-    push_long(&mut s.takes)?;
-    push_long(&mut s.takes)?;
-    s.gives.push(VType::Int)
+    push_long(&mut effect.takes)?;
+    push_long(&mut effect.takes)?;
+    effect.gives.push(VType::Int)
 }
 
-fn local_of(alloc: Global, f: &FrameType, n: u16) -> Result<VType, NoMemory>
-    ensures { IfOk result (λ t. t ≡ slice_index_or f.now.locals n types.Top) }
+fn local_of(alloc: Global, frame: &FrameType, local: u16) -> Result<VType, NoMemory>
+    ensures { IfOk result (λ t. t ≡ slice_index_or frame.now.locals local types.Top) }
 {
-    match f.locals.get(n as usize) {
+    match frame.locals.get(local as usize) {
         None => Ok(VType::Top),
         Some(t) => copy_type(alloc, t),
     }
@@ -170,15 +200,19 @@ pub(crate) fn read(
     })
 }
 
-fn load_long(s: &mut StackEffect, local: u16) -> Result<(), NoMemory>
-    requires { s.old ≡ plain [] [] }
-    ensures { OnOk result (s.new ≡
+fn load_long(effect: &mut StackEffect, local: u16) -> Result<(), NoMemory>
+    requires { effect.old ≡ plain [] [] }
+    ensures { OnOk result (effect.new ≡
         record (plain [] long_type)
         { reads = reading local (wants.Fits types.Long) ∷ reading (local + 1) wants.Half ∷ [] }) }
 {
-    push_long_type(&mut s.gives)?;
-    read(&mut s.reads, local, OperandConstraint::Fits(VType::Long))?;
-    s.reads.push(Reading {
+    push_long_type(&mut effect.gives)?;
+    read(
+        &mut effect.reads,
+        local,
+        OperandConstraint::Fits(VType::Long),
+    )?;
+    effect.reads.push(Reading {
         local: u32::from(local) + 1,
         need: OperandConstraint::Half,
     })
@@ -186,23 +220,27 @@ fn load_long(s: &mut StackEffect, local: u16) -> Result<(), NoMemory>
 
 pub(crate) fn load(
     alloc: Global,
-    s: &mut StackEffect,
-    f: &FrameType,
+    effect: &mut StackEffect,
+    frame: &FrameType,
     of: &Sort,
     local: u16,
 ) -> Result<(), NoMemory>
-    requires { s.old ≡ plain [] [] }
-    ensures { OnOk result (s.new ≡ load_sides f.now of.now local) }
+    requires { effect.old ≡ plain [] [] }
+    ensures { OnOk result (effect.new ≡ load_sides frame.now of.now local) }
 {
     match of {
         Sort::Int => {
-            s.gives.push(VType::Int)?;
-            read(&mut s.reads, local, OperandConstraint::Fits(VType::Int))
+            effect.gives.push(VType::Int)?;
+            read(
+                &mut effect.reads,
+                local,
+                OperandConstraint::Fits(VType::Int),
+            )
         }
-        Sort::Long => load_long(s, local),
+        Sort::Long => load_long(effect, local),
         Sort::Ref => {
-            s.gives.push(local_of(alloc, f, local)?)?;
-            read(&mut s.reads, local, OperandConstraint::Ref)
+            effect.gives.push(local_of(alloc, frame, local)?)?;
+            read(&mut effect.reads, local, OperandConstraint::Ref)
         }
     }
 }
@@ -217,39 +255,39 @@ fn set(sets: &mut Items<LocalUpdate>, local: u16, to: VType) -> Result<(), NoMem
     })
 }
 
-fn store_long(s: &mut StackEffect, local: u16) -> Result<(), NoMemory>
-    requires { s.old ≡ plain [] [] }
-    ensures { OnOk result (s.new ≡
+fn store_long(effect: &mut StackEffect, local: u16) -> Result<(), NoMemory>
+    requires { effect.old ≡ plain [] [] }
+    ensures { OnOk result (effect.new ≡
         record (plain long_need [])
         { sets = setting (local + 1) types.Top ∷ setting local types.Long ∷ [] }) }
 {
-    push_long(&mut s.takes)?;
-    s.sets.push(LocalUpdate {
+    push_long(&mut effect.takes)?;
+    effect.sets.push(LocalUpdate {
         local: u32::from(local) + 1,
         to: VType::Top,
     })?;
-    set(&mut s.sets, local, VType::Long)
+    set(&mut effect.sets, local, VType::Long)
 }
 
 pub(crate) fn store(
     alloc: Global,
-    s: &mut StackEffect,
-    f: &FrameType,
+    effect: &mut StackEffect,
+    frame: &FrameType,
     of: &Sort,
     local: u16,
 ) -> Result<(), NoMemory>
-    requires { s.old ≡ plain [] [] }
-    ensures { OnOk result (s.new ≡ store_sides f.now of.now local) }
+    requires { effect.old ≡ plain [] [] }
+    ensures { OnOk result (effect.new ≡ store_sides frame.now of.now local) }
 {
     match of {
         Sort::Int => {
-            push_int(&mut s.takes)?;
-            set(&mut s.sets, local, VType::Int)
+            push_int(&mut effect.takes)?;
+            set(&mut effect.sets, local, VType::Int)
         }
-        Sort::Long => store_long(s, local),
+        Sort::Long => store_long(effect, local),
         Sort::Ref => {
-            s.takes.push(OperandConstraint::Ref)?;
-            set(&mut s.sets, local, place_of(alloc, f, 0)?)
+            effect.takes.push(OperandConstraint::Ref)?;
+            set(&mut effect.sets, local, place_of(alloc, frame, 0)?)
         }
     }
 }

@@ -21,21 +21,21 @@ use type_frames::{
     object_assignable, same,
 };
 
-fn is_ref(t: &VType) -> bool
-    ensures { result ≡ rules.is_ref t.now }
+fn is_ref(vtype: &VType) -> bool
+    ensures { result ≡ rules.is_ref vtype.now }
 {
-    match t {
+    match vtype {
         VType::Null | VType::Object(_) => true,
-        _ => is_raw(t),
+        _ => is_raw(vtype),
     }
 }
 
-fn is_one(t: &VType) -> bool
-    ensures { result ≡ rules.is_one t.now }
+fn is_one(vtype: &VType) -> bool
+    ensures { result ≡ rules.is_one vtype.now }
 {
-    match t {
+    match vtype {
         VType::Int => true,
-        _ => is_ref(t),
+        _ => is_ref(vtype),
     }
 }
 
@@ -48,20 +48,20 @@ fn is_small_name(name: &[u16]) -> bool
     }
 }
 
-fn is_small(t: &VType) -> bool
-    ensures { result ≡ rules.is_small t.now }
+fn is_small(vtype: &VType) -> bool
+    ensures { result ≡ rules.is_small vtype.now }
 {
-    match t {
+    match vtype {
         VType::Null => true,
         VType::Object(name) => is_small_name(name.as_slice()),
         _ => false,
     }
 }
 
-fn is_array(t: &VType) -> bool
-    ensures { result ≡ rules.is_any_array t.now }
+fn is_array(vtype: &VType) -> bool
+    ensures { result ≡ rules.is_any_array vtype.now }
 {
-    match t {
+    match vtype {
         VType::Null => true,
         VType::Object(name) => match name.as_slice().first() {
             None => false,
@@ -71,51 +71,52 @@ fn is_array(t: &VType) -> bool
     }
 }
 
-fn meets(p: &Program, need: &OperandConstraint, t: &VType) -> bool
-    ensures { result ≡ rules.meets p.now need.now t.now }
+fn meets(program: &Program, need: &OperandConstraint, vtype: &VType) -> bool
+    ensures { result ≡ rules.meets program.now need.now vtype.now }
 {
     match need {
-        OperandConstraint::Fits(u) => assignable(p, t, u),
-        OperandConstraint::One => is_one(t),
-        OperandConstraint::Half => same(t, &VType::Top),
-        OperandConstraint::Ref => is_ref(t),
-        OperandConstraint::Raw => is_raw(t),
-        OperandConstraint::Small => is_small(t),
-        OperandConstraint::Array => is_array(t),
+        OperandConstraint::Fits(u) => assignable(program, vtype, u),
+        OperandConstraint::One => is_one(vtype),
+        OperandConstraint::Half => same(vtype, &VType::Top),
+        OperandConstraint::Ref => is_ref(vtype),
+        OperandConstraint::Raw => is_raw(vtype),
+        OperandConstraint::Small => is_small(vtype),
+        OperandConstraint::Array => is_array(vtype),
         OperandConstraint::Never => false,
     }
 }
 
-fn meet_all(p: &Program, needs: &[OperandConstraint], stack: &[VType]) -> bool
-    ensures { result ≡ rules.meet_all p.now needs.now (reverse stack.now) }
+fn meet_all(program: &Program, needs: &[OperandConstraint], stack: &[VType]) -> bool
+    ensures { result ≡ rules.meet_all program.now needs.now (reverse stack.now) }
 {
     match needs.split_first() {
         None => true,
         Some((n, ns)) => match stack.split_last() {
             None => true,
-            Some((t, ts)) => meets(p, n, t) && meet_all(p, ns, ts),
+            Some((t, ts)) => meets(program, n, t) && meet_all(program, ns, ts),
         },
     }
 }
 
-fn is_read(p: &Program, most: u16, locals: &[VType], r: &Reading) -> bool
-    ensures { result ≡ rules.is_read p.now most locals.now r.now }
+fn is_read(program: &Program, most: u16, locals: &[VType], reading: &Reading) -> bool
+    ensures { result ≡ rules.is_read program.now most locals.now reading.now }
 {
-    if r.local >= u32::from(most) {
+    if reading.local >= u32::from(most) {
         return false;
     }
-    match locals.get(r.local as usize) {
-        None => meets(p, &r.need, &VType::Top),
-        Some(t) => meets(p, &r.need, t),
+    match locals.get(reading.local as usize) {
+        None => meets(program, &reading.need, &VType::Top),
+        Some(t) => meets(program, &reading.need, t),
     }
 }
 
-fn all_read(p: &Program, most: u16, locals: &[VType], reads: &[Reading]) -> bool
-    ensures { result ≡ rules.all_read p.now most locals.now reads.now }
+fn all_read(program: &Program, most: u16, locals: &[VType], reads: &[Reading]) -> bool
+    ensures { result ≡ rules.all_read program.now most locals.now reads.now }
 {
     match reads.split_first() {
         None => true,
-        Some((r, rest)) => is_read(p, most, locals, r) && all_read(p, most, locals, rest),
+        Some((r, rest)) => is_read(program, most, locals, r)
+            && all_read(program, most, locals, rest),
     }
 }
 
@@ -130,14 +131,14 @@ fn can_set(most: u16, sets: &[LocalUpdate]) -> bool
 
 // Types that are assignable one by one.
 #[tactic(auto, using(crate::proofs::Fitting::fit_all_lengths))]
-fn fit_all(p: &Program, xs: &[VType], ys: &[VType]) -> bool
-    ensures { result ≡ rules.fit_all p.now xs.now ys.now }
+fn fit_all(program: &Program, xs: &[VType], ys: &[VType]) -> bool
+    ensures { result ≡ rules.fit_all program.now xs.now ys.now }
 {
     if xs.len() != ys.len() {
         return false;
     }
     for i in 0..xs.len() {
-        if !assignable(p, &xs[i], &ys[i]) {
+        if !assignable(program, &xs[i], &ys[i]) {
             return false;
         }
     }
@@ -145,231 +146,265 @@ fn fit_all(p: &Program, xs: &[VType], ys: &[VType]) -> bool
 }
 
 #[tactic(auto, using(crate::proofs::Fitting::fit_all_reverse))]
-fn fit_stack(p: &Program, xs: &[VType], ys: &[VType]) -> bool
-    ensures { result ≡ rules.fit_all p.now (reverse xs.now) (reverse ys.now) }
+fn fit_stack(program: &Program, xs: &[VType], ys: &[VType]) -> bool
+    ensures { result ≡ rules.fit_all program.now (reverse xs.now) (reverse ys.now) }
 {
-    fit_all(p, xs, ys)
+    fit_all(program, xs, ys)
 }
 
 // An object alone on the stack.
 #[tactic(auto, using(crate::proofs::Fitting::fit_alone))]
-fn fits_alone(p: &Program, name: &[u16], stack: &[VType]) -> bool
-    ensures { result ≡ rules.fit_all p.now (types.Object name.now ∷ []) (reverse stack.now) }
+fn fits_alone(program: &Program, name: &[u16], stack: &[VType]) -> bool
+    ensures { result ≡ rules.fit_all program.now (types.Object name.now ∷ []) (reverse stack.now) }
 {
     match stack {
-        [t] => object_assignable(p, name, t),
+        [t] => object_assignable(program, name, t),
         _ => false,
     }
 }
 
-fn is_made(e: &Context, t: &VType) -> bool
-    ensures { result ≡ rules.is_made e.now t.now }
+fn is_made(context: &Context, vtype: &VType) -> bool
+    ensures { result ≡ rules.is_made context.now vtype.now }
 {
-    match t {
-        VType::Uninit { pc } => made_at(e, *pc).is_some(),
+    match vtype {
+        VType::Uninit { pc } => made_at(context, *pc).is_some(),
         _ => true,
     }
 }
 
-fn all_made(e: &Context, types: &[VType]) -> bool
-    ensures { result ≡ rules.all_made e.now types.now }
+fn all_made(context: &Context, types: &[VType]) -> bool
+    ensures { result ≡ rules.all_made context.now types.now }
 {
-    types.iter().all(|t| is_made(e, t))
+    types.iter().all(|t| is_made(context, t))
 }
 
-fn is_sound(e: &Context, g: &Frame) -> bool
-    ensures { result ≡ rules.is_sound e.now g.now }
+fn is_sound(context: &Context, given: &Frame) -> bool
+    ensures { result ≡ rules.is_sound context.now given.now }
 {
-    let locals = g.locals.as_slice();
-    let stack = g.stack.as_slice();
-    locals.len() <= e.body.max_locals as usize
-        && (stack.len() <= e.body.max_stack as usize && (all_made(e, locals) && all_made(e, stack)))
+    let locals = given.locals.as_slice();
+    let stack = given.stack.as_slice();
+    locals.len() <= context.body.max_locals as usize
+        && (stack.len() <= context.body.max_stack as usize
+            && (all_made(context, locals) && all_made(context, stack)))
 }
 
-fn slots_fit(p: &Program, f: &FrameType, g: &Frame) -> bool
-    ensures { result ≡ rules.slots_fit p.now f.now (slots_of g.now) }
+fn slots_fit(program: &Program, frame: &FrameType, given: &Frame) -> bool
+    ensures { result ≡ rules.slots_fit program.now frame.now (slots_of given.now) }
 {
-    fit_all(p, &f.locals, g.locals.as_slice())
-        && (fit_stack(p, &f.stack, g.stack.as_slice()) && (!f.flag || g.flag))
+    fit_all(program, &frame.locals, given.locals.as_slice())
+        && (fit_stack(program, &frame.stack, given.stack.as_slice()) && (!frame.flag || given.flag))
 }
 
 /// Whether what is given at a place, if something is, takes a frame.
-pub(crate) fn fits_at(p: &Program, e: &Context, f: &FrameType, pc: u32) -> bool
-    ensures { result ≡ rules.fits_at p.now e.now f.now pc }
+pub(crate) fn fits_at(program: &Program, context: &Context, frame: &FrameType, pc: u32) -> bool
+    ensures { result ≡ rules.fits_at program.now context.now frame.now pc }
 {
-    match given_at(e, pc) {
+    match given_at(context, pc) {
         None => true,
-        Some(g) => is_sound(e, g) && slots_fit(p, f, g),
+        Some(g) => is_sound(context, g) && slots_fit(program, frame, g),
     }
 }
 
-fn fits_targets(p: &Program, e: &Context, f: &FrameType, targets: &[u32]) -> bool
-    ensures { result ≡ rules.fits_targets p.now e.now f.now targets.now }
+fn fits_targets(program: &Program, context: &Context, frame: &FrameType, targets: &[u32]) -> bool
+    ensures { result ≡ rules.fits_targets program.now context.now frame.now targets.now }
 {
-    targets.iter().all(|k| fits_at(p, e, f, *k))
+    targets.iter().all(|k| fits_at(program, context, frame, *k))
 }
 
-fn fits_pairs(p: &Program, e: &Context, f: &FrameType, pairs: &[(i32, u32)]) -> bool
-    ensures { result ≡ rules.fits_targets p.now e.now f.now (map (λ x. x.1) pairs.now) }
+fn fits_pairs(program: &Program, context: &Context, frame: &FrameType, pairs: &[(i32, u32)]) -> bool
+    ensures { result ≡
+        rules.fits_targets program.now context.now frame.now (map (λ x. x.1) pairs.now) }
 {
-    pairs.iter().map(|x| x.1).all(|k| fits_at(p, e, f, k))
+    pairs
+        .iter()
+        .map(|x| x.1)
+        .all(|k| fits_at(program, context, frame, k))
 }
 
-fn fits_leads(p: &Program, e: &Context, f: &FrameType, form: &Instr) -> bool
-    ensures { result ≡ rules.fits_targets p.now e.now f.now (leads form.now) }
+fn fits_leads(program: &Program, context: &Context, frame: &FrameType, form: &Instr) -> bool
+    ensures { result ≡ rules.fits_targets program.now context.now frame.now (leads form.now) }
 {
     match form {
         Instr::IfZero { test: _, to }
         | Instr::IfInts { test: _, to }
         | Instr::IfRefs { same: _, to }
         | Instr::IfNull { null: _, to }
-        | Instr::Goto { to } => fits_at(p, e, f, *to),
+        | Instr::Goto { to } => fits_at(program, context, frame, *to),
         Instr::Table {
             low: _,
             targets,
             other,
-        } => { fits_at(p, e, f, *other) && fits_targets(p, e, f, targets.as_slice()) }
-        Instr::Lookup { pairs, other } => fits_at(p, e, f, *other)
-            && fits_pairs(p, e, f, pairs.as_slice()),
+        } => {
+            fits_at(program, context, frame, *other)
+                && fits_targets(program, context, frame, targets.as_slice())
+        }
+        Instr::Lookup { pairs, other } => fits_at(program, context, frame, *other)
+            && fits_pairs(program, context, frame, pairs.as_slice()),
         _ => true,
     }
 }
 
 // Whether a handler's frame takes the locals, with what is caught alone on the stack.
-fn takes_caught(p: &Program, f: &FrameType, h: &Handler, g: &Frame) -> bool
-    ensures { result ≡ rules.slots_fit p.now (rules.thrown p.now f.now h.now) (slots_of g.now) }
+fn takes_caught(program: &Program, frame: &FrameType, handler: &Handler, given: &Frame) -> bool
+    ensures { result ≡ rules.slots_fit program.now
+        (rules.thrown program.now frame.now handler.now) (slots_of given.now) }
 {
-    fit_all(p, &f.locals, g.locals.as_slice())
-        && (fits_alone(p, caught_name(p, h), g.stack.as_slice()) && (!f.flag || g.flag))
+    fit_all(program, &frame.locals, given.locals.as_slice())
+        && (fits_alone(
+            program,
+            caught_name(program, handler),
+            given.stack.as_slice(),
+        ) && (!frame.flag || given.flag))
 }
 
-fn caught(h: &Handler) -> u32
-    ensures { result ≡ rules.caught h.now }
+fn caught(handler: &Handler) -> u32
+    ensures { result ≡ rules.caught handler.now }
 {
-    match h.catches {
+    match handler.catches {
         None => THROWABLE,
         Some(class) => class,
     }
 }
 
-fn caught_name<'a>(p: &'a Program, h: &Handler) -> &'a [u16]
-    ensures { result.now ≡ name_of p.now (rules.caught h.now) }
+fn caught_name<'a>(program: &'a Program, handler: &Handler) -> &'a [u16]
+    ensures { result.now ≡ name_of program.now (rules.caught handler.now) }
 {
-    p.class_name(caught(h))
+    program.class_name(caught(handler))
 }
 
-fn handles(p: &Program, e: &Context, pc: u32, f: &FrameType, h: &Handler) -> bool
-    ensures { result ≡ rules.handles p.now e.now pc f.now h.now }
+fn handles(
+    program: &Program,
+    context: &Context,
+    pc: u32,
+    frame: &FrameType,
+    handler: &Handler,
+) -> bool
+    ensures { result ≡ rules.handles program.now context.now pc frame.now handler.now }
 {
-    if !(h.from <= pc && pc < h.to) {
+    if !(handler.from <= pc && pc < handler.to) {
         return true;
     }
-    if e.body.max_stack == 0 || (e.starts && f.flag) {
+    if context.body.max_stack == 0 || (context.starts && frame.flag) {
         return false;
     }
-    match given_at(e, h.at) {
+    match given_at(context, handler.at) {
         None => true,
-        Some(g) => is_sound(e, g) && takes_caught(p, f, h, g),
+        Some(g) => is_sound(context, g) && takes_caught(program, frame, handler, g),
     }
 }
 
-/// Rule 9: handlers take what may be thrown.
-pub(crate) fn rule_9(p: &Program, e: &Context, x: &Placed, f: &FrameType) -> bool
-    ensures { result ≡ rules.rule_9 p.now e.now x.now f.now }
+/// Whether handlers take what may be thrown.
+pub(crate) fn is_handled(
+    program: &Program,
+    context: &Context,
+    placed: &Placed,
+    frame: &FrameType,
+) -> bool
+    ensures { result ≡ rules.rule_9 program.now context.now placed.now frame.now }
 {
-    e.body
+    context
+        .body
         .handlers
         .as_slice()
         .iter()
-        .all(|h| handles(p, e, x.pc, f, h))
+        .all(|h| handles(program, context, placed.pc, frame, h))
 }
 
-/// Rule 1: the stack has enough places, and doesn't grow past its end.
+/// Whether the stack has enough places, and doesn't grow past its end.
 #[tactic(auto, using(crate::proofs::Stacks::length_reverse))]
-pub(crate) fn rule_1(e: &Context, f: &FrameType, s: &StackEffect) -> bool
-    ensures { result ≡ rules.rule_1 e.now f.now s.now }
+pub(crate) fn has_room(context: &Context, frame: &FrameType, effect: &StackEffect) -> bool
+    ensures { result ≡ rules.rule_1 context.now frame.now effect.now }
 {
-    let depth = f.stack.len();
-    let taken = s.takes.len();
+    let depth = frame.stack.len();
+    let taken = effect.takes.len();
     if taken > depth {
         return false;
     }
-    let room = e.body.max_stack as usize;
-    let given = s.gives.len();
+    let room = context.body.max_stack as usize;
+    let given = effect.gives.len();
     given <= room && depth - taken <= room - given
 }
 
-/// Rule 2: the operands are of the types needed.
-pub(crate) fn rule_2(p: &Program, f: &FrameType, s: &StackEffect) -> bool
-    ensures { result ≡ rules.rule_2 p.now f.now s.now }
+/// Whether the operands are of the types needed.
+pub(crate) fn takes_operands(program: &Program, frame: &FrameType, effect: &StackEffect) -> bool
+    ensures { result ≡ rules.rule_2 program.now frame.now effect.now }
 {
-    meet_all(p, s.takes.as_slice(), &f.stack)
+    meet_all(program, effect.takes.as_slice(), &frame.stack)
 }
 
-/// Rule 3: the locals are there, and of the types needed.
-pub(crate) fn rule_3(p: &Program, e: &Context, f: &FrameType, s: &StackEffect) -> bool
-    ensures { result ≡ rules.rule_3 p.now e.now f.now s.now }
+/// Whether the locals are there, and of the types needed.
+pub(crate) fn takes_locals(
+    program: &Program,
+    context: &Context,
+    frame: &FrameType,
+    effect: &StackEffect,
+) -> bool
+    ensures { result ≡ rules.rule_3 program.now context.now frame.now effect.now }
 {
-    let most = e.body.max_locals;
-    all_read(p, most, &f.locals, s.reads.as_slice()) && can_set(most, s.sets.as_slice())
+    let most = context.body.max_locals;
+    all_read(program, most, &frame.locals, effect.reads.as_slice())
+        && can_set(most, effect.sets.as_slice())
 }
 
-fn fits_next(p: &Program, e: &Context, g: &FrameType, k: usize) -> bool
-    requires { k < length e.now.body.code }
-    ensures { result ≡ rules.fits_next p.now e.now g.now (slice_get e.now.body.code (k + 1)) }
+fn fits_next(program: &Program, context: &Context, after: &FrameType, index: usize) -> bool
+    requires { index < length context.now.body.code }
+    ensures { result ≡ rules.fits_next program.now context.now after.now
+        (slice_get context.now.body.code (index + 1)) }
 {
-    match e.body.code.as_slice().get(k + 1) {
+    match context.body.code.as_slice().get(index + 1) {
         None => true,
-        Some(x) => fits_at(p, e, g, x.pc),
+        Some(x) => fits_at(program, context, after, x.pc),
     }
 }
 
-/// The part of rule 4 on what comes after: what stands then, g, is assignable to what is given where control goes.
+/// The part of `Rule::Targets` on what comes after: what stands then is assignable to what is given where control goes.
 pub(crate) fn leads_on(
-    p: &Program,
-    e: &Context,
-    k: usize,
-    x: &Placed,
-    g: &FrameType,
+    program: &Program,
+    context: &Context,
+    index: usize,
+    placed: &Placed,
+    after: &FrameType,
     falls: bool,
 ) -> bool
-    requires { k < length e.now.body.code }
+    requires { index < length context.now.body.code }
     ensures { result ≡
-        (rules.fits_targets p.now e.now g.now (leads x.now.form) &&
-        (not falls || rules.fits_next p.now e.now g.now (slice_get e.now.body.code (k + 1)))) }
+        (rules.fits_targets program.now context.now after.now (leads placed.now.form) &&
+        (not falls || rules.fits_next program.now context.now after.now
+        (slice_get context.now.body.code (index + 1)))) }
 {
-    fits_leads(p, e, g, &x.form) && (!falls || fits_next(p, e, g, k))
+    fits_leads(program, context, after, &placed.form)
+        && (!falls || fits_next(program, context, after, index))
 }
 
-/// The part of rule 4 on the first instruction: what is given there takes the descriptor's frame.
+/// The part of `Rule::Targets` on the first instruction: what is given there takes the descriptor's frame.
 pub(crate) fn is_entered(
     alloc: Global,
-    p: &Program,
-    e: &Context,
-    k: usize,
+    program: &Program,
+    context: &Context,
+    index: usize,
     pc: u32,
 ) -> Result<bool, NoMemory>
-    ensures { IfOk result (λ b. b ≡ rules.is_entered p.now e.now k pc) }
+    ensures { IfOk result (λ b. b ≡ rules.is_entered program.now context.now index pc) }
 {
-    if k == 0 {
-        let first = opening(alloc, e)?;
-        return Ok(fits_at(p, e, &first, pc));
+    if index == 0 {
+        let first = opening(alloc, context)?;
+        return Ok(fits_at(program, context, &first, pc));
     }
     Ok(true)
 }
 
-/// Rule 5: control doesn't pass the end of the code.
-pub(crate) fn rule_5(e: &Context, k: usize, falls: bool) -> bool
-    requires { k < length e.now.body.code }
-    ensures { result ≡ (not falls || nat_lt (k + 1) (length e.now.body.code)) }
+/// Whether control doesn't pass the end of the code.
+pub(crate) fn stays_within(context: &Context, index: usize, falls: bool) -> bool
+    requires { index < length context.now.body.code }
+    ensures { result ≡ (not falls || nat_lt (index + 1) (length context.now.body.code)) }
 {
-    let count = e.body.code.len();
-    !falls || k + 1 < count
+    let count = context.body.code.len();
+    !falls || index + 1 < count
 }
 
-/// Rule 10: the arguments are within the locals.
-pub(crate) fn rule_10(e: &Context, k: usize) -> bool
-    ensures { result ≡ rules.rule_10 e.now k }
+/// Whether the arguments are within the locals.
+pub(crate) fn holds_arguments(context: &Context, index: usize) -> bool
+    ensures { result ≡ rules.rule_10 context.now index }
 {
-    k > 0 || e.args.len() <= e.body.max_locals as usize
+    index > 0 || context.args.len() <= context.body.max_locals as usize
 }

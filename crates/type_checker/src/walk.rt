@@ -1,36 +1,39 @@
 //! The first fault of a method's code.
 
 ghost use Rattle.std.specs.Prelude.{◌≡◌, IfOk, length};
+ghost use Rattle.type_frames.specs.Given as maps;
 ghost use Rattle.type_frames.specs.Typing.{code_fault, method_fault};
 
 use crate::after::opening;
 use crate::context::{Context, context_of};
 use crate::judge::{Step, fault, step_at};
-use et_base::NoMemory;
+use crate::rule::Rule;
+use et_base::{Items, NoMemory};
 use jvm_model::{MethodRec, Program};
 use std::alloc::Global;
-use type_frames::{CheckFault, given_frames};
+use type_frames::{CheckFault, Frame};
 
-fn code_length(e: &Context) -> usize
-    ensures { result ≡ length e.now.body.code }
+fn code_length(context: &Context) -> usize
+    ensures { result ≡ length context.now.body.code }
 {
-    e.body.code.len()
+    context.body.code.len()
 }
 
 // From the first instruction on, with the frame that goes on from each.
 fn code_fault(
     alloc: Global,
-    p: &Program,
-    e: &Context,
+    program: &Program,
+    context: &Context,
     name: &[u16],
     method: u32,
 ) -> Result<Option<CheckFault>, NoMemory>
-    ensures { IfOk result (λ o. o ≡ code_fault p.now name.now method e.now 0 e.now.body.code) }
+    ensures { IfOk result (λ o.
+        o ≡ code_fault program.now name.now method context.now 0 context.now.body.code) }
 {
-    let count = code_length(e);
-    let mut running = Some(opening(alloc, e)?);
+    let count = code_length(context);
+    let mut running = Some(opening(alloc, context)?);
     for k in 0..count {
-        match step_at(alloc, p, e, name, method, k, running)? {
+        match step_at(alloc, program, context, name, method, k, running)? {
             Step::Faulty { fault } => return Ok(Some(fault)),
             Step::Onward { next } => running = next,
         }
@@ -38,23 +41,25 @@ fn code_fault(
     Ok(None)
 }
 
-/// The first fault of a method, which has this number in its class file.
+/// The first fault of a method, which has this number in its class file, with the frames that its stack map gives.
 #[tactic(auto, unfolding(type_frames::specs::Typing::method_fault))]
 pub(crate) fn method_fault(
     alloc: Global,
-    p: &Program,
+    program: &Program,
     name: &[u16],
-    method: u32,
-    m: &MethodRec,
+    number: u32,
+    method: &MethodRec,
+    given: &Option<Items<Frame>>,
 ) -> Result<Option<CheckFault>, NoMemory>
-    ensures { IfOk result (λ o. o ≡ method_fault p.now name.now method m.now) }
+    requires { given.now ≡ maps.given_frames program.now method.now }
+    ensures { IfOk result (λ o. o ≡ method_fault program.now name.now number method.now) }
 {
-    let Some(b) = &m.body else {
+    let Some(body) = &method.body else {
         return Ok(None);
     };
-    let Some(given) = given_frames(alloc, p, m)? else {
-        return Ok(Some(fault(alloc, name, method, 0, Some(8))?));
+    let Some(given) = given else {
+        return Ok(Some(fault(alloc, name, number, 0, Some(Rule::StackMap))?));
     };
-    let e = context_of(alloc, p, m, b, given)?;
-    code_fault(alloc, p, &e, name, method)
+    let context = context_of(alloc, program, method, body, given.as_slice())?;
+    code_fault(alloc, program, &context, name, number)
 }
