@@ -11,6 +11,8 @@
 #![tactic(auto)]
 
 #[cfg(test)]
+mod builtin_lib_tests;
+#[cfg(test)]
 mod cell_region_tests;
 #[cfg(test)]
 mod chain_deque_tests;
