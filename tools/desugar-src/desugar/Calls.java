@@ -9,6 +9,7 @@ import static org.objectweb.asm.Opcodes.INVOKEVIRTUAL;
 import java.util.List;
 import java.util.Set;
 import org.objectweb.asm.tree.ClassNode;
+import org.objectweb.asm.tree.LdcInsnNode;
 import org.objectweb.asm.tree.MethodInsnNode;
 import org.objectweb.asm.tree.MethodNode;
 import org.objectweb.asm.tree.TypeInsnNode;
@@ -19,7 +20,10 @@ final class Calls {
     private static final String TO_STRING = "()Ljava/lang/String;";
     /** What a project asks of a throwable in vain; JUnit and others may ask, and get nothing. */
     private static final Set<String> NOT_KEPT = Set.of("getStackTrace", "getSuppressed");
-    private static final Set<String> DISPATCHED = Set.of("java/lang/CharSequence", "java/lang/Comparable");
+    private static final Set<String> DISPATCHED = Set.of("java/lang/CharSequence", "java/lang/Comparable", Types.TYPE);
+
+    private static final String CALLER = "caller ";
+    private static final Set<String> MEMBERS = Set.of("java/lang/reflect/Field", "java/lang/reflect/Method", "java/lang/reflect/Constructor");
 
     private final Body body;
     private final World world;
@@ -42,8 +46,26 @@ final class Calls {
         } else if (Types.REPLACED.containsKey(call.owner)) {
             ofReplaced(call);
         } else if (!ofStringInterface(call) && !byMended(call)) {
+            tellCaller(call);
             resolved(call);
         }
+    }
+
+    /** A use of a member by reflection is told which class asks, where the library has such a method: `caller NAME`, or `caller NAME HOST`. */
+    private void tellCaller(MethodInsnNode call) {
+        String told = call.desc.replace(")", "Ljava/lang/String;)");
+        boolean project = world.originOf(body.owner.name) == World.Origin.PROJECT;
+        if (project && MEMBERS.contains(call.owner) && World.method(world.get(call.owner), call.name, told) != null) {
+            String host = hostOf(body.owner);
+            String caller = CALLER + body.owner.name + (host == null ? "" : " " + host);
+            body.code.insertBefore(call, new LdcInsnNode(Types.dotted(caller)));
+            call.desc = told;
+        }
+    }
+
+    /** The host of the nest that a class is in, whose classes may use what is private of one another (JVMS 4.7.28); null for none. */
+    private static String hostOf(ClassNode node) {
+        return node.nestHostClass != null ? node.nestHostClass : node.nestMembers != null ? node.name : null;
     }
 
     private void ofArray(MethodInsnNode call) {

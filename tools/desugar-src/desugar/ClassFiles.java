@@ -5,8 +5,12 @@ import static org.objectweb.asm.Opcodes.ACC_BRIDGE;
 import static org.objectweb.asm.Opcodes.ACONST_NULL;
 import static org.objectweb.asm.Opcodes.ATHROW;
 
+import java.util.BitSet;
+import java.util.HashMap;
 import java.util.HashSet;
+import java.util.IdentityHashMap;
 import java.util.List;
+import java.util.Map;
 import java.util.Set;
 import java.util.function.Predicate;
 import org.objectweb.asm.ClassWriter;
@@ -19,6 +23,7 @@ import org.objectweb.asm.tree.MethodNode;
 /** Writes classes after rewriting, with stack maps. */
 final class ClassFiles {
     private final World world;
+    private final Map<ClassNode, Map<BitSet, byte[]>> made = new IdentityHashMap<>();
 
     ClassFiles(World world) {
         this.world = world;
@@ -26,24 +31,32 @@ final class ClassFiles {
 
     /** The class file with these methods alone. */
     byte[] write(ClassNode node, Predicate<MethodNode> kept) {
-        ClassNode written = outline(node);
-        for (MethodNode method : node.methods) {
-            if (kept.test(method)) {
-                withoutLines(method);
-                written.methods.add(method);
-            }
-        }
-        return bytes(written);
+        return written(node, kept, false);
     }
 
     /** The class file with the code of these methods; other methods are there, and their code throws null. */
     byte[] writeLean(ClassNode node, Predicate<MethodNode> kept) {
+        return written(node, kept, true);
+    }
+
+    /** The class file, made once for the same node and methods, as several suites have it. */
+    private byte[] written(ClassNode node, Predicate<MethodNode> kept, boolean stubs) {
+        BitSet chosen = new BitSet();
+        for (int i = 0; i < node.methods.size(); i++) {
+            chosen.set(i, kept.test(node.methods.get(i)));
+        }
+        Map<BitSet, byte[]> known = made.computeIfAbsent(node, each -> new HashMap<>());
+        return known.computeIfAbsent(chosen, each -> make(node, chosen, stubs));
+    }
+
+    private byte[] make(ClassNode node, BitSet chosen, boolean stubs) {
         ClassNode written = outline(node);
-        for (MethodNode method : node.methods) {
-            if (kept.test(method)) {
+        for (int i = 0; i < node.methods.size(); i++) {
+            MethodNode method = node.methods.get(i);
+            if (chosen.get(i)) {
                 withoutLines(method);
                 written.methods.add(method);
-            } else if (!method.name.equals("<clinit>")) {
+            } else if (stubs && !method.name.equals("<clinit>")) {
                 written.methods.add(stub(method));
             }
         }

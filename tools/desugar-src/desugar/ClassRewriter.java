@@ -8,9 +8,13 @@ import static org.objectweb.asm.Opcodes.ACC_PUBLIC;
 import static org.objectweb.asm.Opcodes.ACC_RECORD;
 import static org.objectweb.asm.Opcodes.ACC_STRICT;
 import static org.objectweb.asm.Opcodes.ACC_SYNCHRONIZED;
+import static org.objectweb.asm.Opcodes.ATHROW;
+import static org.objectweb.asm.Opcodes.DUP;
+import static org.objectweb.asm.Opcodes.INVOKESTATIC;
 import static org.objectweb.asm.Opcodes.V1_8;
 
 import java.util.ArrayList;
+import java.util.Arrays;
 import java.util.HashMap;
 import java.util.LinkedHashMap;
 import java.util.LinkedHashSet;
@@ -18,7 +22,13 @@ import java.util.List;
 import java.util.Map;
 import org.objectweb.asm.tree.ClassNode;
 import org.objectweb.asm.tree.FieldNode;
+import org.objectweb.asm.tree.InsnList;
+import org.objectweb.asm.tree.InsnNode;
+import org.objectweb.asm.tree.LabelNode;
+import org.objectweb.asm.tree.LdcInsnNode;
+import org.objectweb.asm.tree.MethodInsnNode;
 import org.objectweb.asm.tree.MethodNode;
+import org.objectweb.asm.tree.TryCatchBlockNode;
 
 /** Makes a class one of the subset, whole: what comes out depends on the class, those above it and those that it names alone. */
 final class ClassRewriter {
@@ -69,12 +79,32 @@ final class ClassRewriter {
             if (types.countOfGone() > gone && !typing.isTyped(original, made)) {
                 body.cutWhole("code with classes that aren't served");
             }
+            if (made.name.equals("<clinit>")) {
+                tellFailure(original.name, made);
+            }
             node.methods.add(made);
             cuts.put(made.name + made.desc, body.standing());
         }
         withoutEqual(node);
         members.addTo(node);
         return new Rewritten(node, cuts);
+    }
+
+    /** An initialiser that calls anything tells what it ends with, where it doesn't return. */
+    private static void tellFailure(String owner, MethodNode initialiser) {
+        InsnList code = initialiser.instructions;
+        if (owner.equals(Library.UNSERVED) || Arrays.stream(code.toArray()).noneMatch(MethodInsnNode.class::isInstance)) {
+            return;
+        }
+        LabelNode start = new LabelNode();
+        LabelNode handler = new LabelNode();
+        code.insert(start);
+        code.add(handler);
+        code.add(new InsnNode(DUP));
+        code.add(new LdcInsnNode(Types.dotted(owner)));
+        code.add(new MethodInsnNode(INVOKESTATIC, Library.UNSERVED, "failed", "(Ljava/lang/Throwable;Ljava/lang/String;)V", false));
+        code.add(new InsnNode(ATHROW));
+        initialiser.tryCatchBlocks.add(new TryCatchBlockNode(start, handler, handler, Builtins.THROWABLE));
     }
 
     /** Of methods whose results became one, as those of a bridge and what it calls, the first that is no bridge stays. */

@@ -1,12 +1,18 @@
 package desugar;
 
+import static org.objectweb.asm.Opcodes.DUP;
 import static org.objectweb.asm.Opcodes.GETSTATIC;
+import static org.objectweb.asm.Opcodes.INVOKESPECIAL;
+import static org.objectweb.asm.Opcodes.NEW;
 import static org.objectweb.asm.Opcodes.PUTSTATIC;
 
 import org.objectweb.asm.tree.ClassNode;
 import org.objectweb.asm.tree.FieldInsnNode;
+import org.objectweb.asm.tree.InsnNode;
+import org.objectweb.asm.tree.MethodInsnNode;
+import org.objectweb.asm.tree.TypeInsnNode;
 
-/** Accesses of fields: a static one through the class that declares it, one of a built-in class by a helper's. */
+/** Accesses of fields: a static one through the class that declares it, one of a built-in class by a helper's, a cache made anew. */
 final class FieldUses {
     private static final String STREAMS = Library.HELPERS + "Streams";
 
@@ -23,6 +29,13 @@ final class FieldUses {
         }
         if (body.world.builtins.has(use.owner) || use.owner.equals(Types.CLASS) || use.owner.equals(Types.BUILDER)) {
             ofBuiltin(use);
+            return;
+        }
+        String made = use.getOpcode() == GETSTATIC ? body.world.madeAnew(use.owner, use.name, use.desc) : null;
+        if (made != null) {
+            body.code.insertBefore(use, new TypeInsnNode(NEW, made));
+            body.code.insertBefore(use, new InsnNode(DUP));
+            body.code.set(use, new MethodInsnNode(INVOKESPECIAL, made, "<init>", "()V", false));
             return;
         }
         String declarer = body.world.resolveField(use.owner, use.name, use.desc);

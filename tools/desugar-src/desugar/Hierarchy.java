@@ -1,6 +1,7 @@
 package desugar;
 
 import java.util.HashMap;
+import java.util.IdentityHashMap;
 import java.util.LinkedHashMap;
 import java.util.LinkedHashSet;
 import java.util.List;
@@ -18,6 +19,8 @@ final class Hierarchy {
     private final Map<String, ClassRewriter.Rewritten> rewritten = new HashMap<>();
     private final Map<String, Set<String>> ancestors = new HashMap<>();
     private final Map<String, Map<String, String>> selections = new HashMap<>();
+    private final Map<String, Map<String, MethodNode>> methods = new HashMap<>();
+    private final Map<MethodNode, Uses> uses = new IdentityHashMap<>();
 
     Hierarchy(World world) {
         this.world = world;
@@ -90,12 +93,25 @@ final class Hierarchy {
     }
 
     MethodNode method(String owner, String key) {
-        for (MethodNode each : node(owner).methods) {
-            if (each.name.length() + each.desc.length() == key.length() && key.startsWith(each.name) && key.endsWith(each.desc)) {
-                return each;
+        Map<String, MethodNode> known = methods.get(owner);
+        if (known == null) {
+            known = new HashMap<>();
+            for (MethodNode each : node(owner).methods) {
+                known.putIfAbsent(each.name + each.desc, each);
             }
+            methods.put(owner, known);
         }
-        return null;
+        return known.get(key);
+    }
+
+    /** What the code of a method after rewriting uses. */
+    Uses uses(MethodNode method) {
+        Uses known = uses.get(method);
+        if (known == null) {
+            known = new Uses(this, method);
+            uses.put(method, known);
+        }
+        return known;
     }
 
     /** The methods that a call on an object of the class may select: their keys, with the class or interface that has the code. */

@@ -5,6 +5,7 @@ import java.io.UncheckedIOException;
 import java.nio.file.Files;
 import java.nio.file.Path;
 import java.util.ArrayList;
+import java.util.Collection;
 import java.util.LinkedHashMap;
 import java.util.List;
 import java.util.Map;
@@ -125,6 +126,13 @@ final class Main {
             @Override
             public boolean reaches(Part.Adapter test, String name) {
                 return rewriter.reach(List.of(test.method())).classes().contains(name);
+            }
+
+            @Override
+            public List<String> initialised(Part.Adapter test, Collection<String> names) {
+                Rewriter.Growing growing = rewriter.new Growing(Rewriter.Form.LEAN);
+                growing.add(List.of(test.method()));
+                return names.stream().filter(name -> growing.initialises(name.replace('.', '/'))).toList();
             }
         };
     }

@@ -3,6 +3,7 @@ package desugar;
 import java.io.IOException;
 import java.util.ArrayDeque;
 import java.util.ArrayList;
+import java.util.Collection;
 import java.util.Deque;
 import java.util.LinkedHashMap;
 import java.util.List;
@@ -19,9 +20,15 @@ final class Measuring {
     interface Writer {
         Written write(Part part, int number) throws IOException;
 
-        /** Whether the test reaches the class, by its internal name. */
+        /** Whether the test needs the class, by its internal name. */
         boolean reaches(Part.Adapter test, String name);
+
+        /** Those of these classes, by their names, that the test may initialise. */
+        List<String> initialised(Part.Adapter test, Collection<String> names);
     }
+
+    /** What a class fails by that uses another one which failed before. */
+    private static final String ANOTHER = "java.lang.NoClassDefFoundError";
 
     private final Writer writer;
     private final Electric electric;
@@ -68,11 +75,19 @@ final class Measuring {
 
     /** Takes what a run found; the tests that didn't fit, and those of a refused suite that may do without its faulty class, are open. */
     private void take(PartRun run, Deque<Part> open) {
-        statuses.putAll(run.statuses());
+        run.statuses().forEach((test, status) -> statuses.put(test, PartRun.FAILED_CLASS.equals(status.why()) ? named(test, run.failures()) : status));
         run.refusal().ifPresent(fault -> open.addAll(mend(fault, run.tests())));
         if (!run.rest().isEmpty()) {
             open.add(new Part(run.rest()));
         }
+    }
+
+    /** What has come of a test that met a class which failed to initialise: the first such class that it uses, and why it failed. */
+    private Status named(Part.Adapter test, Map<String, String> failures) {
+        List<String> met = failures.isEmpty() ? List.of() : writer.initialised(test, failures.keySet());
+        Optional<String> first = met.stream().filter(name -> !failures.get(name).equals(ANOTHER)).findFirst();
+        String why = first.map(name -> failures.get(name) + ", as " + name + " was initialised").orElse(PartRun.FAILED_CLASS);
+        return Status.left(Status.Kind.UNSERVED, why, first.map(name -> remedies.getOrDefault(failures.get(name), "")).orElse(""));
     }
 
     /** Leaves out the tests that reach the class that a fault line names. */

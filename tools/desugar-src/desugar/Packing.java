@@ -4,8 +4,6 @@ import java.util.ArrayList;
 import java.util.HashMap;
 import java.util.List;
 import java.util.Map;
-import java.util.Set;
-import java.util.TreeSet;
 
 /** Cuts a project's tests into suites, by test classes, so that each has as many tests and classes as one may have. */
 final class Packing {
@@ -14,6 +12,10 @@ final class Packing {
 
     private final Rewriter rewriter;
     private final Map<Part.Adapter, Integer> tooLarge = new HashMap<>();
+    private final List<Part> parts = new ArrayList<>();
+    /** The tests of the part that is being filled, and what they reach. */
+    private final List<Part.Adapter> tests = new ArrayList<>();
+    private Rewriter.Growing growing;
 
     Packing(Rewriter rewriter) {
         this.rewriter = rewriter;
@@ -26,51 +28,56 @@ final class Packing {
 
     /** @param byClass the adapters of each test class, in order */
     List<Part> pack(List<List<Part.Adapter>> byClass) {
-        List<Part> parts = new ArrayList<>();
-        List<Part.Adapter> tests = new ArrayList<>();
-        Set<String> classes = new TreeSet<>();
-        for (List<Part.Adapter> piece : pieces(byClass)) {
-            Set<String> reached = reached(piece);
-            Set<String> both = new TreeSet<>(classes);
-            both.addAll(reached);
-            if (!tests.isEmpty() && (both.size() > MOST || tests.size() + piece.size() > MOST)) {
-                parts.add(new Part(List.copyOf(tests)));
-                tests.clear();
-                both = reached;
-            }
-            tests.addAll(piece);
-            classes = both;
-        }
-        if (!tests.isEmpty()) {
-            parts.add(new Part(List.copyOf(tests)));
-        }
+        byClass.forEach(tests -> add(tests, List.of(Rewriter.Form.values())));
+        close();
         return parts;
     }
 
-    private Set<String> reached(List<Part.Adapter> piece) {
-        return new TreeSet<>(rewriter.reach(piece.stream().map(Part.Adapter::method).toList()).classes());
+    private void close() {
+        if (!tests.isEmpty()) {
+            parts.add(new Part(List.copyOf(tests)));
+        }
+        tests.clear();
+        growing = null;
     }
 
-    /** The test classes, of which those that are too large alone are cut. */
-    private List<List<Part.Adapter>> pieces(List<List<Part.Adapter>> byClass) {
-        List<List<Part.Adapter>> pieces = new ArrayList<>();
-        byClass.forEach(tests -> cut(tests, pieces));
-        return pieces;
-    }
-
-    private void cut(List<Part.Adapter> tests, List<List<Part.Adapter>> pieces) {
-        int classes = tests.isEmpty() ? 0 : reached(tests).size();
-        if (tests.isEmpty()) {
+    /** Adds tests to the part, or begins another with them in the first form that it has room in; else one after the other. */
+    private void add(List<Part.Adapter> piece, List<Rewriter.Form> forms) {
+        if (piece.size() > MOST) {
+            add(piece.subList(0, MOST), forms);
+            add(piece.subList(MOST, piece.size()), forms);
             return;
         }
-        if (classes <= MOST && tests.size() <= MOST) {
-            pieces.add(tests);
-        } else if (tests.size() == 1) {
-            tooLarge.put(tests.get(0), classes);
-        } else {
-            int half = tests.size() / 2;
-            cut(tests.subList(0, half), pieces);
-            cut(tests.subList(half, tests.size()), pieces);
+        if (piece.isEmpty() || fits(piece)) {
+            return;
         }
+        close();
+        int classes = 0;
+        for (Rewriter.Form form : forms) {
+            growing = rewriter.new Growing(form);
+            classes = growing.add(methods(piece));
+            if (classes <= MOST) {
+                tests.addAll(piece);
+                return;
+            }
+        }
+        growing = null;
+        if (piece.size() == 1) {
+            tooLarge.put(piece.get(0), classes);
+        } else {
+            piece.forEach(test -> add(List.of(test), List.of(Rewriter.Form.LEAN)));
+        }
+    }
+
+    /** Adds tests to the part that is being filled, where it has room. */
+    private boolean fits(List<Part.Adapter> piece) {
+        if (growing == null || tests.size() + piece.size() > MOST || growing.add(methods(piece)) > MOST) {
+            return false;
+        }
+        return tests.addAll(piece);
+    }
+
+    private static List<MethodRef> methods(List<Part.Adapter> piece) {
+        return piece.stream().map(Part.Adapter::method).toList();
     }
 }

@@ -10,12 +10,18 @@ import java.util.stream.Collectors;
 
 /** Runs one suite, and takes out the tests that met what isn't served or passed their units, until it runs through without. */
 final class PartRun {
+    /** Why a test has no verdict that met a class which failed to initialise, whichever test that failed in. */
+    static final String FAILED_CLASS = "class that failed to initialise";
+    /** What the line begins with that an initialiser prints which fails: behind it the class, and what it failed by. */
+    private static final String FAILED = "##failed ";
+
     private final Written written;
     private final Electric electric;
     private final Map<String, String> remedies;
     private final List<Part.Adapter> left;
     private final List<Part.Adapter> rest = new ArrayList<>();
     private final Map<Part.Adapter, Status> statuses = new LinkedHashMap<>();
+    private final Map<String, String> failures = new LinkedHashMap<>();
     private Optional<String> refusal = Optional.empty();
 
     /** @param remedies what to do about a cut, by its message */
@@ -46,14 +52,23 @@ final class PartRun {
         return refusal;
     }
 
+    /** What classes failed by as they were initialised, in that order. */
+    Map<String, String> failures() {
+        return failures;
+    }
+
     PartRun run() throws IOException, InterruptedException {
+        int from = 0;
         while (true) {
-            written.writeText(left);
+            written.writeText(left.subList(from, left.size()));
             Electric.Answer answer = electric.run(written.place());
             if (answer.fault().isPresent()) {
-                if (!mend(answer.fault().get())) {
+                from = mend(answer.fault().get(), from);
+                if (refusal.isPresent()) {
                     return this;
                 }
+            } else if (from > 0) {
+                from = 0;
             } else if (!takeOutMarked(answer.outcomes())) {
                 keep(answer.outcomes());
                 return this;
@@ -61,22 +76,28 @@ final class PartRun {
         }
     }
 
-    /** Takes out the test that a fault line names, or those from it on; false where the suite was refused for another reason. */
-    private boolean mend(String fault) {
+    /**
+     * Takes out the test that a fault line names, or those from it on, or takes the line as a refusal of the whole suite. Answers where to
+     * go on: behind a test that passed its units, as those before it passed none; whether the suite runs through shows a run of all.
+     *
+     * @param from where the run began that ended so
+     */
+    private int mend(String fault, int from) {
         String[] words = fault.split(" ");
         int at = words.length < 2 ? -1 : left.stream().map(Part.Adapter::name).toList().indexOf(words[1]);
-        if (at >= 0 && (words[0].equals("over-budget") || words[0].equals("over-suite") && at == 0)) {
+        boolean passesSuite = words[0].equals("over-suite");
+        if (at >= 0 && (words[0].equals("over-budget") || passesSuite && at == from)) {
             statuses.put(left.remove(at), Status.left(Status.Kind.OVER_BUDGET, "it passes the units of a test", "a smaller test, or --budget"));
-            return true;
+            return at == left.size() ? 0 : at;
         }
-        if (at > 0 && words[0].equals("over-suite")) {
-            int from = classBegin(at);
-            rest.addAll(0, left.subList(from, left.size()));
-            left.subList(from, left.size()).clear();
-            return true;
+        if (at > 0 && passesSuite && from == 0) {
+            int begin = classBegin(at);
+            rest.addAll(0, left.subList(begin, left.size()));
+            left.subList(begin, left.size()).clear();
+        } else if (at < 0 || !passesSuite) {
+            refusal = Optional.of(fault);
         }
-        refusal = Optional.of(fault);
-        return false;
+        return 0;
     }
 
     /** Where the tests of the class of the test there begin; the test itself where its class stands first. */
@@ -91,6 +112,7 @@ final class PartRun {
     private boolean takeOutMarked(List<Electric.Outcome> outcomes) {
         Map<String, Part.Adapter> byName = left.stream().collect(Collectors.toMap(Part.Adapter::name, test -> test));
         boolean found = false;
+        outcomes.forEach(outcome -> outcome.out().lines().filter(line -> line.startsWith(FAILED)).forEach(this::takeFailure));
         for (Electric.Outcome outcome : outcomes) {
             Part.Adapter test = byName.get(outcome.name());
             Optional<String> mark = mark(outcome.out()).or(() -> failedClass(outcome));
@@ -103,9 +125,14 @@ final class PartRun {
         return found;
     }
 
+    private void takeFailure(String line) {
+        String[] words = line.substring(FAILED.length()).split(" ", 2);
+        failures.putIfAbsent(words[0], words[1]);
+    }
+
     /** A test that ends as a class failed to initialise has no verdict, whichever test met the reason. */
     private static Optional<String> failedClass(Electric.Outcome outcome) {
-        return outcome.thrown().equals("java.lang.NoClassDefFoundError") ? Optional.of("class that failed to initialise") : Optional.empty();
+        return outcome.thrown().equals("java.lang.NoClassDefFoundError") ? Optional.of(FAILED_CLASS) : Optional.empty();
     }
 
     /** What the first marked line of an output says. */

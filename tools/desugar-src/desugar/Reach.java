@@ -12,16 +12,8 @@ import java.util.Map;
 import java.util.Set;
 import java.util.TreeSet;
 import org.objectweb.asm.Opcodes;
-import org.objectweb.asm.Type;
-import org.objectweb.asm.tree.AbstractInsnNode;
 import org.objectweb.asm.tree.ClassNode;
-import org.objectweb.asm.tree.FieldInsnNode;
-import org.objectweb.asm.tree.LdcInsnNode;
-import org.objectweb.asm.tree.MethodInsnNode;
 import org.objectweb.asm.tree.MethodNode;
-import org.objectweb.asm.tree.MultiANewArrayInsnNode;
-import org.objectweb.asm.tree.TryCatchBlockNode;
-import org.objectweb.asm.tree.TypeInsnNode;
 
 /**
  * What roots reach in classes after rewriting: rapid type analysis (Bacon and Sweeney 1996), in which a call reaches the methods that it
@@ -38,6 +30,7 @@ final class Reach {
     private final Set<String> tokens = new TreeSet<>();
     private final Set<String> namedByTexts = new TreeSet<>();
     private final Set<String> arrays = new TreeSet<>();
+    private final Set<String> whole = new HashSet<>();
     private final Deque<MethodRef> open = new ArrayDeque<>();
 
     Reach(Hierarchy hierarchy) {
@@ -70,7 +63,7 @@ final class Reach {
     private void run() {
         while (!open.isEmpty()) {
             MethodRef next = open.poll();
-            follow(hierarchy.method(next.owner(), next.key()));
+            follow(hierarchy.uses(hierarchy.method(next.owner(), next.key())));
         }
     }
 
@@ -141,25 +134,14 @@ final class Reach {
         }
     }
 
-    private void follow(MethodNode method) {
-        for (TryCatchBlockNode block : method.tryCatchBlocks) {
-            if (block.type != null) {
-                mention(block.type);
-            }
-        }
-        for (AbstractInsnNode at : method.instructions) {
-            if (at instanceof MethodInsnNode) {
-                follow((MethodInsnNode) at);
-            } else if (at instanceof FieldInsnNode) {
-                follow((FieldInsnNode) at);
-            } else if (at instanceof TypeInsnNode) {
-                follow((TypeInsnNode) at);
-            } else if (at instanceof MultiANewArrayInsnNode) {
-                array(((MultiANewArrayInsnNode) at).desc);
-            } else if (at instanceof LdcInsnNode && ((LdcInsnNode) at).cst instanceof String) {
-                token((String) ((LdcInsnNode) at).cst);
-            }
-        }
+    private void follow(Uses uses) {
+        uses.named().forEach(this::mention);
+        uses.initialised().forEach(this::initialise);
+        uses.made().forEach(this::make);
+        arrays.addAll(uses.arrays());
+        uses.texts().forEach(this::token);
+        uses.declared().forEach(each -> method(each.owner(), each.key()));
+        uses.selected().forEach(each -> call(each.owner(), each.key()));
     }
 
     private void token(String text) {
@@ -175,50 +157,6 @@ final class Reach {
         for (String name : namedByTexts) {
             mention(name);
             tokens.add(hierarchy.tokenOf(name));
-        }
-    }
-
-    private void array(String descriptor) {
-        mention(descriptor);
-        for (String at = descriptor; at.startsWith("["); at = at.substring(1)) {
-            arrays.add(at);
-        }
-    }
-
-    private void follow(TypeInsnNode use) {
-        if (use.getOpcode() == Opcodes.NEW) {
-            make(use.desc);
-        } else if (use.getOpcode() == Opcodes.ANEWARRAY) {
-            array("[" + Type.getObjectType(use.desc).getDescriptor());
-        } else if (use.desc.startsWith("[")) {
-            array(use.desc);
-        } else {
-            mention(use.desc);
-        }
-    }
-
-    private void follow(FieldInsnNode use) {
-        mention(use.owner);
-        if (use.getOpcode() == Opcodes.GETSTATIC || use.getOpcode() == Opcodes.PUTSTATIC) {
-            initialise(use.owner);
-        }
-    }
-
-    private void follow(MethodInsnNode call) {
-        if (call.owner.startsWith("[")) {
-            return;
-        }
-        mention(call.owner);
-        String key = call.name + call.desc;
-        String declarer = hierarchy.isBuiltin(call.owner) ? null : hierarchy.declarer(call.owner, key);
-        if (declarer != null) {
-            if (call.getOpcode() == Opcodes.INVOKESTATIC) {
-                initialise(declarer);
-            }
-            method(declarer, key);
-        }
-        if (call.getOpcode() == Opcodes.INVOKEVIRTUAL || call.getOpcode() == Opcodes.INVOKEINTERFACE) {
-            call(call.owner, key);
         }
     }
 
@@ -257,23 +195,10 @@ final class Reach {
         return arrays;
     }
 
-    /** Takes classes that a method names as mentioned ones, without following it. */
-    void mentionsOf(MethodNode method) {
-        for (TryCatchBlockNode block : method.tryCatchBlocks) {
-            if (block.type != null) {
-                mention(block.type);
-            }
-        }
-        for (AbstractInsnNode at : method.instructions) {
-            if (at instanceof MethodInsnNode) {
-                mention(((MethodInsnNode) at).owner);
-            } else if (at instanceof FieldInsnNode) {
-                mention(((FieldInsnNode) at).owner);
-            } else if (at instanceof TypeInsnNode) {
-                mention(((TypeInsnNode) at).desc);
-            } else if (at instanceof MultiANewArrayInsnNode) {
-                mention(((MultiANewArrayInsnNode) at).desc);
-            }
+    /** Takes classes that the methods of a class name as mentioned ones, without following these. */
+    void mentionsOf(String name) {
+        if (whole.add(name)) {
+            hierarchy.node(name).methods.forEach(method -> hierarchy.uses(method).named().forEach(this::mention));
         }
     }
 }

@@ -42,7 +42,7 @@ final class Reflections {
                 .collect(Collectors.toList());
     }
 
-    /** A line for each member: kind, name, access flags, type or result, parameters, annotations; class tokens for the types. */
+    /** A line for each member: kind, name, access flags, type or result, parameters, annotations, what it throws; class tokens for the types. */
     String table(Types types) {
         List<String> lines = new ArrayList<>();
         for (Object member : members) {
@@ -55,8 +55,9 @@ final class Reflections {
                 String parameters =
                         Stream.of(Type.getArgumentTypes(method.desc)).map(types::token).collect(Collectors.joining(","));
                 String kind = method.name.equals("<init>") ? "C" : "M";
+                String thrown = method.exceptions.stream().map(each -> types.token(Type.getObjectType(each))).collect(Collectors.joining(","));
                 lines.add(kind + "|" + method.name + "|" + method.access + "|" + types.token(Type.getReturnType(method.desc)) + "|" + parameters
-                        + "|" + annotations(method.visibleAnnotations, types));
+                        + "|" + annotations(method.visibleAnnotations, types) + "|" + thrown);
             }
         }
         return String.join("\n", lines);

@@ -79,30 +79,59 @@ final class Rewriter {
         LEAN
     }
 
-    /** What these methods reach, in whole classes where a suite has room for them. Fails as the form with two parameters does. */
+    /** What these methods reach, in whole classes where a suite has room for them. Fails as `Growing.add` does. */
     Reached reach(Collection<MethodRef> roots) {
-        Reached whole = reach(roots, Form.WHOLE);
-        return whole.classes().size() <= MOST_CLASSES ? whole : reach(roots, Form.LEAN);
+        Growing whole = new Growing(Form.WHOLE);
+        return whole.add(roots) <= MOST_CLASSES ? whole.reached() : reach(roots, Form.LEAN);
     }
 
-    /** What these methods reach. Fails with IllegalArgumentException where one isn't found. */
+    /** What these methods reach. Fails as `Growing.add` does. */
     Reached reach(Collection<MethodRef> roots, Form form) {
-        Reach reach = new Reach(hierarchy);
-        roots.forEach(reach::root);
-        completeTables(reach);
-        SortedSet<String> used = new TreeSet<>(reach.used());
-        for (String name : used) {
-            if (isWhole(name, form)) {
-                hierarchy.node(name).methods.forEach(reach::mentionsOf);
-            }
+        Growing growing = new Growing(form);
+        growing.add(roots);
+        return growing.reached();
+    }
+
+    /** What roots reach that are added one after the other. */
+    final class Growing {
+        private final Form form;
+        private final Reach reach = new Reach(hierarchy);
+        private final List<MethodRef> roots = new ArrayList<>();
+
+        Growing(Form form) {
+            this.form = form;
         }
-        SortedSet<String> classes = new TreeSet<>(reach.mentioned());
-        classes.addAll(used);
-        SortedSet<String> initialised = new TreeSet<>(reach.initialised());
-        initialised.removeIf(name -> world.ancestors(name).stream().noneMatch(above -> reach.reaches(above, "<clinit>()V")));
-        SortedSet<String> methods = new TreeSet<>();
-        reach.methods().forEach((owner, keys) -> keys.forEach(key -> methods.add(owner + "." + key)));
-        return new Reached(List.copyOf(roots), classes, cuts(reach), initialised, methods, form, reach);
+
+        Form form() {
+            return form;
+        }
+
+        /** Adds methods, and answers how many classes all of them need. Fails with IllegalArgumentException where one isn't found. */
+        int add(Collection<MethodRef> more) {
+            roots.addAll(more);
+            more.forEach(reach::root);
+            completeTables(reach);
+            Set<String> used = reach.used();
+            used.stream().filter(name -> isWhole(name, form)).forEach(reach::mentionsOf);
+            used.removeAll(reach.mentioned());
+            return used.size() + reach.mentioned().size();
+        }
+
+        /** Whether they may initialise the class, by its internal name. */
+        boolean initialises(String name) {
+            return reach.initialised().contains(name);
+        }
+
+        /** What they reach by now. */
+        Reached reached() {
+            SortedSet<String> classes = new TreeSet<>(reach.mentioned());
+            classes.addAll(reach.used());
+            SortedSet<String> initialised = new TreeSet<>(reach.initialised());
+            initialised.removeIf(name -> world.ancestors(name).stream().noneMatch(above -> reach.reaches(above, "<clinit>()V")));
+            SortedSet<String> methods = new TreeSet<>();
+            reach.methods().forEach((owner, keys) -> keys.forEach(key -> methods.add(owner + "." + key)));
+            return new Reached(List.copyOf(roots), classes, cuts(reach), initialised, methods, form, reach);
+        }
     }
 
     /** What tables call: `values` of enums, constructors, and members that are used by reflection; of classes whose tokens are named. */

@@ -13,11 +13,13 @@ import java.util.Set;
 /**
  * Which classes of the JDK are served by their own code: the table `served-jdk.txt`. A line `+ PREFIX` serves the classes whose names
  * begin so, `- PREFIX` doesn't; the longest line that fits holds. Throwables of Java's packages are served. A line `x CLASS.METHOD` cuts
- * a method that would bring in more than it is worth.
+ * a method that would bring in more than it is worth. A line `c CLASS.FIELD NEW` tells of a static field that it is a cache, which
+ * changes no result: each read of it makes a new object of the class NEW, so that it ties no tests.
  */
 final class ServedJdk {
     private final Map<String, Boolean> prefixes = new HashMap<>();
     private final Set<String> leftOut = new HashSet<>();
+    private final Map<String, String> caches = new HashMap<>();
 
     ServedJdk() {
         try (BufferedReader lines = new BufferedReader(
@@ -32,6 +34,9 @@ final class ServedJdk {
         String name = line.substring(2);
         if (line.charAt(0) == 'x') {
             leftOut.add(name);
+        } else if (line.charAt(0) == 'c') {
+            String[] words = name.split(" ");
+            caches.put(words[0], words[1]);
         } else {
             prefixes.put(name, line.charAt(0) == '+');
         }
@@ -40,6 +45,11 @@ final class ServedJdk {
     /** Whether a method of a class that is served isn't. */
     boolean leavesOut(String owner, String method) {
         return leftOut.contains(owner + "." + method);
+    }
+
+    /** The class of which a read of a static field makes an object, where the field is a cache; else null. */
+    String madeAnew(String owner, String field) {
+        return caches.get(owner + "." + field);
     }
 
     boolean serves(String name) {

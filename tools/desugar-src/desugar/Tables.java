@@ -2,6 +2,7 @@ package desugar;
 
 import static org.objectweb.asm.Opcodes.*;
 
+import java.nio.charset.StandardCharsets;
 import java.util.ArrayList;
 import java.util.Comparator;
 import java.util.List;
@@ -11,6 +12,7 @@ import java.util.SortedMap;
 import java.util.TreeMap;
 import java.util.TreeSet;
 import java.util.function.Consumer;
+import java.util.regex.Pattern;
 import org.objectweb.asm.Type;
 import org.objectweb.asm.tree.ClassNode;
 import org.objectweb.asm.tree.InsnList;
@@ -30,10 +32,12 @@ import org.objectweb.asm.tree.VarInsnNode;
  * token, and what is asked of tokens.
  */
 final class Tables {
+    private static final String STRINGS = "[Ljava/lang/String;";
     private static final String[] PRIMITIVE_ARRAYS = {"[I", "[J", "[C", "[B", "[S", "[Z"};
 
-    /** The most letters of a text that surely fit a constant of a class file (JVMS 4.4.7). */
-    private static final int MOST_TEXT = 21000;
+    /** The most bytes of a text that is a constant of a class file (JVMS 4.4.7). */
+    private static final int MOST_TEXT = 65535;
+    private static final Pattern ARRAY_TOKEN = Pattern.compile("class \\[+([ZCBSIJFD]|L[^;\\[]+;)");
 
     private final Hierarchy hierarchy;
     private final World world;
@@ -41,6 +45,7 @@ final class Tables {
     private final Reach reach;
     private final List<String> arrays;
     private final SortedMap<String, String> tokens;
+    private final SortedMap<String, String> named;
     private final Set<String> described;
 
     Tables(Hierarchy hierarchy, Reach reach) {
@@ -50,18 +55,21 @@ final class Tables {
         this.reach = reach;
         this.arrays = arrayTypes();
         this.tokens = tokens();
+        this.named = named();
         this.described = described();
     }
 
-    /** Reference array types that are made or named, each before those that it is assignable to. */
+    /** Reference array types that are made or named, each before those that it is assignable to; that of String first, as most are. */
     private List<String> arrayTypes() {
         Set<String> found = new TreeSet<>(reach.arrays());
         found.add("[Ljava/lang/Object;");
-        found.add("[Ljava/lang/String;");
+        found.add(STRINGS);
         List<String> sorted = new ArrayList<>(found);
         sorted.removeIf(each -> each.length() == 2);
         Comparator<String> deepest = Comparator.comparing(each -> -each.lastIndexOf('['));
         sorted.sort(deepest.thenComparing(each -> -depth(each)).thenComparing(Comparator.naturalOrder()));
+        sorted.remove(STRINGS);
+        sorted.add(0, STRINGS);
         return sorted;
     }
 
@@ -102,6 +110,18 @@ final class Tables {
         }
         for (String name : world.builtins.names()) {
             found.put("class " + Types.dotted(name), name);
+        }
+        return found;
+    }
+
+    /** The same, with the classes that tokens name and those above them, of which the suite may have none: what is told of them is text. */
+    private SortedMap<String, String> named() {
+        SortedMap<String, String> found = new TreeMap<>(tokens);
+        for (String token : reach.tokens()) {
+            String name = token.substring(token.indexOf(' ') + 1).replace('.', '/');
+            if (!name.startsWith("[") && !name.contains(" ") && world.get(name) != null) {
+                world.ancestors(name).forEach(at -> found.put(hierarchy.tokenOf(at), at));
+            }
         }
         return found;
     }
@@ -335,7 +355,7 @@ final class Tables {
         }
         cases.put("class java.lang.String", code -> ask(code, "isText"));
         cases.put("class java.lang.Class", code -> ask(code, "isClass"));
-        for (String name : List.of("java/lang/Comparable", "java/lang/CharSequence", "java/io/Serializable", "java/lang/Cloneable")) {
+        for (String name : List.of("java/lang/Comparable", "java/lang/CharSequence", "java/io/Serializable", "java/lang/Cloneable", Types.TYPE)) {
             cases.put(hierarchy.tokenOf(name), code -> ask(code, "is" + name.substring(name.lastIndexOf('/') + 1)));
         }
         return cases;
@@ -359,7 +379,7 @@ final class Tables {
 
     private SortedMap<String, Consumer<InsnList>> texts(Text text) {
         SortedMap<String, Consumer<InsnList>> cases = new TreeMap<>();
-        tokens.forEach((token, name) -> {
+        named.forEach((token, name) -> {
             String given = text.of(name);
             if (given != null) {
                 cases.put(token, code -> text(code, given));
@@ -401,16 +421,21 @@ final class Tables {
 
     private SortedMap<String, Consumer<InsnList>> modifiers() {
         SortedMap<String, Consumer<InsnList>> cases = new TreeMap<>();
-        tokens.forEach((token, name) -> {
+        named.forEach((token, name) -> {
             ClassNode node = world.get(name);
             if (node != null) {
                 cases.put(token, code -> {
-                    code.add(new LdcInsnNode(node.access & ~(ACC_SUPER | ACC_DEPRECATED)));
+                    code.add(new LdcInsnNode(flags(node) & ~(ACC_SUPER | ACC_DEPRECATED)));
                     code.add(new InsnNode(IRETURN));
                 });
             }
         });
         return cases;
+    }
+
+    /** The flags of the class as its source has them, where it stands in another one (JVMS 4.7.6); else those of the class file. */
+    private static int flags(ClassNode node) {
+        return node.innerClasses.stream().filter(each -> each.name.equals(node.name)).map(each -> each.access).findFirst().orElse(node.access);
     }
 
     /** Classes whose members are told: those of the project and its jars, and those above them. */
@@ -437,7 +462,7 @@ final class Tables {
 
     private String members(String name) {
         String table = world.asItStands(name).map(node -> new Reflections(node).table(types)).orElse("");
-        return table.length() > MOST_TEXT ? null : table;
+        return table.getBytes(StandardCharsets.UTF_8).length > MOST_TEXT ? null : table;
     }
 
     /** Calls of the class beside a class of the project, which uses its members. */
@@ -478,7 +503,12 @@ final class Tables {
         for (String array : PRIMITIVE_ARRAYS) {
             cases.put(array, code -> text(code, "class " + array));
         }
-        tokens.forEach((token, name) -> cases.put(token.substring(token.indexOf(' ') + 1), code -> text(code, token)));
+        for (String token : reach.tokens()) {
+            if (ARRAY_TOKEN.matcher(token).matches()) {
+                cases.put(token.substring(token.indexOf(' ') + 1), code -> text(code, token));
+            }
+        }
+        named.keySet().forEach(token -> cases.put(token.substring(token.indexOf(' ') + 1), code -> text(code, token)));
         return cases;
     }
 

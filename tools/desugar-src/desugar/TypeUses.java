@@ -15,7 +15,7 @@ import org.objectweb.asm.tree.TypeInsnNode;
 final class TypeUses {
     private static final String OBJECTS = Library.HELPERS + "ObjectHelpers";
     private static final Set<String> ASKED =
-            Set.of("java/lang/Comparable", "java/lang/CharSequence", "java/io/Serializable", "java/lang/Cloneable");
+            Set.of("java/lang/Comparable", "java/lang/CharSequence", "java/io/Serializable", "java/lang/Cloneable", Types.TYPE);
 
     private final Body body;
 

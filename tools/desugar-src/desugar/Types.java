@@ -19,10 +19,11 @@ final class Types {
     static final String PRINTER = "java/io/PrintStream";
     /** Built-in classes that are moved to classes of the library, which have all of Java's members. */
     static final Map<String, String> REPLACED = Map.of(BUILDER, Library.BUILDER, PRINTER, Library.HELPERS + "PrintStream");
-    /** Interfaces that String has in Java; String here has none, so that arrays of them are arrays of Object. */
+    static final String TYPE = "java/lang/reflect/Type";
+    /** Interfaces that String or Class has in Java; String here has none, so that arrays of them are arrays of Object. */
     static final Set<String> OF_STRING =
             Set.of("java/lang/Comparable", "java/lang/CharSequence", "java/io/Serializable", "java/lang/constant/Constable",
-                    "java/lang/constant/ConstantDesc");
+                    "java/lang/constant/ConstantDesc", TYPE);
     private static final Map<String, String> MOVED = Map.of(CLASS, Builtins.STRING, BUILDER, Library.BUILDER, PRINTER, REPLACED.get(PRINTER));
 
     private final World world;

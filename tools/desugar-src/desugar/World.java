@@ -10,6 +10,7 @@ import java.util.Map;
 import java.util.Optional;
 import java.util.Set;
 import org.objectweb.asm.Opcodes;
+import org.objectweb.asm.Type;
 import org.objectweb.asm.tree.ClassNode;
 import org.objectweb.asm.tree.FieldNode;
 import org.objectweb.asm.tree.MethodNode;
@@ -80,6 +81,14 @@ final class World {
     /** Whether a method of a class of the JDK is left out. */
     boolean leavesOut(String owner, String method) {
         return originOf(owner) == Origin.JDK && served.leavesOut(owner, method);
+    }
+
+    /** The class of which a read of a static field of the JDK makes an object, where the field is a cache and has the type; else null. */
+    String madeAnew(String owner, String field, String descriptor) {
+        String made = served.madeAnew(owner, field);
+        boolean fits = made != null && exists(owner) && originOf(owner) == Origin.JDK
+                && isSubtype(made, Type.getType(descriptor).getInternalName()) && method(get(made), "<init>", "()V") != null;
+        return fits ? made : null;
     }
 
     /** The class as the project, a jar or the JDK has it, also where it is built in here. */

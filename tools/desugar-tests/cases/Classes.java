@@ -115,4 +115,29 @@ public class Classes {
     public static void testInstance() throws Exception {
         System.out.println(Class.forName("Classes$Base").getSimpleName());
     }
+
+    interface Shape {}
+
+    static class Round implements Shape {}
+
+    private static final class Oval extends Round implements java.io.Serializable {}
+
+    /** Of these classes tokens alone are there. */
+    public static void testNamedOnly() throws ClassNotFoundException {
+        System.out.println(Oval.class.getSuperclass() + " " + Oval.class.getInterfaces().length + " " + java.lang.reflect.Modifier.toString(Oval.class.getModifiers()));
+        System.out.println(java.lang.annotation.Retention.class.isAnnotation() + " " + (Class.forName("[LClasses$Round;") == Round[].class));
+        for (String name : new String[] {"[", "[L;", "[[int", "int", "a[]"}) {
+            try {
+                System.out.println(Class.forName(name));
+            } catch (ClassNotFoundException e) {
+                System.out.println("none " + e.getMessage());
+            }
+        }
+    }
+
+    public static void testTypes() {
+        java.lang.reflect.Type[] types = {String.class, Round.class};
+        Object first = types[0];
+        System.out.println(types[1].getTypeName() + (first instanceof java.lang.reflect.Type) + "x".equals(first));
+    }
 }

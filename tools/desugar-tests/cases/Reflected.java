@@ -87,4 +87,25 @@ public class Reflected {
             System.out.println("refused");
         }
     }
+
+    public static void testAccess() throws Exception {
+        ReflectedBeside beside = new ReflectedBeside();
+        System.out.println(ReflectedBeside.class.getDeclaredField("near").get(beside) + " " + ReflectedBeside.class.getDeclaredField("kept").get(beside));
+        try {
+            ReflectedBeside.class.getDeclaredField("hidden").get(beside);
+        } catch (IllegalAccessException e) {
+            System.out.println("hidden");
+        }
+        System.out.println(Bean.class.getDeclaredField("name").get(new Bean()));
+        Method risky = ReflectedBeside.class.getDeclaredMethod("risky");
+        System.out.println(risky + " " + risky.getExceptionTypes().length);
+    }
+}
+
+class ReflectedBeside {
+    private int hidden = 1;
+    int near = 2;
+    protected int kept = 3;
+
+    void risky() throws java.io.IOException, IllegalStateException {}
 }

@@ -297,11 +297,41 @@ public final class ClassHelpers {
         if (name == null) {
             throw new NullPointerException();
         }
-        String token = name.isEmpty() ? null : name.charAt(0) == '[' ? CLASS.concat(name) : Tables.byName(name);
+        String token = name.isEmpty() ? null : name.charAt(0) == '[' ? ofArray(name) : Tables.byName(name);
         if (token == null) {
-            throw new Unserved("java.lang.Class.forName of ".concat(name));
+            throw absent(name, name);
         }
         return type(token);
+    }
+
+    /** The token of an array's class by its name, such as `[La.b.C;`. */
+    private static String ofArray(String name) throws ClassNotFoundException {
+        String known = Tables.byName(name);
+        int from = 0;
+        while (from < name.length() && name.charAt(from) == '[') {
+            from++;
+        }
+        String element = name.substring(from);
+        boolean ofClass = StringHelpers.startsWith(element, "L") && StringHelpers.endsWith(element, ";");
+        boolean ofNumbers = element.length() == 1 && StringHelpers.indexOf("ZCBSIJFD", element.charAt(0)) >= 0;
+        String inner = ofClass ? element.substring(1, element.length() - 1) : "";
+        if (known == null && !ofNumbers && (inner.isEmpty() || Tables.byName(inner) == null)) {
+            throw absent(name, inner);
+        }
+        return known != null ? known : CLASS.concat(name);
+    }
+
+    /** A class of no name that one may have isn't there; of any other it isn't known whether it is. */
+    private static ClassNotFoundException absent(String asked, String name) {
+        boolean primitive = StringHelpers.indexOf(" boolean char byte short int long float double void ", " ".concat(name).concat(" ")) >= 0;
+        boolean mayBe = !name.isEmpty() && !primitive && StringHelpers.indexOf(name, "..") < 0;
+        for (int i = 0; i < name.length(); i++) {
+            mayBe = mayBe && StringHelpers.indexOf("[];/ ", name.charAt(i)) < 0;
+        }
+        if (mayBe && name.charAt(0) != '.' && name.charAt(name.length() - 1) != '.') {
+            throw new Unserved("java.lang.Class.forName of ".concat(asked));
+        }
+        return new ClassNotFoundException(asked);
     }
 
     public static Class<?> forName(String name, boolean initialise, ClassLoader loader) throws ClassNotFoundException {

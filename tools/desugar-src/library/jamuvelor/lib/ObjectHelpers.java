@@ -79,6 +79,10 @@ public final class ObjectHelpers {
         return object instanceof Cloneable || isArray(object);
     }
 
+    public static boolean isType(Object object) {
+        return object instanceof java.lang.reflect.Type || isClass(object);
+    }
+
     public static ClassCastException noCast(Object object, String name) {
         return new ClassCastException("class " + ClassHelpers.nameOf(token(object)) + " cannot be cast to class " + name);
     }
@@ -104,6 +108,12 @@ public final class ObjectHelpers {
     public static void asCloneable(Object object) {
         if (object != null && !isCloneable(object)) {
             throw noCast(object, "java.lang.Cloneable");
+        }
+    }
+
+    public static void asType(Object object) {
+        if (object != null && !isType(object)) {
+            throw noCast(object, "java.lang.reflect.Type");
         }
     }
 

@@ -7,7 +7,7 @@ import java.lang.reflect.Modifier;
 import java.util.ArrayList;
 import java.util.List;
 
-/** Members of classes by the table that a suite has of them: `KIND|NAME|FLAGS|TYPE|PARAMETERS|ANNOTATIONS` for each, with class tokens. */
+/** Members of classes by the table that a suite has of them: `KIND|NAME|FLAGS|TYPE|PARAMETERS|ANNOTATIONS|THROWN` for each, with class tokens. */
 public final class Reflection {
     private Reflection() {}
 
@@ -17,6 +17,12 @@ public final class Reflection {
 
     private static Unserved unserved(Class<?> owner) {
         return new Unserved("reflection of a class that isn't the project's: ".concat(owner.getName()));
+    }
+
+    /** Whether the class of this name, as far as it is told, is below another one. */
+    public static boolean isBelow(String name, Class<?> above) {
+        String token = Tables.byName(name);
+        return token != null && above.isAssignableFrom((Class<?>) (Object) token);
     }
 
     /** The lines of a class's members. */
@@ -35,7 +41,8 @@ public final class Reflection {
         return (Class<?>) (Object) ClassHelpers.canonical(token);
     }
 
-    private static Class<?>[] types(String tokens) {
+    /** The classes of tokens that are joined by commas. */
+    public static Class<?>[] types(String tokens) {
         String[] each = tokens.isEmpty() ? new String[0] : tokens.split(",");
         Class<?>[] types = new Class<?>[each.length];
         for (int i = 0; i < each.length; i++) {
@@ -50,7 +57,7 @@ public final class Reflection {
         for (int i = 0; i < lines.length; i++) {
             if (lines[i].charAt(0) == 'M') {
                 String[] parts = lines[i].split("\\|", -1);
-                found.add(new Method(owner, i, parts[1], Integer.parseInt(parts[2]), types(parts[4]), type(parts[3]), parts[5]));
+                found.add(new Method(owner, i, parts[1], Integer.parseInt(parts[2]), types(parts[4]), type(parts[3]), parts[5], parts[6]));
             }
         }
         return found.toArray(new Method[0]);
@@ -62,7 +69,7 @@ public final class Reflection {
         for (int i = 0; i < lines.length; i++) {
             if (lines[i].charAt(0) == 'C') {
                 String[] parts = lines[i].split("\\|", -1);
-                found.add(new Constructor<Object>(owner, i, Integer.parseInt(parts[2]), types(parts[4]), parts[5]));
+                found.add(new Constructor<Object>(owner, i, Integer.parseInt(parts[2]), types(parts[4]), parts[5], parts[6]));
             }
         }
         return found.toArray(new Constructor<?>[0]);

@@ -22,4 +22,10 @@ public class Unserved extends Error {
             mark("class that failed to initialise");
         }
     }
+
+    /** The initialiser of a class ends with this: says so, as later uses of the class tell neither which it is nor why it failed. */
+    public static void failed(Throwable thrown, String name) {
+        String why = thrown instanceof Unserved ? thrown.getMessage() : ThrowableHelpers.superToString(thrown);
+        Output.println("##failed ".concat(name).concat(" ").concat(why));
+    }
 }

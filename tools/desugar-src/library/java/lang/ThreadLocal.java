@@ -13,8 +13,9 @@ public class ThreadLocal<T> {
         return null;
     }
 
+    /** The value; null is not kept where no class below gives a first one, as that makes no difference. */
     public T get() {
-        if (!isSet) {
+        if (!isSet && getClass() != ThreadLocal.class) {
             set(initialValue());
         }
         return value;

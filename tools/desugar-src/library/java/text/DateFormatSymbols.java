@@ -123,11 +123,7 @@ public class DateFormatSymbols implements java.io.Serializable, Cloneable {
     }
 
     public String[][] getZoneStrings() {
-        String[][] copy = new String[zoneStrings.length][];
-        for (int i = 0; i < copy.length; i++) {
-            copy[i] = zoneStrings[i].clone();
-        }
-        return copy;
+        throw new Unserved("names of time zones");
     }
 
     final String[][] getZoneStringsWrapper() {

@@ -9,14 +9,17 @@ public abstract class Executable extends AccessibleObject implements Member {
     private final String name;
     private final int modifiers;
     private final Class<?>[] parameters;
+    private final String thrown;
 
-    Executable(Class<?> owner, int index, String name, int modifiers, Class<?>[] parameters, String annotations) {
+    /** @param thrown the class tokens of what it declares to throw, joined by commas */
+    Executable(Class<?> owner, int index, String name, int modifiers, Class<?>[] parameters, String annotations, String thrown) {
         super(annotations);
         this.owner = owner;
         this.index = index;
         this.name = name;
         this.modifiers = modifiers;
         this.parameters = parameters;
+        this.thrown = thrown;
     }
 
     @Override
@@ -55,6 +58,10 @@ public abstract class Executable extends AccessibleObject implements Member {
         return parameters.length;
     }
 
+    public Class<?>[] getExceptionTypes() {
+        return Reflection.types(thrown);
+    }
+
     Object[] checked(Object[] arguments) {
         return Reflection.checked(arguments, parameters);
     }
@@ -69,7 +76,12 @@ public abstract class Executable extends AccessibleObject implements Member {
         for (int i = 0; i < parameters.length; i++) {
             text.append(i > 0 ? "," : "").append(parameters[i].getTypeName());
         }
-        return text.append(')').toString();
+        text.append(')');
+        Class<?>[] types = getExceptionTypes();
+        for (int i = 0; i < types.length; i++) {
+            text.append(i > 0 ? "," : " throws ").append(types[i].getTypeName());
+        }
+        return text.toString();
     }
 
     boolean isSame(Executable other) {

@@ -46,8 +46,8 @@ public final class Field extends AccessibleObject implements Member {
         return type;
     }
 
-    private void checkTarget(Object target) throws IllegalAccessException {
-        check(owner, modifiers);
+    private void checkTarget(Object target, String caller) throws IllegalAccessException {
+        check(owner, modifiers, caller);
         if (!Modifier.isStatic(modifiers)) {
             if (target == null) {
                 throw new NullPointerException();
@@ -60,28 +60,52 @@ public final class Field extends AccessibleObject implements Member {
     }
 
     public Object get(Object target) throws IllegalAccessException {
-        checkTarget(target);
+        return get(target, null);
+    }
+
+    public Object get(Object target, String caller) throws IllegalAccessException {
+        checkTarget(target, caller);
         return Reflection.get(owner, index, target);
     }
 
     public int getInt(Object target) throws IllegalAccessException {
-        return ((Number) get(target)).intValue();
+        return getInt(target, null);
+    }
+
+    public int getInt(Object target, String caller) throws IllegalAccessException {
+        return ((Number) get(target, caller)).intValue();
     }
 
     public long getLong(Object target) throws IllegalAccessException {
-        return ((Number) get(target)).longValue();
+        return getLong(target, null);
+    }
+
+    public long getLong(Object target, String caller) throws IllegalAccessException {
+        return ((Number) get(target, caller)).longValue();
     }
 
     public double getDouble(Object target) throws IllegalAccessException {
-        return ((Number) get(target)).doubleValue();
+        return getDouble(target, null);
+    }
+
+    public double getDouble(Object target, String caller) throws IllegalAccessException {
+        return ((Number) get(target, caller)).doubleValue();
     }
 
     public boolean getBoolean(Object target) throws IllegalAccessException {
-        return (Boolean) get(target);
+        return getBoolean(target, null);
+    }
+
+    public boolean getBoolean(Object target, String caller) throws IllegalAccessException {
+        return (Boolean) get(target, caller);
     }
 
     public void set(Object target, Object value) throws IllegalAccessException {
-        checkTarget(target);
+        set(target, value, null);
+    }
+
+    public void set(Object target, Object value, String caller) throws IllegalAccessException {
+        checkTarget(target, caller);
         boolean constant = Modifier.isFinal(modifiers) && (Modifier.isStatic(modifiers) || !isAccessible());
         if (constant) {
             throw new IllegalAccessException("Can not set final field " + owner.getTypeName() + "." + name);

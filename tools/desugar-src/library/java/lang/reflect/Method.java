@@ -6,8 +6,8 @@ public final class Method extends Executable {
     private final Class<?> result;
 
     public Method(
-            Class<?> owner, int index, String name, int modifiers, Class<?>[] parameters, Class<?> result, String annotations) {
-        super(owner, index, name, modifiers, parameters, annotations);
+            Class<?> owner, int index, String name, int modifiers, Class<?>[] parameters, Class<?> result, String annotations, String thrown) {
+        super(owner, index, name, modifiers, parameters, annotations, thrown);
         this.result = result;
     }
 
@@ -24,7 +24,11 @@ public final class Method extends Executable {
     }
 
     public Object invoke(Object target, Object[] arguments) throws IllegalAccessException, InvocationTargetException {
-        check(owner, getModifiers());
+        return invoke(target, arguments, null);
+    }
+
+    public Object invoke(Object target, Object[] arguments, String caller) throws IllegalAccessException, InvocationTargetException {
+        check(owner, getModifiers(), caller);
         if (!Modifier.isStatic(getModifiers())) {
             if (target == null) {
                 throw new NullPointerException();
