@@ -301,9 +301,9 @@ store_put m k sort.File name c h ts p q f = after_put m k (place.File name) c h 
 store_put m k sort.Prop name c h ts p q f = after_put m k (place.Prop name) c h ts refl tt p q f
 
 -- a part of the memory was lent after a touch was noted
-pub lent : {T E : Type 0} (C : Type 0) (r : Result T E) (m n : TaggedMemory) (k : Kept) (xs : List Touch) → OnOk r ((k.program ≡ n.memory.program) × (k.world ≡ n.memory.world) × C) → n.memory ≡ m.memory → Extends Follows m n xs →
-    OnOk r ((k.program ≡ m.memory.program) × (k.world ≡ m.memory.world) × Extends Follows m (record n { memory = k }) xs)
-lent C r m n k xs q e a = on_ok_weaker r (λ z. (z.0 ∙ ap (λ (v : Kept). v.program) e, z.1 ∙ ap (λ (v : Kept). v.world) e, λ h ts f. after_read n k h (ts ++ xs) z.0 z.1 (a h ts f))) q
+pub lent : {T E : Type 0} (C : Type 0) (r : Result T E) (m n : TaggedMemory) (k : Kept) (xs : List Touch) → (k.program ≡ n.memory.program) × OnOk r ((k.world ≡ n.memory.world) × C) → n.memory ≡ m.memory → Extends Follows m n xs →
+    (k.program ≡ m.memory.program) × OnOk r ((k.world ≡ m.memory.world) × Extends Follows m (record n { memory = k }) xs)
+lent C r m n k xs q e a = (q.0 ∙ ap (λ (v : Kept). v.program) e, on_ok_weaker r (λ z. (z.0 ∙ ap (λ (v : Kept). v.world) e, λ h ts f. after_read n k h (ts ++ xs) q.0 z.0 (a h ts f))) q.1)
 
 abbrev pub Grows : Tags → Tags → Type 0
 Grows a b = (n : Numbering) (T : Touches) (t : ℕ) (ts : List Touch) (ls : List Location) → length n.cells ≡ count a.cells → Stands n T t ts a → Stands (with_cells n ls) T t ts b

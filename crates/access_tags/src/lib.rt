@@ -8,10 +8,10 @@
 //! - `TaggedMemory::reaches` gives what each test of such a run reaches, and whether it is settled.
 //! - `tags_law` says that conflicts read off the tags are those of the definition.
 //!
-//! Nothing that ties the tags to the world is an invariant, as a memory says nothing after a
-//! refusal: `follows` holds all of that. Intervals stand in a region, so that none is moved as it
-//! grows, with 32 bits for an object and a number; past that there is no memory. Readers are never
-//! given back.
+//! Nothing that ties the tags to the world is an invariant, as a memory says nothing of its world
+//! after a refusal: `follows` holds all of that. Intervals stand in a region, so that none is moved
+//! as it grows, with 32 bits for an object and a number; past that there is no memory. Readers are
+//! never given back.
 #![tactic(auto)]
 
 ghost use Rattle.access_tags.specs.Tag.{TagsLaw, RowsLaw};

@@ -1,5 +1,5 @@
 -- What contracts say of the use of a class.
-use Rattle.std.specs.Prelude.{◌≡◌, ◌≢◌, ℕ, List, Bool, true, false}
+use Rattle.std.specs.Prelude.{◌≡◌, ◌≢◌, ℕ, List, Bool, true, false, Result, IfOk}
 use Rattle.jvm_model.specs.declared.program.Program.{Program}
 use Rattle.jvm_model.specs.declared.values.Touch.{Touch}
 use Rattle.jvm_model.specs.World.{World}
@@ -24,9 +24,9 @@ use_outcome Begun s w left = ended (begun s) w left
 use_outcome (Fault c) s w left = ended (refused c) w left
 use_outcome Over s w left = over
 
--- each location that the use of the class meets is there
-abbrev pub IsUsable : ℕ → Program → World → Entries → Type 0
-IsUsable c p w s = IsSafe Any (begin p c s) w
+-- a memory is of the program, and each location that the use of the class meets is there
+abbrev pub IsUsable : {M : Type 0} → ℕ → Program → (M → Program) → (M → World) → M → Entries → Type 0
+IsUsable c p program world m s = (p ≡ program m) × IsSafe Any (begin p c s) (world m)
 
 -- the use of the class, with the 1 of the step where the answer counts it, ends as a call answered
 abbrev pub RefinesUse : ℕ → Program → World → Entries → ℕ → Use → Entries → World → ℕ → Type 0
@@ -35,3 +35,11 @@ RefinesUse c p w s left u s' w' left' = counted (paid (counts_step u) (begin p c
 -- unless its cost is above the units left, a memory then follows the touches of the use
 abbrev pub TracesUse : {M : Type 0} → ℕ → Program → World → Entries → Use → (M → Trace → List Touch → Type 0) → M → M → Type 0
 TracesUse c p w s u follows old new = u ≢ Over → (h : Trace) (ts : List Touch) → follows old h ts → follows new h (touched (begin p c s) w ts)
+
+-- A call uses the class over a memory, which stays of its program. Where it answers, it ended as the use, with these entries
+-- and units left, and the memory follows the touches.
+abbrev pub MakesUse : {M E : Type 0} → ℕ → (M → Program) → (M → World) → (M → Trace → List Touch → Type 0) → M → M
+    → Entries → ℕ → Result Use E → Entries → ℕ → Type 0
+MakesUse c program world follows old new s left r s' left' = (program new ≡ program old) × IfOk r (λ u.
+    RefinesUse c (program old) (world old) s left u s' (world new) left'
+    × TracesUse c (program old) (world old) s u follows old new)

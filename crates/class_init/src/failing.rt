@@ -1,8 +1,8 @@
 //! A throwable is raised into an initialisation entry.
 
-ghost use Rattle.std.specs.Prelude.{◌≡◌, IfOk, OnOk};
+ghost use Rattle.std.specs.Prelude.{◌≡◌};
 ghost use Rattle.jvm_model.specs.Initialise as initialise;
-ghost use Rattle.vm_mem.specs.Refines.{IsReady, Refines, Traces};
+ghost use Rattle.vm_mem.specs.Refines.{IsReady, Makes};
 ghost use Rattle.class_init.specs.Starting.{fail_row};
 
 use et_base::NoMemory;
@@ -25,16 +25,9 @@ pub fn fail<M: Memory>(
     thrown: Value,
     left: &mut u64,
 ) -> Result<Next, NoMemory>
-    requires program { p.now ≡ M.program memory.old }
-    requires row { IsReady (fail_row thrown)
-        (M.program memory.old) (M.world memory.old) stack.old }
-    ensures meets { IfOk result (λ x. Refines (fail_row thrown)
-        (M.program memory.old) (M.world memory.old) stack.old left.old
-        x stack.new (M.world memory.new) left.new) }
-    ensures told { IfOk result (λ x. Traces (fail_row thrown)
-        (M.program memory.old) (M.world memory.old) stack.old
-        x M.follows memory.old memory.new) }
-    ensures of { OnOk result (M.program memory.new ≡ M.program memory.old) }
+    requires row { IsReady (fail_row thrown) p.now M.program M.world memory.old stack.old }
+    ensures made { Makes (fail_row thrown) M.program M.world M.follows memory.old memory.new
+        stack.old left.old result stack.new left.new }
 {
     let object = match thrown {
         Value::Obj(object) => object,

@@ -1,10 +1,10 @@
 //! A step on the initialisation entry at the top.
 
-ghost use Rattle.std.specs.Prelude.{◌≡◌, ◌≤◌, ◌-◌, IfOk, OnOk, map, false};
+ghost use Rattle.std.specs.Prelude.{◌≡◌, ◌≤◌, ◌-◌, map, false};
 ghost use Rattle.jvm_model.specs.declared.state.EntryKind.TheVariants.{InClass};
 ghost use Rattle.jvm_model.specs.Initialise.{row_finish};
 ghost use Rattle.vm_tables.specs.Starts.{part_of};
-ghost use Rattle.vm_mem.specs.Refines.{IsReady, Refines, Traces};
+ghost use Rattle.vm_mem.specs.Refines.{IsReady, Makes};
 ghost use Rattle.class_init.specs.Starting.{leave_row, look_row};
 
 use crate::starting::{begin_part, start};
@@ -25,27 +25,18 @@ use vm_tables::{Part, Tables};
 pub fn finish<M: Memory>(
     stack: &mut FrameStack,
     memory: &mut M,
-    p: &Program,
     tables: &Tables,
     left: &mut u64,
 ) -> Result<Next, NoMemory>
-    requires program { p.now ≡ M.program memory.old }
-    requires tables { tables.now ≡ M.program memory.old }
-    requires row { IsReady row_finish
-        (M.program memory.old) (M.world memory.old) stack.old }
-    ensures meets { IfOk result (λ x. Refines row_finish
-        (M.program memory.old) (M.world memory.old) stack.old left.old
-        x stack.new (M.world memory.new) left.new) }
-    ensures told { IfOk result (λ x. Traces row_finish
-        (M.program memory.old) (M.world memory.old) stack.old
-        x M.follows memory.old memory.new) }
-    ensures of { OnOk result (M.program memory.new ≡ M.program memory.old) }
+    requires row { IsReady row_finish tables.now M.program M.world memory.old stack.old }
+    ensures made { Makes row_finish M.program M.world M.follows memory.old memory.new stack.old
+        left.old result stack.new left.new }
 {
     match stack.kind() {
         EntryKind::InClass { entered: false } => {
             let parts = tables.parts(stack.number());
             let spare = *left;
-            look(stack, memory, p, parts, spare, left)
+            look(stack, memory, tables.program(), parts, spare, left)
         }
         EntryKind::InClass { entered: true } => leave(stack, memory, left),
         EntryKind::Absent => unreachable!(),
@@ -59,15 +50,9 @@ fn leave<M: Memory>(
     memory: &mut M,
     left: &mut u64,
 ) -> Result<Next, NoMemory>
-    requires row { IsReady leave_row
-        (M.program memory.old) (M.world memory.old) stack.old }
-    ensures meets { IfOk result (λ x. Refines leave_row
-        (M.program memory.old) (M.world memory.old) stack.old left.old
-        x stack.new (M.world memory.new) left.new) }
-    ensures told { IfOk result (λ x. Traces leave_row
-        (M.program memory.old) (M.world memory.old) stack.old
-        x M.follows memory.old memory.new) }
-    ensures of { OnOk result (M.program memory.new ≡ M.program memory.old) }
+    requires row { IsReady leave_row (M.program memory.old) M.program M.world memory.old stack.old }
+    ensures made { Makes leave_row M.program M.world M.follows memory.old memory.new stack.old
+        left.old result stack.new left.new }
 {
     if *left == 0 {
         return Ok(Next::Over);
@@ -93,18 +78,12 @@ fn look<M: Memory>(
     spare: u64,
     left: &mut u64,
 ) -> Result<Next, NoMemory>
-    requires program { p.now ≡ M.program memory.old }
     requires kind { stack.old.top.kind ≡ InClass false }
     requires spare { spare ≤ left.old }
-    requires row { IsReady (look_row (map part_of parts.now) (left.old - spare))
-        (M.program memory.old) (M.world memory.old) stack.old }
-    ensures meets { IfOk result (λ x. Refines (look_row (map part_of parts.now) (left.old - spare))
-        (M.program memory.old) (M.world memory.old) stack.old left.old
-        x stack.new (M.world memory.new) left.new) }
-    ensures told { IfOk result (λ x. Traces (look_row (map part_of parts.now) (left.old - spare))
-        (M.program memory.old) (M.world memory.old) stack.old
-        x M.follows memory.old memory.new) }
-    ensures of { OnOk result (M.program memory.new ≡ M.program memory.old) }
+    requires row { IsReady (look_row (map part_of parts.now) (left.old - spare)) p.now M.program
+        M.world memory.old stack.old }
+    ensures made { Makes (look_row (map part_of parts.now) (left.old - spare)) M.program M.world
+        M.follows memory.old memory.new stack.old left.old result stack.new left.new }
 {
     let Some((part, rest)) = parts.split_first() else {
         return start(stack, p, spare, left);

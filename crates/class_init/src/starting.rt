@@ -1,10 +1,10 @@
 //! What a class's initialisation begins: that of a part of it, or its `<clinit>`.
 
-ghost use Rattle.std.specs.Prelude.{◌≡◌, ◌≤◌, ◌-◌, IfOk, OnOk, IsSome, false};
+ghost use Rattle.std.specs.Prelude.{◌≡◌, ◌≤◌, ◌-◌, IfOk, IsSome, false};
 ghost use Rattle.jvm_model.specs.declared.state.EntryKind.TheVariants.{InClass};
 ghost use Rattle.jvm_model.specs.Classes.{class_at, method_at};
 ghost use Rattle.jvm_model.specs.World.{World};
-ghost use Rattle.vm_mem.specs.Refines.{IsReady, Refines, Traces};
+ghost use Rattle.vm_mem.specs.Refines.{IsReady, Refines, Makes};
 ghost use Rattle.class_init.specs.Starting.{begin_row, start_row, enter_row, HasStart};
 
 use et_base::NoMemory;
@@ -21,15 +21,10 @@ pub fn begin_part<M: Memory>(
     left: &mut u64,
 ) -> Result<Next, NoMemory>
     requires spare { spare ≤ left.old }
-    requires row { IsReady (begin_row class (left.old - spare))
-        (M.program memory.old) (M.world memory.old) stack.old }
-    ensures meets { IfOk result (λ x. Refines (begin_row class (left.old - spare))
-        (M.program memory.old) (M.world memory.old) stack.old left.old
-        x stack.new (M.world memory.new) left.new) }
-    ensures told { IfOk result (λ x. Traces (begin_row class (left.old - spare))
-        (M.program memory.old) (M.world memory.old) stack.old
-        x M.follows memory.old memory.new) }
-    ensures of { OnOk result (M.program memory.new ≡ M.program memory.old) }
+    requires row { IsReady (begin_row class (left.old - spare)) (M.program memory.old) M.program
+        M.world memory.old stack.old }
+    ensures made { Makes (begin_row class (left.old - spare)) M.program M.world M.follows memory.old
+        memory.new stack.old left.old result stack.new left.new }
 {
     if stack.is_full() {
         *left = spare;

@@ -1,7 +1,7 @@
 //! The use of a class.
 
-ghost use Rattle.std.specs.Prelude.{◌≡◌, ◌≢◌, IfOk, OnOk};
-ghost use Rattle.class_init.specs.Uses.{IsUsable, RefinesUse, TracesUse};
+ghost use Rattle.std.specs.Prelude.{◌≡◌, ◌≢◌, IfOk};
+ghost use Rattle.class_init.specs.Uses.{IsUsable, MakesUse};
 
 use et_base::NoMemory;
 use jvm_model::{InitState, NO_CLASS_DEF_FOUND_ERROR, STACK_OVERFLOW_ERROR};
@@ -32,16 +32,10 @@ pub fn begin_use<M: Memory>(
     class: u32,
     left: &mut u64,
 ) -> Result<Use, NoMemory>
-    requires tables { tables.now ≡ M.program memory.old }
-    requires safe { IsUsable class (M.program memory.old) (M.world memory.old) stack.old }
-    ensures meets { IfOk result (λ u. RefinesUse class
-        (M.program memory.old) (M.world memory.old) stack.old left.old
-        u stack.new (M.world memory.new) left.new) }
-    ensures told { IfOk result (λ u. TracesUse class
-        (M.program memory.old) (M.world memory.old) stack.old
-        u M.follows memory.old memory.new) }
+    requires safe { IsUsable class tables.now M.program M.world memory.old stack.old }
+    ensures made { MakesUse class M.program M.world M.follows memory.old memory.new
+        stack.old left.old result stack.new left.new }
     ensures entries { IfOk result (λ u. u ≢ Use.Begun → stack.new ≡ stack.old) }
-    ensures of { OnOk result (M.program memory.new ≡ M.program memory.old) }
 {
     if tables.is_trivial(class) {
         return Ok(Use::Ready);

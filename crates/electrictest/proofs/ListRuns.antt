@@ -33,7 +33,7 @@ list_ran world follows l p old new tests os begun now e f r =
     }
 
 -- they were refused
-pub list_refused : {M : Type 0} (program : M → Program) (l : Loaded) (p : Program) (w : World) (tests : List ℕ) (m : M) (f : RunFault) → p ≡ l.checked → w ≡ opening l.checked → IsListRefused program p w tests m f → ListRefused l tests (list_status l f)
+pub list_refused : (l : Loaded) (p : Program) (w : World) (tests : List ℕ) (f : RunFault) → p ≡ l.checked → w ≡ opening l.checked → IsListRefused p w tests f → ListRefused l tests (list_status l f)
 unfolding first_over
-list_refused program l p w tests m (fault.OverBudget t) e f h = (t, sym (ap (λ z. first_over_on z w tests) e ∙ ap (λ v. first_over_on l.checked v tests) f) ∙ h.0, refl)
-list_refused program l p w tests m fault.NoMemory e f h = tt
+list_refused l p w tests (fault.OverBudget t) e f h = (t, sym (ap (λ z. first_over_on z w tests) e ∙ ap (λ v. first_over_on l.checked v tests) f) ∙ h, refl)
+list_refused l p w tests fault.NoMemory e f h = tt

@@ -1,8 +1,8 @@
 //! A throwable is raised into a frame.
 
-ghost use Rattle.std.specs.Prelude.{◌≡◌, IfOk, OnOk};
+ghost use Rattle.std.specs.Prelude.{◌≡◌};
 ghost use Rattle.jvm_model.specs.declared.state.EntryKind.TheVariants.{InMethod};
-ghost use Rattle.vm_mem.specs.Refines.{IsReady, Refines, Traces};
+ghost use Rattle.vm_mem.specs.Refines.{IsReady, Makes};
 ghost use Rattle.exception_flow.specs.Raise.{raise_row};
 
 use crate::handlers::handler_of;
@@ -22,17 +22,10 @@ pub fn raise<M: Memory>(
     thrown: Value,
     left: &mut u64,
 ) -> Result<Next, NoMemory>
-    requires program { p.now ≡ M.program memory.old }
     requires frame { stack.old.top.kind ≡ InMethod }
-    requires row { IsReady (raise_row thrown)
-        (M.program memory.old) (M.world memory.old) stack.old }
-    ensures meets { IfOk result (λ x. Refines (raise_row thrown)
-        (M.program memory.old) (M.world memory.old) stack.old left.old
-        x stack.new (M.world memory.new) left.new) }
-    ensures told { IfOk result (λ x. Traces (raise_row thrown)
-        (M.program memory.old) (M.world memory.old) stack.old
-        x M.follows memory.old memory.new) }
-    ensures of { OnOk result (M.program memory.new ≡ M.program memory.old) }
+    requires row { IsReady (raise_row thrown) p.now M.program M.world memory.old stack.old }
+    ensures made { Makes (raise_row thrown) M.program M.world M.follows memory.old memory.new
+        stack.old left.old result stack.new left.new }
 {
     let object = match thrown {
         Value::Obj(object) => object,

@@ -11,10 +11,14 @@ use Rattle.type_frames.specs.TypedState.{TypedWorld}
 use Rattle.test_run.specs.Outcomes.{given_in, touches_of}
 use Rattle.test_run.specs.Running.{IsAfter, Stands}
 
--- the world after a list and one more
+-- the world after two lists, one after the other
+pub world_both : (w : World) (xs ys : List Given) → world_after w (xs ++ ys) ≡ world_after (world_after w xs) ys
+world_both w [] ys = refl
+world_both w (x ∷ xs) ys = world_both x.world xs ys
+
+-- and after a list and one more
 pub world_more : (w : World) (xs : List Given) (x : Given) → world_after w (xs ++ (x ∷ [])) ≡ x.world
-world_more w [] x = refl
-world_more w (y ∷ ys) x = world_more y.world ys x
+world_more w xs x = world_both w xs (x ∷ [])
 
 -- what a test gives under a smaller number, it gives under its budget
 pub own_budget : (p : Program) (w : World) (t b : ℕ) (x : Given) → b ≤ (test_at p t).budget → one_test p w t b ≡ Some x → one_test p w t (test_at p t).budget ≡ Some x
@@ -45,20 +49,19 @@ module _ (p : Program) (q : List ℕ) (w : World) (a : IsAfter p q w) (t b : ℕ
   }
 
 -- A test gave this outcome on a memory, and left another.
-module _ {M : Type 0} (program : M → Program) (world : M → World) (p : Program) (q : List ℕ) (m n : M) (a : Stands program world p q m) (t b : ℕ) (o : Option Outcome) (x : Outcome)
-    (h : b ≤ (test_at p t).budget) (e : one_test (program m) (world m) t b ≡ given_in (program m) t (world m) b o (world n)) (f : o ≡ Some x) where
+module _ {M : Type 0} (world : M → World) (p : Program) (q : List ℕ) (m n : M) (a : Stands world p q m) (t b : ℕ) (o : Option Outcome) (x : Outcome)
+    (h : b ≤ (test_at p t).budget) (e : one_test p (world m) t b ≡ given_in p t (world m) b o (world n)) (f : o ≡ Some x) where
   abbrev given : Given
   given = record { outcome = x; world = world n; touches = touches_of p t (world m) b }
 
   gave : one_test p (world m) t b ≡ Some given
-  gave = subst (λ (z : Program). one_test z (world m) t b ≡ given_in z t (world m) b (Some x) (world n)) a.of (subst (λ (z : Option Outcome). one_test (program m) (world m) t b ≡ given_in (program m) t (world m) b z (world n)) f e)
+  gave = subst (λ (z : Option Outcome). one_test p (world m) t b ≡ given_in p t (world m) b z (world n)) f e
 
   pub last_now : last_outcome p (q ++ (t ∷ [])) ≡ Some x
   last_now = last_is p q (world m) a.after t b given h gave
 
-  pub stands_now : (l : List ℕ) → l ≡ q ++ (t ∷ []) → program n ≡ program m → IfSome o (λ y. TypedWorld (program m) (world n)) → Stands program world p l n
-  stands_now l g k typed = record {
-    of = k ∙ a.of;
+  pub stands_now : (l : List ℕ) → l ≡ q ++ (t ∷ []) → IfSome o (λ y. TypedWorld p (world n)) → Stands world p l n
+  stands_now l g typed = record {
     after = subst (λ (z : List ℕ). IsAfter p z (world n)) (sym g) (after_more p q (world m) a.after t b given h gave);
-    typed = subst (λ (z : Program). TypedWorld z (world n)) a.of (subst (λ (z : Option Outcome). IfSome z (λ y. TypedWorld (program m) (world n))) f typed);
+    typed = subst (λ (z : Option Outcome). IfSome z (λ y. TypedWorld p (world n))) f typed;
   }

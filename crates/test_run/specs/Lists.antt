@@ -7,6 +7,7 @@ use Rattle.jvm_model.specs.State.{test_at}
 use Rattle.jvm_model.specs.Suite.{Given, first_over_on, one_test, runs_on, units_of, world_after}
 use Rattle.jvm_model.specs.World.{World}
 use Rattle.vm_mem.specs.Trace.{Trace, next_test}
+use Rattle.test_run.specs.Running.{IsRefused}
 use Rattle.test_run.specs.declared.run_fault.RunFault.{RunFault}
 use Rattle.test_run.specs.declared.run_fault.RunFault.TheVariants as fault
 
@@ -39,7 +40,23 @@ pub record RanNext {M : Type 0} (world : M → World) (follows : M → Trace →
   pub told : (h : Trace) (ts : List Touch) → follows old h ts → follows new (next_test h ts t) given.touches
   pub counted : now ≡ begun + given.outcome.units
 
--- a refusal of a list: the first of its tests that gives nothing, and the memory is still of the program; or want of memory
-abbrev pub IsListRefused : {M : Type 0} → (M → Program) → Program → World → List ℕ → M → RunFault → Type 0
-IsListRefused program p w l m (fault.OverBudget u) = (first_over_on p w l ≡ Some u) × (program m ≡ p)
-IsListRefused program p w l m fault.NoMemory = Unit {0}
+-- a refusal of a list: the first of its tests that gives nothing; or want of memory
+abbrev pub IsListRefused : Program → World → List ℕ → RunFault → Type 0
+IsListRefused p w l (fault.OverBudget u) = first_over_on p w l ≡ Some u
+IsListRefused p w l fault.NoMemory = Unit {0}
+
+-- the tests that are left at a refusal, in this world: the first one gives nothing where it is over its budget
+abbrev pub AreLeft : Program → World → RunFault → List ℕ → Type 0
+AreLeft p w (fault.OverBudget u) [] = ⊥
+AreLeft p w (fault.OverBudget u) (t ∷ l) = IsRefused p w t (test_at p t).budget (fault.OverBudget u)
+AreLeft p w fault.NoMemory l = Unit {0}
+
+-- the first tests of a list that was refused ran, and their units alone were counted
+pub record RanBefore (p : Program) (w : World) (l : List ℕ) (begun now : ℕ) (f : RunFault) : Type 0 where
+  pub before : List ℕ
+  pub after : List ℕ
+  pub given : List Given
+  pub list : l ≡ before ++ after
+  pub ran : runs_on p w before ≡ Some given
+  pub counted : now ≡ begun + units_of given
+  pub left : AreLeft p (world_after w given) f after

@@ -24,18 +24,19 @@ pub record IsAfter (p : Program) (q : List ℕ) (w : World) : Type 0 where
   pub ran : runs p q ≡ Some given
   pub left : w ≡ world_after (opening p) given
 
--- the memory is of the program, and stands for the typed world after these tests
-pub record Stands {M : Type 0} (program : M → Program) (world : M → World) (p : Program) (q : List ℕ) (m : M) : Type 0 where
-  pub of : program m ≡ p
+-- the memory stands for the typed world after these tests
+pub record Stands {M : Type 0} (world : M → World) (p : Program) (q : List ℕ) (m : M) : Type 0 where
   pub after : IsAfter p q (world m)
   pub typed : TypedWorld p (world m)
 
--- what the type of a machine keeps of its parts; nothing of the memory once a test was refused
+-- What the type of a machine keeps of its parts: all are of its program. Nothing is kept of the memory's world once a test
+-- was refused.
 pub record Keeps {M : Type 0} (program : M → Program) (world : M → World) (p tables selections : Program) (q : List ℕ) (m : M) (spent : Bool) : Type 0 where
   pub tables_of : tables ≡ p
   pub selections_of : selections ≡ p
+  pub memory_of : program m ≡ p
   pub limits : HasStackLimits p
-  pub stands : spent ≡ false → Stands program world p q m
+  pub stands : spent ≡ false → Stands world p q m
 
 -- What contracts see of a machine: its program and number, the tests that it ran, its memory, and whether one was refused.
 pub record Machined (M : Type 0) : Type 0 where
@@ -52,8 +53,7 @@ pub record Posted : Type 0 where
   pub list : List ℕ
   pub outcome : Outcome
 
--- A refusal of test t in the world w under the budget b: it gives nothing there, and the memory is still of the program; or
--- want of memory.
-abbrev pub IsRefused : {M : Type 0} → (M → Program) → Program → World → ℕ → ℕ → M → RunFault → Type 0
-IsRefused program p w t b m (fault.OverBudget u) = (u ≡ t) × (one_test p w t b ≡ None) × (program m ≡ p)
-IsRefused program p w t b m fault.NoMemory = Unit {0}
+-- a refusal of test t in the world w under the budget b: it gives nothing there; or want of memory
+abbrev pub IsRefused : Program → World → ℕ → ℕ → RunFault → Type 0
+IsRefused p w t b (fault.OverBudget u) = (u ≡ t) × (one_test p w t b ≡ None)
+IsRefused p w t b fault.NoMemory = Unit {0}

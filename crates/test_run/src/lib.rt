@@ -6,8 +6,9 @@
 //!
 //! - `Machine::run_test` runs one more test: its outcome is the definition's after the tests before
 //!   it, or `OverBudget` comes where its units would pass its budget.
-//! - `Machine::run_list` does so for each test of a list, and names the first that is refused.
-//! - `Machine::reset` sets it back to the opening world; it takes no memory.
+//! - `Machine::run_list` does so for each test of a list, and names the first that is refused; the
+//!   units of the tests before it are counted.
+//! - `Machine::reset` sets it back to the opening world, also after a refusal; it takes no memory.
 //!
 //! A machine is spent while a test runs, and fresh again once the outcome is there, so that each
 //! early return leaves it spent. A `Piece` keeps that its outcome is that of its list's last test.

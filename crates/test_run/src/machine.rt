@@ -3,7 +3,7 @@
 ghost use Rattle.std.specs.Prelude.{◌≡◌, ◌+◌, ◌≤◌, ◌++◌, ◌∷◌, [], All, false, true, Some, IfOk, IfErr, OnOk, OnErr};
 ghost use Rattle.jvm_model.specs.State.{test_at};
 ghost use Rattle.jvm_model.specs.Suite as suite;
-ghost use Rattle.test_run.specs.Lists.{IsListRefused, RanList, RanNext};
+ghost use Rattle.test_run.specs.Lists.{IsListRefused, RanBefore, RanList, RanNext};
 ghost use Rattle.test_run.specs.Outcomes.{given_in, TracesOne};
 ghost use Rattle.test_run.specs.Running.{IsRefused, IsTest, Stands, least};
 
@@ -26,11 +26,11 @@ use vm_mem::Memory;
 use vm_tables::Tables;
 
 /// Runs tests of a typed program one after the other on its memory, which stands for the world after them. After a refusal
-/// it is spent: it is dropped, or set back where it can be.
+/// it is spent: it is dropped, or set back.
 #[derive(Drop)]
 pub struct Machine<'p, M: Memory> {
     checked: &'p Checked,
-    tables: Tables,
+    tables: Tables<'p>,
     selections: Selections,
     worker: u32,
     memory: M,
@@ -96,8 +96,9 @@ impl<'p, M: Memory> Machine<'p, M> {
     /// The memory.
     pub fn memory(&self) -> &M
         ensures lent { result.now ≡ self.now.memory }
+        ensures of { M.program self.now.memory ≡ self.now.program }
         ensures stands { self.now.spent ≡ false →
-            Stands M.program M.world self.now.program self.now.list self.now.memory }
+            Stands M.world self.now.program self.now.list self.now.memory }
     {
         &self.memory
     }
@@ -140,8 +141,8 @@ impl<'p, M: Memory> Machine<'p, M> {
           list = self.old.list ++ test ∷ [];
           memory = self.new.memory;
         }) }
-        ensures refused { IfErr result (IsRefused M.program
-            self.old.program (M.world self.old.memory) test budget self.new.memory) }
+        ensures refused { IfErr result (IsRefused
+            self.old.program (M.world self.old.memory) test budget) }
         ensures spent { OnErr result (self.new ≡ record self.old {
           memory = self.new.memory;
           spent = true;
@@ -149,11 +150,10 @@ impl<'p, M: Memory> Machine<'p, M> {
         ensures uncounted { OnErr result (steps.new ≡ steps.old) }
     {
         self.spent = true;
-        let program = self.checked.program();
+        let _program = self.checked.program();
         let given = run_single(
             self.alloc,
             &mut self.memory,
-            program,
             &self.tables,
             &mut self.selections,
             test,
@@ -199,9 +199,8 @@ impl<'p, M: Memory> Machine<'p, M> {
           list = self.old.list ++ test ∷ [];
           memory = self.new.memory;
         }) }
-        ensures refused { IfErr result (IsRefused M.program
-            self.old.program (M.world self.old.memory) test
-            (least self.old.program test most) self.new.memory) }
+        ensures refused { IfErr result (IsRefused
+            self.old.program (M.world self.old.memory) test (least self.old.program test most)) }
         ensures spent { OnErr result (self.new ≡ record self.old {
           memory = self.new.memory;
           spent = true;
@@ -248,9 +247,8 @@ impl<'p, M: Memory> Machine<'p, M> {
           list = self.old.list ++ test ∷ [];
           memory = self.new.memory;
         }) }
-        ensures refused { IfErr result (IsRefused M.program
-            self.old.program (M.world self.old.memory) test
-            (test_at self.old.program test).budget self.new.memory) }
+        ensures refused { IfErr result (IsRefused
+            self.old.program (M.world self.old.memory) test (test_at self.old.program test).budget) }
         ensures spent { OnErr result (self.new ≡ record self.old {
           memory = self.new.memory;
           spent = true;
@@ -276,9 +274,10 @@ impl<'p, M: Memory> Machine<'p, M> {
           list = self.old.list ++ test ∷ [];
           memory = self.new.memory;
         }) }
-        ensures refused { IfErr result (IsRefused M.program
-            self.old.program (M.world self.old.memory) test
-            (test_at self.old.program test).budget self.new.memory) }
+        ensures refused { IfErr result (IsRefused
+            self.old.program (M.world self.old.memory) test (test_at self.old.program test).budget) }
+        ensures before { IfErr result (RanBefore
+            self.old.program (M.world self.old.memory) (test ∷ []) steps.old steps.new) }
         ensures spent { OnErr result (self.new ≡ record self.old {
           list = self.new.list;
           memory = self.new.memory;
@@ -297,7 +296,8 @@ impl<'p, M: Memory> Machine<'p, M> {
     /// Runs the tests of a list in order after those before them, each within its own budget, and answers their outcomes.
     /// It counts their units.
     ///
-    /// `OverBudget` names the first test whose units would pass its budget. After an error the machine is spent.
+    /// `OverBudget` names the first test whose units would pass its budget. After an error the machine is spent, and the
+    /// units of the tests that ended are counted: after `OverBudget` those of the tests before the one that it names.
     pub fn run_list<L: Ledger>(
         &mut self,
         list: &[u32],
@@ -311,8 +311,10 @@ impl<'p, M: Memory> Machine<'p, M> {
           list = self.old.list ++ list.now;
           memory = self.new.memory;
         }) }
-        ensures refused { IfErr result (IsListRefused M.program
-            self.old.program (M.world self.old.memory) list.now self.new.memory) }
+        ensures refused { IfErr result (IsListRefused
+            self.old.program (M.world self.old.memory) list.now) }
+        ensures before { IfErr result (RanBefore
+            self.old.program (M.world self.old.memory) list.now steps.old steps.new) }
         ensures spent { OnErr result (self.new ≡ record self.old {
           list = self.new.list;
           memory = self.new.memory;
@@ -328,10 +330,8 @@ impl<'p, M: Memory> Machine<'p, M> {
 }
 
 impl<'p> Machine<'p, RegionMemory> {
-    /// Sets the machine back to the opening world, with no test run. It takes no memory. It asks that the memory is still of
-    /// the program: so it is unless memory was refused.
+    /// Sets the machine back to the opening world, with no test run, also after a refusal. It takes no memory.
     pub fn reset(&mut self)
-        requires { self.old.memory.program ≡ self.old.program }
         ensures machine { self.new ≡ record self.old {
           list = [];
           memory = self.new.memory;

@@ -1,11 +1,13 @@
 -- Calls touch nothing, and where there is a call there are its arguments.
-use Rattle.std.proofs.Common.{◌≡◌, ℕ, zero, suc, List, [], ◌∷◌, ◌<◌, ◌≤◌, length, Bool, true, false, cond, nat_le, slice_get, Option, Some, None, refl, arith}
+use Rattle.std.proofs.Common.{◌≡◌, ℕ, zero, suc, List, [], ◌∷◌, ◌<◌, ◌≤◌, length, Bool, true, false, cond, nat_le, slice_get, Option, Some, None, Result, IfOk, refl, sym, subst, arith}
+use Rattle.std.proofs.lemmas.Result.{IfOk-weaker}
 use Rattle.std.proofs.lemmas.Bool.{leb-true}
 use Rattle.jvm_model.specs.declared.values.Value.{Value}
 use Rattle.jvm_model.specs.declared.values.Touch.{Touch}
 use Rattle.jvm_model.specs.declared.library.Native.{Native}
 use Rattle.jvm_model.specs.declared.program.Body.{Body}
 use Rattle.jvm_model.specs.declared.program.Program.{Program}
+use Rattle.jvm_model.specs.declared.outcome.Next.{Next}
 use Rattle.jvm_model.specs.World.{World}
 use Rattle.jvm_model.specs.Access.{Access}
 use Rattle.jvm_model.specs.Classes.{method_at}
@@ -16,7 +18,9 @@ use Rattle.jvm_model.specs.Selection.{Selected, chosen, failing}
 use Rattle.jvm_model.specs.View.{touched, IsSafe, IsRow}
 use Rattle.jvm_model.specs.declared.values.Kind.{Kind}
 use Rattle.class_init.proofs.Starts.{either_untouched}
-use Rattle.vm_calls.specs.Calls.{object_row}
+use Rattle.vm_mem.specs.Refines.{Refines, Makes}
+use Rattle.vm_mem.specs.Trace.{Trace}
+use Rattle.vm_calls.specs.Calls.{method_row, object_row}
 
 body_touches : (b : Option Body) (m n : ℕ) (s : Entries) (w : World) (ts : List Touch) → touched (enters_body b m n s) w ts ≡ ts
 body_touches None m n s w ts = refl
@@ -58,3 +62,15 @@ object_there p i m s w h = receiver_there _ s (argument_count p m) (receiver p m
 
 pub reference_there : (p : Program) (k : Kind) (m : ℕ) (s : Entries) (w : World) → IsSafe IsRow (on_receiver s (receiver p m s) (λ v. call_special p k m s)) w → argument_count p m < length s.top.stack
 reference_there p k m s w h = receiver_there _ s (argument_count p m) (receiver p m s) w refl h
+
+-- a call that enters a method, over any memory
+pub entered : {M E : Type 0} (program : M → Program) (world : M → World) (follows : M → Trace → List Touch → Type 0) (p : Program) (m n : ℕ) (k : M) → p ≡ program k
+    → (s : Entries) (left : ℕ) (r : Result Next E) (s' : Entries) (left' : ℕ) → IfOk r (λ x. (w : World) → Refines (method_row m n) p w s left x s' w left')
+    → Makes (method_row m n) program world follows k k s left r s' left'
+entered program world follows p m n k e s left r s' left' h = (
+  refl,
+  IfOk-weaker r _ _ (λ x f. (
+    subst (λ (q : Program). Refines (method_row m n) q (world k) s left x s' (world k) left') e (f (world k)),
+    λ o h ts g. subst (λ (us : List Touch). follows k h us) (sym (calls_touches (program k) m n s (world k) ts)) g,
+  )) h,
+)

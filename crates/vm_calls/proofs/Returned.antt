@@ -1,5 +1,5 @@
 -- Returns touch nothing, and take the value on top.
-use Rattle.std.proofs.Common.{◌≡◌, ℕ, List, [], ◌∷◌, ◌<◌, length, get_or, drop, Option, Some, None, refl, sym, ◌∙◌, ap, arith}
+use Rattle.std.proofs.Common.{◌≡◌, ℕ, List, [], ◌∷◌, ◌<◌, length, get_or, drop, Option, Some, None, refl, sym, ◌∙◌, ap, subst, arith}
 use Rattle.jvm_model.specs.declared.values.Value.{Value}
 use Rattle.jvm_model.specs.declared.values.Value.TheVariants.{Int, Long, Null, Lit, Obj}
 use Rattle.jvm_model.specs.declared.values.Touch.{Touch}
@@ -7,6 +7,7 @@ use Rattle.jvm_model.specs.declared.instr.Sort.{Sort}
 use Rattle.jvm_model.specs.declared.instr.Instr.TheVariants as form
 use Rattle.jvm_model.specs.declared.state.EntryKind.{EntryKind}
 use Rattle.jvm_model.specs.declared.state.EntryKind.TheVariants.{Absent, InMethod, InClass}
+use Rattle.jvm_model.specs.declared.outcome.Next.{Next}
 use Rattle.jvm_model.specs.declared.program.Program.{Program}
 use Rattle.jvm_model.specs.World.{World}
 use Rattle.jvm_model.specs.Access.{Access}
@@ -16,7 +17,10 @@ use Rattle.jvm_model.specs.Entries.{Entries, popped_entry, with_stack}
 use Rattle.jvm_model.specs.Narrow.{narrow, narrowed}
 use Rattle.jvm_model.specs.Rows.{Answer, popping}
 use Rattle.jvm_model.specs.RowsReturn.{row_return, hands_on, handed_on}
-use Rattle.jvm_model.specs.View.{touched, IsSafe, IsRow}
+use Rattle.jvm_model.specs.View.{counted, counts_one, outcome, paid, touched, IsSafe, IsRow}
+use Rattle.vm_mem.specs.Refines.{IsReady, Refines, Traces}
+use Rattle.vm_mem.specs.Trace.{Trace}
+use Rattle.vm_calls.specs.Calls.{hands_row, return_row}
 use Rattle.vm_tables.specs.Methods.{return_unit}
 use Rattle.vm_tables.proofs.FieldUnits.{narrow_first}
 
@@ -80,3 +84,21 @@ apart (v ∷ vs) h = refl
 pub int_kept : (s : Entries) (u : ℕ) → u ≡ 73 → 0 < length s.top.stack → s ≡ with_stack s (narrow u (get_or s.top.stack 0 Null) ∷ drop 1 s.top.stack)
 int_kept s u e h =
     ap (with_stack s) (sym (ap (λ (v : Value). v ∷ drop 1 s.top.stack) (ap (λ (n : ℕ). narrow n (get_or s.top.stack 0 Null)) e ∙ narrow_int_kept (get_or s.top.stack 0 Null)) ∙ apart s.top.stack h))
+
+-- a value that was handed on is returned, over any memory
+pub value_made : {M : Type 0} (program : M → Program) (world : M → World) (follows : M → Trace → List Touch → Type 0) (p : Program) (o : Option Sort) (x : Sort) (u : ℕ) (k : M) (s s' : Entries) (left left' : ℕ) (r : Next)
+    → IsReady (return_row (form.Return o)) p program world k s → o ≡ Some x → u ≡ return_unit p s.top.number
+    → ((w : World) → Refines (hands_row (narrow u (get_or s.top.stack 0 Null) ∷ [])) p w s left r s' w left')
+    → (program k ≡ program k) × (Refines (return_row (form.Return o)) (program k) (world k) s left r s' (world k) left' × Traces (return_row (form.Return o)) (program k) (world k) s r follows k k)
+value_made program world follows p o x u k s s' left left' r ready e g h =
+    let safe = subst (λ (z : Option Sort). IsSafe IsRow (row_return p (form.Return z) s) (world k)) e ready.1 in
+    let row : row_return p (form.Return o) s ≡ hands_on p (narrow u (get_or s.top.stack 0 Null) ∷ []) s =
+    ap (λ (z : Option Sort). row_return p (form.Return z) s) e ∙ value_handed p x s (value_there p x s (world k) safe) ∙ ap (λ (z : ℕ). hands_on p (narrow z (get_or s.top.stack 0 Null) ∷ []) s) (sym g) in
+    let refines : Refines (return_row (form.Return o)) p (world k) s left r s' (world k) left' =
+    subst (λ (z : Access (Answer Entries)). counted (paid (counts_one p r) z) (world k) left ≡ outcome r s' (world k) left') (sym row) (h (world k)) in (
+      refl,
+      (
+        subst (λ (q : Program). Refines (return_row (form.Return o)) q (world k) s left r s' (world k) left') ready.0 refines,
+        λ n t ts f. subst (λ (us : List Touch). follows k t us) (sym (return_touches (program k) o s (world k) ts)) f,
+      ),
+    )

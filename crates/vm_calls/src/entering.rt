@@ -21,19 +21,17 @@ use vm_tables::Tables;
 #[tactic(auto, unfolding(jvm_model::specs::RowsCalls::calls))]
 pub(crate) fn enter_method(
     stack: &mut FrameStack,
-    p: &Program,
     tables: &Tables,
     method: u32,
     arguments: usize,
     left: &mut u64,
 ) -> Result<Next, NoMemory>
-    requires tables { tables.now ≡ p.now }
     requires arguments { arguments ≤ length stack.old.top.stack }
     ensures { IfOk result (λ x. (w : World) → Refines (method_row method arguments)
-        p.now w stack.old left.old x stack.new w left.new) }
+        tables.now w stack.old left.old x stack.new w left.new) }
 {
     let Some(call_descriptor) = tables.call_descriptor(method) else {
-        return Ok(without_descriptor(p, method));
+        return Ok(without_descriptor(tables.program(), method));
     };
     if stack.is_full() {
         return Ok(Next::Fault {
@@ -75,19 +73,17 @@ fn without_descriptor(p: &Program, method: u32) -> Next
 #[inline(always)]
 pub(crate) fn enter_choice(
     stack: &mut FrameStack,
-    p: &Program,
     tables: &Tables,
     choice: Choice,
     arguments: usize,
     left: &mut u64,
 ) -> Result<Next, NoMemory>
-    requires tables { tables.now ≡ p.now }
     requires arguments { arguments ≤ length stack.old.top.stack }
     ensures { IfOk result (λ x. (w : World) → Refines (selected_row (selected_of choice) arguments)
-        p.now w stack.old left.old x stack.new w left.new) }
+        tables.now w stack.old left.old x stack.new w left.new) }
 {
     match choice {
-        Choice::Chosen { method } => enter_method(stack, p, tables, method, arguments, left),
+        Choice::Chosen { method } => enter_method(stack, tables, method, arguments, left),
         Choice::Failing { class } => Ok(Next::Fault { class }),
     }
 }

@@ -1,21 +1,20 @@
 //! The four invoke forms (JVMS 6.5).
 #![tactic(auto, unfolding(jvm_model::specs::RowsCalls::row_calls))]
 
-ghost use Rattle.std.specs.Prelude.{◌≡◌, ◌≢◌, ◌<◌, IfOk, OnOk, length};
+ghost use Rattle.std.specs.Prelude.{◌≡◌, ◌≢◌, ◌<◌, IfOk, length};
 ghost use Rattle.jvm_model.specs.Classes.{method_at};
 ghost use Rattle.jvm_model.specs.World.{World};
-ghost use Rattle.class_init.specs.Uses.{IsUsable, RefinesUse, TracesUse};
+ghost use Rattle.class_init.specs.Uses.{IsUsable, MakesUse};
 ghost use Rattle.jvm_model.specs.RowsCalls.{argument_count};
 ghost use Rattle.jvm_model.specs.declared.instr.Instr.TheVariants as form;
-ghost use Rattle.vm_mem.specs.Refines.{IsReady, Refines, Traces};
+ghost use Rattle.vm_mem.specs.Refines.{IsReady, Makes, Refines};
 ghost use Rattle.vm_calls.specs.Calls.{call_row, kind_row, object_row};
 
 use crate::entering::{enter_choice, enter_method};
 use crate::selections::Selections;
 use class_init::{Use, begin_use};
 use et_base::NoMemory;
-use jvm_model::{Instr, Kind, NULL_POINTER_EXCEPTION, Next, Program, Value};
-use std::alloc::Global;
+use jvm_model::{Instr, Kind, NULL_POINTER_EXCEPTION, Next, Value};
 use vm_frames::FrameStack;
 use vm_mem::Memory;
 use vm_tables::Tables;
@@ -25,39 +24,29 @@ use vm_tables::Tables;
 /// Both answer Enter. Where the step throws it counts nothing, and it answers Over where its cost is above the units left.
 /// The only error is want of memory.
 pub fn call<M: Memory>(
-    alloc: Global,
     stack: &mut FrameStack,
     memory: &mut M,
-    p: &Program,
     tables: &Tables,
     selections: &mut Selections,
     form: &Instr,
     left: &mut u64,
 ) -> Result<Next, NoMemory>
-    requires program { p.now ≡ M.program memory.old }
-    requires tables { tables.now ≡ M.program memory.old }
-    requires selections { selections.old ≡ M.program memory.old }
-    requires row { IsReady (call_row form.now)
-        (M.program memory.old) (M.world memory.old) stack.old }
-    ensures meets { IfOk result (λ x. Refines (call_row form.now)
-        (M.program memory.old) (M.world memory.old) stack.old left.old
-        x stack.new (M.world memory.new) left.new) }
-    ensures told { IfOk result (λ x. Traces (call_row form.now)
-        (M.program memory.old) (M.world memory.old) stack.old
-        x M.follows memory.old memory.new) }
-    ensures of { OnOk result (M.program memory.new ≡ M.program memory.old) }
+    requires selections { selections.old ≡ tables.now }
+    requires row { IsReady (call_row form.now) tables.now M.program M.world memory.old stack.old }
+    ensures made { Makes (call_row form.now) M.program M.world M.follows
+        memory.old memory.new stack.old left.old result stack.new left.new }
     ensures kept { selections.new ≡ selections.old }
 {
     match form {
-        Instr::InvokeStatic { method } => invoke_static(stack, memory, p, tables, *method, left),
+        Instr::InvokeStatic { method } => invoke_static(stack, memory, tables, *method, left),
         Instr::InvokeVirtual { named, method } => invoke_virtual(
-            alloc, stack, memory, p, tables, selections, *named, *method, left,
+            stack, memory, tables, selections, *named, *method, left,
         ),
         Instr::InvokeInterface { named, method } => invoke_interface(
-            alloc, stack, memory, p, tables, selections, *named, *method, left,
+            stack, memory, tables, selections, *named, *method, left,
         ),
         Instr::InvokeSpecial { named, method } => invoke_special(
-            alloc, stack, memory, p, tables, selections, *named, *method, left,
+            stack, memory, tables, selections, *named, *method, left,
         ),
         _ => unreachable!(),
     }
@@ -69,27 +58,19 @@ pub fn call<M: Memory>(
 pub fn invoke_static<M: Memory>(
     stack: &mut FrameStack,
     memory: &mut M,
-    p: &Program,
     tables: &Tables,
     method: u32,
     left: &mut u64,
 ) -> Result<Next, NoMemory>
-    requires program { p.now ≡ M.program memory.old }
-    requires tables { tables.now ≡ M.program memory.old }
     requires row { IsReady (call_row (form.InvokeStatic method))
-        (M.program memory.old) (M.world memory.old) stack.old }
-    ensures meets { IfOk result (λ x. Refines (call_row (form.InvokeStatic method))
-        (M.program memory.old) (M.world memory.old) stack.old left.old
-        x stack.new (M.world memory.new) left.new) }
-    ensures told { IfOk result (λ x. Traces (call_row (form.InvokeStatic method))
-        (M.program memory.old) (M.world memory.old) stack.old
-        x M.follows memory.old memory.new) }
-    ensures of { OnOk result (M.program memory.new ≡ M.program memory.old) }
+        tables.now M.program M.world memory.old stack.old }
+    ensures made { Makes (call_row (form.InvokeStatic method)) M.program M.world M.follows
+        memory.old memory.new stack.old left.old result stack.new left.new }
 {
-    match begin_method_use(stack, memory, p, tables, method, left)? {
+    match begin_method_use(stack, memory, tables, method, left)? {
         Use::Ready => {
             let arguments = tables.arguments(method);
-            enter_method(stack, p, tables, method, arguments, left)
+            enter_method(stack, tables, method, arguments, left)
         }
         Use::Begun => Ok(Next::Go),
         Use::Fault { class } => Ok(Next::Fault { class }),
@@ -104,38 +85,34 @@ pub fn invoke_static<M: Memory>(
 fn begin_method_use<M: Memory>(
     stack: &mut FrameStack,
     memory: &mut M,
-    p: &Program,
     tables: &Tables,
     method: u32,
     left: &mut u64,
 ) -> Result<Use, NoMemory>
-    requires program { p.now ≡ M.program memory.old }
-    requires tables { tables.now ≡ M.program memory.old }
-    requires safe { IsUsable (method_at p.now method).class
-        (M.program memory.old) (M.world memory.old) stack.old }
-    ensures meets { IfOk result (λ u. RefinesUse (method_at p.now method).class
-        (M.program memory.old) (M.world memory.old) stack.old left.old
-        u stack.new (M.world memory.new) left.new) }
-    ensures told { IfOk result (λ u. TracesUse (method_at p.now method).class
-        (M.program memory.old) (M.world memory.old) stack.old
-        u M.follows memory.old memory.new) }
+    requires safe { IsUsable (method_at tables.now method).class
+        tables.now M.program M.world memory.old stack.old }
+    ensures made { MakesUse (method_at tables.now method).class M.program M.world M.follows
+        memory.old memory.new stack.old left.old result stack.new left.new }
     ensures entries { IfOk result (λ u. u ≢ Use.Begun → stack.new ≡ stack.old) }
-    ensures of { OnOk result (M.program memory.new ≡ M.program memory.old) }
 {
     if let Some(call_descriptor) = tables.call_descriptor(method) {
         if call_descriptor.is_trivial {
             return Ok(Use::Ready);
         }
     }
-    begin_use(stack, memory, tables, p.method_class(method), left)
+    begin_use(
+        stack,
+        memory,
+        tables,
+        tables.program().method_class(method),
+        left,
+    )
 }
 
 /// Enters the method that is selected on an instance of a kind.
 #[inline(always)]
 fn enter_selected(
-    alloc: Global,
     stack: &mut FrameStack,
-    p: &Program,
     tables: &Tables,
     selections: &mut Selections,
     interface: Option<u32>,
@@ -143,58 +120,46 @@ fn enter_selected(
     kind: Kind,
     left: &mut u64,
 ) -> Result<Next, NoMemory>
-    requires tables { tables.now ≡ p.now }
-    requires selections { selections.old ≡ p.now }
-    requires arguments { argument_count p.now method < length stack.old.top.stack }
-    requires few { argument_count p.now method < 65535 }
+    requires selections { selections.old ≡ tables.now }
+    requires arguments { argument_count tables.now method < length stack.old.top.stack }
+    requires few { argument_count tables.now method < 65535 }
     ensures meets { IfOk result (λ x. (w : World) → Refines (kind_row interface method kind)
-        p.now w stack.old left.old x stack.new w left.new) }
+        tables.now w stack.old left.old x stack.new w left.new) }
     ensures kept { selections.new ≡ selections.old }
 {
-    let choice = selections.dispatch(alloc, p, tables, interface, method, kind.class())?;
-    enter_choice(stack, p, tables, choice, tables.arguments(method) + 1, left)
+    let choice = selections.dispatch(tables, interface, method, kind.class())?;
+    enter_choice(stack, tables, choice, tables.arguments(method) + 1, left)
 }
 
 /// Calls a method on the object below the arguments; an interface is named by invokeinterface.
 #[inline(always)]
 #[tactic(auto, using(crate::proofs::Entered::selected_touches, crate::proofs::Entered::object_there))]
 fn invoke_on_object<M: Memory>(
-    alloc: Global,
     stack: &mut FrameStack,
     memory: &mut M,
-    p: &Program,
     tables: &Tables,
     selections: &mut Selections,
     interface: Option<u32>,
     method: u32,
     left: &mut u64,
 ) -> Result<Next, NoMemory>
-    requires program { p.now ≡ M.program memory.old }
-    requires tables { tables.now ≡ M.program memory.old }
-    requires selections { selections.old ≡ M.program memory.old }
+    requires selections { selections.old ≡ tables.now }
     requires row { IsReady (object_row interface method)
-        (M.program memory.old) (M.world memory.old) stack.old }
-    ensures meets { IfOk result (λ x. Refines (object_row interface method)
-        (M.program memory.old) (M.world memory.old) stack.old left.old
-        x stack.new (M.world memory.new) left.new) }
-    ensures told { IfOk result (λ x. Traces (object_row interface method)
-        (M.program memory.old) (M.world memory.old) stack.old
-        x M.follows memory.old memory.new) }
-    ensures of { OnOk result (M.program memory.new ≡ M.program memory.old) }
+        tables.now M.program M.world memory.old stack.old }
+    ensures made { Makes (object_row interface method) M.program M.world M.follows
+        memory.old memory.new stack.old left.old result stack.new left.new }
     ensures kept { selections.new ≡ selections.old }
 {
     match stack.operand(tables.arguments(method)) {
         Value::Obj(object) => {
             let head = memory.head(object)?;
             enter_selected(
-                alloc, stack, p, tables, selections, interface, method, head.kind, left,
+                stack, tables, selections, interface, method, head.kind, left,
             )
         }
         Value::Lit(literal) => {
             let kind = Kind::of_constant(literal);
-            enter_selected(
-                alloc, stack, p, tables, selections, interface, method, kind, left,
-            )
+            enter_selected(stack, tables, selections, interface, method, kind, left)
         }
         Value::Null => Ok(Next::Fault {
             class: NULL_POINTER_EXCEPTION,
@@ -209,66 +174,44 @@ fn invoke_on_object<M: Memory>(
 /// object's head.
 #[inline(always)]
 pub fn invoke_virtual<M: Memory>(
-    alloc: Global,
     stack: &mut FrameStack,
     memory: &mut M,
-    p: &Program,
     tables: &Tables,
     selections: &mut Selections,
     named: Kind,
     method: u32,
     left: &mut u64,
 ) -> Result<Next, NoMemory>
-    requires program { p.now ≡ M.program memory.old }
-    requires tables { tables.now ≡ M.program memory.old }
-    requires selections { selections.old ≡ M.program memory.old }
+    requires selections { selections.old ≡ tables.now }
     requires row { IsReady (call_row (form.InvokeVirtual named method))
-        (M.program memory.old) (M.world memory.old) stack.old }
-    ensures meets { IfOk result (λ x. Refines (call_row (form.InvokeVirtual named method))
-        (M.program memory.old) (M.world memory.old) stack.old left.old
-        x stack.new (M.world memory.new) left.new) }
-    ensures told { IfOk result (λ x. Traces (call_row (form.InvokeVirtual named method))
-        (M.program memory.old) (M.world memory.old) stack.old
-        x M.follows memory.old memory.new) }
-    ensures of { OnOk result (M.program memory.new ≡ M.program memory.old) }
+        tables.now M.program M.world memory.old stack.old }
+    ensures made { Makes (call_row (form.InvokeVirtual named method)) M.program M.world M.follows
+        memory.old memory.new stack.old left.old result stack.new left.new }
     ensures kept { selections.new ≡ selections.old }
 {
-    invoke_on_object(
-        alloc, stack, memory, p, tables, selections, None, method, left,
-    )
+    invoke_on_object(stack, memory, tables, selections, None, method, left)
 }
 
 /// The same of a method of an interface: an object whose class doesn't implement the interface that is named throws
 /// IncompatibleClassChangeError, unless the method is private.
 pub fn invoke_interface<M: Memory>(
-    alloc: Global,
     stack: &mut FrameStack,
     memory: &mut M,
-    p: &Program,
     tables: &Tables,
     selections: &mut Selections,
     named: u32,
     method: u32,
     left: &mut u64,
 ) -> Result<Next, NoMemory>
-    requires program { p.now ≡ M.program memory.old }
-    requires tables { tables.now ≡ M.program memory.old }
-    requires selections { selections.old ≡ M.program memory.old }
+    requires selections { selections.old ≡ tables.now }
     requires row { IsReady (call_row (form.InvokeInterface named method))
-        (M.program memory.old) (M.world memory.old) stack.old }
-    ensures meets { IfOk result (λ x. Refines (call_row (form.InvokeInterface named method))
-        (M.program memory.old) (M.world memory.old) stack.old left.old
-        x stack.new (M.world memory.new) left.new) }
-    ensures told { IfOk result (λ x. Traces (call_row (form.InvokeInterface named method))
-        (M.program memory.old) (M.world memory.old) stack.old
-        x M.follows memory.old memory.new) }
-    ensures of { OnOk result (M.program memory.new ≡ M.program memory.old) }
+        tables.now M.program M.world memory.old stack.old }
+    ensures made { Makes (call_row (form.InvokeInterface named method)) M.program M.world M.follows
+        memory.old memory.new stack.old left.old result stack.new left.new }
     ensures kept { selections.new ≡ selections.old }
 {
     let interface = Some(named);
-    invoke_on_object(
-        alloc, stack, memory, p, tables, selections, interface, method, left,
-    )
+    invoke_on_object(stack, memory, tables, selections, interface, method, left)
 }
 
 /// Calls a method without regard to the object's class: `<init>` is the one that is named; another is looked for from the
@@ -277,36 +220,27 @@ pub fn invoke_interface<M: Memory>(
 #[inline(always)]
 #[tactic(auto, using(crate::proofs::Entered::selected_touches, crate::proofs::Entered::reference_there), unfolding(jvm_model::specs::RowsCalls::row_calls))]
 pub fn invoke_special<M: Memory>(
-    alloc: Global,
     stack: &mut FrameStack,
     memory: &mut M,
-    p: &Program,
     tables: &Tables,
     selections: &mut Selections,
     named: Kind,
     method: u32,
     left: &mut u64,
 ) -> Result<Next, NoMemory>
-    requires program { p.now ≡ M.program memory.old }
-    requires tables { tables.now ≡ M.program memory.old }
-    requires selections { selections.old ≡ M.program memory.old }
+    requires selections { selections.old ≡ tables.now }
     requires row { IsReady (call_row (form.InvokeSpecial named method))
-        (M.program memory.old) (M.world memory.old) stack.old }
-    ensures meets { IfOk result (λ x. Refines (call_row (form.InvokeSpecial named method))
-        (M.program memory.old) (M.world memory.old) stack.old left.old
-        x stack.new (M.world memory.new) left.new) }
-    ensures told { IfOk result (λ x. Traces (call_row (form.InvokeSpecial named method))
-        (M.program memory.old) (M.world memory.old) stack.old
-        x M.follows memory.old memory.new) }
-    ensures of { OnOk result (M.program memory.new ≡ M.program memory.old) }
+        tables.now M.program M.world memory.old stack.old }
+    ensures made { Makes (call_row (form.InvokeSpecial named method)) M.program M.world M.follows
+        memory.old memory.new stack.old left.old result stack.new left.new }
     ensures kept { selections.new ≡ selections.old }
 {
     let arguments = tables.arguments(method);
     match stack.operand(arguments) {
         Value::Obj(_) | Value::Lit(_) => {
-            let current = p.method_class(stack.number());
-            let choice = selections.dispatch_special(alloc, p, tables, current, named, method)?;
-            enter_choice(stack, p, tables, choice, arguments + 1, left)
+            let current = tables.program().method_class(stack.number());
+            let choice = selections.dispatch_special(tables, current, named, method)?;
+            enter_choice(stack, tables, choice, arguments + 1, left)
         }
         Value::Null => Ok(Next::Fault {
             class: NULL_POINTER_EXCEPTION,

@@ -1,12 +1,12 @@
 //! Returns (JVMS 6.5).
 
-ghost use Rattle.std.specs.Prelude.{◌≡◌, ◌<◌, ◌∷◌, [], drop, get_or, length, IfOk, OnOk};
+ghost use Rattle.std.specs.Prelude.{◌≡◌, ◌<◌, ◌∷◌, [], drop, get_or, length};
 ghost use Rattle.jvm_model.specs.World.{World};
 ghost use Rattle.jvm_model.specs.Entries.{with_stack};
 ghost use Rattle.jvm_model.specs.Narrow.{narrow};
 ghost use Rattle.jvm_model.specs.declared.instr.Instr.TheVariants as form;
 ghost use Rattle.jvm_model.specs.declared.values.Value.TheVariants.{Null};
-ghost use Rattle.vm_mem.specs.Refines.{IsReady, Refines, Traces};
+ghost use Rattle.vm_mem.specs.Refines.{IsReady, Makes, Refines};
 ghost use Rattle.vm_calls.specs.Calls.{HasRoomBelow, hands_row, return_row};
 
 use et_base::NoMemory;
@@ -28,17 +28,11 @@ pub fn give_back<M: Memory>(
     of: Option<Sort>,
     left: &mut u64,
 ) -> Result<Next, NoMemory>
-    requires tables { tables.now ≡ M.program memory.old }
     requires row { IsReady (return_row (form.Return of))
-        (M.program memory.old) (M.world memory.old) stack.old }
+        tables.now M.program M.world memory.old stack.old }
     requires room { HasRoomBelow stack.old }
-    ensures meets { IfOk result (λ x. Refines (return_row (form.Return of))
-        (M.program memory.old) (M.world memory.old) stack.old left.old
-        x stack.new (M.world memory.new) left.new) }
-    ensures told { IfOk result (λ x. Traces (return_row (form.Return of))
-        (M.program memory.old) (M.world memory.old) stack.old
-        x M.follows memory.old memory.new) }
-    ensures of { OnOk result (M.program memory.new ≡ M.program memory.old) }
+    ensures made { Makes (return_row (form.Return of)) M.program M.world M.follows
+        memory.old memory.new stack.old left.old result stack.new left.new }
 {
     match of {
         None => Ok(hand_nothing(stack, tables, left)),

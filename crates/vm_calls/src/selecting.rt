@@ -105,15 +105,10 @@ fn note_all(noted: &mut IndexSet<u32>, numbers: &[u32]) -> Result<(), NoMemory>
 }
 
 /// The interfaces above those that declare these methods.
-fn above_methods(
-    alloc: Global,
-    p: &Program,
-    tables: &Tables,
-    methods: &[u32],
-) -> Result<IndexSet<u32>, NoMemory>
-    requires { tables.now ≡ p.now }
-    ensures { IfOk result (λ above. above.keys ≡ insert_all nat_eq [] (flat_map (λ n. above_of p.now n) methods.now)) }
+fn above_methods(alloc: Global, tables: &Tables, methods: &[u32]) -> Result<IndexSet<u32>, NoMemory>
+    ensures { IfOk result (λ above. above.keys ≡ insert_all nat_eq [] (flat_map (λ n. above_of tables.now n) methods.now)) }
 {
+    let p = tables.program();
     let mut above = IndexSet::new(alloc);
     for method in methods {
         note_all(&mut above, tables.own_interfaces(p.method_class(*method)))?;
@@ -164,18 +159,12 @@ fn one_with_code(kept: &[u32]) -> Choice
 /// The rule of kept methods at a class or interface: of the methods that its superinterfaces declare, those that no
 /// subinterface among them redeclares, and of these the one with code.
 #[tactic(auto, using(crate::proofs::Choosing::kept_is), unfolding(jvm_model::specs::Selection::kept_method))]
-fn kept_method(
-    alloc: Global,
-    p: &Program,
-    tables: &Tables,
-    method: u32,
-    class: u32,
-) -> Result<Choice, NoMemory>
-    requires { tables.now ≡ p.now }
-    ensures { IfOk result (λ x. selected_of x ≡ selection.kept_method p.now method class) }
+fn kept_method(alloc: Global, tables: &Tables, method: u32, class: u32) -> Result<Choice, NoMemory>
+    ensures { IfOk result (λ x. selected_of x ≡ selection.kept_method tables.now method class) }
 {
+    let p = tables.program();
     let found = open_in(alloc, p, method, tables.interfaces(class))?;
-    let above = above_methods(alloc, p, tables, found.as_slice())?;
+    let above = above_methods(alloc, tables, found.as_slice())?;
     let kept = kept_among(alloc, p, &above, found.as_slice())?;
     Ok(one_with_code(kept.as_slice()))
 }
@@ -183,70 +172,53 @@ fn kept_method(
 /// This method, or the rule of kept methods.
 fn or_kept(
     alloc: Global,
-    p: &Program,
     tables: &Tables,
     method: u32,
     class: u32,
     found: Option<u32>,
 ) -> Result<Choice, NoMemory>
-    requires { tables.now ≡ p.now }
-    ensures { IfOk result (λ x. selected_of x ≡ selection.or_kept p.now method class found) }
+    ensures { IfOk result (λ x. selected_of x ≡ selection.or_kept tables.now method class found) }
 {
     match found {
-        None => kept_method(alloc, p, tables, method, class),
+        None => kept_method(alloc, tables, method, class),
         Some(method) => Ok(Choice::Chosen { method }),
     }
 }
 
 /// What invokevirtual and invokeinterface select on an instance of a class.
 #[tactic(auto, unfolding(jvm_model::specs::Selection::select))]
-fn select(
-    alloc: Global,
-    p: &Program,
-    tables: &Tables,
-    method: u32,
-    class: u32,
-) -> Result<Choice, NoMemory>
-    requires { tables.now ≡ p.now }
-    ensures { IfOk result (λ x. selected_of x ≡ selection.select p.now method class) }
+fn select(alloc: Global, tables: &Tables, method: u32, class: u32) -> Result<Choice, NoMemory>
+    ensures { IfOk result (λ x. selected_of x ≡ selection.select tables.now method class) }
 {
+    let p = tables.program();
     let found = declared_upwards(p, false, method, class_bound(), class);
-    or_kept(alloc, p, tables, method, class, found)
+    or_kept(alloc, tables, method, class, found)
 }
 
 /// What invokespecial selects that starts at a class.
-fn select_from(
-    alloc: Global,
-    p: &Program,
-    tables: &Tables,
-    method: u32,
-    class: u32,
-) -> Result<Choice, NoMemory>
-    requires { tables.now ≡ p.now }
-    ensures { IfOk result (λ x. selected_of x ≡ special_from p.now method class) }
+fn select_from(alloc: Global, tables: &Tables, method: u32, class: u32) -> Result<Choice, NoMemory>
+    ensures { IfOk result (λ x. selected_of x ≡ special_from tables.now method class) }
 {
     if tables.is_initialiser(method) {
         return Ok(Choice::Chosen { method });
     }
-    let found = declared_special(p, method, class);
-    or_kept(alloc, p, tables, method, class, found)
+    let found = declared_special(tables.program(), method, class);
+    or_kept(alloc, tables, method, class, found)
 }
 
 /// What a call of a method selects at a class: invokespecial, or else invokevirtual and invokeinterface.
 pub(crate) fn search(
     alloc: Global,
-    p: &Program,
     tables: &Tables,
     special: bool,
     method: u32,
     class: u32,
 ) -> Result<Choice, NoMemory>
-    requires { tables.now ≡ p.now }
-    ensures { IfOk result (λ x. selected_of x ≡ searched p.now special method class) }
+    ensures { IfOk result (λ x. selected_of x ≡ searched tables.now special method class) }
 {
     if special {
-        select_from(alloc, p, tables, method, class)
+        select_from(alloc, tables, method, class)
     } else {
-        select(alloc, p, tables, method, class)
+        select(alloc, tables, method, class)
     }
 }

@@ -31,6 +31,7 @@ pub(crate) struct Known {
 pub struct Selections {
     places: Vec<Option<Known>>,
     program: Snapshot<Program>,
+    alloc: Global,
 }
 
 impl Model for Selections {
@@ -65,7 +66,14 @@ impl Selections {
         Ok(Selections {
             places: vec![in alloc; None; PLACES]?,
             program: Snapshot::of(p),
+            alloc,
         })
+    }
+
+    /// The allocator that it was made with.
+    #[inline(always)]
+    pub fn alloc(&self) -> Global {
+        self.alloc
     }
 
     /// The answer that is kept for a call.
@@ -100,22 +108,19 @@ impl Selections {
     /// What a call of a method selects at a class.
     fn choose(
         &mut self,
-        alloc: Global,
-        p: &Program,
         tables: &Tables,
         special: bool,
         method: u32,
         class: u32,
     ) -> Result<Choice, NoMemory>
-        requires program { p.now ≡ self.old }
-        requires tables { tables.now ≡ self.old }
+        requires { tables.now ≡ self.old }
         ensures gives { IfOk result (λ x. selected_of x ≡ searched self.old special method class) }
         ensures kept { self.new ≡ self.old }
     {
         if let Some(choice) = self.known(special, method, class) {
             return Ok(choice);
         }
-        let choice = search(alloc, p, tables, special, method, class)?;
+        let choice = search(self.alloc, tables, special, method, class)?;
         self.keep(Known {
             special,
             method,
@@ -131,18 +136,16 @@ impl Selections {
     #[tactic(auto, unfolding(jvm_model::specs::Selection::select_virtual, jvm_model::specs::Selection::select_interface))]
     pub fn dispatch(
         &mut self,
-        alloc: Global,
-        p: &Program,
         tables: &Tables,
         interface: Option<u32>,
         method: u32,
         class: u32,
     ) -> Result<Choice, NoMemory>
-        requires program { p.now ≡ self.old }
-        requires tables { tables.now ≡ self.old }
+        requires { tables.now ≡ self.old }
         ensures gives { IfOk result (λ x. selected_of x ≡ dispatched self.old interface method class) }
         ensures kept { self.new ≡ self.old }
     {
+        let p = tables.program();
         if p.is_private_method(method) {
             return Ok(Choice::Chosen { method });
         }
@@ -153,7 +156,7 @@ impl Selections {
                 });
             }
         }
-        self.choose(alloc, p, tables, false, method, class)
+        self.choose(tables, false, method, class)
     }
 
     /// What invokespecial of a method of the named type selects in a method of the current class (JVMS 6.5). The only
@@ -162,23 +165,20 @@ impl Selections {
     #[tactic(auto, unfolding(jvm_model::specs::Selection::select_special))]
     pub fn dispatch_special(
         &mut self,
-        alloc: Global,
-        p: &Program,
         tables: &Tables,
         current: u32,
         named: Kind,
         method: u32,
     ) -> Result<Choice, NoMemory>
-        requires program { p.now ≡ self.old }
-        requires tables { tables.now ≡ self.old }
+        requires { tables.now ≡ self.old }
         ensures gives { IfOk result (λ x. selected_of x ≡ selection.select_special self.old current (selection.named_class named) method) }
         ensures kept { self.new ≡ self.old }
     {
         if tables.is_initialiser(method) {
             return Ok(Choice::Chosen { method });
         }
-        let start = special_start(p, tables, current, named_class(named));
-        self.choose(alloc, p, tables, true, method, start)
+        let start = special_start(tables, current, named_class(named));
+        self.choose(tables, true, method, start)
     }
 }
 
@@ -195,12 +195,11 @@ fn named_class(named: Kind) -> u32
 /// Where invokespecial starts: at the direct superclass where the named class is an ancestor class of the current one, else
 /// at the named class or interface.
 #[tactic(auto, unfolding(jvm_model::specs::Classes::is_below))]
-fn special_start(p: &Program, tables: &Tables, current: u32, named: u32) -> u32
-    requires { tables.now ≡ p.now }
-    ensures { result ≡ selection.special_start p.now current named }
+fn special_start(tables: &Tables, current: u32, named: u32) -> u32
+    ensures { result ≡ selection.special_start tables.now current named }
 {
     if named != current && tables.is_below(current, named) {
-        match p.superclass(current) {
+        match tables.program().superclass(current) {
             None => named,
             Some(above) => above,
         }

@@ -134,6 +134,7 @@ impl Heap {
     #[inline(always)]
     pub fn make(&mut self, head: Head) -> Result<u64, NoMemory>
         ensures gives { IfOk result (λ o. o ≡ length self.old.objects) }
+        ensures program { self.new.program ≡ self.old.program }
         ensures made { OnOk result (self.new ≡ record self.old { objects = self.old.objects ++ blank self.old.program head ∷ [] }) }
         ensures kept { OnErr result (self.new ≡ self.old) }
     {

@@ -1,6 +1,7 @@
 -- A step by its row and what comes after it.
-use Rattle.std.proofs.Common.{◌≡◌, ◌≢◌, ℕ, List, Bool, true, false, not, refl, sym, ap, ◌∙◌, subst, Option, Some, None}
+use Rattle.std.proofs.Common.{◌≡◌, ◌≢◌, ℕ, List, Bool, true, false, not, refl, sym, ap, ◌∙◌, subst, Option, Some, None, Result}
 use Rattle.std.proofs.Math.Path.{fun_ext}
+use Rattle.std.proofs.lemmas.Result.{IfOk-weaker}
 use Rattle.jvm_model.specs.declared.values.Touch.{Touch}
 use Rattle.jvm_model.specs.declared.library.Native.{Native}
 use Rattle.jvm_model.specs.declared.outcome.Next.{Next}
@@ -19,7 +20,11 @@ use Rattle.jvm_model.specs.Working.{Working}
 use Rattle.jvm_model.proofs.Steps.{safe_row, step_paid, step_over, step_touches, step_safe}
 use Rattle.vm_mem.specs.Refines.{Row, IsReady, Refines, Traces}
 use Rattle.vm_mem.specs.Trace.{Trace}
-use Rattle.vm_interp.specs.Turns.{by_row, after}
+use Rattle.vm_interp.specs.Abs.{abs}
+use Rattle.vm_interp.specs.Turns.{Part, IsFit, EndsPart, MakesPart, by_row, after}
+use Rattle.vm_interp.specs.declared.state.State.{State as Kept}
+use Rattle.vm_interp.specs.declared.step_outcome.StepOutcome.{StepOutcome}
+use Rattle.vm_interp.specs.declared.step_outcome.StepOutcome.TheVariants.{OutOfBudget as Spent}
 
 pub answered : (x : Next) (s : Entries) (w : World) (left : ℕ) → x ≢ Over → outcome x s w left ≡ ended (answer x s) w left
 answered Go s w left h = refl
@@ -60,10 +65,11 @@ paid_touched : (b : Bool) (t : Access Turn) (w : World) (ts : List Touch) → to
 paid_touched true t w ts = refl
 paid_touched false t w ts = refl
 
-module _ (r : Row Entries) (p : Program) (w : World) (s : State) where
-  pub row_ready : IsSafe IsTurn (by_row r p s) w → IsReady r p w s.entries
-  row_ready h = safe_row p s (r p s.entries) w h
+-- where the step may be made, the row may
+pub row_ready : {M : Type 0} (r : Row Entries) (p : Program) (program : M → Program) (world : M → World) (m : M) (s : Kept) → IsFit (by_row r) p program world m s → IsReady r p program world m s.frames
+row_ready r p program world m s h = (h.0, safe_row p (abs s) (r p s.frames) (world m) h.1)
 
+module _ (r : Row Entries) (p : Program) (w : World) (s : State) where
   module _ (left : ℕ) (t : Entries) (w' : World) (left' : ℕ) where
     pub row_over : Refines r p w s.entries left Over t w' left' → counted (by_row r p s) w left ≡ over
     row_over e = step_over p s (r p s.entries) w left e
@@ -82,24 +88,45 @@ module _ (r : Row Entries) (p : Program) (w : World) (s : State) where
           ∙ ap (λ (u : Access Turn). touched u w' (touched (r p s.entries) w ts)) (after_same p s t x)
           ∙ sym (paid_touched (not (counts_one p x)) _ w' (touched (r p s.entries) w ts))
 
--- the same of a memory before and after the row, and after the whole step
+-- The same of a memory before and after the row, and after the whole step: the call of the row answered x.
 module _ {M : Type 0} (program : M → Program) (world : M → World) (follows : M → Trace → List Touch → Type 0)
-    (r : Row Entries) (m0 m1 m2 : M) (s : State) (t : Entries) (left left1 : ℕ) (x : Next)
-    (of : program m1 ≡ program m0) (meets : Refines r (program m0) (world m0) s.entries left x t (world m1) left1) where
-  pub over_row : x ≡ Over → counted (by_row r (program m0) s) (world m0) left ≡ over
-  over_row e = row_over r (program m0) (world m0) s left t (world m1) left1 (subst (λ (y : Next). Refines r (program m0) (world m0) s.entries left y t (world m1) left1) e meets)
+    (r : Row Entries) (m0 m1 : M) (s : Kept) (t : Entries) (left left1 : ℕ) (x : Next)
+    (of : program m1 ≡ program m0) (meets : Refines r (program m0) (world m0) s.frames left x t (world m1) left1)
+    (told : Traces r (program m0) (world m0) s.frames x follows m0 m1) where
+  pub met_in : (p : Program) → p ≡ program m0 → Refines r p (world m0) s.frames left x t (world m1) left1
+  met_in p e = subst (λ (q : Program). Refines r q (world m0) s.frames left x t (world m1) left1) (sym e) meets
 
-  pub fit_row : x ≢ Over → IsSafe IsTurn (by_row r (program m0) s) (world m0) → IsSafe IsTurn (after x (program m1) (record s { entries = t })) (world m1)
-  fit_row h k = subst (λ (p : Program). IsSafe IsTurn (after x p (record s { entries = t })) (world m1)) (sym of) (row_fit r (program m0) (world m0) s left t (world m1) left1 x h meets k)
+  pub made_over : x ≡ Over → (s' : Kept) (left' : ℕ) → (program m1 ≡ program m0) × EndsPart (by_row r) program world follows m0 m1 s left Spent s' left'
+  made_over e s' left' =
+      (of, (row_over r (program m0) (world m0) (abs s) left t (world m1) left1 (subst (λ (y : Next). Refines r (program m0) (world m0) s.frames left y t (world m1) left1) e meets), λ n. absurd (n refl)))
 
-  pub counts_row : x ≢ Over → counted (by_row r (program m0) s) (world m0) left ≡ counted (after x (program m1) (record s { entries = t })) (world m1) left1
-  counts_row h = row_counted r (program m0) (world m0) s left t (world m1) left1 x h meets ∙ ap (λ (p : Program). counted (after x p (record s { entries = t })) (world m1) left1) (sym of)
+  module _ (h : x ≢ Over) where
+    pub fit_after : (p : Program) → IsFit (by_row r) p program world m0 s → IsFit (after x) p program world m1 (record s { frames = t })
+    fit_after p k = (k.0 ∙ sym of, row_fit r p (world m0) (abs s) left t (world m1) left1 x h (met_in p k.0) k.1)
 
-  touches_row : x ≢ Over → (ts : List Touch) → touched (by_row r (program m0) s) (world m0) ts ≡ touched (after x (program m1) (record s { entries = t })) (world m1) (touched (r (program m0) s.entries) (world m0) ts)
-  touches_row h ts = row_touches r (program m0) (world m0) s left t (world m1) left1 x h meets ts
-      ∙ ap (λ (p : Program). touched (after x p (record s { entries = t })) (world m1) (touched (r (program m0) s.entries) (world m0) ts)) (sym of)
+    counts_row : counted (by_row r (program m0) (abs s)) (world m0) left ≡ counted (after x (program m1) (record (abs s) { entries = t })) (world m1) left1
+    counts_row = row_counted r (program m0) (world m0) (abs s) left t (world m1) left1 x h meets ∙ ap (λ (p : Program). counted (after x p (record (abs s) { entries = t })) (world m1) left1) (sym of)
 
-  pub tells_row : x ≢ Over → Traces r (program m0) (world m0) s.entries x follows m0 m1 →
-      ((h : Trace) (ts : List Touch) → follows m1 h ts → follows m2 h (touched (after x (program m1) (record s { entries = t })) (world m1) ts)) →
-      (h : Trace) (ts : List Touch) → follows m0 h ts → follows m2 h (touched (by_row r (program m0) s) (world m0) ts)
-  tells_row n told f h ts k = subst (λ (us : List Touch). follows m2 h us) (sym (touches_row n ts)) (f h (touched (r (program m0) s.entries) (world m0) ts) (told n h ts k))
+    touches_row : (ts : List Touch) → touched (by_row r (program m0) (abs s)) (world m0) ts ≡ touched (after x (program m1) (record (abs s) { entries = t })) (world m1) (touched (r (program m0) s.frames) (world m0) ts)
+    touches_row ts = row_touches r (program m0) (world m0) (abs s) left t (world m1) left1 x h meets ts
+        ∙ ap (λ (p : Program). touched (after x p (record (abs s) { entries = t })) (world m1) (touched (r (program m0) s.frames) (world m0) ts)) (sym of)
+
+    -- and what comes after it
+    pub made_row : {E : Type 0} (m2 : M) (a : Result StepOutcome E) (s2 : Kept) (left2 : ℕ) → MakesPart (after x) program world follows m1 m2 (record s { frames = t }) left1 a s2 left2
+        → MakesPart (by_row r) program world follows m0 m2 s left a s2 left2
+    made_row m2 a s2 left2 k = (k.0 ∙ of, IfOk-weaker a _ _ (λ y b. (counts_row ∙ b.0, λ n g ts f. subst (λ (us : List Touch). follows m2 g us) (sym (touches_row ts)) (b.1 n g (touched (r (program m0) s.frames) (world m0) ts) (told h g ts f)))) k.1)
+
+-- what a part asks, in the memory's own program
+pub fit_own : {M : Type 0} (a : Part) (p : Program) (program : M → Program) (world : M → World) (m : M) (s : Kept) → IsFit a p program world m s → IsSafe IsTurn (a (program m) (abs s)) (world m)
+fit_own a p program world m s h = subst (λ (q : Program). IsSafe IsTurn (a q (abs s)) (world m)) h.0 h.1
+
+-- a part that is another one here
+pub same_part : {M E : Type 0} (program : M → Program) (world : M → World) (follows : M → Trace → List Touch → Type 0) (a b : Part) (m0 m1 : M) (s : Kept) (left : ℕ) (r : Result StepOutcome E) (s1 : Kept) (left1 : ℕ)
+    → a (program m0) (abs s) ≡ b (program m0) (abs s) → MakesPart b program world follows m0 m1 s left r s1 left1 → MakesPart a program world follows m0 m1 s left r s1 left1
+same_part program world follows a b m0 m1 s left r s1 left1 e k = (
+  k.0,
+  IfOk-weaker r _ _ (λ y z. (
+    ap (λ (t : Access Turn). counted t (world m0) left) e ∙ z.0,
+    λ n h ts q. subst (λ (t : Access Turn). follows m1 h (touched t (world m0) ts)) (sym e) (z.1 n h ts q),
+  )) k.1,
+)

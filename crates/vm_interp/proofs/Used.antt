@@ -1,5 +1,6 @@
 -- A step of the driver that uses a class, by how the use went.
-use Rattle.std.proofs.Common.{◌≡◌, ◌≢◌, ℕ, List, [], Bool, true, false, cond, None, sym, ap, ◌∙◌, subst}
+use Rattle.std.proofs.Common.{◌≡◌, ◌≢◌, ℕ, List, [], Bool, true, false, cond, None, refl, sym, ap, ◌∙◌, subst, Result}
+use Rattle.std.proofs.lemmas.Result.{IfOk-weaker}
 use Rattle.jvm_model.specs.declared.values.Touch.{Touch}
 use Rattle.jvm_model.specs.declared.program.Program.{Program}
 use Rattle.jvm_model.specs.declared.program.TestEntry.{TestEntry}
@@ -17,6 +18,12 @@ use Rattle.vm_mem.specs.Trace.{Trace}
 use Rattle.class_init.specs.declared.uses.Use.{Use}
 use Rattle.class_init.specs.declared.uses.Use.TheVariants.{Ready, Begun, Fault, Over}
 use Rattle.class_init.specs.Uses.{RefinesUse, TracesUse}
+use Rattle.vm_interp.specs.Driving.{throw_part}
+use Rattle.vm_interp.specs.Abs.{abs}
+use Rattle.vm_interp.specs.Turns.{Part, EndsPart, MakesPart}
+use Rattle.vm_interp.specs.declared.state.State.{State as Kept}
+use Rattle.vm_interp.specs.declared.step_outcome.StepOutcome.{StepOutcome}
+use Rattle.vm_interp.specs.declared.step_outcome.StepOutcome.TheVariants.{Running, OutOfBudget as Spent}
 use Rattle.jvm_model.proofs.Binds.{counted_bind, touched_bind, safe_begins}
 use Rattle.jvm_model.proofs.Bridges.{spent_later}
 
@@ -69,37 +76,77 @@ module _ {M : Type 0} (program : M → Program) (world : M → World) (follows :
   at : (y : Use) → u ≡ y → RefinesUse c (program m0) (world m0) s.entries left y t (world m1) left1
   at y e = subst (λ (y : Use). RefinesUse c (program m0) (world m0) s.entries left y t (world m1) left1) e meets
 
-  pub ready_counts : u ≡ Ready → counted part (world m0) left ≡ counted (spend 1 (k (program m1) (record s { entries = t }))) (world m1) left1
+  ready_counts : u ≡ Ready → counted part (world m0) left ≡ counted (spend 1 (k (program m1) (record s { entries = t }))) (world m1) left1
   ready_counts e = driven_ready (program m0) c s (k (program m0) s) (world m0) left (world m1) left1 (at Ready e)
       ∙ ap (λ (a : Access Turn). counted (spend 1 a) (world m1) left1) (sym (moved (ready_not e) k))
 
-  pub ready_tells : u ≡ Ready → ((h : Trace) (ts : List Touch) → follows m1 h ts → follows m2 h (touched (k (program m1) (record s { entries = t })) (world m1) ts)) →
+  ready_tells : u ≡ Ready → ((h : Trace) (ts : List Touch) → follows m1 h ts → follows m2 h (touched (k (program m1) (record s { entries = t })) (world m1) ts)) →
       (h : Trace) (ts : List Touch) → follows m0 h ts → follows m2 h (touched part (world m0) ts)
   ready_tells e f h ts q = subst (λ (us : List Touch). follows m2 h us)
       (ap (λ (a : Access Turn). touched a (world m1) (touched (begin (program m0) c s.entries) (world m0) ts)) (moved (ready_not e) k)
       ∙ sym (ready_touches (program m0) c s (k (program m0) s) (world m0) left (world m1) left1 (at Ready e) ts))
       (f h (touched (begin (program m0) c s.entries) (world m0) ts) (told (λ x. absurd (cc)) h ts q))
 
-  pub begun_counts : u ≡ Begun → counted part (world m0) left ≡ ended (next (with_entries s t)) (world m1) left1
+  begun_counts : u ≡ Begun → counted part (world m0) left ≡ ended (next (with_entries s t)) (world m1) left1
   begun_counts e = driven_begun (program m0) c s (k (program m0) s) (world m0) left (world m1) left1 t (at Begun e)
 
-  pub begun_tells : u ≡ Begun → (h : Trace) (ts : List Touch) → follows m0 h ts → follows m1 h (touched part (world m0) ts)
+  begun_tells : u ≡ Begun → (h : Trace) (ts : List Touch) → follows m0 h ts → follows m1 h (touched part (world m0) ts)
   begun_tells e h ts q = subst (λ (us : List Touch). follows m1 h us)
       (sym (begun_touches (program m0) c s (k (program m0) s) (world m0) left (world m1) left1 t (at Begun e) ts)) (told (λ x. absurd (cc)) h ts q)
 
-  pub refused_counts : (d : ℕ) → u ≡ Fault d → counted part (world m0) left ≡ counted (spend 1 (throws (program m1) d (record s { entries = t }))) (world m1) left1
+  refused_counts : (d : ℕ) → u ≡ Fault d → counted part (world m0) left ≡ counted (spend 1 (throws (program m1) d (record s { entries = t }))) (world m1) left1
   refused_counts d e = driven_refused (program m0) c s (k (program m0) s) (world m0) left (world m1) left1 d (at (Fault d) e)
       ∙ ap (λ (a : Access Turn). counted (spend 1 a) (world m1) left1) (sym (moved (refused_not d e) (λ p v. throws p d v)))
 
-  pub refused_tells : (d : ℕ) → u ≡ Fault d → ((h : Trace) (ts : List Touch) → follows m1 h ts → follows m2 h (touched (throws (program m1) d (record s { entries = t })) (world m1) ts)) →
+  refused_tells : (d : ℕ) → u ≡ Fault d → ((h : Trace) (ts : List Touch) → follows m1 h ts → follows m2 h (touched (throws (program m1) d (record s { entries = t })) (world m1) ts)) →
       (h : Trace) (ts : List Touch) → follows m0 h ts → follows m2 h (touched part (world m0) ts)
   refused_tells d e f h ts q = subst (λ (us : List Touch). follows m2 h us)
       (ap (λ (a : Access Turn). touched a (world m1) (touched (begin (program m0) c s.entries) (world m0) ts)) (moved (refused_not d e) (λ p v. throws p d v))
       ∙ sym (refused_touches (program m0) c s (k (program m0) s) (world m0) left (world m1) left1 d (at (Fault d) e) ts))
       (f h (touched (begin (program m0) c s.entries) (world m0) ts) (told (λ x. absurd (cc)) h ts q))
 
-  pub over_counts : u ≡ Over → counted part (world m0) left ≡ over
+  over_counts : u ≡ Over → counted part (world m0) left ≡ over
   over_counts e = driven_over (program m0) c s (k (program m0) s) (world m0) left (at Over e)
+
+-- A call that uses the class answered u: the whole step then, by what it goes on with.
+module _ {M : Type 0} (program : M → Program) (world : M → World) (follows : M → Trace → List Touch → Type 0)
+    (k : Program → State → Access Turn) (c : ℕ) (m0 m1 : M) (s : Kept) (t : Entries) (left left1 : ℕ) (u : Use)
+    (of : program m1 ≡ program m0) (meets : RefinesUse c (program m0) (world m0) s.frames left u t (world m1) left1)
+    (told : TracesUse c (program m0) (world m0) s.frames u follows m0 m1) (same : u ≢ Begun → t ≡ s.frames) where
+  abbrev used : Part
+  used p v = spend 1 (bind (begin p c v.entries) (once_driven p v (k p v)))
+
+  pub made_ready : {E : Type 0} → u ≡ Ready → (m2 : M) (a : Result StepOutcome E) (s2 : Kept) (left2 : ℕ) → MakesPart (λ p v. spend 1 (k p v)) program world follows m1 m2 (record s { frames = t }) left1 a s2 left2
+      → MakesPart used program world follows m0 m2 s left a s2 left2
+  made_ready e m2 a s2 left2 b = (
+    b.0 ∙ of,
+    IfOk-weaker a _ _ (λ y z. (
+      ready_counts program world follows k c m0 m1 m2 (abs s) t left left1 u of meets told same e ∙ z.0,
+      λ n h ts q. ready_tells program world follows k c m0 m1 m2 (abs s) t left left1 u of meets told same e (z.1 n) h ts q,
+    )) b.1,
+  )
+
+  pub made_begun : u ≡ Begun → (program m1 ≡ program m0) × EndsPart used program world follows m0 m1 s left Running (record s { frames = t; raised = None }) left1
+  made_begun e = (
+    of,
+    (
+      begun_counts program world follows k c m0 m1 m1 (abs s) t left left1 u of meets told same e,
+      λ n h ts q. begun_tells program world follows k c m0 m1 m1 (abs s) t left left1 u of meets told same e h ts q,
+    ),
+  )
+
+  pub made_refused : {E : Type 0} → (d : ℕ) → u ≡ Fault d → (m2 : M) (a : Result StepOutcome E) (s2 : Kept) (left2 : ℕ) → MakesPart (throw_part d) program world follows m1 m2 (record s { frames = t }) left1 a s2 left2
+      → MakesPart used program world follows m0 m2 s left a s2 left2
+  made_refused d e m2 a s2 left2 b = (
+    b.0 ∙ of,
+    IfOk-weaker a _ _ (λ y z. (
+      refused_counts program world follows k c m0 m1 m2 (abs s) t left left1 u of meets told same d e ∙ z.0,
+      λ n h ts q. refused_tells program world follows k c m0 m1 m2 (abs s) t left left1 u of meets told same d e (z.1 n) h ts q,
+    )) b.1,
+  )
+
+  pub made_spent : u ≡ Over → (s2 : Kept) (left2 : ℕ) → (program m1 ≡ program m0) × EndsPart used program world follows m0 m1 s left Spent s2 left2
+  made_spent e s2 left2 = (of, (over_counts program world follows k c m0 m1 m1 (abs s) t left left1 u of meets told same e, λ n. absurd (n refl)))
 
 -- which first step it is
 module _ (p : Program) (s : State) where

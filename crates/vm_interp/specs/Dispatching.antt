@@ -1,5 +1,5 @@
 -- Steps of a test, one after the other.
-use Rattle.std.specs.Prelude.{◌≡◌, ◌≢◌, ◌<◌, ℕ, suc, List, ◌∷◌, length, drop, Bool, true, false, Some, None, IsSome}
+use Rattle.std.specs.Prelude.{◌≡◌, ◌≢◌, ◌<◌, ℕ, suc, Result, IfOk, List, ◌∷◌, length, drop, Bool, true, false, Some, None, IsSome}
 use Rattle.jvm_model.specs.declared.library.Native.TheVariants as native
 use Rattle.jvm_model.specs.declared.values.Touch.{Touch}
 use Rattle.jvm_model.specs.declared.values.Value.{Value}
@@ -17,7 +17,7 @@ use Rattle.jvm_model.specs.State.{State, next}
 use Rattle.jvm_model.specs.Step.{group_of, row_here, step}
 use Rattle.jvm_model.specs.View.{counted, ended, touched}
 use Rattle.vm_frames.specs.Stack.{HasRoom}
-use Rattle.vm_mem.specs.Refines.{Refines}
+use Rattle.vm_mem.specs.Refines.{Row, Refines, Traces}
 use Rattle.vm_mem.specs.Trace.{Trace}
 use Rattle.vm_arith.specs.Pure.{HasRow, is_pure, growth}
 use Rattle.vm_interp.specs.Reaching.{CanStep}
@@ -96,6 +96,10 @@ CanGo false i s = Unit {0}
 abbrev pub CanRun : Instr → Entries → Type 0
 CanRun i s = CanGo (is_pure (group_of i)) i s
 
+-- the place of the instruction after the first of these, or the end of the code behind the last one
+abbrev pub place_behind : Body → List Placed → ℕ
+place_behind b rest = place_after (drop 1 rest) b.length
+
 -- these are the instructions of a code from one of them on
 pub record IsRest (b : Body) (rest : List Placed) : Type 0 where
   pub from : ℕ
@@ -146,3 +150,15 @@ next_of FallThrough = Go
 next_of Jump = Go
 next_of (Call m) = Enter m
 next_of (Other x) = x
+
+-- over a memory a row leaves the entry at the top so, and the memory follows its touches
+abbrev pub EndsFlow : {M : Type 0} → Row Entries → (M → Program) → (M → World) → (M → Trace → List Touch → Type 0) → M → M
+    → Entries → ℕ → Flow → Entries → ℕ → Type 0
+EndsFlow t program world follows old new s left x s' left' =
+    Refines t (program old) (world old) s left (next_of x) s' (world new) left' × Traces t (program old) (world old) s (next_of x) follows old new
+
+-- a call makes a row over a memory, which stays of its program, and answers how the row left the entry at the top
+abbrev pub MakesFlow : {M E : Type 0} → Row Entries → (M → Program) → (M → World) → (M → Trace → List Touch → Type 0) → M → M
+    → Entries → ℕ → Result Flow E → Entries → ℕ → Type 0
+MakesFlow t program world follows old new s left r s' left' =
+    (program new ≡ program old) × IfOk r (λ x. EndsFlow t program world follows old new s left x s' left')

@@ -54,6 +54,10 @@ HasRoomAfter Over p s = Unit {0}
 abbrev pub HasNativeSpace : Row Entries → Program → World → Entries → Type 0
 HasNativeSpace r p w s = (m : ℕ) (t : Entries) → (run (r p s) w).value ≡ answer (Enter m) t → HasRoomFor (method_at p m).native t
 
+-- the next step is that of an instruction
+abbrev pub IsRunning : State → Type 0
+IsRunning s = (s.entries.top.kind ≡ InMethod) × (s.raised ≡ None)
+
 -- What a step asks of a test's state.
 pub record CanStep (p : Program) (w : World) (s : State) : Type 0 where
   -- it comes to an end, and each location that it meets is there

@@ -1,5 +1,5 @@
 -- What contracts say of a step, and of what a part of one makes of a test's state.
-use Rattle.std.specs.Prelude.{◌≡◌, ◌≢◌, ℕ, List, not, Option, Some, None}
+use Rattle.std.specs.Prelude.{◌≡◌, ◌≢◌, ℕ, List, not, Option, Some, None, Result, IfOk}
 use Rattle.jvm_model.specs.declared.values.Touch.{Touch}
 use Rattle.jvm_model.specs.declared.outcome.Next.{Next}
 use Rattle.jvm_model.specs.declared.outcome.Verdict.{Verdict}
@@ -25,9 +25,13 @@ use Rattle.vm_interp.specs.declared.step_outcome.StepOutcome.TheVariants.{Runnin
 abbrev pub Part : Type 0
 Part = Program → State → Access Turn
 
--- it comes to an end, and each location that it meets is there
-abbrev pub IsFit : Part → Program → World → Kept → Type 0
-IsFit t p w s = IsSafe IsTurn (t p (abs s)) w
+-- a memory is of the program, in which the part comes to an end, and each location that it meets is there
+abbrev pub IsFit : {M : Type 0} → Part → Program → (M → Program) → (M → World) → M → Kept → Type 0
+IsFit t p program world m s = (p ≡ program m) × IsSafe IsTurn (t p (abs s)) (world m)
+
+-- a memory and the selections that are kept are of the program
+abbrev pub AreOf : Program → Program → Program → Type 0
+AreOf p memory selections = (p ≡ memory) × (selections ≡ p)
 
 -- how it ended, where the code answered this and left these; a verdict comes with what the test printed
 abbrev pub step_outcome : StepOutcome → Kept → World → ℕ → Counted Turn
@@ -48,6 +52,19 @@ RefinesPart t p w s left x s' w' left' = counted (t p (abs s)) w left ≡ step_o
 -- unless its cost is above the units left, a memory then follows its touches
 abbrev pub TracesPart : {M : Type 0} → Part → Program → World → Kept → StepOutcome → (M → Trace → List Touch → Type 0) → M → M → Type 0
 TracesPart t p w s x follows old new = x ≢ OutOfBudget → (h : Trace) (ts : List Touch) → follows old h ts → follows new h (touched (t p (abs s)) w ts)
+
+-- over a memory the part ends as a call answered, and the memory follows its touches
+abbrev pub EndsPart : {M : Type 0} → Part → (M → Program) → (M → World) → (M → Trace → List Touch → Type 0) → M → M
+    → Kept → ℕ → StepOutcome → Kept → ℕ → Type 0
+EndsPart t program world follows old new s left x s' left' =
+    RefinesPart t (program old) (world old) s left x s' (world new) left' × TracesPart t (program old) (world old) s x follows old new
+
+-- A call makes a part of a step over a memory, which stays of its program. Where it answers, the part ends so, with this state
+-- and units left.
+abbrev pub MakesPart : {M E : Type 0} → Part → (M → Program) → (M → World) → (M → Trace → List Touch → Type 0) → M → M
+    → Kept → ℕ → Result StepOutcome E → Kept → ℕ → Type 0
+MakesPart t program world follows old new s left r s' left' =
+    (program new ≡ program old) × IfOk r (λ x. EndsPart t program world follows old new s left x s' left')
 
 -- a step that makes this row
 abbrev pub by_row : Row Entries → Part

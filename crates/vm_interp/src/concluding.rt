@@ -1,18 +1,18 @@
 //! How a step ends after its row.
 
-ghost use Rattle.std.specs.Prelude.{◌≡◌, IfOk, OnOk};
+ghost use Rattle.std.specs.Prelude.{◌≡◌};
 ghost use Rattle.jvm_model.specs.declared.outcome.Next.TheVariants.{Enter};
 ghost use Rattle.jvm_model.specs.Classes.{method_at};
 ghost use Rattle.vm_interp.specs.Reaching.{HasRoomAfter};
 ghost use Rattle.vm_natives.specs.Rows.{growth};
 ghost use Rattle.vm_frames.specs.Stack.{HasRoom};
-ghost use Rattle.vm_interp.specs.Turns.{IsFit, RefinesPart, TracesPart, after, builtin_part};
+ghost use Rattle.vm_interp.specs.Turns.{IsFit, MakesPart, after, builtin_part};
 
 use crate::raising::{raise_into, throw_new};
 use crate::state::State;
 use crate::step_outcome::StepOutcome;
 use et_base::NoMemory;
-use jvm_model::{Native, Next, Program};
+use jvm_model::{Native, Next};
 use std::alloc::Global;
 use vm_mem::Memory;
 use vm_natives::native;
@@ -25,22 +25,14 @@ pub fn conclude<M: Memory>(
     alloc: Global,
     state: &mut State,
     memory: &mut M,
-    p: &Program,
     tables: &Tables,
     next: Next,
     left: &mut u64,
 ) -> Result<StepOutcome, NoMemory>
-    requires program { p.now ≡ M.program memory.old }
-    requires tables { tables.now ≡ M.program memory.old }
-    requires room { HasRoomAfter next (M.program memory.old) state.old.frames }
-    requires fit { IsFit (after next) (M.program memory.old) (M.world memory.old) state.old }
-    ensures meets { IfOk result (λ x. RefinesPart (after next)
-        (M.program memory.old) (M.world memory.old) state.old left.old
-        x state.new (M.world memory.new) left.new) }
-    ensures told { IfOk result (λ x. TracesPart (after next)
-        (M.program memory.old) (M.world memory.old) state.old
-        x M.follows memory.old memory.new) }
-    ensures of { OnOk result (M.program memory.new ≡ M.program memory.old) }
+    requires room { HasRoomAfter next tables.now state.old.frames }
+    requires fit { IsFit (after next) tables.now M.program M.world memory.old state.old }
+    ensures made { MakesPart (after next) M.program M.world M.follows
+        memory.old memory.new state.old left.old result state.new left.new }
 {
     match next {
         Next::Go | Next::Leave => {}
@@ -53,7 +45,7 @@ pub fn conclude<M: Memory>(
             raise_into(state, thrown);
             return Ok(StepOutcome::Running);
         }
-        Next::Enter { method } => return enter(alloc, state, memory, p, tables, method, left),
+        Next::Enter { method } => return enter(alloc, state, memory, tables, method, left),
         Next::Over => unreachable!(),
     }
     state.raised = None;
@@ -65,29 +57,21 @@ fn enter<M: Memory>(
     alloc: Global,
     state: &mut State,
     memory: &mut M,
-    p: &Program,
     tables: &Tables,
     method: u32,
     left: &mut u64,
 ) -> Result<StepOutcome, NoMemory>
-    requires program { p.now ≡ M.program memory.old }
-    requires tables { tables.now ≡ M.program memory.old }
-    requires room { HasRoomAfter (Enter method) (M.program memory.old) state.old.frames }
-    requires fit { IsFit (after (Enter method)) (M.program memory.old) (M.world memory.old) state.old }
-    ensures meets { IfOk result (λ x. RefinesPart (after (Enter method))
-        (M.program memory.old) (M.world memory.old) state.old left.old
-        x state.new (M.world memory.new) left.new) }
-    ensures told { IfOk result (λ x. TracesPart (after (Enter method))
-        (M.program memory.old) (M.world memory.old) state.old
-        x M.follows memory.old memory.new) }
-    ensures of { OnOk result (M.program memory.new ≡ M.program memory.old) }
+    requires room { HasRoomAfter (Enter method) tables.now state.old.frames }
+    requires fit { IsFit (after (Enter method)) tables.now M.program M.world memory.old state.old }
+    ensures made { MakesPart (after (Enter method)) M.program M.world M.follows
+        memory.old memory.new state.old left.old result state.new left.new }
 {
-    match native_of(p, method) {
+    match native_of(tables, method) {
         None => {
             state.raised = None;
             Ok(StepOutcome::Running)
         }
-        Some(which) => run_builtin(alloc, state, memory, p, tables, which, left),
+        Some(which) => run_builtin(alloc, state, memory, tables, which, left),
     }
 }
 
@@ -96,27 +80,27 @@ fn run_builtin<M: Memory>(
     alloc: Global,
     state: &mut State,
     memory: &mut M,
-    p: &Program,
     tables: &Tables,
     which: Native,
     left: &mut u64,
 ) -> Result<StepOutcome, NoMemory>
-    requires program { p.now ≡ M.program memory.old }
-    requires tables { tables.now ≡ M.program memory.old }
     requires room { HasRoom (growth which) state.old.frames }
-    requires fit { IsFit (builtin_part which)
-        (M.program memory.old) (M.world memory.old) state.old }
-    ensures meets { IfOk result (λ x. RefinesPart (builtin_part which)
-        (M.program memory.old) (M.world memory.old) state.old left.old
-        x state.new (M.world memory.new) left.new) }
-    ensures told { IfOk result (λ x. TracesPart (builtin_part which)
-        (M.program memory.old) (M.world memory.old) state.old
-        x M.follows memory.old memory.new) }
-    ensures of { OnOk result (M.program memory.new ≡ M.program memory.old) }
+    requires fit { IsFit (builtin_part which) tables.now M.program M.world memory.old state.old }
+    ensures made { MakesPart (builtin_part which) M.program M.world M.follows
+        memory.old memory.new state.old left.old result state.new left.new }
 {
     let place = tables.next_place(state.frames.number(), state.frames.pc());
     let frames = &mut state.frames;
-    let next = native(alloc, frames, memory, p, &mut state.own, which, place, left)?;
+    let next = native(
+        alloc,
+        frames,
+        memory,
+        tables.program(),
+        &mut state.own,
+        which,
+        place,
+        left,
+    )?;
     match next {
         Next::Go => Ok(StepOutcome::Running),
         Next::Fault { class } => throw_new(state, memory, class, left),
@@ -128,10 +112,10 @@ fn run_builtin<M: Memory>(
 }
 
 /// Which built-in method a method is, if it is one.
-pub fn native_of(p: &Program, method: u32) -> Option<Native>
-    ensures { result ≡ (method_at p.now method).native }
+pub fn native_of(tables: &Tables, method: u32) -> Option<Native>
+    ensures { result ≡ (method_at tables.now method).native }
 {
-    match p.method(method) {
+    match tables.program().method(method) {
         None => None,
         Some(record) => record.native,
     }

@@ -2,27 +2,26 @@
 
 ghost use Rattle.std.specs.Prelude.{◌≡◌, ◌<◌, ℕ, true, false, None, Some, IfOk, OnOk, drop, IfSome, IsSome};
 ghost use Rattle.jvm_model.specs.declared.state.EntryKind.TheVariants.{InMethod};
-ghost use Rattle.jvm_model.specs.Classes as classes;
 ghost use Rattle.jvm_model.specs.Entries.{Entries};
 ghost use Rattle.jvm_model.specs.Classes.{form_at, method_at};
 ghost use Rattle.jvm_model.specs.declared.library.Native.TheVariants as native;
 ghost use Rattle.jvm_model.specs.Linked.{Linked};
 ghost use Rattle.jvm_model.specs.Step as steps;
-ghost use Rattle.vm_mem.specs.Refines.{Refines, Traces};
-ghost use Rattle.vm_interp.specs.Dispatching.{RunsSlice, EndsInit, EndsWithRow, HasObject, IsAtForm, IsInCode, IsRest, Dispatches, Stands, StaysAt, StepsOn, next_of};
+ghost use Rattle.vm_interp.specs.Dispatching.{RunsSlice, EndsInit, EndsWithRow, HasObject, IsAtForm, IsInCode, IsRest, MakesFlow, Dispatches, Stands, StaysAt, StepsOn, next_of, place_behind};
 ghost use Rattle.vm_interp.specs.declared.flow.Flow.TheVariants.{FallThrough};
 ghost use Rattle.vm_interp.specs.Reaching.{CanStep};
 ghost use Rattle.vm_interp.specs.Abs.{abs};
-ghost use Rattle.vm_interp.specs.Turns.{as_step_outcome};
+ghost use Rattle.vm_interp.specs.Turns.{AreOf, as_step_outcome};
 
 use crate::concluding::{conclude, native_of};
+use crate::cursor::InstrCursor;
 use crate::flow::Flow;
 use crate::hot::hot_row;
 use crate::state::State;
 use crate::step_outcome::StepOutcome;
-use crate::stepping::step_safe;
+use crate::stepping::step_aside;
 use et_base::NoMemory;
-use jvm_model::{Body, EntryKind, Native, Next, Placed, Program, Verdict};
+use jvm_model::{Body, EntryKind, Native, Next, Placed, Verdict};
 use std::alloc::Global;
 use std::mem;
 use vm_calls::Selections;
@@ -37,22 +36,19 @@ pub fn run_slice<M: Memory>(
     alloc: Global,
     state: &mut State,
     memory: &mut M,
-    p: &Program,
     tables: &Tables,
     selections: &mut Selections,
     left: &mut u64,
 ) -> Result<Option<Option<Verdict>>, NoMemory>
-    requires program { p.now ≡ M.program memory.old }
-    requires tables { tables.now ≡ M.program memory.old }
-    requires selections { selections.old ≡ M.program memory.old }
-    requires linked { Linked p.now }
-    requires can { StepsOn p.now (abs state.old) (M.world memory.old) left.old }
-    ensures made { IfOk result (λ x. RunsSlice p.now M.world M.follows memory.old memory.new
+    requires of { AreOf tables.now (M.program memory.old) selections.old }
+    requires linked { Linked tables.now }
+    requires can { StepsOn tables.now (abs state.old) (M.world memory.old) left.old }
+    ensures made { IfOk result (λ x. RunsSlice tables.now M.world M.follows memory.old memory.new
         state.old left.old (as_step_outcome x) state.new left.new) }
-    ensures of { OnOk result (M.program memory.new ≡ M.program memory.old) }
+    ensures of { M.program memory.new ≡ M.program memory.old }
     ensures kept { selections.new ≡ selections.old }
 {
-    match run_block(alloc, state, memory, p, tables, selections, left)? {
+    match run_block(alloc, state, memory, tables, selections, left)? {
         StepOutcome::Running => Ok(None),
         StepOutcome::Done(verdict) => Ok(Some(Some(verdict))),
         StepOutcome::OutOfBudget => Ok(Some(None)),
@@ -64,60 +60,33 @@ fn run_block<M: Memory>(
     alloc: Global,
     state: &mut State,
     memory: &mut M,
-    p: &Program,
     tables: &Tables,
     selections: &mut Selections,
     left: &mut u64,
 ) -> Result<StepOutcome, NoMemory>
-    requires program { p.now ≡ M.program memory.old }
-    requires tables { tables.now ≡ M.program memory.old }
-    requires selections { selections.old ≡ M.program memory.old }
-    requires linked { Linked p.now }
-    requires can { StepsOn p.now (abs state.old) (M.world memory.old) left.old }
-    ensures made { IfOk result (λ x. RunsSlice p.now M.world M.follows memory.old memory.new
+    requires of { AreOf tables.now (M.program memory.old) selections.old }
+    requires linked { Linked tables.now }
+    requires can { StepsOn tables.now (abs state.old) (M.world memory.old) left.old }
+    ensures made { IfOk result (λ x. RunsSlice tables.now M.world M.follows memory.old memory.new
         state.old left.old x state.new left.new) }
-    ensures of { OnOk result (M.program memory.new ≡ M.program memory.old) }
+    ensures of { M.program memory.new ≡ M.program memory.old }
     ensures kept { selections.new ≡ selections.old }
 {
-    match running_at(state, p, tables) {
-        None => {
-            let step_outcome = step_safe(alloc, state, memory, p, tables, selections, left)?;
-            Ok(step_outcome)
-        }
-        Some(cursor) => run_block_in(
-            alloc,
-            state,
-            memory,
-            p,
-            tables,
-            selections,
-            cursor.body,
-            cursor.rest,
-            left,
-        ),
+    if state.is_running() {
+        let cursor = cursor_in_method(&state.frames, tables);
+        return run_block_in(alloc, state, memory, tables, selections, cursor, left);
     }
-}
-
-/// The instruction at the top, where the next step is that of an instruction.
-fn running_at<'p>(state: &State, p: &'p Program, tables: &Tables) -> Option<InstrCursor<'p>>
-    requires tables { tables.now ≡ p.now }
-    requires there { state.now.raised ≡ None → IsAtForm p.now state.now.frames }
-    ensures { IfSome result (λ x. (state.now.raised ≡ None)
-        × Stands p.now x.body.now x.rest.now state.now.frames) }
-{
-    if state.raised.is_some() {
-        return None;
-    }
-    cursor_on_top(&state.frames, p, tables)
+    let step_outcome = step_aside(alloc, state, memory, tables, left)?;
+    Ok(step_outcome)
 }
 
 /// The code of the method at the top, at an instruction of it.
 #[inline(always)]
-fn body_at_top<'p>(stack: &FrameStack, p: &'p Program) -> &'p Body
-    requires { IsSome (form_at p.now stack.now.top.number stack.now.top.pc) }
-    ensures { (method_at p.now stack.now.top.number).body ≡ Some result.now }
+fn body_at_top<'p>(stack: &FrameStack, tables: &Tables<'p>) -> &'p Body
+    requires { IsSome (form_at tables.now stack.now.top.number stack.now.top.pc) }
+    ensures { (method_at tables.now stack.now.top.number).body ≡ Some result.now }
 {
-    let Some(record) = p.method(stack.number()) else {
+    let Some(record) = tables.program().method(stack.number()) else {
         unreachable!();
     };
     let Some(body) = &record.body else {
@@ -128,92 +97,72 @@ fn body_at_top<'p>(stack: &FrameStack, p: &'p Program) -> &'p Body
 
 /// Makes such steps in the code of the method at the top and of those that it calls or returns to, and the step of the row
 /// that comes after them.
-fn run_block_in<M: Memory>(
+fn run_block_in<'p, M: Memory>(
     alloc: Global,
     state: &mut State,
     memory: &mut M,
-    p: &Program,
-    tables: &Tables,
+    tables: &Tables<'p>,
     selections: &mut Selections,
-    body: &Body,
-    rest: &[Placed],
+    cursor: InstrCursor<'p>,
     left: &mut u64,
 ) -> Result<StepOutcome, NoMemory>
-    requires program { p.now ≡ M.program memory.old }
-    requires tables { tables.now ≡ M.program memory.old }
-    requires selections { selections.old ≡ M.program memory.old }
-    requires linked { Linked p.now }
-    requires stands { Stands p.now body.now rest.now state.old.frames }
+    requires of { AreOf tables.now (M.program memory.old) selections.old }
+    requires linked { Linked tables.now }
+    requires stands { Stands tables.now cursor.body.now cursor.rest.now state.old.frames }
     requires quiet { state.old.raised ≡ None }
-    requires can { StepsOn p.now (abs state.old) (M.world memory.old) left.old }
-    ensures made { IfOk result (λ x. RunsSlice p.now M.world M.follows memory.old memory.new
+    requires can { StepsOn tables.now (abs state.old) (M.world memory.old) left.old }
+    ensures made { IfOk result (λ x. RunsSlice tables.now M.world M.follows memory.old memory.new
         state.old left.old x state.new left.new) }
-    ensures of { OnOk result (M.program memory.new ≡ M.program memory.old) }
+    ensures of { M.program memory.new ≡ M.program memory.old }
     ensures kept { selections.new ≡ selections.old }
 {
-    let next = dispatch_loop(
-        alloc, state, memory, p, tables, selections, body, rest, left,
-    )?;
+    let next = dispatch_loop(alloc, state, memory, tables, selections, cursor, left)?;
     if let Next::Over = next {
         return Ok(StepOutcome::OutOfBudget);
     }
-    let step_outcome = conclude(alloc, state, memory, p, tables, next, left)?;
+    let step_outcome = conclude(alloc, state, memory, tables, next, left)?;
     Ok(step_outcome)
 }
 
 /// Makes the rows of such steps, up to one with which its step doesn't end or that leaves no instruction at the top. The
 /// entries stand in a local meanwhile, and what is called apart works on a copy of them: so they can be kept in registers.
-fn dispatch_loop<M: Memory>(
+fn dispatch_loop<'p, M: Memory>(
     alloc: Global,
     state: &mut State,
     memory: &mut M,
-    p: &Program,
-    tables: &Tables,
+    tables: &Tables<'p>,
     selections: &mut Selections,
-    body: &Body,
-    rest: &[Placed],
+    cursor: InstrCursor<'p>,
     left: &mut u64,
 ) -> Result<Next, NoMemory>
-    requires program { p.now ≡ M.program memory.old }
-    requires tables { tables.now ≡ M.program memory.old }
-    requires selections { selections.old ≡ M.program memory.old }
-    requires linked { Linked p.now }
-    requires stands { Stands p.now body.now rest.now state.old.frames }
+    requires of { AreOf tables.now (M.program memory.old) selections.old }
+    requires linked { Linked tables.now }
+    requires stands { Stands tables.now cursor.body.now cursor.rest.now state.old.frames }
     requires quiet { state.old.raised ≡ None }
-    requires can { StepsOn p.now (abs state.old) (M.world memory.old) left.old }
-    ensures made { IfOk result (λ x. Dispatches p.now M.world M.follows memory.old memory.new
+    requires can { StepsOn tables.now (abs state.old) (M.world memory.old) left.old }
+    ensures made { IfOk result (λ x. Dispatches tables.now M.world M.follows memory.old memory.new
         state.old left.old x state.new.frames left.new) }
     ensures rest { OnOk result (state.new ≡ record state.old { frames = state.new.frames }) }
-    ensures of { OnOk result (M.program memory.new ≡ M.program memory.old) }
+    ensures of { M.program memory.new ≡ M.program memory.old }
     ensures kept { selections.new ≡ selections.old }
 {
     let mut frames = mem::replace(&mut state.frames, FrameStack::new(alloc));
     let mut units = *left;
-    let mut body = body;
-    let mut rest = rest;
+    let mut cursor = cursor;
     while units > 0 {
         let flow = row_at(
-            alloc,
             &mut frames,
             memory,
-            p,
             tables,
             selections,
-            body,
-            rest,
+            cursor,
             &mut units,
             state,
         )?;
-        match cursor_after(flow, &frames, p, tables, body, rest) {
-            Some(cursor) => {
-                body = cursor.body;
-                rest = cursor.rest;
-            }
-            None => match cursor_past_init(flow, &mut frames, p, tables, &mut units) {
-                Some(cursor) => {
-                    body = cursor.body;
-                    rest = cursor.rest;
-                }
+        match cursor_after(flow, &frames, tables, cursor) {
+            Some(next) => cursor = next,
+            None => match cursor_past_init(flow, &mut frames, tables, &mut units) {
+                Some(next) => cursor = next,
                 None => {
                     state.frames = frames;
                     *left = units;
@@ -231,50 +180,37 @@ fn dispatch_loop<M: Memory>(
 /// Makes the row of the instruction at the top, the first of these of its method's code.
 #[inline(always)]
 fn row_at<M: Memory>(
-    alloc: Global,
     stack: &mut FrameStack,
     memory: &mut M,
-    p: &Program,
     tables: &Tables,
     selections: &mut Selections,
-    body: &Body,
-    rest: &[Placed],
+    cursor: InstrCursor<'_>,
     left: &mut u64,
     _state: &State,
 ) -> Result<Flow, NoMemory>
-    requires program { p.now ≡ M.program memory.old }
-    requires tables { tables.now ≡ M.program memory.old }
-    requires selections { selections.old ≡ M.program memory.old }
-    requires linked { Linked p.now }
-    requires stands { Stands p.now body.now rest.now stack.old }
+    requires of { AreOf tables.now (M.program memory.old) selections.old }
+    requires linked { Linked tables.now }
+    requires stands { Stands tables.now cursor.body.now cursor.rest.now stack.old }
     requires quiet { _state.now.raised ≡ None }
-    requires can { CanStep p.now (M.world memory.old)
+    requires can { CanStep tables.now (M.world memory.old)
         (record (abs _state.now) { entries = stack.old }) }
     requires units { 0 < left.old }
-    ensures meets { IfOk result (λ x. Refines steps.row_here
-        (M.program memory.old) (M.world memory.old) stack.old left.old
-        (next_of x) stack.new (M.world memory.new) left.new) }
-    ensures told { IfOk result (λ x. Traces steps.row_here
-        (M.program memory.old) (M.world memory.old) stack.old
-        (next_of x) M.follows memory.old memory.new) }
-    ensures left { IfOk result (λ x. StaysAt p.now body.now x
-        (classes.place_after (drop 1 rest.now) body.now.length) stack.new) }
-    ensures of { OnOk result (M.program memory.new ≡ M.program memory.old) }
+    ensures made { MakesFlow steps.row_here M.program M.world M.follows
+        memory.old memory.new stack.old left.old result stack.new left.new }
+    ensures left { IfOk result (λ x. StaysAt tables.now cursor.entry.body.now x
+        (place_behind cursor.entry.body.now cursor.entry.rest.now) stack.new) }
     ensures kept { selections.new ≡ selections.old }
 {
+    let rest = cursor.rest;
     let placed = &rest[0];
     stack.set_pc(placed.pc);
-    let end = &body.length;
     let flow = hot_row(
-        alloc,
         stack,
         memory,
-        p,
         tables,
         selections,
         &placed.form,
-        rest,
-        end,
+        cursor,
         left,
     )?;
     Ok(flow)
@@ -285,31 +221,29 @@ fn row_at<M: Memory>(
 fn cursor_after<'p>(
     flow: Flow,
     stack: &FrameStack,
-    p: &'p Program,
-    tables: &Tables,
-    body: &'p Body,
-    rest: &'p [Placed],
+    tables: &Tables<'p>,
+    cursor: InstrCursor<'p>,
 ) -> Option<InstrCursor<'p>>
-    requires tables { tables.now ≡ p.now }
-    requires linked { Linked p.now }
-    requires of { IsRest body.now rest.now }
-    requires there { EndsWithRow p.now (next_of flow) → IsAtForm p.now stack.now }
-    requires left { StaysAt p.now body.now flow
-        (classes.place_after (drop 1 rest.now) body.now.length) stack.now }
-    ensures stands { IfSome result (λ x. EndsWithRow p.now (next_of flow)
-        × Stands p.now x.body.now x.rest.now stack.now) }
+    requires linked { Linked tables.now }
+    requires of { IsRest cursor.body.now cursor.rest.now }
+    requires there { EndsWithRow tables.now (next_of flow) → IsAtForm tables.now stack.now }
+    requires left { StaysAt tables.now cursor.body.now flow
+        (place_behind cursor.body.now cursor.rest.now) stack.now }
+    ensures stands { IfSome result (λ x. EndsWithRow tables.now (next_of flow)
+        × Stands tables.now x.body.now x.rest.now stack.now) }
 {
+    let InstrCursor { body, rest } = cursor;
     match flow {
         Flow::FallThrough => Some(InstrCursor {
             body,
-            rest: behind_first(rest, p, body, stack),
+            rest: behind_first(rest, tables, body, stack),
         }),
         Flow::Jump => Some(InstrCursor {
             body,
-            rest: rest_there(tables, p, body, stack),
+            rest: rest_there(tables, body, stack),
         }),
-        Flow::Call { method } => { cursor_at_start(stack, p, method) }
-        Flow::Other(Next::Go) => cursor_on_top(stack, p, tables),
+        Flow::Call { method } => cursor_at_start(stack, tables, method),
+        Flow::Other(Next::Go) => cursor_on_top(stack, tables),
         Flow::Other(_) => None,
     }
 }
@@ -317,13 +251,17 @@ fn cursor_after<'p>(
 /// The first instruction of a method that was entered, None of a built-in one. That the entry at the top is its frame is
 /// known where this is inlined, and the tests of it are left out.
 #[inline(always)]
-fn cursor_at_start<'p>(stack: &FrameStack, p: &'p Program, method: u32) -> Option<InstrCursor<'p>>
-    requires linked { Linked p.now }
-    requires there { (method_at p.now method).native ≡ None → IsAtForm p.now stack.now }
-    ensures { IfSome result (λ x. ((method_at p.now method).native ≡ None)
-        × Stands p.now x.body.now x.rest.now stack.now) }
+fn cursor_at_start<'p>(
+    stack: &FrameStack,
+    tables: &Tables<'p>,
+    method: u32,
+) -> Option<InstrCursor<'p>>
+    requires linked { Linked tables.now }
+    requires there { (method_at tables.now method).native ≡ None → IsAtForm tables.now stack.now }
+    ensures { IfSome result (λ x. ((method_at tables.now method).native ≡ None)
+        × Stands tables.now x.body.now x.rest.now stack.now) }
 {
-    let record = p.method(method)?;
+    let record = tables.program().method(method)?;
     if record.native.is_some() {
         return None;
     }
@@ -343,44 +281,35 @@ fn cursor_at_start<'p>(stack: &FrameStack, p: &'p Program, method: u32) -> Optio
 fn cursor_past_init<'p>(
     flow: Flow,
     stack: &mut FrameStack,
-    p: &'p Program,
-    tables: &Tables,
+    tables: &Tables<'p>,
     left: &mut u64,
 ) -> Option<InstrCursor<'p>>
-    requires tables { tables.now ≡ p.now }
-    requires object { HasObject p.now (next_of flow) stack.old }
-    requires there { (s : Entries) (n : ℕ) → EndsInit p.now (next_of flow) stack.old left.old s n
-        → IsAtForm p.now s }
+    requires object { HasObject tables.now (next_of flow) stack.old }
+    requires there { (s : Entries) (n : ℕ) → EndsInit tables.now (next_of flow) stack.old left.old s n
+        → IsAtForm tables.now s }
     ensures ended { IfSome result (λ x.
-        EndsInit p.now (next_of flow) stack.old left.old stack.new left.new
-        × Stands p.now x.body.now x.rest.now stack.new) }
+        EndsInit tables.now (next_of flow) stack.old left.old stack.new left.new
+        × Stands tables.now x.body.now x.rest.now stack.new) }
     ensures kept { result ≡ None → (stack.new ≡ stack.old) × (left.new ≡ left.old) }
 {
-    if !ends_object_init(flow, stack, p, tables, left) {
+    if !ends_object_init(flow, stack, tables, left) {
         return None;
     }
-    Some(cursor_in_method(stack, p, tables))
+    Some(cursor_in_method(stack, tables))
 }
 
 /// Whether the step of an instruction that called a method ends with the built-in constructor of `Object`: then it does.
 #[inline(always)]
-fn ends_object_init(
-    flow: Flow,
-    stack: &mut FrameStack,
-    p: &Program,
-    tables: &Tables,
-    left: &mut u64,
-) -> bool
-    requires tables { tables.now ≡ p.now }
-    requires object { HasObject p.now (next_of flow) stack.old }
+fn ends_object_init(flow: Flow, stack: &mut FrameStack, tables: &Tables, left: &mut u64) -> bool
+    requires object { HasObject tables.now (next_of flow) stack.old }
     ensures ended { result ≡ true
-        → EndsInit p.now (next_of flow) stack.old left.old stack.new left.new }
+        → EndsInit tables.now (next_of flow) stack.old left.old stack.new left.new }
     ensures kept { result ≡ false → (stack.new ≡ stack.old) × (left.new ≡ left.old) }
 {
     let Flow::Call { method } = flow else {
         return false;
     };
-    if !is_object_init(p, method) || *left == 0 || !is_frame(stack) {
+    if !is_object_init(tables, method) || *left == 0 || !is_frame(stack) {
         return false;
     }
     let next = tables.next_place(stack.number(), stack.pc());
@@ -392,53 +321,51 @@ fn ends_object_init(
 
 /// Whether a method is the built-in constructor of `Object`.
 #[inline(always)]
-fn is_object_init(p: &Program, method: u32) -> bool
-    ensures { result ≡ true → (method_at p.now method).native ≡ Some native.ObjectInit }
+fn is_object_init(tables: &Tables, method: u32) -> bool
+    ensures { result ≡ true → (method_at tables.now method).native ≡ Some native.ObjectInit }
 {
-    matches!(native_of(p, method), Some(Native::ObjectInit))
+    matches!(native_of(tables, method), Some(Native::ObjectInit))
 }
 
 /// The instructions behind the first of these, where the top stands at the next one.
 #[inline(always)]
 fn behind_first<'p>(
     rest: &'p [Placed],
-    _p: &Program,
+    _tables: &Tables,
     _body: &Body,
     _stack: &FrameStack,
 ) -> &'p [Placed]
-    requires linked { Linked _p.now }
+    requires linked { Linked _tables.now }
     requires of { IsRest _body.now rest.now }
-    requires at { StaysAt _p.now _body.now FallThrough
-        (classes.place_after (drop 1 rest.now) _body.now.length) _stack.now }
-    requires there { IsAtForm _p.now _stack.now }
-    ensures { Stands _p.now _body.now result.now _stack.now }
+    requires at { StaysAt _tables.now _body.now FallThrough
+        (place_behind _body.now rest.now) _stack.now }
+    requires there { IsAtForm _tables.now _stack.now }
+    ensures { Stands _tables.now _body.now result.now _stack.now }
 {
     &rest[1..]
 }
 
 /// The instruction at the top in the code of its method, where a method is.
 #[inline(always)]
-fn cursor_on_top<'p>(stack: &FrameStack, p: &'p Program, tables: &Tables) -> Option<InstrCursor<'p>>
-    requires tables { tables.now ≡ p.now }
-    requires there { IsAtForm p.now stack.now }
-    ensures { IfSome result (λ x. Stands p.now x.body.now x.rest.now stack.now) }
+fn cursor_on_top<'p>(stack: &FrameStack, tables: &Tables<'p>) -> Option<InstrCursor<'p>>
+    requires there { IsAtForm tables.now stack.now }
+    ensures { IfSome result (λ x. Stands tables.now x.body.now x.rest.now stack.now) }
 {
     if !is_frame(stack) {
         return None;
     }
-    Some(cursor_in_method(stack, p, tables))
+    Some(cursor_in_method(stack, tables))
 }
 
 /// The instruction at the top in the code of its method.
 #[inline(always)]
-fn cursor_in_method<'p>(stack: &FrameStack, p: &'p Program, tables: &Tables) -> InstrCursor<'p>
-    requires tables { tables.now ≡ p.now }
+fn cursor_in_method<'p>(stack: &FrameStack, tables: &Tables<'p>) -> InstrCursor<'p>
     requires frame { stack.now.top.kind ≡ InMethod }
-    requires there { IsAtForm p.now stack.now }
-    ensures { Stands p.now result.body.now result.rest.now stack.now }
+    requires there { IsAtForm tables.now stack.now }
+    ensures { Stands tables.now result.body.now result.rest.now stack.now }
 {
-    let body = body_at_top(stack, p);
-    let rest = rest_there(tables, p, body, stack);
+    let body = body_at_top(stack, tables);
+    let rest = rest_there(tables, body, stack);
     InstrCursor { body, rest }
 }
 
@@ -453,20 +380,12 @@ fn is_frame(stack: &FrameStack) -> bool
     }
 }
 
-/// An instruction of a method's code, the first of the rest of it.
-#[derive(Clone, Copy)]
-struct InstrCursor<'p> {
-    body: &'p Body,
-    rest: &'p [Placed],
-}
-
 /// The instruction at the top in this code, and those behind it.
 #[inline(always)]
-fn rest_there<'p>(tables: &Tables, _p: &Program, body: &'p Body, stack: &FrameStack) -> &'p [Placed]
-    requires tables { tables.now ≡ _p.now }
-    requires code { IsInCode _p.now body.now stack.now }
-    requires there { IsAtForm _p.now stack.now }
-    ensures { Stands _p.now body.now result.now stack.now }
+fn rest_there<'p>(tables: &Tables, body: &'p Body, stack: &FrameStack) -> &'p [Placed]
+    requires code { IsInCode tables.now body.now stack.now }
+    requires there { IsAtForm tables.now stack.now }
+    ensures { Stands tables.now body.now result.now stack.now }
 {
     let at = tables.index(stack.number(), stack.pc());
     &body.code.as_slice()[at..]

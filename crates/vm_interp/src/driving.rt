@@ -1,8 +1,8 @@
 //! The driver: what a test calls, in order.
 
-ghost use Rattle.std.specs.Prelude.{◌≡◌, IfOk, OnOk};
+ghost use Rattle.std.specs.Prelude.{◌≡◌};
 ghost use Rattle.jvm_model.specs.Entries.{no_entries};
-ghost use Rattle.vm_interp.specs.Turns.{IsFit, RefinesPart, TracesPart};
+ghost use Rattle.vm_interp.specs.Turns.{IsFit, MakesPart};
 ghost use Rattle.vm_interp.specs.Driving.{call_part, make_part, static_part, object_part, first_part, init_part, method_part, set_up_part, tear_down_part, drive_part};
 
 use crate::judging::judge;
@@ -12,7 +12,7 @@ use crate::state::{State, test_entry};
 use crate::step_outcome::StepOutcome;
 use class_init::{Use, begin_use};
 use et_base::NoMemory;
-use jvm_model::{ABSTRACT_METHOD_ERROR, Head, Kind, Program, Stage, Value};
+use jvm_model::{ABSTRACT_METHOD_ERROR, Head, Kind, Stage, Value};
 use std::alloc::Global;
 use vm_frames::PushFault;
 use vm_mem::Memory;
@@ -25,23 +25,18 @@ use vm_tables::Tables;
 fn call_method<M: Memory>(
     state: &mut State,
     memory: &mut M,
-    p: &Program,
+    tables: &Tables,
     method: u32,
     receiver: Option<Value>,
     after: Stage,
     left: &mut u64,
 ) -> Result<StepOutcome, NoMemory>
-    requires program { p.now ≡ M.program memory.old }
+    requires tables { tables.now ≡ M.program memory.old }
     requires empty { state.old.frames ≡ no_entries }
-    ensures meets { IfOk result (λ x. RefinesPart (call_part method receiver after)
-        (M.program memory.old) (M.world memory.old) state.old left.old
-        x state.new (M.world memory.new) left.new) }
-    ensures told { IfOk result (λ x. TracesPart (call_part method receiver after)
-        (M.program memory.old) (M.world memory.old) state.old
-        x M.follows memory.old memory.new) }
-    ensures of { OnOk result (M.program memory.new ≡ M.program memory.old) }
+    ensures made { MakesPart (call_part method receiver after) M.program M.world M.follows
+        memory.old memory.new state.old left.old result state.new left.new }
 {
-    let Some(record) = p.method(method) else {
+    let Some(record) = tables.program().method(method) else {
         state.stage = after;
         return throw_new(state, memory, ABSTRACT_METHOD_ERROR, left);
     };
@@ -73,13 +68,8 @@ fn make_object<M: Memory>(
     left: &mut u64,
 ) -> Result<StepOutcome, NoMemory>
     requires tables { tables.now ≡ M.program memory.old }
-    ensures meets { IfOk result (λ x. RefinesPart (make_part class)
-        (M.program memory.old) (M.world memory.old) state.old left.old
-        x state.new (M.world memory.new) left.new) }
-    ensures told { IfOk result (λ x. TracesPart (make_part class)
-        (M.program memory.old) (M.world memory.old) state.old
-        x M.follows memory.old memory.new) }
-    ensures of { OnOk result (M.program memory.new ≡ M.program memory.old) }
+    ensures made { MakesPart (make_part class) M.program M.world M.follows
+        memory.old memory.new state.old left.old result state.new left.new }
 {
     let cells = tables.cells(class) as u64;
     if *left < 2 || *left - 2 < cells {
@@ -99,28 +89,21 @@ fn make_object<M: Memory>(
 fn first_static<M: Memory>(
     state: &mut State,
     memory: &mut M,
-    p: &Program,
     tables: &Tables,
     class: u32,
     method: u32,
     left: &mut u64,
 ) -> Result<StepOutcome, NoMemory>
-    requires program { p.now ≡ M.program memory.old }
-    requires tables { tables.now ≡ M.program memory.old }
     requires empty { state.old.frames ≡ no_entries }
-    requires fit { IsFit (static_part class method) (M.program memory.old) (M.world memory.old) state.old }
-    ensures meets { IfOk result (λ x. RefinesPart (static_part class method)
-        (M.program memory.old) (M.world memory.old) state.old left.old
-        x state.new (M.world memory.new) left.new) }
-    ensures told { IfOk result (λ x. TracesPart (static_part class method)
-        (M.program memory.old) (M.world memory.old) state.old
-        x M.follows memory.old memory.new) }
-    ensures of { OnOk result (M.program memory.new ≡ M.program memory.old) }
+    requires fit { IsFit (static_part class method)
+        tables.now M.program M.world memory.old state.old }
+    ensures made { MakesPart (static_part class method) M.program M.world M.follows
+        memory.old memory.new state.old left.old result state.new left.new }
 {
     match begin_use(&mut state.frames, memory, tables, class, left)? {
         Use::Ready => {
             let after = Stage::Last { thrown: None };
-            call_method(state, memory, p, method, None, after, left)
+            call_method(state, memory, tables, method, None, after, left)
         }
         Use::Begun => {
             state.raised = None;
@@ -139,15 +122,9 @@ fn first_object<M: Memory>(
     class: u32,
     left: &mut u64,
 ) -> Result<StepOutcome, NoMemory>
-    requires tables { tables.now ≡ M.program memory.old }
-    requires fit { IsFit (object_part class) (M.program memory.old) (M.world memory.old) state.old }
-    ensures meets { IfOk result (λ x. RefinesPart (object_part class)
-        (M.program memory.old) (M.world memory.old) state.old left.old
-        x state.new (M.world memory.new) left.new) }
-    ensures told { IfOk result (λ x. TracesPart (object_part class)
-        (M.program memory.old) (M.world memory.old) state.old
-        x M.follows memory.old memory.new) }
-    ensures of { OnOk result (M.program memory.new ≡ M.program memory.old) }
+    requires fit { IsFit (object_part class) tables.now M.program M.world memory.old state.old }
+    ensures made { MakesPart (object_part class) M.program M.world M.follows
+        memory.old memory.new state.old left.old result state.new left.new }
 {
     match begin_use(&mut state.frames, memory, tables, class, left)? {
         Use::Ready => make_object(state, memory, tables, class, left),
@@ -165,26 +142,19 @@ fn first_object<M: Memory>(
 fn drive_first<M: Memory>(
     state: &mut State,
     memory: &mut M,
-    p: &Program,
     tables: &Tables,
     left: &mut u64,
 ) -> Result<StepOutcome, NoMemory>
-    requires program { p.now ≡ M.program memory.old }
-    requires tables { tables.now ≡ M.program memory.old }
     requires empty { state.old.frames ≡ no_entries }
-    requires fit { IsFit first_part (M.program memory.old) (M.world memory.old) state.old }
-    ensures meets { IfOk result (λ x. RefinesPart first_part
-        (M.program memory.old) (M.world memory.old) state.old left.old
-        x state.new (M.world memory.new) left.new) }
-    ensures told { IfOk result (λ x. TracesPart first_part
-        (M.program memory.old) (M.world memory.old) state.old
-        x M.follows memory.old memory.new) }
-    ensures of { OnOk result (M.program memory.new ≡ M.program memory.old) }
+    requires fit { IsFit first_part tables.now M.program M.world memory.old state.old }
+    ensures made { MakesPart first_part M.program M.world M.follows
+        memory.old memory.new state.old left.old result state.new left.new }
 {
+    let p = tables.program();
     let test = test_entry(p, state.test);
     if p.is_static_method(test.method) {
         let class = p.method_class(test.method);
-        first_static(state, memory, p, tables, class, test.method, left)
+        first_static(state, memory, tables, class, test.method, left)
     } else {
         first_object(state, memory, tables, test.class, left)
     }
@@ -195,21 +165,16 @@ fn drive_first<M: Memory>(
 fn drive_init<M: Memory>(
     state: &mut State,
     memory: &mut M,
-    p: &Program,
+    tables: &Tables,
     object: u64,
     left: &mut u64,
 ) -> Result<StepOutcome, NoMemory>
-    requires program { p.now ≡ M.program memory.old }
     requires empty { state.old.frames ≡ no_entries }
-    requires fit { IsFit (init_part object) (M.program memory.old) (M.world memory.old) state.old }
-    ensures meets { IfOk result (λ x. RefinesPart (init_part object)
-        (M.program memory.old) (M.world memory.old) state.old left.old
-        x state.new (M.world memory.new) left.new) }
-    ensures told { IfOk result (λ x. TracesPart (init_part object)
-        (M.program memory.old) (M.world memory.old) state.old
-        x M.follows memory.old memory.new) }
-    ensures of { OnOk result (M.program memory.new ≡ M.program memory.old) }
+    requires fit { IsFit (init_part object) tables.now M.program M.world memory.old state.old }
+    ensures made { MakesPart (init_part object) M.program M.world M.follows
+        memory.old memory.new state.old left.old result state.new left.new }
 {
+    let p = tables.program();
     let class = test_entry(p, state.test).class;
     match plain_method_in(p, b"<init>", p.class_methods(class)) {
         None => unreachable!(),
@@ -218,7 +183,7 @@ fn drive_init<M: Memory>(
             call_method(
                 state,
                 memory,
-                p,
+                tables,
                 method,
                 Some(Value::Obj(object)),
                 after,
@@ -233,21 +198,16 @@ fn drive_init<M: Memory>(
 fn drive_method<M: Memory>(
     state: &mut State,
     memory: &mut M,
-    p: &Program,
+    tables: &Tables,
     object: u64,
     left: &mut u64,
 ) -> Result<StepOutcome, NoMemory>
-    requires program { p.now ≡ M.program memory.old }
+    requires tables { tables.now ≡ M.program memory.old }
     requires empty { state.old.frames ≡ no_entries }
-    ensures meets { IfOk result (λ x. RefinesPart (method_part object)
-        (M.program memory.old) (M.world memory.old) state.old left.old
-        x state.new (M.world memory.new) left.new) }
-    ensures told { IfOk result (λ x. TracesPart (method_part object)
-        (M.program memory.old) (M.world memory.old) state.old
-        x M.follows memory.old memory.new) }
-    ensures of { OnOk result (M.program memory.new ≡ M.program memory.old) }
+    ensures made { MakesPart (method_part object) M.program M.world M.follows
+        memory.old memory.new state.old left.old result state.new left.new }
 {
-    let method = test_entry(p, state.test).method;
+    let method = test_entry(tables.program(), state.test).method;
     let after = Stage::Called {
         object,
         thrown: None,
@@ -255,7 +215,7 @@ fn drive_method<M: Memory>(
     call_method(
         state,
         memory,
-        p,
+        tables,
         method,
         Some(Value::Obj(object)),
         after,
@@ -268,29 +228,25 @@ fn drive_method<M: Memory>(
 fn drive_set_up<M: Memory>(
     state: &mut State,
     memory: &mut M,
-    p: &Program,
+    tables: &Tables,
     object: u64,
     left: &mut u64,
 ) -> Result<StepOutcome, NoMemory>
-    requires program { p.now ≡ M.program memory.old }
+    requires tables { tables.now ≡ M.program memory.old }
     requires empty { state.old.frames ≡ no_entries }
-    ensures meets { IfOk result (λ x. RefinesPart (set_up_part object)
-        (M.program memory.old) (M.world memory.old) state.old left.old
-        x state.new (M.world memory.new) left.new) }
-    ensures told { IfOk result (λ x. TracesPart (set_up_part object)
-        (M.program memory.old) (M.world memory.old) state.old
-        x M.follows memory.old memory.new) }
-    ensures of { OnOk result (M.program memory.new ≡ M.program memory.old) }
+    ensures made { MakesPart (set_up_part object) M.program M.world M.follows
+        memory.old memory.new state.old left.old result state.new left.new }
 {
+    let p = tables.program();
     let class = test_entry(p, state.test).class;
     match plain_method_of(p, b"setUp", class) {
-        None => drive_method(state, memory, p, object, left),
+        None => drive_method(state, memory, tables, object, left),
         Some(method) => {
             let after = Stage::SetUp { object };
             call_method(
                 state,
                 memory,
-                p,
+                tables,
                 method,
                 Some(Value::Obj(object)),
                 after,
@@ -306,31 +262,27 @@ fn drive_tear_down<M: Memory>(
     alloc: Global,
     state: &mut State,
     memory: &mut M,
-    p: &Program,
+    tables: &Tables,
     object: u64,
     thrown: Option<Value>,
     left: &mut u64,
 ) -> Result<StepOutcome, NoMemory>
-    requires program { p.now ≡ M.program memory.old }
     requires empty { state.old.frames ≡ no_entries }
-    requires fit { IsFit (tear_down_part object thrown) (M.program memory.old) (M.world memory.old) state.old }
-    ensures meets { IfOk result (λ x. RefinesPart (tear_down_part object thrown)
-        (M.program memory.old) (M.world memory.old) state.old left.old
-        x state.new (M.world memory.new) left.new) }
-    ensures told { IfOk result (λ x. TracesPart (tear_down_part object thrown)
-        (M.program memory.old) (M.world memory.old) state.old
-        x M.follows memory.old memory.new) }
-    ensures of { OnOk result (M.program memory.new ≡ M.program memory.old) }
+    requires fit { IsFit (tear_down_part object thrown)
+        tables.now M.program M.world memory.old state.old }
+    ensures made { MakesPart (tear_down_part object thrown) M.program M.world M.follows
+        memory.old memory.new state.old left.old result state.new left.new }
 {
+    let p = tables.program();
     let class = test_entry(p, state.test).class;
     match plain_method_of(p, b"tearDown", class) {
-        None => judge(alloc, state, memory, p, thrown, left),
+        None => judge(alloc, state, memory, tables, thrown, left),
         Some(method) => {
             let after = Stage::Last { thrown };
             call_method(
                 state,
                 memory,
-                p,
+                tables,
                 method,
                 Some(Value::Obj(object)),
                 after,
@@ -348,30 +300,22 @@ pub fn drive<M: Memory>(
     alloc: Global,
     state: &mut State,
     memory: &mut M,
-    p: &Program,
     tables: &Tables,
     left: &mut u64,
 ) -> Result<StepOutcome, NoMemory>
-    requires program { p.now ≡ M.program memory.old }
-    requires tables { tables.now ≡ M.program memory.old }
     requires empty { state.old.frames ≡ no_entries }
-    requires fit { IsFit drive_part (M.program memory.old) (M.world memory.old) state.old }
-    ensures meets { IfOk result (λ x. RefinesPart drive_part
-        (M.program memory.old) (M.world memory.old) state.old left.old
-        x state.new (M.world memory.new) left.new) }
-    ensures told { IfOk result (λ x. TracesPart drive_part
-        (M.program memory.old) (M.world memory.old) state.old
-        x M.follows memory.old memory.new) }
-    ensures of { OnOk result (M.program memory.new ≡ M.program memory.old) }
+    requires fit { IsFit drive_part tables.now M.program M.world memory.old state.old }
+    ensures made { MakesPart drive_part M.program M.world M.follows
+        memory.old memory.new state.old left.old result state.new left.new }
 {
     match state.stage {
-        Stage::First => drive_first(state, memory, p, tables, left),
-        Stage::Made { object } => drive_init(state, memory, p, object, left),
-        Stage::Built { object } => drive_set_up(state, memory, p, object, left),
-        Stage::SetUp { object } => drive_method(state, memory, p, object, left),
+        Stage::First => drive_first(state, memory, tables, left),
+        Stage::Made { object } => drive_init(state, memory, tables, object, left),
+        Stage::Built { object } => drive_set_up(state, memory, tables, object, left),
+        Stage::SetUp { object } => drive_method(state, memory, tables, object, left),
         Stage::Called { object, thrown } => {
-            drive_tear_down(alloc, state, memory, p, object, thrown, left)
+            drive_tear_down(alloc, state, memory, tables, object, thrown, left)
         }
-        Stage::Last { thrown } => judge(alloc, state, memory, p, thrown, left),
+        Stage::Last { thrown } => judge(alloc, state, memory, tables, thrown, left),
     }
 }

@@ -1,28 +1,27 @@
 //! The rows of instructions in one flat match, so that one jump finds each: those that run often, and apart the others.
 
-ghost use Rattle.std.specs.Prelude.{◌≡◌, ◌<◌, ◌-◌, ℕ, IfOk, OnOk, Some, cond, drop, length};
+ghost use Rattle.std.specs.Prelude.{◌≡◌, ◌<◌, ◌-◌, ℕ, IfOk, Some, cond, length};
 ghost use Rattle.jvm_model.specs.declared.instr.Instr.TheVariants as form;
-ghost use Rattle.jvm_model.specs.Classes as classes;
 ghost use Rattle.jvm_model.specs.Classes.{form_at};
 ghost use Rattle.jvm_model.specs.Entries.{Entries, with_place};
 ghost use Rattle.jvm_model.specs.Step as steps;
 ghost use Rattle.vm_frames.specs.Stack.{HasRoom};
-ghost use Rattle.vm_mem.specs.Refines.{IsReady, IsNext, Refines, Traces};
+ghost use Rattle.vm_mem.specs.Refines.{IsNext, IsReady};
 ghost use Rattle.jvm_model.specs.declared.state.EntryKind.TheVariants.{InMethod};
 ghost use Rattle.vm_interp.specs.declared.flow.Flow.TheVariants.{Jump, FallThrough};
-ghost use Rattle.vm_interp.specs.Dispatching.{CanRun, IsLeft, next_of};
+ghost use Rattle.vm_interp.specs.Dispatching.{CanRun, IsLeft, MakesFlow, next_of, place_behind};
 ghost use Rattle.check_sound.specs.ReachLaw.{puts};
 ghost use Rattle.vm_interp.specs.Reaching.{HasPlaceBelow, HasSpace};
 ghost use Rattle.vm_interp.specs.Rows.{form_row};
 
+use crate::cursor::InstrCursor;
 use crate::flow::Flow;
 use crate::rows::{return_nothing, row_of};
 use crate::straight::{
     add_ints, and_ints, load_local, multiply_ints, push_constant, store_local, subtract_ints,
 };
 use et_base::NoMemory;
-use jvm_model::{Cell, EntryKind, Instr, Next, Op, Placed, Program};
-use std::alloc::Global;
+use jvm_model::{Cell, EntryKind, Instr, Next, Op};
 use std::mem;
 use vm_arith::{compare, convert, dup, if_ints, if_null, if_refs, if_zero, increase, pop};
 use vm_calls::{Selections, give_back, invoke_special, invoke_static, invoke_virtual};
@@ -34,166 +33,140 @@ use vm_objects::{
 };
 use vm_tables::Tables;
 
-/// Makes the row of an instruction that was found, the first of these of its method's code. Those that run often are made
+/// Makes the row of an instruction that was found, at its place in its method's code. Those that run often are made
 /// here, and the others apart. The place of the next one is read only where it's asked for.
 #[inline(always)]
 #[tactic(auto, unfolding(jvm_model::specs::Step::row_here))]
 pub fn hot_row<M: Memory>(
-    alloc: Global,
     stack: &mut FrameStack,
     memory: &mut M,
-    p: &Program,
     tables: &Tables,
     selections: &mut Selections,
     form: &Instr,
-    rest: &[Placed],
-    end: &u32,
+    cursor: InstrCursor<'_>,
     left: &mut u64,
 ) -> Result<Flow, NoMemory>
-    requires program { p.now ≡ M.program memory.old }
-    requires tables { tables.now ≡ M.program memory.old }
-    requires selections { selections.old ≡ M.program memory.old }
-    requires found { form_at (M.program memory.old) stack.old.top.number stack.old.top.pc
-        ≡ Some form.now }
-    requires within { 0 < length rest.now }
-    requires place { IsNext (M.program memory.old) stack.old
-        (classes.place_after (drop 1 rest.now) end.now) }
-    requires space { HasSpace (M.program memory.old) stack.old }
-    requires row { IsReady steps.row_here (M.program memory.old) (M.world memory.old) stack.old }
+    requires selections { selections.old ≡ tables.now }
+    requires found { form_at tables.now stack.old.top.number stack.old.top.pc ≡ Some form.now }
+    requires within { 0 < length cursor.rest.now }
+    requires place { IsNext tables.now stack.old (place_behind cursor.body.now cursor.rest.now) }
+    requires space { HasSpace tables.now stack.old }
+    requires row { IsReady steps.row_here tables.now M.program M.world memory.old stack.old }
     requires can { CanRun form.now stack.old }
     requires frame { stack.old.top.kind ≡ InMethod }
     requires units { 0 < left.old }
-    ensures meets { IfOk result (λ x. Refines steps.row_here
-        (M.program memory.old) (M.world memory.old) stack.old left.old
-        (next_of x) stack.new (M.world memory.new) left.new) }
-    ensures told { IfOk result (λ x. Traces steps.row_here
-        (M.program memory.old) (M.world memory.old) stack.old
-        (next_of x) M.follows memory.old memory.new) }
+    ensures made { MakesFlow steps.row_here M.program M.world M.follows
+        memory.old memory.new stack.old left.old result stack.new left.new }
     ensures left { IfOk result (λ x. IsLeft x stack.old.top.number
-        (classes.place_after (drop 1 rest.now) end.now) stack.new) }
-    ensures of { OnOk result (M.program memory.new ≡ M.program memory.old) }
+        (place_behind cursor.entry.body.now cursor.entry.rest.now) stack.new) }
     ensures kept { selections.new ≡ selections.old }
 {
-    hot_form(
-        alloc, stack, memory, p, tables, selections, form, rest, end, left,
-    )
+    hot_form(stack, memory, tables, selections, form, cursor, left)
 }
 
 /// The same by its form alone.
 #[inline(always)]
 #[tactic(auto, using(crate::proofs::Found::branch_meets, crate::proofs::Found::branch_tells, crate::proofs::Found::straight_meets, crate::proofs::Found::straight_tells), unfolding(jvm_model::specs::Step::row, jvm_model::specs::RowsMoves::row_moves, jvm_model::specs::RowsBranches::row_branches, jvm_model::specs::RowsFields::row_fields, jvm_model::specs::RowsArrays::row_arrays))]
 fn hot_form<M: Memory>(
-    alloc: Global,
     stack: &mut FrameStack,
     memory: &mut M,
-    p: &Program,
     tables: &Tables,
     selections: &mut Selections,
     form: &Instr,
-    rest: &[Placed],
-    end: &u32,
+    cursor: InstrCursor<'_>,
     left: &mut u64,
 ) -> Result<Flow, NoMemory>
-    requires program { p.now ≡ M.program memory.old }
-    requires tables { tables.now ≡ M.program memory.old }
-    requires selections { selections.old ≡ M.program memory.old }
-    requires within { 0 < length rest.now }
-    requires place { IsNext (M.program memory.old) stack.old
-        (classes.place_after (drop 1 rest.now) end.now) }
+    requires selections { selections.old ≡ tables.now }
+    requires within { 0 < length cursor.rest.now }
+    requires place { IsNext tables.now stack.old (place_behind cursor.body.now cursor.rest.now) }
     requires room { HasRoom (puts form.now) stack.old }
     requires below { HasPlaceBelow form.now stack.old }
-    requires row { IsReady (form_row form.now)
-        (M.program memory.old) (M.world memory.old) stack.old }
+    requires row { IsReady (form_row form.now) tables.now M.program M.world memory.old stack.old }
     requires can { CanRun form.now stack.old }
     requires frame { stack.old.top.kind ≡ InMethod }
     requires units { 0 < left.old }
-    ensures meets { IfOk result (λ x. Refines (form_row form.now)
-        (M.program memory.old) (M.world memory.old) stack.old left.old
-        (next_of x) stack.new (M.world memory.new) left.new) }
-    ensures told { IfOk result (λ x. Traces (form_row form.now)
-        (M.program memory.old) (M.world memory.old) stack.old
-        (next_of x) M.follows memory.old memory.new) }
+    ensures made { MakesFlow (form_row form.now) M.program M.world M.follows
+        memory.old memory.new stack.old left.old result stack.new left.new }
     ensures left { IfOk result (λ x. IsLeft x stack.old.top.number
-        (classes.place_after (drop 1 rest.now) end.now) stack.new) }
-    ensures of { OnOk result (M.program memory.new ≡ M.program memory.old) }
+        (place_behind cursor.entry.body.now cursor.entry.rest.now) stack.new) }
     ensures kept { selections.new ≡ selections.old }
 {
     match form {
         Instr::Const(v) => {
             push_constant(stack, v);
-            Ok(fall_through(stack, rest, end, left))
+            Ok(fall_through(stack, cursor, left))
         }
         Instr::Load { local, .. } => {
             load_local(stack, *local);
-            Ok(fall_through(stack, rest, end, left))
+            Ok(fall_through(stack, cursor, left))
         }
         Instr::Store { local, .. } => {
             store_local(stack, *local);
-            Ok(fall_through(stack, rest, end, left))
+            Ok(fall_through(stack, cursor, left))
         }
         Instr::Dup => {
             dup(stack);
-            Ok(fall_through(stack, rest, end, left))
+            Ok(fall_through(stack, cursor, left))
         }
         Instr::Pop => {
             pop(stack);
-            Ok(fall_through(stack, rest, end, left))
+            Ok(fall_through(stack, cursor, left))
         }
         Instr::Inc { local, by } => {
             increase(stack, *local, *by);
-            Ok(fall_through(stack, rest, end, left))
+            Ok(fall_through(stack, cursor, left))
         }
         Instr::Convert { to } => {
             convert(stack, *to);
-            Ok(fall_through(stack, rest, end, left))
+            Ok(fall_through(stack, cursor, left))
         }
         Instr::Compare => {
             compare(stack);
-            Ok(fall_through(stack, rest, end, left))
+            Ok(fall_through(stack, cursor, left))
         }
         Instr::Binary {
             op: Op::Add,
             wide: false,
         } => {
             add_ints(stack);
-            Ok(fall_through(stack, rest, end, left))
+            Ok(fall_through(stack, cursor, left))
         }
         Instr::Binary {
             op: Op::Sub,
             wide: false,
         } => {
             subtract_ints(stack);
-            Ok(fall_through(stack, rest, end, left))
+            Ok(fall_through(stack, cursor, left))
         }
         Instr::Binary {
             op: Op::Mul,
             wide: false,
         } => {
             multiply_ints(stack);
-            Ok(fall_through(stack, rest, end, left))
+            Ok(fall_through(stack, cursor, left))
         }
         Instr::Binary {
             op: Op::And,
             wide: false,
         } => {
             and_ints(stack);
-            Ok(fall_through(stack, rest, end, left))
+            Ok(fall_through(stack, cursor, left))
         }
         Instr::IfZero { test, to } => {
             let taken = if_zero(stack, *test);
-            Ok(branch(stack, taken, *to, rest, end, left))
+            Ok(branch(stack, taken, *to, cursor, left))
         }
         Instr::IfInts { test, to } => {
             let taken = if_ints(stack, *test);
-            Ok(branch(stack, taken, *to, rest, end, left))
+            Ok(branch(stack, taken, *to, cursor, left))
         }
         Instr::IfRefs { same, to } => {
             let taken = if_refs(stack, *same);
-            Ok(branch(stack, taken, *to, rest, end, left))
+            Ok(branch(stack, taken, *to, cursor, left))
         }
         Instr::IfNull { null, to } => {
             let taken = if_null(stack, *null);
-            Ok(branch(stack, taken, *to, rest, end, left))
+            Ok(branch(stack, taken, *to, cursor, left))
         }
         Instr::Goto { to } => {
             jump(stack, *to, left);
@@ -201,25 +174,25 @@ fn hot_form<M: Memory>(
         }
         Instr::GetField { field, .. } => {
             let method = stack.number();
-            let next = place_after(rest, end);
+            let next = place_after(cursor);
             let answer = get_field(stack, memory, *field, next, left)?;
             Ok(classify_flow(answer, stack, method, next))
         }
         Instr::PutField { field, .. } => {
             let method = stack.number();
-            let next = place_after(rest, end);
+            let next = place_after(cursor);
             let answer = put_field(stack, memory, tables, *field, next, left)?;
             Ok(classify_flow(answer, stack, method, next))
         }
         Instr::ArrayLength => {
             let method = stack.number();
-            let next = place_after(rest, end);
+            let next = place_after(cursor);
             let answer = array_length(stack, memory, next, left)?;
             Ok(classify_flow(answer, stack, method, next))
         }
         Instr::ArrayLoad { .. } => {
             let method = stack.number();
-            let next = place_after(rest, end);
+            let next = place_after(cursor);
             let answer = array_load(stack, memory, next, left)?;
             Ok(classify_flow(answer, stack, method, next))
         }
@@ -227,42 +200,38 @@ fn hot_form<M: Memory>(
             of: Cell::Int | Cell::Byte | Cell::Char,
         } => {
             let method = stack.number();
-            let next = place_after(rest, end);
+            let next = place_after(cursor);
             let answer = array_store_number(stack, memory, next, left)?;
             Ok(classify_flow(answer, stack, method, next))
         }
         Instr::GetStatic { field } => {
             let method = stack.number();
-            let next = place_after(rest, end);
-            let answer = get_static(stack, memory, p, tables, *field, next, left)?;
+            let next = place_after(cursor);
+            let answer = get_static(stack, memory, tables, *field, next, left)?;
             Ok(classify_flow(answer, stack, method, next))
         }
         Instr::PutStatic { field } => {
             let method = stack.number();
-            let next = place_after(rest, end);
-            let answer = put_static(stack, memory, p, tables, *field, next, left)?;
+            let next = place_after(cursor);
+            let answer = put_static(stack, memory, tables, *field, next, left)?;
             Ok(classify_flow(answer, stack, method, next))
         }
         Instr::New { class } => {
             let method = stack.number();
-            let next = place_after(rest, end);
-            let answer = new_object(stack, memory, p, tables, *class, next, left)?;
+            let next = place_after(cursor);
+            let answer = new_object(stack, memory, tables, *class, next, left)?;
             Ok(classify_flow(answer, stack, method, next))
         }
         Instr::InvokeStatic { method } => {
-            let answer = invoke_static(stack, memory, p, tables, *method, left)?;
+            let answer = invoke_static(stack, memory, tables, *method, left)?;
             Ok(called(answer))
         }
         Instr::InvokeSpecial { named, method } => {
-            let answer = invoke_special(
-                alloc, stack, memory, p, tables, selections, *named, *method, left,
-            )?;
+            let answer = invoke_special(stack, memory, tables, selections, *named, *method, left)?;
             Ok(called(answer))
         }
         Instr::InvokeVirtual { named, method } => {
-            let answer = invoke_virtual(
-                alloc, stack, memory, p, tables, selections, *named, *method, left,
-            )?;
+            let answer = invoke_virtual(stack, memory, tables, selections, *named, *method, left)?;
             Ok(called(answer))
         }
         Instr::Return { of: Some(of) } => {
@@ -273,21 +242,20 @@ fn hot_form<M: Memory>(
             let answer = return_nothing(stack, memory, tables, left)?;
             Ok(Flow::Other(answer))
         }
-        _ => row_apart(
-            alloc, stack, memory, p, tables, selections, form, rest, end, left,
-        ),
+        _ => row_apart(stack, memory, tables, selections, form, cursor, left),
     }
 }
 
 /// Goes on at the next instruction, and counts the step.
 #[inline(always)]
-fn fall_through(stack: &mut FrameStack, rest: &[Placed], end: &u32, left: &mut u64) -> Flow
+fn fall_through(stack: &mut FrameStack, cursor: InstrCursor<'_>, left: &mut u64) -> Flow
     requires { 0 < left.old }
     ensures flow { result ≡ FallThrough }
-    ensures place { stack.new ≡ with_place stack.old (classes.place_after (drop 1 rest.now) end.now) }
+    ensures place { stack.new
+        ≡ with_place stack.old (place_behind cursor.entry.body.now cursor.entry.rest.now) }
     ensures counted { left.new ≡ left.old - 1 }
 {
-    let next = place_after(rest, end);
+    let next = place_after(cursor);
     jump(stack, next, left);
     Flow::FallThrough
 }
@@ -298,17 +266,16 @@ fn branch(
     stack: &mut FrameStack,
     taken: bool,
     to: u32,
-    rest: &[Placed],
-    end: &u32,
+    cursor: InstrCursor<'_>,
     left: &mut u64,
 ) -> Flow
     requires { 0 < left.old }
     ensures flow { result ≡ cond taken Jump FallThrough }
     ensures place { stack.new ≡ with_place stack.old
-        (cond taken to (classes.place_after (drop 1 rest.now) end.now)) }
+        (cond taken to (place_behind cursor.entry.body.now cursor.entry.rest.now)) }
     ensures counted { left.new ≡ left.old - 1 }
 {
-    let next = place_after(rest, end);
+    let next = place_after(cursor);
     jump(stack, target(taken, to, next), left);
     aside_if(taken)
 }
@@ -358,41 +325,29 @@ fn called(answer: Next) -> Flow
 /// on.
 #[inline(always)]
 fn row_apart<M: Memory>(
-    alloc: Global,
     stack: &mut FrameStack,
     memory: &mut M,
-    p: &Program,
     tables: &Tables,
     selections: &mut Selections,
     form: &Instr,
-    rest: &[Placed],
-    end: &u32,
+    cursor: InstrCursor<'_>,
     left: &mut u64,
 ) -> Result<Flow, NoMemory>
-    requires program { p.now ≡ M.program memory.old }
-    requires tables { tables.now ≡ M.program memory.old }
-    requires selections { selections.old ≡ M.program memory.old }
-    requires place { IsNext (M.program memory.old) stack.old
-        (classes.place_after (drop 1 rest.now) end.now) }
+    requires selections { selections.old ≡ tables.now }
+    requires place { IsNext tables.now stack.old (place_behind cursor.body.now cursor.rest.now) }
     requires room { HasRoom (puts form.now) stack.old }
     requires below { HasPlaceBelow form.now stack.old }
-    requires row { IsReady (form_row form.now)
-        (M.program memory.old) (M.world memory.old) stack.old }
-    ensures meets { IfOk result (λ x. Refines (form_row form.now)
-        (M.program memory.old) (M.world memory.old) stack.old left.old
-        (next_of x) stack.new (M.world memory.new) left.new) }
-    ensures told { IfOk result (λ x. Traces (form_row form.now)
-        (M.program memory.old) (M.world memory.old) stack.old
-        (next_of x) M.follows memory.old memory.new) }
+    requires row { IsReady (form_row form.now) tables.now M.program M.world memory.old stack.old }
+    ensures made { MakesFlow (form_row form.now) M.program M.world M.follows
+        memory.old memory.new stack.old left.old result stack.new left.new }
     ensures left { IfOk result (λ x. (method next : ℕ) (s : Entries) → IsLeft x method next s) }
-    ensures of { OnOk result (M.program memory.new ≡ M.program memory.old) }
     ensures kept { selections.new ≡ selections.old }
 {
-    let next = place_after(rest, end);
-    let mut moved = mem::replace(stack, FrameStack::new(alloc));
+    let next = place_after(cursor);
+    let mut moved = mem::replace(stack, FrameStack::new(selections.alloc()));
     let mut units = *left;
     let answer = row_of(
-        alloc, &mut moved, memory, p, tables, selections, form, next, &mut units,
+        &mut moved, memory, tables, selections, form, next, &mut units,
     )?;
     *stack = moved;
     *left = units;
@@ -417,14 +372,14 @@ fn target(taken: bool, to: u32, next: u32) -> u32
     if taken { to } else { next }
 }
 
-/// The place of the instruction after the first of these, or the end of the code behind the last one.
+/// The place of the instruction after this one, or the end of the code behind the last one.
 #[inline(always)]
 #[tactic(auto, using(crate::proofs::Numbered::after_some, crate::proofs::Numbered::after_none))]
-fn place_after(rest: &[Placed], end: &u32) -> u32
-    ensures { result ≡ classes.place_after (drop 1 rest.now) end.now }
+fn place_after(cursor: InstrCursor<'_>) -> u32
+    ensures { result ≡ place_behind cursor.entry.body.now cursor.entry.rest.now }
 {
-    match rest.get(1) {
-        None => *end,
+    match cursor.rest.get(1) {
+        None => cursor.body.length,
         Some(placed) => placed.pc,
     }
 }

@@ -1,13 +1,13 @@
 //! How a test is judged.
 
-ghost use Rattle.std.specs.Prelude.{◌≡◌, List, ℕ, IfOk, OnOk};
+ghost use Rattle.std.specs.Prelude.{◌≡◌, List, ℕ};
 ghost use Rattle.jvm_model.specs.Access.{spend};
 ghost use Rattle.jvm_model.specs.Driver as driver;
 ghost use Rattle.jvm_model.specs.State as states;
 ghost use Rattle.jvm_model.specs.View.{counted};
 ghost use Rattle.jvm_model.specs.World.{World};
 ghost use Rattle.vm_interp.specs.declared.state.State.{State};
-ghost use Rattle.vm_interp.specs.Turns.{IsFit, RefinesPart, TracesPart, step_outcome};
+ghost use Rattle.vm_interp.specs.Turns.{IsFit, MakesPart, step_outcome};
 ghost use Rattle.vm_interp.specs.Driving.{judge_part, judge_value_part};
 
 use crate::state::State;
@@ -16,6 +16,7 @@ use et_base::{NoMemory, Units};
 use jvm_model::{ASSERTION_ERROR, Cause, MESSAGE, Program, Value, Verdict};
 use std::alloc::Global;
 use vm_mem::Memory;
+use vm_tables::Tables;
 
 /// Judges a test by the first throwable that came out of what it called: Failed by an AssertionError or a class below it,
 /// Error by any other, Passed where there is none. It reads the throwable's head and message, and counts 1 and the
@@ -25,22 +26,16 @@ pub fn judge<M: Memory>(
     alloc: Global,
     state: &State,
     memory: &mut M,
-    p: &Program,
+    tables: &Tables,
     thrown: Option<Value>,
     left: &mut u64,
 ) -> Result<StepOutcome, NoMemory>
-    requires program { p.now ≡ M.program memory.old }
-    requires fit { IsFit (judge_part thrown) (M.program memory.old) (M.world memory.old) state.now }
-    ensures meets { IfOk result (λ x. RefinesPart (judge_part thrown)
-        (M.program memory.old) (M.world memory.old) state.now left.old
-        x state.now (M.world memory.new) left.new) }
-    ensures told { IfOk result (λ x. TracesPart (judge_part thrown)
-        (M.program memory.old) (M.world memory.old) state.now
-        x M.follows memory.old memory.new) }
-    ensures of { OnOk result (M.program memory.new ≡ M.program memory.old) }
+    requires fit { IsFit (judge_part thrown) tables.now M.program M.world memory.old state.now }
+    ensures made { MakesPart (judge_part thrown) M.program M.world M.follows
+        memory.old memory.new state.now left.old result state.now left.new }
 {
     match thrown {
-        Some(value) => judge_value(alloc, state, memory, p, value, left),
+        Some(value) => judge_value(alloc, state, memory, tables, value, left),
         None => {
             if *left == 0 {
                 return Ok(StepOutcome::OutOfBudget);
@@ -56,20 +51,14 @@ fn judge_value<M: Memory>(
     alloc: Global,
     state: &State,
     memory: &mut M,
-    p: &Program,
+    tables: &Tables,
     thrown: Value,
     left: &mut u64,
 ) -> Result<StepOutcome, NoMemory>
-    requires program { p.now ≡ M.program memory.old }
     requires fit { IsFit (judge_value_part thrown)
-        (M.program memory.old) (M.world memory.old) state.now }
-    ensures meets { IfOk result (λ x. RefinesPart (judge_value_part thrown)
-        (M.program memory.old) (M.world memory.old) state.now left.old
-        x state.now (M.world memory.new) left.new) }
-    ensures told { IfOk result (λ x. TracesPart (judge_value_part thrown)
-        (M.program memory.old) (M.world memory.old) state.now
-        x M.follows memory.old memory.new) }
-    ensures of { OnOk result (M.program memory.new ≡ M.program memory.old) }
+        tables.now M.program M.world memory.old state.now }
+    ensures made { MakesPart (judge_value_part thrown) M.program M.world M.follows
+        memory.old memory.new state.now left.old result state.now left.new }
 {
     let object = match thrown {
         Value::Obj(object) => object,
@@ -78,6 +67,7 @@ fn judge_value<M: Memory>(
         Value::Long(_) => unreachable!(),
         Value::Lit(_) => unreachable!(),
     };
+    let p = tables.program();
     let class = memory.head(object)?.kind.class();
     match memory.get_field(object, MESSAGE)? {
         Value::Null => {

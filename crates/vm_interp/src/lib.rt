@@ -14,6 +14,7 @@
 #![tactic(auto)]
 
 mod concluding;
+mod cursor;
 mod dispatching;
 mod driving;
 mod flow;

@@ -1,9 +1,9 @@
 //! What is raised in a test's state.
 
-ghost use Rattle.std.specs.Prelude.{◌≡◌, IfOk, OnOk};
+ghost use Rattle.std.specs.Prelude.{◌≡◌};
 ghost use Rattle.jvm_model.specs.State as states;
 ghost use Rattle.vm_interp.specs.Abs.{abs};
-ghost use Rattle.vm_interp.specs.Turns.{RefinesPart, TracesPart};
+ghost use Rattle.vm_interp.specs.Turns.{MakesPart};
 ghost use Rattle.vm_interp.specs.Driving.{throw_part};
 
 use crate::state::State;
@@ -74,13 +74,8 @@ pub fn throw_new<M: Memory>(
     class: u32,
     left: &mut u64,
 ) -> Result<StepOutcome, NoMemory>
-    ensures meets { IfOk result (λ x. RefinesPart (throw_part class)
-        (M.program memory.old) (M.world memory.old) state.old left.old
-        x state.new (M.world memory.new) left.new) }
-    ensures told { IfOk result (λ x. TracesPart (throw_part class)
-        (M.program memory.old) (M.world memory.old) state.old
-        x M.follows memory.old memory.new) }
-    ensures of { OnOk result (M.program memory.new ≡ M.program memory.old) }
+    ensures made { MakesPart (throw_part class) M.program M.world M.follows
+        memory.old memory.new state.old left.old result state.new left.new }
 {
     if *left < 3 {
         return Ok(StepOutcome::OutOfBudget);

@@ -1,19 +1,18 @@
 //! The row of the instruction at the top frame's place.
 
-ghost use Rattle.std.specs.Prelude.{◌≡◌, IfOk, None, OnOk, Some};
+ghost use Rattle.std.specs.Prelude.{◌≡◌, None, Some};
 ghost use Rattle.jvm_model.specs.declared.instr.Instr.TheVariants as form;
 ghost use Rattle.jvm_model.specs.Step as steps;
 ghost use Rattle.vm_frames.specs.Stack.{HasRoom};
 ghost use Rattle.vm_arith.specs.Pure.{TouchesNothing};
-ghost use Rattle.vm_mem.specs.Refines.{IsReady, IsNext, Refines, Traces};
+ghost use Rattle.vm_mem.specs.Refines.{IsNext, IsReady, Makes};
 ghost use Rattle.vm_calls.specs.Calls.{return_row};
 ghost use Rattle.check_sound.specs.ReachLaw.{puts};
 ghost use Rattle.vm_interp.specs.Reaching.{HasPlaceBelow, HasSpace};
 ghost use Rattle.vm_interp.specs.Rows.{form_row, throw_row};
 
 use et_base::NoMemory;
-use jvm_model::{EntryKind, Instr, NULL_POINTER_EXCEPTION, Next, Program, Value};
-use std::alloc::Global;
+use jvm_model::{EntryKind, Instr, NULL_POINTER_EXCEPTION, Next, Value};
 use vm_arith::arith;
 use vm_calls::{Selections, call, give_back};
 use vm_frames::FrameStack;
@@ -26,37 +25,26 @@ use vm_tables::Tables;
 /// Makes the row of the instruction at the place of the frame at the top.
 #[tactic(auto, unfolding(jvm_model::specs::Step::row_here))]
 pub fn row_here<M: Memory>(
-    alloc: Global,
     stack: &mut FrameStack,
     memory: &mut M,
-    p: &Program,
     tables: &Tables,
     selections: &mut Selections,
     left: &mut u64,
 ) -> Result<Next, NoMemory>
-    requires program { p.now ≡ M.program memory.old }
-    requires tables { tables.now ≡ M.program memory.old }
-    requires selections { selections.old ≡ M.program memory.old }
-    requires space { HasSpace (M.program memory.old) stack.old }
-    requires row { IsReady steps.row_here (M.program memory.old) (M.world memory.old) stack.old }
-    ensures meets { IfOk result (λ x. Refines steps.row_here
-        (M.program memory.old) (M.world memory.old) stack.old left.old
-        x stack.new (M.world memory.new) left.new) }
-    ensures told { IfOk result (λ x. Traces steps.row_here
-        (M.program memory.old) (M.world memory.old) stack.old
-        x M.follows memory.old memory.new) }
-    ensures of { OnOk result (M.program memory.new ≡ M.program memory.old) }
+    requires selections { selections.old ≡ tables.now }
+    requires space { HasSpace tables.now stack.old }
+    requires row { IsReady steps.row_here tables.now M.program M.world memory.old stack.old }
+    ensures made { Makes steps.row_here M.program M.world M.follows
+        memory.old memory.new stack.old left.old result stack.new left.new }
     ensures kept { selections.new ≡ selections.old }
 {
     let number = stack.number();
     let pc = stack.pc();
-    let Some(form) = tables.form(p, number, pc) else {
+    let Some(form) = tables.form(number, pc) else {
         unreachable!()
     };
     let next = tables.next_place(number, pc);
-    row_of(
-        alloc, stack, memory, p, tables, selections, form, next, left,
-    )
+    row_of(stack, memory, tables, selections, form, next, left)
 }
 
 /// Makes the row of an instruction, with the byte place of the next one.
@@ -64,39 +52,29 @@ pub fn row_here<M: Memory>(
 #[inline(never)]
 #[tactic(auto, unfolding(jvm_model::specs::Step::row))]
 pub fn row_of<M: Memory>(
-    alloc: Global,
     stack: &mut FrameStack,
     memory: &mut M,
-    p: &Program,
     tables: &Tables,
     selections: &mut Selections,
     form: &Instr,
     next: u32,
     left: &mut u64,
 ) -> Result<Next, NoMemory>
-    requires program { p.now ≡ M.program memory.old }
-    requires tables { tables.now ≡ M.program memory.old }
-    requires selections { selections.old ≡ M.program memory.old }
-    requires place { IsNext (M.program memory.old) stack.old next }
+    requires selections { selections.old ≡ tables.now }
+    requires place { IsNext tables.now stack.old next }
     requires room { HasRoom (puts form.now) stack.old }
     requires below { HasPlaceBelow form.now stack.old }
-    requires row { IsReady (form_row form.now)
-        (M.program memory.old) (M.world memory.old) stack.old }
-    ensures meets { IfOk result (λ x. Refines (form_row form.now)
-        (M.program memory.old) (M.world memory.old) stack.old left.old
-        x stack.new (M.world memory.new) left.new) }
-    ensures told { IfOk result (λ x. Traces (form_row form.now)
-        (M.program memory.old) (M.world memory.old) stack.old
-        x M.follows memory.old memory.new) }
-    ensures of { OnOk result (M.program memory.new ≡ M.program memory.old) }
+    requires row { IsReady (form_row form.now) tables.now M.program M.world memory.old stack.old }
+    ensures made { Makes (form_row form.now) M.program M.world M.follows
+        memory.old memory.new stack.old left.old result stack.new left.new }
     ensures kept { selections.new ≡ selections.old }
 {
     match form {
-        Instr::GetStatic { field } => get_static(stack, memory, p, tables, *field, next, left),
-        Instr::PutStatic { field } => put_static(stack, memory, p, tables, *field, next, left),
+        Instr::GetStatic { field } => get_static(stack, memory, tables, *field, next, left),
+        Instr::PutStatic { field } => put_static(stack, memory, tables, *field, next, left),
         Instr::GetField { .. } => fields(stack, memory, tables, form, next, left),
         Instr::PutField { .. } => fields(stack, memory, tables, form, next, left),
-        Instr::New { class } => new_object(stack, memory, p, tables, *class, next, left),
+        Instr::New { class } => new_object(stack, memory, tables, *class, next, left),
         Instr::NewArray { kind } => new_array(stack, memory, *kind, next, left),
         Instr::MultiNewArray { kind, dims } => {
             multi_new_array(stack, memory, *kind, *dims, next, left)
@@ -107,18 +85,10 @@ pub fn row_of<M: Memory>(
         Instr::CheckCast { .. } => casts(stack, memory, tables, form, next, left),
         Instr::InstanceOf { .. } => casts(stack, memory, tables, form, next, left),
         Instr::Throw => throw_top(stack, memory, left),
-        Instr::InvokeVirtual { .. } => {
-            call(alloc, stack, memory, p, tables, selections, form, left)
-        }
-        Instr::InvokeSpecial { .. } => {
-            call(alloc, stack, memory, p, tables, selections, form, left)
-        }
-        Instr::InvokeStatic { .. } => {
-            call(alloc, stack, memory, p, tables, selections, form, left)
-        }
-        Instr::InvokeInterface { .. } => {
-            call(alloc, stack, memory, p, tables, selections, form, left)
-        }
+        Instr::InvokeVirtual { .. } => { call(stack, memory, tables, selections, form, left) }
+        Instr::InvokeSpecial { .. } => { call(stack, memory, tables, selections, form, left) }
+        Instr::InvokeStatic { .. } => { call(stack, memory, tables, selections, form, left) }
+        Instr::InvokeInterface { .. } => { call(stack, memory, tables, selections, form, left) }
         Instr::Return { of: None } => return_nothing(stack, memory, tables, left),
         Instr::Return { of: Some(of) } => give_back(stack, memory, tables, Some(*of), left),
         _ => quiet_row(stack, memory, form, next, left),
@@ -138,14 +108,9 @@ fn quiet_row<M: Memory>(
     requires place { IsNext (M.program _memory.old) stack.old next }
     requires room { HasRoom (puts form.now) stack.old }
     requires row { IsReady (form_row form.now)
-        (M.program _memory.old) (M.world _memory.old) stack.old }
-    ensures meets { IfOk result (λ x. Refines (form_row form.now)
-        (M.program _memory.old) (M.world _memory.old) stack.old left.old
-        x stack.new (M.world _memory.new) left.new) }
-    ensures told { IfOk result (λ x. Traces (form_row form.now)
-        (M.program _memory.old) (M.world _memory.old) stack.old
-        x M.follows _memory.old _memory.new) }
-    ensures of { OnOk result (M.program _memory.new ≡ M.program _memory.old) }
+        (M.program _memory.old) M.program M.world _memory.old stack.old }
+    ensures made { Makes (form_row form.now) M.program M.world M.follows
+        _memory.old _memory.new stack.old left.old result stack.new left.new }
 {
     Ok(arith(stack, form, next, left))
 }
@@ -162,13 +127,8 @@ pub fn return_nothing<M: Memory>(
     left: &mut u64,
 ) -> Result<Next, NoMemory>
     requires tables { tables.now ≡ M.program _memory.old }
-    ensures meets { IfOk result (λ x. Refines (return_row (form.Return None))
-        (M.program _memory.old) (M.world _memory.old) stack.old left.old
-        x stack.new (M.world _memory.new) left.new) }
-    ensures told { IfOk result (λ x. Traces (return_row (form.Return None))
-        (M.program _memory.old) (M.world _memory.old) stack.old
-        x M.follows _memory.old _memory.new) }
-    ensures of { OnOk result (M.program _memory.new ≡ M.program _memory.old) }
+    ensures made { Makes (return_row (form.Return None)) M.program M.world M.follows
+        _memory.old _memory.new stack.old left.old result stack.new left.new }
 {
     if *left == 0 {
         return Ok(Next::Over);
@@ -194,14 +154,10 @@ fn throw_top<M: Memory>(
     _memory: &mut M,
     left: &mut u64,
 ) -> Result<Next, NoMemory>
-    requires row { IsReady throw_row (M.program _memory.old) (M.world _memory.old) stack.old }
-    ensures meets { IfOk result (λ x. Refines throw_row
-        (M.program _memory.old) (M.world _memory.old) stack.old left.old
-        x stack.new (M.world _memory.new) left.new) }
-    ensures told { IfOk result (λ x. Traces throw_row
-        (M.program _memory.old) (M.world _memory.old) stack.old
-        x M.follows _memory.old _memory.new) }
-    ensures of { OnOk result (M.program _memory.new ≡ M.program _memory.old) }
+    requires row { IsReady throw_row
+        (M.program _memory.old) M.program M.world _memory.old stack.old }
+    ensures made { Makes throw_row M.program M.world M.follows
+        _memory.old _memory.new stack.old left.old result stack.new left.new }
 {
     let thrown = stack.peek(0);
     match thrown {

@@ -1,11 +1,12 @@
 //! The state of a test beside the world.
 
-ghost use Rattle.std.specs.Prelude.{◌≡◌, IfOk};
+ghost use Rattle.std.specs.Prelude.{◌≡◌, true, false, IfOk};
 ghost use Rattle.jvm_model.specs.State as states;
+ghost use Rattle.vm_interp.specs.Reaching.{IsRunning};
 ghost use Rattle.vm_interp.specs.Abs.{abs};
 
 use et_base::{NoMemory, Text};
-use jvm_model::{Own, Program, Stage, TestEntry, Value};
+use jvm_model::{EntryKind, Own, Program, Stage, TestEntry, Value};
 use std::alloc::Global;
 use vm_frames::FrameStack;
 
@@ -37,6 +38,17 @@ impl State {
                 random: entry.seed,
             },
         })
+    }
+
+    /// Whether the next step is that of an instruction.
+    pub(crate) fn is_running(&self) -> bool
+        ensures runs { result ≡ true → IsRunning (abs self.now) }
+        ensures rests { result ≡ false → IsRunning (abs self.now) → ⊥ }
+    {
+        match self.frames.kind() {
+            EntryKind::InMethod => self.raised.is_none(),
+            EntryKind::Absent | EntryKind::InClass { .. } => false,
+        }
     }
 }
 

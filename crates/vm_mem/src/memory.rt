@@ -19,7 +19,7 @@ use sim_store::Part;
 /// What stands for a world and follows the touches of the tests that run on it.
 ///
 /// Each call works at one location, which has to be there, and adds its touch to what is followed; `make` adds those of
-/// a new object. The only error is want of memory; after it a memory is only dropped or reset.
+/// a new object. The only error is want of memory; after it a memory is only dropped or reset, and its program stays.
 pub trait Memory {
     /// The program that it was opened for.
     ghost program: { Self → Program };
@@ -32,7 +32,7 @@ pub trait Memory {
 
     /// Another test begins.
     fn begin_test(&mut self, test: u32) -> Result<(), NoMemory>
-        ensures of { OnOk result (program self.new ≡ program self.old) }
+        ensures of { program self.new ≡ program self.old }
         ensures kept { OnOk result (world self.new ≡ world self.old) }
         ensures told { OnOk result ((h : Trace) (ts : List Touch) → follows self.old h ts → follows self.new (next_test h ts test) []) };
 
@@ -40,14 +40,14 @@ pub trait Memory {
     fn get_static(&mut self, field: u32) -> Result<Value, NoMemory>
         requires { Exists (world self.old) (place.Static field) }
         ensures gives { IfOk result (λ v. v ≡ at (world self.old) (place.Static field)) }
-        ensures of { OnOk result (program self.new ≡ program self.old) }
+        ensures of { program self.new ≡ program self.old }
         ensures kept { OnOk result (world self.new ≡ world self.old) }
         ensures told { IfOk result (λ v. Extends follows self.old self.new (read_of (place.Static field) v ∷ [])) };
 
     /// Gives a static another value.
     fn put_static(&mut self, field: u32, v: Value) -> Result<(), NoMemory>
         requires { Exists (world self.old) (place.Static field) }
-        ensures of { OnOk result (program self.new ≡ program self.old) }
+        ensures of { program self.new ≡ program self.old }
         ensures set { OnOk result (world self.new ≡ put (world self.old) (place.Static field) v) }
         ensures told { OnOk result (Extends follows self.old self.new (write_of (place.Static field) ∷ [])) };
 
@@ -55,14 +55,14 @@ pub trait Memory {
     fn get_init(&mut self, class: u32) -> Result<InitState, NoMemory>
         requires { Exists (world self.old) (place.Init class) }
         ensures gives { IfOk result (λ s. s ≡ at (world self.old) (place.Init class)) }
-        ensures of { OnOk result (program self.new ≡ program self.old) }
+        ensures of { program self.new ≡ program self.old }
         ensures kept { OnOk result (world self.new ≡ world self.old) }
         ensures told { IfOk result (λ s. Extends follows self.old self.new (read_of (place.Init class) s ∷ [])) };
 
     /// Notes how far a class is initialised.
     fn put_init(&mut self, class: u32, s: InitState) -> Result<(), NoMemory>
         requires { Exists (world self.old) (place.Init class) }
-        ensures of { OnOk result (program self.new ≡ program self.old) }
+        ensures of { program self.new ≡ program self.old }
         ensures set { OnOk result (world self.new ≡ put (world self.old) (place.Init class) s) }
         ensures told { OnOk result (Extends follows self.old self.new (write_of (place.Init class) ∷ [])) };
 
@@ -70,7 +70,7 @@ pub trait Memory {
     fn head(&mut self, object: u64) -> Result<Head, NoMemory>
         requires { Exists (world self.old) (place.Head object) }
         ensures gives { IfOk result (λ x. x ≡ at (world self.old) (place.Head object)) }
-        ensures of { OnOk result (program self.new ≡ program self.old) }
+        ensures of { program self.new ≡ program self.old }
         ensures kept { OnOk result (world self.new ≡ world self.old) }
         ensures told { IfOk result (λ x. Extends follows self.old self.new (read_of (place.Head object) x ∷ [])) };
 
@@ -78,14 +78,14 @@ pub trait Memory {
     fn get_field(&mut self, object: u64, field: u32) -> Result<Value, NoMemory>
         requires { Exists (world self.old) (place.Field object field) }
         ensures gives { IfOk result (λ v. v ≡ at (world self.old) (place.Field object field)) }
-        ensures of { OnOk result (program self.new ≡ program self.old) }
+        ensures of { program self.new ≡ program self.old }
         ensures kept { OnOk result (world self.new ≡ world self.old) }
         ensures told { IfOk result (λ v. Extends follows self.old self.new (read_of (place.Field object field) v ∷ [])) };
 
     /// Gives an object's field another value.
     fn put_field(&mut self, object: u64, field: u32, v: Value) -> Result<(), NoMemory>
         requires { Exists (world self.old) (place.Field object field) }
-        ensures of { OnOk result (program self.new ≡ program self.old) }
+        ensures of { program self.new ≡ program self.old }
         ensures set { OnOk result (world self.new ≡ put (world self.old) (place.Field object field) v) }
         ensures told { OnOk result (Extends follows self.old self.new (write_of (place.Field object field) ∷ [])) };
 
@@ -93,14 +93,14 @@ pub trait Memory {
     fn get_elem(&mut self, object: u64, index: u32) -> Result<Value, NoMemory>
         requires { Exists (world self.old) (place.Elem object index) }
         ensures gives { IfOk result (λ v. v ≡ at (world self.old) (place.Elem object index)) }
-        ensures of { OnOk result (program self.new ≡ program self.old) }
+        ensures of { program self.new ≡ program self.old }
         ensures kept { OnOk result (world self.new ≡ world self.old) }
         ensures told { IfOk result (λ v. Extends follows self.old self.new (read_of (place.Elem object index) v ∷ [])) };
 
     /// Gives an array's element another value.
     fn put_elem(&mut self, object: u64, index: u32, v: Value) -> Result<(), NoMemory>
         requires { Exists (world self.old) (place.Elem object index) }
-        ensures of { OnOk result (program self.new ≡ program self.old) }
+        ensures of { program self.new ≡ program self.old }
         ensures set { OnOk result (world self.new ≡ put (world self.old) (place.Elem object index) v) }
         ensures told { OnOk result (Extends follows self.old self.new (write_of (place.Elem object index) ∷ [])) };
 
@@ -108,19 +108,19 @@ pub trait Memory {
     fn get_text(&mut self, object: u64) -> Result<&Units, NoMemory>
         requires { Exists (world self.old) (place.Text object) }
         ensures gives { IfOk result (λ t. t.now ≡ at (world self.old) (place.Text object)) }
-        ensures* told { sem 𝓛 (follows_so Self.row Self.row self.entry.ghost_name none (λ _ _. ⊤) (λ new. OnOk result ((program new ≡ program self.old) × (world new ≡ world self.old) × Extends follows self.old new (read_of (place.Text object) (at (world self.old) (place.Text object)) ∷ [])))) };
+        ensures* told { sem 𝓛 (follows_so Self.row Self.row self.entry.ghost_name none (λ _ _. ⊤) (λ new. (program new ≡ program self.old) × OnOk result ((world new ≡ world self.old) × Extends follows self.old new (read_of (place.Text object) (at (world self.old) (place.Text object)) ∷ [])))) };
 
     /// Writes the text of a string or string builder.
     fn put_text(&mut self, object: u64, u: Units) -> Result<(), NoMemory>
         requires { Exists (world self.old) (place.Text object) }
-        ensures of { OnOk result (program self.new ≡ program self.old) }
+        ensures of { program self.new ≡ program self.old }
         ensures set { OnOk result (world self.new ≡ put (world self.old) (place.Text object) u) }
         ensures told { OnOk result (Extends follows self.old self.new (write_of (place.Text object) ∷ [])) };
 
     /// Writes these units behind the text of a string or string builder.
     fn append_text(&mut self, object: u64, more: &[u16]) -> Result<(), NoMemory>
         requires { Exists (world self.old) (place.Text object) }
-        ensures of { OnOk result (program self.new ≡ program self.old) }
+        ensures of { program self.new ≡ program self.old }
         ensures set { OnOk result (world self.new ≡ put (world self.old) (place.Text object)
             (at (world self.old) (place.Text object) ++ more.now)) }
         ensures told { OnOk result (Extends follows self.old self.new (write_of (place.Text object) ∷ [])) };
@@ -128,18 +128,18 @@ pub trait Memory {
     /// The text of a file or property; none where there is none.
     fn get_store(&mut self, part: Part, name: &Units) -> Result<Option<&Units>, NoMemory>
         ensures gives { IfOk result (λ o. MatchOption o (found_in part (world self.old) name.now ≡ None) (λ t. found_in part (world self.old) name.now ≡ Some t.now)) }
-        ensures* told { sem 𝓛 (follows_so Self.row Self.row self.entry.ghost_name none (λ _ _. ⊤) (λ new. OnOk result ((program new ≡ program self.old) × (world new ≡ world self.old) × Extends follows self.old new (record { write = false; location = place_in part name.now; gave = None } ∷ [])))) };
+        ensures* told { sem 𝓛 (follows_so Self.row Self.row self.entry.ghost_name none (λ _ _. ⊤) (λ new. (program new ≡ program self.old) × OnOk result ((world new ≡ world self.old) × Extends follows self.old new (record { write = false; location = place_in part name.now; gave = None } ∷ [])))) };
 
     /// Writes a file or property; `None` takes it away.
     fn put_store(&mut self, part: Part, name: Units, content: Option<Units>) -> Result<(), NoMemory>
-        ensures of { OnOk result (program self.new ≡ program self.old) }
+        ensures of { program self.new ≡ program self.old }
         ensures set { OnOk result (world self.new ≡ put_in part (world self.old) name content) }
         ensures told { OnOk result (Extends follows self.old self.new (write_of (place_in part name) ∷ [])) };
 
     /// Makes a new object of a class or array type, with default cells and no text, and answers its place.
     fn make(&mut self, head: Head) -> Result<u64, NoMemory>
         ensures gives { IfOk result (λ o. o ≡ size (world self.old)) }
-        ensures of { OnOk result (program self.new ≡ program self.old) }
+        ensures of { program self.new ≡ program self.old }
         ensures set { OnOk result (world self.new ≡ make_object (world self.old) (blank (program self.old) head)) }
         ensures told { OnOk result (Extends follows self.old self.new (made (size (world self.old)) (blank (program self.old) head))) };
 }

@@ -49,8 +49,8 @@ impl TraceMemory {
     }
 
     fn note(&mut self, write: bool, location: Location, gave: Option<u64>) -> Result<(), NoMemory>
-        ensures plain { OnOk result (self.new.plain ≡ self.old.plain) }
-        ensures test { OnOk result (self.new.test ≡ self.old.test) }
+        ensures plain { self.new.plain ≡ self.old.plain }
+        ensures test { self.new.test ≡ self.old.test }
         ensures noted { OnOk result (self.new.noted ≡ self.old.noted ++ noted_by self.old.test (record { write = write; location = location; gave = gave }) ∷ []) }
     {
         note(

@@ -1,9 +1,8 @@
 //! The methods of java.lang.StringBuilder.
 
-ghost use Rattle.std.specs.Prelude.{◌≡◌, IfOk, OnOk};
 ghost use Rattle.jvm_model.specs.declared.library.Native.{Native};
 ghost use Rattle.vm_frames.specs.Stack.{HasRoom};
-ghost use Rattle.vm_mem.specs.Refines.{IsReady, IsNext, Refines, Traces};
+ghost use Rattle.vm_mem.specs.Refines.{IsReady, IsNext, Makes};
 ghost use Rattle.vm_natives.specs.Rows.{with_own, builder_row, begun_row, appended_row};
 
 use crate::texts::length_of;
@@ -25,17 +24,12 @@ pub fn init<M: Memory>(
     next: u32,
     left: &mut u64,
 ) -> Result<Next, NoMemory>
-    requires program { p.now ≡ M.program memory.old }
     requires place { IsNext p.now stack.old next }
-    requires row { IsReady (builder_row Native.BuilderInit)
-        (M.program memory.old) (M.world memory.old) (with_own stack.old own.now) }
-    ensures meets { IfOk result (λ x. Refines (builder_row Native.BuilderInit)
-        (M.program memory.old) (M.world memory.old) (with_own stack.old own.now) left.old
-        x (with_own stack.new own.now) (M.world memory.new) left.new) }
-    ensures told { IfOk result (λ x. Traces (builder_row Native.BuilderInit)
-        (M.program memory.old) (M.world memory.old) (with_own stack.old own.now)
-        x M.follows memory.old memory.new) }
-    ensures of { OnOk result (M.program memory.new ≡ M.program memory.old) }
+    requires row { IsReady (builder_row Native.BuilderInit) p.now M.program M.world memory.old
+        (with_own stack.old own.now) }
+    ensures made { Makes (builder_row Native.BuilderInit) M.program M.world M.follows memory.old
+        memory.new (with_own stack.old own.now) left.old result (with_own stack.new own.now)
+        left.new }
 {
     match stack.pop_value() {
         Value::Obj(object) => {
@@ -67,17 +61,12 @@ pub fn init_string<M: Memory>(
     next: u32,
     left: &mut u64,
 ) -> Result<Next, NoMemory>
-    requires program { p.now ≡ M.program memory.old }
     requires place { IsNext p.now stack.old next }
-    requires row { IsReady (builder_row Native.BuilderInitString)
-        (M.program memory.old) (M.world memory.old) (with_own stack.old own.now) }
-    ensures meets { IfOk result (λ x. Refines (builder_row Native.BuilderInitString)
-        (M.program memory.old) (M.world memory.old) (with_own stack.old own.now) left.old
-        x (with_own stack.new own.now) (M.world memory.new) left.new) }
-    ensures told { IfOk result (λ x. Traces (builder_row Native.BuilderInitString)
-        (M.program memory.old) (M.world memory.old) (with_own stack.old own.now)
-        x M.follows memory.old memory.new) }
-    ensures of { OnOk result (M.program memory.new ≡ M.program memory.old) }
+    requires row { IsReady (builder_row Native.BuilderInitString) p.now M.program M.world memory.old
+        (with_own stack.old own.now) }
+    ensures made { Makes (builder_row Native.BuilderInitString) M.program M.world M.follows
+        memory.old memory.new (with_own stack.old own.now) left.old result
+        (with_own stack.new own.now) left.new }
 {
     let argument = stack.pop_value();
     let receiver = stack.pop_value();
@@ -109,17 +98,11 @@ fn begin_with<M: Memory>(
     next: u32,
     left: &mut u64,
 ) -> Result<Next, NoMemory>
-    requires program { p.now ≡ M.program memory.old }
     requires place { IsNext p.now stack.old next }
-    requires row { IsReady (begun_row receiver text)
-        (M.program memory.old) (M.world memory.old) (with_own stack.old own.now) }
-    ensures meets { IfOk result (λ x. Refines (begun_row receiver text)
-        (M.program memory.old) (M.world memory.old) (with_own stack.old own.now) left.old
-        x (with_own stack.new own.now) (M.world memory.new) left.new) }
-    ensures told { IfOk result (λ x. Traces (begun_row receiver text)
-        (M.program memory.old) (M.world memory.old) (with_own stack.old own.now)
-        x M.follows memory.old memory.new) }
-    ensures of { OnOk result (M.program memory.new ≡ M.program memory.old) }
+    requires row { IsReady (begun_row receiver text) p.now M.program M.world memory.old
+        (with_own stack.old own.now) }
+    ensures made { Makes (begun_row receiver text) M.program M.world M.follows memory.old memory.new
+        (with_own stack.old own.now) left.old result (with_own stack.new own.now) left.new }
 {
     match receiver {
         Value::Obj(object) => {
@@ -153,17 +136,12 @@ pub fn append_string<M: Memory>(
     next: u32,
     left: &mut u64,
 ) -> Result<Next, NoMemory>
-    requires program { p.now ≡ M.program memory.old }
     requires place { IsNext p.now stack.old next }
-    requires row { IsReady (builder_row Native.BuilderAppendString)
-        (M.program memory.old) (M.world memory.old) (with_own stack.old own.now) }
-    ensures meets { IfOk result (λ x. Refines (builder_row Native.BuilderAppendString)
-        (M.program memory.old) (M.world memory.old) (with_own stack.old own.now) left.old
-        x (with_own stack.new own.now) (M.world memory.new) left.new) }
-    ensures told { IfOk result (λ x. Traces (builder_row Native.BuilderAppendString)
-        (M.program memory.old) (M.world memory.old) (with_own stack.old own.now)
-        x M.follows memory.old memory.new) }
-    ensures of { OnOk result (M.program memory.new ≡ M.program memory.old) }
+    requires row { IsReady (builder_row Native.BuilderAppendString) p.now M.program M.world
+        memory.old (with_own stack.old own.now) }
+    ensures made { Makes (builder_row Native.BuilderAppendString) M.program M.world M.follows
+        memory.old memory.new (with_own stack.old own.now) left.old result
+        (with_own stack.new own.now) left.new }
 {
     let argument = stack.pop_value();
     let receiver = stack.pop_value();
@@ -194,18 +172,13 @@ pub fn append<M: Memory>(
     next: u32,
     left: &mut u64,
 ) -> Result<Next, NoMemory>
-    requires program { p.now ≡ M.program memory.old }
     requires place { IsNext p.now stack.old next }
     requires room { HasRoom 1 stack.old }
-    requires row { IsReady (appended_row receiver more.now)
-        (M.program memory.old) (M.world memory.old) (with_own stack.old own.now) }
-    ensures meets { IfOk result (λ x. Refines (appended_row receiver more.now)
-        (M.program memory.old) (M.world memory.old) (with_own stack.old own.now) left.old
-        x (with_own stack.new own.now) (M.world memory.new) left.new) }
-    ensures told { IfOk result (λ x. Traces (appended_row receiver more.now)
-        (M.program memory.old) (M.world memory.old) (with_own stack.old own.now)
-        x M.follows memory.old memory.new) }
-    ensures of { OnOk result (M.program memory.new ≡ M.program memory.old) }
+    requires row { IsReady (appended_row receiver more.now) p.now M.program M.world memory.old
+        (with_own stack.old own.now) }
+    ensures made { Makes (appended_row receiver more.now) M.program M.world M.follows memory.old
+        memory.new (with_own stack.old own.now) left.old result (with_own stack.new own.now)
+        left.new }
 {
     match receiver {
         Value::Obj(object) => {
@@ -239,17 +212,12 @@ pub fn length<M: Memory>(
     next: u32,
     left: &mut u64,
 ) -> Result<Next, NoMemory>
-    requires program { p.now ≡ M.program memory.old }
     requires place { IsNext p.now stack.old next }
-    requires row { IsReady (builder_row Native.BuilderLength)
-        (M.program memory.old) (M.world memory.old) (with_own stack.old own.now) }
-    ensures meets { IfOk result (λ x. Refines (builder_row Native.BuilderLength)
-        (M.program memory.old) (M.world memory.old) (with_own stack.old own.now) left.old
-        x (with_own stack.new own.now) (M.world memory.new) left.new) }
-    ensures told { IfOk result (λ x. Traces (builder_row Native.BuilderLength)
-        (M.program memory.old) (M.world memory.old) (with_own stack.old own.now)
-        x M.follows memory.old memory.new) }
-    ensures of { OnOk result (M.program memory.new ≡ M.program memory.old) }
+    requires row { IsReady (builder_row Native.BuilderLength) p.now M.program M.world memory.old
+        (with_own stack.old own.now) }
+    ensures made { Makes (builder_row Native.BuilderLength) M.program M.world M.follows memory.old
+        memory.new (with_own stack.old own.now) left.old result (with_own stack.new own.now)
+        left.new }
 {
     match stack.pop_value() {
         Value::Obj(object) => {
@@ -276,17 +244,12 @@ pub fn to_string<M: Memory>(
     next: u32,
     left: &mut u64,
 ) -> Result<Next, NoMemory>
-    requires program { p.now ≡ M.program memory.old }
     requires place { IsNext p.now stack.old next }
-    requires row { IsReady (builder_row Native.BuilderToString)
-        (M.program memory.old) (M.world memory.old) (with_own stack.old own.now) }
-    ensures meets { IfOk result (λ x. Refines (builder_row Native.BuilderToString)
-        (M.program memory.old) (M.world memory.old) (with_own stack.old own.now) left.old
-        x (with_own stack.new own.now) (M.world memory.new) left.new) }
-    ensures told { IfOk result (λ x. Traces (builder_row Native.BuilderToString)
-        (M.program memory.old) (M.world memory.old) (with_own stack.old own.now)
-        x M.follows memory.old memory.new) }
-    ensures of { OnOk result (M.program memory.new ≡ M.program memory.old) }
+    requires row { IsReady (builder_row Native.BuilderToString) p.now M.program M.world memory.old
+        (with_own stack.old own.now) }
+    ensures made { Makes (builder_row Native.BuilderToString) M.program M.world M.follows memory.old
+        memory.new (with_own stack.old own.now) left.old result (with_own stack.new own.now)
+        left.new }
 {
     match stack.pop_value() {
         Value::Obj(object) => {

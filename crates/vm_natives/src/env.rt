@@ -1,11 +1,11 @@
 //! The methods of electric.Env.
 
-ghost use Rattle.std.specs.Prelude.{◌≡◌, IfOk, OnOk};
+ghost use Rattle.std.specs.Prelude.{◌≡◌};
 ghost use Rattle.jvm_model.specs.declared.library.Native.{Native};
 ghost use Rattle.jvm_model.specs.NativesOutside as natives;
 ghost use Rattle.jvm_model.specs.World.{World};
 ghost use Rattle.vm_frames.specs.Stack.{HasRoom};
-ghost use Rattle.vm_mem.specs.Refines.{IsReady, IsNext, Refines, Traces};
+ghost use Rattle.vm_mem.specs.Refines.{IsReady, IsNext, Refines, Makes};
 ghost use Rattle.vm_natives.specs.Rows.{with_own, env_row};
 
 use crate::stream::print as print_bytes;
@@ -27,17 +27,11 @@ pub fn print<M: Memory>(
     next: u32,
     left: &mut u64,
 ) -> Result<Next, NoMemory>
-    requires program { p.now ≡ M.program memory.old }
     requires place { IsNext p.now stack.old next }
-    requires row { IsReady (env_row Native.EnvPrint)
-        (M.program memory.old) (M.world memory.old) (with_own stack.old own.old) }
-    ensures meets { IfOk result (λ x. Refines (env_row Native.EnvPrint)
-        (M.program memory.old) (M.world memory.old) (with_own stack.old own.old) left.old
-        x (with_own stack.new own.new) (M.world memory.new) left.new) }
-    ensures told { IfOk result (λ x. Traces (env_row Native.EnvPrint)
-        (M.program memory.old) (M.world memory.old) (with_own stack.old own.old)
-        x M.follows memory.old memory.new) }
-    ensures of { OnOk result (M.program memory.new ≡ M.program memory.old) }
+    requires row { IsReady (env_row Native.EnvPrint) p.now M.program M.world memory.old
+        (with_own stack.old own.old) }
+    ensures made { Makes (env_row Native.EnvPrint) M.program M.world M.follows memory.old memory.new
+        (with_own stack.old own.old) left.old result (with_own stack.new own.new) left.new }
 {
     let number = stack.pop_int();
     let mut bytes = decimal32(alloc, number)?;

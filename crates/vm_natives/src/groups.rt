@@ -1,8 +1,7 @@
 //! The built-in methods by groups.
 
-ghost use Rattle.std.specs.Prelude.{◌≡◌, IfOk, OnOk};
 ghost use Rattle.vm_frames.specs.Stack.{HasRoom};
-ghost use Rattle.vm_mem.specs.Refines.{IsReady, IsNext, Refines, Traces};
+ghost use Rattle.vm_mem.specs.Refines.{IsReady, IsNext, Makes};
 ghost use Rattle.vm_natives.specs.Rows.{growth, with_own, object_row, string_row, builder_row, system_row, print_row, files_row, env_row, throwable_row};
 
 use crate::named::{Change, Named, with_name, with_texts};
@@ -28,17 +27,11 @@ pub fn of_object<M: Memory>(
     next: u32,
     left: &mut u64,
 ) -> Result<Next, NoMemory>
-    requires program { p.now ≡ M.program memory.old }
     requires place { IsNext p.now stack.old next }
-    requires row { IsReady (object_row which)
-        (M.program memory.old) (M.world memory.old) (with_own stack.old own.now) }
-    ensures meets { IfOk result (λ x. Refines (object_row which)
-        (M.program memory.old) (M.world memory.old) (with_own stack.old own.now) left.old
-        x (with_own stack.new own.now) (M.world memory.new) left.new) }
-    ensures told { IfOk result (λ x. Traces (object_row which)
-        (M.program memory.old) (M.world memory.old) (with_own stack.old own.now)
-        x M.follows memory.old memory.new) }
-    ensures of { OnOk result (M.program memory.new ≡ M.program memory.old) }
+    requires row { IsReady (object_row which) p.now M.program M.world memory.old
+        (with_own stack.old own.now) }
+    ensures made { Makes (object_row which) M.program M.world M.follows memory.old memory.new
+        (with_own stack.old own.now) left.old result (with_own stack.new own.now) left.new }
 {
     match which {
         // `<init>()`
@@ -74,17 +67,11 @@ pub fn of_string<M: Memory>(
     next: u32,
     left: &mut u64,
 ) -> Result<Next, NoMemory>
-    requires program { p.now ≡ M.program memory.old }
     requires place { IsNext p.now stack.old next }
-    requires row { IsReady (string_row which)
-        (M.program memory.old) (M.world memory.old) (with_own stack.old own.now) }
-    ensures meets { IfOk result (λ x. Refines (string_row which)
-        (M.program memory.old) (M.world memory.old) (with_own stack.old own.now) left.old
-        x (with_own stack.new own.now) (M.world memory.new) left.new) }
-    ensures told { IfOk result (λ x. Traces (string_row which)
-        (M.program memory.old) (M.world memory.old) (with_own stack.old own.now)
-        x M.follows memory.old memory.new) }
-    ensures of { OnOk result (M.program memory.new ≡ M.program memory.old) }
+    requires row { IsReady (string_row which) p.now M.program M.world memory.old
+        (with_own stack.old own.now) }
+    ensures made { Makes (string_row which) M.program M.world M.follows memory.old memory.new
+        (with_own stack.old own.now) left.old result (with_own stack.new own.now) left.new }
 {
     match which {
         Native::StringLength => string::length(stack, memory, p, own, next, left),
@@ -138,17 +125,11 @@ pub fn of_builder<M: Memory>(
     next: u32,
     left: &mut u64,
 ) -> Result<Next, NoMemory>
-    requires program { p.now ≡ M.program memory.old }
     requires place { IsNext p.now stack.old next }
-    requires row { IsReady (builder_row which)
-        (M.program memory.old) (M.world memory.old) (with_own stack.old own.now) }
-    ensures meets { IfOk result (λ x. Refines (builder_row which)
-        (M.program memory.old) (M.world memory.old) (with_own stack.old own.now) left.old
-        x (with_own stack.new own.now) (M.world memory.new) left.new) }
-    ensures told { IfOk result (λ x. Traces (builder_row which)
-        (M.program memory.old) (M.world memory.old) (with_own stack.old own.now)
-        x M.follows memory.old memory.new) }
-    ensures of { OnOk result (M.program memory.new ≡ M.program memory.old) }
+    requires row { IsReady (builder_row which) p.now M.program M.world memory.old
+        (with_own stack.old own.now) }
+    ensures made { Makes (builder_row which) M.program M.world M.follows memory.old memory.new
+        (with_own stack.old own.now) left.old result (with_own stack.new own.now) left.new }
 {
     match which {
         Native::BuilderInit => builder::init(alloc, stack, memory, p, own, next, left),
@@ -199,18 +180,12 @@ pub fn of_system<M: Memory>(
     next: u32,
     left: &mut u64,
 ) -> Result<Next, NoMemory>
-    requires program { p.now ≡ M.program memory.old }
     requires place { IsNext p.now stack.old next }
     requires room { HasRoom (growth which) stack.old }
-    requires row { IsReady (system_row which)
-        (M.program memory.old) (M.world memory.old) (with_own stack.old own.old) }
-    ensures meets { IfOk result (λ x. Refines (system_row which)
-        (M.program memory.old) (M.world memory.old) (with_own stack.old own.old) left.old
-        x (with_own stack.new own.new) (M.world memory.new) left.new) }
-    ensures told { IfOk result (λ x. Traces (system_row which)
-        (M.program memory.old) (M.world memory.old) (with_own stack.old own.old)
-        x M.follows memory.old memory.new) }
-    ensures of { OnOk result (M.program memory.new ≡ M.program memory.old) }
+    requires row { IsReady (system_row which) p.now M.program M.world memory.old
+        (with_own stack.old own.old) }
+    ensures made { Makes (system_row which) M.program M.world M.follows memory.old memory.new
+        (with_own stack.old own.old) left.old result (with_own stack.new own.new) left.new }
 {
     match which {
         Native::SystemClock => Ok(system::clock(stack, p, own, next, left)),
@@ -257,17 +232,11 @@ pub fn of_stream<M: Memory>(
     next: u32,
     left: &mut u64,
 ) -> Result<Next, NoMemory>
-    requires program { p.now ≡ M.program memory.old }
     requires place { IsNext p.now stack.old next }
-    requires row { IsReady (print_row which)
-        (M.program memory.old) (M.world memory.old) (with_own stack.old own.old) }
-    ensures meets { IfOk result (λ x. Refines (print_row which)
-        (M.program memory.old) (M.world memory.old) (with_own stack.old own.old) left.old
-        x (with_own stack.new own.new) (M.world memory.new) left.new) }
-    ensures told { IfOk result (λ x. Traces (print_row which)
-        (M.program memory.old) (M.world memory.old) (with_own stack.old own.old)
-        x M.follows memory.old memory.new) }
-    ensures of { OnOk result (M.program memory.new ≡ M.program memory.old) }
+    requires row { IsReady (print_row which) p.now M.program M.world memory.old
+        (with_own stack.old own.old) }
+    ensures made { Makes (print_row which) M.program M.world M.follows memory.old memory.new
+        (with_own stack.old own.old) left.old result (with_own stack.new own.new) left.new }
 {
     match which {
         Native::PrintString => print_text(alloc, stack, memory, p, own, &[], next, left),
@@ -300,17 +269,11 @@ pub fn of_files<M: Memory>(
     next: u32,
     left: &mut u64,
 ) -> Result<Next, NoMemory>
-    requires program { p.now ≡ M.program memory.old }
     requires place { IsNext p.now stack.old next }
-    requires row { IsReady (files_row which)
-        (M.program memory.old) (M.world memory.old) (with_own stack.old own.now) }
-    ensures meets { IfOk result (λ x. Refines (files_row which)
-        (M.program memory.old) (M.world memory.old) (with_own stack.old own.now) left.old
-        x (with_own stack.new own.now) (M.world memory.new) left.new) }
-    ensures told { IfOk result (λ x. Traces (files_row which)
-        (M.program memory.old) (M.world memory.old) (with_own stack.old own.now)
-        x M.follows memory.old memory.new) }
-    ensures of { OnOk result (M.program memory.new ≡ M.program memory.old) }
+    requires row { IsReady (files_row which) p.now M.program M.world memory.old
+        (with_own stack.old own.now) }
+    ensures made { Makes (files_row which) M.program M.world M.follows memory.old memory.new
+        (with_own stack.old own.now) left.old result (with_own stack.new own.now) left.new }
 {
     match which {
         Native::FilesRead => with_name(alloc, stack, memory, p, own, Named::ReadFile, next, left),
@@ -342,18 +305,12 @@ pub fn of_env<M: Memory>(
     next: u32,
     left: &mut u64,
 ) -> Result<Next, NoMemory>
-    requires program { p.now ≡ M.program memory.old }
     requires place { IsNext p.now stack.old next }
     requires room { HasRoom (growth which) stack.old }
-    requires row { IsReady (env_row which)
-        (M.program memory.old) (M.world memory.old) (with_own stack.old own.old) }
-    ensures meets { IfOk result (λ x. Refines (env_row which)
-        (M.program memory.old) (M.world memory.old) (with_own stack.old own.old) left.old
-        x (with_own stack.new own.new) (M.world memory.new) left.new) }
-    ensures told { IfOk result (λ x. Traces (env_row which)
-        (M.program memory.old) (M.world memory.old) (with_own stack.old own.old)
-        x M.follows memory.old memory.new) }
-    ensures of { OnOk result (M.program memory.new ≡ M.program memory.old) }
+    requires row { IsReady (env_row which) p.now M.program M.world memory.old
+        (with_own stack.old own.old) }
+    ensures made { Makes (env_row which) M.program M.world M.follows memory.old memory.new
+        (with_own stack.old own.old) left.old result (with_own stack.new own.new) left.new }
 {
     match which {
         Native::EnvPrint => env::print(alloc, stack, memory, p, own, next, left),
@@ -374,17 +331,11 @@ pub fn of_throwable<M: Memory>(
     next: u32,
     left: &mut u64,
 ) -> Result<Next, NoMemory>
-    requires program { p.now ≡ M.program memory.old }
     requires place { IsNext p.now stack.old next }
-    requires row { IsReady (throwable_row which)
-        (M.program memory.old) (M.world memory.old) (with_own stack.old own.now) }
-    ensures meets { IfOk result (λ x. Refines (throwable_row which)
-        (M.program memory.old) (M.world memory.old) (with_own stack.old own.now) left.old
-        x (with_own stack.new own.now) (M.world memory.new) left.new) }
-    ensures told { IfOk result (λ x. Traces (throwable_row which)
-        (M.program memory.old) (M.world memory.old) (with_own stack.old own.now)
-        x M.follows memory.old memory.new) }
-    ensures of { OnOk result (M.program memory.new ≡ M.program memory.old) }
+    requires row { IsReady (throwable_row which) p.now M.program M.world memory.old
+        (with_own stack.old own.now) }
+    ensures made { Makes (throwable_row which) M.program M.world M.follows memory.old memory.new
+        (with_own stack.old own.now) left.old result (with_own stack.new own.now) left.new }
 {
     match which {
         // `<init>()`: no message is written. It counts 1.

@@ -1,8 +1,7 @@
 //! The built-in methods as one call.
 
-ghost use Rattle.std.specs.Prelude.{◌≡◌, IfOk, OnOk};
 ghost use Rattle.vm_frames.specs.Stack.{HasRoom};
-ghost use Rattle.vm_mem.specs.Refines.{IsReady, IsNext, Refines, Traces};
+ghost use Rattle.vm_mem.specs.Refines.{IsReady, IsNext, Makes};
 ghost use Rattle.vm_natives.specs.Rows.{with_own, native_row, growth};
 
 use crate::groups::{
@@ -28,18 +27,12 @@ pub fn native<M: Memory>(
     next: u32,
     left: &mut u64,
 ) -> Result<Next, NoMemory>
-    requires program { p.now ≡ M.program memory.old }
     requires place { IsNext p.now stack.old next }
     requires room { HasRoom (growth which) stack.old }
-    requires row { IsReady (native_row which)
-        (M.program memory.old) (M.world memory.old) (with_own stack.old own.old) }
-    ensures meets { IfOk result (λ x. Refines (native_row which)
-        (M.program memory.old) (M.world memory.old) (with_own stack.old own.old) left.old
-        x (with_own stack.new own.new) (M.world memory.new) left.new) }
-    ensures told { IfOk result (λ x. Traces (native_row which)
-        (M.program memory.old) (M.world memory.old) (with_own stack.old own.old)
-        x M.follows memory.old memory.new) }
-    ensures of { OnOk result (M.program memory.new ≡ M.program memory.old) }
+    requires row { IsReady (native_row which) p.now M.program M.world memory.old
+        (with_own stack.old own.old) }
+    ensures made { Makes (native_row which) M.program M.world M.follows memory.old memory.new
+        (with_own stack.old own.old) left.old result (with_own stack.new own.new) left.new }
 {
     match which {
         Native::ObjectInit | Native::ObjectEquals | Native::ObjectHashCode => {

@@ -1,10 +1,10 @@
 //! The methods of java.io.PrintStream, on the stream of `System.out`. Each is over once its bytes are printed; where fewer
 //! units are left than it counts it answers Over, with nothing printed.
 
-ghost use Rattle.std.specs.Prelude.{◌≡◌, ◌++◌, IfOk, OnOk};
+ghost use Rattle.std.specs.Prelude.{◌≡◌, ◌++◌, IfOk};
 ghost use Rattle.et_base.specs.Quotes.{utf8_of};
 ghost use Rattle.jvm_model.specs.World.{World};
-ghost use Rattle.vm_mem.specs.Refines.{IsReady, IsNext, Refines, Traces};
+ghost use Rattle.vm_mem.specs.Refines.{IsReady, IsNext, Refines, Makes};
 ghost use Rattle.vm_natives.specs.Rows.{with_own};
 ghost use Rattle.vm_natives.specs.Outside.{boolean_print_row, bytes_row, char_print_row, ended, int_print_row, long_print_row, string_print_row};
 
@@ -71,17 +71,12 @@ pub fn print_text<M: Memory>(
     next: u32,
     left: &mut u64,
 ) -> Result<Next, NoMemory>
-    requires program { p.now ≡ M.program memory.old }
     requires place { IsNext p.now stack.old next }
-    requires row { IsReady (string_print_row end.now)
-        (M.program memory.old) (M.world memory.old) (with_own stack.old own.old) }
-    ensures meets { IfOk result (λ x. Refines (string_print_row end.now)
-        (M.program memory.old) (M.world memory.old) (with_own stack.old own.old) left.old
-        x (with_own stack.new own.new) (M.world memory.new) left.new) }
-    ensures told { IfOk result (λ x. Traces (string_print_row end.now)
-        (M.program memory.old) (M.world memory.old) (with_own stack.old own.old)
-        x M.follows memory.old memory.new) }
-    ensures of { OnOk result (M.program memory.new ≡ M.program memory.old) }
+    requires row { IsReady (string_print_row end.now) p.now M.program M.world memory.old
+        (with_own stack.old own.old) }
+    ensures made { Makes (string_print_row end.now) M.program M.world M.follows memory.old
+        memory.new (with_own stack.old own.old) left.old result (with_own stack.new own.new)
+        left.new }
 {
     let text = stack.pop_value();
     stack.pop_value();
@@ -126,17 +121,11 @@ pub fn print_int<M: Memory>(
     next: u32,
     left: &mut u64,
 ) -> Result<Next, NoMemory>
-    requires program { p.now ≡ M.program memory.old }
     requires place { IsNext p.now stack.old next }
-    requires row { IsReady (int_print_row line)
-        (M.program memory.old) (M.world memory.old) (with_own stack.old own.old) }
-    ensures meets { IfOk result (λ x. Refines (int_print_row line)
-        (M.program memory.old) (M.world memory.old) (with_own stack.old own.old) left.old
-        x (with_own stack.new own.new) (M.world memory.new) left.new) }
-    ensures told { IfOk result (λ x. Traces (int_print_row line)
-        (M.program memory.old) (M.world memory.old) (with_own stack.old own.old)
-        x M.follows memory.old memory.new) }
-    ensures of { OnOk result (M.program memory.new ≡ M.program memory.old) }
+    requires row { IsReady (int_print_row line) p.now M.program M.world memory.old
+        (with_own stack.old own.old) }
+    ensures made { Makes (int_print_row line) M.program M.world M.follows memory.old memory.new
+        (with_own stack.old own.old) left.old result (with_own stack.new own.new) left.new }
 {
     let number = stack.pop_int();
     stack.pop_value();
@@ -155,17 +144,11 @@ pub fn print_long<M: Memory>(
     next: u32,
     left: &mut u64,
 ) -> Result<Next, NoMemory>
-    requires program { p.now ≡ M.program memory.old }
     requires place { IsNext p.now stack.old next }
-    requires row { IsReady (long_print_row line)
-        (M.program memory.old) (M.world memory.old) (with_own stack.old own.old) }
-    ensures meets { IfOk result (λ x. Refines (long_print_row line)
-        (M.program memory.old) (M.world memory.old) (with_own stack.old own.old) left.old
-        x (with_own stack.new own.new) (M.world memory.new) left.new) }
-    ensures told { IfOk result (λ x. Traces (long_print_row line)
-        (M.program memory.old) (M.world memory.old) (with_own stack.old own.old)
-        x M.follows memory.old memory.new) }
-    ensures of { OnOk result (M.program memory.new ≡ M.program memory.old) }
+    requires row { IsReady (long_print_row line) p.now M.program M.world memory.old
+        (with_own stack.old own.old) }
+    ensures made { Makes (long_print_row line) M.program M.world M.follows memory.old memory.new
+        (with_own stack.old own.old) left.old result (with_own stack.new own.new) left.new }
 {
     let number = stack.pop_long();
     stack.pop_value();
@@ -184,17 +167,11 @@ pub fn print_boolean<M: Memory>(
     next: u32,
     left: &mut u64,
 ) -> Result<Next, NoMemory>
-    requires program { p.now ≡ M.program memory.old }
     requires place { IsNext p.now stack.old next }
-    requires row { IsReady (boolean_print_row line)
-        (M.program memory.old) (M.world memory.old) (with_own stack.old own.old) }
-    ensures meets { IfOk result (λ x. Refines (boolean_print_row line)
-        (M.program memory.old) (M.world memory.old) (with_own stack.old own.old) left.old
-        x (with_own stack.new own.new) (M.world memory.new) left.new) }
-    ensures told { IfOk result (λ x. Traces (boolean_print_row line)
-        (M.program memory.old) (M.world memory.old) (with_own stack.old own.old)
-        x M.follows memory.old memory.new) }
-    ensures of { OnOk result (M.program memory.new ≡ M.program memory.old) }
+    requires row { IsReady (boolean_print_row line) p.now M.program M.world memory.old
+        (with_own stack.old own.old) }
+    ensures made { Makes (boolean_print_row line) M.program M.world M.follows memory.old memory.new
+        (with_own stack.old own.old) left.old result (with_own stack.new own.new) left.new }
 {
     let truth = stack.pop_int();
     stack.pop_value();
@@ -213,17 +190,11 @@ pub fn print_char<M: Memory>(
     next: u32,
     left: &mut u64,
 ) -> Result<Next, NoMemory>
-    requires program { p.now ≡ M.program memory.old }
     requires place { IsNext p.now stack.old next }
-    requires row { IsReady (char_print_row line)
-        (M.program memory.old) (M.world memory.old) (with_own stack.old own.old) }
-    ensures meets { IfOk result (λ x. Refines (char_print_row line)
-        (M.program memory.old) (M.world memory.old) (with_own stack.old own.old) left.old
-        x (with_own stack.new own.new) (M.world memory.new) left.new) }
-    ensures told { IfOk result (λ x. Traces (char_print_row line)
-        (M.program memory.old) (M.world memory.old) (with_own stack.old own.old)
-        x M.follows memory.old memory.new) }
-    ensures of { OnOk result (M.program memory.new ≡ M.program memory.old) }
+    requires row { IsReady (char_print_row line) p.now M.program M.world memory.old
+        (with_own stack.old own.old) }
+    ensures made { Makes (char_print_row line) M.program M.world M.follows memory.old memory.new
+        (with_own stack.old own.old) left.old result (with_own stack.new own.new) left.new }
 {
     let char = stack.pop_int();
     stack.pop_value();

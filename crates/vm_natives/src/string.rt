@@ -1,12 +1,12 @@
 //! The methods of java.lang.String.
 
-ghost use Rattle.std.specs.Prelude.{◌≡◌, ◌≢◌, IfOk, OnOk};
+ghost use Rattle.std.specs.Prelude.{◌≡◌, ◌≢◌};
 ghost use Rattle.jvm_model.specs.declared.library.Native.{Native};
 ghost use Rattle.jvm_model.specs.declared.outcome.Own.{Own};
 ghost use Rattle.jvm_model.specs.declared.values.Value.TheVariants.{Obj};
 ghost use Rattle.jvm_model.specs.World.{World};
 ghost use Rattle.vm_frames.specs.Stack.{HasRoom};
-ghost use Rattle.vm_mem.specs.Refines.{IsReady, IsNext, Refines, Traces};
+ghost use Rattle.vm_mem.specs.Refines.{IsReady, IsNext, Refines, Makes};
 ghost use Rattle.vm_natives.specs.Rows.{with_own, string_row, unit_row, compared_row, same_row, concat_row, concat_text_row, cut_row, joined_row, part_row};
 
 use crate::texts::{hash_of, length_of, part_from, part_of, same_text};
@@ -29,17 +29,12 @@ pub fn length<M: Memory>(
     next: u32,
     left: &mut u64,
 ) -> Result<Next, NoMemory>
-    requires program { p.now ≡ M.program memory.old }
     requires place { IsNext p.now stack.old next }
-    requires row { IsReady (string_row Native.StringLength)
-        (M.program memory.old) (M.world memory.old) (with_own stack.old own.now) }
-    ensures meets { IfOk result (λ x. Refines (string_row Native.StringLength)
-        (M.program memory.old) (M.world memory.old) (with_own stack.old own.now) left.old
-        x (with_own stack.new own.now) (M.world memory.new) left.new) }
-    ensures told { IfOk result (λ x. Traces (string_row Native.StringLength)
-        (M.program memory.old) (M.world memory.old) (with_own stack.old own.now)
-        x M.follows memory.old memory.new) }
-    ensures of { OnOk result (M.program memory.new ≡ M.program memory.old) }
+    requires row { IsReady (string_row Native.StringLength) p.now M.program M.world memory.old
+        (with_own stack.old own.now) }
+    ensures made { Makes (string_row Native.StringLength) M.program M.world M.follows memory.old
+        memory.new (with_own stack.old own.now) left.old result (with_own stack.new own.now)
+        left.new }
 {
     match stack.pop_value() {
         Value::Lit(n) => {
@@ -68,17 +63,12 @@ pub fn is_empty<M: Memory>(
     next: u32,
     left: &mut u64,
 ) -> Result<Next, NoMemory>
-    requires program { p.now ≡ M.program memory.old }
     requires place { IsNext p.now stack.old next }
-    requires row { IsReady (string_row Native.StringIsEmpty)
-        (M.program memory.old) (M.world memory.old) (with_own stack.old own.now) }
-    ensures meets { IfOk result (λ x. Refines (string_row Native.StringIsEmpty)
-        (M.program memory.old) (M.world memory.old) (with_own stack.old own.now) left.old
-        x (with_own stack.new own.now) (M.world memory.new) left.new) }
-    ensures told { IfOk result (λ x. Traces (string_row Native.StringIsEmpty)
-        (M.program memory.old) (M.world memory.old) (with_own stack.old own.now)
-        x M.follows memory.old memory.new) }
-    ensures of { OnOk result (M.program memory.new ≡ M.program memory.old) }
+    requires row { IsReady (string_row Native.StringIsEmpty) p.now M.program M.world memory.old
+        (with_own stack.old own.now) }
+    ensures made { Makes (string_row Native.StringIsEmpty) M.program M.world M.follows memory.old
+        memory.new (with_own stack.old own.now) left.old result (with_own stack.new own.now)
+        left.new }
 {
     match stack.pop_value() {
         Value::Lit(n) => {
@@ -108,17 +98,12 @@ pub fn char_at<M: Memory>(
     next: u32,
     left: &mut u64,
 ) -> Result<Next, NoMemory>
-    requires program { p.now ≡ M.program memory.old }
     requires place { IsNext p.now stack.old next }
-    requires row { IsReady (string_row Native.StringCharAt)
-        (M.program memory.old) (M.world memory.old) (with_own stack.old own.now) }
-    ensures meets { IfOk result (λ x. Refines (string_row Native.StringCharAt)
-        (M.program memory.old) (M.world memory.old) (with_own stack.old own.now) left.old
-        x (with_own stack.new own.now) (M.world memory.new) left.new) }
-    ensures told { IfOk result (λ x. Traces (string_row Native.StringCharAt)
-        (M.program memory.old) (M.world memory.old) (with_own stack.old own.now)
-        x M.follows memory.old memory.new) }
-    ensures of { OnOk result (M.program memory.new ≡ M.program memory.old) }
+    requires row { IsReady (string_row Native.StringCharAt) p.now M.program M.world memory.old
+        (with_own stack.old own.now) }
+    ensures made { Makes (string_row Native.StringCharAt) M.program M.world M.follows memory.old
+        memory.new (with_own stack.old own.now) left.old result (with_own stack.new own.now)
+        left.new }
 {
     let place = stack.pop_int();
     match stack.pop_value() {
@@ -175,17 +160,12 @@ pub fn equals<M: Memory>(
     next: u32,
     left: &mut u64,
 ) -> Result<Next, NoMemory>
-    requires program { p.now ≡ M.program memory.old }
     requires place { IsNext p.now stack.old next }
-    requires row { IsReady (string_row Native.StringEquals)
-        (M.program memory.old) (M.world memory.old) (with_own stack.old own.now) }
-    ensures meets { IfOk result (λ x. Refines (string_row Native.StringEquals)
-        (M.program memory.old) (M.world memory.old) (with_own stack.old own.now) left.old
-        x (with_own stack.new own.now) (M.world memory.new) left.new) }
-    ensures told { IfOk result (λ x. Traces (string_row Native.StringEquals)
-        (M.program memory.old) (M.world memory.old) (with_own stack.old own.now)
-        x M.follows memory.old memory.new) }
-    ensures of { OnOk result (M.program memory.new ≡ M.program memory.old) }
+    requires row { IsReady (string_row Native.StringEquals) p.now M.program M.world memory.old
+        (with_own stack.old own.now) }
+    ensures made { Makes (string_row Native.StringEquals) M.program M.world M.follows memory.old
+        memory.new (with_own stack.old own.now) left.old result (with_own stack.new own.now)
+        left.new }
 {
     let argument = stack.pop_value();
     let receiver = stack.pop_value();
@@ -222,19 +202,14 @@ fn compare<M: Memory>(
     next: u32,
     left: &mut u64,
 ) -> Result<Next, NoMemory>
-    requires program { p.now ≡ M.program memory.old }
     requires place { IsNext p.now stack.old next }
     requires room { HasRoom 2 stack.old }
     requires argument { argument ≢ Value.Null }
-    requires row { IsReady (compared_row receiver argument)
-        (M.program memory.old) (M.world memory.old) (with_own stack.old own.now) }
-    ensures meets { IfOk result (λ x. Refines (compared_row receiver argument)
-        (M.program memory.old) (M.world memory.old) (with_own stack.old own.now) left.old
-        x (with_own stack.new own.now) (M.world memory.new) left.new) }
-    ensures told { IfOk result (λ x. Traces (compared_row receiver argument)
-        (M.program memory.old) (M.world memory.old) (with_own stack.old own.now)
-        x M.follows memory.old memory.new) }
-    ensures of { OnOk result (M.program memory.new ≡ M.program memory.old) }
+    requires row { IsReady (compared_row receiver argument) p.now M.program M.world memory.old
+        (with_own stack.old own.now) }
+    ensures made { Makes (compared_row receiver argument) M.program M.world M.follows memory.old
+        memory.new (with_own stack.old own.now) left.old result (with_own stack.new own.now)
+        left.new }
 {
     match (receiver, argument) {
         (Value::Null, _) => {
@@ -293,17 +268,12 @@ pub fn hash_code<M: Memory>(
     next: u32,
     left: &mut u64,
 ) -> Result<Next, NoMemory>
-    requires program { p.now ≡ M.program memory.old }
     requires place { IsNext p.now stack.old next }
-    requires row { IsReady (string_row Native.StringHashCode)
-        (M.program memory.old) (M.world memory.old) (with_own stack.old own.now) }
-    ensures meets { IfOk result (λ x. Refines (string_row Native.StringHashCode)
-        (M.program memory.old) (M.world memory.old) (with_own stack.old own.now) left.old
-        x (with_own stack.new own.now) (M.world memory.new) left.new) }
-    ensures told { IfOk result (λ x. Traces (string_row Native.StringHashCode)
-        (M.program memory.old) (M.world memory.old) (with_own stack.old own.now)
-        x M.follows memory.old memory.new) }
-    ensures of { OnOk result (M.program memory.new ≡ M.program memory.old) }
+    requires row { IsReady (string_row Native.StringHashCode) p.now M.program M.world memory.old
+        (with_own stack.old own.now) }
+    ensures made { Makes (string_row Native.StringHashCode) M.program M.world M.follows memory.old
+        memory.new (with_own stack.old own.now) left.old result (with_own stack.new own.now)
+        left.new }
 {
     match stack.pop_value() {
         Value::Lit(n) => {
@@ -336,17 +306,12 @@ pub fn substring_from<M: Memory>(
     next: u32,
     left: &mut u64,
 ) -> Result<Next, NoMemory>
-    requires program { p.now ≡ M.program memory.old }
     requires place { IsNext p.now stack.old next }
-    requires row { IsReady (string_row Native.StringSubstringFrom)
-        (M.program memory.old) (M.world memory.old) (with_own stack.old own.now) }
-    ensures meets { IfOk result (λ x. Refines (string_row Native.StringSubstringFrom)
-        (M.program memory.old) (M.world memory.old) (with_own stack.old own.now) left.old
-        x (with_own stack.new own.now) (M.world memory.new) left.new) }
-    ensures told { IfOk result (λ x. Traces (string_row Native.StringSubstringFrom)
-        (M.program memory.old) (M.world memory.old) (with_own stack.old own.now)
-        x M.follows memory.old memory.new) }
-    ensures of { OnOk result (M.program memory.new ≡ M.program memory.old) }
+    requires row { IsReady (string_row Native.StringSubstringFrom) p.now M.program M.world
+        memory.old (with_own stack.old own.now) }
+    ensures made { Makes (string_row Native.StringSubstringFrom) M.program M.world M.follows
+        memory.old memory.new (with_own stack.old own.now) left.old result
+        (with_own stack.new own.now) left.new }
 {
     let from = stack.pop_int();
     match stack.pop_value() {
@@ -378,17 +343,12 @@ pub fn substring<M: Memory>(
     next: u32,
     left: &mut u64,
 ) -> Result<Next, NoMemory>
-    requires program { p.now ≡ M.program memory.old }
     requires place { IsNext p.now stack.old next }
-    requires row { IsReady (string_row Native.StringSubstring)
-        (M.program memory.old) (M.world memory.old) (with_own stack.old own.now) }
-    ensures meets { IfOk result (λ x. Refines (string_row Native.StringSubstring)
-        (M.program memory.old) (M.world memory.old) (with_own stack.old own.now) left.old
-        x (with_own stack.new own.now) (M.world memory.new) left.new) }
-    ensures told { IfOk result (λ x. Traces (string_row Native.StringSubstring)
-        (M.program memory.old) (M.world memory.old) (with_own stack.old own.now)
-        x M.follows memory.old memory.new) }
-    ensures of { OnOk result (M.program memory.new ≡ M.program memory.old) }
+    requires row { IsReady (string_row Native.StringSubstring) p.now M.program M.world memory.old
+        (with_own stack.old own.now) }
+    ensures made { Makes (string_row Native.StringSubstring) M.program M.world M.follows memory.old
+        memory.new (with_own stack.old own.now) left.old result (with_own stack.new own.now)
+        left.new }
 {
     let to = stack.pop_int();
     let from = stack.pop_int();
@@ -419,18 +379,13 @@ fn cut_text<M: Memory>(
     next: u32,
     left: &mut u64,
 ) -> Result<Next, NoMemory>
-    requires program { p.now ≡ M.program memory.old }
     requires place { IsNext p.now stack.old next }
     requires room { HasRoom 1 stack.old }
-    requires row { IsReady (cut_row (Obj object) from to)
-        (M.program memory.old) (M.world memory.old) (with_own stack.old own.now) }
-    ensures meets { IfOk result (λ x. Refines (cut_row (Obj object) from to)
-        (M.program memory.old) (M.world memory.old) (with_own stack.old own.now) left.old
-        x (with_own stack.new own.now) (M.world memory.new) left.new) }
-    ensures told { IfOk result (λ x. Traces (cut_row (Obj object) from to)
-        (M.program memory.old) (M.world memory.old) (with_own stack.old own.now)
-        x M.follows memory.old memory.new) }
-    ensures of { OnOk result (M.program memory.new ≡ M.program memory.old) }
+    requires row { IsReady (cut_row (Obj object) from to) p.now M.program M.world memory.old
+        (with_own stack.old own.now) }
+    ensures made { Makes (cut_row (Obj object) from to) M.program M.world M.follows memory.old
+        memory.new (with_own stack.old own.now) left.old result (with_own stack.new own.now)
+        left.new }
 {
     let part = part_of(alloc, memory.get_text(object)?.as_slice(), from, to)?;
     answer_part(stack, memory, p, own, part, next, left)
@@ -449,13 +404,8 @@ fn answer_part<M: Memory>(
     requires program { p.now ≡ M.program memory.old }
     requires place { IsNext p.now stack.old next }
     requires room { HasRoom 1 stack.old }
-    ensures meets { IfOk result (λ x. Refines (part_row part)
-        (M.program memory.old) (M.world memory.old) (with_own stack.old own.now) left.old
-        x (with_own stack.new own.now) (M.world memory.new) left.new) }
-    ensures told { IfOk result (λ x. Traces (part_row part)
-        (M.program memory.old) (M.world memory.old) (with_own stack.old own.now)
-        x M.follows memory.old memory.new) }
-    ensures of { OnOk result (M.program memory.new ≡ M.program memory.old) }
+    ensures made { Makes (part_row part) M.program M.world M.follows memory.old memory.new
+        (with_own stack.old own.now) left.old result (with_own stack.new own.now) left.new }
 {
     match part {
         None => Ok(Next::Fault {
@@ -477,17 +427,12 @@ pub fn concat<M: Memory>(
     next: u32,
     left: &mut u64,
 ) -> Result<Next, NoMemory>
-    requires program { p.now ≡ M.program memory.old }
     requires place { IsNext p.now stack.old next }
-    requires row { IsReady (string_row Native.StringConcat)
-        (M.program memory.old) (M.world memory.old) (with_own stack.old own.now) }
-    ensures meets { IfOk result (λ x. Refines (string_row Native.StringConcat)
-        (M.program memory.old) (M.world memory.old) (with_own stack.old own.now) left.old
-        x (with_own stack.new own.now) (M.world memory.new) left.new) }
-    ensures told { IfOk result (λ x. Traces (string_row Native.StringConcat)
-        (M.program memory.old) (M.world memory.old) (with_own stack.old own.now)
-        x M.follows memory.old memory.new) }
-    ensures of { OnOk result (M.program memory.new ≡ M.program memory.old) }
+    requires row { IsReady (string_row Native.StringConcat) p.now M.program M.world memory.old
+        (with_own stack.old own.now) }
+    ensures made { Makes (string_row Native.StringConcat) M.program M.world M.follows memory.old
+        memory.new (with_own stack.old own.now) left.old result (with_own stack.new own.now)
+        left.new }
 {
     let argument = stack.pop_value();
     let receiver = stack.pop_value();
@@ -514,18 +459,13 @@ fn concat_to<M: Memory>(
     next: u32,
     left: &mut u64,
 ) -> Result<Next, NoMemory>
-    requires program { p.now ≡ M.program memory.old }
     requires place { IsNext p.now stack.old next }
     requires room { HasRoom 1 stack.old }
-    requires row { IsReady (concat_row receiver argument)
-        (M.program memory.old) (M.world memory.old) (with_own stack.old own.now) }
-    ensures meets { IfOk result (λ x. Refines (concat_row receiver argument)
-        (M.program memory.old) (M.world memory.old) (with_own stack.old own.now) left.old
-        x (with_own stack.new own.now) (M.world memory.new) left.new) }
-    ensures told { IfOk result (λ x. Traces (concat_row receiver argument)
-        (M.program memory.old) (M.world memory.old) (with_own stack.old own.now)
-        x M.follows memory.old memory.new) }
-    ensures of { OnOk result (M.program memory.new ≡ M.program memory.old) }
+    requires row { IsReady (concat_row receiver argument) p.now M.program M.world memory.old
+        (with_own stack.old own.now) }
+    ensures made { Makes (concat_row receiver argument) M.program M.world M.follows memory.old
+        memory.new (with_own stack.old own.now) left.old result (with_own stack.new own.now)
+        left.new }
 {
     match receiver {
         Value::Lit(n) => {
@@ -561,18 +501,13 @@ fn concat_text<M: Memory>(
     next: u32,
     left: &mut u64,
 ) -> Result<Next, NoMemory>
-    requires program { p.now ≡ M.program memory.old }
     requires place { IsNext p.now stack.old next }
     requires room { HasRoom 1 stack.old }
-    requires row { IsReady (concat_text_row receiver text argument)
-        (M.program memory.old) (M.world memory.old) (with_own stack.old own.now) }
-    ensures meets { IfOk result (λ x. Refines (concat_text_row receiver text argument)
-        (M.program memory.old) (M.world memory.old) (with_own stack.old own.now) left.old
-        x (with_own stack.new own.now) (M.world memory.new) left.new) }
-    ensures told { IfOk result (λ x. Traces (concat_text_row receiver text argument)
-        (M.program memory.old) (M.world memory.old) (with_own stack.old own.now)
-        x M.follows memory.old memory.new) }
-    ensures of { OnOk result (M.program memory.new ≡ M.program memory.old) }
+    requires row { IsReady (concat_text_row receiver text argument) p.now M.program M.world
+        memory.old (with_own stack.old own.now) }
+    ensures made { Makes (concat_text_row receiver text argument) M.program M.world M.follows
+        memory.old memory.new (with_own stack.old own.now) left.old result
+        (with_own stack.new own.now) left.new }
 {
     match argument {
         Value::Lit(n) => {
@@ -606,13 +541,9 @@ fn join<M: Memory>(
     requires program { p.now ≡ M.program memory.old }
     requires place { IsNext p.now stack.old next }
     requires room { HasRoom 1 stack.old }
-    ensures meets { IfOk result (λ x. Refines (joined_row receiver text more)
-        (M.program memory.old) (M.world memory.old) (with_own stack.old own.now) left.old
-        x (with_own stack.new own.now) (M.world memory.new) left.new) }
-    ensures told { IfOk result (λ x. Traces (joined_row receiver text more)
-        (M.program memory.old) (M.world memory.old) (with_own stack.old own.now)
-        x M.follows memory.old memory.new) }
-    ensures of { OnOk result (M.program memory.new ≡ M.program memory.old) }
+    ensures made { Makes (joined_row receiver text more) M.program M.world M.follows memory.old
+        memory.new (with_own stack.old own.now) left.old result (with_own stack.new own.now)
+        left.new }
 {
     match more.as_slice() {
         [] => Ok(answer(stack, p, receiver, next, left)),

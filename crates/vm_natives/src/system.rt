@@ -1,10 +1,9 @@
 //! The methods of java.lang.System.
 
-ghost use Rattle.std.specs.Prelude.{◌≡◌, IfOk, OnOk};
 ghost use Rattle.jvm_model.specs.declared.library.Native.{Native};
 ghost use Rattle.jvm_model.specs.World.{World};
 ghost use Rattle.vm_frames.specs.Stack.{HasRoom};
-ghost use Rattle.vm_mem.specs.Refines.{IsReady, IsNext, Refines, Traces};
+ghost use Rattle.vm_mem.specs.Refines.{IsReady, IsNext, Refines, Makes};
 ghost use Rattle.vm_natives.specs.Rows.{with_own, system_row};
 ghost use Rattle.vm_natives.specs.Named.{property_row, property_change_row};
 
@@ -46,18 +45,12 @@ pub fn property_at<M: Memory>(
     next: u32,
     left: &mut u64,
 ) -> Result<Next, NoMemory>
-    requires program { p.now ≡ M.program memory.old }
     requires place { IsNext p.now stack.old next }
     requires room { HasRoom 1 stack.old }
-    requires row { IsReady (property_row name.now)
-        (M.program memory.old) (M.world memory.old) (with_own stack.old own.now) }
-    ensures meets { IfOk result (λ x. Refines (property_row name.now)
-        (M.program memory.old) (M.world memory.old) (with_own stack.old own.now) left.old
-        x (with_own stack.new own.now) (M.world memory.new) left.new) }
-    ensures told { IfOk result (λ x. Traces (property_row name.now)
-        (M.program memory.old) (M.world memory.old) (with_own stack.old own.now)
-        x M.follows memory.old memory.new) }
-    ensures of { OnOk result (M.program memory.new ≡ M.program memory.old) }
+    requires row { IsReady (property_row name.now) p.now M.program M.world memory.old
+        (with_own stack.old own.now) }
+    ensures made { Makes (property_row name.now) M.program M.world M.follows memory.old memory.new
+        (with_own stack.old own.now) left.old result (with_own stack.new own.now) left.new }
 {
     let cost = name.as_slice().len() as u64;
     match memory.get_store(Part::Prop, name)? {
@@ -84,18 +77,13 @@ pub fn change_property<M: Memory>(
     next: u32,
     left: &mut u64,
 ) -> Result<Next, NoMemory>
-    requires program { p.now ≡ M.program memory.old }
     requires place { IsNext p.now stack.old next }
     requires room { HasRoom 1 stack.old }
-    requires row { IsReady (property_change_row name text units)
-        (M.program memory.old) (M.world memory.old) (with_own stack.old own.now) }
-    ensures meets { IfOk result (λ x. Refines (property_change_row name text units)
-        (M.program memory.old) (M.world memory.old) (with_own stack.old own.now) left.old
-        x (with_own stack.new own.now) (M.world memory.new) left.new) }
-    ensures told { IfOk result (λ x. Traces (property_change_row name text units)
-        (M.program memory.old) (M.world memory.old) (with_own stack.old own.now)
-        x M.follows memory.old memory.new) }
-    ensures of { OnOk result (M.program memory.new ≡ M.program memory.old) }
+    requires row { IsReady (property_change_row name text units) p.now M.program M.world memory.old
+        (with_own stack.old own.now) }
+    ensures made { Makes (property_change_row name text units) M.program M.world M.follows
+        memory.old memory.new (with_own stack.old own.now) left.old result
+        (with_own stack.new own.now) left.new }
 {
     let cost = name.as_slice().len() as u64;
     match memory.get_store(Part::Prop, &name)? {

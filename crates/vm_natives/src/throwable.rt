@@ -1,8 +1,7 @@
 //! The methods of java.lang.Throwable and of the classes below it.
 
-ghost use Rattle.std.specs.Prelude.{◌≡◌, IfOk, OnOk};
 ghost use Rattle.jvm_model.specs.declared.library.Native.{Native};
-ghost use Rattle.vm_mem.specs.Refines.{IsReady, IsNext, Refines, Traces};
+ghost use Rattle.vm_mem.specs.Refines.{IsReady, IsNext, Makes};
 ghost use Rattle.vm_natives.specs.Rows.{with_own, throwable_row, kept_row, told_row};
 
 use crate::working::{answer, end};
@@ -23,17 +22,12 @@ pub fn keep_message<M: Memory>(
     next: u32,
     left: &mut u64,
 ) -> Result<Next, NoMemory>
-    requires program { p.now ≡ M.program memory.old }
     requires place { IsNext p.now stack.old next }
-    requires row { IsReady (kept_row receiver message)
-        (M.program memory.old) (M.world memory.old) (with_own stack.old own.now) }
-    ensures meets { IfOk result (λ x. Refines (kept_row receiver message)
-        (M.program memory.old) (M.world memory.old) (with_own stack.old own.now) left.old
-        x (with_own stack.new own.now) (M.world memory.new) left.new) }
-    ensures told { IfOk result (λ x. Traces (kept_row receiver message)
-        (M.program memory.old) (M.world memory.old) (with_own stack.old own.now)
-        x M.follows memory.old memory.new) }
-    ensures of { OnOk result (M.program memory.new ≡ M.program memory.old) }
+    requires row { IsReady (kept_row receiver message) p.now M.program M.world memory.old
+        (with_own stack.old own.now) }
+    ensures made { Makes (kept_row receiver message) M.program M.world M.follows memory.old
+        memory.new (with_own stack.old own.now) left.old result (with_own stack.new own.now)
+        left.new }
 {
     match receiver {
         Value::Obj(object) => {
@@ -64,17 +58,12 @@ pub fn get_message<M: Memory>(
     next: u32,
     left: &mut u64,
 ) -> Result<Next, NoMemory>
-    requires program { p.now ≡ M.program memory.old }
     requires place { IsNext p.now stack.old next }
-    requires row { IsReady (throwable_row Native.ThrowableGetMessage)
-        (M.program memory.old) (M.world memory.old) (with_own stack.old own.now) }
-    ensures meets { IfOk result (λ x. Refines (throwable_row Native.ThrowableGetMessage)
-        (M.program memory.old) (M.world memory.old) (with_own stack.old own.now) left.old
-        x (with_own stack.new own.now) (M.world memory.new) left.new) }
-    ensures told { IfOk result (λ x. Traces (throwable_row Native.ThrowableGetMessage)
-        (M.program memory.old) (M.world memory.old) (with_own stack.old own.now)
-        x M.follows memory.old memory.new) }
-    ensures of { OnOk result (M.program memory.new ≡ M.program memory.old) }
+    requires row { IsReady (throwable_row Native.ThrowableGetMessage) p.now M.program M.world
+        memory.old (with_own stack.old own.now) }
+    ensures made { Makes (throwable_row Native.ThrowableGetMessage) M.program M.world M.follows
+        memory.old memory.new (with_own stack.old own.now) left.old result
+        (with_own stack.new own.now) left.new }
 {
     match stack.pop_value() {
         Value::Obj(object) => {
@@ -102,17 +91,12 @@ pub fn assertion_object<M: Memory>(
     next: u32,
     left: &mut u64,
 ) -> Result<Next, NoMemory>
-    requires program { p.now ≡ M.program memory.old }
     requires place { IsNext p.now stack.old next }
-    requires row { IsReady (throwable_row Native.AssertionInitObject)
-        (M.program memory.old) (M.world memory.old) (with_own stack.old own.now) }
-    ensures meets { IfOk result (λ x. Refines (throwable_row Native.AssertionInitObject)
-        (M.program memory.old) (M.world memory.old) (with_own stack.old own.now) left.old
-        x (with_own stack.new own.now) (M.world memory.new) left.new) }
-    ensures told { IfOk result (λ x. Traces (throwable_row Native.AssertionInitObject)
-        (M.program memory.old) (M.world memory.old) (with_own stack.old own.now)
-        x M.follows memory.old memory.new) }
-    ensures of { OnOk result (M.program memory.new ≡ M.program memory.old) }
+    requires row { IsReady (throwable_row Native.AssertionInitObject) p.now M.program M.world
+        memory.old (with_own stack.old own.now) }
+    ensures made { Makes (throwable_row Native.AssertionInitObject) M.program M.world M.follows
+        memory.old memory.new (with_own stack.old own.now) left.old result
+        (with_own stack.new own.now) left.new }
 {
     let argument = stack.pop_value();
     let receiver = stack.pop_value();
@@ -150,17 +134,11 @@ pub fn make_message<M: Memory>(
     next: u32,
     left: &mut u64,
 ) -> Result<Next, NoMemory>
-    requires program { p.now ≡ M.program memory.old }
     requires place { IsNext p.now stack.old next }
-    requires row { IsReady (told_row receiver text)
-        (M.program memory.old) (M.world memory.old) (with_own stack.old own.now) }
-    ensures meets { IfOk result (λ x. Refines (told_row receiver text)
-        (M.program memory.old) (M.world memory.old) (with_own stack.old own.now) left.old
-        x (with_own stack.new own.now) (M.world memory.new) left.new) }
-    ensures told { IfOk result (λ x. Traces (told_row receiver text)
-        (M.program memory.old) (M.world memory.old) (with_own stack.old own.now)
-        x M.follows memory.old memory.new) }
-    ensures of { OnOk result (M.program memory.new ≡ M.program memory.old) }
+    requires row { IsReady (told_row receiver text) p.now M.program M.world memory.old
+        (with_own stack.old own.now) }
+    ensures made { Makes (told_row receiver text) M.program M.world M.follows memory.old memory.new
+        (with_own stack.old own.now) left.old result (with_own stack.new own.now) left.new }
 {
     match receiver {
         Value::Obj(object) => {

@@ -1,12 +1,12 @@
 //! How the calls of built-in methods end.
 
-ghost use Rattle.std.specs.Prelude.{◌≡◌, IfOk, OnOk};
+ghost use Rattle.std.specs.Prelude.{◌≡◌};
 ghost use Rattle.jvm_model.specs.declared.outcome.Own.{Own};
 ghost use Rattle.jvm_model.specs.declared.program.Program.{Program};
 ghost use Rattle.jvm_model.specs.Working as working;
 ghost use Rattle.jvm_model.specs.World.{World};
 ghost use Rattle.vm_frames.specs.Stack.{HasRoom};
-ghost use Rattle.vm_mem.specs.Refines.{IsReady, IsNext, Refines, Traces};
+ghost use Rattle.vm_mem.specs.Refines.{IsNext, Refines, Makes};
 ghost use Rattle.vm_natives.specs.Rows.{with_own, end_row, value_row, costly_row, text_row};
 
 use et_base::{NoMemory, Units};
@@ -90,13 +90,8 @@ pub fn answer_text<M: Memory>(
     requires program { p.now ≡ M.program memory.old }
     requires place { IsNext p.now stack.old next }
     requires room { HasRoom 1 stack.old }
-    ensures meets { IfOk result (λ x. Refines (text_row besides text)
-        (M.program memory.old) (M.world memory.old) (with_own stack.old own.now) left.old
-        x (with_own stack.new own.now) (M.world memory.new) left.new) }
-    ensures told { IfOk result (λ x. Traces (text_row besides text)
-        (M.program memory.old) (M.world memory.old) (with_own stack.old own.now)
-        x M.follows memory.old memory.new) }
-    ensures of { OnOk result (M.program memory.new ≡ M.program memory.old) }
+    ensures made { Makes (text_row besides text) M.program M.world M.follows memory.old memory.new
+        (with_own stack.old own.now) left.old result (with_own stack.new own.now) left.new }
 {
     let length = text.as_slice().len() as u64;
     if *left < length + 2 || *left - (length + 2) < besides {

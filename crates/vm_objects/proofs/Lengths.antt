@@ -1,5 +1,5 @@
 -- The lengths of an array of arrays as they're taken off the operands.
-use Rattle.std.proofs.Common.{◌≡◌, ◌<◌, ◌≤◌, ◌+◌, ◌-◌, ℕ, ℤ, zero, suc, pos, negsuc, List, [], ◌∷◌, Bool, true, false, Option, Some, Result, IfOk, refl, sym, ap, ◌∙◌, subst, arith}
+use Rattle.std.proofs.Common.{◌≡◌, ◌<◌, ◌≤◌, ◌+◌, ◌-◌, ℕ, ℤ, zero, suc, pos, negsuc, List, [], ◌∷◌, Bool, true, false, Option, Some, Result, refl, sym, ap, ◌∙◌, subst, arith}
 use Rattle.std.specs.Prelude.{take, drop, length, slice_set}
 use Rattle.std.proofs.lemmas.Result.{IfOk-weaker}
 use Rattle.std.proofs.lemmas.List.{drop-set, take_all, length-drop}
@@ -15,7 +15,7 @@ use Rattle.jvm_model.specs.Entries.{Entries, with_stack}
 use Rattle.jvm_model.specs.RowsCreate.{row_create, sized, nested}
 use Rattle.jvm_model.specs.View.{IsSafe, IsRow, counted, paid, counts_one, touched}
 use Rattle.vm_mem.specs.Trace.{Trace}
-use Rattle.vm_mem.specs.Refines.{Row, IsReady, Refines, Traces}
+use Rattle.vm_mem.specs.Refines.{Row, Refines, Traces, Makes}
 use Rattle.vm_objects.specs.Forms.{create_row, count_of}
 use Rattle.vm_objects.specs.Nests.{HasInts, nested_row, taken}
 
@@ -81,16 +81,12 @@ row_taken p k d s s' ns n r i long e q kept =
     row_multi p k d s ∙ e ∙ ap (λ x. taken p k s s'.top.stack ns x) q ∙ lengths_taken p k s s' (drop i ns) kept ∙ ap (λ x. nested_row k x p s') (sym (to_end ns i n long))
 
 -- a row that is another one's on what it works on
-module _ (t u : Row Entries) (p : Program) (s s' : Entries) (w : World) (e : t p s ≡ u p s') where
-  pub same_ready : IsReady t p w s → IsReady u p w s'
-  same_ready h = subst (λ r. IsSafe IsRow r w) e h
-
-  pub same_meets : {E : Type 0} (left : ℕ) (r : Result Next E) (s2 : Entries) (w2 : World) (left2 : ℕ) →
-      IfOk r (λ y. Refines u p w s' left y s2 w2 left2) → IfOk r (λ y. Refines t p w s left y s2 w2 left2)
-  same_meets left r s2 w2 left2 = IfOk-weaker r (λ y. Refines u p w s' left y s2 w2 left2) (λ y. Refines t p w s left y s2 w2 left2)
-      (λ y h. ap (λ z. counted (paid (counts_one p y) z) w left) e ∙ h)
-
-  pub same_tells : {E M : Type 0} (follows : M → Trace → List Touch → Type 0) (m0 m2 : M) (r : Result Next E) →
-      IfOk r (λ y. Traces u p w s' y follows m0 m2) → IfOk r (λ y. Traces t p w s y follows m0 m2)
-  same_tells follows m0 m2 r = IfOk-weaker r (λ y. Traces u p w s' y follows m0 m2) (λ y. Traces t p w s y follows m0 m2)
-      (λ y h n q ts f. subst (λ z. follows m2 q z) (sym (ap (λ z. touched z w ts) e)) (h n q ts f))
+module _ {M : Type 0} (t u : Row Entries) (program : M → Program) (world : M → World) (follows : M → Trace → List Touch → Type 0) (m0 : M) (s s' : Entries) (e : t (program m0) s ≡ u (program m0) s') where
+  pub same_makes : {E : Type 0} (m1 : M) (left : ℕ) (r : Result Next E) (s2 : Entries) (left2 : ℕ) → Makes u program world follows m0 m1 s' left r s2 left2 → Makes t program world follows m0 m1 s left r s2 left2
+  same_makes m1 left r s2 left2 h = (
+    h.0,
+    IfOk-weaker r
+        (λ y. Refines u (program m0) (world m0) s' left y s2 (world m1) left2 × Traces u (program m0) (world m0) s' y follows m0 m1)
+        (λ y. Refines t (program m0) (world m0) s left y s2 (world m1) left2 × Traces t (program m0) (world m0) s y follows m0 m1)
+        (λ y k. (ap (λ z. counted (paid (counts_one (program m0) y) z) (world m0) left) e ∙ k.0, λ n q ts f. subst (λ z. follows m1 q z) (sym (ap (λ z. touched z (world m0) ts) e)) (k.1 n q ts f))) h.1,
+  )

@@ -12,7 +12,7 @@ ghost use Rattle.jvm_model.specs.Entries.{with_place};
 ghost use Rattle.jvm_model.specs.RowsArrays.{element_letter};
 ghost use Rattle.jvm_model.specs.View.{Exists};
 ghost use Rattle.vm_mem.specs.Trace.{Extends};
-ghost use Rattle.vm_mem.specs.Refines.{IsReady, IsNext, Refines, Traces};
+ghost use Rattle.vm_mem.specs.Refines.{IsReady, IsNext, Makes};
 ghost use Rattle.vm_objects.specs.Forms.{array_row, store_row, place_in};
 
 use et_base::letters::{BOOLEAN, BYTE, CHAR, CLASS, INT, LONG, SHORT};
@@ -39,17 +39,10 @@ pub fn arrays<M: Memory>(
     next: u32,
     left: &mut u64,
 ) -> Result<Next, NoMemory>
-    requires tables { tables.now ≡ M.program memory.old }
-    requires row { IsReady (array_row form.now)
-        (M.program memory.old) (M.world memory.old) stack.old }
-    requires place { IsNext (M.program memory.old) stack.old next }
-    ensures meets { IfOk result (λ x. Refines (array_row form.now)
-        (M.program memory.old) (M.world memory.old) stack.old left.old
-        x stack.new (M.world memory.new) left.new) }
-    ensures told { IfOk result (λ x. Traces (array_row form.now)
-        (M.program memory.old) (M.world memory.old) stack.old
-        x M.follows memory.old memory.new) }
-    ensures of { OnOk result (M.program memory.new ≡ M.program memory.old) }
+    requires row { IsReady (array_row form.now) tables.now M.program M.world memory.old stack.old }
+    requires place { IsNext tables.now stack.old next }
+    ensures made { Makes (array_row form.now) M.program M.world M.follows memory.old memory.new
+        stack.old left.old result stack.new left.new }
 {
     match form {
         Instr::ArrayLength => array_length(stack, memory, next, left),
@@ -67,16 +60,11 @@ pub fn array_length<M: Memory>(
     next: u32,
     left: &mut u64,
 ) -> Result<Next, NoMemory>
-    requires row { IsReady (array_row form.ArrayLength)
-        (M.program memory.old) (M.world memory.old) stack.old }
+    requires row { IsReady (array_row form.ArrayLength) (M.program memory.old) M.program M.world
+        memory.old stack.old }
     requires place { IsNext (M.program memory.old) stack.old next }
-    ensures meets { IfOk result (λ x. Refines (array_row form.ArrayLength)
-        (M.program memory.old) (M.world memory.old) stack.old left.old
-        x stack.new (M.world memory.new) left.new) }
-    ensures told { IfOk result (λ x. Traces (array_row form.ArrayLength)
-        (M.program memory.old) (M.world memory.old) stack.old
-        x M.follows memory.old memory.new) }
-    ensures of { OnOk result (M.program memory.new ≡ M.program memory.old) }
+    ensures made { Makes (array_row form.ArrayLength) M.program M.world M.follows memory.old
+        memory.new stack.old left.old result stack.new left.new }
 {
     if *left == 0 {
         return Ok(Next::Over);
@@ -110,16 +98,11 @@ pub fn array_load<M: Memory>(
     next: u32,
     left: &mut u64,
 ) -> Result<Next, NoMemory>
-    requires row { IsReady (array_row (form.ArrayLoad cell.Ref))
-        (M.program memory.old) (M.world memory.old) stack.old }
+    requires row { IsReady (array_row (form.ArrayLoad cell.Ref)) (M.program memory.old) M.program
+        M.world memory.old stack.old }
     requires place { IsNext (M.program memory.old) stack.old next }
-    ensures meets { IfOk result (λ x. Refines (array_row (form.ArrayLoad cell.Ref))
-        (M.program memory.old) (M.world memory.old) stack.old left.old
-        x stack.new (M.world memory.new) left.new) }
-    ensures told { IfOk result (λ x. Traces (array_row (form.ArrayLoad cell.Ref))
-        (M.program memory.old) (M.world memory.old) stack.old
-        x M.follows memory.old memory.new) }
-    ensures of { OnOk result (M.program memory.new ≡ M.program memory.old) }
+    ensures made { Makes (array_row (form.ArrayLoad cell.Ref)) M.program M.world M.follows
+        memory.old memory.new stack.old left.old result stack.new left.new }
 {
     if *left == 0 {
         return Ok(Next::Over);
@@ -158,17 +141,11 @@ pub fn array_store<M: Memory>(
     next: u32,
     left: &mut u64,
 ) -> Result<Next, NoMemory>
-    requires tables { tables.now ≡ M.program memory.old }
-    requires row { IsReady (array_row (form.ArrayStore of))
-        (M.program memory.old) (M.world memory.old) stack.old }
-    requires place { IsNext (M.program memory.old) stack.old next }
-    ensures meets { IfOk result (λ x. Refines (array_row (form.ArrayStore of))
-        (M.program memory.old) (M.world memory.old) stack.old left.old
-        x stack.new (M.world memory.new) left.new) }
-    ensures told { IfOk result (λ x. Traces (array_row (form.ArrayStore of))
-        (M.program memory.old) (M.world memory.old) stack.old
-        x M.follows memory.old memory.new) }
-    ensures of { OnOk result (M.program memory.new ≡ M.program memory.old) }
+    requires row { IsReady (array_row (form.ArrayStore of)) tables.now M.program M.world memory.old
+        stack.old }
+    requires place { IsNext tables.now stack.old next }
+    ensures made { Makes (array_row (form.ArrayStore of)) M.program M.world M.follows memory.old
+        memory.new stack.old left.old result stack.new left.new }
 {
     if *left == 0 {
         return Ok(Next::Over);
@@ -197,16 +174,11 @@ pub fn array_store_number<M: Memory>(
     next: u32,
     left: &mut u64,
 ) -> Result<Next, NoMemory>
-    requires row { IsReady (array_row (form.ArrayStore cell.Int))
-        (M.program memory.old) (M.world memory.old) stack.old }
+    requires row { IsReady (array_row (form.ArrayStore cell.Int)) (M.program memory.old) M.program
+        M.world memory.old stack.old }
     requires place { IsNext (M.program memory.old) stack.old next }
-    ensures meets { IfOk result (λ x. Refines (array_row (form.ArrayStore cell.Int))
-        (M.program memory.old) (M.world memory.old) stack.old left.old
-        x stack.new (M.world memory.new) left.new) }
-    ensures told { IfOk result (λ x. Traces (array_row (form.ArrayStore cell.Int))
-        (M.program memory.old) (M.world memory.old) stack.old
-        x M.follows memory.old memory.new) }
-    ensures of { OnOk result (M.program memory.new ≡ M.program memory.old) }
+    ensures made { Makes (array_row (form.ArrayStore cell.Int)) M.program M.world M.follows
+        memory.old memory.new stack.old left.old result stack.new left.new }
 {
     if *left == 0 {
         return Ok(Next::Over);
@@ -233,17 +205,12 @@ fn store_number<M: Memory>(
     next: u32,
     left: &mut u64,
 ) -> Result<Next, NoMemory>
-    requires row { IsReady (store_row cell.Int array index v)
-        (M.program memory.old) (M.world memory.old) stack.old }
+    requires row { IsReady (store_row cell.Int array index v) (M.program memory.old) M.program
+        M.world memory.old stack.old }
     requires units { 0 < left.old }
     requires place { IsNext (M.program memory.old) stack.old next }
-    ensures meets { IfOk result (λ x. Refines (store_row cell.Int array index v)
-        (M.program memory.old) (M.world memory.old) stack.old left.old
-        x stack.new (M.world memory.new) left.new) }
-    ensures told { IfOk result (λ x. Traces (store_row cell.Int array index v)
-        (M.program memory.old) (M.world memory.old) stack.old
-        x M.follows memory.old memory.new) }
-    ensures of { OnOk result (M.program memory.new ≡ M.program memory.old) }
+    ensures made { Makes (store_row cell.Int array index v) M.program M.world M.follows memory.old
+        memory.new stack.old left.old result stack.new left.new }
 {
     let head = memory.head(array)?;
     match place_in(head, index) {
@@ -270,18 +237,12 @@ fn store_reference<M: Memory>(
     next: u32,
     left: &mut u64,
 ) -> Result<Next, NoMemory>
-    requires tables { tables.now ≡ M.program memory.old }
-    requires row { IsReady (store_row cell.Ref array index v)
-        (M.program memory.old) (M.world memory.old) stack.old }
+    requires row { IsReady (store_row cell.Ref array index v) tables.now M.program M.world
+        memory.old stack.old }
     requires units { 0 < left.old }
-    requires place { IsNext (M.program memory.old) stack.old next }
-    ensures meets { IfOk result (λ x. Refines (store_row cell.Ref array index v)
-        (M.program memory.old) (M.world memory.old) stack.old left.old
-        x stack.new (M.world memory.new) left.new) }
-    ensures told { IfOk result (λ x. Traces (store_row cell.Ref array index v)
-        (M.program memory.old) (M.world memory.old) stack.old
-        x M.follows memory.old memory.new) }
-    ensures of { OnOk result (M.program memory.new ≡ M.program memory.old) }
+    requires place { IsNext tables.now stack.old next }
+    ensures made { Makes (store_row cell.Ref array index v) M.program M.world M.follows memory.old
+        memory.new stack.old left.old result stack.new left.new }
 {
     let head = memory.head(array)?;
     let Some(i) = place_in(head, index) else {
@@ -327,7 +288,7 @@ fn put_element<M: Memory>(
     ensures goes { IfOk result (λ x. x ≡ Next.Go) }
     ensures stack { OnOk result (stack.new ≡ with_place stack.old next) }
     ensures counted { OnOk result (left.new ≡ left.old - 1) }
-    ensures of { OnOk result (M.program memory.new ≡ M.program memory.old) }
+    ensures of { M.program memory.new ≡ M.program memory.old }
     ensures set { OnOk result
         (M.world memory.new ≡ put (M.world memory.old) (place.Elem array i) v) }
     ensures told { OnOk result

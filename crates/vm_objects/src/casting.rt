@@ -1,14 +1,14 @@
 //! Tests of what an object is an instance of. At run time an array implements no interface.
 #![tactic(auto, unfolding(jvm_model::specs::RowsCasts::row_casts))]
 
-ghost use Rattle.std.specs.Prelude.{◌≡◌, ◌<◌, ◌-◌, ◌∷◌, IfOk, OnOk, cond, pos, true, false};
+ghost use Rattle.std.specs.Prelude.{◌≡◌, ◌<◌, ◌-◌, ◌∷◌, cond, pos, true, false};
 ghost use Rattle.jvm_model.specs.declared.instr.Instr.TheVariants as form;
 ghost use Rattle.jvm_model.specs.declared.outcome.Next.{Next};
 ghost use Rattle.jvm_model.specs.declared.values.Value.TheVariants.{Int};
 ghost use Rattle.jvm_model.specs.Builtin.{class_cast_exception};
 ghost use Rattle.jvm_model.specs.Entries.{with_stack, with_place};
 ghost use Rattle.vm_frames.specs.Stack.{HasRoom};
-ghost use Rattle.vm_mem.specs.Refines.{IsReady, IsNext, Refines, Traces};
+ghost use Rattle.vm_mem.specs.Refines.{IsReady, IsNext, Makes};
 ghost use Rattle.vm_objects.specs.Forms.{cast_row};
 
 use et_base::NoMemory;
@@ -29,17 +29,10 @@ pub fn casts<M: Memory>(
     next: u32,
     left: &mut u64,
 ) -> Result<Next, NoMemory>
-    requires tables { tables.now ≡ M.program memory.old }
-    requires row { IsReady (cast_row form.now)
-        (M.program memory.old) (M.world memory.old) stack.old }
-    requires place { IsNext (M.program memory.old) stack.old next }
-    ensures meets { IfOk result (λ x. Refines (cast_row form.now)
-        (M.program memory.old) (M.world memory.old) stack.old left.old
-        x stack.new (M.world memory.new) left.new) }
-    ensures told { IfOk result (λ x. Traces (cast_row form.now)
-        (M.program memory.old) (M.world memory.old) stack.old
-        x M.follows memory.old memory.new) }
-    ensures of { OnOk result (M.program memory.new ≡ M.program memory.old) }
+    requires row { IsReady (cast_row form.now) tables.now M.program M.world memory.old stack.old }
+    requires place { IsNext tables.now stack.old next }
+    ensures made { Makes (cast_row form.now) M.program M.world M.follows memory.old memory.new
+        stack.old left.old result stack.new left.new }
 {
     match form {
         Instr::CheckCast { kind } => check_cast(stack, memory, tables, *kind, next, left),
@@ -57,17 +50,11 @@ pub fn check_cast<M: Memory>(
     next: u32,
     left: &mut u64,
 ) -> Result<Next, NoMemory>
-    requires tables { tables.now ≡ M.program memory.old }
-    requires row { IsReady (cast_row (form.CheckCast kind))
-        (M.program memory.old) (M.world memory.old) stack.old }
-    requires place { IsNext (M.program memory.old) stack.old next }
-    ensures meets { IfOk result (λ x. Refines (cast_row (form.CheckCast kind))
-        (M.program memory.old) (M.world memory.old) stack.old left.old
-        x stack.new (M.world memory.new) left.new) }
-    ensures told { IfOk result (λ x. Traces (cast_row (form.CheckCast kind))
-        (M.program memory.old) (M.world memory.old) stack.old
-        x M.follows memory.old memory.new) }
-    ensures of { OnOk result (M.program memory.new ≡ M.program memory.old) }
+    requires row { IsReady (cast_row (form.CheckCast kind)) tables.now M.program M.world memory.old
+        stack.old }
+    requires place { IsNext tables.now stack.old next }
+    ensures made { Makes (cast_row (form.CheckCast kind)) M.program M.world M.follows memory.old
+        memory.new stack.old left.old result stack.new left.new }
 {
     if *left == 0 {
         return Ok(Next::Over);
@@ -122,17 +109,11 @@ pub fn instance_of<M: Memory>(
     next: u32,
     left: &mut u64,
 ) -> Result<Next, NoMemory>
-    requires tables { tables.now ≡ M.program memory.old }
-    requires row { IsReady (cast_row (form.InstanceOf kind))
-        (M.program memory.old) (M.world memory.old) stack.old }
-    requires place { IsNext (M.program memory.old) stack.old next }
-    ensures meets { IfOk result (λ x. Refines (cast_row (form.InstanceOf kind))
-        (M.program memory.old) (M.world memory.old) stack.old left.old
-        x stack.new (M.world memory.new) left.new) }
-    ensures told { IfOk result (λ x. Traces (cast_row (form.InstanceOf kind))
-        (M.program memory.old) (M.world memory.old) stack.old
-        x M.follows memory.old memory.new) }
-    ensures of { OnOk result (M.program memory.new ≡ M.program memory.old) }
+    requires row { IsReady (cast_row (form.InstanceOf kind)) tables.now M.program M.world memory.old
+        stack.old }
+    requires place { IsNext tables.now stack.old next }
+    ensures made { Makes (cast_row (form.InstanceOf kind)) M.program M.world M.follows memory.old
+        memory.new stack.old left.old result stack.new left.new }
 {
     if *left == 0 {
         return Ok(Next::Over);

@@ -1,11 +1,11 @@
 //! New objects and arrays.
 #![tactic(auto, unfolding(jvm_model::specs::RowsCreate::row_create))]
 
-ghost use Rattle.std.specs.Prelude.{◌≡◌, IfOk, OnOk};
+ghost use Rattle.std.specs.Prelude.{◌≡◌};
 ghost use Rattle.jvm_model.specs.declared.instr.Instr.TheVariants as form;
 ghost use Rattle.jvm_model.specs.RowsCreate.{is_bare};
 ghost use Rattle.vm_frames.specs.Stack.{HasRoom};
-ghost use Rattle.vm_mem.specs.Refines.{IsReady, IsNext, Refines, Traces};
+ghost use Rattle.vm_mem.specs.Refines.{IsReady, IsNext, Makes};
 ghost use Rattle.vm_objects.specs.Forms.{create_row, object_row, count_of};
 
 use crate::nesting::multi_new_array;
@@ -27,28 +27,19 @@ use vm_tables::Tables;
 pub fn create<M: Memory>(
     stack: &mut FrameStack,
     memory: &mut M,
-    program: &Program,
     tables: &Tables,
     form: &Instr,
     next: u32,
     left: &mut u64,
 ) -> Result<Next, NoMemory>
-    requires program { program.now ≡ M.program memory.old }
-    requires tables { tables.now ≡ M.program memory.old }
-    requires row { IsReady (create_row form.now)
-        (M.program memory.old) (M.world memory.old) stack.old }
+    requires row { IsReady (create_row form.now) tables.now M.program M.world memory.old stack.old }
     requires room { HasRoom 1 stack.old }
-    requires place { IsNext (M.program memory.old) stack.old next }
-    ensures meets { IfOk result (λ x. Refines (create_row form.now)
-        (M.program memory.old) (M.world memory.old) stack.old left.old
-        x stack.new (M.world memory.new) left.new) }
-    ensures told { IfOk result (λ x. Traces (create_row form.now)
-        (M.program memory.old) (M.world memory.old) stack.old
-        x M.follows memory.old memory.new) }
-    ensures of { OnOk result (M.program memory.new ≡ M.program memory.old) }
+    requires place { IsNext tables.now stack.old next }
+    ensures made { Makes (create_row form.now) M.program M.world M.follows memory.old memory.new
+        stack.old left.old result stack.new left.new }
 {
     match form {
-        Instr::New { class } => new_object(stack, memory, program, tables, *class, next, left),
+        Instr::New { class } => new_object(stack, memory, tables, *class, next, left),
         Instr::NewArray { kind } => new_array(stack, memory, *kind, next, left),
         Instr::MultiNewArray { kind, dims } => {
             multi_new_array(stack, memory, *kind, *dims, next, left)
@@ -67,27 +58,19 @@ pub fn create<M: Memory>(
 pub fn new_object<M: Memory>(
     stack: &mut FrameStack,
     memory: &mut M,
-    program: &Program,
     tables: &Tables,
     class: u32,
     next: u32,
     left: &mut u64,
 ) -> Result<Next, NoMemory>
-    requires program { program.now ≡ M.program memory.old }
-    requires tables { tables.now ≡ M.program memory.old }
-    requires row { IsReady (create_row (form.New class))
-        (M.program memory.old) (M.world memory.old) stack.old }
+    requires row { IsReady (create_row (form.New class)) tables.now M.program M.world memory.old
+        stack.old }
     requires room { HasRoom 1 stack.old }
-    requires place { IsNext (M.program memory.old) stack.old next }
-    ensures meets { IfOk result (λ x. Refines (create_row (form.New class))
-        (M.program memory.old) (M.world memory.old) stack.old left.old
-        x stack.new (M.world memory.new) left.new) }
-    ensures told { IfOk result (λ x. Traces (create_row (form.New class))
-        (M.program memory.old) (M.world memory.old) stack.old
-        x M.follows memory.old memory.new) }
-    ensures of { OnOk result (M.program memory.new ≡ M.program memory.old) }
+    requires place { IsNext tables.now stack.old next }
+    ensures made { Makes (create_row (form.New class)) M.program M.world M.follows memory.old
+        memory.new stack.old left.old result stack.new left.new }
 {
-    if is_bare(program, class) {
+    if is_bare(tables.program(), class) {
         return Ok(Next::Fault {
             class: INSTANTIATION_ERROR,
         });
@@ -122,18 +105,11 @@ fn make_object<M: Memory>(
     next: u32,
     left: &mut u64,
 ) -> Result<Next, NoMemory>
-    requires tables { tables.now ≡ M.program memory.old }
-    requires row { IsReady (object_row class)
-        (M.program memory.old) (M.world memory.old) stack.old }
+    requires row { IsReady (object_row class) tables.now M.program M.world memory.old stack.old }
     requires room { HasRoom 1 stack.old }
-    requires place { IsNext (M.program memory.old) stack.old next }
-    ensures meets { IfOk result (λ x. Refines (object_row class)
-        (M.program memory.old) (M.world memory.old) stack.old left.old
-        x stack.new (M.world memory.new) left.new) }
-    ensures told { IfOk result (λ x. Traces (object_row class)
-        (M.program memory.old) (M.world memory.old) stack.old
-        x M.follows memory.old memory.new) }
-    ensures of { OnOk result (M.program memory.new ≡ M.program memory.old) }
+    requires place { IsNext tables.now stack.old next }
+    ensures made { Makes (object_row class) M.program M.world M.follows memory.old memory.new
+        stack.old left.old result stack.new left.new }
 {
     let cells = tables.cells(class) as u64;
     if *left < 2 || *left - 2 < cells {
@@ -161,16 +137,11 @@ pub fn new_array<M: Memory>(
     next: u32,
     left: &mut u64,
 ) -> Result<Next, NoMemory>
-    requires row { IsReady (create_row (form.NewArray kind))
-        (M.program memory.old) (M.world memory.old) stack.old }
+    requires row { IsReady (create_row (form.NewArray kind)) (M.program memory.old) M.program
+        M.world memory.old stack.old }
     requires place { IsNext (M.program memory.old) stack.old next }
-    ensures meets { IfOk result (λ x. Refines (create_row (form.NewArray kind))
-        (M.program memory.old) (M.world memory.old) stack.old left.old
-        x stack.new (M.world memory.new) left.new) }
-    ensures told { IfOk result (λ x. Traces (create_row (form.NewArray kind))
-        (M.program memory.old) (M.world memory.old) stack.old
-        x M.follows memory.old memory.new) }
-    ensures of { OnOk result (M.program memory.new ≡ M.program memory.old) }
+    ensures made { Makes (create_row (form.NewArray kind)) M.program M.world M.follows memory.old
+        memory.new stack.old left.old result stack.new left.new }
 {
     if *left == 0 {
         return Ok(Next::Over);

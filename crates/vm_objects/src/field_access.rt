@@ -1,9 +1,8 @@
 //! Instance fields.
 #![tactic(auto, unfolding(jvm_model::specs::RowsFields::row_fields))]
 
-ghost use Rattle.std.specs.Prelude.{◌≡◌, IfOk, OnOk};
 ghost use Rattle.jvm_model.specs.declared.instr.Instr.TheVariants as form;
-ghost use Rattle.vm_mem.specs.Refines.{IsReady, IsNext, Refines, Traces};
+ghost use Rattle.vm_mem.specs.Refines.{IsReady, IsNext, Makes};
 ghost use Rattle.vm_objects.specs.Forms.{field_row};
 
 use et_base::NoMemory;
@@ -24,17 +23,10 @@ pub fn fields<M: Memory>(
     next: u32,
     left: &mut u64,
 ) -> Result<Next, NoMemory>
-    requires tables { tables.now ≡ M.program memory.old }
-    requires row { IsReady (field_row form.now)
-        (M.program memory.old) (M.world memory.old) stack.old }
-    requires place { IsNext (M.program memory.old) stack.old next }
-    ensures meets { IfOk result (λ x. Refines (field_row form.now)
-        (M.program memory.old) (M.world memory.old) stack.old left.old
-        x stack.new (M.world memory.new) left.new) }
-    ensures told { IfOk result (λ x. Traces (field_row form.now)
-        (M.program memory.old) (M.world memory.old) stack.old
-        x M.follows memory.old memory.new) }
-    ensures of { OnOk result (M.program memory.new ≡ M.program memory.old) }
+    requires row { IsReady (field_row form.now) tables.now M.program M.world memory.old stack.old }
+    requires place { IsNext tables.now stack.old next }
+    ensures made { Makes (field_row form.now) M.program M.world M.follows memory.old memory.new
+        stack.old left.old result stack.new left.new }
 {
     match form {
         Instr::GetField { field, .. } => get_field(stack, memory, *field, next, left),
@@ -52,16 +44,11 @@ pub fn get_field<M: Memory>(
     next: u32,
     left: &mut u64,
 ) -> Result<Next, NoMemory>
-    requires row { IsReady (field_row (form.GetField 0 field))
-        (M.program memory.old) (M.world memory.old) stack.old }
+    requires row { IsReady (field_row (form.GetField 0 field)) (M.program memory.old) M.program
+        M.world memory.old stack.old }
     requires place { IsNext (M.program memory.old) stack.old next }
-    ensures meets { IfOk result (λ x. Refines (field_row (form.GetField 0 field))
-        (M.program memory.old) (M.world memory.old) stack.old left.old
-        x stack.new (M.world memory.new) left.new) }
-    ensures told { IfOk result (λ x. Traces (field_row (form.GetField 0 field))
-        (M.program memory.old) (M.world memory.old) stack.old
-        x M.follows memory.old memory.new) }
-    ensures of { OnOk result (M.program memory.new ≡ M.program memory.old) }
+    ensures made { Makes (field_row (form.GetField 0 field)) M.program M.world M.follows memory.old
+        memory.new stack.old left.old result stack.new left.new }
 {
     if *left == 0 {
         return Ok(Next::Over);
@@ -92,17 +79,11 @@ pub fn put_field<M: Memory>(
     next: u32,
     left: &mut u64,
 ) -> Result<Next, NoMemory>
-    requires tables { tables.now ≡ M.program memory.old }
-    requires row { IsReady (field_row (form.PutField 0 field))
-        (M.program memory.old) (M.world memory.old) stack.old }
-    requires place { IsNext (M.program memory.old) stack.old next }
-    ensures meets { IfOk result (λ x. Refines (field_row (form.PutField 0 field))
-        (M.program memory.old) (M.world memory.old) stack.old left.old
-        x stack.new (M.world memory.new) left.new) }
-    ensures told { IfOk result (λ x. Traces (field_row (form.PutField 0 field))
-        (M.program memory.old) (M.world memory.old) stack.old
-        x M.follows memory.old memory.new) }
-    ensures of { OnOk result (M.program memory.new ≡ M.program memory.old) }
+    requires row { IsReady (field_row (form.PutField 0 field)) tables.now M.program M.world
+        memory.old stack.old }
+    requires place { IsNext tables.now stack.old next }
+    ensures made { Makes (field_row (form.PutField 0 field)) M.program M.world M.follows memory.old
+        memory.new stack.old left.old result stack.new left.new }
 {
     if *left == 0 {
         return Ok(Next::Over);

@@ -9,7 +9,7 @@ ghost use Rattle.jvm_model.specs.Entries.{Entries, with_stack};
 ghost use Rattle.jvm_model.specs.RowsCreate as create;
 ghost use Rattle.jvm_model.specs.View.{IsSafe, Any, counted, ended, touched};
 ghost use Rattle.vm_frames.specs.Stack.{HasRoom};
-ghost use Rattle.vm_mem.specs.Refines.{IsReady, IsNext, Refines, Traces};
+ghost use Rattle.vm_mem.specs.Refines.{IsReady, IsNext, Makes};
 ghost use Rattle.vm_mem.specs.Trace.{Trace};
 ghost use Rattle.vm_objects.specs.Forms.{create_row};
 ghost use Rattle.vm_objects.specs.Nests.{nested_row, taken, HasInts};
@@ -40,16 +40,11 @@ pub fn multi_new_array<M: Memory>(
     next: u32,
     left: &mut u64,
 ) -> Result<Next, NoMemory>
-    requires row { IsReady (create_row (form.MultiNewArray kind dims))
-        (M.program memory.old) (M.world memory.old) stack.old }
+    requires row { IsReady (create_row (form.MultiNewArray kind dims)) (M.program memory.old)
+        M.program M.world memory.old stack.old }
     requires place { IsNext (M.program memory.old) stack.old next }
-    ensures meets { IfOk result (λ x. Refines (create_row (form.MultiNewArray kind dims))
-        (M.program memory.old) (M.world memory.old) stack.old left.old
-        x stack.new (M.world memory.new) left.new) }
-    ensures told { IfOk result (λ x. Traces (create_row (form.MultiNewArray kind dims))
-        (M.program memory.old) (M.world memory.old) stack.old
-        x M.follows memory.old memory.new) }
-    ensures of { OnOk result (M.program memory.new ≡ M.program memory.old) }
+    ensures made { Makes (create_row (form.MultiNewArray kind dims)) M.program M.world M.follows
+        memory.old memory.new stack.old left.old result stack.new left.new }
 {
     if *left == 0 {
         return Ok(Next::Over);
@@ -108,17 +103,12 @@ fn put_nested<M: Memory>(
     next: u32,
     left: &mut u64,
 ) -> Result<Next, NoMemory>
-    requires row { IsReady (nested_row kind lengths.now)
-        (M.program memory.old) (M.world memory.old) stack.old }
+    requires row { IsReady (nested_row kind lengths.now) (M.program memory.old) M.program M.world
+        memory.old stack.old }
     requires room { HasRoom 1 stack.old }
     requires place { IsNext (M.program memory.old) stack.old next }
-    ensures meets { IfOk result (λ x. Refines (nested_row kind lengths.now)
-        (M.program memory.old) (M.world memory.old) stack.old left.old
-        x stack.new (M.world memory.new) left.new) }
-    ensures told { IfOk result (λ x. Traces (nested_row kind lengths.now)
-        (M.program memory.old) (M.world memory.old) stack.old
-        x M.follows memory.old memory.new) }
-    ensures of { OnOk result (M.program memory.new ≡ M.program memory.old) }
+    ensures made { Makes (nested_row kind lengths.now) M.program M.world M.follows memory.old
+        memory.new stack.old left.old result stack.new left.new }
 {
     let Some((length, inner)) = lengths.split_first() else {
         unreachable!()
@@ -159,7 +149,7 @@ fn nest<M: Memory>(memory: &mut M, kind: Kind, length: u32, inner: &[u32]) -> Re
     ensures told { OnOk result ((h : Trace) (ts : List Touch) → M.follows memory.old h ts
         → M.follows memory.new h (touched (create.nest (M.program memory.old) kind length inner.now)
         (M.world memory.old) ts)) }
-    ensures of { OnOk result (M.program memory.new ≡ M.program memory.old) }
+    ensures of { M.program memory.new ≡ M.program memory.old }
 {
     let object = memory.make(Head { kind, length })?;
     if let Some((next, rest)) = inner.split_first() {
@@ -186,7 +176,7 @@ fn fill<M: Memory>(
     ensures told { OnOk result ((h : Trace) (ts : List Touch) → M.follows memory.old h ts
         → M.follows memory.new h (touched (create.children count 0 object
         (create.nest (M.program memory.old) kind length inner.now)) (M.world memory.old) ts)) }
-    ensures of { OnOk result (M.program memory.new ≡ M.program memory.old) }
+    ensures of { M.program memory.new ≡ M.program memory.old }
 {
     for i in 0..count {
         let child = nest(memory, kind, length, inner)?;

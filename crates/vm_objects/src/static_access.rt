@@ -1,15 +1,14 @@
 //! Static fields.
 #![tactic(auto, unfolding(jvm_model::specs::RowsStatics::row_statics))]
 
-ghost use Rattle.std.specs.Prelude.{◌≡◌, IfOk, OnOk};
 ghost use Rattle.jvm_model.specs.declared.instr.Instr.TheVariants as form;
 ghost use Rattle.vm_frames.specs.Stack.{HasRoom};
-ghost use Rattle.vm_mem.specs.Refines.{IsReady, IsNext, Refines, Traces};
+ghost use Rattle.vm_mem.specs.Refines.{IsReady, IsNext, Makes};
 ghost use Rattle.vm_objects.specs.Forms.{static_row, read_row, write_row};
 
 use class_init::{Use, begin_use};
 use et_base::NoMemory;
-use jvm_model::{Instr, Next, Program};
+use jvm_model::{Instr, Next};
 use vm_frames::FrameStack;
 use vm_mem::Memory;
 use vm_tables::Tables;
@@ -22,33 +21,20 @@ use vm_tables::Tables;
 pub fn statics<M: Memory>(
     stack: &mut FrameStack,
     memory: &mut M,
-    program: &Program,
     tables: &Tables,
     form: &Instr,
     next: u32,
     left: &mut u64,
 ) -> Result<Next, NoMemory>
-    requires program { program.now ≡ M.program memory.old }
-    requires tables { tables.now ≡ M.program memory.old }
-    requires row { IsReady (static_row form.now)
-        (M.program memory.old) (M.world memory.old) stack.old }
+    requires row { IsReady (static_row form.now) tables.now M.program M.world memory.old stack.old }
     requires room { HasRoom 1 stack.old }
-    requires place { IsNext (M.program memory.old) stack.old next }
-    ensures meets { IfOk result (λ x. Refines (static_row form.now)
-        (M.program memory.old) (M.world memory.old) stack.old left.old
-        x stack.new (M.world memory.new) left.new) }
-    ensures told { IfOk result (λ x. Traces (static_row form.now)
-        (M.program memory.old) (M.world memory.old) stack.old
-        x M.follows memory.old memory.new) }
-    ensures of { OnOk result (M.program memory.new ≡ M.program memory.old) }
+    requires place { IsNext tables.now stack.old next }
+    ensures made { Makes (static_row form.now) M.program M.world M.follows memory.old memory.new
+        stack.old left.old result stack.new left.new }
 {
     match form {
-        Instr::GetStatic { field } => {
-            get_static(stack, memory, program, tables, *field, next, left)
-        }
-        Instr::PutStatic { field } => {
-            put_static(stack, memory, program, tables, *field, next, left)
-        }
+        Instr::GetStatic { field } => { get_static(stack, memory, tables, *field, next, left) }
+        Instr::PutStatic { field } => { put_static(stack, memory, tables, *field, next, left) }
         _ => unreachable!(),
     }
 }
@@ -58,27 +44,25 @@ pub fn statics<M: Memory>(
 pub fn get_static<M: Memory>(
     stack: &mut FrameStack,
     memory: &mut M,
-    program: &Program,
     tables: &Tables,
     field: u32,
     next: u32,
     left: &mut u64,
 ) -> Result<Next, NoMemory>
-    requires program { program.now ≡ M.program memory.old }
-    requires tables { tables.now ≡ M.program memory.old }
-    requires row { IsReady (static_row (form.GetStatic field))
-        (M.program memory.old) (M.world memory.old) stack.old }
+    requires row { IsReady (static_row (form.GetStatic field)) tables.now M.program M.world
+        memory.old stack.old }
     requires room { HasRoom 1 stack.old }
-    requires place { IsNext (M.program memory.old) stack.old next }
-    ensures meets { IfOk result (λ x. Refines (static_row (form.GetStatic field))
-        (M.program memory.old) (M.world memory.old) stack.old left.old
-        x stack.new (M.world memory.new) left.new) }
-    ensures told { IfOk result (λ x. Traces (static_row (form.GetStatic field))
-        (M.program memory.old) (M.world memory.old) stack.old
-        x M.follows memory.old memory.new) }
-    ensures of { OnOk result (M.program memory.new ≡ M.program memory.old) }
+    requires place { IsNext tables.now stack.old next }
+    ensures made { Makes (static_row (form.GetStatic field)) M.program M.world M.follows memory.old
+        memory.new stack.old left.old result stack.new left.new }
 {
-    match begin_use(stack, memory, tables, program.field_class(field), left)? {
+    match begin_use(
+        stack,
+        memory,
+        tables,
+        tables.program().field_class(field),
+        left,
+    )? {
         Use::Ready => read_static(stack, memory, field, next, left),
         Use::Begun => Ok(Next::Go),
         Use::Fault { class } => Ok(Next::Fault { class }),
@@ -96,17 +80,12 @@ fn read_static<M: Memory>(
     next: u32,
     left: &mut u64,
 ) -> Result<Next, NoMemory>
-    requires row { IsReady (read_row field)
-        (M.program memory.old) (M.world memory.old) stack.old }
+    requires row { IsReady (read_row field) (M.program memory.old) M.program M.world memory.old
+        stack.old }
     requires room { HasRoom 1 stack.old }
     requires place { IsNext (M.program memory.old) stack.old next }
-    ensures meets { IfOk result (λ x. Refines (read_row field)
-        (M.program memory.old) (M.world memory.old) stack.old left.old
-        x stack.new (M.world memory.new) left.new) }
-    ensures told { IfOk result (λ x. Traces (read_row field)
-        (M.program memory.old) (M.world memory.old) stack.old
-        x M.follows memory.old memory.new) }
-    ensures of { OnOk result (M.program memory.new ≡ M.program memory.old) }
+    ensures made { Makes (read_row field) M.program M.world M.follows memory.old memory.new
+        stack.old left.old result stack.new left.new }
 {
     if *left == 0 {
         return Ok(Next::Over);
@@ -124,26 +103,24 @@ fn read_static<M: Memory>(
 pub fn put_static<M: Memory>(
     stack: &mut FrameStack,
     memory: &mut M,
-    program: &Program,
     tables: &Tables,
     field: u32,
     next: u32,
     left: &mut u64,
 ) -> Result<Next, NoMemory>
-    requires program { program.now ≡ M.program memory.old }
-    requires tables { tables.now ≡ M.program memory.old }
-    requires row { IsReady (static_row (form.PutStatic field))
-        (M.program memory.old) (M.world memory.old) stack.old }
-    requires place { IsNext (M.program memory.old) stack.old next }
-    ensures meets { IfOk result (λ x. Refines (static_row (form.PutStatic field))
-        (M.program memory.old) (M.world memory.old) stack.old left.old
-        x stack.new (M.world memory.new) left.new) }
-    ensures told { IfOk result (λ x. Traces (static_row (form.PutStatic field))
-        (M.program memory.old) (M.world memory.old) stack.old
-        x M.follows memory.old memory.new) }
-    ensures of { OnOk result (M.program memory.new ≡ M.program memory.old) }
+    requires row { IsReady (static_row (form.PutStatic field)) tables.now M.program M.world
+        memory.old stack.old }
+    requires place { IsNext tables.now stack.old next }
+    ensures made { Makes (static_row (form.PutStatic field)) M.program M.world M.follows memory.old
+        memory.new stack.old left.old result stack.new left.new }
 {
-    match begin_use(stack, memory, tables, program.field_class(field), left)? {
+    match begin_use(
+        stack,
+        memory,
+        tables,
+        tables.program().field_class(field),
+        left,
+    )? {
         Use::Ready => write_static(stack, memory, tables, field, next, left),
         Use::Begun => Ok(Next::Go),
         Use::Fault { class } => Ok(Next::Fault { class }),
@@ -162,17 +139,10 @@ fn write_static<M: Memory>(
     next: u32,
     left: &mut u64,
 ) -> Result<Next, NoMemory>
-    requires tables { tables.now ≡ M.program memory.old }
-    requires row { IsReady (write_row field)
-        (M.program memory.old) (M.world memory.old) stack.old }
-    requires place { IsNext (M.program memory.old) stack.old next }
-    ensures meets { IfOk result (λ x. Refines (write_row field)
-        (M.program memory.old) (M.world memory.old) stack.old left.old
-        x stack.new (M.world memory.new) left.new) }
-    ensures told { IfOk result (λ x. Traces (write_row field)
-        (M.program memory.old) (M.world memory.old) stack.old
-        x M.follows memory.old memory.new) }
-    ensures of { OnOk result (M.program memory.new ≡ M.program memory.old) }
+    requires row { IsReady (write_row field) tables.now M.program M.world memory.old stack.old }
+    requires place { IsNext tables.now stack.old next }
+    ensures made { Makes (write_row field) M.program M.world M.follows memory.old memory.new
+        stack.old left.old result stack.new left.new }
 {
     if *left == 0 {
         return Ok(Next::Over);

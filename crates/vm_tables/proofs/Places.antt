@@ -227,17 +227,14 @@ form_bare p m pc n e h = form_numbered p m pc n e ∙ ap (λ o. form_found (inst
 pub form_some : (p : Program) (m pc i : ℕ) (b : Body) → found_of (method_at p m).body pc ≡ instruction_of (method_at p m).body (Some i) → (method_at p m).body ≡ Some b → form_at p m pc ≡ Some (get_or b.code i no_placed).form
 form_some p m pc i b e h = form_numbered p m pc (Some i) e ∙ ap (λ o. form_found (instruction_of o (Some i))) h
 
-pub form_is : (p q : Program) (m pc i : ℕ) (r : MethodRec) (b : Body) (x : Placed) → q ≡ p → found_of (method_at q m).body pc ≡ instruction_of (method_at q m).body (Some i) → r ≡ method_at p m → Some b ≡ r.body → Some x ≡ slice_get b.code i → Some x.form ≡ form_at p m pc
-form_is p q m pc i r b x e f h s g =
-    let found : found_of (method_at p m).body pc ≡ instruction_of (method_at p m).body (Some i) = subst (λ (w : Program). found_of (method_at w m).body pc ≡ instruction_of (method_at w m).body (Some i)) e f in
-    let coded : (method_at p m).body ≡ Some b = ap (λ (y : MethodRec). y.body) (sym h) ∙ sym s in
+pub form_is : (p q : Program) (m pc i : ℕ) (r : MethodRec) (b : Body) (x : Placed) → p ≡ q → found_of (method_at q m).body pc ≡ instruction_of (method_at q m).body (Some i) → r ≡ method_at p m → Some b ≡ r.body → Some x ≡ slice_get b.code i → Some x.form ≡ form_at q m pc
+form_is p q m pc i r b x e found h s g =
+    let coded : (method_at q m).body ≡ Some b = ap (λ (w : Program). (method_at w m).body) (sym e) ∙ ap (λ (y : MethodRec). y.body) (sym h) ∙ sym s in
     let here : get_or b.code i no_placed ≡ x = get_some b.code i x no_placed (sym g) in
-    sym (form_some p m pc i b found coded ∙ ap (λ (y : Placed). Some y.form) here)
+    sym (form_some q m pc i b found coded ∙ ap (λ (y : Placed). Some y.form) here)
 
-pub form_isnt : (p q : Program) (m pc : ℕ) (o : Option Instr) → q ≡ p → found_of (method_at q m).body pc ≡ instruction_of (method_at q m).body None → o ≡ None → o ≡ form_at p m pc
-form_isnt p q m pc o e f n =
-    let found : found_of (method_at p m).body pc ≡ instruction_of (method_at p m).body None = subst (λ (w : Program). found_of (method_at w m).body pc ≡ instruction_of (method_at w m).body None) e f in
-    n ∙ sym (form_none p m pc found)
+pub form_isnt : (p : Program) (m pc : ℕ) (o : Option Instr) → found_of (method_at p m).body pc ≡ instruction_of (method_at p m).body None → o ≡ None → o ≡ form_at p m pc
+form_isnt p m pc o found n = n ∙ sym (form_none p m pc found)
 
 -- ---- one method more
 

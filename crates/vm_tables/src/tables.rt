@@ -1,4 +1,4 @@
-//! The tables of a program.
+//! A program with its tables.
 
 ghost use Rattle.std.specs.Prelude.{◌≡◌, ◌<◌, IfOk, IfSome, IsSome, length, map, get_or, option_copied, []};
 ghost use Rattle.std.specs.Str.{bytes_eq};
@@ -24,12 +24,12 @@ use et_base::{Items, NoMemory};
 use jvm_model::{Instr, Kind, MethodRec, Program};
 use std::alloc::Global;
 use std::marker::Model;
-use std::snapshot::Snapshot;
 
-/// What a step asks of a program, made once: instructions by byte place, what calls ask of methods, counts of cells, the
-/// first units of fields' descriptors, and what starts with a class. Contracts see the program.
+/// A program with what a step asks of it, made once: instructions by byte place, what calls ask of methods, counts of
+/// cells, the first units of fields' descriptors, and what starts with a class. Contracts see the program.
 #[derive(Drop)]
-pub struct Tables {
+pub struct Tables<'p> {
+    program: &'p Program,
     numbers: Items<Items<u16>>,
     nexts: Items<Items<u16>>,
     cells: Items<usize>,
@@ -39,23 +39,22 @@ pub struct Tables {
     trivial: TrivialClasses,
     parts: InitPlan,
     hierarchy: Hierarchy,
-    program: Snapshot<Program>,
 }
 
-impl Model for Tables {
+impl<'p> Model for Tables<'p> {
     ghost use Rattle.jvm_model.specs.declared.program.Program.{Program as Numbered};
     ghost use Rattle.vm_tables.specs.Numbers.{AreTables};
 
     ghost Value = { Numbered };
 
-    ghost view = { λ t. t.program.value };
+    ghost view = { λ t. t.program.now };
 
-    ghost invariant = { λ t. AreTables t.program.value t.numbers t.nexts t.cells t.units t.methods t.defaults t.trivial t.parts t.hierarchy };
+    ghost invariant = { λ t. AreTables t.program.now t.numbers t.nexts t.cells t.units t.methods t.defaults t.trivial t.parts t.hierarchy };
 }
 
-impl Tables {
-    /// The tables of a linked program.
-    pub fn of(alloc: Global, p: &Program) -> Result<Tables, NoMemory>
+impl<'p> Tables<'p> {
+    /// A linked program with its tables. The only error is want of memory.
+    pub fn of(alloc: Global, p: &'p Program) -> Result<Tables<'p>, NoMemory>
         requires { Linked p.now }
         ensures { IfOk result (λ tables. tables ≡ p.now) }
     {
@@ -65,6 +64,7 @@ impl Tables {
         let hierarchy = Hierarchy::of(alloc, p)?;
         let (numbers, nexts) = all_places(alloc, p)?;
         Ok(Tables {
+            program: p,
             numbers,
             nexts,
             cells: all_cells(alloc, p)?,
@@ -74,8 +74,15 @@ impl Tables {
             trivial,
             parts,
             hierarchy,
-            program: Snapshot::of(p),
         })
+    }
+
+    /// The program.
+    #[inline(always)]
+    pub fn program(&self) -> &'p Program
+        ensures { result.now ≡ self.now }
+    {
+        self.program
     }
 
     /// How many arguments a method's descriptor asks for, the receiver left aside: a long is one.
@@ -227,12 +234,11 @@ impl Tables {
     }
 
     /// The form at a byte place of a method's code.
-    pub fn form<'p>(&self, p: &'p Program, method: u32, pc: u32) -> Option<&'p Instr>
-        requires { self.now ≡ p.now }
-        ensures { option_copied result ≡ classes.form_at p.now method pc }
+    pub fn form(&self, method: u32, pc: u32) -> Option<&'p Instr>
+        ensures { option_copied result ≡ classes.form_at self.now method pc }
     {
         let number = self.number(method, pc)?;
-        let body = p.method(method)?.body.as_ref()?;
+        let body = self.program.method(method)?.body.as_ref()?;
         let placed = body.code.get(number as usize)?;
         Some(&placed.form)
     }

@@ -1,6 +1,7 @@
 -- What the workers' threads share and hold may cross threads.
 use Rattle.std.proofs.Common.{List, [], ◌∷◌}
 use denote.RattleType.{RattleType}
+use denote.Ref.{NamedLft}
 use denote.Param.Send.{IsSend, IsSync, EachSync, sendable, recorded_sync, enum_sync}
 use denote.Param.SendFields.{declared_sync}
 use denote.Enum.Enum.{Enum}
@@ -25,6 +26,7 @@ use Rattle.jvm_model.specs.contracts.program.Body as body
 use Rattle.jvm_model.specs.contracts.program.MethodRec as method
 use Rattle.jvm_model.specs.contracts.program.ClassRec as class
 use Rattle.jvm_model.specs.contracts.program.FieldRec as field
+use Rattle.jvm_model.specs.contracts.program.Program as program
 use Rattle.type_frames.specs.contracts.vtype.Frame as frame
 use Rattle.type_frames.specs.contracts.checked.Checked as checked
 
@@ -214,6 +216,9 @@ field_sync = search crosses depth 60 fits 5000
 frame_sync : IsSync frame.the_row
 frame_sync = search crosses depth 60 fits 5000
 
+program_sync : IsSync program.the_row
+program_sync = search (class_sync, field_sync, method_sync, crosses) depth 100 fits 20000
+
 pub checked_sync : IsSync checked.the_row
 checked_sync = search (class_sync, field_sync, method_sync, frame_sync, crosses) depth 100 fits 20000
 
@@ -222,8 +227,8 @@ checked_sync = search (class_sync, field_sync, method_sync, frame_sync, crosses)
 pub region_send : IsSend region.the_row
 region_send = search crosses depth 150 fits 20000
 
-pub tables_send : IsSend tables.the_row
-tables_send = search crosses depth 100 fits 20000
+pub tables_send : (κ : NamedLft) → IsSend (tables.the_row κ)
+tables_send κ = search (program_sync, crosses) depth 100 fits 20000
 
 pub selections_send : IsSend selections.the_row
 selections_send = search crosses depth 100 fits 20000

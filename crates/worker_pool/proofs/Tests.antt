@@ -46,7 +46,7 @@ stops p C n es w i t a b form l x none = record {
 }
 
 -- a refusal of a test after a list
-pub run_fault : {M : Type 0} (program : M → Program) (world : M → World) (p : Program) (l : List ℕ) (t : ℕ) (old new : M) (e : RunFault) → Stands program world p l old
-    → IsRefused program p (world old) t (test_at p t).budget new e → IsRunFault p l t e
-run_fault program world p l t old new (run.OverBudget u) s r = record { world = world old; after = s.after; none = r.1 }
-run_fault program world p l t old new run.NoMemory s r = tt
+pub run_fault : {M : Type 0} (world : M → World) (p : Program) (l : List ℕ) (t : ℕ) (old : M) (e : RunFault) → Stands world p l old
+    → IsRefused p (world old) t (test_at p t).budget e → IsRunFault p l t e
+run_fault world p l t old (run.OverBudget u) s r = record { world = world old; after = s.after; none = r.1 }
+run_fault world p l t old run.NoMemory s r = tt

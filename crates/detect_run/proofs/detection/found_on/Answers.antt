@@ -8,8 +8,7 @@ use Rattle.detect_run.proofs.detection.found_on.Goals as goal
 pub recorded-requires-clause-program : goal.recorded-requires-clause-program
 recorded-requires-clause-program g c =
     let after = c.in_ok-outcomes.ensures.after in
-    let stands = c.memory.ensures.stands (ap (λ (m : Machined TaggedMemory). m.spent) after ∙ c.requires.ready) in
-    ap (λ (m : TaggedMemory). m.memory.program) c.memory.ensures.lent ∙ (stands.of ∙ (ap (λ (m : Machined TaggedMemory). m.program) after ∙ c.requires.program))
+    ap (λ (m : TaggedMemory). m.memory.program) c.memory.ensures.lent ∙ (c.memory.ensures.of ∙ (ap (λ (m : Machined TaggedMemory). m.program) after ∙ c.requires.program))
 
 pub recorded-requires-clause-ran : goal.recorded-requires-clause-ran
 recorded-requires-clause-ran g c =

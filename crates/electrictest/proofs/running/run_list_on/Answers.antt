@@ -13,4 +13,4 @@ returns-in_ok-status-in-Err-clause-refused g c =
     let l = c.args.loaded.now in
     let m = c.args.machine.now in
     subst (ListRefused l c.args.tests.now) (sym c.in_ok-status-in-Err.ensures)
-    (list_refused g.M.Memory.program l m.program (g.M.Memory.world m.memory) c.args.tests.now c.run_list.new.self.memory c.in-Err.fault c.requires.program c.requires.world c.in-Err.ensures.refused)
+    (list_refused l m.program (g.M.Memory.world m.memory) c.args.tests.now c.in-Err.fault c.requires.program c.requires.world c.in-Err.ensures.refused)

@@ -1,23 +1,27 @@
-use Rattle.std.proofs.Common.{◌∙◌, sym, subst}
-use Rattle.jvm_model.specs.declared.program.Program.{Program}
-use Rattle.vm_interp.specs.Dispatching.{here}
-use Rattle.vm_interp.specs.Reaching.{CanStep}
+use Rattle.std.proofs.Common.{sym}
 use Rattle.vm_interp.specs.Abs.{abs}
+use Rattle.vm_interp.specs.Dispatching.{here}
 use Rattle.vm_interp.proofs.Found.{row_safe}
 use Rattle.vm_interp.proofs.Numbered.{has_form}
 use Rattle.vm_interp.proofs.Onward.{alone}
 use Rattle.vm_interp.proofs.dispatching.run_block.Goals as goal
 
-pub running_at-requires : goal.running_at-requires
-running_at-requires g c = record {
-  tables = c.requires.tables ∙ sym c.requires.program;
-  there = λ q k. has_form c.args.p.now c.args.state.now.frames (g.M.Memory.world c.args.memory.now)
-      (row_safe c.args.p.now (abs c.args.state.now) (g.M.Memory.world c.args.memory.now) (c.requires.can (abs c.args.state.now) (g.M.Memory.world c.args.memory.now) c.args.left.now (λ ts. ts) here) k q);
+pub cursor_in_method-cursor-requires : goal.cursor_in_method-cursor-requires
+cursor_in_method-cursor-requires g c =
+    let runs = c.is_running.ensures.runs c.if-is_running.true in
+    let can = c.requires.can (abs c.args.state.now) (g.M.Memory.world c.args.memory.now) c.args.left.now (λ ts. ts) here in
+    record {
+      frame = runs.0;
+      there = λ k. has_form c.args.tables.now c.args.state.now.frames (g.M.Memory.world c.args.memory.now)
+          (row_safe c.args.tables.now (abs c.args.state.now) (g.M.Memory.world c.args.memory.now) can k runs.1);
+    }
+
+pub step_aside-requires : goal.step_aside-requires
+step_aside-requires g c = record {
+  program = c.requires.of.0;
+  can = c.requires.can (abs c.args.state.now) (g.M.Memory.world c.args.memory.now) c.args.left.now (λ ts. ts) here;
+  aside = c.is_running.ensures.rests c.if-is_running.false;
 }
 
-pub step_safe-requires-clause-can : goal.step_safe-requires-clause-can
-step_safe-requires-clause-can g c = subst (λ (q : Program). CanStep q (g.M.Memory.world c.args.memory.now) (abs c.args.state.now)) c.requires.program
-    (c.requires.can (abs c.args.state.now) (g.M.Memory.world c.args.memory.now) c.args.left.now (λ ts. ts) here)
-
-pub returns-in_ok-step_outcome-in-None-clause-made : goal.returns-in_ok-step_outcome-in-None-clause-made
-returns-in_ok-step_outcome-in-None-clause-made g c = alone g.M.Memory.world g.M.Memory.follows c.args.p.now (g.M.Memory.program c.args.memory.now) (sym c.requires.program) c.args.memory.now c.step_safe.new.memory c.args.state.now c.args.left.now c.in_ok-step_outcome-in-None.step_outcome c.step_safe.new.state c.step_safe.new.left c.in_ok-step_outcome-in-None.ensures.meets c.in_ok-step_outcome-in-None.ensures.told
+pub returns-clause-made : goal.returns-clause-made
+returns-clause-made g c = alone g.M.Memory.world g.M.Memory.follows c.args.tables.now (g.M.Memory.program c.args.memory.now) (sym c.requires.of.0) c.args.memory.now c.step_aside.new.memory c.args.state.now c.args.left.now c.in_ok-step_outcome.step_outcome c.step_aside.new.state c.step_aside.new.left c.in_ok-step_outcome.ensures.made.1.0 c.in_ok-step_outcome.ensures.made.1.1

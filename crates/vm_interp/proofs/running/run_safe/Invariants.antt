@@ -11,7 +11,7 @@ invariant-loop-left g l = record {
   of : g.M.Memory.program l.memory ≡ g.M.Memory.program l.fn.memory;
   kept : l.selections ≡ l.fn.selections;
   so_far : List Touch → List Touch;
-  rest : IsRest (g.M.Memory.program l.fn.memory) l.fn.state.test (g.M.Memory.world l.fn.memory) l.fn.left (abs l.state) (g.M.Memory.world l.memory) l.left so_far;
+  rest : IsRest l.tables l.fn.state.test (g.M.Memory.world l.fn.memory) l.fn.left (abs l.state) (g.M.Memory.world l.memory) l.left so_far;
   told : (h : Trace) (ts : List Touch) → g.M.Memory.follows l.fn.memory h ts → g.M.Memory.follows l.memory h (so_far ts);
 }
 

@@ -1,30 +1,31 @@
-use Rattle.std.proofs.Common.{sym, subst, ◌∙◌}
-use Rattle.std.proofs.lemmas.Result.{IfOk-weaker, on_ok_weaker}
-use Rattle.jvm_model.specs.declared.program.Program.{Program}
 use Rattle.jvm_model.specs.Initialise.{row_finish}
-use Rattle.vm_interp.specs.Reaching.{HasRoomAfter}
-use Rattle.vm_interp.specs.Abs.{abs}
 use Rattle.vm_interp.proofs.NoEntry.{no_room, finish_enters_none}
-use Rattle.vm_interp.proofs.Stepped.{row_ready, over_row, fit_row, counts_row, tells_row}
+use Rattle.vm_interp.proofs.Stepped.{row_ready, met_in, fit_after, made_over, made_row}
 use Rattle.vm_interp.proofs.stepping.finish_step.Goals as goal
 
-pub finish-requires-clause-row : goal.finish-requires-clause-row
-finish-requires-clause-row g c = row_ready row_finish (g.M.Memory.program c.args.memory.now) (g.M.Memory.world c.args.memory.now) (abs c.args.state.now) c.requires.fit
+pub finish-requires : goal.finish-requires
+finish-requires g c = record { row = row_ready row_finish c.args.tables.now g.M.Memory.program g.M.Memory.world c.args.memory.now c.args.state.now c.requires.fit }
 
-pub returns-in-Over-clause-meets : goal.returns-in-Over-clause-meets
-returns-in-Over-clause-meets g c = over_row g.M.Memory.program g.M.Memory.world g.M.Memory.follows row_finish c.args.memory.now c.finish.new.memory c.finish.new.memory (abs c.args.state.now) c.finish.new.stack c.args.left.now c.finish.new.left c.in_ok-next.next c.in_ok-next.ensures.of c.in_ok-next.ensures.meets c.in-Over.is
+pub returns-in-Over : goal.returns-in-Over
+returns-in-Over g c = record {
+  made = made_over g.M.Memory.program g.M.Memory.world g.M.Memory.follows row_finish c.args.memory.now c.finish.new.memory c.args.state.now c.finish.new.stack c.args.left.now c.finish.new.left c.in_ok-next.next
+      c.in_ok-next.ensures.made.0 c.in_ok-next.ensures.made.1.0 c.in_ok-next.ensures.made.1.1
+      c.in-Over.is c.args.state.now c.args.left.now;
+}
 
 pub conclude-requires : goal.conclude-requires
 conclude-requires g c = record {
-  program = c.requires.program ∙ sym c.in_ok-next.ensures.of;
-  tables = c.requires.tables ∙ sym c.in_ok-next.ensures.of;
-  room = subst (λ (p : Program). HasRoomAfter c.in_ok-next.next p c.finish.new.stack) (sym c.in_ok-next.ensures.of) (no_room row_finish (g.M.Memory.program c.args.memory.now) (g.M.Memory.world c.args.memory.now) c.args.state.now.frames c.args.left.now c.in_ok-next.next c.finish.new.stack (g.M.Memory.world c.finish.new.memory) c.finish.new.left c.in_default.not-Over c.in_ok-next.ensures.meets (finish_enters_none (g.M.Memory.program c.args.memory.now) c.args.state.now.frames));
-  fit = fit_row g.M.Memory.program g.M.Memory.world g.M.Memory.follows row_finish c.args.memory.now c.finish.new.memory c.finish.new.memory (abs c.args.state.now) c.finish.new.stack c.args.left.now c.finish.new.left c.in_ok-next.next c.in_ok-next.ensures.of c.in_ok-next.ensures.meets c.in_default.not-Over c.requires.fit;
+  room = no_room row_finish c.args.tables.now (g.M.Memory.world c.args.memory.now) c.args.state.now.frames c.args.left.now c.in_ok-next.next c.finish.new.stack (g.M.Memory.world c.finish.new.memory) c.finish.new.left c.in_default.not-Over
+      (met_in g.M.Memory.program g.M.Memory.world g.M.Memory.follows row_finish c.args.memory.now c.finish.new.memory c.args.state.now c.finish.new.stack c.args.left.now c.finish.new.left c.in_ok-next.next
+      c.in_ok-next.ensures.made.0 c.in_ok-next.ensures.made.1.0 c.in_ok-next.ensures.made.1.1 c.args.tables.now c.requires.fit.0) (finish_enters_none c.args.tables.now c.args.state.now.frames);
+  fit = fit_after g.M.Memory.program g.M.Memory.world g.M.Memory.follows row_finish c.args.memory.now c.finish.new.memory c.args.state.now c.finish.new.stack c.args.left.now c.finish.new.left c.in_ok-next.next
+      c.in_ok-next.ensures.made.0 c.in_ok-next.ensures.made.1.0 c.in_ok-next.ensures.made.1.1
+      c.in_default.not-Over c.args.tables.now c.requires.fit;
 }
 
 pub returns : goal.returns
 returns g c = record {
-  meets = IfOk-weaker c.conclude.result _ _ (λ x m. counts_row g.M.Memory.program g.M.Memory.world g.M.Memory.follows row_finish c.args.memory.now c.finish.new.memory c.finish.new.memory (abs c.args.state.now) c.finish.new.stack c.args.left.now c.finish.new.left c.in_ok-next.next c.in_ok-next.ensures.of c.in_ok-next.ensures.meets c.in_default.not-Over ∙ m) c.conclude.ensures.meets;
-  told = IfOk-weaker c.conclude.result _ _ (λ x m n h ts k. tells_row g.M.Memory.program g.M.Memory.world g.M.Memory.follows row_finish c.args.memory.now c.finish.new.memory c.conclude.new.memory (abs c.args.state.now) c.finish.new.stack c.args.left.now c.finish.new.left c.in_ok-next.next c.in_ok-next.ensures.of c.in_ok-next.ensures.meets c.in_default.not-Over c.in_ok-next.ensures.told (m n) h ts k) c.conclude.ensures.told;
-  of = on_ok_weaker c.conclude.result (λ q. q ∙ c.in_ok-next.ensures.of) c.conclude.ensures.of;
+  made = made_row g.M.Memory.program g.M.Memory.world g.M.Memory.follows row_finish c.args.memory.now c.finish.new.memory c.args.state.now c.finish.new.stack c.args.left.now c.finish.new.left c.in_ok-next.next
+      c.in_ok-next.ensures.made.0 c.in_ok-next.ensures.made.1.0 c.in_ok-next.ensures.made.1.1
+      c.in_default.not-Over c.conclude.new.memory c.conclude.result c.conclude.new.state c.conclude.new.left c.conclude.ensures.made;
 }

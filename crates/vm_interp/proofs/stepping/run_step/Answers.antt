@@ -1,31 +1,27 @@
-use Rattle.std.proofs.Common.{sym, subst, ◌∙◌}
-use Rattle.std.proofs.lemmas.Result.{IfOk-weaker, on_ok_weaker}
-use Rattle.jvm_model.specs.declared.program.Program.{Program}
 use Rattle.jvm_model.specs.Step.{row_here}
-use Rattle.vm_interp.specs.Reaching.{HasRoomAfter}
-use Rattle.vm_interp.specs.Abs.{abs}
 use Rattle.vm_interp.proofs.NoEntry.{room_then}
-use Rattle.vm_interp.proofs.Stepped.{row_ready, over_row, fit_row, counts_row, tells_row}
+use Rattle.vm_interp.proofs.Stepped.{row_ready, met_in, fit_after, made_over, made_row}
 use Rattle.vm_interp.proofs.stepping.run_step.Goals as goal
 
 pub row_here-requires-clause-row : goal.row_here-requires-clause-row
-row_here-requires-clause-row g c = row_ready row_here (g.M.Memory.program c.args.memory.now) (g.M.Memory.world c.args.memory.now) (abs c.args.state.now) c.requires.fit
+row_here-requires-clause-row g c = row_ready row_here c.args.tables.now g.M.Memory.program g.M.Memory.world c.args.memory.now c.args.state.now c.requires.fit
 
-pub returns-in-Over-clause-meets : goal.returns-in-Over-clause-meets
-returns-in-Over-clause-meets g c = over_row g.M.Memory.program g.M.Memory.world g.M.Memory.follows row_here c.args.memory.now c.row_here.new.memory c.row_here.new.memory (abs c.args.state.now) c.row_here.new.stack c.args.left.now c.row_here.new.left c.in_ok-next.next c.in_ok-next.ensures.of c.in_ok-next.ensures.meets c.in-Over.is
+pub returns-in-Over-clause-made : goal.returns-in-Over-clause-made
+returns-in-Over-clause-made g c = made_over g.M.Memory.program g.M.Memory.world g.M.Memory.follows row_here c.args.memory.now c.row_here.new.memory c.args.state.now c.row_here.new.stack c.args.left.now c.row_here.new.left c.in_ok-next.next
+    c.in_ok-next.ensures.made.0 c.in_ok-next.ensures.made.1.0 c.in_ok-next.ensures.made.1.1
+    c.in-Over.is c.args.state.now c.args.left.now
 
 pub conclude-requires : goal.conclude-requires
 conclude-requires g c = record {
-  program = c.requires.program ∙ sym c.in_ok-next.ensures.of;
-  tables = c.requires.tables ∙ sym c.in_ok-next.ensures.of;
-  room = subst (λ (p : Program). HasRoomAfter c.in_ok-next.next p c.row_here.new.stack) (sym c.in_ok-next.ensures.of) (room_then row_here (g.M.Memory.program c.args.memory.now) (g.M.Memory.world c.args.memory.now) c.args.state.now.frames c.args.left.now c.in_ok-next.next c.row_here.new.stack (g.M.Memory.world c.row_here.new.memory) c.row_here.new.left c.in_default.not-Over c.in_ok-next.ensures.meets c.requires.native_space);
-  fit = fit_row g.M.Memory.program g.M.Memory.world g.M.Memory.follows row_here c.args.memory.now c.row_here.new.memory c.row_here.new.memory (abs c.args.state.now) c.row_here.new.stack c.args.left.now c.row_here.new.left c.in_ok-next.next c.in_ok-next.ensures.of c.in_ok-next.ensures.meets c.in_default.not-Over c.requires.fit;
+  room = room_then row_here c.args.tables.now (g.M.Memory.world c.args.memory.now) c.args.state.now.frames c.args.left.now c.in_ok-next.next c.row_here.new.stack (g.M.Memory.world c.row_here.new.memory) c.row_here.new.left c.in_default.not-Over
+      (met_in g.M.Memory.program g.M.Memory.world g.M.Memory.follows row_here c.args.memory.now c.row_here.new.memory c.args.state.now c.row_here.new.stack c.args.left.now c.row_here.new.left c.in_ok-next.next
+      c.in_ok-next.ensures.made.0 c.in_ok-next.ensures.made.1.0 c.in_ok-next.ensures.made.1.1 c.args.tables.now c.requires.fit.0) c.requires.native_space;
+  fit = fit_after g.M.Memory.program g.M.Memory.world g.M.Memory.follows row_here c.args.memory.now c.row_here.new.memory c.args.state.now c.row_here.new.stack c.args.left.now c.row_here.new.left c.in_ok-next.next
+      c.in_ok-next.ensures.made.0 c.in_ok-next.ensures.made.1.0 c.in_ok-next.ensures.made.1.1
+      c.in_default.not-Over c.args.tables.now c.requires.fit;
 }
 
-pub returns : goal.returns
-returns g c = record {
-  meets = IfOk-weaker c.conclude.result _ _ (λ x m. counts_row g.M.Memory.program g.M.Memory.world g.M.Memory.follows row_here c.args.memory.now c.row_here.new.memory c.row_here.new.memory (abs c.args.state.now) c.row_here.new.stack c.args.left.now c.row_here.new.left c.in_ok-next.next c.in_ok-next.ensures.of c.in_ok-next.ensures.meets c.in_default.not-Over ∙ m) c.conclude.ensures.meets;
-  told = IfOk-weaker c.conclude.result _ _ (λ x m n h ts k. tells_row g.M.Memory.program g.M.Memory.world g.M.Memory.follows row_here c.args.memory.now c.row_here.new.memory c.conclude.new.memory (abs c.args.state.now) c.row_here.new.stack c.args.left.now c.row_here.new.left c.in_ok-next.next c.in_ok-next.ensures.of c.in_ok-next.ensures.meets c.in_default.not-Over c.in_ok-next.ensures.told (m n) h ts k) c.conclude.ensures.told;
-  of = on_ok_weaker c.conclude.result (λ q. q ∙ c.in_ok-next.ensures.of) c.conclude.ensures.of;
-  kept = c.row_here.ensures.kept;
-}
+pub returns-clause-made : goal.returns-clause-made
+returns-clause-made g c = made_row g.M.Memory.program g.M.Memory.world g.M.Memory.follows row_here c.args.memory.now c.row_here.new.memory c.args.state.now c.row_here.new.stack c.args.left.now c.row_here.new.left c.in_ok-next.next
+    c.in_ok-next.ensures.made.0 c.in_ok-next.ensures.made.1.0 c.in_ok-next.ensures.made.1.1
+    c.in_default.not-Over c.conclude.new.memory c.conclude.result c.conclude.new.state c.conclude.new.left c.conclude.ensures.made

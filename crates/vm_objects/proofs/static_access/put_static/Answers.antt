@@ -1,41 +1,38 @@
+use Rattle.std.proofs.Common.{sym, ◌∙◌}
 use Rattle.jvm_model.specs.declared.instr.Instr.TheVariants as form
 use Rattle.vm_objects.specs.Forms.{static_row, write_row}
-use Rattle.class_init.proofs.Using.{row_usable, ready_row, ready_meets, ready_tells, begun_meets, begun_tells, fault_meets, fault_tells, over_meets}
+use Rattle.class_init.proofs.Using.{row_usable, ready_row, ready_makes, begun_makes, fault_makes, over_makes}
 use Rattle.vm_objects.proofs.Using.{put_uses}
 use Rattle.vm_objects.proofs.static_access.put_static.Goals as goal
 
-pub begin_use-requires-clause-safe : goal.begin_use-requires-clause-safe
-begin_use-requires-clause-safe g c =
-    row_usable (static_row (form.PutStatic c.args.field)) (write_row c.args.field) (g.M.Memory.program c.args.memory.now) c.field_class.result c.args.stack.now (g.M.Memory.world c.args.memory.now) c.args.left.now (put_uses (g.M.Memory.program c.args.memory.now) c.args.program.now c.args.field c.field_class.result c.args.stack.now c.requires.program c.field_class.ensures) c.requires.row
+pub begin_use-requires : goal.begin_use-requires
+begin_use-requires g c =
+    record { safe = row_usable (static_row (form.PutStatic c.args.field)) (write_row c.args.field) g.M.Memory.program g.M.Memory.world g.M.Memory.follows c.field_class.result c.args.memory.now c.args.stack.now (put_uses (g.M.Memory.program c.args.memory.now) c.program.result.now c.args.field c.field_class.result c.args.stack.now (c.program.ensures ∙ c.requires.row.0) c.field_class.ensures) c.args.tables.now c.requires.row }
 
 pub write_static-requires-clause-row : goal.write_static-requires-clause-row
 write_static-requires-clause-row g c =
-    ready_row (static_row (form.PutStatic c.args.field)) (write_row c.args.field) (g.M.Memory.program c.args.memory.now) c.field_class.result c.args.stack.now (g.M.Memory.world c.args.memory.now) c.args.left.now (put_uses (g.M.Memory.program c.args.memory.now) c.args.program.now c.args.field c.field_class.result c.args.stack.now c.requires.program c.field_class.ensures) c.in_ok-begin_use.field-0 c.begin_use.new.stack (g.M.Memory.world c.begin_use.new.memory) c.begin_use.new.left c.in_ok-begin_use.ensures.meets (g.M.Memory.program c.begin_use.new.memory) c.in-Ready.is c.in_ok-begin_use.ensures.of c.in_ok-begin_use.ensures.entries c.requires.row
+    let used = c.in_ok-begin_use.ensures.made in
+    ready_row (static_row (form.PutStatic c.args.field)) (write_row c.args.field) g.M.Memory.program g.M.Memory.world g.M.Memory.follows c.field_class.result c.args.memory.now c.args.stack.now (put_uses (g.M.Memory.program c.args.memory.now) c.program.result.now c.args.field c.field_class.result c.args.stack.now (c.program.ensures ∙ c.requires.row.0) c.field_class.ensures) c.args.left.now c.begin_use.new.memory c.in_ok-begin_use.field-0 c.begin_use.new.stack c.begin_use.new.left (used.0, used.1.0, used.1.1) c.args.tables.now c.args.tables.now c.in-Ready.is c.in_ok-begin_use.ensures.entries (c.requires.row.0 ∙ sym used.0) c.requires.row
 
-pub returns-in-Ready-clause-meets : goal.returns-in-Ready-clause-meets
-returns-in-Ready-clause-meets g c =
-    ready_meets (static_row (form.PutStatic c.args.field)) (write_row c.args.field) (g.M.Memory.program c.args.memory.now) c.field_class.result c.args.stack.now (g.M.Memory.world c.args.memory.now) c.args.left.now (put_uses (g.M.Memory.program c.args.memory.now) c.args.program.now c.args.field c.field_class.result c.args.stack.now c.requires.program c.field_class.ensures) c.in_ok-begin_use.field-0 c.begin_use.new.stack (g.M.Memory.world c.begin_use.new.memory) c.begin_use.new.left c.in_ok-begin_use.ensures.meets (g.M.Memory.program c.begin_use.new.memory) c.write_static.result c.write_static.new.stack (g.M.Memory.world c.write_static.new.memory) c.write_static.new.left c.in-Ready.is c.in_ok-begin_use.ensures.of c.in_ok-begin_use.ensures.entries c.write_static.ensures.meets
+pub returns-in-Ready : goal.returns-in-Ready
+returns-in-Ready g c =
+    let used = c.in_ok-begin_use.ensures.made in
+    record { made = ready_makes (static_row (form.PutStatic c.args.field)) (write_row c.args.field) g.M.Memory.program g.M.Memory.world g.M.Memory.follows c.field_class.result c.args.memory.now c.args.stack.now (put_uses (g.M.Memory.program c.args.memory.now) c.program.result.now c.args.field c.field_class.result c.args.stack.now (c.program.ensures ∙ c.requires.row.0) c.field_class.ensures) c.args.left.now c.begin_use.new.memory c.in_ok-begin_use.field-0 c.begin_use.new.stack c.begin_use.new.left (used.0, used.1.0, used.1.1) c.write_static.new.memory c.write_static.result c.write_static.new.stack c.write_static.new.left c.in-Ready.is c.in_ok-begin_use.ensures.entries c.write_static.ensures.made }
 
-pub returns-in-Ready-clause-told : goal.returns-in-Ready-clause-told
-returns-in-Ready-clause-told g c =
-    ready_tells (static_row (form.PutStatic c.args.field)) (write_row c.args.field) (g.M.Memory.program c.args.memory.now) c.field_class.result c.args.stack.now (g.M.Memory.world c.args.memory.now) c.args.left.now (put_uses (g.M.Memory.program c.args.memory.now) c.args.program.now c.args.field c.field_class.result c.args.stack.now c.requires.program c.field_class.ensures) c.in_ok-begin_use.field-0 c.begin_use.new.stack (g.M.Memory.world c.begin_use.new.memory) c.begin_use.new.left c.in_ok-begin_use.ensures.meets g.M.Memory.follows c.args.memory.now c.begin_use.new.memory c.in_ok-begin_use.ensures.told c.write_static.new.memory (g.M.Memory.program c.begin_use.new.memory) c.write_static.result c.in-Ready.is c.in_ok-begin_use.ensures.of c.in_ok-begin_use.ensures.entries c.write_static.ensures.told
+pub returns-in-Begun : goal.returns-in-Begun
+returns-in-Begun g c =
+    let used = c.in_ok-begin_use.ensures.made in
+    let ended = begun_makes (static_row (form.PutStatic c.args.field)) (write_row c.args.field) g.M.Memory.program g.M.Memory.world g.M.Memory.follows c.field_class.result c.args.memory.now c.args.stack.now (put_uses (g.M.Memory.program c.args.memory.now) c.program.result.now c.args.field c.field_class.result c.args.stack.now (c.program.ensures ∙ c.requires.row.0) c.field_class.ensures) c.args.left.now c.begin_use.new.memory c.in_ok-begin_use.field-0 c.begin_use.new.stack c.begin_use.new.left (used.0, used.1.0, used.1.1) c.in-Begun.is in
+    record { made = (ended.0, (ended.1, ended.2)) }
 
-pub returns-in-Begun-clause-meets : goal.returns-in-Begun-clause-meets
-returns-in-Begun-clause-meets g c =
-    begun_meets (static_row (form.PutStatic c.args.field)) (write_row c.args.field) (g.M.Memory.program c.args.memory.now) c.field_class.result c.args.stack.now (g.M.Memory.world c.args.memory.now) c.args.left.now (put_uses (g.M.Memory.program c.args.memory.now) c.args.program.now c.args.field c.field_class.result c.args.stack.now c.requires.program c.field_class.ensures) c.in_ok-begin_use.field-0 c.begin_use.new.stack (g.M.Memory.world c.begin_use.new.memory) c.begin_use.new.left c.in_ok-begin_use.ensures.meets c.in-Begun.is
+pub returns-in-Fault : goal.returns-in-Fault
+returns-in-Fault g c =
+    let used = c.in_ok-begin_use.ensures.made in
+    let ended = fault_makes (static_row (form.PutStatic c.args.field)) (write_row c.args.field) g.M.Memory.program g.M.Memory.world g.M.Memory.follows c.field_class.result c.args.memory.now c.args.stack.now (put_uses (g.M.Memory.program c.args.memory.now) c.program.result.now c.args.field c.field_class.result c.args.stack.now (c.program.ensures ∙ c.requires.row.0) c.field_class.ensures) c.args.left.now c.begin_use.new.memory c.in_ok-begin_use.field-0 c.begin_use.new.stack c.begin_use.new.left (used.0, used.1.0, used.1.1) c.in-Fault.class c.in-Fault.is c.in_ok-begin_use.ensures.entries in
+    record { made = (ended.0, (ended.1, ended.2)) }
 
-pub returns-in-Begun-clause-told : goal.returns-in-Begun-clause-told
-returns-in-Begun-clause-told g c =
-    begun_tells (static_row (form.PutStatic c.args.field)) (write_row c.args.field) (g.M.Memory.program c.args.memory.now) c.field_class.result c.args.stack.now (g.M.Memory.world c.args.memory.now) c.args.left.now (put_uses (g.M.Memory.program c.args.memory.now) c.args.program.now c.args.field c.field_class.result c.args.stack.now c.requires.program c.field_class.ensures) c.in_ok-begin_use.field-0 c.begin_use.new.stack (g.M.Memory.world c.begin_use.new.memory) c.begin_use.new.left c.in_ok-begin_use.ensures.meets g.M.Memory.follows c.args.memory.now c.begin_use.new.memory c.in_ok-begin_use.ensures.told c.in-Begun.is
-
-pub returns-in-Fault-clause-meets : goal.returns-in-Fault-clause-meets
-returns-in-Fault-clause-meets g c =
-    fault_meets (static_row (form.PutStatic c.args.field)) (write_row c.args.field) (g.M.Memory.program c.args.memory.now) c.field_class.result c.args.stack.now (g.M.Memory.world c.args.memory.now) c.args.left.now (put_uses (g.M.Memory.program c.args.memory.now) c.args.program.now c.args.field c.field_class.result c.args.stack.now c.requires.program c.field_class.ensures) c.in_ok-begin_use.field-0 c.begin_use.new.stack (g.M.Memory.world c.begin_use.new.memory) c.begin_use.new.left c.in_ok-begin_use.ensures.meets c.in-Fault.class c.in-Fault.is c.in_ok-begin_use.ensures.entries
-
-pub returns-in-Fault-clause-told : goal.returns-in-Fault-clause-told
-returns-in-Fault-clause-told g c =
-    fault_tells (static_row (form.PutStatic c.args.field)) (write_row c.args.field) (g.M.Memory.program c.args.memory.now) c.field_class.result c.args.stack.now (g.M.Memory.world c.args.memory.now) c.args.left.now (put_uses (g.M.Memory.program c.args.memory.now) c.args.program.now c.args.field c.field_class.result c.args.stack.now c.requires.program c.field_class.ensures) c.in_ok-begin_use.field-0 c.begin_use.new.stack (g.M.Memory.world c.begin_use.new.memory) c.begin_use.new.left c.in_ok-begin_use.ensures.meets g.M.Memory.follows c.args.memory.now c.begin_use.new.memory c.in_ok-begin_use.ensures.told c.in-Fault.class c.in-Fault.is
-
-pub returns-in-Over-clause-meets : goal.returns-in-Over-clause-meets
-returns-in-Over-clause-meets g c =
-    over_meets (static_row (form.PutStatic c.args.field)) (write_row c.args.field) (g.M.Memory.program c.args.memory.now) c.field_class.result c.args.stack.now (g.M.Memory.world c.args.memory.now) c.args.left.now (put_uses (g.M.Memory.program c.args.memory.now) c.args.program.now c.args.field c.field_class.result c.args.stack.now c.requires.program c.field_class.ensures) c.in_ok-begin_use.field-0 c.begin_use.new.stack (g.M.Memory.world c.begin_use.new.memory) c.begin_use.new.left c.in_ok-begin_use.ensures.meets c.in-Over.is
+pub returns-in-Over : goal.returns-in-Over
+returns-in-Over g c =
+    let used = c.in_ok-begin_use.ensures.made in
+    let ended = over_makes (static_row (form.PutStatic c.args.field)) (write_row c.args.field) g.M.Memory.program g.M.Memory.world g.M.Memory.follows c.field_class.result c.args.memory.now c.args.stack.now (put_uses (g.M.Memory.program c.args.memory.now) c.program.result.now c.args.field c.field_class.result c.args.stack.now (c.program.ensures ∙ c.requires.row.0) c.field_class.ensures) c.args.left.now c.begin_use.new.memory c.in_ok-begin_use.field-0 c.begin_use.new.stack c.begin_use.new.left (used.0, used.1.0, used.1.1) c.in-Over.is in
+    record { made = (ended.0, (ended.1, ended.2)) }
