@@ -1,5 +1,5 @@
 -- What contracts see of a core, and its events as a legal history.
-use Rattle.std.specs.Prelude.{◌≡◌, ◌⊎◌, ℕ, ◌-◌, ◌<◌, ◌≤◌, List, [], ◌∷◌, ◌++◌, length, get_or, take, fold}
+use Rattle.std.specs.Prelude.{◌≡◌, ◌⊎◌, ℕ, ◌+◌, ◌-◌, ◌<◌, ◌≤◌, List, [], ◌∷◌, ◌++◌, length, get_or, take, fold, sum_by}
 use Rattle.jvm_model.specs.declared.outcome.Outcome.{Outcome}
 use Rattle.jvm_model.specs.declared.program.Program.{Program}
 use Rattle.order_law.specs.Plan as law
@@ -21,6 +21,10 @@ told (Post q) = law.post q.worker (before_last q.list) (last_of q.list) q.outcom
 -- the events, in the order in which they came, as a history, which has its latest event first
 abbrev pub history_of : List Event → List law.Event
 history_of h = fold (λ es e. told e ∷ es) [] h
+
+-- how many events a history of these chains has at most: a claim of each chain and a post of each test
+abbrev pub most_events : List (List ℕ) → ℕ
+most_events C = sum_by (λ c. length c + 1) C
 
 -- What contracts see of a core: its program, chains and number of workers, and the events in the order in which they came.
 pub record Run : Type 0 where

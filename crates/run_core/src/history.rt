@@ -1,11 +1,11 @@
 //! The core: a legal history.
 
-ghost use Rattle.std.specs.Prelude.{◌≡◌, ◌↔◌, ◌-◌, ◌<◌, ◌≤◌, [], length, reverse, IsTrue, IfOk, IfErr, MatchOption, MatchResult};
+ghost use Rattle.std.specs.Prelude.{◌≡◌, ◌↔◌, ◌-◌, ◌<◌, ◌≤◌, ◌^◌, [], length, reverse, IsTrue, IfOk, IfErr, MatchOption, MatchResult};
 ghost use Rattle.order_law.specs.Plan.{Posted, posts};
 ghost use Rattle.run_core.specs.declared.events.Event.TheVariants.{Claim, Post};
 ghost use Rattle.run_core.specs.Kept.{IsClaimer, IsSplit};
 ghost use Rattle.run_core.specs.Refusal.{HasNone, HasOpen, IsRefused, Names};
-ghost use Rattle.run_core.specs.Run.{Gave, IsComplete, IsInRange, IsLegal, IsWorker, MayFollow, added, history};
+ghost use Rattle.run_core.specs.Run.{Gave, IsComplete, IsInRange, IsLegal, IsWorker, MayFollow, added, history, most_events};
 
 use crate::events::{Event, Refused, Rejected};
 use crate::lists::{ends_with, find_outcome, first_difference, last_list};
@@ -52,9 +52,9 @@ impl Model for Core {
 }
 
 impl Core {
-    /// The empty history of a program, chains and workers. It takes room for all events. The only error is want of memory,
-    /// which is also the answer where there may be 2^32 events or more.
+    /// The empty history of a program, chains and workers. It takes room for all events. The only error is want of memory.
     pub fn new(alloc: Global, p: &Program, chains: Chains, workers: u32) -> Result<Core, NoMemory>
+        requires few { most_events chains.lists < 2 ^ 32 }
         ensures { IfOk result (λ core. core ≡ record {
           program = p.now;
           chains = chains.lists;
@@ -62,9 +62,7 @@ impl Core {
           events = [];
         }) }
     {
-        let Some(events) = count_events(chains.lists.as_slice()) else {
-            return Err(NoMemory {});
-        };
+        let events = count_events(chains.lists.as_slice());
         let rows = empty_rows(alloc, chains.lists.as_slice())?;
         let hands = empty_hands(alloc, workers)?;
         let history = Vec::with_capacity(alloc, events)?;

@@ -1,7 +1,8 @@
 //! What a history gives: who has which chain, and how many tests of it are posted.
 
-ghost use Rattle.std.specs.Prelude.{◌≡◌, ◌+◌, ◌<◌, ◌≤◌, ◌-◌, ◌^◌, ◌↔◌, ◌++◌, ◌∷◌, [], length, map, replicate, sum_by, vec_len, vec_capacity, IsTrue, IfOk, IfSome, MatchOption};
+ghost use Rattle.std.specs.Prelude.{◌≡◌, ◌<◌, ◌≤◌, ◌-◌, ◌^◌, ◌↔◌, ◌++◌, ◌∷◌, [], length, map, replicate, vec_len, vec_capacity, IsTrue, IfOk, MatchOption};
 ghost use Rattle.run_core.specs.Kept.{row, row_at, hand_of, rows_after, hands_after, AreDone, IsFull, IsHeld, MayEnter};
+ghost use Rattle.run_core.specs.Run.{most_events};
 
 use crate::events::Event;
 use et_base::{Items, NoMemory};
@@ -22,26 +23,21 @@ pub struct Open {
     pub test: u32,
 }
 
-/// How many events a history of these chains has at most, where that is below 2^32: a claim of each chain and a post of
-/// each test.
-pub fn count_events(chains: &[Items<u32>]) -> Option<usize>
-    ensures { IfSome result
-        (λ n. (n ≡ sum_by (λ c. length c + 1) chains.now) × (n < 2 ^ 32)) }
+/// How many events a history of these chains has at most: a claim of each chain and a post of each test.
+pub fn count_events(chains: &[Items<u32>]) -> usize
+    requires { most_events chains.now < 2 ^ 32 }
+    ensures { result ≡ most_events chains.now }
 {
-    let mut events: usize = 0;
+    let mut events = 0;
     for chain in chains {
-        let length = chain.len();
-        if length >= u32::MAX as usize - events {
-            return None;
-        }
-        events += length + 1;
+        events += chain.len() + 1;
     }
-    Some(events)
+    events
 }
 
 /// A row for each chain, claimed by nobody. The only error is want of memory.
 pub fn empty_rows(alloc: Global, chains: &[Items<u32>]) -> Result<Vec<Row>, NoMemory>
-    requires { sum_by (λ c. length c + 1) chains.now < 2 ^ 32 }
+    requires { most_events chains.now < 2 ^ 32 }
     ensures { IfOk result (λ rows. rows.items ≡ map (λ c. row 0 0 (length c)) chains.now) }
 {
     let mut rows = Vec::new(alloc);

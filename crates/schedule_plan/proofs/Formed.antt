@@ -1,5 +1,5 @@
 -- Listed chains have the form of chains, and what that form says of the tests of all chains.
-use Rattle.std.proofs.Common.{◌≡◌, ℕ, zero, suc, ◌<◌, true, false, nat_le, List, [], ◌∷◌, ◌++◌, length, refl, sym, inl, inr, arith}
+use Rattle.std.proofs.Common.{◌≡◌, ℕ, zero, suc, ◌<◌, true, nat_le, List, [], ◌∷◌, ◌++◌, length, refl, sym, inl, inr, arith}
 use Rattle.std.specs.List.{list_all}
 use Rattle.std.proofs.lemmas.Bool.{cases_Bool, and_parts, true≢false, le-leb}
 use Rattle.jvm_model.specs.Classes.{member}

@@ -1,7 +1,8 @@
 -- Sums of units of different tests.
-use Rattle.std.proofs.Common.{◌≡◌, ℕ, suc, ◌+◌, ◌-◌, ◌<◌, ◌≤◌, true, List, [], ◌∷◌, ◌++◌, length, get_or, set, take, replicate, sum, sum_by, refl, sym, ◌∙◌, ap, subst, inl, inr, arith, length-append}
+use Rattle.std.proofs.Common.{◌≡◌, ℕ, suc, ◌+◌, ◌-◌, ◌<◌, ◌≤◌, true, List, [], ◌∷◌, ◌++◌, length, get_or, set, take, map, replicate, All, sum, sum_by, refl, sym, ◌∙◌, ap, subst, inl, inr, arith, length-append}
 use Rattle.std.proofs.lemmas.Bool.{cases_eq}
 use Rattle.std.proofs.lemmas.List.{get_or-set_other, get_or-replicate, length-replicate, take_all, take_more, map-append, length-map, get_or_read}
+use Rattle.std.proofs.lemmas.List.Elements.{All-from_get_or}
 use Rattle.std.proofs.lemmas.List.Sums.{sum_by-cons, sum_by-append, sum_by-set, sum-map, sum_by-take-le, sum_by_more}
 use Rattle.std.proofs.lemmas.List.Folds.{sum_by-replicate}
 use Rattle.std.proofs.Math.ListN.{length-set}
@@ -9,7 +10,8 @@ use Rattle.order_law.specs.Conflicts.{Member, Distinct}
 use Rattle.order_law.specs.RecordForm.{joined}
 use Rattle.order_law.specs.Plan.{chain_at, AreApart}
 use Rattle.schedule_plan.specs.Grouping.{at}
-use Rattle.schedule_plan.specs.Plans.{HasUnits, HaveUnits, units_of, chain_units}
+use Rattle.schedule_plan.specs.declared.shares.Share.{Share}
+use Rattle.schedule_plan.specs.Plans.{HasUnits, HaveUnits, units_of, chain_units, no_share, chains_at, AreDealt}
 use Rattle.order_law.specs.RecordForm.{are_chains}
 use Rattle.order_law.proofs.Posts.{forms_apart}
 use Rattle.schedule_plan.proofs.Formed.{joined_where, distinct_joined, filled_from, chain_there}
@@ -58,6 +60,31 @@ few l m d h =
     let b = ones l m h in
     let c = sum_by-replicate (λ (x : ℕ). x) m 1 in
     omega arith
+
+-- the same of numbers from 0
+raised_range : (l : List ℕ) (m t : ℕ) → ((c : ℕ) → Member c l → c < m) → Member t (map suc l) → (0 < t) × (t ≤ m)
+raised_range [] m t f i = absurd i
+raised_range (c ∷ l) m t f (inl e) = let h : c < m = f c (inl refl) in (omega (arith, e), omega (arith, e))
+raised_range (c ∷ l) m t f (inr i) = raised_range l m t (λ d j. f d (inr j)) i
+
+lowered : (l : List ℕ) (c : ℕ) → Member (suc c) (map suc l) → Member c l
+lowered [] c i = absurd i
+lowered (d ∷ l) c (inl e) = inl (omega (arith, e))
+lowered (d ∷ l) c (inr i) = inr (lowered l c i)
+
+raised_distinct : (l : List ℕ) → Distinct l → Distinct (map suc l)
+raised_distinct [] d = tt
+raised_distinct (c ∷ l) d = (λ i. d.0 (lowered l c i), raised_distinct l d.1)
+
+few_below : (l : List ℕ) (m : ℕ) → Distinct l → ((c : ℕ) → Member c l → c < m) → length l ≤ m
+few_below l m d f =
+    let many = few (map suc l) m (raised_distinct l d) (λ t i. raised_range l m t f i) in
+    let same = length-map l suc in
+    omega arith
+
+-- a share has no more chains than there are
+pub few_dealt : (n m : ℕ) (W : List Share) → AreDealt n W → n < m → All (λ s. length s.chains < m) W
+few_dealt n m W is h = All-from_get_or (λ (s : Share). length s.chains < m) W no_share (λ w i. (let few = few_below (chains_at W w) n (is.once w) (is.within w) in omega arith))
 
 each_filled : (C : List (List ℕ)) → ((i : ℕ) → i < length C → 0 < length (chain_at C i)) → length C ≤ length (joined C)
 each_filled [] f = omega arith

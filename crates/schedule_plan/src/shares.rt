@@ -1,6 +1,6 @@
 //! What each worker is given.
 
-ghost use Rattle.std.specs.Prelude.{◌≡◌, ◌<◌, ◌+◌, ◌^◌, [], length, sum, replicate, IfOk, OnOk};
+ghost use Rattle.std.specs.Prelude.{◌≡◌, ◌<◌, ◌+◌, ◌^◌, [], All, length, sum, replicate, IfOk, OnOk};
 ghost use Rattle.schedule_plan.specs.Plans.{IsOrderOf, IsGiven, IsLeastLoaded, ArePlaced, loads_of, no_share, with_chain};
 
 use et_base::{Items, NoMemory};
@@ -13,10 +13,13 @@ pub struct Share {
     pub load: u64,
 }
 
-/// Which worker runs which chains: a share for each worker.
+/// Which worker runs which chains: a share for each worker. There are fewer than 2^32 workers, and a share has fewer than
+/// 2^32 chains.
 #[derive(Debug, Drop)]
 pub struct WorkPlan {
     pub shares: Items<Share>,
+    ghost few: { length shares < 2 ^ 32 },
+    ghost short: { All (λ s. length s.chains < 2 ^ 32) shares },
 }
 
 /// The shares of n workers, where each chain goes to the worker of least load.

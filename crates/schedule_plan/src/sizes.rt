@@ -13,7 +13,7 @@ pub fn sizes_of(alloc: Global, c: &Chains, units: &[u64]) -> Result<Vec<u64>, No
     requires listed { HaveUnits c.now.lists units.now }
     requires small { sum units.now < 2 ^ 64 }
     ensures sizes { IfOk result (λ v. v.items ≡ chain_units c.now.lists units.now) }
-    ensures few { IfOk result (λ v. length v.items ≤ 2 ^ 32) }
+    ensures few { IfOk result (λ v. length v.items < 2 ^ 32) }
 {
     let mut sizes = Vec::new(alloc);
     for list in c.lists.as_slice() {

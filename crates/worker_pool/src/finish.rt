@@ -1,6 +1,7 @@
 //! What the caller does after the join.
 
-ghost use Rattle.std.specs.Prelude.{◌≡◌, ◌+◌, ◌<◌, ℕ, length, reverse, true, IfOk, IfErr, IfSome};
+ghost use Rattle.std.specs.Prelude.{◌≡◌, ◌+◌, ◌<◌, ℕ, length, reverse, None, true, IfOk, IfErr, IfSome};
+ghost use Rattle.jvm_model.specs.Suite.{first_over};
 ghost use Rattle.order_law.specs.Histories.{IsTestNumber};
 ghost use Rattle.order_law.specs.Plan.{posts};
 ghost use Rattle.order_law.specs.RecordForm.{are_chains};
@@ -9,9 +10,10 @@ ghost use Rattle.run_core.specs.Run.{IsComplete, IsLegal, IsWorker, history};
 ghost use Rattle.worker_pool.specs.Faults.{IsPlanFault, IsRunFault};
 ghost use Rattle.worker_pool.specs.Plans.{AreTests, HaveTests, units_of};
 
-use crate::machines::{fresh_machine, run_after};
+use crate::again::run_after;
 use crate::plan_fault::PlanFault;
 use et_base::Items;
+use job_pool::fresh_machine;
 use outside::{Gate, Steps};
 use run_core::{Core, Event};
 use std::alloc::Global;
@@ -31,6 +33,8 @@ fn run_again<G: Gate>(
 ) -> Result<Piece, RunFault>
     requires program { p.now ≡ core.now.program }
     requires tests { AreTests core.now.program (reverse (posts (history core.now) worker)) }
+    requires given { first_over core.now.program
+        (reverse (posts (history core.now) worker)) ≡ None }
     requires test { IsTestNumber core.now.program test }
     ensures piece { IfOk result (λ x. (x.worker ≡ worker) × (x.program ≡ p.now)) }
     ensures fault { IfErr result (λ e. IsRunFault

@@ -1,15 +1,15 @@
 //! The pool of workers.
 
-ghost use Rattle.std.specs.Prelude.{◌≡◌, ◌+◌, ◌<◌, ◌^◌, length, IfOk, IfErr};
+ghost use Rattle.std.specs.Prelude.{◌≡◌, ◌+◌, ◌<◌, ◌^◌, All, length, map, IfOk, IfErr};
 ghost use Rattle.run_core.specs.Run.{IsComplete, IsLegal};
 ghost use Rattle.worker_pool.specs.Faults.{IsPlanFault};
 ghost use Rattle.worker_pool.specs.Plans.{HaveTests, units_of};
 
+use crate::chain_jobs::ChainJobs;
 use crate::finish::{count, finish};
 use crate::plan_fault::PlanFault;
-use crate::slots::{lend, slots_of};
-use crate::worker::work_all;
 use et_base::{Items, NoMemory};
+use job_pool::{slots_of, work_all};
 use order_law::Chains;
 use outside::{Gate, Steps};
 use run_core::{Core, RunName};
@@ -34,6 +34,17 @@ fn copy_of(alloc: Global, c: &Chains) -> Result<Chains, NoMemory>
     Ok(Chains { lists })
 }
 
+/// The chains of each share, by their numbers. The only error is want of memory.
+fn numbers_of(alloc: Global, shares: &[Share]) -> Result<Items<Items<u32>>, NoMemory>
+    ensures { IfOk result (λ lists. lists ≡ map (λ s. s.chains) shares.now) }
+{
+    let mut lists = Items::new(alloc);
+    for share in shares {
+        lists.push(Items::from_slice(alloc, share.chains.as_slice())?)?;
+    }
+    Ok(lists)
+}
+
 /// Lets a worker for each share work over a board with this core, and answers the core. The only error is want of memory.
 fn run_workers<N: RunName + Send + Sync, R: Threads + Wait + Sync, G: Gate + Sync>(
     rt: &R,
@@ -49,13 +60,18 @@ fn run_workers<N: RunName + Send + Sync, R: Threads + Wait + Sync, G: Gate + Syn
     requires workers { (length shares.now ≡ N.workers) × (core.workers ≡ N.workers)
         × (N.workers < 2 ^ 32) }
     requires tests { HaveTests N.program N.chains }
+    requires short { All (λ s. length s.chains < 2 ^ 32) shares.now }
     ensures { IfOk result (λ k. (k.program ≡ N.program) × (k.chains ≡ N.chains)
         × (k.workers ≡ N.workers)) }
 {
-    let mut slots = slots_of::<N>(alloc, p, shares)?;
-    lend::<N>(&mut slots)?;
+    let lists = numbers_of(alloc, shares)?;
+    let mut slots = slots_of::<N>(alloc, p, lists.as_slice())?;
     let board = Board::<N>::new(core);
-    work_all(rt, &board, c.lists.as_slice(), gate, slots.as_mut_slice());
+    let jobs = ChainJobs::<N> {
+        board: &board,
+        chains: c.lists.as_slice(),
+    };
+    work_all(rt, &jobs, gate, slots.as_mut_slice());
     Ok(board.into_core())
 }
 
@@ -84,11 +100,9 @@ pub fn run_plan<R: Threads + Wait + Sync, G: Gate + Sync, L: Ledger>(
         (λ e. IsPlanFault p.now c.now.lists (length plan.now.shares) e) }
 {
     let shares = plan.shares.as_slice();
-    if shares.len() > u32::MAX as usize || c.lists.len() > u32::MAX as usize {
-        return Err(PlanFault::NoMemory);
-    }
+    let program = p.program();
     let chains = c.lists.len() as u32;
-    let core = Core::new(alloc, p.program(), copy_of(alloc, c)?, shares.len() as u32)?;
+    let core = Core::new(alloc, program, copy_of(alloc, c)?, shares.len() as u32)?;
     let core = run_workers::<Brand, R, G>(rt, alloc, p, c, shares, gate, core)?;
     let core = finish(rt, alloc, p, gate, core, chains)?;
     count(core.history(), steps);

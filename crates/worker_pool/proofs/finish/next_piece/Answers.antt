@@ -4,13 +4,18 @@ use Rattle.run_core.specs.Run.{history}
 use Rattle.test_run.specs.declared.run_fault.RunFault.{RunFault}
 use Rattle.worker_pool.specs.Faults.{IsRunFault}
 use Rattle.worker_pool.specs.Plans.{IsStop}
-use Rattle.worker_pool.proofs.Tests.{posted_tests, open_test, stops}
+use Rattle.worker_pool.proofs.Tests.{posted_tests, posts_give, open_test, stops}
 use Rattle.worker_pool.proofs.finish.next_piece.Goals as goal
 
 pub run_again-requires-clause-tests : goal.run_again-requires-clause-tests
 run_again-requires-clause-tests g c =
     let k = c.args.core.now in
     posted_tests k.program k.chains k.workers (history k) c.args.worker c.history-events.ensures.legal c.requires.tests
+
+pub run_again-requires-clause-given : goal.run_again-requires-clause-given
+run_again-requires-clause-given g c =
+    let k = c.args.core.now in
+    posts_give k.program k.chains k.workers (history k) c.args.worker c.history-events.ensures.legal
 
 pub run_again-requires-clause-test : goal.run_again-requires-clause-test
 run_again-requires-clause-test g c =

@@ -1,7 +1,8 @@
-use Rattle.std.proofs.Common.{◌∙◌, ℕ, List, sym, subst}
+use Rattle.std.proofs.Common.{◌≡◌, ◌∙◌, ℕ, List, None, sym, subst}
 use Rattle.std.specs.Result.{IfErr}
 use Rattle.std.proofs.lemmas.Result.{IfOk-weaker}
 use Rattle.jvm_model.specs.declared.program.Program.{Program}
+use Rattle.jvm_model.specs.Suite.{first_over}
 use Rattle.worker_pool.specs.Faults.{IsRunFault}
 use Rattle.worker_pool.specs.Plans.{AreTests}
 use Rattle.worker_pool.proofs.finish.run_again.Goals as goal
@@ -10,6 +11,11 @@ pub run_after-requires-clause-tests : goal.run_after-requires-clause-tests
 run_after-requires-clause-tests g c =
     let l = c.posts-list in
     subst (λ (p : Program). AreTests p l.result.now) (sym (c.in_ok-machine.ensures.0 ∙ c.requires.program)) (subst (λ (z : List ℕ). AreTests c.args.core.now.program z) (sym l.ensures) c.requires.tests)
+
+pub run_after-requires-clause-given : goal.run_after-requires-clause-given
+run_after-requires-clause-given g c =
+    let l = c.posts-list in
+    subst (λ (p : Program). first_over p l.result.now ≡ None) (sym (c.in_ok-machine.ensures.0 ∙ c.requires.program)) (subst (λ (z : List ℕ). first_over c.args.core.now.program z ≡ None) (sym l.ensures) c.requires.given)
 
 pub returns-clause-piece : goal.returns-clause-piece
 returns-clause-piece g c = IfOk-weaker c.run_after.result _ _ (λ x h. (h.1 ∙ c.in_ok-machine.ensures.1, h.0 ∙ c.in_ok-machine.ensures.0)) c.run_after.ensures.piece

@@ -1,15 +1,15 @@
-use Rattle.std.proofs.Common.{◌∙◌, ap, ℕ, List, length, map, sum_by, ◌+◌, arith}
+use Rattle.std.proofs.Common.{◌∙◌, ap, ℕ, List, length, map, arith}
 use Rattle.run_core.specs.Kept.{row}
+use Rattle.run_core.specs.Run.{most_events}
 use Rattle.run_core.proofs.Kept.{kept_first}
 use Rattle.run_core.proofs.history.Core.new.Goals as goal
 
 pub invariant_of-result : goal.invariant_of-result
 invariant_of-result c =
-    let sum = ap (sum_by (λ (c : List ℕ). length c + 1)) c.as_slice.ensures in
-    let few = c.in-Some.ensures in
+    let sum = ap most_events c.as_slice.ensures in
     kept_first _ c.args.chains.lists c.args.workers _ _ _ _ c.args.chains.form
-    (omega (arith, few.0, few.1, sum))
-    (omega (arith, few.0, sum, c.in_ok-history.ensures.exact))
+    (omega (arith, c.requires.few))
+    (omega (arith, sum, c.count_events-events.ensures, c.in_ok-history.ensures.exact))
     (c.in_ok-rows.ensures ∙ ap (map (λ (c : List ℕ). row 0 0 (length c))) c.as_slice-2.ensures)
     c.in_ok-hands.ensures
     c.in_ok-history.ensures.items
