@@ -1,25 +1,30 @@
--- With the record that `detect` wrote a run is one with the suite's own record.
-use Rattle.std.proofs.Common.{if◌then◌else◌, false, ◌≡◌, ℕ, List, Bool, true, Option, Some, None, Result, Ok, Err, refl, sym, ap, ◌∙◌, subst}
+-- With the record that `detect` wrote a run or an order is one with the suite's own record.
+use Rattle.std.proofs.Common.{if◌then◌else◌, false, ◌≡◌, ℕ, List, length, nat_le, Bool, true, Option, Some, None, Result, Ok, Err, refl, sym, ap, ◌∙◌, subst}
 use Rattle.std.specs.List.{list_all}
-use Rattle.std.proofs.lemmas.Bool.{and_from}
+use Rattle.std.proofs.lemmas.Bool.{and_from, le-leb}
 use Rattle.order_law.specs.declared.records.More.{More}
 use Rattle.order_law.specs.declared.records.Record.{Record}
 use Rattle.order_law.specs.Reach.{IsRecordOf}
-use Rattle.outside.specs.Depot.{Files}
+use Rattle.outside.specs.Depot.{Files, content}
 use Rattle.outside.specs.Sink.{SinkView}
 use Rattle.dep_record.specs.Laws.{AreHashes}
 use Rattle.dep_record.specs.RecordReading.{said_in}
-use Rattle.dep_record.specs.RecordText.{said, record_text, is_hash, more_hashes}
+use Rattle.dep_record.specs.RecordText.{said, record_text, is_hash, more_hashes, has_hashes}
 use Rattle.dep_record.proofs.GivenLaws.{given_text}
 use Rattle.dep_record.proofs.HashLaws.{hashes_law}
 use Rattle.suite_load.specs.declared.loaded.Loaded.{Loaded}
 use Rattle.electrictest.specs.declared.status.Status.{Status}
 use Rattle.electrictest.specs.Commands.{Asked, Served}
 use Rattle.electrictest.specs.Loads.{LoadsNamed, LoadsAny, quieted, prepared}
-use Rattle.electrictest.specs.OwnRecords.{AsksOwn, AsksDetected, DetectedAnswer}
-use Rattle.electrictest.specs.Words.{Ask, is_eager, suite_word}
+use Rattle.electrictest.specs.OwnLists.{DetectedOrderAnswer}
+use Rattle.electrictest.specs.OwnPools.{DetectedAnswer}
+use Rattle.electrictest.specs.OwnRecords.{AsksOwnRecord, HoldsSaying, HoldsText}
+use Rattle.electrictest.specs.Records.{record_bytes, record_limit, within_limit}
+use Rattle.electrictest.specs.Words.{Ask, is_eager, suite_word, word_at}
 use Rattle.electrictest.proofs.LoadedFacts.{loaded_from}
 use Rattle.electrictest.proofs.OwnAnswers.{own_answer}
+use Rattle.electrictest.proofs.OwnOrderLaws.{own_order_answer}
+use Rattle.electrictest.proofs.RecordSizes.{record_short}
 
 -- ---- a suite that is loaded has sums
 
@@ -47,25 +52,38 @@ hashes_of_more l (Some m) x h =
     let same = h m refl in
     and_from _ _ (ap is_hash same.0 ∙ x.suite) (ap (list_all is_hash) same.1 ∙ x.classes)
 
-pub read_back : (l : Loaded) (r : Record) → AreHashes l.prints → IsRecordOf l.checked l.prints r → said_in (record_text r) ≡ Ok (said r)
-read_back l r x is =
+pub own_hashes : (l : Loaded) (r : Record) → AreHashes l.prints → IsRecordOf l.checked l.prints r → has_hashes (said r) ≡ true
+own_hashes l r x is =
     let more = hashes_of_more l r.more x (λ m e. let own = is.more m e in (own.suite, own.classes)) in
-    given_text (said r) r.form r.more_form (and_from _ _ (ap is_hash is.digest ∙ x.digest) more)
+    and_from _ _ (ap is_hash is.digest ∙ x.digest) more
 
-asks_own : (files : Files) (a : Ask) (workers : ℕ) (log : Bool) (l : Loaded) (tests : List ℕ) → AsksDetected files a workers log l tests → AsksOwn files a workers log l tests
-asks_own files a workers log l tests asks =
-    let found = asks.found.is in
+pub read_back : (l : Loaded) (r : Record) → AreHashes l.prints → IsRecordOf l.checked l.prints r → said_in (record_text r) ≡ Ok (said r)
+read_back l r x is = given_text (said r) r.form r.more_form (own_hashes l r x is)
+
+-- and a file that holds it isn't too large
+pub held_text : (files : Files) (name : List ℕ) (r : Record) → has_hashes (said r) ≡ true → content files name ≡ Some (record_text r) → record_bytes files name ≡ Ok (record_text r)
+unfolding record_bytes
+held_text files name r x holds =
+    let short : nat_le (length (record_text r)) record_limit ≡ true = le-leb (length (record_text r)) record_limit (record_short r x) in
+    ap (within_limit name) holds ∙ rw short refl
+
+-- so a file that holds the record's text says what the record says
+says_own : (files : Files) (a : Ask) (l : Loaded) → AsksOwnRecord HoldsText files a l → AsksOwnRecord HoldsSaying files a l
+says_own files a l by =
+    let hashes = have_hashes files (is_eager a.words) (suite_word a) l by.load in
+    let held = held_text files (word_at a.words 2) by.kept (own_hashes l by.kept hashes by.own) by.holds in
     record {
-      asks = asks.asks;
-      load = asks.load;
-      detected = found.detected;
-      named = asks.named;
-      kept = asks.found.found.kept;
-      own = found.kept;
-      bytes = asks.text;
-      held = asks.held;
-      says = ap said_in asks.found.writes ∙ read_back l asks.found.found.kept (have_hashes files (is_eager a.words) (suite_word a) l asks.load) found.kept;
+      load = by.load;
+      detected = by.detected;
+      kept = by.kept;
+      own = by.own;
+      holds = record { bytes = record_text by.kept; held = held; says = read_back l by.kept hashes by.own };
     }
 
 pub detected_answer : (asked : Asked) (s : Status) (old new : SinkView) → Served asked s old new → DetectedAnswer asked s old new
-detected_answer asked s old new h = λ workers log l tests asks. own_answer asked s old new h workers log l tests (asks_own asked.files asked.ask workers log l tests asks)
+detected_answer asked s old new h = λ workers log l tests asks.
+    own_answer asked s old new h workers log l tests (record { asks = asks.asks; named = asks.named; by = says_own asked.files asked.ask l asks.by })
+
+pub detected_order_answer : (asked : Asked) (s : Status) (old new : SinkView) → Served asked s old new → DetectedOrderAnswer asked s old new
+detected_order_answer asked s old new h = λ l tests asks.
+    own_order_answer asked s old new h l tests (record { asks = asks.asks; named = asks.named; lawful = asks.lawful; by = says_own asked.files asked.ask l asks.by })

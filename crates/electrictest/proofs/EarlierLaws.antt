@@ -1,5 +1,5 @@
 -- With the record that `detect` wrote of the suite's earlier state, each test that an impact doesn't name has the lines that it had.
-use Rattle.std.proofs.Common.{if◌then◌else◌, ◌≡◌, ℕ, zero, suc, ◌+◌, ◌<◌, ◌≤◌, List, [], ◌∷◌, length, map, slice_get, filter, Bool, true, false, cond, ◌==◌, refl, sym, ap, ◌∙◌, subst, inl, inr, arith, Option, Some, None, option_map, unwrap_or, IsSome, Result, Ok, Err}
+use Rattle.std.proofs.Common.{◌≡◌, ℕ, zero, suc, ◌+◌, ◌<◌, ◌≤◌, List, [], ◌∷◌, length, map, slice_get, filter, Bool, true, false, cond, ◌==◌, refl, sym, ap, ◌∙◌, subst, inl, inr, arith, Option, Some, None, option_map, unwrap_or, IsSome, Result, Ok, Err}
 use Rattle.std.specs.List.{range_with_len}
 use Rattle.std.specs.Str.{bytes_eq}
 use Rattle.std.proofs.lemmas.Bool.{cases_eq, eq-eqb, false≢true}
@@ -19,8 +19,8 @@ use Rattle.order_law.specs.Histories.{IsTestNumber}
 use Rattle.order_law.specs.Reach.{IsMoreOf, IsRecordOf, units_in}
 use Rattle.outside.specs.Depot.{Files}
 use Rattle.outside.specs.Sink.{SinkView}
-use Rattle.dep_record.specs.RecordReading.{said_in}
-use Rattle.dep_record.specs.RecordText.{said}
+use Rattle.dep_record.specs.Laws.{AreHashes}
+use Rattle.dep_record.specs.RecordText.{said, record_text}
 use Rattle.suite_load.specs.declared.suite_text.SuiteText.{SuiteText}
 use Rattle.suite_load.specs.declared.loaded.Loaded.{Loaded}
 use Rattle.suite_load.specs.declared.load_fault.LoadFault.{LoadFault}
@@ -34,19 +34,17 @@ use Rattle.electrictest.specs.declared.status.Status.{Status}
 use Rattle.electrictest.specs.declared.status.Status.TheVariants as ends
 use Rattle.electrictest.specs.declared.status.InputFault.{InputFault}
 use Rattle.electrictest.specs.declared.status.OverFault.{OverFault}
-use Rattle.electrictest.specs.declared.words.Command.{Command}
 use Rattle.electrictest.specs.declared.words.Command.TheVariants as command
 use Rattle.electrictest.specs.Commands.{Asked, Served, Whole}
 use Rattle.electrictest.specs.EarlierRecords.{AsksEarlier, WroteImpact, EarlierAnswer, KeptLines, lines_in}
 use Rattle.electrictest.specs.Impacts.{IsImpacted}
-use Rattle.electrictest.specs.Loads.{LoadsFor, LoadsAny, Begins, begun_by, fits_for, named_by}
-use Rattle.electrictest.specs.Records.{Beginning, nameless, begun, record_at, suite_fits, classes_fit, earlier_fits}
+use Rattle.electrictest.specs.Loads.{LoadsFor, LoadsAny, begun_by, fits_for, named_by}
+use Rattle.electrictest.specs.Records.{Beginning, nameless, begun, record_at, record_bytes, suite_fits, classes_fit, earlier_fits}
 use Rattle.electrictest.specs.Replies.{IsRefusedInput, unloaded, unbegun, ungenerated, unlawful, ReportsBy, OversBy}
-use Rattle.electrictest.specs.Words.{Ask, is_eager, form_of, form_words, eager_of, command_of, plain_of, refusal_of, suite_word, word_at}
-use Rattle.electrictest.specs.Threaded.{threaded_of}
-use Rattle.electrictest.proofs.DetectedLaws.{have_hashes, read_back}
+use Rattle.electrictest.specs.Words.{Ask, Asking, is_eager, refusal_of, suite_word, word_at}
+use Rattle.electrictest.proofs.DetectedLaws.{have_hashes, held_text, own_hashes, read_back}
 use Rattle.electrictest.proofs.LoadedFacts.{IsLoaded, loaded_from, plain_named, as_many, are_classes, sums_tell, is_good, same_suite}
-use Rattle.electrictest.proofs.OwnAnswers.{any_once, loaded_once}
+use Rattle.electrictest.proofs.OwnRecordLaws.{any_once, begins_once, starts_once, own_ends}
 
 -- ---- what isn't named isn't picked
 
@@ -79,10 +77,10 @@ unpicked_from m q x t many number unnamed =
 
 -- ---- the record of the earlier state
 
-names_suite : (a : Ask) → a.command ≡ Some command.Impact → suite_word a ≡ Ok (word_at a.words 1)
-names_suite a e = ap (λ (c : Option Command). elim (refusal_of c) [ None ↦ Ok (word_at a.words 1) | Some s ↦ Err s ]) e
+names_suite : (a : Ask) → a.command ≡ Ok command.Impact → suite_word a ≡ Ok (word_at a.words 1)
+names_suite a e = ap (λ (c : Asking). elim (refusal_of c) [ None ↦ Ok (word_at a.words 1) | Some s ↦ Err s ]) e
 
-loads_suite : (files : Files) (a : Ask) (l : Loaded) → is_eager a.words ≡ false → a.command ≡ Some command.Impact → LoadsFor files a (Ok l) → (suite : SuiteText) × IsLoaded files (word_at a.words 1) suite l
+loads_suite : (files : Files) (a : Ask) (l : Loaded) → is_eager a.words ≡ false → a.command ≡ Ok command.Impact → LoadsFor files a (Ok l) → (suite : SuiteText) × IsLoaded files (word_at a.words 1) suite l
 loads_suite files a l n e h =
     let plain : LoadsAny files false (suite_word a) (Ok l) = subst (λ (b : Bool). LoadsAny files b (suite_word a) (Ok l)) n h in
     loaded_from files (word_at a.words 1) l (plain_named files (word_at a.words 1) l (subst (λ (w : Result (List ℕ) Status). LoadsAny files false w (Ok l)) (names_suite a e) plain))
@@ -165,20 +163,23 @@ module _ (before now : Files) (a : Ask) (was l : Loaded) (plain : is_eager a.wor
       let many : (length kept.units == length l.checked.tests) ≡ true = eq-eqb (length kept.units) (length l.checked.tests) units_many in
       rw suite_ok (rw many classes_ok)
 
-  says : said_in asks.text ≡ Ok (said kept)
-  says = ap said_in asks.found.writes ∙ read_back was kept (have_hashes before (is_eager a.words) (suite_word a) was asks.load_before) own
+  texts : asks.text ≡ record_text kept
+  texts = asks.found.writes
+
+  hashes : AreHashes was.prints
+  hashes = have_hashes before (is_eager a.words) (suite_word a) was asks.load_before
+
+  held : record_bytes now (word_at a.words 2) ≡ Ok (record_text kept)
+  held = held_text now (word_at a.words 2) kept (own_hashes was kept hashes own) (asks.holds ∙ ap (λ (t : List ℕ). Some t) texts)
 
   begun_earlier : begun earlier_fits now l (Ok []) (word_at a.words 2) ≡ Ok (nameless kept)
   unfolding begun record_at
-  begun_earlier = rw asks.held (rw says (rw fits refl))
+  begun_earlier = rw held (rw (read_back was kept hashes own) (rw fits refl))
 
-  begins_earlier : (x : Loaded) (b : Result Beginning InputFault) → Begins now a x b → (x ≡ l) × (b ≡ Ok (nameless kept))
-  begins_earlier x b h =
-      let same : x ≡ l = loaded_once now a l x asks.load h.load in
-      let here : begun_by now a l ≡ Some (Ok (nameless kept)) =
-      ap (λ (c : Option Command). option_map (λ (n : Result (List ℕ) InputFault). begun (fits_for c) now l n (word_at a.words 2)) (named_by c a.words l)) asks.asks
-      ∙ ap (λ (r : Result Beginning InputFault). Some r) begun_earlier in
-      (same, ap (λ (o : Option (Result Beginning InputFault)). unwrap_or o b) (sym h.begins ∙ (ap (begun_by now a) same ∙ here)))
+  begun_here : begun_by now a l ≡ Some (Ok (nameless kept))
+  begun_here =
+      ap (λ (c : Asking). option_map (λ (n : Result (List ℕ) InputFault). begun (fits_for c) now l n (word_at a.words 2)) (named_by c a.words l)) asks.asks
+      ∙ ap (λ (r : Result Beginning InputFault). Some r) begun_earlier
 
   -- ---- the law of changed class files
 
@@ -198,14 +199,14 @@ module _ (before now : Files) (a : Ask) (was l : Loaded) (plain : is_eager a.wor
 
   -- ---- answers
 
-  wrote : (passed : Bool) (text : List ℕ) (units : ℕ) (old new : SinkView) → IsImpacted now a passed text units → Whole text old new → WroteImpact was l old new
+  wrote : (passed : Bool) (text : List ℕ) (units : ℕ) (old new : SinkView) → IsImpacted now a passed text units → Whole text old new → WroteImpact was l passed old new
   unfolding impact_text
   wrote passed text units old new r whole =
-      let same = begins_earlier r.loaded (Ok r.beginning) r.begins in
-      let began : r.beginning ≡ nameless kept = (let z = same.1 in cc) in
-      let more : r.more ≡ has.more = (let z = sym r.newer ∙ (ap (λ (b : Beginning). b.said.more) began ∙ has.is) in cc) in
+      let same = starts_once now a l (nameless kept) asks.load begun_here r.loaded r.beginning r.begins in
+      let more : r.more ≡ has.more = (let z = sym r.newer ∙ (ap (λ (b : Beginning). b.said.more) same.1 ∙ has.is) in cc) in
       let here : text ≡ impact_text l.names has.more l.checked l.prints = r.reports ∙ (ap (λ (x : Loaded). impact_text x.names r.more x.checked x.prints) same.0 ∙ ap (λ (m : More). impact_text l.names m l.checked l.prints) more) in
       record {
+        ends = r.ends;
         files = changed has.more l.prints;
         tests = picked has.more l.checked l.prints;
         whole = subst (λ (z : List ℕ). Whole z old new) here whole;
@@ -213,76 +214,25 @@ module _ (before now : Files) (a : Ask) (was l : Loaded) (plain : is_eager a.wor
       }
 
   reports_impact : (passed : Bool) (text : List ℕ) (units : ℕ) → ReportsBy a.command now a passed text units → IsImpacted now a passed text units
-  reports_impact passed text units r = subst (λ (c : Option Command). ReportsBy c now a passed text units) asks.asks r
+  reports_impact passed text units r = subst (λ (c : Asking). ReportsBy c now a passed text units) asks.asks r
 
   never_over : (f : OverFault) → OversBy a.command now a f → ⊥
-  never_over f r = subst (λ (c : Option Command). OversBy c now a f) asks.asks r
+  never_over f r = subst (λ (c : Asking). OversBy c now a f) asks.asks r
 
   never_refused : (f : InputFault) → IsRefusedInput now a f → ⊥
   never_refused f (unloaded h) = let e = any_once now (is_eager a.words) (suite_word a) (Ok l) (Err (ends.Input f)) asks.load h in absurd (cc)
-  never_refused f (unbegun {l = x} h) = let e = (begins_earlier x (Err f) h).1 in absurd (cc)
+  never_refused f (unbegun {l = x} h) = let e = (begins_once now a l (nameless kept) asks.load begun_here x (Err f) h).begins in absurd (cc)
   never_refused f (ungenerated c h) = let e = sym asks.asks ∙ c in absurd (cc)
   never_refused f (unlawful {l = x} {b = b} c h u) = let e = sym asks.asks ∙ c in absurd (cc)
 
--- the words of an impact have no eager form
-not_eager : (c : Option Command) → eager_of c ≡ Some command.Impact → ⊥
-not_eager None e = absurd (cc)
-not_eager (Some command.Whole) e = absurd (cc)
-not_eager (Some command.NeedsRecord) e = absurd (cc)
-not_eager (Some (command.Run n log)) e = absurd (cc)
-not_eager (Some command.Detect) e = absurd (cc)
-not_eager (Some (command.Deps json)) e = absurd (cc)
-not_eager (Some command.Order) e = absurd (cc)
-not_eager (Some (command.Plan n)) e = absurd (cc)
-not_eager (Some command.Impact) e = absurd (cc)
-not_eager (Some (command.Gen k n)) e = absurd (cc)
-not_eager (Some command.Quiet) e = absurd (cc)
-
--- of the words of a command, what is served of an impact is the impact
-from_plain : (c : Option Command) → plain_of c ≡ Some command.Impact → c ≡ Some command.Impact
-from_plain (Some (command.Run n log)) e = absurd (cc)
-from_plain (Some (command.Gen k n)) e = absurd (cc)
-from_plain None e = e
-from_plain (Some command.Whole) e = e
-from_plain (Some command.NeedsRecord) e = e
-from_plain (Some command.Detect) e = e
-from_plain (Some (command.Deps json)) e = e
-from_plain (Some command.Order) e = e
-from_plain (Some (command.Plan n)) e = e
-from_plain (Some command.Impact) e = e
-from_plain (Some command.Quiet) e = e
-
-from_threaded : (c : Option Command) → threaded_of c ≡ Some command.Impact → c ≡ Some command.Impact
-from_threaded (Some (command.Run n log)) e = absurd (cc)
-from_threaded (Some (command.Gen k n)) e = absurd (cc)
-from_threaded None e = e
-from_threaded (Some command.Whole) e = e
-from_threaded (Some command.NeedsRecord) e = e
-from_threaded (Some command.Detect) e = e
-from_threaded (Some (command.Deps json)) e = e
-from_threaded (Some command.Order) e = e
-from_threaded (Some (command.Plan n)) e = e
-from_threaded (Some command.Impact) e = e
-from_threaded (Some command.Quiet) e = e
-
-is_plain : (b : Bool) (c d : Option Command) → ◌≡◌ {A = Option Command} (if b then eager_of c else d) (Some command.Impact) → b ≡ false
-is_plain true c d e = absurd (not_eager c e)
-is_plain false c d e = refl
-
-pub plain_impact : (words : List (List ℕ)) → plain_of (command_of words) ≡ Some command.Impact → is_eager words ≡ false
-plain_impact words e = is_plain (is_eager words) (form_of (form_words words)) (form_of words) (from_plain (command_of words) e)
-
-pub threaded_impact : (words : List (List ℕ)) → threaded_of (command_of words) ≡ Some command.Impact → is_eager words ≡ false
-threaded_impact words e = is_plain (is_eager words) (form_of (form_words words)) (form_of words) (from_threaded (command_of words) e)
-
-pub earlier_answer : (asked : Asked) (s : Status) (old new : SinkView) → (asked.ask.command ≡ Some command.Impact → is_eager asked.ask.words ≡ false) → Served asked s old new → EarlierAnswer asked s old new
-earlier_answer asked ends.Done old new plain h = λ before was l asks.
-    wrote before asked.files asked.ask was l (plain asks.asks) asks true h.reply.text h.reply.units old new (reports_impact before asked.files asked.ask was l (plain asks.asks) asks true h.reply.text h.reply.units h.reply.answers) h.whole
-earlier_answer asked ends.NotPassed old new plain h = λ before was l asks.
-    false≢true ((reports_impact before asked.files asked.ask was l (plain asks.asks) asks false h.reply.text h.reply.units h.reply.answers).ends)
-earlier_answer asked ends.NoMemory old new plain h = λ before was l asks. h
-earlier_answer asked ends.Sink old new plain h = λ before was l asks. tt
-earlier_answer asked (ends.Depot name) old new plain h = λ before was l asks. tt
-earlier_answer asked ends.Words old new plain h = λ before was l asks. let e = sym asks.asks ∙ h.reply.answers.0 in absurd (cc)
-earlier_answer asked (ends.Input f) old new plain h = λ before was l asks. never_refused before asked.files asked.ask was l (plain asks.asks) asks f h.reply.answers.0
-earlier_answer asked (ends.Over f) old new plain h = λ before was l asks. never_over before asked.files asked.ask was l (plain asks.asks) asks f h.reply.answers.0
+pub earlier_answer : (asked : Asked) (s : Status) (old new : SinkView) → (asked.ask.command ≡ Ok command.Impact → is_eager asked.ask.words ≡ false) → Served asked s old new → EarlierAnswer asked s old new
+earlier_answer asked s old new plain h = λ before was l asks.
+    let files = asked.files in
+    let a = asked.ask in
+    let p = plain asks.asks in
+    own_ends (WroteImpact was l) asked old new
+    (λ passed text units r whole counts. wrote before files a was l p asks passed text units old new (reports_impact before files a was l p asks passed text units r) whole)
+    (λ e. let none = sym asks.asks ∙ e in absurd (cc))
+    (never_refused before files a was l p asks)
+    (never_over before files a was l p asks)
+    s h

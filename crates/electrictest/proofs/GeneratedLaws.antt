@@ -17,11 +17,11 @@ use Rattle.suite_load.specs.declared.load_fault.LoadFault.TheVariants as fault
 use Rattle.suite_load.specs.declared.loaded.Loaded.{Loaded}
 use Rattle.suite_load.specs.LoadAnswers.{LoadAnswers, IsProper}
 use Rattle.electrictest.specs.declared.recorded.Request.{Request}
-use Rattle.electrictest.specs.declared.pool_reports.Tally.{Tally}
+use Rattle.electrictest.specs.declared.tallies.Tally.{Tally}
 use Rattle.electrictest.specs.declared.status.Status.{Status}
 use Rattle.electrictest.specs.declared.status.Status.TheVariants as ends
 use Rattle.electrictest.specs.declared.words.Command.TheVariants as command
-use Rattle.electrictest.specs.Commands.{IsProperRefusal, IsProperRun, ReportEnds, Reported}
+use Rattle.electrictest.specs.Commands.{HasForm, IsProperRefusal, IsProperRun, ReportEnds, Reported}
 use Rattle.electrictest.specs.Generated.{suite_name, suite_files, summary_text, summary_by, conflict_line, counted, whole_suite, IsWholeRequest, IsSummed, Sums, Unsummed}
 use Rattle.electrictest.specs.Loads.{LoadsNamed, IsSuite, status_of}
 use Rattle.electrictest.specs.PoolRuns.{IsChosen, LawOfOwnRuns, PoolRefused, outcomes}
@@ -30,7 +30,8 @@ use Rattle.electrictest.specs.Replies.{Unreported, ungenerated}
 use Rattle.electrictest.specs.Running.{RunRefused}
 use Rattle.electrictest.specs.Selections.{IsTestOf}
 use Rattle.electrictest.specs.Tallies.{IsTally, IsTallyOf}
-use Rattle.electrictest.specs.Words.{ask}
+use Rattle.electrictest.specs.Words.{Ask}
+use Rattle.electrictest.proofs.AskedFor.{reports_as, overs_as}
 use Rattle.electrictest.proofs.PlanLaws.{tests_have}
 use Rattle.electrictest.proofs.PoolLaws.{own_runs, pool_ran}
 use Rattle.electrictest.proofs.PoolReplies.{is_of_suite}
@@ -121,16 +122,16 @@ pool_unsummed k l b ends.Sink suite linked w named r = absurd r
 pub summary_is : (tests workers chains : ℕ) (kept : Record) (xs : List (ℕ × Outcome)) (l : Loaded) (t : Tally) → IsTally l.names xs t → summary_by tests workers kept chains t ≡ summary_text tests workers kept chains (outcomes xs)
 unfolding summary_text
 summary_is tests workers chains kept xs l t h =
-    λ i. codes "electric-gen 1" ++ (10 ∷ (conflict_line tests kept.edges chains ++ (counted (codes "workers ") workers ++ (counted (codes " units ") (sum kept.units) ++ (32 ∷ count_line (h.passed i) (h.failed i) (h.error i))))))
+    λ i. codes "electric-gen 1" ++ (10 ∷ (conflict_line tests kept.edges chains ++ (counted (codes "workers ") workers ++ (counted (codes " units ") (sum kept.units) ++ (32 ∷ count_line (h.counts.passed i) (h.counts.failed i) (h.counts.error i))))))
 
 pub summed_of : (l : Loaded) (b : Beginning) (kept : Record) (set : List ℕ) (chains : List (List ℕ)) (many : ℕ) (run : Run) (tests workers : ℕ) (y : Tally) (text : List ℕ) → IsChosen b set chains many → run.program ≡ l.checked →
     run.chains ≡ chains → run.workers ≡ workers → IsLegal run → IsComplete run → IsTallyOf l.names (history run) set y → text ≡ summary_by tests workers kept (length chains) y →
-    IsSummed l b kept tests workers y.all_passed text (units_of run.events)
+    IsSummed l b kept tests workers y.counts.all_passed text (units_of run.events)
 unfolding pool_ran
 summed_of l b kept set chains many run tests workers y text chosen program same by legal whole tally reads =
-    subst (λ (n : ℕ). IsSummed l b kept tests n y.all_passed text (units_of run.events)) by (record {
+    subst (λ (n : ℕ). IsSummed l b kept tests n y.counts.all_passed text (units_of run.events)) by (record {
       ran = pool_ran l b set chains many run y chosen program same legal whole tally;
-      verdicts = sym tally.tally.all;
+      verdicts = sym tally.tally.counts.all;
       reports = reads ∙ (ap (λ (n : ℕ). summary_by tests n kept (length chains) y) (sym by) ∙ summary_is tests run.workers (length chains) kept tally.given l y tally.tally);
     })
 
@@ -160,28 +161,28 @@ sums_of k workers l b passed text units begun mid now suite linked load w named 
 
 -- ---- what is asked
 
-pub summary_answers : (told : Option Files) (words : List (List ℕ)) (k workers : ℕ) (passed : Bool) (text : List ℕ) (begun now : ℕ) → Sums k workers passed text begun now →
-    IfSome told (λ files. Reported files (ask (Some (command.Gen k workers)) words) passed text begun now)
-summary_answers None words k workers passed text begun now s = tt
-summary_answers (Some files) words k workers passed text begun now s = record { units = s.units; report = s.summary; steps = s.steps }
+pub summary_answers : (told : Option Files) (a : Ask) (k workers : ℕ) (passed : Bool) (text : List ℕ) (begun now : ℕ) → a.command ≡ Ok (command.Gen k workers) → Sums k workers passed text begun now →
+    IfSome told (λ files. Reported files a passed text begun now)
+summary_answers None a k workers passed text begun now e s = tt
+summary_answers (Some files) a k workers passed text begun now e s = record { units = s.units; report = reports_as (Ok (command.Gen k workers)) files a passed text s.units e s.summary; steps = s.steps }
 
-pub summary_refused : (told : Option Files) (words : List (List ℕ)) (k workers : ℕ) (s : Status) → Unsummed k s → IfSome told (λ files. Unreported files (ask (Some (command.Gen k workers)) words) s)
-summary_refused None words k workers s u = tt
-summary_refused (Some files) words k workers ends.NoMemory u = tt
-summary_refused (Some files) words k workers (ends.Over f) u = u
-summary_refused (Some files) words k workers (ends.Input f) u = ungenerated refl u
-summary_refused (Some files) words k workers (ends.Depot name) u = absurd u
-summary_refused (Some files) words k workers ends.Words u = absurd u
-summary_refused (Some files) words k workers ends.Done u = absurd u
-summary_refused (Some files) words k workers ends.NotPassed u = absurd u
-summary_refused (Some files) words k workers ends.Sink u = absurd u
+pub summary_refused : (told : Option Files) (a : Ask) (k workers : ℕ) (s : Status) → a.command ≡ Ok (command.Gen k workers) → Unsummed k s → IfSome told (λ files. Unreported files a s)
+summary_refused None a k workers s e u = tt
+summary_refused (Some files) a k workers ends.NoMemory e u = tt
+summary_refused (Some files) a k workers (ends.Over f) e u = overs_as (Ok (command.Gen k workers)) files a f e u
+summary_refused (Some files) a k workers (ends.Input f) e u = ungenerated e u
+summary_refused (Some files) a k workers (ends.Depot name) e u = absurd u
+summary_refused (Some files) a k workers ends.Words e u = absurd u
+summary_refused (Some files) a k workers ends.Done e u = absurd u
+summary_refused (Some files) a k workers ends.NotPassed e u = absurd u
+summary_refused (Some files) a k workers ends.Sink e u = absurd u
 
-pub summary_ends : (words : List (List ℕ)) (k workers : ℕ) (s : Status) (depot : DepotView) → IsProperRun s → ReportEnds (ask (Some (command.Gen k workers)) words) s depot depot
-summary_ends words k workers ends.NoMemory depot p = tt
-summary_ends words k workers (ends.Over f) depot p = refl
-summary_ends words k workers (ends.Input f) depot p = (refl, p)
-summary_ends words k workers (ends.Depot name) depot p = absurd p
-summary_ends words k workers ends.Words depot p = absurd p
-summary_ends words k workers ends.Done depot p = absurd p
-summary_ends words k workers ends.NotPassed depot p = absurd p
-summary_ends words k workers ends.Sink depot p = absurd p
+pub summary_ends : (a : Ask) (s : Status) (depot : DepotView) → HasForm a → IsProperRun s → ReportEnds a s depot depot
+summary_ends a ends.NoMemory depot form p = tt
+summary_ends a (ends.Over f) depot form p = form
+summary_ends a (ends.Input f) depot form p = (form, p)
+summary_ends a (ends.Depot name) depot form p = absurd p
+summary_ends a ends.Words depot form p = absurd p
+summary_ends a ends.Done depot form p = absurd p
+summary_ends a ends.NotPassed depot form p = absurd p
+summary_ends a ends.Sink depot form p = absurd p

@@ -1,3 +1,4 @@
+mod AskedFor
 mod Request
 mod Founds
 mod ListRuns
@@ -7,10 +8,10 @@ mod OrderLists
 mod OrderLaws
 mod OrderRuns
 mod ImpactLaws
+mod QuietReports
 mod PlanLaws
 mod Replying
 mod SelectionLaws
-mod TextLaws
 mod WholeLaws
 mod WholeRuns
 mod LogLaws
@@ -20,10 +21,12 @@ mod WholeThenPart
 mod PoolLaws
 mod ChosenLaws
 mod PoolReplies
+mod RecordSizes
+mod OwnRecordLaws
 mod OwnAnswers
 mod OwnOrderLaws
 mod GeneratedLaws
 mod DetectedLaws
 mod EagerLaws
 mod EarlierLaws
-pub mod QuietLaws
+mod QuietLaws

@@ -1,5 +1,5 @@
 -- How the words and a suite's loading are answered.
-use Rattle.std.proofs.Common.{◌≡◌, ◌≤◌, ℕ, List, Bool, refl, sym, ap, subst, ◌∙◌, Option, Some, None, Result, Ok, Err, IfSome, ◌-◌}
+use Rattle.std.proofs.Common.{◌≡◌, ◌≤◌, ℕ, List, Bool, refl, sym, ap, subst, ◌∙◌, Option, Some, None, Result, Ok, Err, IfSome, IfOk, IfErr, ◌-◌}
 use Rattle.outside.specs.Depot.{Files, DepotView, FailedAt}
 use Rattle.outside.proofs.CountLemmas.{rose_later}
 use Rattle.suite_load.specs.declared.load_fault.LoadFault.{LoadFault}
@@ -10,41 +10,41 @@ use Rattle.suite_load.specs.LoadAnswers.{LoadAnswers, IsProper}
 use Rattle.jvm_model.specs.Builtin.{builtin_count}
 use Rattle.quiet_init.specs.Quiet.{quiet}
 use Rattle.quiet_init.proofs.Parts.{class_count}
+use Rattle.electrictest.specs.declared.reports.Report.{Report}
 use Rattle.electrictest.specs.declared.status.Status.{Status}
 use Rattle.electrictest.specs.declared.status.Status.TheVariants as ends
-use Rattle.electrictest.specs.declared.words.Command.{Command}
-use Rattle.electrictest.specs.Words.{Ask, ask, is_eager, word_at, refusal_of, suite_word}
+use Rattle.electrictest.specs.Words.{Ask, is_eager, word_at, refusal_of, suite_word}
 use Rattle.electrictest.specs.Loads.{IsSuite, LoadsFor, LoadsAny, answered, quieted, prepared, status_of, of_suite}
 use Rattle.electrictest.specs.Replies.{Unreported, unloaded}
 use Rattle.electrictest.specs.Commands.{ReportEnds, ReportsOver, RefusedOver, Reported}
 
 -- ---- loading
 
-module _ (c : Option Command) (words : List (List ℕ)) (name : List ℕ) (asks : refusal_of c ≡ None) (named : name ≡ word_at words 1) where
-  names_suite : suite_word (ask c words) ≡ Ok name
-  names_suite = ap (λ (o : Option Status). elim o [ None ↦ Ok (word_at words 1) | Some s ↦ Err s ]) asks ∙ ap (λ (n : List ℕ). Ok n) (sym named)
+module _ (a : Ask) (name : List ℕ) (asks : refusal_of a.command ≡ None) (named : name ≡ word_at a.words 1) where
+  names_suite : suite_word a ≡ Ok name
+  names_suite = ap (λ (o : Option Status). elim o [ None ↦ Ok (word_at a.words 1) | Some s ↦ Err s ]) asks ∙ ap (λ (n : List ℕ). Ok n) (sym named)
 
-  loads_for : (files : Files) (answer : Result Loaded LoadFault) → Loads files name answer → LoadsFor files (ask c words) (prepared (is_eager words) (answered answer))
-  loads_for files answer h = subst (λ (w : Result (List ℕ) Status). LoadsAny files (is_eager words) w (prepared (is_eager words) (answered answer))) (sym names_suite) (answered answer, (answer, h, refl), refl)
+  loads_for : (files : Files) (answer : Result Loaded LoadFault) → Loads files name answer → LoadsFor files a (prepared (is_eager a.words) (answered answer))
+  loads_for files answer h = subst (λ (w : Result (List ℕ) Status). LoadsAny files (is_eager a.words) w (prepared (is_eager a.words) (answered answer))) (sym names_suite) (answered answer, (answer, h, refl), refl)
 
 -- its loading, for an eager form without its quiet initialisers
-pub loads_all : (told : Option Files) (c : Option Command) (words : List (List ℕ)) (name : List ℕ) (x l : Loaded) → refusal_of c ≡ None → name ≡ word_at words 1 →
-    IfSome told (λ files. LoadAnswers files name (Ok x)) → ◌≡◌ {A = Result Loaded Status} (Ok l) (prepared (is_eager words) (Ok x)) → IfSome told (λ files. LoadsFor files (ask c words) (Ok l))
-loads_all None c words name x l e n h p = tt
-loads_all (Some files) c words name x l e n h p = subst (LoadsFor files (ask c words)) (sym p) (loads_for c words name e n files (Ok x) h)
+pub loads_all : (told : Option Files) (a : Ask) (name : List ℕ) (x l : Loaded) → refusal_of a.command ≡ None → name ≡ word_at a.words 1 →
+    IfSome told (λ files. LoadAnswers files name (Ok x)) → ◌≡◌ {A = Result Loaded Status} (Ok l) (prepared (is_eager a.words) (Ok x)) → IfSome told (λ files. LoadsFor files a (Ok l))
+loads_all None a name x l e n h p = tt
+loads_all (Some files) a name x l e n h p = subst (LoadsFor files a) (sym p) (loads_for a name e n files (Ok x) h)
 
 -- the fault of its loading
-pub unloaded_for : (told : Option Files) (c : Option Command) (words : List (List ℕ)) (name : List ℕ) (f : LoadFault) (old new : DepotView) → refusal_of c ≡ None → name ≡ word_at words 1 →
-    IfSome told (λ files. LoadAnswers files name (Err f)) → IsProper (λ read. IfSome told (λ files. IsRead files name read) × FailedAt old new read) f → IfSome told (λ files. Unreported files (ask c words) (status_of f))
-unloaded_for None c words name f old new e n h p = tt
-unloaded_for (Some files) c words name fault.NoMemory old new e n h p = tt
-unloaded_for (Some files) c words name (fault.Depot read) old new e n h p = of_suite name (names_suite c words name e n) p.0
-unloaded_for (Some files) c words name (fault.Absent x) old new e n h p = unloaded (loads_for c words name e n files (Err (fault.Absent x)) h)
-unloaded_for (Some files) c words name (fault.TooLarge x) old new e n h p = unloaded (loads_for c words name e n files (Err (fault.TooLarge x)) h)
-unloaded_for (Some files) c words name (fault.Suite line why) old new e n h p = unloaded (loads_for c words name e n files (Err (fault.Suite line why)) h)
-unloaded_for (Some files) c words name (fault.Class x f) old new e n h p = unloaded (loads_for c words name e n files (Err (fault.Class x f)) h)
-unloaded_for (Some files) c words name (fault.Link f) old new e n h p = unloaded (loads_for c words name e n files (Err (fault.Link f)) h)
-unloaded_for (Some files) c words name (fault.Check f) old new e n h p = unloaded (loads_for c words name e n files (Err (fault.Check f)) h)
+pub unloaded_for : (told : Option Files) (a : Ask) (name : List ℕ) (f : LoadFault) (old new : DepotView) → refusal_of a.command ≡ None → name ≡ word_at a.words 1 →
+    IfSome told (λ files. LoadAnswers files name (Err f)) → IsProper (λ read. IfSome told (λ files. IsRead files name read) × FailedAt old new read) f → IfSome told (λ files. Unreported files a (status_of f))
+unloaded_for None a name f old new e n h p = tt
+unloaded_for (Some files) a name fault.NoMemory old new e n h p = tt
+unloaded_for (Some files) a name (fault.Depot read) old new e n h p = of_suite name (names_suite a name e n) p.0
+unloaded_for (Some files) a name (fault.Absent x) old new e n h p = unloaded (loads_for a name e n files (Err (fault.Absent x)) h)
+unloaded_for (Some files) a name (fault.TooLarge x) old new e n h p = unloaded (loads_for a name e n files (Err (fault.TooLarge x)) h)
+unloaded_for (Some files) a name (fault.Suite line why) old new e n h p = unloaded (loads_for a name e n files (Err (fault.Suite line why)) h)
+unloaded_for (Some files) a name (fault.Class x f) old new e n h p = unloaded (loads_for a name e n files (Err (fault.Class x f)) h)
+unloaded_for (Some files) a name (fault.Link f) old new e n h p = unloaded (loads_for a name e n files (Err (fault.Link f)) h)
+unloaded_for (Some files) a name (fault.Check f) old new e n h p = unloaded (loads_for a name e n files (Err (fault.Check f)) h)
 
 -- without its quiet initialisers a suite has the same tests and as many classes
 pub quieted_suite : (l : Loaded) → IsSuite l → IsSuite (quieted l)
@@ -53,22 +53,35 @@ quieted_suite l s = record { names = s.names; few = s.few; sums = s.sums ∙ ap 
 
 -- ---- and then the command
 
-pub reports_all : (told : Option Files) (a : Ask) (l : Loaded) (passed : Bool) (text : List ℕ) (begun now : ℕ) → IfSome told (λ files. LoadsFor files a (Ok l)) →
-    ReportsOver told a l passed text begun now → IfSome told (λ files. Reported files a passed text begun now)
-reports_all None a l passed text begun now load r = tt
-reports_all (Some files) a l passed text begun now load r = r load
+module _ (told : Option Files) (a : Ask) (l : Loaded) (load : IfSome told (λ files. LoadsFor files a (Ok l))) where
+  report_all : (told : Option Files) → IfSome told (λ files. LoadsFor files a (Ok l)) → (passed : Bool) (text : List ℕ) (begun now : ℕ) → ReportsOver told a l passed text begun now → IfSome told (λ files. Reported files a passed text begun now)
+  report_all None load passed text begun now r = tt
+  report_all (Some files) load passed text begun now r = r load
 
-pub refuses_all : (told : Option Files) (a : Ask) (l : Loaded) (s : Status) → IfSome told (λ files. LoadsFor files a (Ok l)) → RefusedOver told a l s → IfSome told (λ files. Unreported files a s)
-refuses_all None a l s load r = tt
-refuses_all (Some files) a l s load r = r load
+  pub reports_all : (begun now : ℕ) (report : Result Report Status) → IfOk report (λ r. ReportsOver told a l r.passed r.text begun now) → IfOk report (λ r. IfSome told (λ files. Reported files a r.passed r.text begun now))
+  reports_all begun now (Ok r) h = report_all told load r.passed r.text begun now h
+  reports_all begun now (Err s) h = tt
+
+  refuse_all : (told : Option Files) → IfSome told (λ files. LoadsFor files a (Ok l)) → (s : Status) → RefusedOver told a l s → IfSome told (λ files. Unreported files a s)
+  refuse_all None load s r = tt
+  refuse_all (Some files) load s r = r load
+
+  pub refuses_all : (report : Result Report Status) → IfErr report (λ s. RefusedOver told a l s) → IfErr report (λ s. IfSome told (λ files. Unreported files a s))
+  refuses_all (Ok r) h = tt
+  refuses_all (Err s) h = refuse_all told load s h
 
 -- a depot that failed after the suite was loaded
-pub ends_all : (a : Ask) (s : Status) (old mid new : DepotView) → old.faults ≤ mid.faults → ReportEnds a s mid new → ReportEnds a s old new
-ends_all a ends.NoMemory old mid new le r = tt
-ends_all a ends.Words old mid new le r = r
-ends_all a (ends.Input f) old mid new le r = r
-ends_all a (ends.Depot name) old mid new le r = (r.0, record { rose = rose_later old.faults mid.faults new.faults le r.1.rose; named = r.1.named })
-ends_all a (ends.Over f) old mid new le r = r
-ends_all a ends.Done old mid new le r = absurd r
-ends_all a ends.NotPassed old mid new le r = absurd r
-ends_all a ends.Sink old mid new le r = absurd r
+module _ (a : Ask) (old mid new : DepotView) (le : old.faults ≤ mid.faults) where
+  end_all : (s : Status) → ReportEnds a s mid new → ReportEnds a s old new
+  end_all ends.NoMemory r = tt
+  end_all ends.Words r = r
+  end_all (ends.Input f) r = r
+  end_all (ends.Depot name) r = (r.0, record { rose = rose_later old.faults mid.faults new.faults le r.1.rose; named = r.1.named })
+  end_all (ends.Over f) r = r
+  end_all ends.Done r = absurd r
+  end_all ends.NotPassed r = absurd r
+  end_all ends.Sink r = absurd r
+
+  pub ends_all : (report : Result Report Status) → IfErr report (λ s. ReportEnds a s mid new) → IfErr report (λ s. ReportEnds a s old new)
+  ends_all (Ok r) h = tt
+  ends_all (Err s) h = end_all s h

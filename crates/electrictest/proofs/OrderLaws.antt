@@ -7,56 +7,55 @@ use Rattle.suite_load.specs.declared.loaded.Loaded.{Loaded}
 use Rattle.electrictest.specs.declared.status.Status.{Status}
 use Rattle.electrictest.specs.declared.status.Status.TheVariants as ends
 use Rattle.electrictest.specs.declared.words.Command.TheVariants as command
-use Rattle.electrictest.specs.Words.{ask}
+use Rattle.electrictest.specs.Words.{Ask}
 use Rattle.electrictest.specs.Records.{Beginning}
 use Rattle.electrictest.specs.Loads.{begun_by}
-use Rattle.electrictest.specs.Orders.{order_input, Reports}
-use Rattle.electrictest.specs.Plans.{IsPlanReport}
+use Rattle.electrictest.specs.Orders.{order_input, IsOrdered, IsOrderedOver, Reports}
+use Rattle.electrictest.specs.Plans.{IsPlanned, IsPlanReport}
 use Rattle.electrictest.specs.PoolRuns.{IsOfSuite}
 use Rattle.electrictest.specs.Replies.{unlawful}
 use Rattle.electrictest.specs.Running.{OrderRefused}
-use Rattle.electrictest.specs.Commands.{IsProperInput, ReportEnds, ReportsOver, RefusedOver}
+use Rattle.electrictest.specs.Commands.{HasForm, IsProperInput, ReportEnds, ReportsOver, RefusedOver}
+use Rattle.electrictest.proofs.AskedFor.{reports_as, overs_as}
 
-pub order_reports : (told : Option Files) (words : List (List ℕ)) (l : Loaded) (b : Beginning) (passed : Bool) (text : List ℕ) (begun now : ℕ) → IfSome told (λ files. begun_by files (ask (Some command.Order) words) l ≡ Some (Ok b)) →
-    IsOfSuite l b → Reports l b passed text begun now → ReportsOver told (ask (Some command.Order) words) l passed text begun now
-order_reports None words l b passed text begun now g suite r = tt
-order_reports (Some files) words l b passed text begun now g suite r = λ h. record {
-  units = r.units;
-  report = record { loaded = l; beginning = b; begins = record { load = h; begins = g }; suite = suite; report = r.report };
-  steps = r.counts;
-}
+pub order_reports : (told : Option Files) (a : Ask) (l : Loaded) (b : Beginning) (passed : Bool) (text : List ℕ) (begun now : ℕ) → a.command ≡ Ok command.Order → IfSome told (λ files. begun_by files a l ≡ Some (Ok b)) →
+    IsOfSuite l b → Reports l b passed text begun now → ReportsOver told a l passed text begun now
+order_reports None a l b passed text begun now e g suite r = tt
+order_reports (Some files) a l b passed text begun now e g suite r = λ h.
+    let report : IsOrdered files a passed text r.units = record { loaded = l; beginning = b; begins = record { load = h; begins = g }; suite = suite; report = r.report } in
+    record { units = r.units; report = reports_as (Ok command.Order) files a passed text r.units e report; steps = r.counts }
 
-pub order_refused : (told : Option Files) (words : List (List ℕ)) (l : Loaded) (b : Beginning) (s : Status) → IfSome told (λ files. begun_by files (ask (Some command.Order) words) l ≡ Some (Ok b)) → IsOfSuite l b → OrderRefused l b s → RefusedOver told (ask (Some command.Order) words) l s
-order_refused None words l b s g suite r = tt
-order_refused (Some files) words l b ends.NoMemory g suite r = λ h. tt
-order_refused (Some files) words l b (ends.Input f) g suite r = λ h. unlawful refl (record { load = h; begins = g }) r
-order_refused (Some files) words l b (ends.Over f) g suite r = λ h. record { loaded = l; beginning = b; begins = record { load = h; begins = g }; suite = suite; over = r }
-order_refused (Some files) words l b (ends.Depot name) g suite r = absurd r
-order_refused (Some files) words l b ends.Words g suite r = absurd r
-order_refused (Some files) words l b ends.Done g suite r = absurd r
-order_refused (Some files) words l b ends.NotPassed g suite r = absurd r
-order_refused (Some files) words l b ends.Sink g suite r = absurd r
+pub order_refused : (told : Option Files) (a : Ask) (l : Loaded) (b : Beginning) (s : Status) → a.command ≡ Ok command.Order → IfSome told (λ files. begun_by files a l ≡ Some (Ok b)) → IsOfSuite l b → OrderRefused l b s → RefusedOver told a l s
+order_refused None a l b s e g suite r = tt
+order_refused (Some files) a l b ends.NoMemory e g suite r = λ h. tt
+order_refused (Some files) a l b (ends.Input f) e g suite r = λ h. unlawful e (record { load = h; begins = g }) r
+order_refused (Some files) a l b (ends.Over f) e g suite r = λ h.
+    let over : IsOrderedOver files a f = record { loaded = l; beginning = b; begins = record { load = h; begins = g }; suite = suite; over = r } in
+    overs_as (Ok command.Order) files a f e over
+order_refused (Some files) a l b (ends.Depot name) e g suite r = absurd r
+order_refused (Some files) a l b ends.Words e g suite r = absurd r
+order_refused (Some files) a l b ends.Done e g suite r = absurd r
+order_refused (Some files) a l b ends.NotPassed e g suite r = absurd r
+order_refused (Some files) a l b ends.Sink e g suite r = absurd r
 
 proper : (names : Names) (x : OrderFault) → IsProperInput (order_input names x)
 proper names (twice t) = tt
 proper names (missing_writer t u) = tt
 proper names (inverted a b) = tt
 
-pub order_ends : (words : List (List ℕ)) (l : Loaded) (b : Beginning) (s : Status) (old new : DepotView) → OrderRefused l b s → ReportEnds (ask (Some command.Order) words) s old new
-order_ends words l b ends.NoMemory old new r = tt
-order_ends words l b (ends.Input f) old new r = (refl, subst IsProperInput (sym r.named) (proper l.names r.found))
-order_ends words l b (ends.Over f) old new r = refl
-order_ends words l b (ends.Depot name) old new r = absurd r
-order_ends words l b ends.Words old new r = absurd r
-order_ends words l b ends.Done old new r = absurd r
-order_ends words l b ends.NotPassed old new r = absurd r
-order_ends words l b ends.Sink old new r = absurd r
+pub order_ends : (a : Ask) (l : Loaded) (b : Beginning) (s : Status) (old new : DepotView) → HasForm a → OrderRefused l b s → ReportEnds a s old new
+order_ends a l b ends.NoMemory old new form r = tt
+order_ends a l b (ends.Input f) old new form r = (form, subst IsProperInput (sym r.named) (proper l.names r.found))
+order_ends a l b (ends.Over f) old new form r = form
+order_ends a l b (ends.Depot name) old new form r = absurd r
+order_ends a l b ends.Words old new form r = absurd r
+order_ends a l b ends.Done old new form r = absurd r
+order_ends a l b ends.NotPassed old new form r = absurd r
+order_ends a l b ends.Sink old new form r = absurd r
 
-pub plan_reports : (told : Option Files) (words : List (List ℕ)) (workers : ℕ) (l : Loaded) (b : Beginning) (text : List ℕ) (steps : ℕ) → IfSome told (λ files. begun_by files (ask (Some (command.Plan workers)) words) l ≡ Some (Ok b)) →
-    IsPlanReport b workers text → ReportsOver told (ask (Some (command.Plan workers)) words) l true text steps steps
-plan_reports None words workers l b text steps g r = tt
-plan_reports (Some files) words workers l b text steps g r = λ h. record {
-  units = 0;
-  report = record { loaded = l; beginning = b; begins = record { load = h; begins = g }; report = r; ends = refl; free = refl };
-  steps = omega arith;
-}
+pub plan_reports : (told : Option Files) (a : Ask) (workers : ℕ) (l : Loaded) (b : Beginning) (text : List ℕ) (steps : ℕ) → a.command ≡ Ok (command.Plan workers) → IfSome told (λ files. begun_by files a l ≡ Some (Ok b)) →
+    IsPlanReport b workers text → ReportsOver told a l true text steps steps
+plan_reports None a workers l b text steps e g r = tt
+plan_reports (Some files) a workers l b text steps e g r = λ h.
+    let report : IsPlanned files a workers true text 0 = record { loaded = l; beginning = b; begins = record { load = h; begins = g }; report = r; ends = refl; free = refl } in
+    record { units = 0; report = reports_as (Ok (command.Plan workers)) files a true text 0 e report; steps = omega arith }

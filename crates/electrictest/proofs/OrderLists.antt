@@ -1,5 +1,5 @@
 -- The outcomes of a list of tests, in suite order.
-use Rattle.std.proofs.Common.{◌≡◌, ℕ, zero, suc, ◌+◌, ◌-◌, ◌<◌, ◌≤◌, List, [], ◌∷◌, ◌++◌, length, map, get_or, drop, filter, flat_map, sum_by, count_by, cond, nat_eq, Bool, true, false, refl, sym, ap, ◌∙◌, inl, inr, arith, append_assoc, None, All, subst}
+use Rattle.std.proofs.Common.{◌≡◌, ℕ, zero, suc, ◌+◌, ◌-◌, ◌<◌, ◌≤◌, List, [], ◌∷◌, ◌++◌, length, map, get_or, drop, filter, flat_map, sum_by, count_by, cond, nat_eq, Bool, true, false, refl, sym, ap, ◌∙◌, inl, inr, arith, append_assoc, codes, None, All, subst}
 use Rattle.std.specs.List.{range_with_len}
 use Rattle.std.proofs.lemmas.Bool.{cases_eq}
 use Rattle.std.proofs.lemmas.Bool.Decides.{nat_tests}
@@ -7,10 +7,12 @@ use Rattle.std.proofs.lemmas.List.{append-nil, drop_more, drop_all}
 use Rattle.std.proofs.lemmas.List.Sums.{sum_by-cons, sum_by-append}
 use Rattle.jvm_model.specs.declared.outcome.Outcome.{Outcome}
 use Rattle.jvm_model.specs.declared.program.Names.{Names}
-use Rattle.jvm_model.specs.Texts.{is_passed, is_failed, is_error, head_line, count_line, verdict_line, outcome_lines, test_lines}
+use Rattle.jvm_model.specs.Texts.{is_passed, is_failed, is_error, head_line, count_line, verdict_line, outcome_lines, test_lines, report_on}
 use Rattle.order_law.specs.Conflicts.{Member}
 use Rattle.schedule_plan.proofs.Places.{place_of}
-use Rattle.electrictest.specs.Orders.{paired, is_of, by_test}
+use Rattle.electrictest.specs.declared.tallies.Counts.{Counts}
+use Rattle.electrictest.specs.Orders.{paired, is_of, by_test, order_report}
+use Rattle.electrictest.specs.Tallies.{IsCount, report_text}
 
 abbrev Listed : Type 0
 Listed = List (ℕ × Outcome)
@@ -177,7 +179,7 @@ module _ (names : Names) (ts : List ℕ) (os : List Outcome) (each : length os �
       ∙ sym (sum_by_test (λ x. 1) (length names.tests) (paired ts os) there) ∙ sym (long (by_test (length names.tests) (paired ts os)))
 
   -- the head, the lines of the tests and the counts
-  pub order_report_is : (10 ∷ head_line (length os) (length os) None) ++ (test_lines names (by_test (length names.tests) (paired ts os)) ++ verdict_line os)
+  order_report_is : (10 ∷ head_line (length os) (length os) None) ++ (test_lines names (by_test (length names.tests) (paired ts os)) ++ verdict_line os)
       ≡ 10 ∷ (head_line (length ts) (length (by_test (length names.tests) (paired ts os))) None ++ (test_lines names (by_test (length names.tests) (paired ts os)) ++ verdict_line (map (λ x. x.1) (by_test (length names.tests) (paired ts os)))))
   order_report_is =
       let xs = by_test (length names.tests) (paired ts os) in
@@ -187,6 +189,15 @@ module _ (names : Names) (ts : List ℕ) (os : List Outcome) (each : length os �
       ∙ ap (λ n. (10 ∷ head_line (length ts) (length xs) None) ++ (line ++ count_line n (count_by is_failed os) (count_by is_error os))) (count_same is_passed)
       ∙ ap (λ n. (10 ∷ head_line (length ts) (length xs) None) ++ (line ++ count_line (count_by is_passed (map (λ x. x.1) xs)) n (count_by is_error os))) (count_same is_failed)
       ∙ ap (λ n. (10 ∷ head_line (length ts) (length xs) None) ++ (line ++ count_line (count_by is_passed (map (λ x. x.1) xs)) (count_by is_failed (map (λ x. x.1) xs)) n)) (count_same is_error)
+
+  -- what was written by these lines and counts is the report on the order
+  pub order_reported_as : (text lines : List ℕ) (c : Counts) → text ≡ report_text (length os) (length os) None lines c → lines ≡ test_lines names (by_test (length names.tests) (paired ts os)) → IsCount os c → text ≡ order_report names ts os
+  unfolding report_on
+  order_reported_as text lines c reads same h =
+      let behind : List ℕ = test_lines names (by_test (length names.tests) (paired ts os)) in
+      let written : report_text (length os) (length os) None lines c ≡ codes "electric-run 1" ++ ((10 ∷ head_line (length os) (length os) None) ++ (behind ++ verdict_line os)) =
+      (λ i. codes "electric-run 1" ++ (10 ∷ (head_line (length os) (length os) None ++ (same i ++ count_line (h.passed i) (h.failed i) (h.error i))))) in
+      reads ∙ (written ∙ ap (λ (z : List ℕ). codes "electric-run 1" ++ z) order_report_is)
 
 -- ---- members
 

@@ -15,7 +15,7 @@ use Rattle.order_law.specs.Plan as law
 use Rattle.order_law.proofs.Posts.{legal_once, posted_where}
 use Rattle.run_core.specs.Run.{Gave, Run, history, IsLegal, IsComplete}
 use Rattle.worker_pool.specs.Plans.{units_of}
-use Rattle.electrictest.specs.declared.pool_reports.Tally.{Tally}
+use Rattle.electrictest.specs.declared.tallies.Tally.{Tally}
 use Rattle.electrictest.specs.Logs.{log_text}
 use Rattle.electrictest.specs.Tallies.{IsTallyOf, report_text}
 use Rattle.electrictest.proofs.TallyLaws.{report_is}
@@ -112,11 +112,11 @@ pool_ran l b set chains many run y chosen program same legal whole tally =
 -- and the report on it
 pub pool_reported : (l : Loaded) (b : Beginning) (set : List ℕ) (chains : List (List ℕ)) (many : ℕ) (run : Run) (log : Bool) (y : Tally) (text : List ℕ) → IsChosen b set chains many →
     run.program ≡ l.checked → run.chains ≡ chains → IsLegal run → IsComplete run → IsTallyOf l.names (history run) set y →
-    text ≡ report_text many (length set) (length chains) y ++ cond log (log_text (history run)) [] →
-    IsPoolReport l b run.workers log y.all_passed text (units_of run.events)
+    text ≡ report_text many (length set) (Some (length chains)) y.lines y.counts ++ cond log (log_text (history run)) [] →
+    IsPoolReport l b run.workers log y.counts.all_passed text (units_of run.events)
 unfolding pool_ran
 pool_reported l b set chains many run log y text chosen program same legal whole tally reads = record {
   ran = pool_ran l b set chains many run y chosen program same legal whole tally;
-  verdicts = sym tally.tally.all;
-  reports = reads ∙ ap (λ (r : List ℕ). r ++ cond log (log_text (history run)) []) (report_is l.names tally.given many (length set) (length chains) y tally.tally tally.many);
+  verdicts = sym tally.tally.counts.all;
+  reports = reads ∙ ap (λ (r : List ℕ). r ++ cond log (log_text (history run)) []) (report_is l.names tally.given many (length set) (Some (length chains)) y tally.tally tally.many);
 }

@@ -5,8 +5,7 @@ use Rattle.outside.specs.Sink.{SinkView}
 use Rattle.electrictest.specs.declared.reports.Report.{Report}
 use Rattle.electrictest.specs.declared.status.Status.{Status}
 use Rattle.electrictest.specs.declared.status.Status.TheVariants as ends
-use Rattle.electrictest.specs.declared.words.Command.{Command}
-use Rattle.electrictest.specs.Words.{Ask, ask}
+use Rattle.electrictest.specs.Words.{Ask}
 use Rattle.electrictest.specs.Replies.{fault_line, Unreported, IsAnswer}
 use Rattle.electrictest.specs.Commands.{HasForm, ReportEnds, Reported, Whole, Writes, Refused, Taken, Counted, DepotFailed, Asked, called, Answering, Replied, Served, Ends, report_status}
 
@@ -29,23 +28,23 @@ pub writes_as : (piece text : List ℕ) (s : Status) (passed : Bool) (result : S
 writes_as piece text s passed result sink sink_now e f w = subst (λ z. Writes z (report_status passed) result sink sink_now) e (subst (λ z. Writes piece z result sink sink_now) f w)
 
 -- a report was written
-served_done : (told : Option Files) (c d : Option Command) (words : List (List ℕ)) (depot depot_now : DepotView) (begun now : ℕ) (passed : Bool) (text : List ℕ) (result : Status) (sink sink_now : SinkView) → c ≡ d →
-    IfSome told (λ files. Reported files (ask c words) passed text begun now) → Writes text (report_status passed) result sink sink_now →
-    IfSome told (λ files. Served (called (ask d words) depot depot_now begun now files) result sink sink_now)
-served_done None c d words depot depot_now begun now passed text result sink sink_now e r w = tt
-served_done (Some files) c d words depot depot_now begun now passed text result sink sink_now e r w =
-    done_at (called (ask d words) depot depot_now begun now files) passed text result sink sink_now (subst (λ z. Reported files (ask z words) passed text begun now) e r) w
+served_done : (told : Option Files) (a b : Ask) (depot depot_now : DepotView) (begun now : ℕ) (passed : Bool) (text : List ℕ) (result : Status) (sink sink_now : SinkView) → a ≡ b →
+    IfSome told (λ files. Reported files a passed text begun now) → Writes text (report_status passed) result sink sink_now →
+    IfSome told (λ files. Served (called b depot depot_now begun now files) result sink sink_now)
+served_done None a b depot depot_now begun now passed text result sink sink_now e r w = tt
+served_done (Some files) a b depot depot_now begun now passed text result sink sink_now e r w =
+    done_at (called b depot depot_now begun now files) passed text result sink sink_now (subst (λ z. Reported files z passed text begun now) e r) w
 
 taken_done : (passed : Bool) (text : List ℕ) (result : Status) (sink sink_now : SinkView) → Writes text (report_status passed) result sink sink_now → Taken result sink sink_now
 taken_done true text result sink sink_now (inl h) = subst (λ z. Taken z sink sink_now) (sym h.0) (text, h.1)
 taken_done false text result sink sink_now (inl h) = subst (λ z. Taken z sink sink_now) (sym h.0) (text, h.1)
 taken_done passed text result sink sink_now (inr h) = subst (λ z. Taken z sink sink_now) (sym h.0) (text, h.1)
 
-ends_done : (c d : Option Command) (words : List (List ℕ)) (passed : Bool) (text : List ℕ) (result : Status) (depot depot_now : DepotView) (sink sink_now : SinkView) → c ≡ d → HasForm (ask c words) →
-    Writes text (report_status passed) result sink sink_now → Ends (ask d words) result depot depot_now sink sink_now
-ends_done c d words true text result depot depot_now sink sink_now e f (inl h) = subst (λ z. Ends (ask d words) z depot depot_now sink sink_now) (sym h.0) (subst (λ z. HasForm (ask z words)) e f)
-ends_done c d words false text result depot depot_now sink sink_now e f (inl h) = subst (λ z. Ends (ask d words) z depot depot_now sink sink_now) (sym h.0) (subst (λ z. HasForm (ask z words)) e f)
-ends_done c d words passed text result depot depot_now sink sink_now e f (inr h) = subst (λ z. Ends (ask d words) z depot depot_now sink sink_now) (sym h.0) h.1.rose
+ends_done : (a b : Ask) (passed : Bool) (text : List ℕ) (result : Status) (depot depot_now : DepotView) (sink sink_now : SinkView) → a ≡ b → HasForm a →
+    Writes text (report_status passed) result sink sink_now → Ends b result depot depot_now sink sink_now
+ends_done a b true text result depot depot_now sink sink_now e f (inl h) = subst (λ z. Ends b z depot depot_now sink sink_now) (sym h.0) (subst (λ z. HasForm z) e f)
+ends_done a b false text result depot depot_now sink sink_now e f (inl h) = subst (λ z. Ends b z depot depot_now sink sink_now) (sym h.0) (subst (λ z. HasForm z) e f)
+ends_done a b passed text result depot depot_now sink sink_now e f (inr h) = subst (λ z. Ends b z depot depot_now sink sink_now) (sym h.0) h.1.rose
 
 -- ---- a refusal
 
@@ -113,11 +112,11 @@ refused_at asked s result sink sink_now r e (inl (n, w)) =
     (line_served asked s sink sink_now n e) w
 
 -- a refusal was written
-served_refused : (told : Option Files) (c d : Option Command) (words : List (List ℕ)) (depot depot_now : DepotView) (begun now : ℕ) (s result : Status) (sink sink_now : SinkView) → c ≡ d → IfSome told (λ files. Unreported files (ask c words) s) → ReportEnds (ask c words) s depot depot_now → Refused s result sink sink_now →
-    IfSome told (λ files. Served (called (ask d words) depot depot_now begun now files) result sink sink_now)
-served_refused None c d words depot depot_now begun now s result sink sink_now e r n h = tt
-served_refused (Some files) c d words depot depot_now begun now s result sink sink_now e r n h =
-    refused_at (called (ask d words) depot depot_now begun now files) s result sink sink_now (subst (λ z. Unreported files (ask z words) s) e r) (subst (λ z. ReportEnds (ask z words) s depot depot_now) e n) h
+served_refused : (told : Option Files) (a b : Ask) (depot depot_now : DepotView) (begun now : ℕ) (s result : Status) (sink sink_now : SinkView) → a ≡ b → IfSome told (λ files. Unreported files a s) → ReportEnds a s depot depot_now → Refused s result sink sink_now →
+    IfSome told (λ files. Served (called b depot depot_now begun now files) result sink sink_now)
+served_refused None a b depot depot_now begun now s result sink sink_now e r n h = tt
+served_refused (Some files) a b depot depot_now begun now s result sink sink_now e r n h =
+    refused_at (called b depot depot_now begun now files) s result sink sink_now (subst (λ z. Unreported files z s) e r) (subst (λ z. ReportEnds z s depot depot_now) e n) h
 
 taken_refused : (a : Ask) (depot depot_now : DepotView) (s result : Status) (sink sink_now : SinkView) → ReportEnds a s depot depot_now → Refused s result sink sink_now → Taken result sink sink_now
 taken_refused a depot depot_now s result sink sink_now e (inr h) = subst (λ z. Taken z sink sink_now) (sym h.0) h.1
@@ -134,29 +133,29 @@ line_ends a ends.Done depot depot_now sink sink_now e = absurd e
 line_ends a ends.NotPassed depot depot_now sink sink_now e = absurd e
 line_ends a ends.Sink depot depot_now sink sink_now e = absurd e
 
-ends_refused : (c d : Option Command) (words : List (List ℕ)) (s result : Status) (depot depot_now : DepotView) (sink sink_now : SinkView) → c ≡ d → ReportEnds (ask c words) s depot depot_now → Refused s result sink sink_now → Ends (ask d words) result depot depot_now sink sink_now
-ends_refused c d words s result depot depot_now sink sink_now q e (inr h) = subst (λ z. Ends (ask d words) z depot depot_now sink sink_now) (sym h.0) tt
-ends_refused c d words s result depot depot_now sink sink_now q e (inl (n, inl h)) = subst (λ z. Ends (ask d words) z depot depot_now sink sink_now) (sym h.0) (line_ends (ask d words) s depot depot_now sink sink_now (subst (λ z. ReportEnds (ask z words) s depot depot_now) q e))
-ends_refused c d words s result depot depot_now sink sink_now q e (inl (n, inr h)) = subst (λ z. Ends (ask d words) z depot depot_now sink sink_now) (sym h.0) h.1.rose
+ends_refused : (a b : Ask) (s result : Status) (depot depot_now : DepotView) (sink sink_now : SinkView) → a ≡ b → ReportEnds a s depot depot_now → Refused s result sink sink_now → Ends b result depot depot_now sink sink_now
+ends_refused a b s result depot depot_now sink sink_now q e (inr h) = subst (λ z. Ends b z depot depot_now sink sink_now) (sym h.0) tt
+ends_refused a b s result depot depot_now sink sink_now q e (inl (n, inl h)) = subst (λ z. Ends b z depot depot_now sink sink_now) (sym h.0) (line_ends b s depot depot_now sink sink_now (subst (λ z. ReportEnds z s depot depot_now) q e))
+ends_refused a b s result depot depot_now sink sink_now q e (inl (n, inr h)) = subst (λ z. Ends b z depot depot_now sink sink_now) (sym h.0) h.1.rose
 
 -- ---- a report or a refusal
 
-module _ (c d : Option Command) (words : List (List ℕ)) (depot depot_now : DepotView) (result : Status) (sink sink_now : SinkView) (same : c ≡ d) where
-  pub served_by : (told : Option Files) (begun now : ℕ) (report : Result Report Status) → IfOk report (λ r. IfSome told (λ files. Reported files (ask c words) r.passed r.text begun now)) → IfErr report (λ s. IfSome told (λ files. Unreported files (ask c words) s)) →
-      IfErr report (λ s. ReportEnds (ask c words) s depot depot_now) → IfOk report (λ r. Writes r.text (report_status r.passed) result sink sink_now) → IfErr report (λ s. Refused s result sink sink_now) →
-      IfSome told (λ files. Served (called (ask d words) depot depot_now begun now files) result sink sink_now)
-  served_by told begun now (Ok r) reports refused ends w n = served_done told c d words depot depot_now begun now r.passed r.text result sink sink_now same reports w
-  served_by told begun now (Err s) reports refused ends w n = served_refused told c d words depot depot_now begun now s result sink sink_now same refused ends n
+module _ (a b : Ask) (depot depot_now : DepotView) (result : Status) (sink sink_now : SinkView) (same : a ≡ b) where
+  pub served_by : (told : Option Files) (begun now : ℕ) (report : Result Report Status) → IfOk report (λ r. IfSome told (λ files. Reported files a r.passed r.text begun now)) → IfErr report (λ s. IfSome told (λ files. Unreported files a s)) →
+      IfErr report (λ s. ReportEnds a s depot depot_now) → IfOk report (λ r. Writes r.text (report_status r.passed) result sink sink_now) → IfErr report (λ s. Refused s result sink sink_now) →
+      IfSome told (λ files. Served (called b depot depot_now begun now files) result sink sink_now)
+  served_by told begun now (Ok r) reports refused ends w n = served_done told a b depot depot_now begun now r.passed r.text result sink sink_now same reports w
+  served_by told begun now (Err s) reports refused ends w n = served_refused told a b depot depot_now begun now s result sink sink_now same refused ends n
 
-  pub taken_by : (report : Result Report Status) → IfErr report (λ s. ReportEnds (ask c words) s depot depot_now) → IfOk report (λ r. Writes r.text (report_status r.passed) result sink sink_now) → IfErr report (λ s. Refused s result sink sink_now) →
+  pub taken_by : (report : Result Report Status) → IfErr report (λ s. ReportEnds a s depot depot_now) → IfOk report (λ r. Writes r.text (report_status r.passed) result sink sink_now) → IfErr report (λ s. Refused s result sink sink_now) →
       Taken result sink sink_now
   taken_by (Ok r) ends w n = taken_done r.passed r.text result sink sink_now w
-  taken_by (Err s) ends w n = taken_refused (ask c words) depot depot_now s result sink sink_now ends n
+  taken_by (Err s) ends w n = taken_refused a depot depot_now s result sink sink_now ends n
 
-  pub ends_by : (report : Result Report Status) → IfOk report (λ r. HasForm (ask c words)) → IfErr report (λ s. ReportEnds (ask c words) s depot depot_now) → IfOk report (λ r. Writes r.text (report_status r.passed) result sink sink_now) → IfErr report (λ s. Refused s result sink sink_now) →
-      Ends (ask d words) result depot depot_now sink sink_now
-  ends_by (Ok r) form ends w n = ends_done c d words r.passed r.text result depot depot_now sink sink_now same form w
-  ends_by (Err s) form ends w n = ends_refused c d words s result depot depot_now sink sink_now same ends n
+  pub ends_by : (report : Result Report Status) → IfOk report (λ r. HasForm a) → IfErr report (λ s. ReportEnds a s depot depot_now) → IfOk report (λ r. Writes r.text (report_status r.passed) result sink sink_now) → IfErr report (λ s. Refused s result sink sink_now) →
+      Ends b result depot depot_now sink sink_now
+  ends_by (Ok r) form ends w n = ends_done a b r.passed r.text result depot depot_now sink sink_now same form w
+  ends_by (Err s) form ends w n = ends_refused a b s result depot depot_now sink sink_now same ends n
 
 -- what is so for each depot's files is so for those that are told
 pub for_told : {P Q : Files → Type 0} (told : Option Files) → ((files : Files) → P files → Q files) → IfSome told P → IfSome told Q

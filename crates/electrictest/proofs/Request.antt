@@ -1,5 +1,5 @@
 -- What a command with a record begins with, and why it doesn't begin.
-use Rattle.std.proofs.Common.{◌≡◌, ℕ, List, refl, sym, ap, subst, ◌∙◌, arith, All, Option, Some, None, option_map, Result, Ok, Err, IfSome, IsSome}
+use Rattle.std.proofs.Common.{◌≡◌, ℕ, List, refl, sym, ap, subst, ◌∙◌, arith, All, Option, Some, None, option_map, Result, Ok, Err, IfSome}
 use Rattle.et_base.specs.Answers as answers
 use Rattle.outside.specs.Depot.{Files, DepotView}
 use Rattle.dep_record.specs.RecordText.{Said}
@@ -8,71 +8,77 @@ use Rattle.test_run.specs.Running.{IsTest}
 use Rattle.electrictest.specs.declared.status.Status.{Status}
 use Rattle.electrictest.specs.declared.status.Status.TheVariants as ends
 use Rattle.electrictest.specs.declared.status.InputFault.{InputFault}
-use Rattle.electrictest.specs.declared.words.Command.{Command}
-use Rattle.electrictest.specs.Words.{ask, word_at}
+use Rattle.electrictest.specs.Words.{Ask, word_at}
 use Rattle.electrictest.specs.Selections.{IsTestOf}
-use Rattle.electrictest.specs.Records.{Beginning, begun, says}
+use Rattle.electrictest.specs.Records.{Beginning, Gives, begun, says}
 use Rattle.electrictest.specs.Loads.{IsSuite, named_by, fits_for, begun_by, of_record}
 use Rattle.electrictest.specs.Replies.{unbegun}
-use Rattle.electrictest.specs.Commands.{Fails, IsProperRefusal, ReportEnds, RefusedOver}
+use Rattle.electrictest.specs.Commands.{Fails, HasForm, IsProperRefusal, ReportEnds, RefusedOver}
 
 -- the tests of names are tests of the program
 pub tests_are : (l : Loaded) (ts us : List ℕ) → IsSuite l → us ≡ ts → All (IsTestOf l.names) ts → All (IsTest l.checked) us
 tests_are l ts us s e h = subst (All (IsTest l.checked)) (sym e) (λ k d lt. let p = h k d lt in let low = p.1 in let same = s.names in (p.0, omega arith))
 
-begun_as : (files : Files) (c : Option Command) (words : List (List ℕ)) (l : Loaded) (named : Result (List ℕ) InputFault) (b : Result Beginning InputFault) → named_by c words l ≡ Some named → begun (fits_for c) files l named (word_at words 2) ≡ b → begun_by files (ask c words) l ≡ Some b
-begun_as files c words l named b e h = ap (option_map (λ n. begun (fits_for c) files l n (word_at words 2))) e ∙ ap Some h
+begun_as : (files : Files) (a : Ask) (l : Loaded) (named : Result (List ℕ) InputFault) (b : Result Beginning InputFault) → named_by a.command a.words l ≡ Some named → begun (fits_for a.command) files l named (word_at a.words 2) ≡ b → begun_by files a l ≡ Some b
+begun_as files a l named b e h = ap (option_map (λ n. begun (fits_for a.command) files l n (word_at a.words 2))) e ∙ ap Some h
 
 -- nothing is begun where a name is of no test
 not_named : (fits : Loaded → Said → Result (Unit {0}) InputFault) (files : Files) (l : Loaded) (name : List ℕ) (f : InputFault) → begun fits files l (Err f) name ≡ Err f
 unfolding begun
 not_named fits files l name f = refl
 
-pub unnamed : (told : Option Files) (c : Option Command) (words : List (List ℕ)) (l : Loaded) (named : Result (List ℕ) InputFault) (s : Status) → named_by c words l ≡ Some named → answers.Fails (says s) named → IsProperRefusal s → RefusedOver told (ask c words) l s
-unnamed None c words l named s e g p = tt
-unnamed (Some files) c words l named ends.NoMemory e g p = λ h. tt
-unnamed (Some files) c words l named (ends.Input f) e g p = λ h.
-    unbegun (record { load = h; begins = begun_as files c words l named (Err f) e (ap (λ n. begun (fits_for c) files l n (word_at words 2)) g ∙ not_named (fits_for c) files l (word_at words 2) f) })
-unnamed (Some files) c words l named (ends.Depot name) e g p = absurd p
-unnamed (Some files) c words l named (ends.Over f) e g p = absurd p
-unnamed (Some files) c words l named ends.Words e g p = absurd p
-unnamed (Some files) c words l named ends.Done e g p = absurd p
-unnamed (Some files) c words l named ends.NotPassed e g p = absurd p
-unnamed (Some files) c words l named ends.Sink e g p = absurd p
+pub unnamed : (told : Option Files) (a : Ask) (l : Loaded) (named : Result (List ℕ) InputFault) (s : Status) → named_by a.command a.words l ≡ Some named → answers.Fails (says s) named → IsProperRefusal s → RefusedOver told a l s
+unnamed None a l named s e g p = tt
+unnamed (Some files) a l named ends.NoMemory e g p = λ h. tt
+unnamed (Some files) a l named (ends.Input f) e g p = λ h.
+    unbegun (record { load = h; begins = begun_as files a l named (Err f) e (ap (λ n. begun (fits_for a.command) files l n (word_at a.words 2)) g ∙ not_named (fits_for a.command) files l (word_at a.words 2) f) })
+unnamed (Some files) a l named (ends.Depot name) e g p = absurd p
+unnamed (Some files) a l named (ends.Over f) e g p = absurd p
+unnamed (Some files) a l named ends.Words e g p = absurd p
+unnamed (Some files) a l named ends.Done e g p = absurd p
+unnamed (Some files) a l named ends.NotPassed e g p = absurd p
+unnamed (Some files) a l named ends.Sink e g p = absurd p
 
-pub unnamed_ends : (c : Option Command) (words : List (List ℕ)) (s : Status) (depot : DepotView) → IsSome c → IsProperRefusal s → ReportEnds (ask c words) s depot depot
-unnamed_ends c words ends.NoMemory depot e p = tt
-unnamed_ends c words (ends.Input f) depot e p = (e, p)
-unnamed_ends c words (ends.Depot name) depot e p = absurd p
-unnamed_ends c words (ends.Over f) depot e p = absurd p
-unnamed_ends c words ends.Words depot e p = absurd p
-unnamed_ends c words ends.Done depot e p = absurd p
-unnamed_ends c words ends.NotPassed depot e p = absurd p
-unnamed_ends c words ends.Sink depot e p = absurd p
+pub unnamed_ends : (a : Ask) (s : Status) (depot : DepotView) → HasForm a → IsProperRefusal s → ReportEnds a s depot depot
+unnamed_ends a ends.NoMemory depot e p = tt
+unnamed_ends a (ends.Input f) depot e p = (e, p)
+unnamed_ends a (ends.Depot name) depot e p = absurd p
+unnamed_ends a (ends.Over f) depot e p = absurd p
+unnamed_ends a ends.Words depot e p = absurd p
+unnamed_ends a ends.Done depot e p = absurd p
+unnamed_ends a ends.NotPassed depot e p = absurd p
+unnamed_ends a ends.Sink depot e p = absurd p
+
+-- what is begun with these tests
+begun_by_tests : (files : Files) (a : Ask) (l : Loaded) (named : Result (List ℕ) InputFault) (tests name : List ℕ) (b : Result Beginning InputFault) {fits : Loaded → Said → Result (Unit {0}) InputFault} → fits_for a.command ≡ fits →
+    named_by a.command a.words l ≡ Some named → named ≡ Ok tests → name ≡ word_at a.words 2 → begun fits files l (Ok tests) name ≡ b → begun_by files a l ≡ Some b
+begun_by_tests files a l named tests name b q e k n g =
+    begun_as files a l named b e
+    (ap (λ z. begun (fits_for a.command) files l z (word_at a.words 2)) k ∙ (ap (begun (fits_for a.command) files l (Ok tests)) (sym n) ∙ (ap (λ (f : Loaded → Said → Result (Unit {0}) InputFault). begun f files l (Ok tests) name) q ∙ g)))
 
 -- nor where the record is refused
-pub not_begun : (told : Option Files) (c : Option Command) (words : List (List ℕ)) (l : Loaded) (named : Result (List ℕ) InputFault) (tests name : List ℕ) (s : Status) (old new : DepotView) → named_by c words l ≡ Some named → named ≡ Ok tests → name ≡ word_at words 2 →
-    IfSome told (λ files. answers.Fails (says s) (begun (fits_for c) files l (Ok tests) name)) → Fails name old new s → RefusedOver told (ask c words) l s
-not_begun None c words l named tests name s old new e k n g p = tt
-not_begun (Some files) c words l named tests name ends.NoMemory old new e k n g p = λ h. tt
-not_begun (Some files) c words l named tests name (ends.Input f) old new e k n g p = λ h.
-    unbegun (record { load = h; begins = begun_as files c words l named (Err f) e (ap (λ z. begun (fits_for c) files l z (word_at words 2)) k ∙ ap (begun (fits_for c) files l (Ok tests)) (sym n) ∙ g) })
-not_begun (Some files) c words l named tests name (ends.Depot read) old new e k n g p = λ h. of_record l tests h (e ∙ ap Some k) (p.0 ∙ n)
-not_begun (Some files) c words l named tests name (ends.Over f) old new e k n g p = absurd p
-not_begun (Some files) c words l named tests name ends.Words old new e k n g p = absurd p
-not_begun (Some files) c words l named tests name ends.Done old new e k n g p = absurd p
-not_begun (Some files) c words l named tests name ends.NotPassed old new e k n g p = absurd p
-not_begun (Some files) c words l named tests name ends.Sink old new e k n g p = absurd p
+pub not_begun : (told : Option Files) (a : Ask) (l : Loaded) (named : Result (List ℕ) InputFault) (tests name : List ℕ) (s : Status) (old new : DepotView) {fits : Loaded → Said → Result (Unit {0}) InputFault} → fits_for a.command ≡ fits →
+    named_by a.command a.words l ≡ Some named → named ≡ Ok tests → name ≡ word_at a.words 2 → IfSome told (λ files. answers.Fails (says s) (begun fits files l (Ok tests) name)) → Fails name old new s → RefusedOver told a l s
+not_begun None a l named tests name s old new q e k n g p = tt
+not_begun (Some files) a l named tests name ends.NoMemory old new q e k n g p = λ h. tt
+not_begun (Some files) a l named tests name (ends.Input f) old new q e k n g p = λ h.
+    unbegun (record { load = h; begins = begun_by_tests files a l named tests name (Err f) q e k n g })
+not_begun (Some files) a l named tests name (ends.Depot read) old new q e k n g p = λ h. of_record l tests h (e ∙ ap Some k) (p.0 ∙ n)
+not_begun (Some files) a l named tests name (ends.Over f) old new q e k n g p = absurd p
+not_begun (Some files) a l named tests name ends.Words old new q e k n g p = absurd p
+not_begun (Some files) a l named tests name ends.Done old new q e k n g p = absurd p
+not_begun (Some files) a l named tests name ends.NotPassed old new q e k n g p = absurd p
+not_begun (Some files) a l named tests name ends.Sink old new q e k n g p = absurd p
 
-pub not_begun_ends : (c : Option Command) (words : List (List ℕ)) (name : List ℕ) (s : Status) (old new : DepotView) → IsSome c → Fails name old new s → ReportEnds (ask c words) s old new
-not_begun_ends c words name ends.NoMemory old new e p = tt
-not_begun_ends c words name (ends.Input f) old new e p = (e, p)
-not_begun_ends c words name (ends.Depot read) old new e p = (e, p.1)
-not_begun_ends c words name (ends.Over f) old new e p = absurd p
-not_begun_ends c words name ends.Words old new e p = absurd p
-not_begun_ends c words name ends.Done old new e p = absurd p
-not_begun_ends c words name ends.NotPassed old new e p = absurd p
-not_begun_ends c words name ends.Sink old new e p = absurd p
+pub not_begun_ends : (a : Ask) (name : List ℕ) (s : Status) (old new : DepotView) → HasForm a → Fails name old new s → ReportEnds a s old new
+not_begun_ends a name ends.NoMemory old new e p = tt
+not_begun_ends a name (ends.Input f) old new e p = (e, p)
+not_begun_ends a name (ends.Depot read) old new e p = (e, p.1)
+not_begun_ends a name (ends.Over f) old new e p = absurd p
+not_begun_ends a name ends.Words old new e p = absurd p
+not_begun_ends a name ends.Done old new e p = absurd p
+not_begun_ends a name ends.NotPassed old new e p = absurd p
+not_begun_ends a name ends.Sink old new e p = absurd p
 
 -- a record that is none, or is of another suite
 pub proper_fails : (name : List ℕ) (s : Status) (old new : DepotView) → IsProperRefusal s → Fails name old new s
@@ -86,8 +92,11 @@ proper_fails name ends.NotPassed old new p = absurd p
 proper_fails name ends.Sink old new p = absurd p
 
 -- what is begun
-pub begins : (told : Option Files) (c : Option Command) (words : List (List ℕ)) (l : Loaded) (named : Result (List ℕ) InputFault) (tests name : List ℕ) (b : Beginning) → named_by c words l ≡ Some named → named ≡ Ok tests → name ≡ word_at words 2 →
-    IfSome told (λ files. begun (fits_for c) files l (Ok tests) name ≡ Ok b) → IfSome told (λ files. begun_by files (ask c words) l ≡ Some (Ok b))
-begins None c words l named tests name b e k n g = tt
-begins (Some files) c words l named tests name b e k n g =
-    begun_as files c words l named (Ok b) e (ap (λ z. begun (fits_for c) files l z (word_at words 2)) k ∙ ap (begun (fits_for c) files l (Ok tests)) (sym n) ∙ g)
+pub begins : (told : Option Files) (a : Ask) (l : Loaded) (named : Result (List ℕ) InputFault) (tests name : List ℕ) (b : Beginning) {fits : Loaded → Said → Result (Unit {0}) InputFault} → fits_for a.command ≡ fits →
+    named_by a.command a.words l ≡ Some named → named ≡ Ok tests → name ≡ word_at a.words 2 → IfSome told (λ files. begun fits files l (Ok tests) name ≡ Ok b) → IfSome told (λ files. begun_by files a l ≡ Some (Ok b))
+begins None a l named tests name b q e k n g = tt
+begins (Some files) a l named tests name b q e k n g = begun_by_tests files a l named tests name (Ok b) q e k n g
+
+-- what gives the tests that a command names gives these
+pub named_gives : (r : Result (List ℕ) Status) (o : Option (Result (List ℕ) InputFault)) (named : Result (List ℕ) InputFault) → o ≡ Some named → IfSome o (Gives (λ ts. ts) r) → Gives (λ ts. ts) r named
+named_gives r o named e h = subst (λ (x : Option (Result (List ℕ) InputFault)). IfSome x (Gives (λ ts. ts) r)) e h

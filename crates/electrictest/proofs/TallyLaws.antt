@@ -1,5 +1,5 @@
--- A tally of one test more.
-use Rattle.std.proofs.Common.{◌≡◌, ℕ, ◌+◌, ◌<◌, ◌≤◌, List, [], ◌∷◌, ◌++◌, length, get_or, take, Bool, true, cond, ◌&&◌, sym, ap, ◌∙◌, refl, subst, arith, count_by, codes, Some}
+-- Tallies of tests, and the reports on them.
+use Rattle.std.proofs.Common.{◌≡◌, ℕ, suc, ◌+◌, ◌^◌, ◌<◌, ◌≤◌, List, [], ◌∷◌, ◌++◌, length, get_or, take, Bool, true, cond, ◌&&◌, sym, ap, ◌∙◌, refl, subst, arith, count_by, codes, Option, None}
 use Rattle.std.proofs.lemmas.List.{take_more, append-nil, append_assoc, map-append, length-append, length-map, length-take-le}
 use Rattle.std.proofs.lemmas.List.Sums.{sum_by_push, count_by-le-length}
 use Rattle.std.proofs.lemmas.List.Folds.{list_all-append}
@@ -10,9 +10,11 @@ use Rattle.jvm_model.specs.declared.program.Names.{Names}
 use Rattle.jvm_model.specs.Texts.{is_passed, is_failed, is_error, head_line, count_line, outcome_lines, test_lines, report_on}
 use Rattle.order_law.specs.Plan.{Event}
 use Rattle.run_core.specs.Run.{Gave}
-use Rattle.electrictest.specs.declared.pool_reports.Tally.{Tally}
+use Rattle.electrictest.specs.declared.tallies.Counts.{Counts}
+use Rattle.electrictest.specs.declared.tallies.Tally.{Tally}
 use Rattle.electrictest.specs.PoolRuns.{AreGiven, outcomes}
-use Rattle.electrictest.specs.Tallies.{IsFew, IsTally, IsTallyOf, tally_with, report_text}
+use Rattle.electrictest.specs.Tallies.{IsCount, IsFew, IsTally, IsTallyOf, counted_with, tally_with, report_text}
+use Rattle.electrictest.specs.Wholes.{numbered, report}
 
 -- ---- one more at the end
 
@@ -29,25 +31,55 @@ lines_more names (x ∷ xs) t o = ap (λ (l : List ℕ). outcome_lines names x.0
 outcomes_more : (xs : List (ℕ × Outcome)) (t : ℕ) (o : Outcome) → outcomes (xs ++ (t, o) ∷ []) ≡ outcomes xs ++ o ∷ []
 outcomes_more xs t o = map-append (λ x. x.1) xs ((t, o) ∷ [])
 
-counted_more : (p : Outcome → Bool) (xs : List (ℕ × Outcome)) (t n : ℕ) (o : Outcome) → n ≡ count_by p (outcomes xs) → n + cond (p o) 1 0 ≡ count_by p (outcomes (xs ++ (t, o) ∷ []))
-counted_more p xs t n o e = ap (λ k. k + cond (p o) 1 0) e ∙ (sym (sum_by_push (λ (x : Outcome). cond (p x) 1 0) (outcomes xs) o) ∙ ap (count_by p) (sym (outcomes_more xs t o)))
+-- ---- counts
 
-all_more : (p : Outcome → Bool) (xs : List (ℕ × Outcome)) (t : ℕ) (b : Bool) (o : Outcome) → b ≡ list_all p (outcomes xs) → (b && p o) ≡ list_all p (outcomes (xs ++ (t, o) ∷ []))
-all_more p xs t b o e = ap (λ (c : Bool). c && p o) e ∙ (ap (λ (c : Bool). list_all p (outcomes xs) && c) (sym (and-true (p o))) ∙ (sym (list_all-append p (outcomes xs) (o ∷ [])) ∙ ap (list_all p) (sym (outcomes_more xs t o))))
+counted_more : (p : Outcome → Bool) (os : List Outcome) (n : ℕ) (o : Outcome) → n ≡ count_by p os → n + cond (p o) 1 0 ≡ count_by p (os ++ o ∷ [])
+counted_more p os n o e = ap (λ k. k + cond (p o) 1 0) e ∙ sym (sum_by_push (λ (x : Outcome). cond (p x) 1 0) os o)
+
+all_more : (p : Outcome → Bool) (os : List Outcome) (b : Bool) (o : Outcome) → b ≡ list_all p os → (b && p o) ≡ list_all p (os ++ o ∷ [])
+all_more p os b o e = ap (λ (c : Bool). c && p o) e ∙ (ap (λ (c : Bool). list_all p os && c) (sym (and-true (p o))) ∙ sym (list_all-append p os (o ∷ [])))
+
+pub none_counted : IsCount [] (record { passed = 0; failed = 0; error = 0; all_passed = true })
+none_counted = record { passed = refl; failed = refl; error = refl; all = refl }
+
+count_next : (os : List Outcome) (o : Outcome) (c : Counts) → IsCount os c → IsCount (os ++ o ∷ []) (counted_with o c)
+count_next os o c h = record {
+  passed = counted_more is_passed os c.passed o h.passed;
+  failed = counted_more is_failed os c.failed o h.failed;
+  error = counted_more is_error os c.error o h.error;
+  all = all_more is_passed os c.all_passed o h.all;
+}
+
+-- so it is as a loop goes on
+pub count_more : (os : List Outcome) (i : ℕ) (o : Outcome) (c : Counts) → i < length os → o ≡ get_or os i o → IsCount (take i os) c → IsCount (take (i + 1) os) (counted_with o c)
+count_more os i o c lt e h = subst (λ (z : List Outcome). IsCount z (counted_with o c)) (ap (λ (x : Outcome). take i os ++ x ∷ []) e ∙ sym (take_more os i o lt)) (count_next (take i os) o c h)
+
+-- there is room to count one more of fewer than 2^32
+few_of : (os : List Outcome) (n : ℕ) (c : Counts) → length os ≤ n → n < 4294967295 → IsCount os c → IsFew c
+few_of os n c le few h =
+    let passed = count_by-le-length is_passed os in
+    let failed = count_by-le-length is_failed os in
+    let error = count_by-le-length is_error os in
+    (omega (arith, h.passed, passed, le, few), omega (arith, h.failed, failed, le, few), omega (arith, h.error, error, le, few))
+
+pub few_counted : (os : List Outcome) (i : ℕ) (c : Counts) → i < length os → length os < 2 ^ 32 → IsCount (take i os) c → IsFew c
+few_counted os i c lt few h =
+    let small : length os < 4294967296 = few in
+    let taken : length (take i os) ≡ i = length-take-le i os (omega (arith, lt)) in
+    few_of (take i os) i c (omega (arith, taken)) (omega (arith, lt, small)) h
+
+-- ---- a tally
 
 tally_next : (names : Names) (xs : List (ℕ × Outcome)) (t : ℕ) (o : Outcome) (y : Tally) → IsTally names xs y → IsTally names (xs ++ (t, o) ∷ []) (tally_with names t o y)
 tally_next names xs t o y h = record {
   lines = ap (λ (l : List ℕ). l ++ outcome_lines names t o) h.lines ∙ sym (lines_more names xs t o);
-  passed = counted_more is_passed xs t y.passed o h.passed;
-  failed = counted_more is_failed xs t y.failed o h.failed;
-  error = counted_more is_error xs t y.error o h.error;
-  all = all_more is_passed xs t y.all_passed o h.all;
+  counts = subst (λ (os : List Outcome). IsCount os (counted_with o y.counts)) (sym (outcomes_more xs t o)) (count_next (outcomes xs) o y.counts h.counts);
 }
 
 -- ---- of the tests of a list
 
-pub no_tests : (names : Names) (es : List Event) (tests : List ℕ) → IsTallyOf names es (take 0 tests) (record { lines = []; passed = 0; failed = 0; error = 0; all_passed = true })
-no_tests names es tests = record { given = []; gives = tt; tally = record { lines = refl; passed = refl; failed = refl; error = refl; all = refl }; many = refl }
+pub no_tests : (names : Names) (es : List Event) (tests : List ℕ) (y : Tally) → y.lines ≡ [] → IsCount [] y.counts → IsTallyOf names es (take 0 tests) y
+no_tests names es tests y lines counts = record { given = []; gives = tt; tally = record { lines = lines; counts = counts }; many = refl }
 
 pub tally_more : (names : Names) (es : List Event) (tests : List ℕ) (i d : ℕ) (o : Outcome) (y : Tally) → i < length tests → Gave es (get_or tests i d) o →
     IsTallyOf names es (take i tests) y → IsTallyOf names es (take (i + 1) tests) (tally_with names (get_or tests i d) o y)
@@ -59,17 +91,59 @@ tally_more names es tests i d o y lt gave h = record {
 }
 
 -- there is room to count one more of at most 1,024 tests
-pub few_so_far : (names : Names) (es : List Event) (tests : List ℕ) (i : ℕ) (y : Tally) → i < length tests → length tests ≤ 1024 → IsTallyOf names es (take i tests) y → IsFew y
+pub few_so_far : (names : Names) (es : List Event) (tests : List ℕ) (i : ℕ) (y : Tally) → i < length tests → length tests ≤ 1024 → IsTallyOf names es (take i tests) y → IsFew y.counts
 few_so_far names es tests i y lt few h =
     let taken : length (take i tests) ≡ i = length-take-le i tests (omega (arith, lt)) in
     let many : length (outcomes h.given) ≤ i = omega (arith, length-map h.given (λ (x : ℕ × Outcome). x.1), h.many, taken) in
-    let passed = count_by-le-length is_passed (outcomes h.given) in
-    let failed = count_by-le-length is_failed (outcomes h.given) in
-    let error = count_by-le-length is_error (outcomes h.given) in
-    (omega (arith, h.tally.passed, passed, many, lt, few), omega (arith, h.tally.failed, failed, many, lt, few), omega (arith, h.tally.error, error, many, lt, few))
+    few_of (outcomes h.given) i y.counts many (omega (arith, lt, few)) h.tally.counts
+
+-- ---- of a suite's tests in order
+
+numbered_more : (t : ℕ) (os : List Outcome) (o : Outcome) → numbered t (os ++ o ∷ []) ≡ numbered t os ++ (t + length os, o) ∷ []
+numbered_more t [] o = ap (λ (n : ℕ). (n, o) ∷ []) (let e : t ≡ t + 0 = omega arith in e)
+numbered_more t (x ∷ xs) o = ap (λ (z : List (ℕ × Outcome)). (t, x) ∷ z) (numbered_more (t + 1) xs o ∙ ap (λ (n : ℕ). numbered (t + 1) xs ++ (n, o) ∷ []) (let e : t + 1 + length xs ≡ t + suc (length xs) = omega arith in e))
+
+pub none_in_order : (names : Names) (os : List Outcome) (y : Tally) → y.lines ≡ [] → IsCount [] y.counts → IsTally names (numbered 1 (take 0 os)) y
+none_in_order names os y lines counts = record { lines = lines; counts = counts }
+
+pub in_order_more : (names : Names) (os : List Outcome) (i : ℕ) (o : Outcome) (y : Tally) → i < length os → o ≡ get_or os i o → IsTally names (numbered 1 (take i os)) y →
+    IsTally names (numbered 1 (take (i + 1) os)) (tally_with names (i + 1) o y)
+in_order_more names os i o y lt e h =
+    let taken : length (take i os) ≡ i = length-take-le i os (omega (arith, lt)) in
+    let next : numbered 1 (take (i + 1) os) ≡ numbered 1 (take i os) ++ (i + 1, o) ∷ [] =
+    ap (numbered 1) (take_more os i o lt ∙ ap (λ (x : Outcome). take i os ++ x ∷ []) (sym e))
+    ∙ (numbered_more 1 (take i os) o ∙ ap (λ (n : ℕ). numbered 1 (take i os) ++ (n, o) ∷ []) (let s : 1 + length (take i os) ≡ i + 1 = omega (arith, taken) in s)) in
+    subst (λ (xs : List (ℕ × Outcome)). IsTally names xs (tally_with names (i + 1) o y)) (sym next) (tally_next names (numbered 1 (take i os)) (i + 1) o y h)
+
+outcomes_numbered : (t : ℕ) (os : List Outcome) → outcomes (numbered t os) ≡ os
+outcomes_numbered t [] = refl
+outcomes_numbered t (o ∷ os) = ap (λ (z : List Outcome). o ∷ z) (outcomes_numbered (t + 1) os)
+
+pub few_in_order : (names : Names) (os : List Outcome) (i : ℕ) (y : Tally) → i < length os → length os < 2 ^ 32 → IsTally names (numbered 1 (take i os)) y → IsFew y.counts
+few_in_order names os i y lt few h = few_counted os i y.counts lt few (subst (λ (z : List Outcome). IsCount z y.counts) (outcomes_numbered 1 (take i os)) h.counts)
+
+-- ---- reports
 
 -- the report on what was counted is that on the tests and outcomes
-pub report_is : (names : Names) (xs : List (ℕ × Outcome)) (selected executed chains : ℕ) (y : Tally) → IsTally names xs y → length xs ≡ executed → report_text selected executed chains y ≡ report_on names selected (Some chains) xs
+pub report_is : (names : Names) (xs : List (ℕ × Outcome)) (selected executed : ℕ) (chains : Option ℕ) (y : Tally) → IsTally names xs y → length xs ≡ executed →
+    report_text selected executed chains y.lines y.counts ≡ report_on names selected chains xs
 unfolding report_on
 report_is names xs selected executed chains y h many =
-    λ i. codes "electric-run 1" ++ (10 ∷ (head_line selected (sym many i) (Some chains) ++ (h.lines i ++ count_line (h.passed i) (h.failed i) (h.error i))))
+    λ i. codes "electric-run 1" ++ (10 ∷ (head_line selected (sym many i) chains ++ (h.lines i ++ count_line (h.counts.passed i) (h.counts.failed i) (h.counts.error i))))
+
+length_numbered : (t : ℕ) (os : List Outcome) → length (numbered t os) ≡ length os
+length_numbered t [] = refl
+length_numbered t (o ∷ os) = ap suc (length_numbered (t + 1) os)
+
+-- that on a suite's tests in order
+pub in_order_report : (names : Names) (os : List Outcome) (y : Tally) → IsTally names (numbered 1 os) y → report_text (length os) (length os) None y.lines y.counts ≡ report names os
+in_order_report names os y h = report_is names (numbered 1 os) (length os) (length os) None y h (length_numbered 1 os)
+
+pub in_order_passed : (names : Names) (os : List Outcome) (y : Tally) → IsTally names (numbered 1 os) y → y.counts.all_passed ≡ list_all is_passed os
+in_order_passed names os y h = h.counts.all ∙ ap (list_all is_passed) (outcomes_numbered 1 os)
+
+-- a head, and what stands behind it
+pub head_then : (t s d w e r : List ℕ) → (t ++ (10 ∷ (s ++ (d ++ (w ++ e))))) ++ r ≡ t ++ (10 ∷ (s ++ (d ++ (w ++ (e ++ r)))))
+head_then t s d w e r =
+    append_assoc t (10 ∷ (s ++ (d ++ (w ++ e)))) r
+    ∙ ap (λ z. t ++ (10 ∷ z)) (append_assoc s (d ++ (w ++ e)) r ∙ ap (λ z. s ++ z) (append_assoc d (w ++ e) r ∙ ap (λ z. d ++ z) (append_assoc w e r)))

@@ -1,5 +1,5 @@
 -- What the top call promises: its status, the bytes on the sink and the steps (this project's).
-use Rattle.std.specs.Prelude.{◌≡◌, ◌≢◌, ◌⊎◌, ℕ, ◌+◌, ◌-◌, ◌^◌, ◌≤◌, List, length, Bool, true, false, Option, None, Ok, IsSome, IfSome}
+use Rattle.std.specs.Prelude.{◌≡◌, ◌≢◌, ◌⊎◌, ℕ, ◌+◌, ◌-◌, ◌^◌, ◌≤◌, List, length, Bool, true, false, Option, Ok, IfSome}
 use Rattle.outside.specs.Counts.{Rose}
 use Rattle.outside.specs.Depot.{Files, DepotView, FailedAt}
 use Rattle.outside.specs.Sink.{SinkView, TookPrefix, appended, HasRoom}
@@ -11,7 +11,7 @@ use Rattle.electrictest.specs.declared.status.InputFault.{InputFault}
 use Rattle.electrictest.specs.declared.status.InputFault.TheVariants as input
 use Rattle.electrictest.specs.declared.status.Status.{Status}
 use Rattle.electrictest.specs.declared.status.Status.TheVariants as ends
-use Rattle.electrictest.specs.Words.{Ask}
+use Rattle.electrictest.specs.Words.{Ask, is_formed, unformed}
 use Rattle.electrictest.specs.Loads.{LoadsFor}
 use Rattle.electrictest.specs.Replies.{fault_line, Reports, Unreported, IsAnswer}
 
@@ -24,7 +24,7 @@ IsProperInput _ = Unit {0}
 
 -- the words have a form that is served
 abbrev pub HasForm : Ask → Type 0
-HasForm a = IsSome a.command
+HasForm a = is_formed a.command ≡ true
 
 -- a refusal at the file of this name: an input fault, a depot that failed there, or want of memory
 abbrev pub Fails : List ℕ → DepotView → DepotView → Status → Type 0
@@ -47,7 +47,7 @@ IsProperRun s = IsProperRefusal s
 -- Why there is no report, whatever the depot tells: exactly words in no form are answered `Words`, unless memory ran out; a
 -- depot is named by the file of its last read that failed.
 abbrev pub ReportEnds : Ask → Status → DepotView → DepotView → Type 0
-ReportEnds a ends.Words old new = a.command ≡ None
+ReportEnds a ends.Words old new = a.command ≡ unformed
 ReportEnds a (ends.Input f) old new = HasForm a × IsProperInput f
 ReportEnds a (ends.Depot name) old new = HasForm a × FailedAt old new name
 ReportEnds a (ends.Over f) old new = HasForm a

@@ -12,12 +12,11 @@ use Rattle.suite_load.specs.declared.loaded.Loaded.{Loaded}
 use Rattle.suite_load.specs.Loading.{bytes_of}
 use Rattle.impact_pick.specs.ImpactText.{text_on}
 use Rattle.electrictest.specs.declared.status.Status.{Status}
-use Rattle.electrictest.specs.declared.status.Status.TheVariants as ends
 use Rattle.electrictest.specs.declared.words.Command.TheVariants as command
 use Rattle.electrictest.specs.Commands.{Asked, Whole}
 use Rattle.electrictest.specs.Detections.{IsFound, recorded}
 use Rattle.electrictest.specs.Loads.{LoadsFor}
-use Rattle.electrictest.specs.Records.{record_bytes}
+use Rattle.electrictest.specs.OwnRecords.{OwnEndsBy}
 use Rattle.electrictest.specs.Words.{Ask, word_at}
 
 -- each file is one of bytes
@@ -31,7 +30,7 @@ SumsTell before now = (name : List ℕ) → sha256 (bytes_of before name) ≡ sh
 -- The words ask for the impact on a suite, and the record that they name is a text that `detect` writes of the suite of other
 -- files, whose suite text is the same.
 pub record AsksEarlier (before now : Files) (a : Ask) (was l : Loaded) : Type 0 where
-  pub asks : a.command ≡ Some command.Impact
+  pub asks : a.command ≡ Ok command.Impact
   pub load_before : LoadsFor before a (Ok was)
   pub load : LoadsFor now a (Ok l)
   pub same_text : content before (word_at a.words 1) ≡ content now (word_at a.words 1)
@@ -39,7 +38,7 @@ pub record AsksEarlier (before now : Files) (a : Ask) (was l : Loaded) : Type 0 
   pub passed : Bool
   pub units : ℕ
   pub found : IsFound was recorded passed text units
-  pub held : record_bytes now (word_at a.words 2) ≡ Ok text
+  pub holds : content now (word_at a.words 2) ≡ Some text
   pub bytes_before : HoldBytes before
   pub bytes_now : HoldBytes now
   pub sums_tell : SumsTell before now
@@ -54,20 +53,14 @@ KeptLines was l t = IsSome (lines_in was t) × (lines_in l t ≡ lines_in was t)
 
 -- The text on these class files and tests was written. Where the suite's own run ends within its limits now too, each test that
 -- isn't named has in it the report lines that it had in the run that the record is of.
-pub record WroteImpact (was l : Loaded) (old new : SinkView) : Type 0 where
+pub record WroteImpact (was l : Loaded) (passed : Bool) (old new : SinkView) : Type 0 where
+  pub ends : passed ≡ true
   pub files : List ℕ
   pub tests : List ℕ
   pub whole : Whole (text_on l.names files tests) old new
   pub same : is_detected l.checked ≡ true → (t : ℕ) → IsTestNumber l.checked t → (Member t tests → ⊥) → KeptLines was l t
 
--- what such words are answered: no refusal of the words or the input
-abbrev pub EarlierEnds : Loaded → Loaded → Status → SinkView → SinkView → Type 0
-EarlierEnds was l ends.Done old new = WroteImpact was l old new
-EarlierEnds was l ends.NoMemory old new = new ≡ old
-EarlierEnds was l ends.Sink old new = Unit {0}
-EarlierEnds was l (ends.Depot name) old new = Unit {0}
-EarlierEnds was l _ old new = ⊥
-
--- For every suite and each earlier state of it.
+-- For every suite and each earlier state of it: no refusal of the words or the input.
 abbrev pub EarlierAnswer : Asked → Status → SinkView → SinkView → Type 0
-EarlierAnswer asked s old new = (before : Files) (was l : Loaded) → AsksEarlier before asked.files asked.ask was l → EarlierEnds was l s old new
+EarlierAnswer asked s old new =
+    (before : Files) (was l : Loaded) → AsksEarlier before asked.files asked.ask was l → OwnEndsBy (WroteImpact was l) s old new

@@ -13,7 +13,7 @@ use Rattle.order_law.specs.Reach.{IsRecordOf}
 use Rattle.outside.specs.Depot.{Files}
 use Rattle.suite_gen.specs.Generated.{suite_text, generated_class}
 use Rattle.suite_load.specs.declared.loaded.Loaded.{Loaded}
-use Rattle.electrictest.specs.declared.pool_reports.Tally.{Tally}
+use Rattle.electrictest.specs.declared.tallies.Tally.{Tally}
 use Rattle.electrictest.specs.declared.recorded.Request.{Request}
 use Rattle.electrictest.specs.declared.status.InputFault.{InputFault}
 use Rattle.electrictest.specs.declared.status.OverFault.{OverFault}
@@ -64,7 +64,7 @@ summary_text tests workers kept chains os = codes "electric-gen 1" ++ (10 ∷ (c
 abbrev pub summary_by : ℕ → ℕ → Record → ℕ → Tally → List ℕ
 summary_by tests workers kept chains t =
     codes "electric-gen 1" ++ (10 ∷ (conflict_line tests kept.edges chains
-    ++ (counted (codes "workers ") workers ++ (counted (codes " units ") (sum kept.units) ++ (32 ∷ count_line t.passed t.failed t.error)))))
+    ++ (counted (codes "workers ") workers ++ (counted (codes " units ") (sum kept.units) ++ (32 ∷ count_line t.counts.passed t.counts.failed t.counts.error)))))
 
 -- ---- what is answered
 

@@ -6,10 +6,12 @@ pub mod EarlierRecords
 pub mod FaultTexts
 pub mod Generated
 pub mod Impacts
+pub mod Laws
 pub mod Loads
 pub mod Logs
 pub mod Orders
 pub mod OwnLists
+pub mod OwnPools
 pub mod OwnRecords
 pub mod PlanTexts
 pub mod Plans
@@ -23,6 +25,5 @@ pub mod Selections
 pub mod Tallies
 pub mod TestNames
 pub mod Tests
-pub mod Threaded
 pub mod Wholes
 pub mod Words

@@ -1,5 +1,5 @@
 -- What a call reads of a depot's files: the suite, and for some commands a record of it (this project's).
-use Rattle.std.specs.Prelude.{◌≡◌, ◌≤◌, ℕ, ◌-◌, length, List, [], Bool, Option, Some, None, option_map, Result, Ok, Err, if◌then◌else◌}
+use Rattle.std.specs.Prelude.{◌≡◌, ◌≤◌, ℕ, ◌-◌, length, List, [], Bool, true, Option, Some, None, option_map, Result, Ok, Err, if◌then◌else◌}
 use Rattle.jvm_model.specs.Builtin.{builtin_count}
 use Rattle.outside.specs.Depot.{Files}
 use Rattle.dep_record.specs.RecordText.{Said}
@@ -12,9 +12,8 @@ use Rattle.electrictest.specs.declared.status.Status.{Status}
 use Rattle.electrictest.specs.declared.status.Status.TheVariants as ends
 use Rattle.electrictest.specs.declared.status.InputFault.{InputFault}
 use Rattle.electrictest.specs.declared.status.InputFault.TheVariants as input
-use Rattle.electrictest.specs.declared.words.Command.{Command}
 use Rattle.electrictest.specs.declared.words.Command.TheVariants as command
-use Rattle.electrictest.specs.Words.{Ask, is_eager, suite_word, word_at}
+use Rattle.electrictest.specs.Words.{Asking, Ask, is_eager, is_formed, suite_word, word_at}
 use Rattle.electrictest.specs.Selections.{ordered, selected}
 use Rattle.electrictest.specs.Records.{Beginning, begun, record_fits, earlier_fits}
 
@@ -64,21 +63,30 @@ pub record IsSuite (l : Loaded) : Type 0 where
 -- ---- records
 
 -- the tests that the words name, where they name a record too
-abbrev pub named_by : Option Command → List (List ℕ) → Loaded → Option (Result (List ℕ) InputFault)
-named_by (Some (command.Run n log)) words l = Some (selected l.names (word_at words 4))
-named_by (Some command.Order) words l = Some (ordered l.names (word_at words 3))
-named_by (Some (command.Plan n)) words l = Some (selected l.names (word_at words 4))
-named_by (Some command.Impact) words l = Some (Ok [])
+abbrev pub named_by : Asking → List (List ℕ) → Loaded → Option (Result (List ℕ) InputFault)
+named_by (Ok (command.Run n log)) words l = Some (selected l.names (word_at words 4))
+named_by (Ok command.Order) words l = Some (ordered l.names (word_at words 3))
+named_by (Ok (command.Plan n)) words l = Some (selected l.names (word_at words 4))
+named_by (Ok command.Impact) words l = Some (Ok [])
 named_by _ words l = None
 
 -- what that record has to be: of an earlier state of the suite, or of the suite
-abbrev pub fits_for : Option Command → Loaded → Said → Result (Unit {0}) InputFault
-fits_for (Some command.Impact) = earlier_fits
+abbrev pub fits_for : Asking → Loaded → Said → Result (Unit {0}) InputFault
+fits_for (Ok command.Impact) = earlier_fits
 fits_for _ = record_fits
 
 -- what a command begins with besides the suite: those tests, and the record
 abbrev pub begun_by : Files → Ask → Loaded → Option (Result Beginning InputFault)
 begun_by files a l = option_map (λ named. begun (fits_for a.command) files l named (word_at a.words 2)) (named_by a.command a.words l)
+
+-- such a command of words in form names these tests, and a record of the suite
+pub record IsNamed (a : Ask) (l : Loaded) (named : Result (List ℕ) InputFault) : Type 0 where
+  pub by : named_by a.command a.words l ≡ Some named
+  pub fits : fits_for a.command ≡ record_fits
+  pub formed : is_formed a.command ≡ true
+
+abbrev pub NamesTests : Ask → Loaded → Type 0
+NamesTests a l = (named : Result (List ℕ) InputFault) × IsNamed a l named
 
 -- the suite is loaded, and with it this is begun
 pub record Begins (files : Files) (a : Ask) (l : Loaded) (b : Result Beginning InputFault) : Type 0 where

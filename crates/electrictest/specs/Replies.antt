@@ -1,5 +1,5 @@
 -- What is asked of a depot's files, and what is answered (this project's).
-use Rattle.std.specs.Prelude.{◌≡◌, ℕ, List, [], ◌∷◌, ◌++◌, codes, decimal, Bool, true, false, Option, Some, None, Ok, Err}
+use Rattle.std.specs.Prelude.{◌≡◌, ℕ, List, [], ◌∷◌, ◌++◌, codes, decimal, Bool, true, false, Ok, Err}
 use Rattle.hex.specs.Hex.{encode_lower}
 use Rattle.et_base.specs.Quotes.{quoted_bytes}
 use Rattle.outside.specs.Depot.{Files}
@@ -10,10 +10,9 @@ use Rattle.electrictest.specs.declared.status.InputFault.{InputFault}
 use Rattle.electrictest.specs.declared.status.InputFault.TheVariants as input
 use Rattle.electrictest.specs.declared.status.OverFault.{OverFault}
 use Rattle.electrictest.specs.declared.status.OverFault.TheVariants as over
-use Rattle.electrictest.specs.declared.words.Command.{Command}
 use Rattle.electrictest.specs.declared.words.Command.TheVariants as command
 use Rattle.electrictest.specs.FaultTexts.{why_text, class_text, link_text, check_text}
-use Rattle.electrictest.specs.Words.{Ask}
+use Rattle.electrictest.specs.Words.{Asking, Ask, unformed}
 use Rattle.electrictest.specs.Records.{Beginning}
 use Rattle.electrictest.specs.Loads.{LoadsFor, Begins, IsReadFor}
 use Rattle.electrictest.specs.Wholes.{IsReport, IsOver}
@@ -30,38 +29,38 @@ use Rattle.electrictest.specs.Detections.{IsDetected, recorded, dependences}
 pub data IsRefusedInput (files : Files) (a : Ask) (f : InputFault) : Type 0 where
   unloaded : LoadsFor files a (Err (ends.Input f)) → IsRefusedInput files a f
   unbegun : {l : Loaded} → Begins files a l (Err f) → IsRefusedInput files a f
-  ungenerated : {k n : ℕ} → a.command ≡ Some (command.Gen k n) → IsUngenerated k f → IsRefusedInput files a f
-  unlawful : {l : Loaded} {b : Beginning} → a.command ≡ Some command.Order → Begins files a l (Ok b) → IsUnlawful l b f → IsRefusedInput files a f
+  ungenerated : {k n : ℕ} → a.command ≡ Ok (command.Gen k n) → IsUngenerated k f → IsRefusedInput files a f
+  unlawful : {l : Loaded} {b : Beginning} → a.command ≡ Ok command.Order → Begins files a l (Ok b) → IsUnlawful l b f → IsRefusedInput files a f
 
 -- the text that a command writes, and the units of the tests that it runs
-abbrev pub ReportsBy : Option Command → Files → Ask → Bool → List ℕ → ℕ → Type 0
-ReportsBy (Some command.Whole) files a passed text units = IsReport files a passed text units
-ReportsBy (Some (command.Run n log)) files a passed text units = IsPoolRun files a n log passed text units
-ReportsBy (Some command.Detect) files a passed text units = IsDetected files a recorded passed text units
-ReportsBy (Some (command.Deps json)) files a passed text units = IsDetected files a (dependences json) passed text units
-ReportsBy (Some command.Order) files a passed text units = IsOrdered files a passed text units
-ReportsBy (Some (command.Plan n)) files a passed text units = IsPlanned files a n passed text units
-ReportsBy (Some command.Impact) files a passed text units = IsImpacted files a passed text units
-ReportsBy (Some (command.Gen k n)) files a passed text units = IsSummary k n passed text units
-ReportsBy (Some command.Quiet) files a passed text units = IsQuietList files a passed text units
+abbrev pub ReportsBy : Asking → Files → Ask → Bool → List ℕ → ℕ → Type 0
+ReportsBy (Ok command.Whole) files a passed text units = IsReport files a passed text units
+ReportsBy (Ok (command.Run n log)) files a passed text units = IsPoolRun files a n log passed text units
+ReportsBy (Ok command.Detect) files a passed text units = IsDetected files a recorded passed text units
+ReportsBy (Ok (command.Deps json)) files a passed text units = IsDetected files a (dependences json) passed text units
+ReportsBy (Ok command.Order) files a passed text units = IsOrdered files a passed text units
+ReportsBy (Ok (command.Plan n)) files a passed text units = IsPlanned files a n passed text units
+ReportsBy (Ok command.Impact) files a passed text units = IsImpacted files a passed text units
+ReportsBy (Ok (command.Gen k n)) files a passed text units = IsSummary k n passed text units
+ReportsBy (Ok command.Quiet) files a passed text units = IsQuietList files a passed text units
 ReportsBy _ files a passed text units = ⊥
 
 abbrev pub Reports : Files → Ask → Bool → List ℕ → ℕ → Type 0
 Reports files a passed text units = ReportsBy a.command files a passed text units
 
 -- the number of units that is passed
-abbrev pub OversBy : Option Command → Files → Ask → OverFault → Type 0
-OversBy (Some command.Whole) files a f = IsOver files a f
-OversBy (Some (command.Run n log)) files a f = IsPoolOver files a f
-OversBy (Some command.Detect) files a f = IsOver files a f
-OversBy (Some (command.Deps json)) files a f = IsOver files a f
-OversBy (Some command.Order) files a f = IsOrderedOver files a f
-OversBy (Some (command.Gen k n)) files a f = IsGeneratedOver k f
+abbrev pub OversBy : Asking → Files → Ask → OverFault → Type 0
+OversBy (Ok command.Whole) files a f = IsOver files a f
+OversBy (Ok (command.Run n log)) files a f = IsPoolOver files a f
+OversBy (Ok command.Detect) files a f = IsOver files a f
+OversBy (Ok (command.Deps json)) files a f = IsOver files a f
+OversBy (Ok command.Order) files a f = IsOrderedOver files a f
+OversBy (Ok (command.Gen k n)) files a f = IsGeneratedOver k f
 OversBy _ files a f = ⊥
 
 -- Why there is no report; a depot may fail at any file that is read.
 abbrev pub Unreported : Files → Ask → Status → Type 0
-Unreported files a ends.Words = a.command ≡ None
+Unreported files a ends.Words = a.command ≡ unformed
 Unreported files a (ends.Input f) = IsRefusedInput files a f
 Unreported files a (ends.Depot name) = IsReadFor files a name
 Unreported files a (ends.Over f) = OversBy a.command files a f

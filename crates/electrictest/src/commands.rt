@@ -5,11 +5,12 @@ ghost use Rattle.electrictest.specs.Commands.{called, HasForm, ReportEnds, Repor
 ghost use Rattle.electrictest.specs.EagerForms.{EagerAnswer};
 ghost use Rattle.electrictest.specs.EarlierRecords.{EarlierAnswer};
 ghost use Rattle.electrictest.specs.Loads.{IsSuite};
-ghost use Rattle.electrictest.specs.OwnLists.{OwnOrderAnswer};
-ghost use Rattle.electrictest.specs.Words.{ask, plain, refusal_of, IsServed};
+ghost use Rattle.electrictest.specs.OwnLists.{DetectedOrderAnswer, OwnOrderAnswer};
+ghost use Rattle.electrictest.specs.Words.{plain, refusal_of, IsServed};
 ghost use Rattle.electrictest.specs.Commands as command;
 ghost use Rattle.electrictest.specs.Replies as reply;
 
+use crate::asks::Ask;
 use crate::detections::{deps_for, record_for};
 use crate::impacts::impact_for;
 use crate::loading::load_for;
@@ -20,7 +21,7 @@ use crate::reports::Report;
 use crate::status::Status;
 use crate::texts::fault_line;
 use crate::wholes::whole_for;
-use crate::words::{Command, command_of, plain_of};
+use crate::words::Command;
 use et_base::Text;
 use outside::{Depot, Sink, Steps, write_text};
 use std::alloc::Global;
@@ -42,30 +43,29 @@ fn report_status(report: &Report) -> Status
 pub fn report_for<D: Depot, L: Ledger>(
     alloc: Global,
     loaded: &Loaded,
-    asked: Option<Command>,
-    words: &[Text],
+    ask: &Ask<'_>,
     depot: &mut D,
     steps: &mut Steps<L>,
 ) -> Result<Report, Status>
-    requires form { refusal_of asked ≡ None }
-    requires served { IsServed asked }
+    requires form { refusal_of ask.now.command ≡ None }
+    requires served { IsServed ask.now.command }
     requires suite { IsSuite loaded.now }
     ensures told { (D.shown depot.new).told ≡ (D.shown depot.old).told }
     ensures faults { (D.shown depot.old).faults ≤ (D.shown depot.new).faults }
-    ensures reports { IfOk result (λ r. let a = ask asked words.now in
-        ReportsOver (D.shown depot.old).told a loaded.now r.passed r.text steps.old steps.new) }
+    ensures reports { IfOk result (λ r. let told = (D.shown depot.old).told in
+        ReportsOver told ask.now loaded.now r.passed r.text steps.old steps.new) }
     ensures refused { IfErr result (λ s.
-        RefusedOver (D.shown depot.old).told (ask asked words.now) loaded.now s) }
+        RefusedOver (D.shown depot.old).told ask.now loaded.now s) }
     ensures ends { IfErr result (λ s.
-        ReportEnds (ask asked words.now) s (D.shown depot.old) (D.shown depot.new)) }
+        ReportEnds ask.now s (D.shown depot.old) (D.shown depot.new)) }
 {
-    match asked {
-        Some(Command::Detect) => record_for(alloc, loaded, steps),
-        Some(Command::Deps { json }) => deps_for(alloc, loaded, json, steps),
-        Some(Command::Order) => order_for(alloc, loaded, words, depot, steps),
-        Some(Command::Plan { workers }) => plan_for(alloc, loaded, words, workers, depot),
-        Some(Command::Quiet) => quiet_for(alloc, loaded),
-        Some(Command::Impact) => impact_for(alloc, loaded, words, depot),
+    match ask.command() {
+        Ok(Command::Detect) => record_for(alloc, loaded, steps),
+        Ok(Command::Deps { json }) => deps_for(alloc, loaded, json, steps),
+        Ok(Command::Order) => order_for(alloc, loaded, ask, depot, steps),
+        Ok(Command::Plan { workers }) => plan_for(alloc, loaded, ask, workers, depot),
+        Ok(Command::Quiet) => quiet_for(alloc, loaded),
+        Ok(Command::Impact) => impact_for(alloc, loaded, ask, depot),
         _ => whole_for(alloc, loaded, steps),
     }
 }
@@ -73,24 +73,23 @@ pub fn report_for<D: Depot, L: Ledger>(
 // The report that is asked for.
 fn reported<D: Depot, L: Ledger>(
     alloc: Global,
-    asked: Option<Command>,
-    words: &[Text],
+    ask: &Ask<'_>,
     depot: &mut D,
     steps: &mut Steps<L>,
 ) -> Result<Report, Status>
-    requires served { IsServed asked }
+    requires served { IsServed ask.now.command }
     ensures told { (D.shown depot.new).told ≡ (D.shown depot.old).told }
     ensures faults { (D.shown depot.old).faults ≤ (D.shown depot.new).faults }
     ensures reports { IfOk result (λ r. IfSome (D.shown depot.old).told (λ files.
-        Reported files (ask asked words.now) r.passed r.text steps.old steps.new)) }
+        Reported files ask.now r.passed r.text steps.old steps.new)) }
     ensures refused { IfErr result (λ s. IfSome (D.shown depot.old).told (λ files.
-        reply.Unreported files (ask asked words.now) s)) }
-    ensures form { IfOk result (λ _. HasForm (ask asked words.now)) }
+        reply.Unreported files ask.now s)) }
+    ensures form { IfOk result (λ _. HasForm ask.now) }
     ensures ends { IfErr result (λ s.
-        ReportEnds (ask asked words.now) s (D.shown depot.old) (D.shown depot.new)) }
+        ReportEnds ask.now s (D.shown depot.old) (D.shown depot.new)) }
 {
-    let loaded = load_for(alloc, asked, words, depot)?;
-    report_for(alloc, &loaded, asked, words, depot, steps)
+    let loaded = load_for(alloc, ask, depot)?;
+    report_for(alloc, &loaded, ask, depot, steps)
 }
 
 /// Writes a text, and answers this status, or `Sink` where the sink failed: it then took a prefix of the text, and its
@@ -172,6 +171,11 @@ pub fn electric_plain<D: Depot, S: Sink, L: Ledger>(
         let asked = called (plain words.now) (D.shown depot.old) depot_now steps.old steps.new in
         IfSome (D.shown depot.old).told (λ files.
         OwnOrderAnswer (asked files) result (S.shown sink.old) (S.shown sink.new)) }
+    // So it is with the record that `detect` wrote.
+    ensures detected { let depot_now = D.shown depot.new in
+        let asked = called (plain words.now) (D.shown depot.old) depot_now steps.old steps.new in
+        IfSome (D.shown depot.old).told (λ files.
+        DetectedOrderAnswer (asked files) result (S.shown sink.old) (S.shown sink.new)) }
     // With the record of an earlier state each test that an impact doesn't name has the report lines that it had.
     ensures earlier { let depot_now = D.shown depot.new in
         let asked = called (plain words.now) (D.shown depot.old) depot_now steps.old steps.new in
@@ -185,7 +189,7 @@ pub fn electric_plain<D: Depot, S: Sink, L: Ledger>(
     ensures ends { let depot_now = D.shown depot.new in let sink_now = S.shown sink.new in
         Ends (plain words.now) result (D.shown depot.old) depot_now (S.shown sink.old) sink_now }
 {
-    let asked = plain_of(command_of(words));
-    let report = reported(alloc, asked, words, depot, steps);
+    let ask = Ask::plain(words);
+    let report = reported(alloc, &ask, depot, steps);
     answered(alloc, sink, report)
 }

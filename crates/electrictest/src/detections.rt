@@ -1,14 +1,14 @@
 //! Detection runs: the record of a suite, and the reports on its dependences.
 
-ghost use Rattle.std.specs.Prelude.{◌≡◌, ◌+◌, ℕ, List, Option, Some, sum, IfOk, IfErr};
+ghost use Rattle.std.specs.Prelude.{◌≡◌, ◌+◌, Option, Ok, sum, IfOk, IfErr};
 ghost use Rattle.detect_run.specs.Detection.{IsDetection};
 ghost use Rattle.outside.specs.Depot.{Files, DepotView};
-ghost use Rattle.electrictest.specs.Commands.{ReportEnds, ReportsOver, RefusedOver};
+ghost use Rattle.electrictest.specs.Commands.{HasForm, ReportEnds, ReportsOver, RefusedOver};
 ghost use Rattle.electrictest.specs.declared.words.Command.TheVariants as command;
 ghost use Rattle.electrictest.specs.Detections as detection;
 ghost use Rattle.electrictest.specs.Loads.{IsSuite};
 ghost use Rattle.electrictest.specs.Running.{RunRefused};
-ghost use Rattle.electrictest.specs.Words.{ask};
+ghost use Rattle.electrictest.specs.Words.{Ask};
 
 use crate::reports::Report;
 use crate::running::passed_units;
@@ -98,12 +98,12 @@ pub fn record_for<L: Ledger>(
     steps: &mut Steps<L>,
 ) -> Result<Report, Status>
     requires suite { IsSuite loaded.now }
-    ensures reports { (told : Option Files) (words : List (List ℕ)) → IfOk result (λ r. ReportsOver
-        told (ask (Some command.Detect) words) loaded.now r.passed r.text steps.old steps.new) }
-    ensures refused { (told : Option Files) (words : List (List ℕ)) → IfErr result (λ s.
-        RefusedOver told (ask (Some command.Detect) words) loaded.now s) }
-    ensures ends { (words : List (List ℕ)) (depot : DepotView) → IfErr result (λ s.
-        ReportEnds (ask (Some command.Detect) words) s depot depot) }
+    ensures reports { (told : Option Files) (a : Ask) → a.command ≡ Ok command.Detect → IfOk result (λ r.
+        ReportsOver told a loaded.now r.passed r.text steps.old steps.new) }
+    ensures refused { (told : Option Files) (a : Ask) → a.command ≡ Ok command.Detect →
+        IfErr result (λ s. RefusedOver told a loaded.now s) }
+    ensures ends { (a : Ask) (depot : DepotView) → HasForm a →
+        IfErr result (λ s. ReportEnds a s depot depot) }
 {
     record_report(alloc, loaded, steps)
 }
@@ -118,12 +118,12 @@ pub fn deps_for<L: Ledger>(
     steps: &mut Steps<L>,
 ) -> Result<Report, Status>
     requires suite { IsSuite loaded.now }
-    ensures reports { (told : Option Files) (words : List (List ℕ)) → IfOk result (λ r. ReportsOver
-        told (ask (Some (command.Deps json)) words) loaded.now r.passed r.text steps.old steps.new) }
-    ensures refused { (told : Option Files) (words : List (List ℕ)) → IfErr result (λ s.
-        RefusedOver told (ask (Some (command.Deps json)) words) loaded.now s) }
-    ensures ends { (words : List (List ℕ)) (depot : DepotView) → IfErr result (λ s.
-        ReportEnds (ask (Some (command.Deps json)) words) s depot depot) }
+    ensures reports { (told : Option Files) (a : Ask) → a.command ≡ Ok (command.Deps json) → IfOk result (λ r.
+        ReportsOver told a loaded.now r.passed r.text steps.old steps.new) }
+    ensures refused { (told : Option Files) (a : Ask) → a.command ≡ Ok (command.Deps json) →
+        IfErr result (λ s. RefusedOver told a loaded.now s) }
+    ensures ends { (a : Ask) (depot : DepotView) → HasForm a →
+        IfErr result (λ s. ReportEnds a s depot depot) }
 {
     deps_report(alloc, loaded, json, steps)
 }

@@ -13,12 +13,13 @@ ghost use Rattle.worker_pool.specs.Plans.{units_of};
 
 use crate::detections::detected;
 use crate::loading::status_of;
-use crate::pool_reports::{Tally, tally_of};
+use crate::pool_reports::tally_of;
 use crate::pool_runs::{RunResult, run_pool};
 use crate::recorded::Request;
 use crate::reports::Report;
 use crate::selections::all_tests;
 use crate::status::Status;
+use crate::tallies::Tally;
 use et_base::{NoMemory, Text, push_decimal};
 use order_law::{Edge, EdgeKind};
 use outside::{Gate, QuietDepot, Steps};
@@ -168,7 +169,12 @@ fn summary_of(
     let mut text = Text::from_slice(alloc, b"electric-gen 1\n")?;
     push_conflicts(&mut text, tests, begun.record.edges.as_slice(), chains)?;
     push_workers(&mut text, workers, units)?;
-    let counted = count_line(alloc, tally.passed, tally.failed, tally.error)?;
+    let counted = count_line(
+        alloc,
+        tally.counts.passed,
+        tally.counts.failed,
+        tally.counts.error,
+    )?;
     text.extend_from_slice(counted.as_slice())?;
     Ok(text)
 }
@@ -192,7 +198,7 @@ fn summed(
     let text = summary_of(alloc, tests, workers, begun, pooled, &tally)?;
     Ok(Report {
         text,
-        passed: tally.all_passed,
+        passed: tally.counts.all_passed,
     })
 }
 

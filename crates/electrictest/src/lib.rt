@@ -8,12 +8,16 @@
 //!   these words, where the depot tells its files (`served`), and whatever it tells as `taken`
 //!   says.
 //! - `electric_plain` serves in the same way what needs no threads.
-//! - `own_orders_law` and `own_runs_law` say what the suite's own record gives.
+//! - `own_orders_law` and `own_runs_law` say what the suite's own record gives, and the other calls of `laws.rt` what comes
+//!   of faults that don't.
 //!
-//! One enum, `Command`, has all forms of words. A command over a loaded suite is a function of its
-//! own file with the same three clauses: what it reports, why it doesn't, and how that ends.
+//! One enum, `Command`, has all forms of words, and `Ask` is what a call was asked with the words
+//! that name what it is about. A command over a loaded suite is a function of its own file with the
+//! same three clauses: what it reports, why it doesn't, and how that ends.
 #![tactic(auto)]
 
+mod asks;
+mod begins;
 mod commands;
 mod detections;
 mod fault_texts;
@@ -33,13 +37,15 @@ mod reports;
 mod running;
 mod selections;
 mod status;
+mod tallies;
 mod texts;
 mod threaded;
 mod wholes;
 mod words;
 
 pub use commands::{electric_plain, written};
-pub use laws::own_orders_law;
-pub use pool_runs::own_runs_law;
+pub use laws::{
+    detected_law, own_orders_law, own_runs_law, quiet_depot_law, quiet_sink_law, record_size_law,
+};
 pub use status::{InputFault, OverFault, Status};
 pub use threaded::electric;

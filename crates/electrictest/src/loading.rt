@@ -5,11 +5,10 @@ ghost use Rattle.electrictest.specs.Commands.{HasForm, ReportEnds};
 ghost use Rattle.electrictest.specs.Loads.{LoadsFor, IsSuite};
 ghost use Rattle.electrictest.specs.Loads as loads;
 ghost use Rattle.electrictest.specs.Replies.{Unreported};
-ghost use Rattle.electrictest.specs.Words.{ask};
 ghost use Rattle.electrictest.specs.Words as asked_for;
 
+use crate::asks::Ask;
 use crate::status::{InputFault, Status};
-use crate::words::{Command, is_eager, refusal_of, word_at};
 use et_base::{NoMemory, Text};
 use order_law::Prints;
 use outside::Depot;
@@ -72,30 +71,25 @@ fn prepared(alloc: Global, eager: bool, loaded: Loaded) -> Result<Loaded, NoMemo
 ///
 /// `Words` comes exactly where no command is asked for, `NeedsRecord` where one lacks its record; `Input` as the first fault of
 /// loading does; `Depot` only where the depot failed.
-pub fn load_for<D: Depot>(
-    alloc: Global,
-    asked: Option<Command>,
-    words: &[Text],
-    depot: &mut D,
-) -> Result<Loaded, Status>
+pub fn load_for<D: Depot>(alloc: Global, ask: &Ask<'_>, depot: &mut D) -> Result<Loaded, Status>
     ensures told { (D.shown depot.new).told ≡ (D.shown depot.old).told }
     ensures faults { (D.shown depot.old).faults ≤ (D.shown depot.new).faults }
     ensures loads { IfOk result (λ l. IfSome (D.shown depot.old).told (λ files.
-        LoadsFor files (ask asked words.now) (Ok l))) }
+        LoadsFor files ask.now (Ok l))) }
     ensures refused { IfErr result (λ s. IfSome (D.shown depot.old).told (λ files.
-        Unreported files (ask asked words.now) s)) }
+        Unreported files ask.now s)) }
     ensures suite { IfOk result IsSuite }
-    ensures form { IfOk result (λ _. HasForm (ask asked words.now)) }
-    ensures named { IfOk result (λ _. asked_for.refusal_of asked ≡ None) }
+    ensures form { IfOk result (λ _. HasForm ask.now) }
+    ensures named { IfOk result (λ _. asked_for.refusal_of ask.now.command ≡ None) }
     ensures ends { IfErr result (λ s.
-        ReportEnds (ask asked words.now) s (D.shown depot.old) (D.shown depot.new)) }
+        ReportEnds ask.now s (D.shown depot.old) (D.shown depot.new)) }
 {
-    if let Some(status) = refusal_of(asked) {
+    if let Some(status) = ask.refusal() {
         return Err(status);
     }
-    let name = Text::from_slice(alloc, word_at(words, 1))?;
+    let name = Text::from_slice(alloc, ask.suite())?;
     match load(alloc, depot, &name) {
-        Ok(loaded) => Ok(prepared(alloc, is_eager(words), loaded)?),
+        Ok(loaded) => Ok(prepared(alloc, ask.is_eager(), loaded)?),
         Err(fault) => Err(status_of(fault)),
     }
 }

@@ -1,6 +1,6 @@
 //! Orders of tests.
 
-ghost use Rattle.std.specs.Prelude.{◌≡◌, ◌≤◌, All, Some, IfOk, IfErr};
+ghost use Rattle.std.specs.Prelude.{◌≡◌, ◌≤◌, All, Ok, IfOk, IfErr};
 ghost use Rattle.order_law.specs.Conflicts.{Lawful};
 ghost use Rattle.selection_close.specs.Faults.{fault_of};
 ghost use Rattle.test_run.specs.Running.{IsTest};
@@ -10,16 +10,15 @@ ghost use Rattle.electrictest.specs.Loads.{IsSuite};
 ghost use Rattle.electrictest.specs.Orders as order;
 ghost use Rattle.electrictest.specs.Records.{beginning};
 ghost use Rattle.electrictest.specs.Running.{OrderRefused};
-ghost use Rattle.electrictest.specs.Words.{ask};
 
-use crate::recorded::{Request, begin_with};
+use crate::asks::Ask;
+use crate::begins::begin;
+use crate::recorded::Request;
 use crate::reports::{Report, order_report};
 use crate::running::{run_tests, test_name};
-use crate::selections::ordered;
 use crate::status::{InputFault, Status};
-use crate::words::word_at;
 use dep_graph::Graph;
-use et_base::{NoMemory, Text};
+use et_base::NoMemory;
 use jvm_model::Names;
 use outside::{Depot, Steps};
 use selection_close::{OrderFault, check_order};
@@ -92,23 +91,20 @@ fn order_of<L: Ledger>(
 pub fn order_for<D: Depot, L: Ledger>(
     alloc: Global,
     loaded: &Loaded,
-    words: &[Text],
+    ask: &Ask<'_>,
     depot: &mut D,
     steps: &mut Steps<L>,
 ) -> Result<Report, Status>
+    requires asks { ask.now.command ≡ Ok command.Order }
     requires suite { IsSuite loaded.now }
     ensures told { (D.shown depot.new).told ≡ (D.shown depot.old).told }
     ensures faults { (D.shown depot.old).faults ≤ (D.shown depot.new).faults }
-    ensures reports { IfOk result (λ r. let a = ask (Some command.Order) words.now in
-        ReportsOver (D.shown depot.old).told a loaded.now r.passed r.text steps.old steps.new) }
-    ensures refused { IfErr result (λ s.
-        RefusedOver (D.shown depot.old).told (ask (Some command.Order) words.now) loaded.now s) }
+    ensures reports { IfOk result (λ r. let told = (D.shown depot.old).told in
+        ReportsOver told ask.now loaded.now r.passed r.text steps.old steps.new) }
+    ensures refused { IfErr result (λ s. RefusedOver (D.shown depot.old).told ask.now loaded.now s) }
     ensures ends { IfErr result (λ s.
-        ReportEnds (ask (Some command.Order) words.now) s (D.shown depot.old) (D.shown depot.new)) }
+        ReportEnds ask.now s (D.shown depot.old) (D.shown depot.new)) }
 {
-    let tests = ordered(alloc, &loaded.names, word_at(words, 3))?;
-    let begun = begin_with(alloc, depot, loaded, tests, word_at(words, 2))?;
-    // It is typed, and so linked.
-    let _program = loaded.checked.program();
+    let begun = begin(alloc, loaded, ask, depot)?;
     order_of(alloc, loaded, &begun, steps)
 }

@@ -1,20 +1,19 @@
 //! Plans of selections.
 
-ghost use Rattle.std.specs.Prelude.{◌≡◌, ◌<◌, ◌≤◌, ℕ, Some, IfOk, IfErr};
+ghost use Rattle.std.specs.Prelude.{◌≡◌, ◌<◌, ◌≤◌, ℕ, Ok, IfOk, IfErr};
 ghost use Rattle.schedule_plan.specs.Plans.{HasUnits};
 ghost use Rattle.electrictest.specs.Commands.{ReportEnds, ReportsOver, RefusedOver};
 ghost use Rattle.electrictest.specs.declared.words.Command.TheVariants as command;
 ghost use Rattle.electrictest.specs.Loads.{IsSuite};
 ghost use Rattle.electrictest.specs.Plans.{IsPlanReport};
 ghost use Rattle.electrictest.specs.Records.{beginning};
-ghost use Rattle.electrictest.specs.Words.{ask};
 
+use crate::asks::Ask;
+use crate::begins::begin;
 use crate::plan_texts::plan_text;
-use crate::recorded::{Request, begin_with};
+use crate::recorded::Request;
 use crate::reports::Report;
-use crate::selections::selected;
 use crate::status::Status;
-use crate::words::word_at;
 use dep_graph::Graph;
 use et_base::{NoMemory, Text};
 use outside::Depot;
@@ -44,23 +43,22 @@ fn plan_of(alloc: Global, begun: &Request, workers: u32) -> Result<Text, NoMemor
 pub fn plan_for<D: Depot>(
     alloc: Global,
     loaded: &Loaded,
-    words: &[Text],
+    ask: &Ask<'_>,
     workers: u32,
     depot: &mut D,
 ) -> Result<Report, Status>
     requires workers { 0 < workers }
+    requires asks { ask.now.command ≡ Ok (command.Plan workers) }
     requires suite { IsSuite loaded.now }
     ensures told { (D.shown depot.new).told ≡ (D.shown depot.old).told }
     ensures faults { (D.shown depot.old).faults ≤ (D.shown depot.new).faults }
-    ensures reports { (steps : ℕ) → IfOk result (λ r. let a = ask (Some (command.Plan workers)) words.now in
-        ReportsOver (D.shown depot.old).told a loaded.now r.passed r.text steps steps) }
-    ensures refused { IfErr result (λ s.
-        RefusedOver (D.shown depot.old).told (ask (Some (command.Plan workers)) words.now) loaded.now s) }
+    ensures reports { (steps : ℕ) → IfOk result (λ r. let told = (D.shown depot.old).told in
+        ReportsOver told ask.now loaded.now r.passed r.text steps steps) }
+    ensures refused { IfErr result (λ s. RefusedOver (D.shown depot.old).told ask.now loaded.now s) }
     ensures ends { IfErr result (λ s.
-        ReportEnds (ask (Some (command.Plan workers)) words.now) s (D.shown depot.old) (D.shown depot.new)) }
+        ReportEnds ask.now s (D.shown depot.old) (D.shown depot.new)) }
 {
-    let tests = selected(alloc, &loaded.names, word_at(words, 4))?;
-    let begun = begin_with(alloc, depot, loaded, tests, word_at(words, 2))?;
+    let begun = begin(alloc, loaded, ask, depot)?;
     let text = plan_of(alloc, &begun, workers)?;
     Ok(Report { text, passed: true })
 }

@@ -1,6 +1,6 @@
 //! Runs of a selection's closure on workers.
 
-ghost use Rattle.std.specs.Prelude.{◌≡◌, ◌+◌, ◌<◌, ◌≤◌, ◌++◌, [], cond, length, Some, OnOk, IfOk, IfErr};
+ghost use Rattle.std.specs.Prelude.{◌≡◌, ◌+◌, ◌<◌, ◌≤◌, ◌++◌, [], cond, length, Ok, OnOk, IfOk, IfErr};
 ghost use Rattle.schedule_plan.specs.Plans.{HasUnits, HaveUnits};
 ghost use Rattle.run_core.specs.Run.{history};
 ghost use Rattle.worker_pool.specs.Faults.{IsPlanFault};
@@ -12,20 +12,20 @@ ghost use Rattle.electrictest.specs.declared.status.OverFault.TheVariants as ove
 ghost use Rattle.electrictest.specs.declared.status.Status.TheVariants as ends;
 ghost use Rattle.electrictest.specs.Loads.{IsSuite};
 ghost use Rattle.electrictest.specs.Logs.{log_text};
-ghost use Rattle.electrictest.specs.PoolRuns.{IsChosen, IsPoolReport, PoolReports, PoolRefused, OwnRuns};
+ghost use Rattle.electrictest.specs.PoolRuns.{IsChosen, IsPoolReport, PoolReports, PoolRefused};
 ghost use Rattle.electrictest.specs.Pools.{IsPooled};
 ghost use Rattle.electrictest.specs.Records.{beginning};
 ghost use Rattle.electrictest.specs.TestNames as names_of;
-ghost use Rattle.electrictest.specs.Words.{ask};
 
+use crate::asks::Ask;
+use crate::begins::begin;
 use crate::logs::push_log;
-use crate::pool_reports::{pool_report, tally_of};
-use crate::recorded::{Request, begin_with};
+use crate::pool_reports::tally_of;
+use crate::recorded::Request;
 use crate::reports::Report;
 use crate::running::{budget_of, test_name};
-use crate::selections::selected;
 use crate::status::{OverFault, Status};
-use crate::words::word_at;
+use crate::tallies::report_of;
 use dep_graph::Graph;
 use et_base::{Items, NoMemory, Text};
 use order_law::Chains;
@@ -165,7 +165,7 @@ fn push_asked(out: &mut Text, core: &Core, log: bool) -> Result<(), NoMemory>
 }
 
 // The report on a run, with its history where a log is asked for. The only error is want of memory.
-fn report_of(
+fn pool_report(
     alloc: Global,
     loaded: &Loaded,
     begun: &Request,
@@ -184,11 +184,18 @@ fn report_of(
     let selected = chosen.selected as u64;
     let executed = tests.len() as u64;
     let chains = chosen.chains.lists.len() as u64;
-    let mut text = pool_report(alloc, selected, executed, chains, &tally)?;
+    let mut text = report_of(
+        alloc,
+        selected,
+        executed,
+        Some(chains),
+        tally.lines.as_slice(),
+        tally.counts,
+    )?;
     push_asked(&mut text, &pooled.core, log)?;
     Ok(Report {
         text,
-        passed: tally.all_passed,
+        passed: tally.counts.all_passed,
     })
 }
 
@@ -212,7 +219,7 @@ fn pool_of<R: Threads + Wait + Sync, G: Gate + Sync, L: Ledger>(
     ensures refused { IfErr result (PoolRefused loaded.now (beginning begun.now)) }
 {
     let pooled = run_pool(rt, alloc, loaded, begun, workers, gate, steps)?;
-    let report = report_of(alloc, loaded, begun, workers, &pooled, log)?;
+    let report = pool_report(alloc, loaded, begun, workers, &pooled, log)?;
     Ok(report)
 }
 
@@ -225,7 +232,7 @@ pub fn run_for<R: Threads + Wait + Sync, D: Depot, G: Gate + Sync, L: Ledger>(
     rt: &R,
     alloc: Global,
     loaded: &Loaded,
-    words: &[Text],
+    ask: &Ask<'_>,
     workers: u32,
     log: bool,
     depot: &mut D,
@@ -233,26 +240,16 @@ pub fn run_for<R: Threads + Wait + Sync, D: Depot, G: Gate + Sync, L: Ledger>(
     steps: &mut Steps<L>,
 ) -> Result<Report, Status>
     requires workers { 0 < workers }
+    requires asks { ask.now.command ≡ Ok (command.Run workers log) }
     requires suite { IsSuite loaded.now }
     ensures told { (D.shown depot.new).told ≡ (D.shown depot.old).told }
     ensures faults { (D.shown depot.old).faults ≤ (D.shown depot.new).faults }
-    ensures reports { IfOk result (λ r. let a = ask (Some (command.Run workers log)) words.now in
-        ReportsOver (D.shown depot.old).told a loaded.now r.passed r.text steps.old steps.new) }
-    ensures refused { IfErr result (λ s. let a = ask (Some (command.Run workers log)) words.now in
-        RefusedOver (D.shown depot.old).told a loaded.now s) }
-    ensures ends { IfErr result (λ s. let a = ask (Some (command.Run workers log)) words.now in
-        ReportEnds a s (D.shown depot.old) (D.shown depot.new)) }
+    ensures reports { IfOk result (λ r. let told = (D.shown depot.old).told in
+        ReportsOver told ask.now loaded.now r.passed r.text steps.old steps.new) }
+    ensures refused { IfErr result (λ s. RefusedOver (D.shown depot.old).told ask.now loaded.now s) }
+    ensures ends { IfErr result (λ s.
+        ReportEnds ask.now s (D.shown depot.old) (D.shown depot.new)) }
 {
-    let tests = selected(alloc, &loaded.names, word_at(words, 4))?;
-    let begun = begin_with(alloc, depot, loaded, tests, word_at(words, 2))?;
-    // It is typed, and so linked.
-    let _program = loaded.checked.program();
+    let begun = begin(alloc, loaded, ask, depot)?;
     pool_of(rt, alloc, loaded, &begun, workers, log, gate, steps)
 }
-
-/// With the edges of the suite's own run, a run of a selection on workers has, for exactly the tests of its closure, each once
-/// and in suite order, the outcome that the test has when the whole suite is run in order: verdict, output and units;
-/// and no test passes its budget.
-pub fn own_runs_law()
-    ensures { OwnRuns }
-{}

@@ -1,10 +1,10 @@
 //! The quiet classes of a suite.
 
-ghost use Rattle.std.specs.Prelude.{◌≡◌, ℕ, List, Option, Some, IfOk, IfErr};
+ghost use Rattle.std.specs.Prelude.{◌≡◌, ℕ, Option, Ok, IfOk, IfErr};
 ghost use Rattle.outside.specs.Depot.{Files, DepotView};
 ghost use Rattle.electrictest.specs.Commands.{ReportEnds, ReportsOver, RefusedOver};
 ghost use Rattle.electrictest.specs.declared.words.Command.TheVariants as command;
-ghost use Rattle.electrictest.specs.Words.{ask};
+ghost use Rattle.electrictest.specs.Words.{Ask};
 
 use crate::reports::Report;
 use crate::status::Status;
@@ -15,12 +15,11 @@ use suite_load::Loaded;
 /// The report on the classes of a suite whose initialisers only set constants; it runs no test. The only refusal is want of
 /// memory.
 pub fn quiet_for(alloc: Global, loaded: &Loaded) -> Result<Report, Status>
-    ensures reports { (told : Option Files) (words : List (List ℕ)) (steps : ℕ) → IfOk result (λ r. ReportsOver
-        told (ask (Some command.Quiet) words) loaded.now r.passed r.text steps steps) }
-    ensures refused { (told : Option Files) (words : List (List ℕ)) → IfErr result (λ s.
-        RefusedOver told (ask (Some command.Quiet) words) loaded.now s) }
-    ensures ends { (words : List (List ℕ)) (depot : DepotView) → IfErr result (λ s.
-        ReportEnds (ask (Some command.Quiet) words) s depot depot) }
+    ensures reports { (told : Option Files) (a : Ask) (steps : ℕ) → a.command ≡ Ok command.Quiet →
+        IfOk result (λ r. ReportsOver told a loaded.now r.passed r.text steps steps) }
+    ensures refused { (told : Option Files) (a : Ask) →
+        IfErr result (λ s. RefusedOver told a loaded.now s) }
+    ensures ends { (a : Ask) (depot : DepotView) → IfErr result (λ s. ReportEnds a s depot depot) }
 {
     let text = quiet_text(alloc, &loaded.checked)?;
     Ok(Report { text, passed: true })

@@ -1,16 +1,18 @@
 //! The report on a suite.
 
-ghost use Rattle.std.specs.Prelude.{◌≡◌, ℕ, ◌<◌, ◌≤◌, ◌^◌, ◌++◌, ◌∷◌, [], filter, length, codes, count_by, None, OnOk, IfOk};
+ghost use Rattle.std.specs.Prelude.{◌≡◌, ℕ, ◌<◌, ◌≤◌, ◌^◌, ◌++◌, ◌∷◌, [], filter, length, OnOk, IfOk};
 ghost use Rattle.std.specs.List.{list_all};
 ghost use Rattle.jvm_model.specs.Texts as line;
 ghost use Rattle.order_law.specs.Conflicts.{Member};
 ghost use Rattle.electrictest.specs.Orders as order;
+ghost use Rattle.electrictest.specs.Tallies.{IsTally};
 ghost use Rattle.electrictest.specs.Wholes as whole;
 
-use et_base::{NoMemory, Text, push_decimal};
-use jvm_model::{Names, Outcome, Verdict};
+use crate::tallies::{Counts, Tally, report_of};
+use et_base::{NoMemory, Text};
+use jvm_model::{Names, Outcome};
 use std::alloc::Global;
-use test_run::{count_line, outcome_lines};
+use test_run::outcome_lines;
 
 /// A report, and whether each test in it passed.
 #[derive(Drop)]
@@ -19,97 +21,39 @@ pub struct Report {
     pub passed: bool,
 }
 
-// How many tests ended with each verdict.
-#[derive(Clone, Copy)]
-struct Counts {
-    passed: u32,
-    failed: u32,
-    error: u32,
-}
-
-fn counts_of(outcomes: &[Outcome]) -> Counts
+// The tests of a suite with these outcomes, in order.
+#[tactic(auto, using(crate::proofs::TallyLaws::none_in_order, crate::proofs::TallyLaws::few_in_order, crate::proofs::TallyLaws::in_order_more))]
+fn tally_in_order(alloc: Global, names: &Names, outcomes: &[Outcome]) -> Result<Tally, NoMemory>
     requires few { length outcomes.now < 2 ^ 32 }
-    ensures passed { result.passed ≡ count_by line.is_passed outcomes.now }
-    ensures failed { result.failed ≡ count_by line.is_failed outcomes.now }
-    ensures error { result.error ≡ count_by line.is_error outcomes.now }
+    ensures { IfOk result (IsTally names.now (whole.numbered 1 outcomes.now)) }
 {
-    let mut passed = 0;
-    let mut failed = 0;
-    let mut error = 0;
-    for outcome in outcomes {
-        match &outcome.verdict {
-            Verdict::Passed => passed += 1,
-            Verdict::Failed(_) => failed += 1,
-            Verdict::Error(_) => error += 1,
-        }
-    }
-    Counts {
-        passed,
-        failed,
-        error,
-    }
-}
-
-// Appends the counts of verdicts.
-fn push_counts(alloc: Global, out: &mut Text, outcomes: &[Outcome]) -> Result<(), NoMemory>
-    requires few { length outcomes.now < 2 ^ 32 }
-    ensures { OnOk result (out.new ≡ out.old ++ line.verdict_line outcomes.now) }
-{
-    let counts = counts_of(outcomes);
-    let counted = count_line(alloc, counts.passed, counts.failed, counts.error)?;
-    out.extend_from_slice(counted.as_slice())
-}
-
-// Appends the lines before those of the tests.
-fn push_head(out: &mut Text, count: u64) -> Result<(), NoMemory>
-    ensures { OnOk result (out.new
-        ≡ out.old ++ (codes "electric-run 1" ++ (10 ∷ line.head_line count count None))) }
-{
-    out.extend_from_slice(b"electric-run 1\nselected ")?;
-    push_decimal(out, count)?;
-    out.extend_from_slice(b" executed ")?;
-    push_decimal(out, count)?;
-    out.extend_from_slice(b" chains -\n")?;
-    Ok(())
-}
-
-// Appends the lines of all tests.
-fn push_outcomes(
-    alloc: Global,
-    out: &mut Text,
-    names: &Names,
-    outcomes: &[Outcome],
-) -> Result<(), NoMemory>
-    requires few { length outcomes.now < 2 ^ 32 }
-    ensures { OnOk result (out.new
-        ≡ out.old ++ line.test_lines names.now (whole.numbered 1 outcomes.now)) }
-{
+    let mut tally = Tally::new(alloc);
     for index in 0..outcomes.len() {
-        let lines = outcome_lines(alloc, names, (index + 1) as u32, &outcomes[index])?;
-        out.extend_from_slice(lines.as_slice())?;
+        tally.add(alloc, names, (index + 1) as u32, &outcomes[index])?;
     }
-    Ok(())
-}
-
-fn is_passed(outcome: &Outcome) -> bool
-    ensures { result ≡ line.is_passed outcome.now }
-{
-    matches!(&outcome.verdict, Verdict::Passed)
+    Ok(tally)
 }
 
 /// The report on a whole suite. The only error is want of memory.
-#[tactic(auto, unfolding(jvm_model::specs::Texts::report_on))]
 pub fn report_on(alloc: Global, names: &Names, outcomes: &[Outcome]) -> Result<Report, NoMemory>
     requires few { length outcomes.now < 2 ^ 32 }
     ensures text { IfOk result (λ r. r.text ≡ whole.report names.now outcomes.now) }
     ensures passed { IfOk result (λ r. r.passed ≡ list_all line.is_passed outcomes.now) }
 {
-    let mut text = Text::new(alloc);
-    push_head(&mut text, outcomes.len() as u64)?;
-    push_outcomes(alloc, &mut text, names, outcomes)?;
-    push_counts(alloc, &mut text, outcomes)?;
-    let passed = outcomes.iter().all(|outcome| is_passed(outcome));
-    Ok(Report { text, passed })
+    let tally = tally_in_order(alloc, names, outcomes)?;
+    let count = outcomes.len() as u64;
+    let text = report_of(
+        alloc,
+        count,
+        count,
+        None,
+        tally.lines.as_slice(),
+        tally.counts,
+    )?;
+    Ok(Report {
+        text,
+        passed: tally.counts.all_passed,
+    })
 }
 
 // Appends the lines of a listed test, where it is this one.
@@ -172,7 +116,6 @@ fn push_in_order(
 }
 
 /// The report on a list of tests of the suite. The only error is want of memory.
-#[tactic(auto, unfolding(jvm_model::specs::Texts::report_on))]
 pub fn order_report(
     alloc: Global,
     names: &Names,
@@ -186,10 +129,13 @@ pub fn order_report(
     ensures text { IfOk result (λ r. r.text ≡ order.order_report names.now tests.now outcomes.now) }
     ensures passed { IfOk result (λ r. r.passed ≡ list_all line.is_passed outcomes.now) }
 {
-    let mut text = Text::new(alloc);
-    push_head(&mut text, outcomes.len() as u64)?;
-    push_in_order(alloc, &mut text, names, tests, outcomes)?;
-    push_counts(alloc, &mut text, outcomes)?;
-    let passed = outcomes.iter().all(|outcome| is_passed(outcome));
-    Ok(Report { text, passed })
+    let mut lines = Text::new(alloc);
+    push_in_order(alloc, &mut lines, names, tests, outcomes)?;
+    let counts = Counts::of(outcomes);
+    let count = outcomes.len() as u64;
+    let text = report_of(alloc, count, count, None, lines.as_slice(), counts)?;
+    Ok(Report {
+        text,
+        passed: counts.all_passed,
+    })
 }

@@ -5,19 +5,19 @@ ghost use Rattle.electrictest.specs.Commands.{called, HasForm, ReportEnds, Repor
 ghost use Rattle.electrictest.specs.EagerForms.{EagerAnswer};
 ghost use Rattle.electrictest.specs.EarlierRecords.{EarlierAnswer};
 ghost use Rattle.electrictest.specs.Loads.{IsSuite};
-ghost use Rattle.electrictest.specs.OwnLists.{OwnOrderAnswer};
-ghost use Rattle.electrictest.specs.OwnRecords.{DetectedAnswer, OwnAnswer};
+ghost use Rattle.electrictest.specs.OwnLists.{DetectedOrderAnswer, OwnOrderAnswer};
+ghost use Rattle.electrictest.specs.OwnPools.{DetectedAnswer, OwnAnswer};
 ghost use Rattle.electrictest.specs.Replies as reply;
-ghost use Rattle.electrictest.specs.Threaded.{threaded, threaded_of, IsOverSuite, IsThreaded};
-ghost use Rattle.electrictest.specs.Words.{ask, refusal_of, HasWorkers};
+ghost use Rattle.electrictest.specs.Words.{threaded, refusal_of, IsOverSuite};
 
+use crate::asks::Ask;
 use crate::commands::{answered, report_for};
 use crate::generated::summary_for;
 use crate::loading::load_for;
 use crate::pool_runs::run_for;
 use crate::reports::Report;
 use crate::status::Status;
-use crate::words::{Command, command_of, plain_of};
+use crate::words::Command;
 use et_base::Text;
 use outside::{Depot, Gate, Sink, Steps};
 use std::alloc::Global;
@@ -26,47 +26,33 @@ use std::sync::ledger::Ledger;
 use std::thread::Threads;
 use suite_load::Loaded;
 
-// Of a command, what is served.
-fn served_of(command: Option<Command>) -> Option<Command>
-    requires { HasWorkers command }
-    ensures served { result ≡ threaded_of command }
-    ensures workers { IsThreaded result }
-{
-    match command {
-        Some(Command::Run { workers, log }) => Some(Command::Run { workers, log }),
-        Some(Command::Gen { tests, workers }) => Some(Command::Gen { tests, workers }),
-        command => plain_of(command),
-    }
-}
-
 // The text for a command over a loaded suite.
 fn text_for<R: Threads + Wait + Sync, D: Depot, G: Gate + Sync, L: Ledger>(
     rt: &R,
     alloc: Global,
     loaded: &Loaded,
-    asked: Option<Command>,
-    words: &[Text],
+    ask: &Ask<'_>,
     depot: &mut D,
     gate: &G,
     steps: &mut Steps<L>,
 ) -> Result<Report, Status>
-    requires form { refusal_of asked ≡ None }
-    requires served { IsOverSuite asked }
+    requires form { refusal_of ask.now.command ≡ None }
+    requires over { IsOverSuite ask.now.command }
     requires suite { IsSuite loaded.now }
     ensures told { (D.shown depot.new).told ≡ (D.shown depot.old).told }
     ensures faults { (D.shown depot.old).faults ≤ (D.shown depot.new).faults }
-    ensures reports { IfOk result (λ r. let a = ask asked words.now in
-        ReportsOver (D.shown depot.old).told a loaded.now r.passed r.text steps.old steps.new) }
+    ensures reports { IfOk result (λ r. let told = (D.shown depot.old).told in
+        ReportsOver told ask.now loaded.now r.passed r.text steps.old steps.new) }
     ensures refused { IfErr result (λ s.
-        RefusedOver (D.shown depot.old).told (ask asked words.now) loaded.now s) }
+        RefusedOver (D.shown depot.old).told ask.now loaded.now s) }
     ensures ends { IfErr result (λ s.
-        ReportEnds (ask asked words.now) s (D.shown depot.old) (D.shown depot.new)) }
+        ReportEnds ask.now s (D.shown depot.old) (D.shown depot.new)) }
 {
-    match asked {
-        Some(Command::Run { workers, log }) => {
-            run_for(rt, alloc, loaded, words, workers, log, depot, gate, steps)
+    match ask.command() {
+        Ok(Command::Run { workers, log }) => {
+            run_for(rt, alloc, loaded, ask, workers, log, depot, gate, steps)
         }
-        _ => report_for(alloc, loaded, asked, words, depot, steps),
+        _ => report_for(alloc, loaded, ask, depot, steps),
     }
 }
 
@@ -74,53 +60,50 @@ fn text_for<R: Threads + Wait + Sync, D: Depot, G: Gate + Sync, L: Ledger>(
 fn suite_text<R: Threads + Wait + Sync, D: Depot, G: Gate + Sync, L: Ledger>(
     rt: &R,
     alloc: Global,
-    asked: Option<Command>,
-    words: &[Text],
+    ask: &Ask<'_>,
     depot: &mut D,
     gate: &G,
     steps: &mut Steps<L>,
 ) -> Result<Report, Status>
-    requires served { IsOverSuite asked }
+    requires over { IsOverSuite ask.now.command }
     ensures told { (D.shown depot.new).told ≡ (D.shown depot.old).told }
     ensures faults { (D.shown depot.old).faults ≤ (D.shown depot.new).faults }
     ensures reports { IfOk result (λ r. IfSome (D.shown depot.old).told (λ files.
-        Reported files (ask asked words.now) r.passed r.text steps.old steps.new)) }
+        Reported files ask.now r.passed r.text steps.old steps.new)) }
     ensures refused { IfErr result (λ s. IfSome (D.shown depot.old).told (λ files.
-        reply.Unreported files (ask asked words.now) s)) }
-    ensures form { IfOk result (λ _. HasForm (ask asked words.now)) }
+        reply.Unreported files ask.now s)) }
+    ensures form { IfOk result (λ _. HasForm ask.now) }
     ensures ends { IfErr result (λ s.
-        ReportEnds (ask asked words.now) s (D.shown depot.old) (D.shown depot.new)) }
+        ReportEnds ask.now s (D.shown depot.old) (D.shown depot.new)) }
 {
-    let loaded = load_for(alloc, asked, words, depot)?;
-    text_for(rt, alloc, &loaded, asked, words, depot, gate, steps)
+    let loaded = load_for(alloc, ask, depot)?;
+    text_for(rt, alloc, &loaded, ask, depot, gate, steps)
 }
 
 // The text that is asked for.
 fn asked_text<R: Threads + Wait + Sync, D: Depot, G: Gate + Sync, L: Ledger>(
     rt: &R,
     alloc: Global,
-    asked: Option<Command>,
-    words: &[Text],
+    ask: &Ask<'_>,
     depot: &mut D,
     gate: &G,
     steps: &mut Steps<L>,
 ) -> Result<Report, Status>
-    requires served { IsThreaded asked }
     ensures told { (D.shown depot.new).told ≡ (D.shown depot.old).told }
     ensures faults { (D.shown depot.old).faults ≤ (D.shown depot.new).faults }
     ensures reports { IfOk result (λ r. IfSome (D.shown depot.old).told (λ files.
-        Reported files (ask asked words.now) r.passed r.text steps.old steps.new)) }
+        Reported files ask.now r.passed r.text steps.old steps.new)) }
     ensures refused { IfErr result (λ s. IfSome (D.shown depot.old).told (λ files.
-        reply.Unreported files (ask asked words.now) s)) }
-    ensures form { IfOk result (λ _. HasForm (ask asked words.now)) }
+        reply.Unreported files ask.now s)) }
+    ensures form { IfOk result (λ _. HasForm ask.now) }
     ensures ends { IfErr result (λ s.
-        ReportEnds (ask asked words.now) s (D.shown depot.old) (D.shown depot.new)) }
+        ReportEnds ask.now s (D.shown depot.old) (D.shown depot.new)) }
 {
-    match asked {
-        Some(Command::Gen { tests, workers }) => {
+    match ask.command() {
+        Ok(Command::Gen { tests, workers }) => {
             summary_for(rt, alloc, tests, workers, gate, steps)
         }
-        _ => suite_text(rt, alloc, asked, words, depot, gate, steps),
+        _ => suite_text(rt, alloc, ask, depot, gate, steps),
     }
 }
 
@@ -150,21 +133,24 @@ pub fn electric<R: Threads + Wait + Sync, D: Depot, S: Sink, G: Gate + Sync, L: 
         let asked = called (threaded words.now) (D.shown depot.old) depot_now steps.old steps.new in
         IfSome (D.shown depot.old).told (λ files.
         Served (asked files) result (S.shown sink.old) (S.shown sink.new)) }
-    // With the suite's own record a run is answered by what its tests do in the suite's own order.
+    // With the suite's own record a run is answered by what its tests do in the suite's own order, and so is a lawful order.
     ensures own { let depot_now = D.shown depot.new in
         let asked = called (threaded words.now) (D.shown depot.old) depot_now steps.old steps.new in
         IfSome (D.shown depot.old).told (λ files.
         OwnAnswer (asked files) result (S.shown sink.old) (S.shown sink.new)) }
-    // So it is with the record that `detect` wrote.
-    ensures detected { let depot_now = D.shown depot.new in
-        let asked = called (threaded words.now) (D.shown depot.old) depot_now steps.old steps.new in
-        IfSome (D.shown depot.old).told (λ files.
-        DetectedAnswer (asked files) result (S.shown sink.old) (S.shown sink.new)) }
-    // With the suite's own record a lawful order is answered in the same way.
     ensures own_order { let depot_now = D.shown depot.new in
         let asked = called (threaded words.now) (D.shown depot.old) depot_now steps.old steps.new in
         IfSome (D.shown depot.old).told (λ files.
         OwnOrderAnswer (asked files) result (S.shown sink.old) (S.shown sink.new)) }
+    // So they are with the record that `detect` wrote.
+    ensures detected { let depot_now = D.shown depot.new in
+        let asked = called (threaded words.now) (D.shown depot.old) depot_now steps.old steps.new in
+        IfSome (D.shown depot.old).told (λ files.
+        DetectedAnswer (asked files) result (S.shown sink.old) (S.shown sink.new)) }
+    ensures detected_order { let depot_now = D.shown depot.new in
+        let asked = called (threaded words.now) (D.shown depot.old) depot_now steps.old steps.new in
+        IfSome (D.shown depot.old).told (λ files.
+        DetectedOrderAnswer (asked files) result (S.shown sink.old) (S.shown sink.new)) }
     // With the record of an earlier state each test that an impact doesn't name has the report lines that it had.
     ensures earlier { let depot_now = D.shown depot.new in
         let asked = called (threaded words.now) (D.shown depot.old) depot_now steps.old steps.new in
@@ -178,7 +164,7 @@ pub fn electric<R: Threads + Wait + Sync, D: Depot, S: Sink, G: Gate + Sync, L: 
     ensures ends { let depot_now = D.shown depot.new in let sink_now = S.shown sink.new in
         Ends (threaded words.now) result (D.shown depot.old) depot_now (S.shown sink.old) sink_now }
 {
-    let asked = served_of(command_of(words));
-    let report = asked_text(rt, alloc, asked, words, depot, gate, steps);
+    let ask = Ask::threaded(words);
+    let report = asked_text(rt, alloc, &ask, depot, gate, steps);
     answered(alloc, sink, report)
 }

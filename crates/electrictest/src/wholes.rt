@@ -1,11 +1,11 @@
 //! Runs of the whole suite.
 
-ghost use Rattle.std.specs.Prelude.{ℕ, List, Option, Some, IfOk, IfErr};
+ghost use Rattle.std.specs.Prelude.{◌≡◌, Option, Ok, IfOk, IfErr};
 ghost use Rattle.outside.specs.Depot.{Files, DepotView};
-ghost use Rattle.electrictest.specs.Commands.{ReportEnds, ReportsOver, RefusedOver};
+ghost use Rattle.electrictest.specs.Commands.{HasForm, ReportEnds, ReportsOver, RefusedOver};
 ghost use Rattle.electrictest.specs.declared.words.Command.TheVariants as command;
 ghost use Rattle.electrictest.specs.Running.{RunRefused, WholeReports};
-ghost use Rattle.electrictest.specs.Words.{ask};
+ghost use Rattle.electrictest.specs.Words.{Ask};
 
 use crate::reports::{Report, report_on};
 use crate::running::run_all;
@@ -37,12 +37,12 @@ pub fn whole_for<L: Ledger>(
     loaded: &Loaded,
     steps: &mut Steps<L>,
 ) -> Result<Report, Status>
-    ensures reports { (told : Option Files) (words : List (List ℕ)) → IfOk result (λ r. ReportsOver
-        told (ask (Some command.Whole) words) loaded.now r.passed r.text steps.old steps.new) }
-    ensures refused { (told : Option Files) (words : List (List ℕ)) → IfErr result (λ s.
-        RefusedOver told (ask (Some command.Whole) words) loaded.now s) }
-    ensures ends { (words : List (List ℕ)) (depot : DepotView) → IfErr result (λ s.
-        ReportEnds (ask (Some command.Whole) words) s depot depot) }
+    ensures reports { (told : Option Files) (a : Ask) → a.command ≡ Ok command.Whole → IfOk result (λ r.
+        ReportsOver told a loaded.now r.passed r.text steps.old steps.new) }
+    ensures refused { (told : Option Files) (a : Ask) → a.command ≡ Ok command.Whole →
+        IfErr result (λ s. RefusedOver told a loaded.now s) }
+    ensures ends { (a : Ask) (depot : DepotView) → HasForm a →
+        IfErr result (λ s. ReportEnds a s depot depot) }
 {
     whole_report(alloc, loaded, steps)
 }

@@ -1,9 +1,8 @@
 //! What the words of a command line ask for.
 
-ghost use Rattle.std.specs.Prelude.{◌≡◌, ◌≤◌, ◌<◌, Some, IfSome};
+ghost use Rattle.std.specs.Prelude.{◌≡◌, ◌≤◌, ◌<◌, Ok, IfSome};
 ghost use Rattle.electrictest.specs.Words as words_ask;
 
-use crate::status::{InputFault, Status};
 use dep_record::number_up_to;
 use et_base::Text;
 use suite_load::is_depot_name;
@@ -13,8 +12,6 @@ use suite_load::is_depot_name;
 pub enum Command {
     /// `run SUITE - 1 all`: the whole suite, in order on one heap.
     Whole,
-    /// A form that names no record where one is needed.
-    NeedsRecord,
     /// `run SUITE RECORD N SEL`, with `log` or without: a selection's closure on so many workers.
     Run { workers: u32, log: bool },
     /// `detect SUITE`: the record of the suite's own run.
@@ -31,6 +28,15 @@ pub enum Command {
     Gen { tests: u32, workers: u32 },
     /// `quiet SUITE`: the classes of the suite whose initialisers can be taken out.
     Quiet,
+}
+
+/// Why words ask for nothing.
+#[derive(Clone, Copy, Debug, PartialEq, Eq)]
+pub enum WordsFault {
+    /// They are in no form.
+    NoForm,
+    /// They name no record where one is needed.
+    NeedsRecord,
 }
 
 /// The most workers, and the most generated tests.
@@ -50,16 +56,16 @@ fn count_up_to(most: u64, word: &[u8]) -> Option<u32>
 }
 
 // What is asked for with a record, which may be missing.
-fn with_record(kept: &[u8], command: Command) -> Option<Command>
+fn with_record(kept: &[u8], command: Command) -> Result<Command, WordsFault>
     ensures asks { result ≡ words_ask.with_record kept.now command }
-    ensures workers { words_ask.HasWorkers (Some command) → words_ask.HasWorkers result }
+    ensures workers { words_ask.HasWorkers (Ok command) → words_ask.HasWorkers result }
 {
     if kept == b"-".as_slice() {
-        Some(Command::NeedsRecord)
+        Err(WordsFault::NeedsRecord)
     } else if is_depot_name(kept) {
-        Some(command)
+        Ok(command)
     } else {
-        None
+        Err(WordsFault::NoForm)
     }
 }
 
@@ -71,13 +77,13 @@ fn is_whole(kept: &[u8], workers: u32, selection: &[u8], log: bool) -> bool
 }
 
 // A run, and whether a log is asked for.
-fn run_of(kept: &[u8], workers: u32, selection: &[u8], log: bool) -> Option<Command>
+fn run_of(kept: &[u8], workers: u32, selection: &[u8], log: bool) -> Result<Command, WordsFault>
     requires { 0 < workers }
     ensures asks { result ≡ words_ask.run_of kept.now selection.now log workers }
     ensures workers { words_ask.HasWorkers result }
 {
     if is_whole(kept, workers, selection, log) {
-        Some(Command::Whole)
+        Ok(Command::Whole)
     } else {
         with_record(kept, Command::Run { workers, log })
     }
@@ -91,89 +97,121 @@ fn is_of_suite(word: &[u8], command: &[u8], suite: &[u8]) -> bool
 }
 
 // `detect SUITE`, `deps SUITE`, or `quiet SUITE`.
-fn two_words(a: &[u8], b: &[u8]) -> Option<Command>
-    ensures { result ≡ words_ask.two_words a.now b.now }
+fn two_words(a: &[u8], b: &[u8]) -> Result<Command, WordsFault>
+    ensures asks { result ≡ words_ask.two_words a.now b.now }
+    ensures workers { words_ask.HasWorkers result }
 {
     if is_of_suite(a, b"detect", b) {
-        Some(Command::Detect)
+        Ok(Command::Detect)
     } else if is_of_suite(a, b"deps", b) {
-        Some(Command::Deps { json: false })
+        Ok(Command::Deps { json: false })
     } else if is_of_suite(a, b"quiet", b) {
-        Some(Command::Quiet)
+        Ok(Command::Quiet)
     } else {
-        None
+        Err(WordsFault::NoForm)
     }
 }
 
 // `gen K N`.
-fn gen_of(b: &[u8], c: &[u8]) -> Option<Command>
+fn gen_of(b: &[u8], c: &[u8]) -> Result<Command, WordsFault>
     ensures asks { result ≡ words_ask.gen_of b.now c.now }
     ensures workers { words_ask.HasWorkers result }
 {
-    let tests = count_up_to(MOST_TESTS, b)?;
-    let workers = count_up_to(MOST_WORKERS, c)?;
-    Some(Command::Gen { tests, workers })
+    let Some(tests) = count_up_to(MOST_TESTS, b) else {
+        return Err(WordsFault::NoForm);
+    };
+    match count_up_to(MOST_WORKERS, c) {
+        Some(workers) => Ok(Command::Gen { tests, workers }),
+        None => Err(WordsFault::NoForm),
+    }
 }
 
 // `deps SUITE json`, `impact SUITE RECORD`, or `gen K N`.
-fn three_words(a: &[u8], b: &[u8], c: &[u8]) -> Option<Command>
+fn three_words(a: &[u8], b: &[u8], c: &[u8]) -> Result<Command, WordsFault>
     ensures asks { result ≡ words_ask.three_words a.now b.now c.now }
     ensures workers { words_ask.HasWorkers result }
 {
     if is_of_suite(a, b"deps", b) && c == b"json".as_slice() {
-        Some(Command::Deps { json: true })
+        Ok(Command::Deps { json: true })
     } else if is_of_suite(a, b"impact", b) && is_depot_name(c) {
-        Some(Command::Impact)
+        Ok(Command::Impact)
     } else if a == b"gen".as_slice() {
         gen_of(b, c)
     } else {
-        None
+        Err(WordsFault::NoForm)
     }
 }
 
 // `order SUITE RECORD ORDER`.
-fn four_words(a: &[u8], b: &[u8], c: &[u8]) -> Option<Command>
-    ensures { result ≡ words_ask.four_words a.now b.now c.now }
+fn four_words(a: &[u8], b: &[u8], c: &[u8]) -> Result<Command, WordsFault>
+    ensures asks { result ≡ words_ask.four_words a.now b.now c.now }
+    ensures workers { words_ask.HasWorkers result }
 {
     if is_of_suite(a, b"order", b) {
         with_record(c, Command::Order)
     } else {
-        None
+        Err(WordsFault::NoForm)
+    }
+}
+
+// `plan SUITE RECORD N SEL`, where the first word is that.
+fn plan_of(c: &[u8], d: &[u8]) -> Result<Command, WordsFault>
+    ensures asks { result ≡ words_ask.plan_in c.now d.now }
+    ensures workers { words_ask.HasWorkers result }
+{
+    match count_up_to(MOST_WORKERS, d) {
+        Some(workers) => with_record(c, Command::Plan { workers }),
+        None => Err(WordsFault::NoForm),
+    }
+}
+
+// `run SUITE RECORD N SEL`, where the first word is that, with `log` behind it or without.
+fn run_in(c: &[u8], d: &[u8], e: &[u8], log: bool) -> Result<Command, WordsFault>
+    ensures asks { result ≡ words_ask.run_in c.now d.now e.now log }
+    ensures workers { words_ask.HasWorkers result }
+{
+    match count_up_to(MOST_WORKERS, d) {
+        Some(workers) => run_of(c, workers, e, log),
+        None => Err(WordsFault::NoForm),
     }
 }
 
 // `plan SUITE RECORD N SEL`, or `run SUITE RECORD N SEL`.
-fn five_words(a: &[u8], b: &[u8], c: &[u8], d: &[u8], e: &[u8]) -> Option<Command>
+fn five_words(a: &[u8], b: &[u8], c: &[u8], d: &[u8], e: &[u8]) -> Result<Command, WordsFault>
     ensures asks { result ≡ words_ask.five_words a.now b.now c.now d.now e.now }
     ensures workers { words_ask.HasWorkers result }
 {
     if is_of_suite(a, b"plan", b) {
-        let workers = count_up_to(MOST_WORKERS, d)?;
-        with_record(c, Command::Plan { workers })
+        plan_of(c, d)
     } else if is_of_suite(a, b"run", b) {
-        let workers = count_up_to(MOST_WORKERS, d)?;
-        run_of(c, workers, e, false)
+        run_in(c, d, e, false)
     } else {
-        None
+        Err(WordsFault::NoForm)
     }
 }
 
 // `run SUITE RECORD N SEL log`.
-fn six_words(a: &[u8], b: &[u8], c: &[u8], d: &[u8], e: &[u8], f: &[u8]) -> Option<Command>
+fn six_words(
+    a: &[u8],
+    b: &[u8],
+    c: &[u8],
+    d: &[u8],
+    e: &[u8],
+    f: &[u8],
+) -> Result<Command, WordsFault>
     ensures asks { result ≡ words_ask.six_words a.now b.now c.now d.now e.now f.now }
     ensures workers { words_ask.HasWorkers result }
 {
     if is_of_suite(a, b"run", b) && f == b"log".as_slice() {
-        let workers = count_up_to(MOST_WORKERS, d)?;
-        run_of(c, workers, e, true)
+        run_in(c, d, e, true)
     } else {
-        None
+        Err(WordsFault::NoForm)
     }
 }
 
 // What the words of a form ask for.
 #[tactic(auto, unfolding(crate::specs::Words::form_of))]
-fn form_of(words: &[Text]) -> Option<Command>
+fn form_of(words: &[Text]) -> Result<Command, WordsFault>
     ensures asks { result ≡ words_ask.form_of words.now }
     ensures workers { words_ask.HasWorkers result }
 {
@@ -196,7 +234,7 @@ fn form_of(words: &[Text]) -> Option<Command>
             e.as_slice(),
             f.as_slice(),
         ),
-        _ => None,
+        _ => Err(WordsFault::NoForm),
     }
 }
 
@@ -210,27 +248,53 @@ pub fn is_eager(words: &[Text]) -> bool
     }
 }
 
-// The words of the form itself.
-fn form_words(words: &[Text]) -> &[Text]
+/// The words of the form itself.
+pub fn form_words(words: &[Text]) -> &[Text]
     ensures { result.now ≡ words_ask.form_words words.now }
 {
     if is_eager(words) { &words[1..] } else { words }
 }
 
-// Of a command, its eager form: those that run the tests of a suite have one, and a plan of them.
-fn eager_of(command: Option<Command>) -> Option<Command>
-    requires { words_ask.HasWorkers command }
-    ensures asks { result ≡ words_ask.eager_of command }
-    ensures workers { words_ask.HasWorkers result }
+// Whether there is an eager form of a command: those that run the tests of a suite have one, and a plan of them.
+fn has_eager(command: Command) -> bool
+    ensures { result ≡ words_ask.has_eager command }
 {
     match command {
-        Some(Command::Gen { .. } | Command::Impact | Command::Quiet) => None,
-        command => command,
+        Command::Whole
+        | Command::Run { .. }
+        | Command::Detect
+        | Command::Deps { .. }
+        | Command::Order
+        | Command::Plan { .. } => true,
+        _ => false,
     }
 }
 
-/// What the words ask for, if they have a form.
-pub fn command_of(words: &[Text]) -> Option<Command>
+// Whether a command waits for threads.
+fn waits(command: Command) -> bool
+    ensures { result ≡ words_ask.waits command }
+{
+    match command {
+        Command::Run { .. } | Command::Gen { .. } => true,
+        _ => false,
+    }
+}
+
+// What is asked for, where it has an eager form.
+fn eager_of(asking: Result<Command, WordsFault>) -> Result<Command, WordsFault>
+    requires { words_ask.HasWorkers asking }
+    ensures asks { result ≡ words_ask.only words_ask.has_eager asking }
+    ensures workers { words_ask.HasWorkers result }
+{
+    match asking {
+        Ok(command) if has_eager(command) => Ok(command),
+        Ok(_) => Err(WordsFault::NoForm),
+        Err(fault) => Err(fault),
+    }
+}
+
+/// What the words ask for.
+pub fn command_of(words: &[Text]) -> Result<Command, WordsFault>
     ensures asks { result ≡ words_ask.command_of words.now }
     ensures workers { words_ask.HasWorkers result }
 {
@@ -242,35 +306,16 @@ pub fn command_of(words: &[Text]) -> Option<Command>
     }
 }
 
-/// Of a command, what is served without threads.
-pub fn plain_of(command: Option<Command>) -> Option<Command>
-    requires { words_ask.HasWorkers command }
-    ensures plain { result ≡ words_ask.plain_of command }
+/// Of what is asked for, what is served without threads.
+pub fn plain_of(asking: Result<Command, WordsFault>) -> Result<Command, WordsFault>
+    requires { words_ask.HasWorkers asking }
+    ensures plain { result ≡ words_ask.plain_of asking }
     ensures served { words_ask.IsServed result }
+    ensures workers { words_ask.HasWorkers result }
 {
-    match command {
-        Some(Command::Run { .. } | Command::Gen { .. }) => None,
-        command => command,
-    }
-}
-
-/// The word of the form at this place, counted from 0; an empty one where there is none.
-pub fn word_at(words: &[Text], place: usize) -> &[u8]
-    ensures { result.now ≡ words_ask.word_at words.now place }
-{
-    match form_words(words).get(place) {
-        Some(word) => word.as_slice(),
-        None => &[],
-    }
-}
-
-/// How words are answered that name no suite to load.
-pub fn refusal_of(command: Option<Command>) -> Option<Status>
-    ensures { result ≡ words_ask.refusal_of command }
-{
-    match command {
-        None => Some(Status::Words),
-        Some(Command::NeedsRecord) => Some(Status::Input(InputFault::NeedsRecord)),
-        Some(_) => None,
+    match asking {
+        Ok(command) if waits(command) => Err(WordsFault::NoForm),
+        Ok(command) => Ok(command),
+        Err(fault) => Err(fault),
     }
 }

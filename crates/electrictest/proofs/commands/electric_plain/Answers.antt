@@ -1,15 +1,16 @@
-use Rattle.std.proofs.Common.{ap, ◌∙◌}
 use Rattle.electrictest.specs.Commands.{called}
-use Rattle.electrictest.specs.Words.{plain, plain_of}
+use Rattle.electrictest.specs.Words.{plain}
+use Rattle.electrictest.proofs.AskedFor.{plain_impact}
+use Rattle.electrictest.proofs.DetectedLaws.{detected_order_answer}
 use Rattle.electrictest.proofs.EagerLaws.{told_eager}
-use Rattle.electrictest.proofs.EarlierLaws.{earlier_answer, plain_impact}
+use Rattle.electrictest.proofs.EarlierLaws.{earlier_answer}
 use Rattle.electrictest.proofs.OwnOrderLaws.{own_order_answer}
 use Rattle.electrictest.proofs.Replying.{for_told, served_by, taken_by, ends_by}
 use Rattle.electrictest.proofs.commands.electric_plain.Goals as goal
 
 pub returns-clause-served : goal.returns-clause-served
 returns-clause-served g c =
-    served_by c.plain_of-asked.result _ c.args.words.now _ _ c.answered.result _ _ (c.plain_of-asked.ensures.plain ∙ ap plain_of c.command_of.ensures.asks)
+    served_by c.plain-ask.result _ _ _ c.answered.result _ _ c.plain-ask.ensures.asks
     _ c.args.steps.now c.reported-report.new.steps c.reported-report.result c.reported-report.ensures.reports c.reported-report.ensures.refused c.reported-report.ensures.ends c.answered.ensures.reports c.answered.ensures.refuses
 
 pub returns-clause-own : goal.returns-clause-own
@@ -17,6 +18,12 @@ returns-clause-own g c =
     let old = g.D.Depot.shown c.args.depot.now in
     let asked = called (plain c.args.words.now) old (g.D.Depot.shown c.reported-report.new.depot) c.args.steps.now c.reported-report.new.steps in
     for_told old.told (λ files. own_order_answer (asked files) c.answered.result _ _) (returns-clause-served g c)
+
+pub returns-clause-detected : goal.returns-clause-detected
+returns-clause-detected g c =
+    let old = g.D.Depot.shown c.args.depot.now in
+    let asked = called (plain c.args.words.now) old (g.D.Depot.shown c.reported-report.new.depot) c.args.steps.now c.reported-report.new.steps in
+    for_told old.told (λ files. detected_order_answer (asked files) c.answered.result _ _) (returns-clause-served g c)
 
 pub returns-clause-earlier : goal.returns-clause-earlier
 returns-clause-earlier g c =
@@ -29,10 +36,10 @@ returns-clause-eager g c = told_eager (g.D.Depot.shown c.args.depot.now).told (p
 
 pub returns-clause-taken : goal.returns-clause-taken
 returns-clause-taken g c =
-    taken_by c.plain_of-asked.result _ c.args.words.now _ _ c.answered.result _ _ (c.plain_of-asked.ensures.plain ∙ ap plain_of c.command_of.ensures.asks)
+    taken_by c.plain-ask.result _ _ _ c.answered.result _ _ c.plain-ask.ensures.asks
     c.reported-report.result c.reported-report.ensures.ends c.answered.ensures.reports c.answered.ensures.refuses
 
 pub returns-clause-ends : goal.returns-clause-ends
 returns-clause-ends g c =
-    ends_by c.plain_of-asked.result _ c.args.words.now _ _ c.answered.result _ _ (c.plain_of-asked.ensures.plain ∙ ap plain_of c.command_of.ensures.asks)
+    ends_by c.plain-ask.result _ _ _ c.answered.result _ _ c.plain-ask.ensures.asks
     c.reported-report.result c.reported-report.ensures.form c.reported-report.ensures.ends c.answered.ensures.reports c.answered.ensures.refuses

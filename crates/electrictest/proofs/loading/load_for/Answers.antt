@@ -1,25 +1,22 @@
-use Rattle.std.proofs.Common.{sym, ap, subst, ◌∙◌, ℕ, Result, Ok, IfSome}
-use Rattle.suite_load.specs.declared.loaded.Loaded.{Loaded}
+use Rattle.std.proofs.Common.{sym, ap, subst, ◌∙◌, Ok, IfSome}
 use Rattle.electrictest.specs.declared.status.Status.{Status}
 use Rattle.electrictest.specs.Loads.{prepared}
 use Rattle.electrictest.specs.Replies.{Unreported}
-use Rattle.electrictest.specs.Words.{ask}
 use Rattle.electrictest.proofs.LoadLaws.{loads_all, unloaded_for}
 use Rattle.electrictest.proofs.loading.load_for.Goals as goal
 
 pub returns-in-Ok-clause-loads : goal.returns-in-Ok-clause-loads
 returns-in-Ok-clause-loads g c =
     let told = (g.D.Depot.shown c.args.depot.now).told in
-    let asks = sym c.refusal_of.ensures ∙ c.in_default.is in
-    let named = c.in_ok-name.ensures ∙ c.word_at.ensures in
+    let asks = sym c.refusal.ensures.refusal ∙ c.in_default.is in
+    let named = c.in_ok-name.ensures ∙ c.suite.ensures in
     let same = c.in_ok-prepared-in-Ok.ensures.prepared ∙ ap (λ b. prepared b (Ok c.in-Ok.loaded)) c.is_eager.ensures in
-    loads_all told c.args.asked c.args.words.now c.in_ok-name.name c.in-Ok.loaded _ asks named c.in-Ok.ensures.loads same
+    loads_all told c.args.ask.now c.in_ok-name.name c.in-Ok.loaded _ asks named c.in-Ok.ensures.loads same
 
 pub returns-clause-refused : goal.returns-clause-refused
 returns-clause-refused g c =
     let told = (g.D.Depot.shown c.args.depot.now).told in
-    let words = c.args.words.now in
-    let asks = sym c.refusal_of.ensures ∙ c.in_default.is in
-    let named = c.in_ok-name.ensures ∙ c.word_at.ensures in
-    subst (λ (s : Status). IfSome told (λ files. Unreported files (ask c.args.asked words) s)) (sym c.status_of.ensures)
-    (unloaded_for told c.args.asked words c.in_ok-name.name c.in-Err.fault (g.D.Depot.shown c.args.depot.now) (g.D.Depot.shown c.load.new.depot) asks named c.in-Err.ensures.loads c.in-Err.ensures.proper)
+    let asks = sym c.refusal.ensures.refusal ∙ c.in_default.is in
+    let named = c.in_ok-name.ensures ∙ c.suite.ensures in
+    subst (λ (s : Status). IfSome told (λ files. Unreported files c.args.ask.now s)) (sym c.status_of.ensures)
+    (unloaded_for told c.args.ask.now c.in_ok-name.name c.in-Err.fault (g.D.Depot.shown c.args.depot.now) (g.D.Depot.shown c.load.new.depot) asks named c.in-Err.ensures.loads c.in-Err.ensures.proper)

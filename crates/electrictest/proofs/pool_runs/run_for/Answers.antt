@@ -1,5 +1,5 @@
-use Rattle.std.proofs.Common.{Some, refl}
-use Rattle.std.proofs.lemmas.Result.{err_from_is_err_and, IfOk-weaker, IfErr-weaker}
+use Rattle.std.proofs.Common.{refl}
+use Rattle.std.proofs.lemmas.Result.{IfOk-weaker, IfErr-weaker}
 use Rattle.electrictest.specs.declared.reports.Report.{Report}
 use Rattle.electrictest.specs.declared.status.Status.{Status}
 use Rattle.electrictest.specs.declared.words.Command.TheVariants as command
@@ -7,44 +7,21 @@ use Rattle.electrictest.specs.Commands.{ReportEnds, ReportsOver, RefusedOver}
 use Rattle.electrictest.specs.PoolRuns.{PoolReports, PoolRefused}
 use Rattle.electrictest.specs.Records.{beginning}
 use Rattle.electrictest.specs.Selections.{selected}
-use Rattle.electrictest.specs.Words.{ask, word_at}
-use Rattle.electrictest.proofs.Request.{begins, not_begun, not_begun_ends, unnamed, unnamed_ends}
-use Rattle.electrictest.proofs.PlanLaws.{tests_have}
-use Rattle.electrictest.proofs.PoolReplies.{is_of_suite, pool_reports, pool_refused, pool_ends}
+use Rattle.electrictest.specs.Words.{word_at}
+use Rattle.electrictest.proofs.AskedFor.{formed_as, named_as}
+use Rattle.electrictest.proofs.PoolReplies.{pool_reports, pool_refused, pool_ends}
 use Rattle.electrictest.proofs.pool_runs.run_for.Goals as goal
 
-pub pool_of-requires-clause-tests : goal.pool_of-requires-clause-tests
-pool_of-requires-clause-tests g c = λ κs outlive t m.
-    tests_have c.args.loaded.now c.in_ok-tests.tests c.in_ok-begun.begun.tests c.in_ok-begun.begun.record.units c.requires.suite c.in_ok-begun.ensures.tests c.in_ok-tests.ensures.tests c.in_ok-begun.ensures.units t m
-
-pub returns-in_err-tests-clause-refused : goal.returns-in_err-tests-clause-refused
-returns-in_err-tests-clause-refused g c =
-    let words = c.args.words.now in
+pub begin-requires-clause-named : goal.begin-requires-clause-named
+begin-requires-clause-named g c =
+    let a = c.args.ask.now in
     let l = c.args.loaded.now in
-    let p = err_from_is_err_and c.from_residual.result c.from_residual.ensures.1 in
-    rw (p.1, p.2) (unnamed (g.D.Depot.shown c.args.depot.now).told (Some (command.Run c.args.workers c.args.log)) words l (selected l.names (word_at words 4)) c.in_err-tests.field-0.0 refl (rw c.word_at.ensures at c.in_err-tests.ensures.gives) c.in_err-tests.ensures.proper)
-
-pub returns-in_err-tests-clause-ends : goal.returns-in_err-tests-clause-ends
-returns-in_err-tests-clause-ends g c =
-    let p = err_from_is_err_and c.from_residual.result c.from_residual.ensures.1 in
-    rw (p.1, p.2) (unnamed_ends (Some (command.Run c.args.workers c.args.log)) c.args.words.now c.in_err-tests.field-0.0 (g.D.Depot.shown c.args.depot.now) refl c.in_err-tests.ensures.proper)
-
-pub returns-in_err-begun-clause-refused : goal.returns-in_err-begun-clause-refused
-returns-in_err-begun-clause-refused g c =
-    let words = c.args.words.now in
-    let l = c.args.loaded.now in
-    let p = err_from_is_err_and c.from_residual-in_err-begun.result c.from_residual-in_err-begun.ensures.1 in
-    rw (p.1, p.2) (not_begun (g.D.Depot.shown c.args.depot.now).told (Some (command.Run c.args.workers c.args.log)) words l (selected l.names (word_at words 4)) c.in_ok-tests.tests c.word_at-2.result.now c.in_err-begun.field-0.0
-    (g.D.Depot.shown c.args.depot.now) (g.D.Depot.shown c.begin_with.new.depot) refl (rw c.word_at.ensures at c.in_ok-tests.ensures.gives) c.word_at-2.ensures c.in_err-begun.ensures.gives c.in_err-begun.ensures.fails)
-
-pub returns-in_err-begun-clause-ends : goal.returns-in_err-begun-clause-ends
-returns-in_err-begun-clause-ends g c =
-    let p = err_from_is_err_and c.from_residual-in_err-begun.result c.from_residual-in_err-begun.ensures.1 in
-    rw (p.1, p.2) (not_begun_ends (Some (command.Run c.args.workers c.args.log)) c.args.words.now c.word_at-2.result.now c.in_err-begun.field-0.0 (g.D.Depot.shown c.args.depot.now) (g.D.Depot.shown c.begin_with.new.depot) refl c.in_err-begun.ensures.fails)
+    let named = selected l.names (word_at a.words 4) in
+    (named, named_as (command.Run c.args.workers c.args.log) a l named c.requires.asks (record { by = refl; fits = refl; formed = refl }))
 
 pub returns-clause-reports : goal.returns-clause-reports
 returns-clause-reports g c =
-    let words = c.args.words.now in
+    let a = c.args.ask.now in
     let l = c.args.loaded.now in
     let workers = c.args.workers in
     let log = c.args.log in
@@ -52,32 +29,26 @@ returns-clause-reports g c =
     let told = (g.D.Depot.shown c.args.depot.now).told in
     let begun = c.args.steps.now in
     let now = c.pool_of.new.steps in
-    let starts = begins told (Some (command.Run workers log)) words l (selected l.names (word_at words 4)) c.in_ok-tests.tests c.word_at-2.result.now b refl (rw c.word_at.ensures at c.in_ok-tests.ensures.gives) c.word_at-2.ensures c.in_ok-begun.ensures.gives in
-    let suite = is_of_suite l c.in_ok-tests.tests c.in_ok-begun.begun c.requires.suite c.program-program.ensures.typed.linked c.in_ok-begun.ensures.tests c.in_ok-tests.ensures.tests c.in_ok-begun.ensures.units in
-    IfOk-weaker c.pool_of.result (λ (r : Report). PoolReports l b workers log r.passed r.text begun now) (λ (r : Report). ReportsOver told (ask (Some (command.Run workers log)) words) l r.passed r.text begun now)
-    (λ r h. pool_reports told words workers log l b r.passed r.text begun now starts suite h) c.pool_of.ensures.reports
+    IfOk-weaker c.pool_of.result (λ (r : Report). PoolReports l b workers log r.passed r.text begun now) (λ (r : Report). ReportsOver told a l r.passed r.text begun now)
+    (λ r h. pool_reports told a workers log l b r.passed r.text begun now c.requires.asks c.in_ok-begun.ensures.begins c.in_ok-begun.ensures.suite h) c.pool_of.ensures.reports
 
 pub returns-clause-refused : goal.returns-clause-refused
 returns-clause-refused g c =
-    let words = c.args.words.now in
+    let a = c.args.ask.now in
     let l = c.args.loaded.now in
     let workers = c.args.workers in
     let log = c.args.log in
     let b = beginning c.in_ok-begun.begun in
     let told = (g.D.Depot.shown c.args.depot.now).told in
-    let starts = begins told (Some (command.Run workers log)) words l (selected l.names (word_at words 4)) c.in_ok-tests.tests c.word_at-2.result.now b refl (rw c.word_at.ensures at c.in_ok-tests.ensures.gives) c.word_at-2.ensures c.in_ok-begun.ensures.gives in
-    let suite = is_of_suite l c.in_ok-tests.tests c.in_ok-begun.begun c.requires.suite c.program-program.ensures.typed.linked c.in_ok-begun.ensures.tests c.in_ok-tests.ensures.tests c.in_ok-begun.ensures.units in
-    IfErr-weaker c.pool_of.result (λ (s : Status). PoolRefused l b s) (λ (s : Status). RefusedOver told (ask (Some (command.Run workers log)) words) l s)
-    (λ s h. pool_refused told words workers log l b s starts suite h) c.pool_of.ensures.refused
+    IfErr-weaker c.pool_of.result (λ (s : Status). PoolRefused l b s) (λ (s : Status). RefusedOver told a l s)
+    (λ s h. pool_refused told a workers log l b s c.requires.asks c.in_ok-begun.ensures.begins c.in_ok-begun.ensures.suite h) c.pool_of.ensures.refused
 
 pub returns-clause-ends : goal.returns-clause-ends
 returns-clause-ends g c =
-    let words = c.args.words.now in
+    let a = c.args.ask.now in
     let l = c.args.loaded.now in
-    let workers = c.args.workers in
-    let log = c.args.log in
     let b = beginning c.in_ok-begun.begun in
     let old = g.D.Depot.shown c.args.depot.now in
-    let new = g.D.Depot.shown c.begin_with.new.depot in
-    IfErr-weaker c.pool_of.result (λ (s : Status). PoolRefused l b s) (λ (s : Status). ReportEnds (ask (Some (command.Run workers log)) words) s old new)
-    (λ s h. pool_ends words workers log l b s old new h) c.pool_of.ensures.refused
+    let new = g.D.Depot.shown c.begin.new.depot in
+    IfErr-weaker c.pool_of.result (λ (s : Status). PoolRefused l b s) (λ (s : Status). ReportEnds a s old new)
+    (λ s h. pool_ends a l b s old new (formed_as (command.Run c.args.workers c.args.log) a c.requires.asks) h) c.pool_of.ensures.refused

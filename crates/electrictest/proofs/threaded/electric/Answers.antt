@@ -1,17 +1,17 @@
-use Rattle.std.proofs.Common.{ap, ◌∙◌}
 use Rattle.electrictest.specs.Commands.{called}
-use Rattle.electrictest.specs.Threaded.{threaded, threaded_of}
+use Rattle.electrictest.specs.Words.{threaded}
+use Rattle.electrictest.proofs.AskedFor.{threaded_impact}
 use Rattle.electrictest.proofs.OwnAnswers.{own_answer}
 use Rattle.electrictest.proofs.OwnOrderLaws.{own_order_answer}
-use Rattle.electrictest.proofs.DetectedLaws.{detected_answer}
+use Rattle.electrictest.proofs.DetectedLaws.{detected_answer, detected_order_answer}
 use Rattle.electrictest.proofs.EagerLaws.{told_eager}
-use Rattle.electrictest.proofs.EarlierLaws.{earlier_answer, threaded_impact}
+use Rattle.electrictest.proofs.EarlierLaws.{earlier_answer}
 use Rattle.electrictest.proofs.Replying.{for_told, served_by, taken_by, ends_by}
 use Rattle.electrictest.proofs.threaded.electric.Goals as goal
 
 pub returns-clause-served : goal.returns-clause-served
 returns-clause-served g c =
-    served_by c.served_of-asked.result _ c.args.words.now _ _ c.answered.result _ _ (c.served_of-asked.ensures.served ∙ ap threaded_of c.command_of.ensures.asks)
+    served_by c.threaded-ask.result _ _ _ c.answered.result _ _ c.threaded-ask.ensures
     _ c.args.steps.now c.asked_text-report.new.steps c.asked_text-report.result c.asked_text-report.ensures.reports c.asked_text-report.ensures.refused c.asked_text-report.ensures.ends c.answered.ensures.reports c.answered.ensures.refuses
 
 pub returns-clause-own : goal.returns-clause-own
@@ -32,6 +32,12 @@ returns-clause-detected g c =
     let asked = called (threaded c.args.words.now) old (g.D.Depot.shown c.asked_text-report.new.depot) c.args.steps.now c.asked_text-report.new.steps in
     for_told old.told (λ files. detected_answer (asked files) c.answered.result _ _) (returns-clause-served g c)
 
+pub returns-clause-detected_order : goal.returns-clause-detected_order
+returns-clause-detected_order g c =
+    let old = g.D.Depot.shown c.args.depot.now in
+    let asked = called (threaded c.args.words.now) old (g.D.Depot.shown c.asked_text-report.new.depot) c.args.steps.now c.asked_text-report.new.steps in
+    for_told old.told (λ files. detected_order_answer (asked files) c.answered.result _ _) (returns-clause-served g c)
+
 pub returns-clause-earlier : goal.returns-clause-earlier
 returns-clause-earlier g c =
     let old = g.D.Depot.shown c.args.depot.now in
@@ -43,10 +49,10 @@ returns-clause-eager g c = told_eager (g.D.Depot.shown c.args.depot.now).told (t
 
 pub returns-clause-taken : goal.returns-clause-taken
 returns-clause-taken g c =
-    taken_by c.served_of-asked.result _ c.args.words.now _ _ c.answered.result _ _ (c.served_of-asked.ensures.served ∙ ap threaded_of c.command_of.ensures.asks)
+    taken_by c.threaded-ask.result _ _ _ c.answered.result _ _ c.threaded-ask.ensures
     c.asked_text-report.result c.asked_text-report.ensures.ends c.answered.ensures.reports c.answered.ensures.refuses
 
 pub returns-clause-ends : goal.returns-clause-ends
 returns-clause-ends g c =
-    ends_by c.served_of-asked.result _ c.args.words.now _ _ c.answered.result _ _ (c.served_of-asked.ensures.served ∙ ap threaded_of c.command_of.ensures.asks)
+    ends_by c.threaded-ask.result _ _ _ c.answered.result _ _ c.threaded-ask.ensures
     c.asked_text-report.result c.asked_text-report.ensures.form c.asked_text-report.ensures.ends c.answered.ensures.reports c.answered.ensures.refuses

@@ -1,5 +1,5 @@
 use Rattle.electrictest.proofs.PoolLaws.{own_runs}
-use Rattle.electrictest.proofs.pool_runs.own_runs_law.Goals as goal
+use Rattle.electrictest.proofs.laws.own_runs_law.Goals as goal
 
 pub returns : goal.returns
 returns c = own_runs

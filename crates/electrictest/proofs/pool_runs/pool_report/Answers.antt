@@ -1,4 +1,4 @@
-use Rattle.std.proofs.Common.{◌≡◌, ℕ, List, [], ◌++◌, length, cond, ap, ◌∙◌, subst}
+use Rattle.std.proofs.Common.{◌≡◌, ℕ, List, [], ◌++◌, length, cond, Some, ap, ◌∙◌, subst}
 use Rattle.run_core.specs.Run.{history}
 use Rattle.worker_pool.specs.Plans.{units_of}
 use Rattle.electrictest.specs.Logs.{log_text}
@@ -7,7 +7,7 @@ use Rattle.electrictest.specs.Records.{beginning}
 use Rattle.electrictest.specs.Tallies.{report_text}
 use Rattle.electrictest.proofs.ChosenLaws.{few_tests}
 use Rattle.electrictest.proofs.PoolLaws.{all_posted, pool_reported}
-use Rattle.electrictest.proofs.pool_runs.report_of.Goals as goal
+use Rattle.electrictest.proofs.pool_runs.pool_report.Goals as goal
 
 pub tally_of-requires-clause-few : goal.tally_of-requires-clause-few
 tally_of-requires-clause-few c =
@@ -32,7 +32,7 @@ returns c =
     let core = c.args.pooled.now.core in
     let log = c.args.log in
     let tally = c.in_ok-tally.tally in
-    let reads : c.in_ok-text.text ≡ report_text chosen.selected (length chosen.set) (length chosen.chains.lists) tally = rw (c.as_slice-tests.ensures, c.len-chains.ensures) at c.in_ok-text.ensures in
-    subst (λ (n : ℕ). IsPoolReport l b n log tally.all_passed c.push_asked.new.out (units_of core.events)) h.many
+    let reads : c.in_ok-text.text ≡ report_text chosen.selected (length chosen.set) (Some (length chosen.chains.lists)) tally.lines tally.counts = rw (c.as_slice-tests.ensures, c.len-chains.ensures, c.as_slice.ensures) at c.in_ok-text.ensures in
+    subst (λ (n : ℕ). IsPoolReport l b n log tally.counts.all_passed c.push_asked.new.out (units_of core.events)) h.many
     (pool_reported l b chosen.set chosen.chains.lists chosen.selected core log tally c.push_asked.new.out h.chosen h.program h.chains h.legal h.complete (rw c.as_slice-tests.ensures at c.in_ok-tally.ensures)
     (c.in_ok-push_asked.ensures ∙ ap (λ (t : List ℕ). t ++ cond log (log_text (history core)) []) reads))

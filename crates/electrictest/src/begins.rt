@@ -1,0 +1,67 @@
+//! What a command with a record of the suite begins with.
+
+ghost use Rattle.std.specs.Prelude.{◌≡◌, ◌≤◌, All, Ok, IfOk, IfErr, IfSome, Some, length};
+ghost use Rattle.electrictest.specs.Commands.{IsProperRefusal, ReportEnds, RefusedOver};
+ghost use Rattle.electrictest.specs.Loads.{IsSuite, NamesTests, begun_by, named_by};
+ghost use Rattle.electrictest.specs.PoolRuns.{IsOfSuite};
+ghost use Rattle.electrictest.specs.Records.{Gives, beginning};
+ghost use Rattle.electrictest.specs.Selections.{IsTestOf};
+ghost use Rattle.schedule_plan.specs.Plans.{HasUnits};
+ghost use Rattle.test_run.specs.Running.{IsTest};
+
+use crate::asks::Ask;
+use crate::recorded::{Request, begin_with};
+use crate::selections::{ordered, selected};
+use crate::status::Status;
+use crate::words::Command;
+use et_base::Items;
+use outside::Depot;
+use std::alloc::Global;
+use suite_load::Loaded;
+
+// The tests that the words name.
+fn named(alloc: Global, loaded: &Loaded, ask: &Ask<'_>) -> Result<Items<u32>, Status>
+    requires suite { IsSuite loaded.now }
+    ensures gives { IfSome (named_by ask.now.command ask.now.words loaded.now)
+        (Gives (λ ts. ts) result) }
+    ensures tests { IfOk result (All (IsTestOf loaded.now.names)) }
+    ensures proper { IfErr result IsProperRefusal }
+{
+    match ask.command() {
+        Ok(Command::Run { .. } | Command::Plan { .. }) => {
+            selected(alloc, &loaded.names, ask.selection())
+        }
+        Ok(Command::Order) => ordered(alloc, &loaded.names, ask.order()),
+        _ => Ok(Items::new(alloc)),
+    }
+}
+
+/// The tests that the words name, and the record of the suite that they name.
+///
+/// `NoTest` comes where a name is of no test; then what the record is refused for: see `begin_with`.
+pub fn begin<D: Depot>(
+    alloc: Global,
+    loaded: &Loaded,
+    ask: &Ask<'_>,
+    depot: &mut D,
+) -> Result<Request, Status>
+    requires named { NamesTests ask.now loaded.now }
+    requires suite { IsSuite loaded.now }
+    ensures told { (D.shown depot.new).told ≡ (D.shown depot.old).told }
+    ensures faults { (D.shown depot.old).faults ≤ (D.shown depot.new).faults }
+    ensures begins { IfOk result (λ b. IfSome (D.shown depot.old).told (λ files.
+        begun_by files ask.now loaded.now ≡ Some (Ok (beginning b)))) }
+    ensures suite { IfOk result (λ b. IsOfSuite loaded.now (beginning b)) }
+    ensures tests { IfOk result (λ b. All (IsTest loaded.now.checked) b.tests) }
+    ensures units { IfOk result (λ b. HasUnits b.tests b.record.units) }
+    ensures many { IfOk result (λ b. length b.record.units ≡ length loaded.now.checked.tests) }
+    ensures refused { IfErr result (λ s. RefusedOver (D.shown depot.old).told ask.now loaded.now s) }
+    ensures ends { IfErr result (λ s.
+        ReportEnds ask.now s (D.shown depot.old) (D.shown depot.new)) }
+{
+    let tests = named(alloc, loaded, ask)?;
+    let begun = begin_with(alloc, depot, loaded, tests, ask.record())?;
+    // It is typed, and so linked.
+    let _program = loaded.checked.program();
+    Ok(begun)
+}
