@@ -1,0 +1,9 @@
+pub mod Closures
+pub mod ConeLaw
+pub mod Units
+pub mod RunLaws
+pub mod Pairs
+pub mod ConeLists
+pub mod Books
+pub mod MarkLaws
+pub mod TallyLaws
