@@ -19,7 +19,7 @@ use Rattle.run_core.specs.declared.events.Refused.TheVariants.{InHand, Taken, Id
 use Rattle.run_core.specs.declared.tables.Open.{Open}
 use Rattle.run_core.specs.declared.tables.Row.{Row}
 use Rattle.run_core.specs.Refusal.{HasOpen, HasNone, EndsWith, DifferFirstAt, IsRefused, Names}
-use Rattle.run_core.specs.Run.{Run, history, before_last, last_of, told, history_of, IsInRange, IsLegal, MayFollow, Gave}
+use Rattle.run_core.specs.Run.{Run, history, before_last, last_of, told, history_of, most_events, IsInRange, IsLegal, MayFollow, Gave}
 use Rattle.run_core.specs.Kept.{row_at, hand_of, in_hand, IsClaimer, AreDone, IsFull, IsHeld, IsSplit, outcome_or, IsKept}
 use Rattle.run_core.proofs.Kept.{in_drop, open_next, all_posted, claimed_range, has_none, hand_in}
 
@@ -70,7 +70,10 @@ module _ {p : Program} {C : List (List ℕ)} {n : ℕ} {rows : List Row} {hands 
         | inr full ↦ let few = d.few in let s = k.tables.size i lt in omega (arith, few, s)
       ]
 
-  -- ---- how many tests a worker posted
+  -- ---- how many events came, and how many tests a worker posted
+  pub events_few : length h ≤ most_events C
+  events_few = omega (arith, k.left)
+
   told_length : (g : List Event) (es : List law.Event) → length (fold (λ (es : List law.Event) (e : Event). told e ∷ es) es g) ≡ length es + length g
   told_length [] es = omega arith
   told_length (e ∷ g) es = told_length g (told e ∷ es) ∙ (let s : suc (length es) + length g ≡ length es + suc (length g) = omega arith in s)
@@ -89,7 +92,7 @@ module _ {p : Program} {C : List (List ℕ)} {n : ℕ} {rows : List Row} {hands 
   pub posts_few : (w i t : ℕ) → HasOpen C (history_of h) w i t → length (reverse (law.posts (history_of h) w)) + 1 < 2 ^ 32
   posts_few w i t x =
       let c : length (law.claims (history_of h) w) ≡ suc (length x.earlier) = ap length x.claimed in
-      omega (arith, length-reverse (law.posts (history_of h) w), own_events (history_of h) w, c, told_length h [], k.few)
+      omega (arith, length-reverse (law.posts (history_of h) w), own_events (history_of h) w, c, told_length h [], k.left, k.few)
 
 -- ---- lists that end with a test
 last_snoc : (xs : List ℕ) (t : ℕ) → get_or (xs ++ (t ∷ [])) (length xs) 0 ≡ t

@@ -17,7 +17,7 @@ use Rattle.run_core.specs.declared.events.Event.{Event}
 use Rattle.run_core.specs.declared.events.Event.TheVariants.{Claim, Post}
 use Rattle.run_core.specs.declared.tables.Row.{Row}
 use Rattle.run_core.specs.Refusal.{HasNone}
-use Rattle.run_core.specs.Run.{Run, before_last, last_of, told, history_of, IsInRange}
+use Rattle.run_core.specs.Run.{Run, before_last, last_of, told, history_of, most_events, IsInRange}
 use Rattle.run_core.specs.Kept.{row, row_at, hand_of, in_hand, IsClaimer, IsDone, AreTables, list_or, last_list, owed, IsKept, IsSplit, claimed, posted, rows_after, hands_after, MayEnter}
 
 -- ---- lists
@@ -266,7 +266,7 @@ module _ {p : Program} {C : List (List ℕ)} {n : ℕ} {rows : List Row} {hands 
       }
 
   pub room_left : (e : Event) → Goes e → length h < room
-  room_left e g = omega (arith, g.less, k.room)
+  room_left e g = omega (arith, g.less, k.left, k.room)
 
   pub kept_more : (e : Event) → IsSplit e → law.Meets p C n (told e) (history_of h) → Goes e → (room' : ℕ) → room ≤ room'
       → IsKept p C n (rows_after rows hands e) (hands_after hands e) (h ++ (e ∷ [])) room'
@@ -277,8 +277,9 @@ module _ {p : Program} {C : List (List ℕ)} {n : ℕ} {rows : List Row} {hands 
         legal = subst (λ (z : List law.Event). law.Legal p C n z) (sym told') (m, k.legal);
         tables = subst (λ (z : List law.Event). AreTables C n z (rows_after rows hands e) (hands_after hands e)) (sym told') g.tables;
         lists = λ w. list_more w h e s (k.lists w) p C n m ∙ ap (λ (z : List law.Event). reverse (law.posts z w)) (sym told');
-        few = omega (arith, g.less, k.few, length-append h (e ∷ []));
-        room = omega (arith, g.less, k.room, length-append h (e ∷ []), more);
+        few = k.few;
+        left = omega (arith, g.less, k.left, length-append h (e ∷ []));
+        room = omega (arith, k.room, more);
       }
 
   pub kept_after : (e : Event) → IsSplit e → law.Meets p C n (told e) (history_of h) → Goes e → (rows' : List Row) (hands' : List ℕ) (h' : List Event) (room' : ℕ)
@@ -291,10 +292,13 @@ module _ {p : Program} {C : List (List ℕ)} {n : ℕ} {rows : List Row} {hands 
 abbrev first_row : List ℕ → Row
 first_row c = row 0 0 (length c)
 
-owed_start : (C : List (List ℕ)) → sum_by owed (map first_row C) ≤ sum_by (λ (c : List ℕ). length c + 1) C
-owed_start C = subst (λ (z : ℕ). z ≤ sum_by (λ (c : List ℕ). length c + 1) C)
-    (sym (fold-map (λ (a : ℕ) (r : Row). a + owed r) first_row 0 C))
-    (sum_by-le-sum_by (λ (c : List ℕ). owed (row 0 0 (length c))) (λ (c : List ℕ). length c + 1) C (λ c. omega arith))
+owed_start : (C : List (List ℕ)) → sum_by owed (map first_row C) ≡ most_events C
+owed_start C =
+    let none : List ℕ → ℕ = λ c. owed (first_row c) in
+    let all : List ℕ → ℕ = λ c. length c + 1 in
+    let most = sum_by-le-sum_by none all C (λ c. omega arith) in
+    let least = sum_by-le-sum_by all none C (λ c. omega arith) in
+    fold-map (λ (a : ℕ) (r : Row). a + owed r) first_row 0 C ∙ (let same : sum_by none C ≡ sum_by all C = omega (arith, most, least) in same)
 
 first_tables : (C : List (List ℕ)) (n : ℕ) → AreTables C n [] (map first_row C) (replicate n 0)
 first_tables C n = record {
@@ -308,15 +312,16 @@ first_tables C n = record {
 }
 
 pub kept_first : (p : Program) (C : List (List ℕ)) (n : ℕ) (rows : List Row) (hands : List ℕ) (h : List Event) (room : ℕ) → are_chains C ≡ true
-    → sum_by (λ (c : List ℕ). length c + 1) C < 2 ^ 32 → sum_by (λ (c : List ℕ). length c + 1) C ≤ room → rows ≡ map first_row C → hands ≡ replicate n 0 → h ≡ [] → IsKept p C n rows hands h room
+    → most_events C < 2 ^ 32 → most_events C ≤ room → rows ≡ map first_row C → hands ≡ replicate n 0 → h ≡ [] → IsKept p C n rows hands h room
 kept_first p C n rows hands h room form few more a b c =
     let start : IsKept p C n (map first_row C) (replicate n 0) [] room = record {
       form = form;
       legal = tt;
       tables = first_tables C n;
       lists = λ w. refl;
-      few = omega (arith, owed_start C, few);
-      room = omega (arith, owed_start C, more);
+      few = few;
+      left = omega (arith, owed_start C);
+      room = more;
     } in
     subst (λ (z : List Row). IsKept p C n z hands h room) (sym a) (subst (λ (z : List ℕ). IsKept p C n (map first_row C) z h room) (sym b)
     (subst (λ (z : List Event). IsKept p C n (map first_row C) (replicate n 0) z room) (sym c) start))

@@ -9,7 +9,7 @@ use Rattle.run_core.specs.declared.events.Event.{Event}
 use Rattle.run_core.specs.declared.events.Event.TheVariants.{Claim, Post}
 use Rattle.run_core.specs.declared.tables.Open.{Open}
 use Rattle.run_core.specs.declared.tables.Row.{Row}
-use Rattle.run_core.specs.Run.{before_last, last_of, history_of}
+use Rattle.run_core.specs.Run.{before_last, last_of, history_of, most_events}
 
 abbrev pub row : ℕ → ℕ → ℕ → Row
 row by done size = record { by = by; done = done; size = size }
@@ -81,14 +81,16 @@ IsHeld C rows h x = (x.chain ≡ h) × (0 < h) × ((row_at rows (h - 1)).done < 
 abbrev pub owed : Row → ℕ
 owed r = cond (nat_eq r.by 0) 1 0 + (r.size - r.done)
 
--- What the type of a core keeps: its history is legal, the tables are of it, a worker's last list is what it posted, and there is room for all events.
+-- What the type of a core keeps: its history is legal, the tables are of it, a worker's last list is what it posted, and the
+-- events that came and those still to come are as many as a history has at most, for which there is room.
 pub record IsKept (p : Program) (C : List (List ℕ)) (n : ℕ) (rows : List Row) (hands : List ℕ) (h : List Event) (capacity : ℕ) : Type 0 where
   pub form : are_chains C ≡ true
   pub legal : law.Legal p C n (history_of h)
   pub tables : AreTables C n (history_of h) rows hands
   pub lists : (w : ℕ) → last_list w h ≡ reverse (law.posts (history_of h) w)
-  pub few : length h + sum_by owed rows < 2 ^ 32
-  pub room : length h + sum_by owed rows ≤ capacity
+  pub few : most_events C < 2 ^ 32
+  pub left : length h + sum_by owed rows ≡ most_events C
+  pub room : most_events C ≤ capacity
 
 -- the tables after an event
 abbrev pub claimed : Row → ℕ → Row

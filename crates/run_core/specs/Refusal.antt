@@ -1,11 +1,13 @@
 -- Why an event may not follow a history.
-use Rattle.std.specs.Prelude.{◌≡◌, ℕ, ◌-◌, ◌<◌, ◌≤◌, List, [], ◌∷◌, ◌++◌, take, slice_get}
+use Rattle.std.specs.Prelude.{◌≡◌, ℕ, ◌-◌, ◌<◌, ◌≤◌, List, [], ◌∷◌, ◌++◌, take, slice_get, Result, MatchResult}
 use Rattle.order_law.specs.Conflicts.{Member}
 use Rattle.order_law.specs.Plan as law
 use Rattle.run_core.specs.declared.events.Event.{Event}
 use Rattle.run_core.specs.declared.events.Event.TheVariants.{Claim, Post}
 use Rattle.run_core.specs.declared.events.Refused.{Refused}
 use Rattle.run_core.specs.declared.events.Refused.TheVariants.{InHand, Taken, Idle, NotNext, OtherList}
+use Rattle.run_core.specs.declared.events.Rejected.{Rejected}
+use Rattle.run_core.specs.Run.{Run, MayFollow, added, history}
 
 -- The worker has a chain in hand, and this is its next test.
 pub record HasOpen (C : List (List ℕ)) (es : List law.Event) (w i t : ℕ) : Type 0 where
@@ -39,3 +41,10 @@ abbrev pub Names : ℕ → ℕ → Refused → Type 0
 Names chains workers (InHand c) = (0 < c) × (c ≤ chains)
 Names chains workers (Taken w) = (0 < w) × (w ≤ workers)
 Names chains workers _ = Unit {0}
+
+-- What a core answers to an event: it is appended where it may follow, and else handed back with the first reason why not;
+-- then nothing changed.
+abbrev pub IsStep : Run → Event → Run → Result (Unit {0}) Rejected → Type 0
+IsStep r e s answer = MatchResult answer
+    (λ _. MayFollow r e × (s ≡ added r e))
+    (λ x. IsRefused r.chains (history r) e x.why × (x.event ≡ e) × (s ≡ r))

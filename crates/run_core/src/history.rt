@@ -1,10 +1,10 @@
 //! The core: a legal history.
 
-ghost use Rattle.std.specs.Prelude.{◌≡◌, ◌↔◌, ◌-◌, ◌<◌, ◌≤◌, ◌^◌, [], length, reverse, IsTrue, IfOk, IfErr, MatchOption, MatchResult};
+ghost use Rattle.std.specs.Prelude.{◌≡◌, ◌↔◌, ◌-◌, ◌<◌, ◌≤◌, ◌^◌, [], length, reverse, IsTrue, IfOk, IfErr, MatchOption};
 ghost use Rattle.order_law.specs.Plan.{Posted, posts};
 ghost use Rattle.run_core.specs.declared.events.Event.TheVariants.{Claim, Post};
 ghost use Rattle.run_core.specs.Kept.{IsClaimer, IsSplit};
-ghost use Rattle.run_core.specs.Refusal.{HasNone, HasOpen, IsRefused, Names};
+ghost use Rattle.run_core.specs.Refusal.{HasNone, HasOpen, IsRefused, IsStep, Names};
 ghost use Rattle.run_core.specs.Run.{Gave, IsComplete, IsInRange, IsLegal, IsWorker, MayFollow, added, history, most_events};
 
 use crate::events::{Event, Refused, Rejected};
@@ -80,6 +80,7 @@ impl Core {
     pub fn history(&self) -> &[Event]
         ensures events { result.now ≡ self.now.events }
         ensures legal { IsLegal self.now }
+        ensures few { length self.now.events ≤ most_events self.now.chains }
     {
         self.history.as_slice()
     }
@@ -200,10 +201,7 @@ impl Core {
     /// changed. It takes no memory.
     pub fn step(&mut self, event: Event) -> Result<(), Rejected>
         requires { IsInRange self.old event }
-        ensures step { MatchResult result
-            (λ _. MayFollow self.old event × (self.new ≡ added self.old event))
-            (λ r. IsRefused self.old.chains (history self.old) event r.why
-            × (r.event ≡ event) × (self.new ≡ self.old)) }
+        ensures step { IsStep self.old event self.new result }
         ensures names { IfErr result (λ r. Names (length self.old.chains) self.old.workers r.why) }
     {
         let _events = self.history();

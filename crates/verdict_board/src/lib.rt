@@ -9,12 +9,14 @@
 //!
 //! Of a value under a lock nothing is known but what its type keeps. So a `Board` is generic in a
 //! `RunName`, and that program, chains and workers are this run's are ghost fields of what it
-//! holds. That its history is legal is the core's own invariant; which events it has, no clause of
-//! a board says.
+//! holds. That its history is legal is the core's own invariant. The calls of what it holds have the
+//! core's clauses; which events it has, no clause of a board says.
 #![tactic(auto)]
 
-ghost use Rattle.std.specs.Prelude.{◌≡◌, ◌<◌, ◌≤◌, length, IfErr};
-ghost use Rattle.run_core.specs.Refusal.{Names};
+ghost use Rattle.std.specs.Prelude.{◌≡◌, ◌↔◌, ◌<◌, ◌≤◌, length, IsTrue, IfErr};
+ghost use Rattle.run_core.specs.declared.events.Event.TheVariants.{Claim, Post};
+ghost use Rattle.run_core.specs.Refusal.{IsStep, Names};
+ghost use Rattle.run_core.specs.Run.{IsComplete};
 
 use run_core::{Core, Event, Refused, Rejected, RunName};
 use std::marker::PhantomData;
@@ -35,7 +37,8 @@ impl<N: RunName> Held<N> {
     fn claim(&mut self, worker: u32, chain: u32) -> Result<(), Rejected>
         requires worker { (0 < worker) × (worker ≤ N.workers) }
         requires chain { (0 < chain) × (chain ≤ length N.chains) }
-        ensures { IfErr result (λ r. Names (length N.chains) N.workers r.why) }
+        ensures step { IsStep self.old.core (Claim worker chain) self.new.core result }
+        ensures names { IfErr result (λ r. Names (length N.chains) N.workers r.why) }
     {
         self.core.step(Event::Claim { worker, chain })
     }
@@ -43,12 +46,15 @@ impl<N: RunName> Held<N> {
     fn post(&mut self, piece: Piece) -> Result<(), Rejected>
         requires program { piece.program ≡ N.program }
         requires worker { (0 < piece.worker) × (piece.worker ≤ N.workers) }
-        ensures { IfErr result (λ r. Names (length N.chains) N.workers r.why) }
+        ensures step { IsStep self.old.core (Post piece) self.new.core result }
+        ensures names { IfErr result (λ r. Names (length N.chains) N.workers r.why) }
     {
         self.core.step(Event::Post(piece))
     }
 
-    fn is_complete(&self) -> bool {
+    fn is_complete(&self) -> bool
+        ensures { IsTrue result ↔ IsComplete self.now.core }
+    {
         self.core.is_complete()
     }
 }
