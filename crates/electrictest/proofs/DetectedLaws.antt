@@ -40,9 +40,10 @@ from_prepared : (files : Files) (name : List ℕ) (eager : Bool) (plain : Result
 from_prepared files name eager (Ok x) l h e = let same : l ≡ (if eager then quieted x else x) = cc in subst (λ (z : Loaded). AreHashes z.prints) (sym same) (prepared_hashes eager x (named_hashes files name x h))
 from_prepared files name eager (Err s) l h e = absurd (cc)
 
-pub have_hashes : (files : Files) (eager : Bool) (w : Result (List ℕ) Status) (l : Loaded) → LoadsAny files eager w (Ok l) → AreHashes l.prints
-have_hashes files eager (Err s) l h = absurd (cc)
-have_hashes files eager (Ok name) l h = from_prepared files name eager h.0 l h.1 h.2
+pub have_hashes : (files : Files) (eager : Bool) (w : Option (Result (List ℕ) Status)) (l : Loaded) → LoadsAny files eager w (Ok l) → AreHashes l.prints
+have_hashes files eager None l h = absurd h
+have_hashes files eager (Some (Err s)) l h = absurd (cc)
+have_hashes files eager (Some (Ok name)) l h = from_prepared files name eager h.0 l h.1 h.2
 
 -- ---- so the text of its record is read as that record
 
@@ -68,7 +69,7 @@ held_text files name r x holds =
     ap (within_limit name) holds ∙ rw short refl
 
 -- so a file that holds the record's text says what the record says
-says_own : (files : Files) (a : Ask) (l : Loaded) → AsksOwnRecord HoldsText files a l → AsksOwnRecord HoldsSaying files a l
+pub says_own : (files : Files) (a : Ask) (l : Loaded) → AsksOwnRecord HoldsText files a l → AsksOwnRecord HoldsSaying files a l
 says_own files a l by =
     let hashes = have_hashes files (is_eager a.words) (suite_word a) l by.load in
     let held = held_text files (word_at a.words 2) by.kept (own_hashes l by.kept hashes by.own) by.holds in

@@ -6,24 +6,22 @@ use Rattle.quiet_law.proofs.Suite.{quiet_law}
 use Rattle.electrictest.specs.declared.status.Status.{Status}
 use Rattle.electrictest.specs.EagerForms.{AsksEager, EagerAnswer}
 use Rattle.electrictest.specs.Loads.{LoadsFor, LoadsAny, quieted}
-use Rattle.electrictest.specs.Words.{Ask, is_eager, refusal_of, suite_word, word_at}
+use Rattle.electrictest.specs.Words.{Ask, is_eager, IsOverSuite, suite_word, word_at}
+use Rattle.electrictest.proofs.AskedFor.{suite_of_words}
 use Rattle.electrictest.proofs.LoadedFacts.{loaded_from, loaded_typed}
 
-named_suite : (a : Ask) → refusal_of a.command ≡ None → suite_word a ≡ Ok (word_at a.words 1)
-named_suite a e = ap (λ (o : Option Status). elim o [ None ↦ Ok (word_at a.words 1) | Some s ↦ Err s ]) e
-
-loads_quieted : (files : Files) (a : Ask) (l : Loaded) → AsksEager files a l → LoadsFor files a (Ok (quieted l))
-loads_quieted files a l asks =
-    let here : LoadsAny files true (Ok (word_at a.words 1)) (Ok (quieted l)) = (Ok l, asks.load, refl) in
-    let named : LoadsAny files true (suite_word a) (Ok (quieted l)) = subst (λ (w : Result (List ℕ) Status). LoadsAny files true w (Ok (quieted l))) (sym (named_suite a asks.asks)) here in
+loads_quieted : (files : Files) (a : Ask) (l : Loaded) → IsOverSuite a.command → AsksEager files a l → LoadsFor files a (Ok (quieted l))
+loads_quieted files a l over asks =
+    let here : LoadsAny files true (Some (Ok (word_at a.words 1))) (Ok (quieted l)) = (Ok l, asks.load, refl) in
+    let named : LoadsAny files true (suite_word a) (Ok (quieted l)) = subst (λ (w : Option (Result (List ℕ) Status)). LoadsAny files true w (Ok (quieted l))) (sym (suite_of_words a.command a.words asks.asks over)) here in
     subst (λ (b : Bool). LoadsAny files b (suite_word a) (Ok (quieted l))) (sym asks.eager) named
 
-pub eager_answer : (files : Files) (a : Ask) → EagerAnswer files a
-eager_answer files a l asks =
+pub eager_answer : (files : Files) (a : Ask) → (is_eager a.words ≡ true → IsOverSuite a.command) → EagerAnswer files a
+eager_answer files a over l asks =
     let loaded = loaded_from files (word_at a.words 1) l asks.load in
-    (loads_quieted files a l asks, quiet_law l.checked (loaded_typed files (word_at a.words 1) loaded.0 l asks.bytes loaded.1) asks.detected asks.room)
+    (loads_quieted files a l (over asks.eager) asks, quiet_law l.checked (loaded_typed files (word_at a.words 1) loaded.0 l asks.bytes loaded.1) asks.detected asks.room)
 
 -- so it is over whatever a depot tells
-pub told_eager : (told : Option Files) (a : Ask) → IfSome told (λ files. EagerAnswer files a)
-told_eager None a = tt
-told_eager (Some files) a = eager_answer files a
+pub told_eager : (told : Option Files) (a : Ask) → (is_eager a.words ≡ true → IsOverSuite a.command) → IfSome told (λ files. EagerAnswer files a)
+told_eager None a over = tt
+told_eager (Some files) a over = eager_answer files a over

@@ -41,7 +41,7 @@ use Rattle.electrictest.specs.Impacts.{IsImpacted}
 use Rattle.electrictest.specs.Loads.{LoadsFor, LoadsAny, begun_by, fits_for, named_by}
 use Rattle.electrictest.specs.Records.{Beginning, nameless, begun, record_at, record_bytes, suite_fits, classes_fit, earlier_fits}
 use Rattle.electrictest.specs.Replies.{IsRefusedInput, unloaded, unbegun, ungenerated, unlawful, ReportsBy, OversBy}
-use Rattle.electrictest.specs.Words.{Ask, Asking, is_eager, refusal_of, suite_word, word_at}
+use Rattle.electrictest.specs.Words.{Ask, Asking, is_eager, suite_named, suite_word, word_at}
 use Rattle.electrictest.proofs.DetectedLaws.{have_hashes, held_text, own_hashes, read_back}
 use Rattle.electrictest.proofs.LoadedFacts.{IsLoaded, loaded_from, plain_named, as_many, are_classes, sums_tell, is_good, same_suite}
 use Rattle.electrictest.proofs.OwnRecordLaws.{any_once, begins_once, starts_once, own_ends}
@@ -77,13 +77,13 @@ unpicked_from m q x t many number unnamed =
 
 -- ---- the record of the earlier state
 
-names_suite : (a : Ask) → a.command ≡ Ok command.Impact → suite_word a ≡ Ok (word_at a.words 1)
-names_suite a e = ap (λ (c : Asking). elim (refusal_of c) [ None ↦ Ok (word_at a.words 1) | Some s ↦ Err s ]) e
+names_suite : (a : Ask) → a.command ≡ Ok command.Impact → suite_word a ≡ Some (Ok (word_at a.words 1))
+names_suite a e = ap (λ (c : Asking). suite_named c a.words) e
 
 loads_suite : (files : Files) (a : Ask) (l : Loaded) → is_eager a.words ≡ false → a.command ≡ Ok command.Impact → LoadsFor files a (Ok l) → (suite : SuiteText) × IsLoaded files (word_at a.words 1) suite l
 loads_suite files a l n e h =
     let plain : LoadsAny files false (suite_word a) (Ok l) = subst (λ (b : Bool). LoadsAny files b (suite_word a) (Ok l)) n h in
-    loaded_from files (word_at a.words 1) l (plain_named files (word_at a.words 1) l (subst (λ (w : Result (List ℕ) Status). LoadsAny files false w (Ok l)) (names_suite a e) plain))
+    loaded_from files (word_at a.words 1) l (plain_named files (word_at a.words 1) l (subst (λ (w : Option (Result (List ℕ) Status)). LoadsAny files false w (Ok l)) (names_suite a e) plain))
 
 -- version 2 of a record adds something
 record HasMore (r : Record) : Type 0 where

@@ -7,7 +7,8 @@ use Rattle.suite_load.specs.declared.loaded.Loaded.{Loaded}
 use Rattle.electrictest.specs.declared.status.Status.{Status}
 use Rattle.electrictest.specs.declared.status.Status.TheVariants as ends
 use Rattle.electrictest.specs.declared.status.OverFault.{OverFault}
-use Rattle.electrictest.specs.Commands.{HasForm, ReportEnds, ReportsOver, RefusedOver}
+use Rattle.electrictest.specs.Causes.{AsksSuch, runs_tests}
+use Rattle.electrictest.specs.Commands.{ReportEnds, ReportsOver, RefusedOver}
 use Rattle.electrictest.specs.Detections.{IsDetected, Finds}
 use Rattle.electrictest.specs.Replies.{Reports, OversBy}
 use Rattle.electrictest.specs.Running.{RunRefused}
@@ -30,12 +31,12 @@ refused_found (Some files) a l (ends.Input f) h r = absurd r
 refused_found (Some files) a l (ends.Depot n) h r = absurd r
 refused_found (Some files) a l ends.Sink h r = absurd r
 
-pub ends_found : (a : Ask) (l : Loaded) (s : Status) (depot : DepotView) → HasForm a → RunRefused l s → ReportEnds a s depot depot
-ends_found a l ends.NoMemory depot h r = tt
-ends_found a l (ends.Over f) depot h r = h
-ends_found a l ends.Done depot h r = absurd r
-ends_found a l ends.NotPassed depot h r = absurd r
-ends_found a l ends.Words depot h r = absurd r
-ends_found a l (ends.Input f) depot h r = absurd r
-ends_found a l (ends.Depot n) depot h r = absurd r
-ends_found a l ends.Sink depot h r = absurd r
+pub ends_found : (a : Ask) (l : Loaded) (s : Status) (depot : DepotView) → AsksSuch runs_tests a.command → RunRefused l s → ReportEnds a s depot depot
+ends_found a l ends.NoMemory depot runs r = tt
+ends_found a l (ends.Over f) depot runs r = runs
+ends_found a l ends.Done depot runs r = absurd r
+ends_found a l ends.NotPassed depot runs r = absurd r
+ends_found a l ends.Words depot runs r = absurd r
+ends_found a l (ends.Input f) depot runs r = absurd r
+ends_found a l (ends.Depot n) depot runs r = absurd r
+ends_found a l ends.Sink depot runs r = absurd r

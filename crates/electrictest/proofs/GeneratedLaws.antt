@@ -1,5 +1,5 @@
 -- The summary of a generated suite, from its parts.
-use Rattle.std.proofs.Common.{◌≡◌, ℕ, ◌+◌, List, ◌∷◌, ◌++◌, length, codes, sum, Bool, refl, sym, ap, ◌∙◌, subst, arith, inl, inr, All, Option, Some, None, Ok, Err, IfSome}
+use Rattle.std.proofs.Common.{◌≡◌, ℕ, ◌+◌, List, ◌∷◌, ◌++◌, length, codes, sum, Bool, refl, sym, ap, ◌∙◌, subst, arith, inl, inr, All, Option, Some, None, Result, Ok, Err, IfErr, IfSome}
 use Rattle.std.proofs.lemmas.List.FromFn.{length-map-range_with_len}
 use Rattle.jvm_model.specs.declared.outcome.Outcome.{Outcome}
 use Rattle.jvm_model.specs.Linked.{Linked}
@@ -17,21 +17,25 @@ use Rattle.suite_load.specs.declared.load_fault.LoadFault.TheVariants as fault
 use Rattle.suite_load.specs.declared.loaded.Loaded.{Loaded}
 use Rattle.suite_load.specs.LoadAnswers.{LoadAnswers, IsProper}
 use Rattle.electrictest.specs.declared.recorded.Request.{Request}
+use Rattle.electrictest.specs.declared.reports.Report.{Report}
 use Rattle.electrictest.specs.declared.tallies.Tally.{Tally}
+use Rattle.electrictest.specs.declared.status.InputFault.{InputFault}
+use Rattle.electrictest.specs.declared.status.InputFault.TheVariants as input
 use Rattle.electrictest.specs.declared.status.Status.{Status}
 use Rattle.electrictest.specs.declared.status.Status.TheVariants as ends
 use Rattle.electrictest.specs.declared.words.Command.TheVariants as command
-use Rattle.electrictest.specs.Commands.{HasForm, IsProperRefusal, IsProperRun, ReportEnds, Reported}
+use Rattle.electrictest.specs.Causes.{AsksAny, MayRefuse}
+use Rattle.electrictest.specs.Commands.{IsProperRefusal, IsProperRun, ReportEnds, Reported}
 use Rattle.electrictest.specs.Generated.{suite_name, suite_files, summary_text, summary_by, conflict_line, counted, whole_suite, IsWholeRequest, IsSummed, Sums, Unsummed}
-use Rattle.electrictest.specs.Loads.{LoadsNamed, IsSuite, status_of}
+use Rattle.electrictest.specs.Loads.{LoadsNamed, IsSuite, answered, status_of}
 use Rattle.electrictest.specs.PoolRuns.{IsChosen, LawOfOwnRuns, PoolRefused, outcomes}
 use Rattle.electrictest.specs.Records.{Beginning, beginning}
 use Rattle.electrictest.specs.Replies.{Unreported, ungenerated}
 use Rattle.electrictest.specs.Running.{RunRefused}
 use Rattle.electrictest.specs.Selections.{IsTestOf}
 use Rattle.electrictest.specs.Tallies.{IsTally, IsTallyOf}
-use Rattle.electrictest.specs.Words.{Ask}
-use Rattle.electrictest.proofs.AskedFor.{reports_as, overs_as}
+use Rattle.electrictest.specs.Words.{Ask, Asking}
+use Rattle.electrictest.proofs.AskedFor.{formed_as, reports_as, overs_as}
 use Rattle.electrictest.proofs.PlanLaws.{tests_have}
 use Rattle.electrictest.proofs.PoolLaws.{own_runs, pool_ran}
 use Rattle.electrictest.proofs.PoolReplies.{is_of_suite}
@@ -177,12 +181,27 @@ summary_refused (Some files) a k workers ends.Done e u = absurd u
 summary_refused (Some files) a k workers ends.NotPassed e u = absurd u
 summary_refused (Some files) a k workers ends.Sink e u = absurd u
 
-pub summary_ends : (a : Ask) (s : Status) (depot : DepotView) → HasForm a → IsProperRun s → ReportEnds a s depot depot
-summary_ends a ends.NoMemory depot form p = tt
-summary_ends a (ends.Over f) depot form p = form
-summary_ends a (ends.Input f) depot form p = (form, p)
-summary_ends a (ends.Depot name) depot form p = absurd p
-summary_ends a ends.Words depot form p = absurd p
-summary_ends a ends.Done depot form p = absurd p
-summary_ends a ends.NotPassed depot form p = absurd p
-summary_ends a ends.Sink depot form p = absurd p
+unloaded_may : (asking : Asking) (loading : Result Loaded LoadFault) (f : InputFault) → AsksAny asking → ◌≡◌ {A = Result Loaded Status} (Err (ends.Input f)) (answered loading) → MayRefuse asking f
+unloaded_may asking (Ok l) f any e = absurd (cc)
+unloaded_may asking (Err fault.NoMemory) f any e = absurd (cc)
+unloaded_may asking (Err (fault.Depot x)) f any e = absurd (cc)
+unloaded_may asking (Err (fault.Absent x)) f any e = let same : input.Absent x ≡ f = cc in subst (MayRefuse asking) same any
+unloaded_may asking (Err (fault.TooLarge x)) f any e = let same : input.TooLarge x ≡ f = cc in subst (MayRefuse asking) same any
+unloaded_may asking (Err (fault.Suite line why)) f any e = let same : input.Suite line why ≡ f = cc in subst (MayRefuse asking) same any
+unloaded_may asking (Err (fault.Class x y)) f any e = let same : input.Class x y ≡ f = cc in subst (MayRefuse asking) same any
+unloaded_may asking (Err (fault.Link y)) f any e = let same : input.Link y ≡ f = cc in subst (MayRefuse asking) same any
+unloaded_may asking (Err (fault.Check y)) f any e = let same : input.Check y ≡ f = cc in subst (MayRefuse asking) same any
+
+summary_ends : (a : Ask) (k workers : ℕ) (s : Status) (depot : DepotView) → a.command ≡ Ok (command.Gen k workers) → Unsummed k s → IsProperRun s → ReportEnds a s depot depot
+summary_ends a k workers ends.NoMemory depot e u p = tt
+summary_ends a k workers (ends.Over f) depot e u p = (command.Gen k workers, e, refl)
+summary_ends a k workers (ends.Input f) depot e u p = (unloaded_may a.command u.0 f (formed_as (command.Gen k workers) a e) u.2, p)
+summary_ends a k workers (ends.Depot name) depot e u p = absurd p
+summary_ends a k workers ends.Words depot e u p = absurd p
+summary_ends a k workers ends.Done depot e u p = absurd p
+summary_ends a k workers ends.NotPassed depot e u p = absurd p
+summary_ends a k workers ends.Sink depot e u p = absurd p
+
+pub summaries_end : (a : Ask) (k workers : ℕ) (result : Result Report Status) (depot : DepotView) → a.command ≡ Ok (command.Gen k workers) → IfErr result (Unsummed k) → IfErr result IsProperRun → IfErr result (λ s. ReportEnds a s depot depot)
+summaries_end a k workers (Ok r) depot e u p = tt
+summaries_end a k workers (Err s) depot e u p = summary_ends a k workers s depot e u p

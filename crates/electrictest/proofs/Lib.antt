@@ -21,12 +21,16 @@ mod WholeThenPart
 mod PoolLaws
 mod ChosenLaws
 mod PoolReplies
+mod ConeReplies
 mod RecordSizes
 mod OwnRecordLaws
 mod OwnAnswers
 mod OwnOrderLaws
 mod GeneratedLaws
+mod GeneratedAnswers
 mod DetectedLaws
+mod OwnConeLaws
 mod EagerLaws
 mod EarlierLaws
 mod QuietLaws
+mod CompleteLaws

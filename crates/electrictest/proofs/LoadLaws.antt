@@ -13,38 +13,60 @@ use Rattle.quiet_init.proofs.Parts.{class_count}
 use Rattle.electrictest.specs.declared.reports.Report.{Report}
 use Rattle.electrictest.specs.declared.status.Status.{Status}
 use Rattle.electrictest.specs.declared.status.Status.TheVariants as ends
-use Rattle.electrictest.specs.Words.{Ask, is_eager, word_at, refusal_of, suite_word}
+use Rattle.electrictest.specs.declared.status.InputFault.TheVariants as input
+use Rattle.electrictest.specs.declared.words.WordsFault.TheVariants as faults
+use Rattle.electrictest.specs.Causes.{AsksAny}
+use Rattle.electrictest.specs.Words.{Ask, Asking, ask, is_eager, word_at, refusal_of, suite_word, IsOverSuite}
 use Rattle.electrictest.specs.Loads.{IsSuite, LoadsFor, LoadsAny, answered, quieted, prepared, status_of, of_suite}
 use Rattle.electrictest.specs.Replies.{Unreported, unloaded}
 use Rattle.electrictest.specs.Commands.{ReportEnds, ReportsOver, RefusedOver, Reported}
+use Rattle.electrictest.proofs.AskedFor.{any_files, suite_of_words}
 
 -- ---- loading
 
-module _ (a : Ask) (name : List ℕ) (asks : refusal_of a.command ≡ None) (named : name ≡ word_at a.words 1) where
-  names_suite : suite_word a ≡ Ok name
-  names_suite = ap (λ (o : Option Status). elim o [ None ↦ Ok (word_at a.words 1) | Some s ↦ Err s ]) asks ∙ ap (λ (n : List ℕ). Ok n) (sym named)
+module _ (a : Ask) (name : List ℕ) (asks : refusal_of a.command ≡ None) (over : IsOverSuite a.command) (named : name ≡ word_at a.words 1) where
+  names_suite : suite_word a ≡ Some (Ok name)
+  names_suite = suite_of_words a.command a.words asks over ∙ ap (λ (n : List ℕ). Some (Ok n)) (sym named)
 
   loads_for : (files : Files) (answer : Result Loaded LoadFault) → Loads files name answer → LoadsFor files a (prepared (is_eager a.words) (answered answer))
-  loads_for files answer h = subst (λ (w : Result (List ℕ) Status). LoadsAny files (is_eager a.words) w (prepared (is_eager a.words) (answered answer))) (sym names_suite) (answered answer, (answer, h, refl), refl)
+  loads_for files answer h = subst (λ (w : Option (Result (List ℕ) Status)). LoadsAny files (is_eager a.words) w (prepared (is_eager a.words) (answered answer))) (sym names_suite) (answered answer, (answer, h, refl), refl)
 
 -- its loading, for an eager form without its quiet initialisers
-pub loads_all : (told : Option Files) (a : Ask) (name : List ℕ) (x l : Loaded) → refusal_of a.command ≡ None → name ≡ word_at a.words 1 →
+pub loads_all : (told : Option Files) (a : Ask) (name : List ℕ) (x l : Loaded) → refusal_of a.command ≡ None → IsOverSuite a.command → name ≡ word_at a.words 1 →
     IfSome told (λ files. LoadAnswers files name (Ok x)) → ◌≡◌ {A = Result Loaded Status} (Ok l) (prepared (is_eager a.words) (Ok x)) → IfSome told (λ files. LoadsFor files a (Ok l))
-loads_all None a name x l e n h p = tt
-loads_all (Some files) a name x l e n h p = subst (LoadsFor files a) (sym p) (loads_for a name e n files (Ok x) h)
+loads_all None a name x l e over n h p = tt
+loads_all (Some files) a name x l e over n h p = subst (LoadsFor files a) (sym p) (loads_for a name e over n files (Ok x) h)
 
 -- the fault of its loading
-pub unloaded_for : (told : Option Files) (a : Ask) (name : List ℕ) (f : LoadFault) (old new : DepotView) → refusal_of a.command ≡ None → name ≡ word_at a.words 1 →
+pub unloaded_for : (told : Option Files) (a : Ask) (name : List ℕ) (f : LoadFault) (old new : DepotView) → refusal_of a.command ≡ None → IsOverSuite a.command → name ≡ word_at a.words 1 →
     IfSome told (λ files. LoadAnswers files name (Err f)) → IsProper (λ read. IfSome told (λ files. IsRead files name read) × FailedAt old new read) f → IfSome told (λ files. Unreported files a (status_of f))
-unloaded_for None a name f old new e n h p = tt
-unloaded_for (Some files) a name fault.NoMemory old new e n h p = tt
-unloaded_for (Some files) a name (fault.Depot read) old new e n h p = of_suite name (names_suite a name e n) p.0
-unloaded_for (Some files) a name (fault.Absent x) old new e n h p = unloaded (loads_for a name e n files (Err (fault.Absent x)) h)
-unloaded_for (Some files) a name (fault.TooLarge x) old new e n h p = unloaded (loads_for a name e n files (Err (fault.TooLarge x)) h)
-unloaded_for (Some files) a name (fault.Suite line why) old new e n h p = unloaded (loads_for a name e n files (Err (fault.Suite line why)) h)
-unloaded_for (Some files) a name (fault.Class x f) old new e n h p = unloaded (loads_for a name e n files (Err (fault.Class x f)) h)
-unloaded_for (Some files) a name (fault.Link f) old new e n h p = unloaded (loads_for a name e n files (Err (fault.Link f)) h)
-unloaded_for (Some files) a name (fault.Check f) old new e n h p = unloaded (loads_for a name e n files (Err (fault.Check f)) h)
+unloaded_for None a name f old new e over n h p = tt
+unloaded_for (Some files) a name fault.NoMemory old new e over n h p = tt
+unloaded_for (Some files) a name (fault.Depot read) old new e over n h p = of_suite name (names_suite a name e over n) p.0
+unloaded_for (Some files) a name (fault.Absent x) old new e over n h p = unloaded (loads_for a name e over n files (Err (fault.Absent x)) h)
+unloaded_for (Some files) a name (fault.TooLarge x) old new e over n h p = unloaded (loads_for a name e over n files (Err (fault.TooLarge x)) h)
+unloaded_for (Some files) a name (fault.Suite line why) old new e over n h p = unloaded (loads_for a name e over n files (Err (fault.Suite line why)) h)
+unloaded_for (Some files) a name (fault.Class x f) old new e over n h p = unloaded (loads_for a name e over n files (Err (fault.Class x f)) h)
+unloaded_for (Some files) a name (fault.Link f) old new e over n h p = unloaded (loads_for a name e over n files (Err (fault.Link f)) h)
+unloaded_for (Some files) a name (fault.Check f) old new e over n h p = unloaded (loads_for a name e over n files (Err (fault.Check f)) h)
+
+-- whatever the depot tells: words that ask for nothing, and a fault of loading
+pub unasked_ends : (asking : Asking) (words : List (List ℕ)) (s : Status) (old new : DepotView) → refusal_of asking ≡ Some s → ReportEnds (ask asking words) s old new
+unasked_ends (Ok c) words s old new e = absurd (cc)
+unasked_ends (Err faults.NoForm) words s old new e = let same : ends.Words ≡ s = cc in subst (λ (z : Status). ReportEnds (ask (Err faults.NoForm) words) z old new) same refl
+unasked_ends (Err faults.NeedsRecord) words s old new e =
+    let same : ends.Input input.NeedsRecord ≡ s = cc in
+    subst (λ (z : Status). ReportEnds (ask (Err faults.NeedsRecord) words) z old new) same (refl, tt)
+
+pub unloaded_ends : (Q : List ℕ → Type 0) (a : Ask) (f : LoadFault) (old new : DepotView) → AsksAny a.command → IsOverSuite a.command → ((read : List ℕ) → Q read → FailedAt old new read) → IsProper Q f → ReportEnds a (status_of f) old new
+unloaded_ends Q a fault.NoMemory old new any over failed p = tt
+unloaded_ends Q a (fault.Depot read) old new any over failed p = (any_files a.command any over, failed read p)
+unloaded_ends Q a (fault.Absent x) old new any over failed p = (any, tt)
+unloaded_ends Q a (fault.TooLarge x) old new any over failed p = (any, tt)
+unloaded_ends Q a (fault.Suite line why) old new any over failed p = (any, tt)
+unloaded_ends Q a (fault.Class x f) old new any over failed p = (any, p)
+unloaded_ends Q a (fault.Link f) old new any over failed p = (any, p)
+unloaded_ends Q a (fault.Check f) old new any over failed p = (any, p)
 
 -- without its quiet initialisers a suite has the same tests and as many classes
 pub quieted_suite : (l : Loaded) → IsSuite l → IsSuite (quieted l)

@@ -162,7 +162,7 @@ plain_is : (files : Files) (name : List ℕ) (l : Loaded) (plain : Result Loaded
 plain_is files name l (Ok x) h e = let same : l ≡ x = cc in subst (λ (z : Loaded). LoadsNamed files name (Ok z)) (sym same) h
 plain_is files name l (Err s) h e = absurd (cc)
 
-pub plain_named : (files : Files) (name : List ℕ) (l : Loaded) → LoadsAny files false (Ok name) (Ok l) → LoadsNamed files name (Ok l)
+pub plain_named : (files : Files) (name : List ℕ) (l : Loaded) → LoadsAny files false (Some (Ok name)) (Ok l) → LoadsNamed files name (Ok l)
 plain_named files name l h = plain_is files name l h.0 h.1 h.2
 
 suite_answered : (r : Result SuiteText SuiteRefusal) (suite : SuiteText) → suite_answer r ≡ Ok suite → r ≡ Ok suite

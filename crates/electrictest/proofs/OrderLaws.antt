@@ -4,10 +4,11 @@ use Rattle.outside.specs.Depot.{Files, DepotView}
 use Rattle.order_law.specs.OrderFault.{OrderFault, twice, missing_writer, inverted}
 use Rattle.jvm_model.specs.declared.program.Names.{Names}
 use Rattle.suite_load.specs.declared.loaded.Loaded.{Loaded}
+use Rattle.electrictest.specs.declared.status.InputFault.{InputFault}
 use Rattle.electrictest.specs.declared.status.Status.{Status}
 use Rattle.electrictest.specs.declared.status.Status.TheVariants as ends
 use Rattle.electrictest.specs.declared.words.Command.TheVariants as command
-use Rattle.electrictest.specs.Words.{Ask}
+use Rattle.electrictest.specs.Words.{Ask, Asking}
 use Rattle.electrictest.specs.Records.{Beginning}
 use Rattle.electrictest.specs.Loads.{begun_by}
 use Rattle.electrictest.specs.Orders.{order_input, IsOrdered, IsOrderedOver, Reports}
@@ -15,7 +16,8 @@ use Rattle.electrictest.specs.Plans.{IsPlanned, IsPlanReport}
 use Rattle.electrictest.specs.PoolRuns.{IsOfSuite}
 use Rattle.electrictest.specs.Replies.{unlawful}
 use Rattle.electrictest.specs.Running.{OrderRefused}
-use Rattle.electrictest.specs.Commands.{HasForm, IsProperInput, ReportEnds, ReportsOver, RefusedOver}
+use Rattle.electrictest.specs.Causes.{MayRefuse}
+use Rattle.electrictest.specs.Commands.{IsProperInput, ReportEnds, ReportsOver, RefusedOver}
 use Rattle.electrictest.proofs.AskedFor.{reports_as, overs_as}
 
 pub order_reports : (told : Option Files) (a : Ask) (l : Loaded) (b : Beginning) (passed : Bool) (text : List ℕ) (begun now : ℕ) → a.command ≡ Ok command.Order → IfSome told (λ files. begun_by files a l ≡ Some (Ok b)) →
@@ -38,20 +40,20 @@ order_refused (Some files) a l b ends.Done e g suite r = absurd r
 order_refused (Some files) a l b ends.NotPassed e g suite r = absurd r
 order_refused (Some files) a l b ends.Sink e g suite r = absurd r
 
-proper : (names : Names) (x : OrderFault) → IsProperInput (order_input names x)
-proper names (twice t) = tt
-proper names (missing_writer t u) = tt
-proper names (inverted a b) = tt
+order_may : (asking : Asking) (names : Names) (x : OrderFault) → asking ≡ Ok command.Order → MayRefuse asking (order_input names x) × IsProperInput (order_input names x)
+order_may asking names (twice t) e = (e, tt)
+order_may asking names (missing_writer t u) e = (e, tt)
+order_may asking names (inverted a b) e = (e, tt)
 
-pub order_ends : (a : Ask) (l : Loaded) (b : Beginning) (s : Status) (old new : DepotView) → HasForm a → OrderRefused l b s → ReportEnds a s old new
-order_ends a l b ends.NoMemory old new form r = tt
-order_ends a l b (ends.Input f) old new form r = (form, subst IsProperInput (sym r.named) (proper l.names r.found))
-order_ends a l b (ends.Over f) old new form r = form
-order_ends a l b (ends.Depot name) old new form r = absurd r
-order_ends a l b ends.Words old new form r = absurd r
-order_ends a l b ends.Done old new form r = absurd r
-order_ends a l b ends.NotPassed old new form r = absurd r
-order_ends a l b ends.Sink old new form r = absurd r
+pub order_ends : (a : Ask) (l : Loaded) (b : Beginning) (s : Status) (old new : DepotView) → a.command ≡ Ok command.Order → OrderRefused l b s → ReportEnds a s old new
+order_ends a l b ends.NoMemory old new e r = tt
+order_ends a l b (ends.Input f) old new e r = subst (λ (x : InputFault). MayRefuse a.command x × IsProperInput x) (sym r.named) (order_may a.command l.names r.found e)
+order_ends a l b (ends.Over f) old new e r = (command.Order, e, refl)
+order_ends a l b (ends.Depot name) old new e r = absurd r
+order_ends a l b ends.Words old new e r = absurd r
+order_ends a l b ends.Done old new e r = absurd r
+order_ends a l b ends.NotPassed old new e r = absurd r
+order_ends a l b ends.Sink old new e r = absurd r
 
 pub plan_reports : (told : Option Files) (a : Ask) (workers : ℕ) (l : Loaded) (b : Beginning) (text : List ℕ) (steps : ℕ) → a.command ≡ Ok (command.Plan workers) → IfSome told (λ files. begun_by files a l ≡ Some (Ok b)) →
     IsPlanReport b workers text → ReportsOver told a l true text steps steps

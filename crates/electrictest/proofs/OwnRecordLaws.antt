@@ -26,18 +26,19 @@ use Rattle.electrictest.specs.Words.{Ask, is_eager, word_at, suite_word, unforme
 
 -- ---- a suite is loaded in one way
 
-named_once : (files : Files) (name : List ℕ) (x y : Result Loaded Status) → LoadsNamed files name x → LoadsNamed files name y → x ≡ y
+pub named_once : (files : Files) (name : List ℕ) (x y : Result Loaded Status) → LoadsNamed files name x → LoadsNamed files name y → x ≡ y
 named_once files name x y h k = h.2 ∙ (ap answered ((loads_once files name).2 h.0 h.1 ∙ sym ((loads_once files name).2 k.0 k.1)) ∙ sym k.2)
 
-pub any_once : (files : Files) (eager : Bool) (w : Result (List ℕ) Status) (x y : Result Loaded Status) → LoadsAny files eager w x → LoadsAny files eager w y → x ≡ y
-any_once files eager (Err s) x y h k = h ∙ sym k
-any_once files eager (Ok name) x y h k = h.2 ∙ (ap (prepared eager) (named_once files name h.0 k.0 h.1 k.1) ∙ sym k.2)
+pub any_once : (files : Files) (eager : Bool) (w : Option (Result (List ℕ) Status)) (x y : Result Loaded Status) → LoadsAny files eager w x → LoadsAny files eager w y → x ≡ y
+any_once files eager None x y h k = absurd h
+any_once files eager (Some (Err s)) x y h k = h ∙ sym k
+any_once files eager (Some (Ok name)) x y h k = h.2 ∙ (ap (prepared eager) (named_once files name h.0 k.0 h.1 k.1) ∙ sym k.2)
 
 loaded_or : Loaded → Result Loaded Status → Loaded
 loaded_or l (Ok x) = x
 loaded_or l (Err s) = l
 
-loaded_once : (files : Files) (a : Ask) (l x : Loaded) → LoadsFor files a (Ok l) → LoadsFor files a (Ok x) → x ≡ l
+pub loaded_once : (files : Files) (a : Ask) (l x : Loaded) → LoadsFor files a (Ok l) → LoadsFor files a (Ok x) → x ≡ l
 unfolding loaded_or
 loaded_once files a l x h k = ap (loaded_or l) (any_once files (is_eager a.words) (suite_word a) (Ok x) (Ok l) k h)
 

@@ -11,7 +11,8 @@ use Rattle.electrictest.specs.Words.{Ask}
 use Rattle.electrictest.specs.Selections.{IsTestOf}
 use Rattle.electrictest.specs.Records.{Beginning, beginning}
 use Rattle.electrictest.specs.Loads.{IsSuite, begun_by}
-use Rattle.electrictest.specs.Commands.{HasForm, ReportEnds, ReportsOver, RefusedOver}
+use Rattle.electrictest.specs.Causes.{AsksSuch, runs_tests}
+use Rattle.electrictest.specs.Commands.{ReportEnds, ReportsOver, RefusedOver}
 use Rattle.electrictest.specs.PoolRuns.{IsOfSuite, IsPoolOver, IsPoolRun, PoolReports, PoolRefused}
 use Rattle.electrictest.proofs.AskedFor.{reports_as, overs_as}
 use Rattle.electrictest.proofs.ChosenLaws.{units_are_tests}
@@ -45,12 +46,12 @@ pool_refused (Some files) a workers log l b ends.Done e g suite r = absurd r
 pool_refused (Some files) a workers log l b ends.NotPassed e g suite r = absurd r
 pool_refused (Some files) a workers log l b ends.Sink e g suite r = absurd r
 
-pub pool_ends : (a : Ask) (l : Loaded) (b : Beginning) (s : Status) (old new : DepotView) → HasForm a → PoolRefused l b s → ReportEnds a s old new
-pool_ends a l b ends.NoMemory old new form r = tt
-pool_ends a l b (ends.Over f) old new form r = form
-pool_ends a l b (ends.Input f) old new form r = absurd r
-pool_ends a l b (ends.Depot name) old new form r = absurd r
-pool_ends a l b ends.Words old new form r = absurd r
-pool_ends a l b ends.Done old new form r = absurd r
-pool_ends a l b ends.NotPassed old new form r = absurd r
-pool_ends a l b ends.Sink old new form r = absurd r
+pub pool_ends : (a : Ask) (l : Loaded) (b : Beginning) (s : Status) (old new : DepotView) → AsksSuch runs_tests a.command → PoolRefused l b s → ReportEnds a s old new
+pool_ends a l b ends.NoMemory old new runs r = tt
+pool_ends a l b (ends.Over f) old new runs r = runs
+pool_ends a l b (ends.Input f) old new runs r = absurd r
+pool_ends a l b (ends.Depot name) old new runs r = absurd r
+pool_ends a l b ends.Words old new runs r = absurd r
+pool_ends a l b ends.Done old new runs r = absurd r
+pool_ends a l b ends.NotPassed old new runs r = absurd r
+pool_ends a l b ends.Sink old new runs r = absurd r

@@ -7,7 +7,8 @@ use Rattle.electrictest.specs.declared.status.Status.{Status}
 use Rattle.electrictest.specs.declared.status.Status.TheVariants as ends
 use Rattle.electrictest.specs.Words.{Ask}
 use Rattle.electrictest.specs.Replies.{fault_line, Unreported, IsAnswer}
-use Rattle.electrictest.specs.Commands.{HasForm, ReportEnds, Reported, Whole, Writes, Refused, Taken, Counted, DepotFailed, Asked, called, Answering, Replied, Served, Ends, report_status}
+use Rattle.electrictest.specs.Causes.{MayReport}
+use Rattle.electrictest.specs.Commands.{ReportEnds, Reported, Whole, Writes, Refused, Taken, Counted, DepotFailed, Asked, called, Answering, Replied, Served, Ends, report_status}
 
 -- a text that answers what is asked was written as a whole, or the sink took a part of it
 written_at : (asked : Asked) (s result : Status) (sink sink_now : SinkView) (reply : Answering asked s) → (Replied asked s sink sink_now → Served asked s sink sink_now) →
@@ -40,10 +41,10 @@ taken_done true text result sink sink_now (inl h) = subst (λ z. Taken z sink si
 taken_done false text result sink sink_now (inl h) = subst (λ z. Taken z sink sink_now) (sym h.0) (text, h.1)
 taken_done passed text result sink sink_now (inr h) = subst (λ z. Taken z sink sink_now) (sym h.0) (text, h.1)
 
-ends_done : (a b : Ask) (passed : Bool) (text : List ℕ) (result : Status) (depot depot_now : DepotView) (sink sink_now : SinkView) → a ≡ b → HasForm a →
+ends_done : (a b : Ask) (passed : Bool) (text : List ℕ) (result : Status) (depot depot_now : DepotView) (sink sink_now : SinkView) → a ≡ b → MayReport a.command passed →
     Writes text (report_status passed) result sink sink_now → Ends b result depot depot_now sink sink_now
-ends_done a b true text result depot depot_now sink sink_now e f (inl h) = subst (λ z. Ends b z depot depot_now sink sink_now) (sym h.0) (subst (λ z. HasForm z) e f)
-ends_done a b false text result depot depot_now sink sink_now e f (inl h) = subst (λ z. Ends b z depot depot_now sink sink_now) (sym h.0) (subst (λ z. HasForm z) e f)
+ends_done a b true text result depot depot_now sink sink_now e f (inl h) = subst (λ z. Ends b z depot depot_now sink sink_now) (sym h.0) (subst (λ (z : Ask). MayReport z.command true) e f)
+ends_done a b false text result depot depot_now sink sink_now e f (inl h) = subst (λ z. Ends b z depot depot_now sink sink_now) (sym h.0) (subst (λ (z : Ask). MayReport z.command false) e f)
 ends_done a b passed text result depot depot_now sink sink_now e f (inr h) = subst (λ z. Ends b z depot depot_now sink sink_now) (sym h.0) h.1.rose
 
 -- ---- a refusal
@@ -152,7 +153,7 @@ module _ (a b : Ask) (depot depot_now : DepotView) (result : Status) (sink sink_
   taken_by (Ok r) ends w n = taken_done r.passed r.text result sink sink_now w
   taken_by (Err s) ends w n = taken_refused a depot depot_now s result sink sink_now ends n
 
-  pub ends_by : (report : Result Report Status) → IfOk report (λ r. HasForm a) → IfErr report (λ s. ReportEnds a s depot depot_now) → IfOk report (λ r. Writes r.text (report_status r.passed) result sink sink_now) → IfErr report (λ s. Refused s result sink sink_now) →
+  pub ends_by : (report : Result Report Status) → IfOk report (λ r. MayReport a.command r.passed) → IfErr report (λ s. ReportEnds a s depot depot_now) → IfOk report (λ r. Writes r.text (report_status r.passed) result sink sink_now) → IfErr report (λ s. Refused s result sink sink_now) →
       Ends b result depot depot_now sink sink_now
   ends_by (Ok r) form ends w n = ends_done a b r.passed r.text result depot depot_now sink sink_now same form w
   ends_by (Err s) form ends w n = ends_refused a b s result depot depot_now sink sink_now same ends n

@@ -8,12 +8,16 @@ use Rattle.test_run.specs.Running.{IsTest}
 use Rattle.electrictest.specs.declared.status.Status.{Status}
 use Rattle.electrictest.specs.declared.status.Status.TheVariants as ends
 use Rattle.electrictest.specs.declared.status.InputFault.{InputFault}
-use Rattle.electrictest.specs.Words.{Ask, word_at}
+use Rattle.electrictest.specs.declared.status.InputFault.TheVariants as input
+use Rattle.electrictest.specs.declared.words.Command.TheVariants as command
+use Rattle.electrictest.specs.Words.{Ask, Asking, word_at}
 use Rattle.electrictest.specs.Selections.{IsTestOf}
 use Rattle.electrictest.specs.Records.{Beginning, Gives, begun, says}
 use Rattle.electrictest.specs.Loads.{IsSuite, named_by, fits_for, begun_by, of_record}
 use Rattle.electrictest.specs.Replies.{unbegun}
-use Rattle.electrictest.specs.Commands.{Fails, HasForm, IsProperRefusal, ReportEnds, RefusedOver}
+use Rattle.electrictest.specs.Causes.{AsksSuch, IsOfRecord, MayRefuse, names_tests, reads_record}
+use Rattle.electrictest.specs.Commands.{Fails, IsNameRefusal, IsProperInput, IsRecordRefusal, ReportEnds, RefusedOver}
+use Rattle.electrictest.proofs.AskedFor.{such_any, such_files}
 
 -- the tests of names are tests of the program
 pub tests_are : (l : Loaded) (ts us : List ℕ) → IsSuite l → us ≡ ts → All (IsTestOf l.names) ts → All (IsTest l.checked) us
@@ -27,7 +31,7 @@ not_named : (fits : Loaded → Said → Result (Unit {0}) InputFault) (files : F
 unfolding begun
 not_named fits files l name f = refl
 
-pub unnamed : (told : Option Files) (a : Ask) (l : Loaded) (named : Result (List ℕ) InputFault) (s : Status) → named_by a.command a.words l ≡ Some named → answers.Fails (says s) named → IsProperRefusal s → RefusedOver told a l s
+pub unnamed : (told : Option Files) (a : Ask) (l : Loaded) (named : Result (List ℕ) InputFault) (s : Status) → named_by a.command a.words l ≡ Some named → answers.Fails (says s) named → IsNameRefusal s → RefusedOver told a l s
 unnamed None a l named s e g p = tt
 unnamed (Some files) a l named ends.NoMemory e g p = λ h. tt
 unnamed (Some files) a l named (ends.Input f) e g p = λ h.
@@ -39,15 +43,37 @@ unnamed (Some files) a l named ends.Done e g p = absurd p
 unnamed (Some files) a l named ends.NotPassed e g p = absurd p
 unnamed (Some files) a l named ends.Sink e g p = absurd p
 
-pub unnamed_ends : (a : Ask) (s : Status) (depot : DepotView) → HasForm a → IsProperRefusal s → ReportEnds a s depot depot
-unnamed_ends a ends.NoMemory depot e p = tt
-unnamed_ends a (ends.Input f) depot e p = (e, p)
-unnamed_ends a (ends.Depot name) depot e p = absurd p
-unnamed_ends a (ends.Over f) depot e p = absurd p
-unnamed_ends a ends.Words depot e p = absurd p
-unnamed_ends a ends.Done depot e p = absurd p
-unnamed_ends a ends.NotPassed depot e p = absurd p
-unnamed_ends a ends.Sink depot e p = absurd p
+-- the command has a record, and where a name is of no test it names tests
+reads_by : (asking : Asking) (words : List (List ℕ)) (l : Loaded) (named : Result (List ℕ) InputFault) → named_by asking words l ≡ Some named → AsksSuch reads_record asking
+reads_by (Err f) words l named e = absurd (cc)
+reads_by (Ok command.Whole) words l named e = absurd (cc)
+reads_by (Ok command.Detect) words l named e = absurd (cc)
+reads_by (Ok (command.Deps json)) words l named e = absurd (cc)
+reads_by (Ok command.Quiet) words l named e = absurd (cc)
+reads_by (Ok (command.Gen k n)) words l named e = absurd (cc)
+reads_by (Ok c) words l named e = (c, refl, refl)
+
+names_by : (asking : Asking) (words : List (List ℕ)) (l : Loaded) (f : InputFault) → named_by asking words l ≡ Some (Err f) → AsksSuch names_tests asking
+names_by (Err d) words l f e = absurd (cc)
+names_by (Ok command.Whole) words l f e = absurd (cc)
+names_by (Ok command.Detect) words l f e = absurd (cc)
+names_by (Ok (command.Deps json)) words l f e = absurd (cc)
+names_by (Ok command.Quiet) words l f e = absurd (cc)
+names_by (Ok (command.Gen k n)) words l f e = absurd (cc)
+names_by (Ok command.Impact) words l f e = absurd (cc)
+names_by (Ok command.Manifest) words l f e = absurd (cc)
+names_by (Ok c) words l f e = (c, refl, refl)
+
+pub unnamed_ends : (a : Ask) (l : Loaded) (named : Result (List ℕ) InputFault) (s : Status) (depot : DepotView) → named_by a.command a.words l ≡ Some named → answers.Fails (says s) named → IsNameRefusal s → ReportEnds a s depot depot
+unnamed_ends a l named ends.NoMemory depot e g p = tt
+unnamed_ends a l named (ends.Input (input.NoTest name)) depot e g p = (names_by a.command a.words l (input.NoTest name) (e ∙ ap Some g), tt)
+unnamed_ends a l named (ends.Input f) depot e g p = absurd p
+unnamed_ends a l named (ends.Depot name) depot e g p = absurd p
+unnamed_ends a l named (ends.Over f) depot e g p = absurd p
+unnamed_ends a l named ends.Words depot e g p = absurd p
+unnamed_ends a l named ends.Done depot e g p = absurd p
+unnamed_ends a l named ends.NotPassed depot e g p = absurd p
+unnamed_ends a l named ends.Sink depot e g p = absurd p
 
 -- what is begun with these tests
 begun_by_tests : (files : Files) (a : Ask) (l : Loaded) (named : Result (List ℕ) InputFault) (tests name : List ℕ) (b : Result Beginning InputFault) {fits : Loaded → Said → Result (Unit {0}) InputFault} → fits_for a.command ≡ fits →
@@ -70,18 +96,26 @@ not_begun (Some files) a l named tests name ends.Done old new q e k n g p = absu
 not_begun (Some files) a l named tests name ends.NotPassed old new q e k n g p = absurd p
 not_begun (Some files) a l named tests name ends.Sink old new q e k n g p = absurd p
 
-pub not_begun_ends : (a : Ask) (name : List ℕ) (s : Status) (old new : DepotView) → HasForm a → Fails name old new s → ReportEnds a s old new
-not_begun_ends a name ends.NoMemory old new e p = tt
-not_begun_ends a name (ends.Input f) old new e p = (e, p)
-not_begun_ends a name (ends.Depot read) old new e p = (e, p.1)
-not_begun_ends a name (ends.Over f) old new e p = absurd p
-not_begun_ends a name ends.Words old new e p = absurd p
-not_begun_ends a name ends.Done old new e p = absurd p
-not_begun_ends a name ends.NotPassed old new e p = absurd p
-not_begun_ends a name ends.Sink old new e p = absurd p
+record_may : (asking : Asking) (f : InputFault) → AsksSuch reads_record asking → IsOfRecord f → MayRefuse asking f × IsProperInput f
+record_may asking (input.Absent name) h p = (such_any reads_record asking h, tt)
+record_may asking (input.TooLarge name) h p = (such_any reads_record asking h, tt)
+record_may asking (input.Record line) h p = (h, tt)
+record_may asking input.RecordOld h p = (h, tt)
+record_may asking (input.RecordForeign kept found) h p = (h, tt)
+record_may asking f h p = absurd p
+
+pub not_begun_ends : (a : Ask) (l : Loaded) (named : Result (List ℕ) InputFault) (name : List ℕ) (s : Status) (old new : DepotView) → named_by a.command a.words l ≡ Some named → Fails name old new s → ReportEnds a s old new
+not_begun_ends a l named name ends.NoMemory old new e p = tt
+not_begun_ends a l named name (ends.Input f) old new e p = record_may a.command f (reads_by a.command a.words l named e) p
+not_begun_ends a l named name (ends.Depot read) old new e p = (such_files a.command (reads_by a.command a.words l named e), p.1)
+not_begun_ends a l named name (ends.Over f) old new e p = absurd p
+not_begun_ends a l named name ends.Words old new e p = absurd p
+not_begun_ends a l named name ends.Done old new e p = absurd p
+not_begun_ends a l named name ends.NotPassed old new e p = absurd p
+not_begun_ends a l named name ends.Sink old new e p = absurd p
 
 -- a record that is none, or is of another suite
-pub proper_fails : (name : List ℕ) (s : Status) (old new : DepotView) → IsProperRefusal s → Fails name old new s
+pub proper_fails : (name : List ℕ) (s : Status) (old new : DepotView) → IsRecordRefusal s → Fails name old new s
 proper_fails name ends.NoMemory old new p = tt
 proper_fails name (ends.Input f) old new p = p
 proper_fails name (ends.Depot read) old new p = absurd p

@@ -11,7 +11,8 @@ use Rattle.electrictest.specs.declared.status.InputFault.{InputFault}
 use Rattle.electrictest.specs.declared.status.InputFault.TheVariants as input
 use Rattle.electrictest.specs.declared.status.Status.{Status}
 use Rattle.electrictest.specs.declared.status.Status.TheVariants as ends
-use Rattle.electrictest.specs.Words.{Ask, is_formed, unformed}
+use Rattle.electrictest.specs.Causes.{AsksSuch, MayRefuse, MayReport, IsOfName, IsOfRecord, reads_files, runs_tests}
+use Rattle.electrictest.specs.Words.{Ask, unformed}
 use Rattle.electrictest.specs.Loads.{LoadsFor}
 use Rattle.electrictest.specs.Replies.{fault_line, Reports, Unreported, IsAnswer}
 
@@ -22,13 +23,9 @@ IsProperInput (input.Link f) = (f ≢ linking.NoMemory) × ((t : ℕ) → f ≢ 
 IsProperInput (input.Check f) = f ≢ checking.NoMemory
 IsProperInput _ = Unit {0}
 
--- the words have a form that is served
-abbrev pub HasForm : Ask → Type 0
-HasForm a = is_formed a.command ≡ true
-
--- a refusal at the file of this name: an input fault, a depot that failed there, or want of memory
+-- a refusal at the record of this name: an input fault, a depot that failed there, or want of memory
 abbrev pub Fails : List ℕ → DepotView → DepotView → Status → Type 0
-Fails name old new (ends.Input f) = IsProperInput f
+Fails name old new (ends.Input f) = IsOfRecord f
 Fails name old new (ends.Depot read) = (read ≡ name) × FailedAt old new read
 Fails name old new ends.NoMemory = Unit {0}
 Fails name old new _ = ⊥
@@ -39,18 +36,30 @@ IsProperRefusal (ends.Input f) = IsProperInput f
 IsProperRefusal ends.NoMemory = Unit {0}
 IsProperRefusal _ = ⊥
 
--- such a refusal, or a number of units that is passed
+-- such a refusal of a name of a test, or of a record
+abbrev pub IsNameRefusal : Status → Type 0
+IsNameRefusal (ends.Input f) = IsOfName f
+IsNameRefusal ends.NoMemory = Unit {0}
+IsNameRefusal _ = ⊥
+
+abbrev pub IsRecordRefusal : Status → Type 0
+IsRecordRefusal (ends.Input f) = IsOfRecord f
+IsRecordRefusal ends.NoMemory = Unit {0}
+IsRecordRefusal _ = ⊥
+
+-- a refusal that reads no file of the depot, or a number of units that is passed
 abbrev pub IsProperRun : Status → Type 0
 IsProperRun (ends.Over f) = Unit {0}
 IsProperRun s = IsProperRefusal s
 
--- Why there is no report, whatever the depot tells: exactly words in no form are answered `Words`, unless memory ran out; a
--- depot is named by the file of its last read that failed.
+-- Why there is no report, whatever the depot tells: exactly words in no form are answered `Words`, unless memory ran out, and
+-- so are those that lack their record by `NeedsRecord`; other faults of the input come for the commands that may meet them, and
+-- a number of units that is passed for those that run tests. A depot is named by the file of its last read that failed.
 abbrev pub ReportEnds : Ask → Status → DepotView → DepotView → Type 0
 ReportEnds a ends.Words old new = a.command ≡ unformed
-ReportEnds a (ends.Input f) old new = HasForm a × IsProperInput f
-ReportEnds a (ends.Depot name) old new = HasForm a × FailedAt old new name
-ReportEnds a (ends.Over f) old new = HasForm a
+ReportEnds a (ends.Input f) old new = MayRefuse a.command f × IsProperInput f
+ReportEnds a (ends.Depot name) old new = AsksSuch reads_files a.command × FailedAt old new name
+ReportEnds a (ends.Over f) old new = AsksSuch runs_tests a.command
 ReportEnds a ends.NoMemory old new = Unit {0}
 ReportEnds a ends.Done old new = ⊥
 ReportEnds a ends.NotPassed old new = ⊥
@@ -153,10 +162,10 @@ Served asked ends.NoMemory old new = new ≡ old
 Served asked ends.Sink old new = PartReplied asked old new
 Served asked s old new = Replied asked s old new
 
--- Whatever the depot tells: a sink is answered only where its count of faults rose, a report only for words in form, and each
--- other status as `ReportEnds` says.
+-- Whatever the depot tells: a sink is answered only where its count of faults rose, a text only where a command is asked for, a
+-- test that didn't pass only where the command tells of it, and each other status as `ReportEnds` says.
 abbrev pub Ends : Ask → Status → DepotView → DepotView → SinkView → SinkView → Type 0
 Ends a ends.Sink depot depot_now sink sink_now = Rose sink.faults sink_now.faults
-Ends a ends.Done depot depot_now sink sink_now = HasForm a
-Ends a ends.NotPassed depot depot_now sink sink_now = HasForm a
+Ends a ends.Done depot depot_now sink sink_now = MayReport a.command true
+Ends a ends.NotPassed depot depot_now sink sink_now = MayReport a.command false
 Ends a s depot depot_now sink sink_now = ReportEnds a s depot depot_now

@@ -13,7 +13,8 @@ use Rattle.electrictest.specs.declared.status.Status.TheVariants as ends
 use Rattle.electrictest.specs.declared.status.InputFault.{InputFault}
 use Rattle.electrictest.specs.declared.status.InputFault.TheVariants as input
 use Rattle.electrictest.specs.declared.words.Command.TheVariants as command
-use Rattle.electrictest.specs.Words.{Asking, Ask, is_eager, is_formed, suite_word, word_at}
+use Rattle.electrictest.specs.Causes.{AsksAny}
+use Rattle.electrictest.specs.Words.{Asking, Ask, is_eager, suite_word, word_at}
 use Rattle.electrictest.specs.Selections.{ordered, selected}
 use Rattle.electrictest.specs.Records.{Beginning, begun, record_fits, earlier_fits}
 
@@ -46,11 +47,12 @@ abbrev pub prepared : Bool → Result Loaded Status → Result Loaded Status
 prepared eager (Ok l) = Ok (if eager then quieted l else l)
 prepared eager (Err s) = Err s
 
-abbrev pub LoadsAny : Files → Bool → Result (List ℕ) Status → Result Loaded Status → Type 0
-LoadsAny files eager (Err s) answer = answer ≡ Err s
-LoadsAny files eager (Ok name) answer = (plain : Result Loaded Status) × LoadsNamed files name plain × (answer ≡ prepared eager plain)
+abbrev pub LoadsAny : Files → Bool → Option (Result (List ℕ) Status) → Result Loaded Status → Type 0
+LoadsAny files eager None answer = ⊥
+LoadsAny files eager (Some (Err s)) answer = answer ≡ Err s
+LoadsAny files eager (Some (Ok name)) answer = (plain : Result Loaded Status) × LoadsNamed files name plain × (answer ≡ prepared eager plain)
 
--- loading for what is asked answers this
+-- loading for what is asked answers this; of a depot's files nothing is loaded for a generated suite
 abbrev pub LoadsFor : Files → Ask → Result Loaded Status → Type 0
 LoadsFor files a answer = LoadsAny files (is_eager a.words) (suite_word a) answer
 
@@ -68,6 +70,8 @@ named_by (Ok (command.Run n log)) words l = Some (selected l.names (word_at word
 named_by (Ok command.Order) words l = Some (ordered l.names (word_at words 3))
 named_by (Ok (command.Plan n)) words l = Some (selected l.names (word_at words 4))
 named_by (Ok command.Impact) words l = Some (Ok [])
+named_by (Ok (command.Cones n)) words l = Some (selected l.names (word_at words 4))
+named_by (Ok command.Manifest) words l = Some (Ok [])
 named_by _ words l = None
 
 -- what that record has to be: of an earlier state of the suite, or of the suite
@@ -83,7 +87,7 @@ begun_by files a l = option_map (λ named. begun (fits_for a.command) files l na
 pub record IsNamed (a : Ask) (l : Loaded) (named : Result (List ℕ) InputFault) : Type 0 where
   pub by : named_by a.command a.words l ≡ Some named
   pub fits : fits_for a.command ≡ record_fits
-  pub formed : is_formed a.command ≡ true
+  pub formed : AsksAny a.command
 
 abbrev pub NamesTests : Ask → Loaded → Type 0
 NamesTests a l = (named : Result (List ℕ) InputFault) × IsNamed a l named
@@ -95,5 +99,5 @@ pub record Begins (files : Files) (a : Ask) (l : Loaded) (b : Result Beginning I
 
 -- A file that is read: one of the suite, or the record, once the suite is loaded and its tests are named.
 pub data IsReadFor (files : Files) (a : Ask) (read : List ℕ) : Type 0 where
-  of_suite : (name : List ℕ) → suite_word a ≡ Ok name → IsRead files name read → IsReadFor files a read
+  of_suite : (name : List ℕ) → suite_word a ≡ Some (Ok name) → IsRead files name read → IsReadFor files a read
   of_record : (l : Loaded) (tests : List ℕ) → LoadsFor files a (Ok l) → named_by a.command a.words l ≡ Some (Ok tests) → read ≡ word_at a.words 2 → IsReadFor files a read

@@ -20,6 +20,8 @@ use Rattle.electrictest.specs.Orders.{IsUnlawful, IsOrdered, IsOrderedOver}
 use Rattle.electrictest.specs.PoolRuns.{IsPoolRun, IsPoolOver}
 use Rattle.electrictest.specs.Plans.{IsPlanned}
 use Rattle.electrictest.specs.Impacts.{IsImpacted}
+use Rattle.electrictest.specs.ConeRuns.{IsConed, IsConedOver}
+use Rattle.electrictest.specs.Manifests.{IsManifested, IsManifestedOver}
 use Rattle.electrictest.specs.Generated.{IsSummary, IsUngenerated, IsGeneratedOver}
 use Rattle.electrictest.specs.QuietLists.{IsQuietList}
 use Rattle.electrictest.specs.Detections.{IsDetected, recorded, dependences}
@@ -41,6 +43,8 @@ ReportsBy (Ok (command.Deps json)) files a passed text units = IsDetected files 
 ReportsBy (Ok command.Order) files a passed text units = IsOrdered files a passed text units
 ReportsBy (Ok (command.Plan n)) files a passed text units = IsPlanned files a n passed text units
 ReportsBy (Ok command.Impact) files a passed text units = IsImpacted files a passed text units
+ReportsBy (Ok (command.Cones n)) files a passed text units = IsConed files a passed text units
+ReportsBy (Ok command.Manifest) files a passed text units = IsManifested files a passed text units
 ReportsBy (Ok (command.Gen k n)) files a passed text units = IsSummary k n passed text units
 ReportsBy (Ok command.Quiet) files a passed text units = IsQuietList files a passed text units
 ReportsBy _ files a passed text units = ⊥
@@ -55,6 +59,8 @@ OversBy (Ok (command.Run n log)) files a f = IsPoolOver files a f
 OversBy (Ok command.Detect) files a f = IsOver files a f
 OversBy (Ok (command.Deps json)) files a f = IsOver files a f
 OversBy (Ok command.Order) files a f = IsOrderedOver files a f
+OversBy (Ok (command.Cones n)) files a f = IsConedOver files a f
+OversBy (Ok command.Manifest) files a f = IsManifestedOver files a f
 OversBy (Ok (command.Gen k n)) files a f = IsGeneratedOver k f
 OversBy _ files a f = ⊥
 

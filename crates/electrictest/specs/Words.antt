@@ -66,20 +66,25 @@ two_words a b =
 abbrev pub gen_of : List ℕ → List ℕ → Asking
 gen_of b c = with_count (tests_of b) (λ k. with_count (workers_of c) (λ n. Ok (command.Gen k n)))
 
--- that, `deps SUITE json`, or `impact SUITE RECORD`, which isn't served without a record
+-- that, `deps SUITE json`, `impact SUITE RECORD` or `manifest SUITE RECORD`; the last two have no form without a record
 abbrev pub three_words : List ℕ → List ℕ → List ℕ → Asking
 three_words a b c =
     if is_of_suite a (codes "deps") b && bytes_eq c (codes "json") then Ok (command.Deps true)
     else (if is_of_suite a (codes "impact") b && is_depot_name c then Ok command.Impact
-    else (if bytes_eq a (codes "gen") then gen_of b c else unformed))
+    else (if is_of_suite a (codes "manifest") b && is_depot_name c then Ok command.Manifest
+    else (if bytes_eq a (codes "gen") then gen_of b c else unformed)))
 
 -- `order SUITE RECORD ORDER`
 abbrev pub four_words : List ℕ → List ℕ → List ℕ → Asking
 four_words a b c = if is_of_suite a (codes "order") b then with_record c command.Order else unformed
 
--- `plan SUITE RECORD N SEL`, and `run SUITE RECORD N SEL`, with a log or without
+-- `plan SUITE RECORD N SEL`; `cones SUITE RECORD N SEL`, which has no form without a record; and `run SUITE RECORD N SEL`, with a
+-- log or without
 abbrev pub plan_in : List ℕ → List ℕ → Asking
 plan_in c d = with_count (workers_of d) (λ n. with_record c (command.Plan n))
+
+abbrev pub cones_in : List ℕ → List ℕ → Asking
+cones_in c d = with_count (workers_of d) (λ n. if is_depot_name c then Ok (command.Cones n) else unformed)
 
 abbrev pub run_in : List ℕ → List ℕ → List ℕ → Bool → Asking
 run_in c d e log = with_count (workers_of d) (run_of c e log)
@@ -87,7 +92,8 @@ run_in c d e log = with_count (workers_of d) (run_of c e log)
 abbrev pub five_words : List ℕ → List ℕ → List ℕ → List ℕ → List ℕ → Asking
 five_words a b c d e =
     if is_of_suite a (codes "plan") b then plan_in c d
-    else (if is_of_suite a (codes "run") b then run_in c d e false else unformed)
+    else (if is_of_suite a (codes "cones") b then cones_in c d
+    else (if is_of_suite a (codes "run") b then run_in c d e false else unformed))
 
 -- `run SUITE RECORD N SEL log`
 abbrev pub six_words : List ℕ → List ℕ → List ℕ → List ℕ → List ℕ → List ℕ → Asking
@@ -107,6 +113,7 @@ form_of _ = unformed
 -- those that wait for threads
 abbrev pub waits : Command → Bool
 waits (command.Run n log) = true
+waits (command.Cones n) = true
 waits (command.Gen k n) = true
 waits _ = false
 
@@ -146,6 +153,7 @@ plain_of asking = only (λ c. not (waits c)) asking
 abbrev pub HasWorkers : Asking → Type 0
 HasWorkers (Ok (command.Run n log)) = 0 < n
 HasWorkers (Ok (command.Plan n)) = 0 < n
+HasWorkers (Ok (command.Cones n)) = (0 < n) × (n ≤ 16)
 HasWorkers (Ok (command.Gen k n)) = (0 < k) × (k ≤ 1024) × (0 < n)
 HasWorkers _ = Unit {0}
 
@@ -174,21 +182,28 @@ threaded words = ask (command_of words) words
 abbrev pub plain : List (List ℕ) → Ask
 plain words = ask (plain_of (command_of words)) words
 
--- the words are in form, though a record may be missing
-abbrev pub is_formed : Asking → Bool
-is_formed (Err fault.NoForm) = false
-is_formed _ = true
-
 -- the word of the form at this place, counted from 0
 abbrev pub word_at : List (List ℕ) → ℕ → List ℕ
 word_at words i = get_or (form_words words) i []
 
 -- how words are answered that ask for nothing
-abbrev pub refusal_of : Asking → Option Status
-refusal_of (Err fault.NoForm) = Some ends.Words
-refusal_of (Err fault.NeedsRecord) = Some (ends.Input input.NeedsRecord)
-refusal_of (Ok c) = None
+abbrev pub fault_status : WordsFault → Status
+fault_status fault.NoForm = ends.Words
+fault_status fault.NeedsRecord = ends.Input input.NeedsRecord
 
--- the suite's name, or the refusal of words that name none
-abbrev pub suite_word : Ask → Result (List ℕ) Status
-suite_word a = elim (refusal_of a.command) [ None ↦ Ok (word_at a.words 1) | Some s ↦ Err s ]
+abbrev pub refusal_of : Asking → Option Status
+refusal_of (Ok c) = None
+refusal_of (Err f) = Some (fault_status f)
+
+-- the suite's name, or the refusal of words that ask for nothing; a generated suite is none of a depot
+abbrev pub suite_named : Asking → List (List ℕ) → Option (Result (List ℕ) Status)
+suite_named (Ok (command.Gen k n)) words = None
+suite_named (Ok c) words = Some (Ok (word_at words 1))
+suite_named (Err f) words = Some (Err (fault_status f))
+
+abbrev pub suite_word : Ask → Option (Result (List ℕ) Status)
+suite_word a = suite_named a.command a.words
+
+-- so it is where the words are those of a generated suite
+abbrev pub OfGenerated : Asking → (ℕ → ℕ → Type 0) → Type 0
+OfGenerated asking Is = (k n : ℕ) → asking ≡ Ok (command.Gen k n) → Is k n

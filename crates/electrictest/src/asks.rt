@@ -1,6 +1,6 @@
 //! What a call is asked for.
 
-ghost use Rattle.std.specs.Prelude.{◌≡◌, true, IfNone};
+ghost use Rattle.std.specs.Prelude.{◌≡◌};
 ghost use Rattle.electrictest.specs.Words as words_ask;
 
 use crate::status::{InputFault, Status};
@@ -57,8 +57,7 @@ impl<'w> Ask<'w> {
 
     /// How the words are answered where they ask for nothing.
     pub fn refusal(&self) -> Option<Status>
-        ensures refusal { result ≡ words_ask.refusal_of self.now.command }
-        ensures formed { IfNone result (words_ask.is_formed self.now.command ≡ true) }
+        ensures { result ≡ words_ask.refusal_of self.now.command }
     {
         match self.command {
             Ok(_) => None,

@@ -1,7 +1,7 @@
 //! What a command with a record of the suite begins with.
 
 ghost use Rattle.std.specs.Prelude.{◌≡◌, ◌≤◌, All, Ok, IfOk, IfErr, IfSome, Some, length};
-ghost use Rattle.electrictest.specs.Commands.{IsProperRefusal, ReportEnds, RefusedOver};
+ghost use Rattle.electrictest.specs.Commands.{IsNameRefusal, ReportEnds, RefusedOver};
 ghost use Rattle.electrictest.specs.Loads.{IsSuite, NamesTests, begun_by, named_by};
 ghost use Rattle.electrictest.specs.PoolRuns.{IsOfSuite};
 ghost use Rattle.electrictest.specs.Records.{Gives, beginning};
@@ -25,10 +25,10 @@ fn named(alloc: Global, loaded: &Loaded, ask: &Ask<'_>) -> Result<Items<u32>, St
     ensures gives { IfSome (named_by ask.now.command ask.now.words loaded.now)
         (Gives (λ ts. ts) result) }
     ensures tests { IfOk result (All (IsTestOf loaded.now.names)) }
-    ensures proper { IfErr result IsProperRefusal }
+    ensures proper { IfErr result IsNameRefusal }
 {
     match ask.command() {
-        Ok(Command::Run { .. } | Command::Plan { .. }) => {
+        Ok(Command::Run { .. } | Command::Plan { .. } | Command::Cones { .. }) => {
             selected(alloc, &loaded.names, ask.selection())
         }
         Ok(Command::Order) => ordered(alloc, &loaded.names, ask.order()),

@@ -1,10 +1,13 @@
 //! The top call: from the words of a command line to the text on a sink.
 
 ghost use Rattle.std.specs.Prelude.{◌≡◌, ◌≤◌, None, IfOk, IfErr, IfSome};
-ghost use Rattle.electrictest.specs.Commands.{called, HasForm, ReportEnds, Reported, ReportsOver, RefusedOver, Writes, Refused, Taken, Served, Ends};
+ghost use Rattle.electrictest.specs.Causes.{MayReport};
+ghost use Rattle.electrictest.specs.Commands.{called, ReportEnds, Reported, ReportsOver, RefusedOver, Writes, Refused, Taken, Served, Ends};
+ghost use Rattle.electrictest.specs.Complete.{Complete};
 ghost use Rattle.electrictest.specs.EagerForms.{EagerAnswer};
 ghost use Rattle.electrictest.specs.EarlierRecords.{EarlierAnswer};
 ghost use Rattle.electrictest.specs.Loads.{IsSuite};
+ghost use Rattle.electrictest.specs.OwnCones.{OwnManifestAnswer};
 ghost use Rattle.electrictest.specs.OwnLists.{DetectedOrderAnswer, OwnOrderAnswer};
 ghost use Rattle.electrictest.specs.Words.{plain, refusal_of, IsServed};
 ghost use Rattle.electrictest.specs.Commands as command;
@@ -14,6 +17,7 @@ use crate::asks::Ask;
 use crate::detections::{deps_for, record_for};
 use crate::impacts::impact_for;
 use crate::loading::load_for;
+use crate::manifests::manifest_for;
 use crate::orders::order_for;
 use crate::plans::plan_for;
 use crate::quiet_lists::quiet_for;
@@ -56,6 +60,7 @@ pub fn report_for<D: Depot, L: Ledger>(
         ReportsOver told ask.now loaded.now r.passed r.text steps.old steps.new) }
     ensures refused { IfErr result (λ s.
         RefusedOver (D.shown depot.old).told ask.now loaded.now s) }
+    ensures form { IfOk result (λ r. MayReport ask.now.command r.passed) }
     ensures ends { IfErr result (λ s.
         ReportEnds ask.now s (D.shown depot.old) (D.shown depot.new)) }
 {
@@ -66,6 +71,7 @@ pub fn report_for<D: Depot, L: Ledger>(
         Ok(Command::Plan { workers }) => plan_for(alloc, loaded, ask, workers, depot),
         Ok(Command::Quiet) => quiet_for(alloc, loaded),
         Ok(Command::Impact) => impact_for(alloc, loaded, ask, depot),
+        Ok(Command::Manifest) => manifest_for(alloc, loaded, ask, depot, steps),
         _ => whole_for(alloc, loaded, steps),
     }
 }
@@ -84,7 +90,7 @@ fn reported<D: Depot, L: Ledger>(
         Reported files ask.now r.passed r.text steps.old steps.new)) }
     ensures refused { IfErr result (λ s. IfSome (D.shown depot.old).told (λ files.
         reply.Unreported files ask.now s)) }
-    ensures form { IfOk result (λ _. HasForm ask.now) }
+    ensures form { IfOk result (λ r. MayReport ask.now.command r.passed) }
     ensures ends { IfErr result (λ s.
         ReportEnds ask.now s (D.shown depot.old) (D.shown depot.new)) }
 {
@@ -139,10 +145,12 @@ pub fn answered<S: Sink>(alloc: Global, sink: &mut S, report: Result<Report, Sta
 /// - `deps SUITE` does the same and writes the report on dependences, and `deps SUITE json` writes that as JSON.
 /// - `plan SUITE RECORD N SEL` writes the chains of the selection's closure and the loads of N workers.
 /// - `impact SUITE RECORD` writes which class files aren't those of the record, and which tests this concerns.
+/// - `manifest SUITE RECORD` writes of each test what becomes of it without one of the tests that it reads from.
 ///
 /// The answers:
 ///
-/// - `Done`: the report was written, and each test passed; or the plan, record, impact or report on dependences was written.
+/// - `Done`: the report was written, and each test passed; or the plan, record, impact, manifest or report on dependences was
+///   written.
 /// - `NotPassed`: the report was written, and a test failed or ended in an error.
 /// - `Words`: the words have no form that is served.
 /// - `Input`: no record is named; a file is absent, too large or faulty, the class files don't link, or the program isn't typed;
@@ -176,6 +184,11 @@ pub fn electric_plain<D: Depot, S: Sink, L: Ledger>(
         let asked = called (plain words.now) (D.shown depot.old) depot_now steps.old steps.new in
         IfSome (D.shown depot.old).told (λ files.
         DetectedOrderAnswer (asked files) result (S.shown sink.old) (S.shown sink.new)) }
+    // With the suite's own record, `detect`'s text too, the manifest compares with what tests do in the suite's own order.
+    ensures own_manifest { let depot_now = D.shown depot.new in
+        let asked = called (plain words.now) (D.shown depot.old) depot_now steps.old steps.new in
+        IfSome (D.shown depot.old).told (λ files.
+        OwnManifestAnswer (asked files) result (S.shown sink.old) (S.shown sink.new)) }
     // With the record of an earlier state each test that an impact doesn't name has the report lines that it had.
     ensures earlier { let depot_now = D.shown depot.new in
         let asked = called (plain words.now) (D.shown depot.old) depot_now steps.old steps.new in
@@ -183,6 +196,11 @@ pub fn electric_plain<D: Depot, S: Sink, L: Ledger>(
         EarlierAnswer (asked files) result (S.shown sink.old) (S.shown sink.new)) }
     // An eager form is over the suite without its quiet initialisers, in which each test ends as in the suite as it is.
     ensures eager { IfSome (D.shown depot.old).told (λ files. EagerAnswer files (plain words.now)) }
+    // Where what is asked is accepted, and neither the depot nor the sink failed, nothing is refused.
+    ensures complete { let depot_now = D.shown depot.new in
+        let asked = called (plain words.now) (D.shown depot.old) depot_now steps.old steps.new in
+        IfSome (D.shown depot.old).told (λ files.
+        Complete (asked files) result (S.shown sink.old) (S.shown sink.new)) }
     // What the sink took, whatever the depot tells.
     ensures taken { Taken result (S.shown sink.old) (S.shown sink.new) }
     // When the words, a depot or a sink are answered, whatever the depot tells.

@@ -3,7 +3,8 @@
 ghost use Rattle.std.specs.Prelude.{◌≡◌, ◌+◌, Option, Ok, sum, IfOk, IfErr};
 ghost use Rattle.detect_run.specs.Detection.{IsDetection};
 ghost use Rattle.outside.specs.Depot.{Files, DepotView};
-ghost use Rattle.electrictest.specs.Commands.{HasForm, ReportEnds, ReportsOver, RefusedOver};
+ghost use Rattle.electrictest.specs.Causes.{MayReport};
+ghost use Rattle.electrictest.specs.Commands.{ReportEnds, ReportsOver, RefusedOver};
 ghost use Rattle.electrictest.specs.declared.words.Command.TheVariants as command;
 ghost use Rattle.electrictest.specs.Detections as detection;
 ghost use Rattle.electrictest.specs.Loads.{IsSuite};
@@ -102,7 +103,9 @@ pub fn record_for<L: Ledger>(
         ReportsOver told a loaded.now r.passed r.text steps.old steps.new) }
     ensures refused { (told : Option Files) (a : Ask) → a.command ≡ Ok command.Detect →
         IfErr result (λ s. RefusedOver told a loaded.now s) }
-    ensures ends { (a : Ask) (depot : DepotView) → HasForm a →
+    ensures form { (a : Ask) → a.command ≡ Ok command.Detect →
+        IfOk result (λ r. MayReport a.command r.passed) }
+    ensures ends { (a : Ask) (depot : DepotView) → a.command ≡ Ok command.Detect →
         IfErr result (λ s. ReportEnds a s depot depot) }
 {
     record_report(alloc, loaded, steps)
@@ -122,7 +125,9 @@ pub fn deps_for<L: Ledger>(
         ReportsOver told a loaded.now r.passed r.text steps.old steps.new) }
     ensures refused { (told : Option Files) (a : Ask) → a.command ≡ Ok (command.Deps json) →
         IfErr result (λ s. RefusedOver told a loaded.now s) }
-    ensures ends { (a : Ask) (depot : DepotView) → HasForm a →
+    ensures form { (a : Ask) → a.command ≡ Ok (command.Deps json) →
+        IfOk result (λ r. MayReport a.command r.passed) }
+    ensures ends { (a : Ask) (depot : DepotView) → a.command ≡ Ok (command.Deps json) →
         IfErr result (λ s. ReportEnds a s depot depot) }
 {
     deps_report(alloc, loaded, json, steps)

@@ -1,6 +1,7 @@
 //! What changed class files concern.
 
 ghost use Rattle.std.specs.Prelude.{◌≡◌, ◌≤◌, ℕ, Ok, IfOk, IfErr};
+ghost use Rattle.electrictest.specs.Causes.{MayReport};
 ghost use Rattle.electrictest.specs.Commands.{ReportEnds, ReportsOver, RefusedOver};
 ghost use Rattle.electrictest.specs.declared.words.Command.TheVariants as command;
 
@@ -28,6 +29,7 @@ pub fn impact_for<D: Depot>(
     ensures reports { (steps : ℕ) → IfOk result (λ r. let told = (D.shown depot.old).told in
         ReportsOver told ask.now loaded.now r.passed r.text steps steps) }
     ensures refused { IfErr result (λ s. RefusedOver (D.shown depot.old).told ask.now loaded.now s) }
+    ensures form { IfOk result (λ r. MayReport ask.now.command r.passed) }
     ensures ends { IfErr result (λ s.
         ReportEnds ask.now s (D.shown depot.old) (D.shown depot.new)) }
 {

@@ -1,5 +1,6 @@
 //! Laws on what the top call's contract speaks of.
 
+ghost use Rattle.electrictest.specs.Complete.{QuietlyComplete};
 ghost use Rattle.electrictest.specs.Laws.{DetectedExactly, QuietDepots, QuietSinks, RecordsFit};
 ghost use Rattle.electrictest.specs.Orders.{OwnOrders};
 ghost use Rattle.electrictest.specs.PoolRuns.{OwnRuns};
@@ -18,6 +19,12 @@ pub fn quiet_depot_law()
 /// A sink that tells room for a text took it as a whole, unless its count of faults had ended.
 pub fn quiet_sink_law()
     ensures { QuietSinks }
+{}
+
+/// Over a `QuietDepot`, with a `QuietSink` of room for each text that may be answered, words that ask for what is accepted are
+/// answered by their text, by a number of units that is passed, or by want of memory.
+pub fn quiet_answer_law()
+    ensures { QuietlyComplete }
 {}
 
 /// The text of a record whose sums have 32 bytes is at most as long as what is read of one.

@@ -19,6 +19,7 @@
 mod asks;
 mod begins;
 mod commands;
+mod cone_runs;
 mod detections;
 mod fault_texts;
 mod generated;
@@ -26,6 +27,7 @@ mod impacts;
 mod laws;
 mod loading;
 mod logs;
+mod manifests;
 mod orders;
 mod plan_texts;
 mod plans;
@@ -45,7 +47,8 @@ mod words;
 
 pub use commands::{electric_plain, written};
 pub use laws::{
-    detected_law, own_orders_law, own_runs_law, quiet_depot_law, quiet_sink_law, record_size_law,
+    detected_law, own_orders_law, own_runs_law, quiet_answer_law, quiet_depot_law, quiet_sink_law,
+    record_size_law,
 };
 pub use status::{InputFault, OverFault, Status};
 pub use threaded::electric;

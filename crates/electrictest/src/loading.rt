@@ -1,7 +1,8 @@
 //! From words and a depot's files to a checked program.
 
-ghost use Rattle.std.specs.Prelude.{◌≡◌, ◌≤◌, None, IfOk, IfErr, IfSome, Ok};
-ghost use Rattle.electrictest.specs.Commands.{HasForm, ReportEnds};
+ghost use Rattle.std.specs.Prelude.{◌≡◌, ◌≤◌, IfOk, IfErr, IfSome, Ok};
+ghost use Rattle.electrictest.specs.Causes.{AsksAny};
+ghost use Rattle.electrictest.specs.Commands.{ReportEnds};
 ghost use Rattle.electrictest.specs.Loads.{LoadsFor, IsSuite};
 ghost use Rattle.electrictest.specs.Loads as loads;
 ghost use Rattle.electrictest.specs.Replies.{Unreported};
@@ -72,6 +73,7 @@ fn prepared(alloc: Global, eager: bool, loaded: Loaded) -> Result<Loaded, NoMemo
 /// `Words` comes exactly where no command is asked for, `NeedsRecord` where one lacks its record; `Input` as the first fault of
 /// loading does; `Depot` only where the depot failed.
 pub fn load_for<D: Depot>(alloc: Global, ask: &Ask<'_>, depot: &mut D) -> Result<Loaded, Status>
+    requires over { asked_for.IsOverSuite ask.now.command }
     ensures told { (D.shown depot.new).told ≡ (D.shown depot.old).told }
     ensures faults { (D.shown depot.old).faults ≤ (D.shown depot.new).faults }
     ensures loads { IfOk result (λ l. IfSome (D.shown depot.old).told (λ files.
@@ -79,8 +81,7 @@ pub fn load_for<D: Depot>(alloc: Global, ask: &Ask<'_>, depot: &mut D) -> Result
     ensures refused { IfErr result (λ s. IfSome (D.shown depot.old).told (λ files.
         Unreported files ask.now s)) }
     ensures suite { IfOk result IsSuite }
-    ensures form { IfOk result (λ _. HasForm ask.now) }
-    ensures named { IfOk result (λ _. asked_for.refusal_of ask.now.command ≡ None) }
+    ensures form { IfOk result (λ _. AsksAny ask.now.command) }
     ensures ends { IfErr result (λ s.
         ReportEnds ask.now s (D.shown depot.old) (D.shown depot.new)) }
 {

@@ -4,6 +4,7 @@ ghost use Rattle.std.specs.Prelude.{◌≡◌, ◌≤◌, All, Ok, IfOk, IfErr};
 ghost use Rattle.order_law.specs.Conflicts.{Lawful};
 ghost use Rattle.selection_close.specs.Faults.{fault_of};
 ghost use Rattle.test_run.specs.Running.{IsTest};
+ghost use Rattle.electrictest.specs.Causes.{MayReport};
 ghost use Rattle.electrictest.specs.Commands.{ReportEnds, ReportsOver, RefusedOver};
 ghost use Rattle.electrictest.specs.declared.words.Command.TheVariants as command;
 ghost use Rattle.electrictest.specs.Loads.{IsSuite};
@@ -102,6 +103,7 @@ pub fn order_for<D: Depot, L: Ledger>(
     ensures reports { IfOk result (λ r. let told = (D.shown depot.old).told in
         ReportsOver told ask.now loaded.now r.passed r.text steps.old steps.new) }
     ensures refused { IfErr result (λ s. RefusedOver (D.shown depot.old).told ask.now loaded.now s) }
+    ensures form { IfOk result (λ r. MayReport ask.now.command r.passed) }
     ensures ends { IfErr result (λ s.
         ReportEnds ask.now s (D.shown depot.old) (D.shown depot.new)) }
 {

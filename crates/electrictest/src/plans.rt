@@ -2,6 +2,7 @@
 
 ghost use Rattle.std.specs.Prelude.{◌≡◌, ◌<◌, ◌≤◌, ℕ, Ok, IfOk, IfErr};
 ghost use Rattle.schedule_plan.specs.Plans.{HasUnits};
+ghost use Rattle.electrictest.specs.Causes.{MayReport};
 ghost use Rattle.electrictest.specs.Commands.{ReportEnds, ReportsOver, RefusedOver};
 ghost use Rattle.electrictest.specs.declared.words.Command.TheVariants as command;
 ghost use Rattle.electrictest.specs.Loads.{IsSuite};
@@ -55,6 +56,7 @@ pub fn plan_for<D: Depot>(
     ensures reports { (steps : ℕ) → IfOk result (λ r. let told = (D.shown depot.old).told in
         ReportsOver told ask.now loaded.now r.passed r.text steps steps) }
     ensures refused { IfErr result (λ s. RefusedOver (D.shown depot.old).told ask.now loaded.now s) }
+    ensures form { IfOk result (λ r. MayReport ask.now.command r.passed) }
     ensures ends { IfErr result (λ s.
         ReportEnds ask.now s (D.shown depot.old) (D.shown depot.new)) }
 {

@@ -6,6 +6,7 @@ ghost use Rattle.run_core.specs.Run.{history};
 ghost use Rattle.worker_pool.specs.Faults.{IsPlanFault};
 ghost use Rattle.worker_pool.specs.Plans.{units_of};
 ghost use Rattle.jvm_model.specs.State.{test_at};
+ghost use Rattle.electrictest.specs.Causes.{MayReport};
 ghost use Rattle.electrictest.specs.Commands.{ReportEnds, ReportsOver, RefusedOver};
 ghost use Rattle.electrictest.specs.declared.words.Command.TheVariants as command;
 ghost use Rattle.electrictest.specs.declared.status.OverFault.TheVariants as over_fault;
@@ -247,6 +248,7 @@ pub fn run_for<R: Threads + Wait + Sync, D: Depot, G: Gate + Sync, L: Ledger>(
     ensures reports { IfOk result (λ r. let told = (D.shown depot.old).told in
         ReportsOver told ask.now loaded.now r.passed r.text steps.old steps.new) }
     ensures refused { IfErr result (λ s. RefusedOver (D.shown depot.old).told ask.now loaded.now s) }
+    ensures form { IfOk result (λ r. MayReport ask.now.command r.passed) }
     ensures ends { IfErr result (λ s.
         ReportEnds ask.now s (D.shown depot.old) (D.shown depot.new)) }
 {

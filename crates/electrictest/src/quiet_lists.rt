@@ -2,6 +2,7 @@
 
 ghost use Rattle.std.specs.Prelude.{◌≡◌, ℕ, Option, Ok, IfOk, IfErr};
 ghost use Rattle.outside.specs.Depot.{Files, DepotView};
+ghost use Rattle.electrictest.specs.Causes.{MayReport};
 ghost use Rattle.electrictest.specs.Commands.{ReportEnds, ReportsOver, RefusedOver};
 ghost use Rattle.electrictest.specs.declared.words.Command.TheVariants as command;
 ghost use Rattle.electrictest.specs.Words.{Ask};
@@ -19,6 +20,8 @@ pub fn quiet_for(alloc: Global, loaded: &Loaded) -> Result<Report, Status>
         IfOk result (λ r. ReportsOver told a loaded.now r.passed r.text steps steps) }
     ensures refused { (told : Option Files) (a : Ask) →
         IfErr result (λ s. RefusedOver told a loaded.now s) }
+    ensures form { (a : Ask) → a.command ≡ Ok command.Quiet →
+        IfOk result (λ r. MayReport a.command r.passed) }
     ensures ends { (a : Ask) (depot : DepotView) → IfErr result (λ s. ReportEnds a s depot depot) }
 {
     let text = quiet_text(alloc, &loaded.checked)?;

@@ -5,7 +5,7 @@ ghost use Rattle.outside.specs.Depot.{FailedAt};
 ghost use Rattle.dep_record.specs.RecordReading.{said_in};
 ghost use Rattle.dep_record.specs.RecordText.{said};
 ghost use Rattle.impact_pick.specs.Form.{fits_prints};
-ghost use Rattle.electrictest.specs.Commands.{Fails, IsProperRefusal};
+ghost use Rattle.electrictest.specs.Commands.{Fails, IsRecordRefusal};
 ghost use Rattle.electrictest.specs.Records.{Gives, nothing, says};
 ghost use Rattle.electrictest.specs.Records as records;
 
@@ -60,7 +60,7 @@ fn record_bytes<D: Depot>(alloc: Global, depot: &mut D, name: &Text) -> Result<T
 // What the bytes of a record say.
 fn record_of(alloc: Global, bytes: &[u8]) -> Result<Record, Status>
     ensures gives { Gives said result (records.said_answer (said_in bytes.now)) }
-    ensures proper { IfErr result IsProperRefusal }
+    ensures proper { IfErr result IsRecordRefusal }
 {
     match read_record(alloc, bytes) {
         Ok(record) => Ok(record),
@@ -72,7 +72,7 @@ fn record_of(alloc: Global, bytes: &[u8]) -> Result<Record, Status>
 // That a record of version 2 has as many classes as the suite.
 fn classes_fit(loaded: &Loaded, kept: &Record) -> Result<(), Status>
     ensures gives { Gives nothing result (records.classes_fit loaded.now kept.now.more) }
-    ensures proper { IfErr result IsProperRefusal }
+    ensures proper { IfErr result IsRecordRefusal }
     ensures classes { IfOk result (λ _. IfSome kept.now.more (λ m.
         length m.classes ≡ length loaded.now.prints.classes)) }
 {
@@ -87,7 +87,7 @@ fn classes_fit(loaded: &Loaded, kept: &Record) -> Result<(), Status>
 // That a record has as many tests and classes as the suite.
 fn counts_fit(loaded: &Loaded, kept: &Record) -> Result<(), Status>
     ensures gives { Gives nothing result (records.counts_fit loaded.now (said kept.now)) }
-    ensures proper { IfErr result IsProperRefusal }
+    ensures proper { IfErr result IsRecordRefusal }
     ensures units { IfOk result (λ _. length kept.now.units ≡ length loaded.now.checked.tests) }
     ensures classes { IfOk result (λ _. IfSome kept.now.more (λ m.
         length m.classes ≡ length loaded.now.prints.classes)) }
@@ -102,7 +102,7 @@ fn counts_fit(loaded: &Loaded, kept: &Record) -> Result<(), Status>
 #[tactic(auto, unfolding(crate::specs::Records::record_fits))]
 fn record_fits(loaded: &Loaded, kept: &Record) -> Result<(), Status>
     ensures gives { Gives nothing result (records.record_fits loaded.now (said kept.now)) }
-    ensures proper { IfErr result IsProperRefusal }
+    ensures proper { IfErr result IsRecordRefusal }
     ensures units { IfOk result (λ _. length kept.now.units ≡ length loaded.now.checked.tests) }
 {
     if kept.digest.as_slice() != loaded.prints.digest.as_slice() {
@@ -117,7 +117,7 @@ fn record_fits(loaded: &Loaded, kept: &Record) -> Result<(), Status>
 // That a record is in version 2, and of the suite's text.
 fn suite_fits(loaded: &Loaded, kept: &Record) -> Result<(), Status>
     ensures gives { Gives nothing result (records.suite_fits loaded.now kept.now.more) }
-    ensures proper { IfErr result IsProperRefusal }
+    ensures proper { IfErr result IsRecordRefusal }
     ensures newer { IfOk result (λ _. IsSome kept.now.more) }
 {
     match &kept.more {
@@ -136,7 +136,7 @@ fn suite_fits(loaded: &Loaded, kept: &Record) -> Result<(), Status>
 #[tactic(auto, unfolding(crate::specs::Records::earlier_fits))]
 fn earlier_fits(loaded: &Loaded, kept: &Record) -> Result<(), Status>
     ensures gives { Gives nothing result (records.earlier_fits loaded.now (said kept.now)) }
-    ensures proper { IfErr result IsProperRefusal }
+    ensures proper { IfErr result IsRecordRefusal }
     ensures fits { IfOk result (λ _. fits_prints kept.now.more loaded.now.prints ≡ true) }
 {
     suite_fits(loaded, kept)?;

@@ -43,8 +43,8 @@ pub fn budget_of(loaded: &Loaded, test: u32) -> u64
     }
 }
 
-// How a list of tests is answered that is refused.
-fn list_status(alloc: Global, loaded: &Loaded, fault: RunFault) -> Result<Status, NoMemory>
+/// How a list of tests is answered that is refused.
+pub fn list_status(alloc: Global, loaded: &Loaded, fault: RunFault) -> Result<Status, NoMemory>
     ensures { IfOk result (λ s. s ≡ tests.list_status loaded.now fault) }
 {
     match fault {

@@ -4,7 +4,7 @@ ghost use Rattle.std.specs.Prelude.{◌≡◌, ◌<◌, ◌≤◌, All, length, 
 ghost use Rattle.std.specs.List.{range_with_len};
 ghost use Rattle.std.specs.Str.{bytes_eq};
 ghost use Rattle.electrictest.specs.Records.{Gives};
-ghost use Rattle.electrictest.specs.Commands.{IsProperRefusal};
+ghost use Rattle.electrictest.specs.Commands.{IsNameRefusal};
 ghost use Rattle.electrictest.specs.Selections.{IsTestOf};
 ghost use Rattle.electrictest.specs.Selections as selection;
 
@@ -31,7 +31,7 @@ fn test_of(alloc: Global, names: &Names, name: &[u8]) -> Result<u32, Status>
     requires few { length names.now.tests ≤ 1024 }
     ensures gives { Gives (λ t. t) result (selection.test_of names.now name.now) }
     ensures test { IfOk result (IsTestOf names.now) }
-    ensures proper { IfErr result IsProperRefusal }
+    ensures proper { IfErr result IsNameRefusal }
 {
     match place_of(names.tests.as_slice(), name) {
         Some(place) => Ok(place as u32 + 1),
@@ -48,7 +48,7 @@ pub fn ordered(alloc: Global, names: &Names, word: &[u8]) -> Result<Items<u32>, 
     requires few { length names.now.tests ≤ 1024 }
     ensures gives { Gives (λ ts. ts) result (selection.ordered names.now word.now) }
     ensures tests { IfOk result (All (IsTestOf names.now)) }
-    ensures proper { IfErr result IsProperRefusal }
+    ensures proper { IfErr result IsNameRefusal }
 {
     let mut tests = Items::new(alloc);
     for name in word.split(|b| *b == b',') {
@@ -77,7 +77,7 @@ pub fn selected(alloc: Global, names: &Names, word: &[u8]) -> Result<Items<u32>,
     requires few { length names.now.tests ≤ 1024 }
     ensures gives { Gives (λ ts. ts) result (selection.selected names.now word.now) }
     ensures tests { IfOk result (All (IsTestOf names.now)) }
-    ensures proper { IfErr result IsProperRefusal }
+    ensures proper { IfErr result IsNameRefusal }
 {
     if word == b"all".as_slice() {
         let tests = all_tests(alloc, names.tests.len() as u32)?;

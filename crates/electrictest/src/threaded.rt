@@ -1,17 +1,22 @@
 //! The top call for all commands.
 
 ghost use Rattle.std.specs.Prelude.{◌≡◌, ◌≤◌, None, IfOk, IfErr, IfSome};
-ghost use Rattle.electrictest.specs.Commands.{called, HasForm, ReportEnds, Reported, ReportsOver, RefusedOver, Taken, Served, Ends};
+ghost use Rattle.electrictest.specs.Causes.{MayReport};
+ghost use Rattle.electrictest.specs.Commands.{called, ReportEnds, Reported, ReportsOver, RefusedOver, Taken, Served, Ends};
+ghost use Rattle.electrictest.specs.Complete.{Complete};
 ghost use Rattle.electrictest.specs.EagerForms.{EagerAnswer};
 ghost use Rattle.electrictest.specs.EarlierRecords.{EarlierAnswer};
+ghost use Rattle.electrictest.specs.GeneratedAnswers.{GeneratedAnswer, Summed};
 ghost use Rattle.electrictest.specs.Loads.{IsSuite};
+ghost use Rattle.electrictest.specs.OwnCones.{OwnConesAnswer, OwnManifestAnswer};
 ghost use Rattle.electrictest.specs.OwnLists.{DetectedOrderAnswer, OwnOrderAnswer};
 ghost use Rattle.electrictest.specs.OwnPools.{DetectedAnswer, OwnAnswer};
 ghost use Rattle.electrictest.specs.Replies as reply;
-ghost use Rattle.electrictest.specs.Words.{threaded, refusal_of, IsOverSuite};
+ghost use Rattle.electrictest.specs.Words.{threaded, refusal_of, IsOverSuite, OfGenerated};
 
 use crate::asks::Ask;
 use crate::commands::{answered, report_for};
+use crate::cone_runs::cones_for;
 use crate::generated::summary_for;
 use crate::loading::load_for;
 use crate::pool_runs::run_for;
@@ -45,12 +50,16 @@ fn text_for<R: Threads + Wait + Sync, D: Depot, G: Gate + Sync, L: Ledger>(
         ReportsOver told ask.now loaded.now r.passed r.text steps.old steps.new) }
     ensures refused { IfErr result (λ s.
         RefusedOver (D.shown depot.old).told ask.now loaded.now s) }
+    ensures form { IfOk result (λ r. MayReport ask.now.command r.passed) }
     ensures ends { IfErr result (λ s.
         ReportEnds ask.now s (D.shown depot.old) (D.shown depot.new)) }
 {
     match ask.command() {
         Ok(Command::Run { workers, log }) => {
             run_for(rt, alloc, loaded, ask, workers, log, depot, gate, steps)
+        }
+        Ok(Command::Cones { workers }) => {
+            cones_for(rt, alloc, loaded, ask, workers, depot, gate, steps)
         }
         _ => report_for(alloc, loaded, ask, depot, steps),
     }
@@ -72,9 +81,11 @@ fn suite_text<R: Threads + Wait + Sync, D: Depot, G: Gate + Sync, L: Ledger>(
         Reported files ask.now r.passed r.text steps.old steps.new)) }
     ensures refused { IfErr result (λ s. IfSome (D.shown depot.old).told (λ files.
         reply.Unreported files ask.now s)) }
-    ensures form { IfOk result (λ _. HasForm ask.now) }
+    ensures form { IfOk result (λ r. MayReport ask.now.command r.passed) }
     ensures ends { IfErr result (λ s.
         ReportEnds ask.now s (D.shown depot.old) (D.shown depot.new)) }
+    ensures generated { let depot_now = D.shown depot.new in OfGenerated ask.now.command (λ k n.
+        Summed k n result (D.shown depot.old) depot_now steps.old steps.new) }
 {
     let loaded = load_for(alloc, ask, depot)?;
     text_for(rt, alloc, &loaded, ask, depot, gate, steps)
@@ -95,9 +106,11 @@ fn asked_text<R: Threads + Wait + Sync, D: Depot, G: Gate + Sync, L: Ledger>(
         Reported files ask.now r.passed r.text steps.old steps.new)) }
     ensures refused { IfErr result (λ s. IfSome (D.shown depot.old).told (λ files.
         reply.Unreported files ask.now s)) }
-    ensures form { IfOk result (λ _. HasForm ask.now) }
+    ensures form { IfOk result (λ r. MayReport ask.now.command r.passed) }
     ensures ends { IfErr result (λ s.
         ReportEnds ask.now s (D.shown depot.old) (D.shown depot.new)) }
+    ensures generated { let depot_now = D.shown depot.new in OfGenerated ask.now.command (λ k n.
+        Summed k n result (D.shown depot.old) depot_now steps.old steps.new) }
 {
     match ask.command() {
         Ok(Command::Gen { tests, workers }) => {
@@ -112,10 +125,11 @@ fn asked_text<R: Threads + Wait + Sync, D: Depot, G: Gate + Sync, L: Ledger>(
 ///
 /// - `run SUITE RECORD N SEL` runs the closure of the selection, by the record, on N workers, and writes the report;
 /// - `run SUITE RECORD N SEL log` writes the history of claims and posts behind it;
+/// - `cones SUITE RECORD N SEL` runs each test of the selection alone after what it needs, on N workers, and writes the report;
 /// - `gen K N` runs a generated suite of K tests on N workers and writes its summary; it reads no file of the depot.
 ///
-/// A worker calls the gate before each test. The call waits for its threads. `Over` comes for such a run only where a test
-/// passes its budget after the tests that the status lists.
+/// A worker calls the gate before each test. The call waits for its threads. `Over` comes for `run` only where a test passes its
+/// budget after the tests that the status lists, and for `cones` exactly where a selected test gives nothing.
 pub fn electric<R: Threads + Wait + Sync, D: Depot, S: Sink, G: Gate + Sync, L: Ledger>(
     rt: &R,
     alloc: Global,
@@ -151,6 +165,16 @@ pub fn electric<R: Threads + Wait + Sync, D: Depot, S: Sink, G: Gate + Sync, L: 
         let asked = called (threaded words.now) (D.shown depot.old) depot_now steps.old steps.new in
         IfSome (D.shown depot.old).told (λ files.
         DetectedOrderAnswer (asked files) result (S.shown sink.old) (S.shown sink.new)) }
+    // With the suite's own record, `detect`'s text too, each test alone is answered by what it does in the suite's own order, and
+    // the manifest compares with that.
+    ensures own_cones { let depot_now = D.shown depot.new in
+        let asked = called (threaded words.now) (D.shown depot.old) depot_now steps.old steps.new in
+        IfSome (D.shown depot.old).told (λ files.
+        OwnConesAnswer (asked files) result (S.shown sink.old) (S.shown sink.new)) }
+    ensures own_manifest { let depot_now = D.shown depot.new in
+        let asked = called (threaded words.now) (D.shown depot.old) depot_now steps.old steps.new in
+        IfSome (D.shown depot.old).told (λ files.
+        OwnManifestAnswer (asked files) result (S.shown sink.old) (S.shown sink.new)) }
     // With the record of an earlier state each test that an impact doesn't name has the report lines that it had.
     ensures earlier { let depot_now = D.shown depot.new in
         let asked = called (threaded words.now) (D.shown depot.old) depot_now steps.old steps.new in
@@ -158,6 +182,15 @@ pub fn electric<R: Threads + Wait + Sync, D: Depot, S: Sink, G: Gate + Sync, L: 
         EarlierAnswer (asked files) result (S.shown sink.old) (S.shown sink.new)) }
     // An eager form is over the suite without its quiet initialisers, in which each test ends as in the suite as it is.
     ensures eager { IfSome (D.shown depot.old).told (λ files. EagerAnswer files (threaded words.now)) }
+    // Where what is asked is accepted, and neither the depot nor the sink failed, nothing is refused.
+    ensures complete { let depot_now = D.shown depot.new in
+        let asked = called (threaded words.now) (D.shown depot.old) depot_now steps.old steps.new in
+        IfSome (D.shown depot.old).told (λ files.
+        Complete (asked files) result (S.shown sink.old) (S.shown sink.new)) }
+    // A generated suite is read of no depot, whatever it tells.
+    ensures generated { let depot_now = D.shown depot.new in
+        let answer = GeneratedAnswer (threaded words.now) result (D.shown depot.old) depot_now in
+        answer steps.old steps.new (S.shown sink.old) (S.shown sink.new) }
     // What the sink took, whatever the depot tells.
     ensures taken { Taken result (S.shown sink.old) (S.shown sink.new) }
     // When the words, a depot or a sink are answered, whatever the depot tells.

@@ -2,7 +2,8 @@
 
 ghost use Rattle.std.specs.Prelude.{◌≡◌, Option, Ok, IfOk, IfErr};
 ghost use Rattle.outside.specs.Depot.{Files, DepotView};
-ghost use Rattle.electrictest.specs.Commands.{HasForm, ReportEnds, ReportsOver, RefusedOver};
+ghost use Rattle.electrictest.specs.Causes.{MayReport};
+ghost use Rattle.electrictest.specs.Commands.{ReportEnds, ReportsOver, RefusedOver};
 ghost use Rattle.electrictest.specs.declared.words.Command.TheVariants as command;
 ghost use Rattle.electrictest.specs.Running.{RunRefused, WholeReports};
 ghost use Rattle.electrictest.specs.Words.{Ask};
@@ -41,7 +42,9 @@ pub fn whole_for<L: Ledger>(
         ReportsOver told a loaded.now r.passed r.text steps.old steps.new) }
     ensures refused { (told : Option Files) (a : Ask) → a.command ≡ Ok command.Whole →
         IfErr result (λ s. RefusedOver told a loaded.now s) }
-    ensures ends { (a : Ask) (depot : DepotView) → HasForm a →
+    ensures form { (a : Ask) → a.command ≡ Ok command.Whole →
+        IfOk result (λ r. MayReport a.command r.passed) }
+    ensures ends { (a : Ask) (depot : DepotView) → a.command ≡ Ok command.Whole →
         IfErr result (λ s. ReportEnds a s depot depot) }
 {
     whole_report(alloc, loaded, steps)

@@ -24,6 +24,10 @@ pub enum Command {
     Plan { workers: u32 },
     /// `impact SUITE RECORD`: the tests that changed class files concern.
     Impact,
+    /// `cones SUITE RECORD N SEL`: each selected test alone after what it needs, on so many workers.
+    Cones { workers: u32 },
+    /// `manifest SUITE RECORD`: what becomes of each test without one of its writers.
+    Manifest,
     /// `gen K N`: a generated suite of so many tests on so many workers.
     Gen { tests: u32, workers: u32 },
     /// `quiet SUITE`: the classes of the suite whose initialisers can be taken out.
@@ -126,7 +130,7 @@ fn gen_of(b: &[u8], c: &[u8]) -> Result<Command, WordsFault>
     }
 }
 
-// `deps SUITE json`, `impact SUITE RECORD`, or `gen K N`.
+// `deps SUITE json`, `impact SUITE RECORD`, `manifest SUITE RECORD`, or `gen K N`.
 fn three_words(a: &[u8], b: &[u8], c: &[u8]) -> Result<Command, WordsFault>
     ensures asks { result ≡ words_ask.three_words a.now b.now c.now }
     ensures workers { words_ask.HasWorkers result }
@@ -135,6 +139,8 @@ fn three_words(a: &[u8], b: &[u8], c: &[u8]) -> Result<Command, WordsFault>
         Ok(Command::Deps { json: true })
     } else if is_of_suite(a, b"impact", b) && is_depot_name(c) {
         Ok(Command::Impact)
+    } else if is_of_suite(a, b"manifest", b) && is_depot_name(c) {
+        Ok(Command::Manifest)
     } else if a == b"gen".as_slice() {
         gen_of(b, c)
     } else {
@@ -165,6 +171,17 @@ fn plan_of(c: &[u8], d: &[u8]) -> Result<Command, WordsFault>
     }
 }
 
+// `cones SUITE RECORD N SEL`, where the first word is that.
+fn cones_in(c: &[u8], d: &[u8]) -> Result<Command, WordsFault>
+    ensures asks { result ≡ words_ask.cones_in c.now d.now }
+    ensures workers { words_ask.HasWorkers result }
+{
+    match count_up_to(MOST_WORKERS, d) {
+        Some(workers) if is_depot_name(c) => Ok(Command::Cones { workers }),
+        _ => Err(WordsFault::NoForm),
+    }
+}
+
 // `run SUITE RECORD N SEL`, where the first word is that, with `log` behind it or without.
 fn run_in(c: &[u8], d: &[u8], e: &[u8], log: bool) -> Result<Command, WordsFault>
     ensures asks { result ≡ words_ask.run_in c.now d.now e.now log }
@@ -176,13 +193,15 @@ fn run_in(c: &[u8], d: &[u8], e: &[u8], log: bool) -> Result<Command, WordsFault
     }
 }
 
-// `plan SUITE RECORD N SEL`, or `run SUITE RECORD N SEL`.
+// `plan SUITE RECORD N SEL`, `cones SUITE RECORD N SEL`, or `run SUITE RECORD N SEL`.
 fn five_words(a: &[u8], b: &[u8], c: &[u8], d: &[u8], e: &[u8]) -> Result<Command, WordsFault>
     ensures asks { result ≡ words_ask.five_words a.now b.now c.now d.now e.now }
     ensures workers { words_ask.HasWorkers result }
 {
     if is_of_suite(a, b"plan", b) {
         plan_of(c, d)
+    } else if is_of_suite(a, b"cones", b) {
+        cones_in(c, d)
     } else if is_of_suite(a, b"run", b) {
         run_in(c, d, e, false)
     } else {
@@ -275,7 +294,7 @@ fn waits(command: Command) -> bool
     ensures { result ≡ words_ask.waits command }
 {
     match command {
-        Command::Run { .. } | Command::Gen { .. } => true,
+        Command::Run { .. } | Command::Cones { .. } | Command::Gen { .. } => true,
         _ => false,
     }
 }

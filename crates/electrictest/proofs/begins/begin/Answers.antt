@@ -17,8 +17,11 @@ returns-in_err-tests-clause-refused g c =
 
 pub returns-in_err-tests-clause-ends : goal.returns-in_err-tests-clause-ends
 returns-in_err-tests-clause-ends g c =
+    let a = c.args.ask.now in
+    let l = c.args.loaded.now in
+    let n = c.requires.named in
     let p = err_from_is_err_and c.from_residual.result c.from_residual.ensures.1 in
-    rw (p.1, p.2) (unnamed_ends c.args.ask.now c.in_err-tests.field-0.0 (g.D.Depot.shown c.args.depot.now) c.requires.named.1.formed c.in_err-tests.ensures.proper)
+    rw (p.1, p.2) (unnamed_ends a l n.0 c.in_err-tests.field-0.0 (g.D.Depot.shown c.args.depot.now) n.1.by (named_gives (Err c.in_err-tests.field-0.0) (named_by a.command a.words l) n.0 n.1.by c.in_err-tests.ensures.gives) c.in_err-tests.ensures.proper)
 
 pub returns-in_err-begun-clause-refused : goal.returns-in_err-begun-clause-refused
 returns-in_err-begun-clause-refused g c =
@@ -32,7 +35,7 @@ returns-in_err-begun-clause-refused g c =
 pub returns-in_err-begun-clause-ends : goal.returns-in_err-begun-clause-ends
 returns-in_err-begun-clause-ends g c =
     let p = err_from_is_err_and c.from_residual-in_err-begun.result c.from_residual-in_err-begun.ensures.1 in
-    rw (p.1, p.2) (not_begun_ends c.args.ask.now c.record.result.now c.in_err-begun.field-0.0 (g.D.Depot.shown c.args.depot.now) (g.D.Depot.shown c.begin_with.new.depot) c.requires.named.1.formed c.in_err-begun.ensures.fails)
+    rw (p.1, p.2) (not_begun_ends c.args.ask.now c.args.loaded.now c.requires.named.0 c.record.result.now c.in_err-begun.field-0.0 (g.D.Depot.shown c.args.depot.now) (g.D.Depot.shown c.begin_with.new.depot) c.requires.named.1.by c.in_err-begun.ensures.fails)
 
 pub returns-clause-begins : goal.returns-clause-begins
 returns-clause-begins g c =

@@ -1,3 +1,4 @@
+use Rattle.electrictest.proofs.AskedFor.{served_over}
 use Rattle.electrictest.proofs.LoadLaws.{reports_all, refuses_all, ends_all}
 use Rattle.electrictest.proofs.commands.reported.Goals as goal
 
@@ -12,3 +13,6 @@ returns-clause-refused g c =
 pub returns-clause-ends : goal.returns-clause-ends
 returns-clause-ends g c =
     ends_all c.args.ask.now (g.D.Depot.shown c.args.depot.now) (g.D.Depot.shown c.load_for.new.depot) (g.D.Depot.shown c.report_for.new.depot) c.load_for.ensures.faults c.report_for.result c.report_for.ensures.ends
+
+pub load_for-requires : goal.load_for-requires
+load_for-requires g c = record { over = served_over c.args.ask.now.command c.requires.served }

@@ -19,7 +19,7 @@ returns-in_err-record-clause-refused g c =
 pub returns-in_err-record-clause-ends : goal.returns-in_err-record-clause-ends
 returns-in_err-record-clause-ends g c =
     let p = err_from_is_err_and c.from_residual.result c.from_residual.ensures.1 in
-    rw (p.1, p.2) (not_begun_ends c.args.ask.now c.record.result.now c.in_err-record.field-0.0 _ _ (formed_as command.Impact c.args.ask.now c.requires.asks) c.in_err-record.ensures.fails)
+    rw (p.1, p.2) (not_begun_ends c.args.ask.now c.args.loaded.now (Ok []) c.record.result.now c.in_err-record.field-0.0 _ _ (ap (λ o. named_by o c.args.ask.now.words c.args.loaded.now) c.requires.asks) c.in_err-record.ensures.fails)
 
 pub returns-in_err-text-clause-refused : goal.returns-in_err-text-clause-refused
 returns-in_err-text-clause-refused g c =
@@ -33,3 +33,6 @@ returns-clause-reports g c = λ steps.
     let r = c.in_ok-record.record in
     impact_reports _ a l r c.in_ok-text.text steps c.requires.asks
     (begins _ a l (Ok []) [] c.record.result.now (nameless r) (ap fits_for c.requires.asks) (ap (λ o. named_by o a.words l) c.requires.asks) refl c.record.ensures c.in_ok-record.ensures.gives) c.in_ok-record.ensures.fits c.in_ok-text.ensures
+
+pub returns-clause-form : goal.returns-clause-form
+returns-clause-form g c = formed_as command.Impact c.args.ask.now c.requires.asks

@@ -3,13 +3,14 @@ use Rattle.std.proofs.lemmas.Result.{IfOk-weaker, IfErr-weaker}
 use Rattle.electrictest.specs.declared.reports.Report.{Report}
 use Rattle.electrictest.specs.declared.status.Status.{Status}
 use Rattle.electrictest.specs.declared.words.Command.TheVariants as command
+use Rattle.electrictest.specs.Causes.{MayReport}
 use Rattle.electrictest.specs.Commands.{ReportEnds, ReportsOver, RefusedOver}
 use Rattle.electrictest.specs.Orders.{Reports}
 use Rattle.electrictest.specs.Records.{beginning}
 use Rattle.electrictest.specs.Running.{OrderRefused}
 use Rattle.electrictest.specs.Selections.{ordered}
 use Rattle.electrictest.specs.Words.{word_at}
-use Rattle.electrictest.proofs.AskedFor.{formed_as, named_as}
+use Rattle.electrictest.proofs.AskedFor.{may_report, named_as}
 use Rattle.electrictest.proofs.OrderLaws.{order_reports, order_refused, order_ends}
 use Rattle.electrictest.proofs.orders.order_for.Goals as goal
 
@@ -40,6 +41,16 @@ returns-clause-refused g c =
     IfErr-weaker c.order_of.result (λ (s : Status). OrderRefused l b s) (λ (s : Status). RefusedOver told a l s)
     (λ s h. order_refused told a l b s c.requires.asks c.in_ok-begun.ensures.begins c.in_ok-begun.ensures.suite h) c.order_of.ensures.refused
 
+pub returns-clause-form : goal.returns-clause-form
+returns-clause-form g c =
+    let a = c.args.ask.now in
+    let l = c.args.loaded.now in
+    let b = beginning c.in_ok-begun.begun in
+    let begun = c.args.steps.now in
+    let now = c.order_of.new.steps in
+    IfOk-weaker c.order_of.result (λ (r : Report). Reports l b r.passed r.text begun now) (λ (r : Report). MayReport a.command r.passed)
+    (λ r h. may_report a.command r.passed (command.Order, c.requires.asks, refl)) c.order_of.ensures.reports
+
 pub returns-clause-ends : goal.returns-clause-ends
 returns-clause-ends g c =
     let a = c.args.ask.now in
@@ -48,4 +59,4 @@ returns-clause-ends g c =
     let old = g.D.Depot.shown c.args.depot.now in
     let new = g.D.Depot.shown c.begin.new.depot in
     IfErr-weaker c.order_of.result (λ (s : Status). OrderRefused l b s) (λ (s : Status). ReportEnds a s old new)
-    (λ s h. order_ends a l b s old new (formed_as command.Order a c.requires.asks) h) c.order_of.ensures.refused
+    (λ s h. order_ends a l b s old new c.requires.asks h) c.order_of.ensures.refused

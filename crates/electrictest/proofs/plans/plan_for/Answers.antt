@@ -4,7 +4,7 @@ use Rattle.electrictest.specs.declared.words.Command.TheVariants as command
 use Rattle.electrictest.specs.Records.{beginning}
 use Rattle.electrictest.specs.Selections.{selected}
 use Rattle.electrictest.specs.Words.{word_at}
-use Rattle.electrictest.proofs.AskedFor.{named_as}
+use Rattle.electrictest.proofs.AskedFor.{formed_as, named_as}
 use Rattle.electrictest.proofs.OrderLaws.{plan_reports}
 use Rattle.electrictest.proofs.PlanLaws.{unplanned}
 use Rattle.electrictest.proofs.plans.plan_for.Goals as goal
@@ -24,3 +24,6 @@ returns-in_err-text-clause-refused g c =
 pub returns-clause-reports : goal.returns-clause-reports
 returns-clause-reports g c = λ steps.
     plan_reports _ c.args.ask.now c.args.workers c.args.loaded.now (beginning c.in_ok-begun.begun) c.in_ok-text.text steps c.requires.asks c.in_ok-begun.ensures.begins c.in_ok-text.ensures
+
+pub returns-clause-form : goal.returns-clause-form
+returns-clause-form g c = formed_as (command.Plan c.args.workers) c.args.ask.now c.requires.asks

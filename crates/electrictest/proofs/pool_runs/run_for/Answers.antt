@@ -3,12 +3,13 @@ use Rattle.std.proofs.lemmas.Result.{IfOk-weaker, IfErr-weaker}
 use Rattle.electrictest.specs.declared.reports.Report.{Report}
 use Rattle.electrictest.specs.declared.status.Status.{Status}
 use Rattle.electrictest.specs.declared.words.Command.TheVariants as command
+use Rattle.electrictest.specs.Causes.{MayReport}
 use Rattle.electrictest.specs.Commands.{ReportEnds, ReportsOver, RefusedOver}
 use Rattle.electrictest.specs.PoolRuns.{PoolReports, PoolRefused}
 use Rattle.electrictest.specs.Records.{beginning}
 use Rattle.electrictest.specs.Selections.{selected}
 use Rattle.electrictest.specs.Words.{word_at}
-use Rattle.electrictest.proofs.AskedFor.{formed_as, named_as}
+use Rattle.electrictest.proofs.AskedFor.{may_report, named_as}
 use Rattle.electrictest.proofs.PoolReplies.{pool_reports, pool_refused, pool_ends}
 use Rattle.electrictest.proofs.pool_runs.run_for.Goals as goal
 
@@ -43,6 +44,18 @@ returns-clause-refused g c =
     IfErr-weaker c.pool_of.result (λ (s : Status). PoolRefused l b s) (λ (s : Status). RefusedOver told a l s)
     (λ s h. pool_refused told a workers log l b s c.requires.asks c.in_ok-begun.ensures.begins c.in_ok-begun.ensures.suite h) c.pool_of.ensures.refused
 
+pub returns-clause-form : goal.returns-clause-form
+returns-clause-form g c =
+    let a = c.args.ask.now in
+    let l = c.args.loaded.now in
+    let workers = c.args.workers in
+    let log = c.args.log in
+    let b = beginning c.in_ok-begun.begun in
+    let begun = c.args.steps.now in
+    let now = c.pool_of.new.steps in
+    IfOk-weaker c.pool_of.result (λ (r : Report). PoolReports l b workers log r.passed r.text begun now) (λ (r : Report). MayReport a.command r.passed)
+    (λ r h. may_report a.command r.passed (command.Run workers log, c.requires.asks, refl)) c.pool_of.ensures.reports
+
 pub returns-clause-ends : goal.returns-clause-ends
 returns-clause-ends g c =
     let a = c.args.ask.now in
@@ -51,4 +64,4 @@ returns-clause-ends g c =
     let old = g.D.Depot.shown c.args.depot.now in
     let new = g.D.Depot.shown c.begin.new.depot in
     IfErr-weaker c.pool_of.result (λ (s : Status). PoolRefused l b s) (λ (s : Status). ReportEnds a s old new)
-    (λ s h. pool_ends a l b s old new (formed_as (command.Run c.args.workers c.args.log) a c.requires.asks) h) c.pool_of.ensures.refused
+    (λ s h. pool_ends a l b s old new (command.Run c.args.workers c.args.log, c.requires.asks, refl) h) c.pool_of.ensures.refused

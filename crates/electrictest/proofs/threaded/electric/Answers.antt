@@ -1,11 +1,14 @@
 use Rattle.electrictest.specs.Commands.{called}
 use Rattle.electrictest.specs.Words.{threaded}
-use Rattle.electrictest.proofs.AskedFor.{threaded_impact}
+use Rattle.electrictest.proofs.AskedFor.{threaded_impact, threaded_over}
 use Rattle.electrictest.proofs.OwnAnswers.{own_answer}
+use Rattle.electrictest.proofs.OwnConeLaws.{own_cones_answer, own_manifest_answer}
 use Rattle.electrictest.proofs.OwnOrderLaws.{own_order_answer}
+use Rattle.electrictest.proofs.CompleteLaws.{complete_answer}
 use Rattle.electrictest.proofs.DetectedLaws.{detected_answer, detected_order_answer}
 use Rattle.electrictest.proofs.EagerLaws.{told_eager}
 use Rattle.electrictest.proofs.EarlierLaws.{earlier_answer}
+use Rattle.electrictest.proofs.GeneratedAnswers.{generated_by}
 use Rattle.electrictest.proofs.Replying.{for_told, served_by, taken_by, ends_by}
 use Rattle.electrictest.proofs.threaded.electric.Goals as goal
 
@@ -38,6 +41,18 @@ returns-clause-detected_order g c =
     let asked = called (threaded c.args.words.now) old (g.D.Depot.shown c.asked_text-report.new.depot) c.args.steps.now c.asked_text-report.new.steps in
     for_told old.told (λ files. detected_order_answer (asked files) c.answered.result _ _) (returns-clause-served g c)
 
+pub returns-clause-own_cones : goal.returns-clause-own_cones
+returns-clause-own_cones g c =
+    let old = g.D.Depot.shown c.args.depot.now in
+    let asked = called (threaded c.args.words.now) old (g.D.Depot.shown c.asked_text-report.new.depot) c.args.steps.now c.asked_text-report.new.steps in
+    for_told old.told (λ files. own_cones_answer (asked files) c.answered.result _ _) (returns-clause-served g c)
+
+pub returns-clause-own_manifest : goal.returns-clause-own_manifest
+returns-clause-own_manifest g c =
+    let old = g.D.Depot.shown c.args.depot.now in
+    let asked = called (threaded c.args.words.now) old (g.D.Depot.shown c.asked_text-report.new.depot) c.args.steps.now c.asked_text-report.new.steps in
+    for_told old.told (λ files. own_manifest_answer (asked files) c.answered.result _ _) (returns-clause-served g c)
+
 pub returns-clause-earlier : goal.returns-clause-earlier
 returns-clause-earlier g c =
     let old = g.D.Depot.shown c.args.depot.now in
@@ -45,7 +60,18 @@ returns-clause-earlier g c =
     for_told old.told (λ files. earlier_answer (asked files) c.answered.result _ _ (threaded_impact c.args.words.now)) (returns-clause-served g c)
 
 pub returns-clause-eager : goal.returns-clause-eager
-returns-clause-eager g c = told_eager (g.D.Depot.shown c.args.depot.now).told (threaded c.args.words.now)
+returns-clause-eager g c = told_eager (g.D.Depot.shown c.args.depot.now).told (threaded c.args.words.now) (threaded_over c.args.words.now)
+
+pub returns-clause-complete : goal.returns-clause-complete
+returns-clause-complete g c =
+    let old = g.D.Depot.shown c.args.depot.now in
+    let asked = called (threaded c.args.words.now) old (g.D.Depot.shown c.asked_text-report.new.depot) c.args.steps.now c.asked_text-report.new.steps in
+    for_told old.told (λ files. complete_answer (asked files) c.answered.result _ _) (returns-clause-served g c)
+
+pub returns-clause-generated : goal.returns-clause-generated
+returns-clause-generated g c =
+    generated_by c.threaded-ask.result _ _ _ c.answered.result _ _ c.threaded-ask.ensures
+    c.args.steps.now c.asked_text-report.new.steps c.asked_text-report.result c.asked_text-report.ensures.generated c.answered.ensures.reports c.answered.ensures.refuses
 
 pub returns-clause-taken : goal.returns-clause-taken
 returns-clause-taken g c =

@@ -1,3 +1,4 @@
+use Rattle.electrictest.proofs.AskedFor.{of_suite_alone}
 use Rattle.electrictest.proofs.LoadLaws.{reports_all, refuses_all, ends_all}
 use Rattle.electrictest.proofs.threaded.suite_text.Goals as goal
 
@@ -12,3 +13,6 @@ returns-clause-refused g c =
 pub returns-clause-ends : goal.returns-clause-ends
 returns-clause-ends g c =
     ends_all c.args.ask.now (g.D.Depot.shown c.args.depot.now) (g.D.Depot.shown c.load_for.new.depot) (g.D.Depot.shown c.text_for.new.depot) c.load_for.ensures.faults c.text_for.result c.text_for.ensures.ends
+
+pub returns-clause-generated : goal.returns-clause-generated
+returns-clause-generated g c = of_suite_alone _ c.args.ask.now.command c.requires.over

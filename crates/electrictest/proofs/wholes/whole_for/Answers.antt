@@ -1,11 +1,12 @@
-use Rattle.std.proofs.Common.{Ok}
+use Rattle.std.proofs.Common.{Ok, refl}
 use Rattle.std.proofs.lemmas.Result.{IfOk-weaker, IfErr-weaker}
 use Rattle.electrictest.specs.declared.reports.Report.{Report}
 use Rattle.electrictest.specs.declared.status.Status.{Status}
 use Rattle.electrictest.specs.declared.words.Command.TheVariants as command
+use Rattle.electrictest.specs.Causes.{MayReport}
 use Rattle.electrictest.specs.Commands.{ReportEnds, ReportsOver, RefusedOver}
 use Rattle.electrictest.specs.Running.{RunRefused, WholeReports}
-use Rattle.electrictest.proofs.AskedFor.{overs_as}
+use Rattle.electrictest.proofs.AskedFor.{may_report, overs_as}
 use Rattle.electrictest.proofs.Founds.{refused_found, ends_found}
 use Rattle.electrictest.proofs.WholeLaws.{whole_reports}
 use Rattle.electrictest.proofs.wholes.whole_for.Goals as goal
@@ -24,8 +25,16 @@ returns-clause-refused g c = λ told a e.
     IfErr-weaker c.whole_report.result (λ (s : Status). RunRefused l s) (λ (s : Status). RefusedOver told a l s)
     (λ s h. refused_found told a l s (λ files f x. overs_as (Ok command.Whole) files a f e x) h) c.whole_report.ensures.refused
 
+pub returns-clause-form : goal.returns-clause-form
+returns-clause-form g c = λ a e.
+    let l = c.args.loaded.now in
+    let begun = c.args.steps.now in
+    let now = c.whole_report.new.steps in
+    IfOk-weaker c.whole_report.result (λ (r : Report). WholeReports l r.passed r.text begun now) (λ (r : Report). MayReport a.command r.passed)
+    (λ r h. may_report a.command r.passed (command.Whole, e, refl)) c.whole_report.ensures.reports
+
 pub returns-clause-ends : goal.returns-clause-ends
-returns-clause-ends g c = λ a depot formed.
+returns-clause-ends g c = λ a depot e.
     let l = c.args.loaded.now in
     IfErr-weaker c.whole_report.result (λ (s : Status). RunRefused l s) (λ (s : Status). ReportEnds a s depot depot)
-    (λ s h. ends_found a l s depot formed h) c.whole_report.ensures.refused
+    (λ s h. ends_found a l s depot (command.Whole, e, refl) h) c.whole_report.ensures.refused

@@ -1,0 +1,162 @@
+-- What cones and the manifest are answered with the suite's own record.
+use Rattle.std.proofs.Common.{◌≡◌, ℕ, ◌+◌, ◌<◌, ◌≤◌, List, [], ◌∷◌, map, Bool, true, Option, Some, None, Result, Ok, Err, refl, sym, ap, ◌∙◌, subst, inl, inr, arith}
+use Rattle.jvm_model.specs.declared.outcome.Outcome.{Outcome}
+use Rattle.jvm_model.specs.declared.program.Program.{Program}
+use Rattle.jvm_model.specs.Linked.{Linked}
+use Rattle.jvm_model.specs.Suite.{first_over, is_detected, last_outcome, seq}
+use Rattle.order_law.specs.declared.edges.Edge.{Edge}
+use Rattle.order_law.specs.declared.edges.EdgeKind.TheVariants.{Raw}
+use Rattle.order_law.specs.Conflicts.{HasEdge, Member}
+use Rattle.order_law.specs.Histories.{IsTestNumber, touches_of}
+use Rattle.order_law.specs.OwnRecord.{edges_of, owner}
+use Rattle.order_law.specs.Pairing.{no_more, one_more}
+use Rattle.order_law.proofs.OwnRecord.{is_record}
+use Rattle.test_run.specs.Running.{Posted}
+use Rattle.cone_run.specs.declared.marks.Mark.{Mark}
+use Rattle.cone_run.specs.Cones.{AreConesOf, IsCone, IsFirstOver}
+use Rattle.cone_run.specs.ConesText.{outcomes}
+use Rattle.cone_run.specs.Marks.{HasWriter, IsMark}
+use Rattle.cone_run.proofs.ConeLaw.{own_cone_law}
+use Rattle.outside.specs.Depot.{Files}
+use Rattle.outside.specs.Sink.{SinkView}
+use Rattle.suite_load.specs.declared.loaded.Loaded.{Loaded}
+use Rattle.electrictest.specs.declared.status.Status.{Status}
+use Rattle.electrictest.specs.declared.status.Status.TheVariants as ends
+use Rattle.electrictest.specs.declared.status.InputFault.{InputFault}
+use Rattle.electrictest.specs.declared.status.OverFault.{OverFault}
+use Rattle.electrictest.specs.declared.words.Command.{Command}
+use Rattle.electrictest.specs.declared.words.Command.TheVariants as command
+use Rattle.electrictest.specs.Commands.{Asked, Served, Whole}
+use Rattle.electrictest.specs.ConeRuns.{IsConeReport, IsOverCone, OfBegun}
+use Rattle.electrictest.specs.Loads.{Begins, begun_by, fits_for, named_by}
+use Rattle.electrictest.specs.Manifests.{IsManifest}
+use Rattle.electrictest.specs.OwnCones.{AsksOwn, HoldsRecord, IsOwnConeReport, IsOwnManifest, IsOwnMark, OwnConesAnswer, OwnManifestAnswer, WroteBy}
+use Rattle.electrictest.specs.OwnRecords.{AsksOwnRecord, HoldsSaying}
+use Rattle.electrictest.specs.PoolRuns.{IsOfSuite}
+use Rattle.electrictest.specs.Records.{Beginning, record_fits}
+use Rattle.electrictest.specs.Replies.{IsRefusedInput, unloaded, unbegun, ungenerated, unlawful, ReportsBy, OversBy}
+use Rattle.electrictest.specs.Words.{Ask, Asking, is_eager, suite_word}
+use Rattle.electrictest.proofs.DetectedLaws.{says_own}
+use Rattle.electrictest.proofs.OwnRecordLaws.{any_once, own_start, begun_by_own, begins_once, starts_once, own_ends}
+
+-- ---- cones by the suite's own edges
+
+module _ (p : Program) (R : List Edge) (same : R ≡ edges_of p) (linked : Linked p) (detected : is_detected p ≡ true) where
+  cone_own : (t : ℕ) (list : List ℕ) → IsTestNumber p t → IsCone R t list → (first_over p list ≡ None) × (last_outcome p list ≡ seq p t)
+  cone_own t list number cone = own_cone_law p t list linked detected number (subst (λ (S : List Edge). IsCone S t list) same cone)
+
+  pieces_own : {sel : List ℕ} {xs : List Posted} → ((t : ℕ) → Member t sel → IsTestNumber p t) → AreConesOf p R sel xs → map (λ t. seq p t) sel ≡ map (λ o. Some o) (outcomes xs)
+  pieces_own number no_more = refl
+  pieces_own number (one_more {x = t} {y = x} {xs = sel} {ys = xs} r rs) =
+      let here : seq p t ≡ Some x.outcome = sym (cone_own t x.list (number t (inl refl)) r.cone).1 ∙ r.gives in
+      ap (λ (o : Option Outcome). o ∷ map (λ u. seq p u) sel) here ∙ ap (λ (os : List (Option Outcome)). Some x.outcome ∷ os) (pieces_own (λ u m. number u (inr m)) rs)
+
+  later_number : (u t : ℕ) → HasEdge R Raw u t → IsTestNumber p t
+  later_number u t e =
+      let edge = (is_record p (touches_of p) (owner p) Raw u t).0 (subst (λ (S : List Edge). HasEdge S Raw u t) same e) in
+      (omega (arith, edge.0, edge.3.0), edge.1)
+
+  mark_own : (m : Mark) → IsMark p R m → IsOwnMark p R m
+  mark_own m h = record {
+    list = h.list;
+    cone = h.cone;
+    outcome = h.outcome;
+    own = sym (cone_own m.test h.list (later_number m.writer m.test h.edge) h.cone).1 ∙ h.gives;
+    effect = h.effect;
+  }
+
+  none_first : (S : ℕ → Type 0) (u : ℕ) → ((t : ℕ) → S t → IsTestNumber p t) → IsFirstOver p R S u → ⊥
+  none_first S u number h = let e = sym h.over ∙ (cone_own h.test h.list (number h.test h.within) h.cone).0 in absurd (cc)
+
+-- ---- the words of such a command
+
+-- the file says what the record says, also where it holds the record's text
+says_any : (files : Files) (a : Ask) (l : Loaded) → AsksOwnRecord HoldsRecord files a l → AsksOwnRecord HoldsSaying files a l
+says_any files a l by = elim by.holds [
+  | inl h ↦ record { load = by.load; detected = by.detected; kept = by.kept; own = by.own; holds = h }
+  | inr h ↦ says_own files a l (record { load = by.load; detected = by.detected; kept = by.kept; own = by.own; holds = h })
+]
+
+module _ (c : Command) (IsReport : Loaded → Beginning → Bool → List ℕ → ℕ → Type 0) (S : Beginning → ℕ → Type 0) (files : Files) (a : Ask) (l : Loaded) (tests : List ℕ) (own : AsksOwn c files a l tests)
+    (fits : fits_for (Ok c) ≡ record_fits) where
+  abbrev saying : AsksOwnRecord HoldsSaying files a l
+  saying = says_any files a l own.by
+
+  abbrev start : Beginning
+  start = own_start files a l saying tests
+
+  begun_here : begun_by files a l ≡ Some (Ok start)
+  begun_here = begun_by_own files a l saying tests (ap (λ (x : Asking). named_by x a.words l) own.asks ∙ own.named) (ap fits_for own.asks ∙ fits)
+
+  starts : (x : Loaded) (b : Beginning) → Begins files a x (Ok b) → (x ≡ l) × (b ≡ start)
+  starts x b h = starts_once files a l start saying.load begun_here x b h
+
+  wrote : (IsOwn : Beginning → Bool → List ℕ → ℕ → Type 0)
+      (law : (b : Beginning) (passed : Bool) (text : List ℕ) (units : ℕ) → IsOfSuite l b → b.said.edges ≡ edges_of l.checked → IsReport l b passed text units → IsOwn b passed text units)
+      (asked : Asked) (passed : Bool) (text : List ℕ) (units : ℕ) (old new : SinkView) → OfBegun (λ x b. IsReport x b passed text units) files a → Whole text old new → asked.now ≡ asked.begun + units →
+      WroteBy IsOwn asked l tests passed old new
+  wrote IsOwn law asked passed text units old new r whole counts =
+      let same = starts r.loaded r.beginning r.begins in
+      let report : IsReport l r.beginning passed text units = subst (λ (x : Loaded). IsReport x r.beginning passed text units) same.0 r.is in
+      let suite : IsOfSuite l r.beginning = subst (λ (x : Loaded). IsOfSuite x r.beginning) same.0 r.suite in
+      let edges : r.beginning.said.edges ≡ edges_of l.checked = ap (λ (b : Beginning). b.said.edges) same.1 ∙ saying.own.edges in
+      record {
+        beginning = r.beginning;
+        tests_are = ap (λ (b : Beginning). b.tests) same.1;
+        edges_are = edges;
+        text = text;
+        units = units;
+        report = law r.beginning passed text units suite edges report;
+        whole = whole;
+        steps = counts;
+      }
+
+  never_over : (number : (b : Beginning) → IsOfSuite l b → b.said.edges ≡ edges_of l.checked → (t : ℕ) → S b t → IsTestNumber l.checked t) (f : OverFault) → OfBegun (λ x b. IsOverCone x b (S b) f) files a → ⊥
+  never_over number f r =
+      let same = starts r.loaded r.beginning r.begins in
+      let b = r.beginning in
+      let suite : IsOfSuite l b = subst (λ (x : Loaded). IsOfSuite x b) same.0 r.suite in
+      let over : IsOverCone l b (S b) f = subst (λ (x : Loaded). IsOverCone x b (S b) f) same.0 r.is in
+      let edges : b.said.edges ≡ edges_of l.checked = ap (λ (y : Beginning). y.said.edges) same.1 ∙ saying.own.edges in
+      none_first l.checked b.said.edges edges suite.linked saying.detected (S b) over.test (number b suite edges) over.first
+
+  never_refused : ((k n : ℕ) → ◌≡◌ {A = Asking} (Ok c) (Ok (command.Gen k n)) → ⊥) → (◌≡◌ {A = Asking} (Ok c) (Ok command.Order) → ⊥) → (f : InputFault) → IsRefusedInput files a f → ⊥
+  never_refused no_gen no_order f (unloaded h) = let e = any_once files (is_eager a.words) (suite_word a) (Ok l) (Err (ends.Input f)) saying.load h in absurd (cc)
+  never_refused no_gen no_order f (unbegun {l = x} h) = let e = (begins_once files a l start saying.load begun_here x (Err f) h).begins in absurd (cc)
+  never_refused no_gen no_order f (ungenerated {k = k} {n = n} e h) = no_gen k n (sym own.asks ∙ e)
+  never_refused no_gen no_order f (unlawful {l = x} {b = b} e h u) = no_order (sym own.asks ∙ e)
+
+pub own_cones_answer : (asked : Asked) (s : Status) (old new : SinkView) → Served asked s old new → OwnConesAnswer asked s old new
+own_cones_answer asked s old new h = λ workers l tests own.
+    let c = command.Cones workers in
+    let files = asked.files in
+    let a = asked.ask in
+    own_ends (WroteBy (IsOwnConeReport l) asked l tests) asked old new
+    (λ passed text units r. wrote c IsConeReport (λ b t. Member t b.tests) files a l tests own refl (IsOwnConeReport l)
+    (λ b passed text units suite edges report. record {
+      report = report;
+      own = pieces_own l.checked b.said.edges edges suite.linked own.by.detected (λ t m. suite.tests t ((report.once.exact t).0 m)) report.cones;
+    })
+    asked passed text units old new (subst (λ (x : Asking). ReportsBy x files a passed text units) own.asks r))
+    (λ e. let none = sym own.asks ∙ e in absurd (cc))
+    (never_refused c IsConeReport (λ b t. Member t b.tests) files a l tests own refl (λ k n e. absurd (cc)) (λ e. absurd (cc)))
+    (λ f r. never_over c IsConeReport (λ b t. Member t b.tests) files a l tests own refl (λ b suite edges. suite.tests) f (subst (λ (x : Asking). OversBy x files a f) own.asks r))
+    s h
+
+pub own_manifest_answer : (asked : Asked) (s : Status) (old new : SinkView) → Served asked s old new → OwnManifestAnswer asked s old new
+own_manifest_answer asked s old new h = λ l own.
+    let c = command.Manifest in
+    let files = asked.files in
+    let a = asked.ask in
+    own_ends (WroteBy (IsOwnManifest l) asked l []) asked old new
+    (λ passed text units r. wrote c IsManifest (λ b. HasWriter b.said.edges) files a l [] own refl (IsOwnManifest l)
+    (λ b passed text units suite edges report. record {
+      report = report;
+      own = λ m i. mark_own l.checked b.said.edges edges suite.linked own.by.detected m (report.are.each m i);
+    })
+    asked passed text units old new (subst (λ (x : Asking). ReportsBy x files a passed text units) own.asks r))
+    (λ e. let none = sym own.asks ∙ e in absurd (cc))
+    (never_refused c IsManifest (λ b. HasWriter b.said.edges) files a l [] own refl (λ k n e. absurd (cc)) (λ e. absurd (cc)))
+    (λ f r. never_over c IsManifest (λ b. HasWriter b.said.edges) files a l [] own refl
+    (λ b suite edges t w. later_number l.checked b.said.edges edges suite.linked own.by.detected w.0 t w.1) f (subst (λ (x : Asking). OversBy x files a f) own.asks r))
+    s h
