@@ -50,7 +50,7 @@ struct Form {
     shown: &'static [u8],
 }
 
-const FORMS: [Form; 8] = [
+const FORMS: [Form; 10] = [
     Form {
         command: b"run",
         places: &[Place::Suite, Place::Record, Place::Workers, Place::Names],
@@ -86,6 +86,18 @@ const FORMS: [Form; 8] = [
         places: &[Place::Suite, Place::Kept],
         last: b"",
         shown: b"impact SUITE RECORD",
+    },
+    Form {
+        command: b"cones",
+        places: &[Place::Suite, Place::Kept, Place::Workers, Place::Names],
+        last: b"",
+        shown: b"cones SUITE RECORD N SEL",
+    },
+    Form {
+        command: b"manifest",
+        places: &[Place::Suite, Place::Kept],
+        last: b"",
+        shown: b"manifest SUITE RECORD",
     },
     Form {
         command: b"quiet",
@@ -205,15 +217,26 @@ fn push_words_hint(out: &mut Text, words: &[Text]) -> Result<(), NoMemory> {
     }
 }
 
+// What helps with a record of another suite; `impact` judges it by the suite text alone.
+fn foreign_hint(words: &[Text]) -> &'static [u8] {
+    let is_impact = match words.first() {
+        Some(command) => command.as_slice() == b"impact".as_slice(),
+        None => false,
+    };
+    if is_impact {
+        b"the suite text changed since, so each test is to be run: run detect"
+    } else {
+        b"the classes changed since, or only one of suite and record is eager: run detect, or impact"
+    }
+}
+
 // What helps with a refused input, where its fault line doesn't tell.
-fn input_hint(fault: &InputFault) -> &'static [u8] {
+fn input_hint(words: &[Text], fault: &InputFault) -> &'static [u8] {
     match fault {
         InputFault::NeedsRecord => {
             b"`run SUITE - 1 all` alone goes without a record; `electric detect SUITE >RECORD` makes one"
         }
-        InputFault::RecordForeign { .. } => {
-            b"the classes changed since, or only one of suite and record is eager: run detect, or impact"
-        }
+        InputFault::RecordForeign { .. } => foreign_hint(words),
         InputFault::RecordOld => {
             b"a record of version 1 doesn't say what each test reaches: run detect again"
         }
@@ -228,7 +251,7 @@ fn input_hint(fault: &InputFault) -> &'static [u8] {
 fn push_hint(out: &mut Text, words: &[Text], status: &Status) -> Result<(), NoMemory> {
     match status {
         Status::Words => push_words_hint(out, words),
-        Status::Input(fault) => out.extend_from_slice(input_hint(fault)),
+        Status::Input(fault) => out.extend_from_slice(input_hint(words, fault)),
         Status::NoMemory => out.extend_from_slice(b"memory was refused, and nothing written"),
         Status::Sink => out.extend_from_slice(b"standard output failed"),
         Status::Done | Status::NotPassed | Status::Depot { .. } | Status::Over(_) => Ok(()),

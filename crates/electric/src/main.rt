@@ -7,8 +7,9 @@
 //! - `heard.rt` is a sink that keeps the fault line that goes through it; contracts see the sink
 //!   behind it alone.
 //! - `hints.rt` says on standard error which word isn't understood, and what is accepted there.
+//! - `progress.rt` is a gate that tells a terminal on standard error how many tests were begun.
 //!
-//! Hints are no part of a promise, and standard output stays what is proved of it, byte for byte.
+//! Neither is part of a promise, and standard output stays what is proved of it, byte for byte.
 //! The files beside `src` (`args`, `data`, `stdout`) are what the gate runs the program on, and
 //! what it has to write.
 #![tactic(auto)]
@@ -17,12 +18,14 @@ ghost use Rattle.std.specs.Prelude.{◌≡◌, ◌<◌};
 
 mod heard;
 mod hints;
+mod progress;
 
 use crate::heard::Heard;
 use crate::hints::hint;
+use crate::progress::Progress;
 use electrictest::{Status, electric, written};
 use et_base::{Items, Text};
-use outside::{FolderDepot, OpenGate, Sink, StdSink, Steps};
+use outside::{FolderDepot, Gate, Sink, StdSink, Steps};
 use std::alloc::Global;
 use std::env;
 use std::io::{ErrorKind, IsTerminal, Print, Write};
@@ -43,6 +46,8 @@ const HELP: &[u8] = b"electric runs the tests of a suite of Java class files.
   electric run SUITE RECORD N SEL log   the same, and write who ran what behind the report
   electric plan SUITE RECORD N SEL      write the chains of a selection and the loads of N workers
   electric impact SUITE RECORD          write which class files changed since the record, and the tests to run again
+  electric cones SUITE RECORD N SEL     run each selected test alone after those that it needs, on N workers
+  electric manifest SUITE RECORD        write what becomes of each test without one of those that it reads from
   electric quiet SUITE                  write the classes whose initialisers only set constants
   electric eager FORM                   run, detect, deps, order or plan, as above, with these constants set from the start
   electric gen K N                      run a generated suite of K tests on N workers and write its summary
@@ -95,11 +100,12 @@ fn fixed_text(words: &[Text]) -> Option<&'static [u8]> {
 }
 
 // Answers the words on a sink.
-fn answer<R: Threads + Wait + Sync + Files, S: Sink, L: Ledger>(
+fn answer<R: Threads + Wait + Sync + Files, S: Sink, G: Gate + Sync, L: Ledger>(
     rt: &R,
     alloc: Global,
     words: &[Text],
     sink: &mut S,
+    gate: &G,
     blank: Blank,
 ) -> Status
     requires name { blank.name ≡ L.name }
@@ -113,15 +119,7 @@ fn answer<R: Threads + Wait + Sync + Files, S: Sink, L: Ledger>(
         Ok(folder) => {
             let mut depot = FolderDepot::new(rt, alloc, folder);
             let mut steps = Steps::<L>::new(blank);
-            electric(
-                rt,
-                alloc,
-                words,
-                &mut depot,
-                sink,
-                &OpenGate::new(),
-                &mut steps,
-            )
+            electric(rt, alloc, words, &mut depot, sink, gate, &mut steps)
         }
         Err(_) => Status::NoMemory,
     }
@@ -147,11 +145,12 @@ fn main(rt: HostRuntime) -> ExitCode {
     };
     let words = words.as_slice();
     let mut sink = Heard::new(alloc, StdSink::new(&rt));
-    let status = answer::<HostRuntime, Heard<StdSink<'_, HostRuntime>>, Brand>(
+    let status = answer::<HostRuntime, Heard<StdSink<'_, HostRuntime>>, Progress<'_>, Brand>(
         &rt,
         alloc,
         words,
         &mut sink,
+        &Progress::new(&rt),
         Blank::new(1),
     );
     explain(&rt, words, sink.line(), &status);
