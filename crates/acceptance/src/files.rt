@@ -48,6 +48,30 @@ out \"5\\n\"
 passed 2 failed 0 error 0
 ";
 
+// The record of the counter.
+pub const COUNTER_RECORD: &[u8] = b"electric-record 2
+digest b78444086ac54a61138702b78cec6730aebf8590544ed2136d5d79751d821df2
+tests 2
+suite 2adabde0346edae43d8626aac4533d07c2e550245bb825c566d173216f2a8fa3
+classes 1
+class 1 d392a7a8df5d35717efc4d5e5e4a5b079dd4f9a6792b4fcaa15e4bf72fa01528
+units 1 6
+units 2 8
+reach 1 settled 1
+reach 2 open 1
+raw 1 2 1 static Counter.n
+end
+";
+
+// The report on the counter's second test, which the record says needs the first.
+pub const NEEDED_REPORT: &[u8] = b"electric-run 1
+selected 1 executed 2 chains 1
+test 1 Counter.set passed units 6
+test 2 Counter.show passed units 8
+out \"5\\n\"
+passed 2 failed 0 error 0
+";
+
 // `class P { static int n; static void read() { electric.Env.print(n); } static void write() { n = 5; } }`
 pub const P_CLASS: [u8; 214] = [
     202, 254, 186, 190, 0, 0, 0, 52, 0, 19, 1, 0, 1, 80, 7, 0, 1, 1, 0, 16, 106, 97, 118, 97, 47,

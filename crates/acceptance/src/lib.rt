@@ -1,8 +1,8 @@
 //! Tests of the top call over depots and sinks that fail, and of workers in threads.
 //!
 //! Begin with `asking.rt`, which asks `electrictest`'s `electric_plain` about files in memory and
-//! keeps its clause on statuses; then `tests.rt` (failing depots and sinks) and `threads.rt`
-//! (workers).
+//! keeps its clause on statuses; then `tests.rt` (failing depots and sinks, class files that are
+//! cut), `threads.rt` (workers) and `failing.rt` (both).
 //!
 //! - `turns.rt` is a `Gate` that decides which of two workers goes first, and notes whom it let
 //!   pass.
@@ -13,6 +13,8 @@
 #![tactic(auto)]
 
 pub mod asking;
+#[cfg(test)]
+mod failing;
 #[cfg(test)]
 mod files;
 #[cfg(test)]

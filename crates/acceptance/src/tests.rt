@@ -1,4 +1,5 @@
-//! The top call over depots and sinks that fail, and sinks that take short pieces.
+//! The top call over depots and sinks that fail, sinks that take short pieces, and class files of
+//! each length.
 
 ghost use Rattle.std.specs.Prelude.{◌<◌};
 
@@ -6,7 +7,7 @@ use crate::asking::{File, answers, depot};
 use crate::files::{
     COUNTER_CLASS, COUNTER_REPORT, COUNTER_SUITE, RETURN_CLASS, RETURN_REPORT, RETURN_SUITE,
 };
-use crate::outsides::held_before;
+use crate::outsides::{LINES_BEFORE, held_before};
 use et_base::NoMemory;
 use std::alloc::Global;
 use std::test::Fail;
@@ -77,15 +78,7 @@ fn holds_lines(alloc: Global, call: u64, code: u8, len: usize) -> Result<bool, N
 
 #[test]
 fn a_sink_that_fails_holds_the_lines_before(rt: HostRuntime) -> Result<(), Fail> {
-    for (call, code, len) in [
-        (1, 6, 0),
-        (2, 6, 15),
-        (3, 6, 46),
-        (4, 6, 80),
-        (5, 6, 115),
-        (6, 6, 125),
-        (7, 0, 151),
-    ] {
+    for (call, code, len) in LINES_BEFORE {
         assert!(rt; holds_lines(rt.alloc(), call, code, len)?, "at {call}");
     }
     Ok(())
@@ -123,5 +116,40 @@ fn reads_greatest_class(alloc: Global) -> Result<bool, NoMemory> {
 #[test]
 fn a_class_file_of_a_mebibyte_is_read(rt: HostRuntime) -> Result<(), Fail> {
     assert!(rt; reads_greatest_class(rt.alloc())?);
+    Ok(())
+}
+
+// Where the parts of the class file of `T` begin that are read as a whole.
+const PARTS: [usize; 42] = [
+    0, 4, 6, 8, 10, 11, 13, 14, 15, 17, 18, 20, 36, 37, 39, 40, 42, 43, 44, 46, 49, 50, 52, 56, 58,
+    60, 62, 64, 66, 68, 70, 72, 74, 76, 78, 82, 84, 86, 90, 91, 93, 95,
+];
+
+// Where the part begins that is short in the first bytes of the class file.
+fn short_part(len: usize) -> usize {
+    let mut last = 0;
+    for part in PARTS {
+        if part <= len {
+            last = part;
+        }
+    }
+    last
+}
+
+// Whether the first bytes of the class file of `T` are refused at the part that is short.
+fn names_the_cut(alloc: Global, len: usize) -> Result<bool, NoMemory> {
+    let mut class = Vec::from_slice(alloc, &RETURN_CLASS)?;
+    class.truncate(len);
+    let mut depot = depot(alloc, &[(b"s", RETURN_SUITE), (b"T.class", &class)], &[])?;
+    let at = short_part(len);
+    let line = format!(in alloc; "electric: class T.class truncated {at}\n")?;
+    answers(alloc, &RUN, &mut depot, 1000, 3, line.as_bytes())
+}
+
+#[test]
+fn a_class_file_that_is_cut_is_refused_at_the_cut(rt: HostRuntime) -> Result<(), Fail> {
+    for len in 0..97 {
+        assert!(rt; names_the_cut(rt.alloc(), len)?, "{len} bytes");
+    }
     Ok(())
 }

@@ -36,6 +36,10 @@ const PAIRS_FILES: [File; 4] = [
 
 const RUN_ON_TWO: [&[u8]; 6] = [b"run", b"s", b"r", b"2", b"all", b"log"];
 
+const CONES_ON_TWO: [&[u8]; 5] = [b"cones", b"s", b"r", b"2", b"Counter.set,P.read"];
+
+const CONES_BEGIN: &[u8] = b"electric-cones 1\nselected 2 ran 2\n";
+
 // The program of a suite that has two tests.
 fn of_two_tests(loaded: Loaded) -> Option<Checked>
     ensures { IfSome result (λ p. length p.tests ≡ 2) }
@@ -216,8 +220,8 @@ fn electric_on<R: Threads + Wait + Sync, D: Depot, S: Sink, L: Ledger>(
     electric(rt, alloc, words, depot, sink, gate, &mut steps)
 }
 
-// Answers the words; what its ledger counts is dropped.
-fn status_of<R: Threads + Wait + Sync, D: Depot, S: Sink>(
+/// Answers the words; what its ledger counts is dropped.
+pub fn status_of<R: Threads + Wait + Sync, D: Depot, S: Sink>(
     rt: &R,
     alloc: Global,
     words: &[Text],
@@ -247,6 +251,30 @@ fn a_log_is_that_of_the_threads(rt: HostRuntime) -> Result<(), Fail> {
         let gate = Turns::new(held, awaited);
         assert!(rt; has_its_log(&rt, rt.alloc(), &gate)?);
         assert!(rt; gate.is_posted_before(before, held));
+    }
+    Ok(())
+}
+
+// Whether the cones of two tests that need no other are answered.
+fn are_coned<R: Threads + Wait + Sync>(
+    rt: &R,
+    alloc: Global,
+    gate: &Turns,
+) -> Result<bool, NoMemory> {
+    let words = words(alloc, &CONES_ON_TWO)?;
+    let mut depot = depot(alloc, &PAIRS_FILES, &[])?;
+    let mut sink = sink(alloc, 1000, 1000, &[])?;
+    let status = status_of(rt, alloc, words.as_slice(), &mut depot, &mut sink, gate);
+    Ok(status.code() == 0 && sink.held().starts_with(CONES_BEGIN))
+}
+
+#[test]
+fn a_cone_is_run_while_another_is_held(rt: HostRuntime) -> Result<(), Fail> {
+    for (held, awaited) in [(1, 3), (3, 1)] {
+        let gate = Turns::new(held, awaited);
+        assert!(rt; are_coned(&rt, rt.alloc(), &gate)?);
+        assert_eq!(rt; gate.passed(), 2);
+        assert!(rt; gate.number(awaited) < gate.number(held));
     }
     Ok(())
 }
