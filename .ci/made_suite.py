@@ -29,3 +29,11 @@ def dense(tests, classes):
         lines.append(f"test {at} {name} {end} units {100 + at * at % 9973}")
     lines.append(f"passed {tests - tests // 17} failed {tests // 17} error 0")
     return json.dumps({"edges": edges, "tests": tests}, separators=(",", ":")), "\n".join(lines) + "\n"
+
+
+def manifest(given):
+    """A manifest of such dependences, in which every seventh raw conflict matters."""
+    pairs = [f"{it['from']} -> {it['to']}" for it in json.loads(given)["edges"] if it["kind"] == "raw"]
+    effects = ["changed", *["same"] * 6, "over", *["same"] * 6]
+    lines = [f"raw {pair} {effects[at % len(effects)]}" for at, pair in enumerate(pairs)]
+    return "\n".join(["electric-manifest 1", *lines, "end"]) + "\n"

@@ -80,9 +80,11 @@ class Dependences(NamedTuple):
         return self._replace(conflicts=[it for it in self.conflicts if it.first not in warm and it.later not in warm])
 
     def with_effects(self, effects):
-        """The same, with what a manifest says of each raw conflict."""
+        """The same, with what a manifest says of each raw conflict, which it has to list."""
+        if set(effects) != {(it.first, it.later) for it in self.conflicts if it.kind == "raw"}:
+            raise ValueError("the manifest isn't one of these dependences")
         told = [
-            it._replace(effect=effects.get((it.first, it.later))) if it.kind == "raw" else it for it in self.conflicts
+            it._replace(effect=effects[it.first, it.later]) if it.kind == "raw" else it for it in self.conflicts
         ]
         return self._replace(conflicts=told)
 

@@ -58,6 +58,11 @@ function inWords([at, walk], numbers) {
   return (word in said ? said[word]() : at) + (walk ? `; found by ${walk}` : "");
 }
 
+// A number with a comma before each three digits.
+function counted(number) {
+  return number.toLocaleString("en-US");
+}
+
 function kindMark(kind) {
   return made("span", { className: `kind ${kind}` }, `${MARKS[kind]} ${kind}`);
 }
@@ -118,7 +123,7 @@ class List {
     by("rows").replaceChildren(...fitting.slice(0, most).map((it) => this.row(it)));
     by("more").hidden = fitting.length <= most;
     const told = this.between ? " between the chosen tests" : "";
-    by("found").textContent = `${fitting.length} of ${this.conflicts.length} conflicts${told}`;
+    by("found").textContent = `${counted(fitting.length)} of ${counted(this.conflicts.length)} conflicts${told}`;
   }
 
   row(it) {
@@ -139,12 +144,12 @@ class List {
 
   // The first location, and behind it, folded, what each says in words.
   places(it) {
-    if (!it.places.length) return made("span", { className: "muted" }, `${it.count} locations`);
+    if (!it.places.length) return made("span", { className: "muted" }, `${counted(it.count)} locations`);
     const more = it.count - it.places.length;
     const first = made("code", {}, it.places[0][0]);
-    const summary = made("summary", {}, first, it.count > 1 ? ` and ${it.count - 1} more` : "");
+    const summary = made("summary", {}, first, it.count > 1 ? ` and ${counted(it.count - 1)} more` : "");
     const words = it.places.map((place) => made("li", {}, made("code", {}, place[0]), ": ", inWords(place, this.data.numbers)));
-    if (more > 0) words.push(made("li", { className: "muted" }, `${more} more, which aren't listed`));
+    if (more > 0) words.push(made("li", { className: "muted" }, `${counted(more)} more, which aren't listed`));
     return made("details", {}, summary, made("ul", {}, ...words));
   }
 }
@@ -236,7 +241,7 @@ class Matrix {
     const { count, kinds } = this.tied(row, column);
     if (!count) return made("td", { className: row.tests[0] === column.tests[0] ? "same" : "" });
     const marks = kinds.map((kind) => made("span", { className: kind }, MARKS[kind]));
-    const many = row.whole || column.whole ? ` ${count}` : "";
+    const many = row.whole || column.whole ? ` ${counted(count)}` : "";
     const button = made("button", { type: "button", tabIndex: -1 }, ...marks, many);
     const told = `${row.name} after ${column.name}: ${kinds.join(", ")}${many}`;
     button.title = told;

@@ -18,7 +18,8 @@ MARKS = {"raw": "●", "waw": "■", "war": "▲"}
 DRAWN, BLOCK = 30, 40
 # Data above PLAIN bytes is packed, and cut down until it has at most MOST.
 PLAIN, MOST = 300_000, 1_300_000
-TOP = 12
+# Rows of who writes most, and of what matters.
+TOP, MATTER = 12, 25
 
 
 class Suite(NamedTuple):
@@ -135,14 +136,19 @@ def matters(suite):
     """The conflicts that change a later test, of a manifest; nothing where there is none."""
     if not suite.effects:
         return ""
-    told = [it for it in suite.dependences.conflicts if it.effect in ("changed", "over")]
-    same = sum(it.effect == "same" for it in suite.dependences.conflicts)
+    raw = [it for it in suite.dependences.conflicts if it.effect]
+    told = [it for it in raw if it.effect != "same"]
     first = (
-        f"<p>Raw conflicts without whose earlier test the later one ends otherwise: {len(told)}; {same} more change nothing. "
-        "<code>changed</code> is another verdict or output, <code>over</code> that it passes its budget.</p>\n"
+        f"<p>Of {counted(len(raw), 'raw conflict')}, {len(told):,} {'matters' if len(told) == 1 else 'matter'}: the later test, run after all that "
+        "it needs but the earlier one, has another verdict or output (<code>changed</code>), or passes its budget (<code>over</code>).</p>\n"
     )
-    rows = [(named(it.later), named(it.first), it.effect, html.escape(str(it.locations[0])) if it.locations else "") for it in told]
-    return first + (table(["test", "needs", "effect", "where"], rows[: 10 * TOP]) if rows else "")
+    rows = [(named(it.later), named(it.first), it.effect, first_place(it)) for it in told[:MATTER]]
+    more = f"<p>{len(told) - MATTER:,} more stand among the conflicts, by their effect.</p>\n" if len(told) > MATTER else ""
+    return first + (table(["test", "needs", "effect", "where"], rows) + more if rows else "")
+
+
+def first_place(conflict):
+    return f"<code>{html.escape(conflict.locations[0].at)}</code>" if conflict.locations else ""
 
 
 def writers(dependences):
@@ -155,7 +161,7 @@ def writers(dependences):
     if not places:
         return ""
     first = sorted(places, key=lambda name: (-len(read.get(name, ())), -len(over.get(name, ())), -places[name]))
-    rows = [(named(name), len(read.get(name, ())), len(over.get(name, ())), places[name]) for name in first[:TOP]]
+    rows = [(named(name), *(f"{it:,}" for it in (len(read.get(name, ())), len(over.get(name, ())), places[name]))) for name in first[:TOP]]
     note = "<p>How many later tests read what a test wrote, how many overwrite it, and at how many locations.</p>\n"
     return note + table(["test", "#read by", "#overwritten by", "#locations"], rows, "lines")
 

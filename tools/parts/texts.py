@@ -1,6 +1,6 @@
 """The texts that the program reads and writes, as Python values. A text in another form is a ValueError that says where.
 
-`docs/USAGE.md` describes the forms: suite texts, reports, plans and fault lines.
+`docs/USAGE.md` describes the forms: suite texts, records, reports, plans, manifests and fault lines.
 """
 
 import re
@@ -16,7 +16,8 @@ class Fault(ValueError):
 
 
 class Outcome(NamedTuple):
-    """How one test ended, as its lines of a report say; `kind` and `message` are None where there are none."""
+    """How one test ended, as its lines of a report say; `kind` and `message` are None where there are none, and `told` is the verdict
+    and, on a line of its own, the output, both as they stand there."""
 
     number: int
     name: str
@@ -25,17 +26,26 @@ class Outcome(NamedTuple):
     message: Optional[str]
     units: int
     output: str
+    told: str
 
 
-def lines_of(text, header):
-    """The lines of a text behind its header, which is wanted."""
+class Edge(NamedTuple):
+    """A raw conflict of a record: its tests, numbered from 1, and where the later one met it first."""
+
+    first: int
+    later: int
+    location: str
+
+
+def lines_of(text, *headers):
+    """The lines of a text behind its header, which is one of these."""
     if text.startswith("electric: "):
         raise Fault(text.splitlines()[0])
     if not text:
         raise ValueError("nothing was written")
     first, *lines = text.splitlines()
-    if first != header:
-        raise ValueError(f"its first line isn't `{header}`")
+    if first not in headers:
+        raise ValueError(f"its first line isn't `{headers[0]}`")
     return lines
 
 
@@ -49,17 +59,18 @@ def unquoted(text):
     return units.encode("utf-16-be", "surrogatepass").decode("utf-16-be", "replace")
 
 
-def report(text):
-    """The outcomes that a report of `run` or `order` lists."""
+def report(text, header="electric-run 1"):
+    """The outcomes that a report of `run` or `order` lists, or with its own header a text of `cones`."""
     outcomes = []
-    for number, line in enumerate(lines_of(text, "electric-run 1"), 2):
+    for number, line in enumerate(lines_of(text, header), 2):
         found = TEST.fullmatch(line)
         if found:
             at, name, verdict, kind, message, units = found.groups()
             told = None if message is None else unquoted(message)
-            outcomes.append(Outcome(int(at), name, verdict, kind, told, int(units), ""))
+            said = line[found.start(3) : found.end() - len(f" units {units}")]
+            outcomes.append(Outcome(int(at), name, verdict, kind, told, int(units), "", said))
         elif line.startswith('out "') and line.endswith('"') and outcomes:
-            outcomes[-1] = outcomes[-1]._replace(output=unquoted(line[5:-1]))
+            outcomes[-1] = outcomes[-1]._replace(output=unquoted(line[5:-1]), told=f"{outcomes[-1].told}\n{line}")
         elif line.startswith("passed "):
             return outcomes
         elif number > 2 or not line.startswith("selected "):
@@ -87,6 +98,16 @@ def plan(text):
         else:
             raise ValueError(f"line {number} of the plan isn't one of a plan")
     raise ValueError("the plan has no last line")
+
+
+def record(text):
+    """The lines of a record without those of conflicts, and its raw conflicts."""
+    lines = lines_of(text, "electric-record 2", "electric-record 1")
+    if lines[-1:] != ["end"]:
+        raise ValueError("the record has no last line")
+    found = [(line, re.fullmatch(r"(raw|waw|war) (\d+) (\d+) \d+ (.+)", line)) for line in lines]
+    plain = [text.split("\n", 1)[0], *(line for line, it in found if not it)]
+    return plain, [Edge(int(it[2]), int(it[3]), it[4]) for _, it in found if it and it[1] == "raw"]
 
 
 def manifest(text):
