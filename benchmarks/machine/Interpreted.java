@@ -21,5 +21,10 @@ public class Interpreted {
         show("calls", Work::calls);
         show("objects", Work::objects);
         show("strings", Work::strings);
+        show("longs", Work::longs);
+        show("switches", Work::switches);
+        show("interfaces", Work::interfaces);
+        show("exceptions", Work::exceptions);
+        show("matrices", Work::matrices);
     }
 }
