@@ -43,7 +43,7 @@ use Rattle.access_tags.proofs.Spread.{length-states, length-statics}
 use Rattle.access_tags.specs.declared.conflict.LocationKey.TheVariants as spot
 use Rattle.access_tags.specs.declared.memory.TaggedMemory.{TaggedMemory}
 use Rattle.access_tags.specs.declared.tags.Tags.{Tags}
-use Rattle.access_tags.specs.Followed.{Follows, HaveSameRoom, IsEnded, IsNamed, IsNumbered, numbering}
+use Rattle.access_tags.specs.Followed.{Follows, HaveSameRoom, IsEnded, IsNamed, IsNumbered, numbering, keeps_walks}
 use Rattle.access_tags.specs.Numbering.{Numbering, IsAt, IsPlaced, is_named, located, position, with_cells, with_names}
 use Rattle.access_tags.specs.Ran.{size_after, size_in, trace_to, touched_by}
 use Rattle.access_tags.specs.Rows.{edges_at, shown_by, with_places}
@@ -91,7 +91,7 @@ placed_name n part name k i = let L = place_in part name in
     by_part sort.Prop L a t e = let q : is_named L ≡ true = rw e refl in record { kind = q; at = rw q (sym a); there = rw q t }
 
 -- what is kept of a test that ended, with more names
-ended_names : (T : Touches) (names ls : List Location) (t : ℕ) (x : Ended) → IsEnded T names t x → IsEnded T (names ++ ls) t x
+ended_names : {kept : Bool} (T : Touches) (names ls : List Location) (t : ℕ) (x : Ended) → IsEnded kept T names t x → IsEnded kept T (names ++ ls) t x
 ended_names T names ls t x e = record {
   rows = λ p by more. subst (λ (ks : List Location). map (shown_by p by ks t) x.rows ≡ map (with_places T t) (edges_at p T by t)) (sym (append_assoc names ls more)) (e.rows p by (ls ++ more));
   size = e.size;
@@ -99,7 +99,7 @@ ended_names T names ls t x e = record {
   alone = e.alone;
 }
 
-pub after_name : (m : TaggedMemory) (g : Tags) (L : Location) (h : Trace) (ts : List Touch) → count g.cells ≡ count m.tags.cells → count g.named ≡ count m.tags.named + 1 →
+pub after_name : {W : ℕ} (m : TaggedMemory W) (g : Tags) (L : Location) (h : Trace) (ts : List Touch) → count g.cells ≡ count m.tags.cells → count g.named ≡ count m.tags.named + 1 →
     ((n : Numbering) (T : Touches) (t : ℕ) (ts : List Touch) (ls : List Location) → length n.names ≡ count m.tags.named → Stands n T t ts m.tags → Stands (with_names n ls) T t ts g) →
     Follows m h ts → Follows (record m { tags = g; names = m.names ++ L ∷ [] }) h ts
 after_name m g L h ts c d s f = record {
@@ -144,7 +144,7 @@ heads_begun : (kinds : ℕ → ℕ → Kind) (T : Touches) (h : Trace) (ts : Lis
 heads_begun kinds T h ts test b k s = subst (λ (u : ℕ). HeadsStand kinds (touched_by T) u [] b) (sym k.number) (heads_next kinds (touched_by T) h.test ts b.classes b.marks (sym k.touches) s)
 
 -- the first test begins
-pub begun_first : (m : TaggedMemory) (h : Trace) (ts : List Touch) (test : ℕ) → m.test ≡ 0 → Follows m h ts → Follows (record m { test = test }) (next_test h ts test) []
+pub begun_first : {W : ℕ} (m : TaggedMemory W) (h : Trace) (ts : List Touch) (test : ℕ) → m.test ≡ 0 → Follows m h ts → Follows (record m { test = test }) (next_test h ts test) []
 begun_first m h ts test z f = record {
   test = refl;
   numbered = f.numbered;
@@ -159,7 +159,7 @@ begun_first m h ts test z f = record {
       record {
         stands = subst (λ (u : ℕ). Stands (numbering m) T u [] m.tags) q (subst (λ (us : List Touch). Stands (numbering m) T (h.test - 1) us m.tags) w t.stands);
         size = subst (λ (u : ℕ). size m.memory.world ≡ size_in T u) q (subst (λ (us : List Touch). size m.memory.world ≡ size_after (size_in T (h.test - 1)) us) w t.size);
-        met = meet_next h.test test ts m.discovery_tree.met (let v = b.number in omega arith) t.met;
+        met = λ kept. meet_next h.test test ts m.discovery_tree.met (let v = b.number in omega arith) (t.met kept);
         heads = λ kinds v. heads_begun kinds T h ts test m.heads b (t.heads kinds v);
         each = t.each ∙ q;
         ended = t.ended;
@@ -173,11 +173,11 @@ one_more xs x y i e = let l = slice_get_within (xs ++ x ∷ []) i y e in let j =
 ]
 
 -- a later test begins, and what is kept of the one before stands last
-pub begun_next : (m : TaggedMemory) (x : Ended) (g : Tags) (h : Trace) (ts : List Touch) (test : ℕ) → 0 < m.test →
-    ((h : Trace) (ts : List Touch) (T : Touches) → Follows m h ts → h ≡ trace_to T h.test → T h.test ≡ ts → IsEnded T m.names h.test x) → HaveSameRoom m.tags g →
+pub begun_next : {W : ℕ} (m : TaggedMemory W) (x : Ended) (g : Tags) (h : Trace) (ts : List Touch) (test : ℕ) → 0 < m.test →
+    ((h : Trace) (ts : List Touch) (T : Touches) → Follows m h ts → h ≡ trace_to T h.test → T h.test ≡ ts → IsEnded (keeps_walks W) T m.names h.test x) → HaveSameRoom m.tags g →
     ((n : Numbering) (T : Touches) (t : ℕ) (ts : List Touch) → m.test ≡ suc t → T m.test ≡ ts → Stands n T t ts m.tags → Stands n T m.test [] g) →
     Follows m h ts → Follows (record m { ended = m.ended ++ x ∷ []; tags = g; test = test }) (next_test h ts test) []
-begun_next m x g h ts test z k r s f = record {
+begun_next {W} m x g h ts test z k r s f = record {
   test = refl;
   numbered = f.numbered;
   cells = r.cells ∙ f.cells;
@@ -193,13 +193,13 @@ begun_next m x g h ts test z k r s f = record {
       record {
         stands = subst (λ (u : ℕ). Stands (numbering m) T u [] g) q (s (numbering m) T (h.test - 1) ts (y ∙ i) (ap T y ∙ w) t.stands);
         size = c ∙ ap (λ (u : ℕ). size_in T u) (sym i ∙ (sym y ∙ q));
-        met = meet_next h.test test ts m.discovery_tree.met (let v = b.number in omega arith) t.met;
+        met = λ kept. meet_next h.test test ts m.discovery_tree.met (let v = b.number in omega arith) (t.met kept);
         heads = λ kinds v. heads_begun kinds T h ts test m.heads b (t.heads kinds v);
         each = let l = length-append m.ended (x ∷ []) in let v = t.each in let u = b.number in omega arith;
         ended = λ j a v. elim (one_more m.ended x a j v) [
           | inl o ↦ t.ended j a o
           | inr o ↦ let n : h.test ≡ j + 1 = let p = o.0 in let v = t.each in omega arith in
-              subst (λ (y : Ended). IsEnded T m.names (j + 1) y) (sym o.1) (subst (λ (u : ℕ). IsEnded T m.names u x) n d)
+              subst (λ (y : Ended). IsEnded (keeps_walks W) T m.names (j + 1) y) (sym o.1) (subst (λ (u : ℕ). IsEnded (keeps_walks W) T m.names u x) n d)
         ];
       };
 }
@@ -217,12 +217,12 @@ pub objects_in : (w : World) (n : Numbers) → IsNumbered w n → length n.bases
 objects_in w n i = ap (λ (ns : List ℕ). length ns) i.bases ∙ length-bases (length w.statics + length w.states) w.objects
 
 -- what is kept of a test when it ends
-pub summed : (m : TaggedMemory) (x : Ended) (h : Trace) (ts : List Touch) (T : Touches) → 0 < m.test →
+pub summed : {W : ℕ} (m : TaggedMemory W) (x : Ended) (h : Trace) (ts : List Touch) (T : Touches) → 0 < m.test →
     ((n : Numbering) (T : Touches) (t : ℕ) (ts : List Touch) (p : Program) (by : ℕ → ℕ × ℕ) → m.test ≡ suc t → T m.test ≡ ts → Stands n T t ts m.tags
     → (xs : List Row) × (x.rows ≡ [] ++ xs) × (map (shown_by p by n.names m.test) xs ≡ map (with_places T m.test) (edges_at p T by m.test))) →
-    ((ts : List Touch) → 0 < m.test → HasDiscovered m.test ts m.discovery_tree → HaveRowsWalks ts x.rows x.walks) → x.size ≡ length m.numbers.bases.items →
+    ((ts : List Touch) → keeps_walks W ≡ true → 0 < m.test → HasDiscovered m.test ts m.discovery_tree → HaveRowsWalks ts x.rows x.walks) → x.size ≡ length m.numbers.bases.items →
     ((n : Numbering) (T : Touches) (t : ℕ) (ts : List Touch) → Stands n T t ts m.tags → x.alone ≡ list_all (λ L. not (exposed ts L) || same L (place.Static out_field)) (places ts)) →
-    Follows m h ts → h ≡ trace_to T h.test → T h.test ≡ ts → IsEnded T m.names h.test x
+    Follows m h ts → h ≡ trace_to T h.test → T h.test ≡ ts → IsEnded (keeps_walks W) T m.names h.test x
 summed m x h ts T z rows walks size_is alone f e w =
     let t = f.told T e in let y = f.test in
     let i : h.test ≡ suc (h.test - 1) = omega arith in
@@ -234,12 +234,12 @@ summed m x h ts T z rows walks size_is alone f e w =
           subst (λ (u : ℕ). map (shown_by p by (m.names ++ more) u) x.rows ≡ map (with_places T u) (edges_at p T by u)) y
           (subst (λ (xs : List Row). map (shown_by p by (m.names ++ more) m.test) xs ≡ map (with_places T m.test) (edges_at p T by m.test)) (sym r.1) r.2);
       size = size_is ∙ (objects_in m.memory.world m.numbers f.numbered ∙ (t.size ∙ (ap (λ (us : List Touch). size_after (size_in T (h.test - 1)) us) (sym w ∙ ap T i) ∙ ap (λ (u : ℕ). size_in T u) (sym i))));
-      walks = subst (λ (us : List Touch). HaveRowsWalks us x.rows x.walks) (sym w) (walks ts z (subst (λ (u : ℕ). HasDiscovered u ts m.discovery_tree) (sym y) t.met));
+      walks = λ kept. subst (λ (us : List Touch). HaveRowsWalks us x.rows x.walks) (sym w) (walks ts kept z (subst (λ (u : ℕ). HasDiscovered u ts m.discovery_tree) (sym y) (t.met kept)));
       alone = alone (numbering m) T (h.test - 1) ts t.stands ∙ ap (λ (us : List Touch). list_all (λ L. not (exposed us L) || same L (place.Static out_field)) (places us)) (sym w);
     }
 
 -- before the first test
-pub opened : (p : Program) (m : TaggedMemory) → m.memory.world ≡ opening p → m.memory.program ≡ p → m.numbers.statics ≡ length p.fields → m.numbers.bases.items ≡ [] → m.numbers.layouts ≡ m.numbers.places → m.numbers.places ≡ p → m.heads.classes ≡ length p.classes →
+pub opened : (p : Program) {W : ℕ} (m : TaggedMemory W) → m.memory.world ≡ opening p → m.memory.program ≡ p → m.numbers.statics ≡ length p.fields → m.numbers.bases.items ≡ [] → m.numbers.layouts ≡ m.numbers.places → m.numbers.places ≡ p → m.heads.classes ≡ length p.classes →
     count m.tags.cells ≡ length p.fields + length p.classes → count m.tags.named ≡ 0 → m.names ≡ [] → m.ended ≡ [] → m.test ≡ 0 →
     ((T : Touches) (n : Numbering) → n.cells ≡ [] ++ statics_of (opening p) ++ states_of (opening p) → Stands n T 0 [] m.tags) → ((t : ℕ) → HasDiscovered t [] m.discovery_tree) →
     ((kinds : ℕ → ℕ → Kind) (T : Touches) → HeadsStand kinds T 0 [] m.heads) → Follows m empty_trace []
@@ -261,7 +261,7 @@ opened p m q o a b l r h c d n e t s met heads =
       told = λ T u. record {
         stands = s T (numbering m) (ap cells_of q ∙ z);
         size = ap size q;
-        met = met 0;
+        met = λ kept. met 0;
         heads = λ kinds v. heads kinds (touched_by T);
         each = ap (λ (xs : List Ended). length xs) e;
         ended = λ v y g. absurd (none_there v y (subst (λ (xs : List Ended). slice_get xs v ≡ Some y) e g));
@@ -273,13 +273,13 @@ opened p m q o a b l r h c d n e t s met heads =
     none_there (suc v) y r = absurd (cc)
 
 -- a touch of a file or property
-pub name_notes : (m : TaggedMemory) (g : Tags) (part : Part) (name : List ℕ) (k : ℕ) (write : Bool) → IsNamed m.names (place_in part name) k → HaveSameRoom m.tags g →
+pub name_notes : {W : ℕ} (m : TaggedMemory W) (g : Tags) (part : Part) (name : List ℕ) (k : ℕ) (write : Bool) → IsNamed m.names (place_in part name) k → HaveSameRoom m.tags g →
     ((n : Numbering) (T : Touches) (t : ℕ) (ts : List Touch) (x : Touch) → IsPlaced n (record { spot = spot.Named k; at = k }) → x.write ≡ write → x.location ≡ located n.names (spot.Named k) → Stands n T t ts m.tags → Stands n T t (ts ++ x ∷ []) g) →
     NotesOne m g m.discovery_tree m.heads (record { write = write; location = place_in part name; gave = None })
 name_notes m g part name k write i r s = let x : Touch = record { write = write; location = place_in part name; gave = None } in record {
   room = r;
   tags = λ T t ts a. s (numbering m) T t ts x (placed_name (numbering m) part name k i) refl (sym i.here) a;
-  met = λ ts a. meet_ungiven m.test ts x m.discovery_tree.met a refl;
+  met = λ ts kept a. meet_ungiven m.test ts x m.discovery_tree.met a refl;
   heads = λ kinds T ts q a. heads_quiet kinds T m.test ts m.heads.classes (x ∷ []) m.heads.marks (λ o c. quiet part o c) a;
   size = same_size part write (size m.memory.world);
   classes = refl;
@@ -296,12 +296,12 @@ name_notes m g part name k write i r s = let x : Touch = record { write = write;
     same_size sort.Prop false n = refl
 
 -- a file or property was written
-pub store_put : (m : TaggedMemory) (k : Kept) (part : Part) (name : List ℕ) (c : Option (List ℕ)) (h : Trace) (ts : List Touch) → k.program ≡ m.memory.program → k.world ≡ put_in part m.memory.world name c → Follows m h ts → Follows (record m { memory = k }) h ts
+pub store_put : {W : ℕ} (m : TaggedMemory W) (k : Kept) (part : Part) (name : List ℕ) (c : Option (List ℕ)) (h : Trace) (ts : List Touch) → k.program ≡ m.memory.program → k.world ≡ put_in part m.memory.world name c → Follows m h ts → Follows (record m { memory = k }) h ts
 store_put m k sort.File name c h ts p q f = after_put m k (place.File name) c h ts refl tt p q f
 store_put m k sort.Prop name c h ts p q f = after_put m k (place.Prop name) c h ts refl tt p q f
 
 -- a part of the memory was lent after a touch was noted
-pub lent : {T E : Type 0} (C : Type 0) (r : Result T E) (m n : TaggedMemory) (k : Kept) (xs : List Touch) → (k.program ≡ n.memory.program) × OnOk r ((k.world ≡ n.memory.world) × C) → n.memory ≡ m.memory → Extends Follows m n xs →
+pub lent : {T E : Type 0} (C : Type 0) (r : Result T E) {W : ℕ} (m n : TaggedMemory W) (k : Kept) (xs : List Touch) → (k.program ≡ n.memory.program) × OnOk r ((k.world ≡ n.memory.world) × C) → n.memory ≡ m.memory → Extends Follows m n xs →
     (k.program ≡ m.memory.program) × OnOk r ((k.world ≡ m.memory.world) × Extends Follows m (record n { memory = k }) xs)
 lent C r m n k xs q e a = (q.0 ∙ ap (λ (v : Kept). v.program) e, on_ok_weaker r (λ z. (z.0 ∙ ap (λ (v : Kept). v.world) e, λ h ts f. after_read n k h (ts ++ xs) q.0 z.0 (a h ts f))) q.1)
 

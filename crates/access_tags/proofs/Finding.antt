@@ -1,5 +1,5 @@
 -- The edges of a run and what is shown of them, one test after another; and how many objects each test made.
-use Rattle.std.proofs.Common.{◌≡◌, ◌+◌, ◌-◌, ◌<◌, ◌≤◌, ℕ, zero, suc, true, List, [], ◌∷◌, ◌++◌, length, map, flat_map, slice_get, get_or, refl, sym, ◌∙◌, ap, subst, arith, Some}
+use Rattle.std.proofs.Common.{◌≡◌, ◌+◌, ◌-◌, ◌<◌, ◌≤◌, ℕ, zero, suc, Bool, true, List, [], ◌∷◌, ◌++◌, length, map, flat_map, slice_get, get_or, refl, sym, ◌∙◌, ap, subst, arith, Some}
 use Rattle.std.specs.List.{range_with_len}
 use Rattle.std.proofs.lemmas.List.{append_assoc, append-nil, map-append}
 use Rattle.jvm_model.specs.declared.program.Program.{Program}
@@ -50,16 +50,15 @@ module _ (p : Program) (T : Touches) (by : ℕ → ℕ × ℕ) (names : List Loc
   up_to_more : (n : ℕ) → edges_up_to p T by (n + 1) ≡ edges_up_to p T by n ++ edges_at p T by (n + 1)
   up_to_more n = ap (λ (xs : List ℕ). flat_map (λ t. edges_at p T by t) xs) (range_more n) ∙ flat_push (λ t. edges_at p T by t) (range_with_len 1 n) (n + 1)
 
-  rows_there : (t : ℕ) (x : Ended) → IsEnded T names t x → map (shown_by p by names t) x.rows ≡ map (with_places T t) (edges_at p T by t)
+  rows_there : {kept : Bool} (t : ℕ) (x : Ended) → IsEnded kept T names t x → map (shown_by p by names t) x.rows ≡ map (with_places T t) (edges_at p T by t)
   rows_there t x e = subst (λ (ns : List Location). map (shown_by p by ns t) x.rows ≡ map (with_places T t) (edges_at p T by t)) (append-nil names) (e.rows p by [])
 
-  edges_there : (t : ℕ) (x : Ended) → IsEnded T names t x → map (edge_by p by names t) x.rows ≡ edges_at p T by t
+  edges_there : {kept : Bool} (t : ℕ) (x : Ended) → IsEnded kept T names t x → map (edge_by p by names t) x.rows ≡ edges_at p T by t
   edges_there t x e = test_edges p T by names t x.rows (edges_at p T by t) (rows_there t x e)
 
-  pub edges_more : (n : ℕ) (x : Ended) (es ds : List Edge) → IsEnded T names (n + 1) x → es ≡ edges_up_to p T by n → ds ≡ es ++ map (edge_by p by names (n + 1)) x.rows → ds ≡ edges_up_to p T by (n + 1)
+  pub edges_more : {kept : Bool} (n : ℕ) (x : Ended) (es ds : List Edge) → IsEnded kept T names (n + 1) x → es ≡ edges_up_to p T by n → ds ≡ es ++ map (edge_by p by names (n + 1)) x.rows → ds ≡ edges_up_to p T by (n + 1)
   edges_more n x es ds e q r = r ∙ (rw q (rw (edges_there (n + 1) x e) (sym (up_to_more n))))
 
-  pub shown_more : (n : ℕ) (x : Ended) (es ds : List Edge) (ss us : List Shown) → AreNames names → HaveWalks p T → n + 1 ≤ length p.tests → IsEnded T names (n + 1) x → PairedList (IsShownIn p T by) es ss →
-      ds ≡ es ++ map (edge_by p by names (n + 1)) x.rows → us ≡ ss ++ shown_rows p by names x.rows x.walks → PairedList (IsShownIn p T by) ds us
-  shown_more n x es ds ss us named walks h e q r s = rw r (rw s (rw (edges_there (n + 1) x e)
-      (list-append q (test_shown p T by names named (n + 1) (omega arith, h) walks x.rows x.walks (rows_there (n + 1) x e) e.walks))))
+  pub shown_more : (n : ℕ) (x : Ended) (ss us : List Shown) → AreNames names → HaveWalks p T → n + 1 ≤ length p.tests → IsEnded true T names (n + 1) x →
+      PairedList (IsShownIn p T by) (edges_up_to p T by n) ss → us ≡ ss ++ shown_rows p by names x.rows x.walks → PairedList (IsShownIn p T by) (edges_up_to p T by (n + 1)) us
+  shown_more n x ss us named walks h e q s = rw (up_to_more n) (rw s (list-append q (test_shown p T by names named (n + 1) (omega arith, h) walks x.rows x.walks (rows_there (n + 1) x e) (e.walks refl))))

@@ -29,7 +29,7 @@ use Rattle.access_tags.specs.declared.discovery_tree.DiscoveryTree.{DiscoveryTre
 use Rattle.access_tags.specs.declared.memory.TaggedMemory.{TaggedMemory}
 use Rattle.access_tags.specs.declared.numbers.Numbers.{Numbers}
 use Rattle.access_tags.specs.declared.tags.Tags.{Tags}
-use Rattle.access_tags.specs.Followed.{AreKinds, Follows, HasNoted, HaveNoted, HaveSameRoom, IsEnded, IsLaid, IsNumbered, numbering, numbering_in}
+use Rattle.access_tags.specs.Followed.{AreKinds, Follows, HasNoted, HaveNoted, HaveSameRoom, IsEnded, IsLaid, IsNumbered, numbering, numbering_in, keeps_walks}
 use Rattle.access_tags.specs.Numbering.{Numbering, is_name, located, with_cells}
 use Rattle.access_tags.specs.Ran.{size_after, size_in, touched_by, with_head}
 use Rattle.access_tags.specs.HeadMarks.{IsKindAt}
@@ -65,14 +65,14 @@ size_made n x = let m : max n (suc n) ≡ suc n = omega arith in
     ap (λ (k : ℕ). size_after k (fields_made n x.fields ++ (elems_made n 0 x.elems ++ text_made n x.text))) m ∙ (size_fields (suc n) n x.fields (elems_made n 0 x.elems ++ text_made n x.text) ∙ (size_elems (suc n) n 0 x.elems (text_made n x.text) ∙ size_text (suc n) n x.text))
 
 -- another world with the same locations and heads
-record IsAlike (m : TaggedMemory) (k : Kept) : Type 0 where
+record IsAlike {W : ℕ} (m : TaggedMemory W) (k : Kept) : Type 0 where
   program : k.program ≡ m.memory.program
   cells : cells_of k.world ≡ cells_of m.memory.world
   size : size k.world ≡ size m.memory.world
   heads : (o : ℕ) → (object_at k.world o).head ≡ (object_at m.memory.world o).head
   numbered : IsNumbered k.world m.numbers
 
-moved : (m : TaggedMemory) (k : Kept) (h : Trace) (ts : List Touch) → IsAlike m k → Follows m h ts → Follows (record m { memory = k }) h ts
+moved : {W : ℕ} (m : TaggedMemory W) (k : Kept) (h : Trace) (ts : List Touch) → IsAlike m k → Follows m h ts → Follows (record m { memory = k }) h ts
 moved m k h ts a f = record {
   test = f.test;
   numbered = a.numbered;
@@ -154,7 +154,7 @@ head_put w (place.File n) v o c e = refl
 head_put w (place.Prop n) v o c e = refl
 
 -- a call that writes
-pub after_put : (m : TaggedMemory) (k : Kept) (L : Location) (v : Content L) (h : Trace) (ts : List Touch) → is_cell L ≡ true → Exists m.memory.world L → k.program ≡ m.memory.program → k.world ≡ put m.memory.world L v →
+pub after_put : {W : ℕ} (m : TaggedMemory W) (k : Kept) (L : Location) (v : Content L) (h : Trace) (ts : List Touch) → is_cell L ≡ true → Exists m.memory.world L → k.program ≡ m.memory.program → k.world ≡ put m.memory.world L v →
     Follows m h ts → Follows (record m { memory = k }) h ts
 after_put m k L v h ts c e p q f = let w = m.memory.world in moved m k h ts (record {
   program = p;
@@ -165,7 +165,7 @@ after_put m k L v h ts c e p q f = let w = m.memory.world in moved m k h ts (rec
 }) f
 
 -- a call that reads
-pub after_read : (m : TaggedMemory) (k : Kept) (h : Trace) (ts : List Touch) → k.program ≡ m.memory.program → k.world ≡ m.memory.world → Follows m h ts → Follows (record m { memory = k }) h ts
+pub after_read : {W : ℕ} (m : TaggedMemory W) (k : Kept) (h : Trace) (ts : List Touch) → k.program ≡ m.memory.program → k.world ≡ m.memory.world → Follows m h ts → Follows (record m { memory = k }) h ts
 after_read m k h ts p q f = moved m k h ts (record {
   program = p;
   cells = ap cells_of q;
@@ -185,15 +185,15 @@ exists_put w (place.File n) v c e = tt
 exists_put w (place.Prop n) v c e = tt
 
 -- what the parts that a memory keeps say of one more touch
-pub record NotesOne (m : TaggedMemory) (g : Tags) (a : DiscoveryTree) (b : Heads) (x : Touch) : Type 0 where
+pub record NotesOne {W : ℕ} (m : TaggedMemory W) (g : Tags) (a : DiscoveryTree) (b : Heads) (x : Touch) : Type 0 where
   pub room : HaveSameRoom m.tags g
   pub tags : HaveNoted (numbering m) m.tags g (x ∷ [])
-  pub met : (ts : List Touch) → HasDiscovered m.test ts m.discovery_tree → HasDiscovered m.test (ts ++ x ∷ []) a
+  pub met : (ts : List Touch) → keeps_walks W ≡ true → HasDiscovered m.test ts m.discovery_tree → HasDiscovered m.test (ts ++ x ∷ []) a
   pub heads : (kinds : ℕ → ℕ → Kind) (T : Touches) (ts : List Touch) → AreKinds kinds m.memory.world → HeadsStand kinds T m.test ts m.heads → HeadsStand kinds T m.test (ts ++ x ∷ []) b
   pub size : size_after (size m.memory.world) (x ∷ []) ≡ size m.memory.world
   pub classes : b.classes ≡ m.heads.classes
 
-pub noted : (m : TaggedMemory) (g : Tags) (a : DiscoveryTree) (b : Heads) (x : Touch) (h : Trace) (ts : List Touch) → NotesOne m g a b x → Follows m h ts → Follows (record m { tags = g; discovery_tree = a; heads = b }) h (ts ++ x ∷ [])
+pub noted : {W : ℕ} (m : TaggedMemory W) (g : Tags) (a : DiscoveryTree) (b : Heads) (x : Touch) (h : Trace) (ts : List Touch) → NotesOne m g a b x → Follows m h ts → Follows (record m { tags = g; discovery_tree = a; heads = b }) h (ts ++ x ∷ [])
 noted m g a b x h ts n f = record {
   test = f.test;
   numbered = f.numbered;
@@ -204,7 +204,7 @@ noted m g a b x h ts n f = record {
   told = λ T e. let t = f.told T e in record {
     stands = n.tags T (h.test - 1) ts t.stands;
     size = sym n.size ∙ (ap (λ (j : ℕ). size_after j (x ∷ [])) t.size ∙ sym (size_append (size_in T (h.test - 1)) ts (x ∷ [])));
-    met = subst (λ (u : ℕ). HasDiscovered u (ts ++ x ∷ []) a) f.test (n.met ts (subst (λ (u : ℕ). HasDiscovered u ts m.discovery_tree) (sym f.test) t.met));
+    met = λ kept. subst (λ (u : ℕ). HasDiscovered u (ts ++ x ∷ []) a) f.test (n.met ts kept (subst (λ (u : ℕ). HasDiscovered u ts m.discovery_tree) (sym f.test) (t.met kept)));
     heads = λ kinds q. subst (λ (u : ℕ). HeadsStand kinds (touched_by T) u (ts ++ x ∷ []) b) f.test
         (n.heads kinds (touched_by T) ts q (subst (λ (u : ℕ). HeadsStand kinds (touched_by T) u ts m.heads) (sym f.test) (t.heads kinds q)));
     each = t.each;
@@ -224,7 +224,7 @@ kind_at kinds w u (place.File n) k a e q = q
 kind_at kinds w u (place.Prop n) k a e q = q
 
 -- a touch that was noted after a call of the memory
-pub read_noted : (m n : TaggedMemory) (k : Kept) (s : LocationKey) (g : Option ℕ) (d : Option Kind) (x : Touch) → is_name s ≡ false → Exists m.memory.world (located [] s) → k.program ≡ m.memory.program → k.world ≡ m.memory.world →
+pub read_noted : {W : ℕ} (m n : TaggedMemory W) (k : Kept) (s : LocationKey) (g : Option ℕ) (d : Option Kind) (x : Touch) → is_name s ≡ false → Exists m.memory.world (located [] s) → k.program ≡ m.memory.program → k.world ≡ m.memory.world →
     x.write ≡ false → x.location ≡ located [] s → x.gave ≡ g → IsKindAt (λ o. (at m.memory.world (place.Head o)).kind) (located [] s) d → HasNoted (record m { memory = k }) n s false g d → Extends Follows m n (x ∷ [])
 read_noted m n k s g d x i e p q w l v a told h ts f = told x i (subst (λ (z : World). Exists z (located [] s)) (sym q) e) w l v
     (subst (λ (z : World). IsKindAt (λ o. (at z (place.Head o)).kind) (located [] s) d) (sym q) a) (rw w refl) h ts (after_read m k h ts p q f)
@@ -249,7 +249,7 @@ cell_kind kinds (place.Text o) c = refl
 cell_kind kinds (place.File a) c = refl
 cell_kind kinds (place.Prop a) c = refl
 
-pub write_noted : (m n : TaggedMemory) (k : Kept) (s : LocationKey) (v : Content (located [] s)) → is_name s ≡ false → is_cell (located [] s) ≡ true → Exists m.memory.world (located [] s) → k.program ≡ m.memory.program →
+pub write_noted : {W : ℕ} (m n : TaggedMemory W) (k : Kept) (s : LocationKey) (v : Content (located [] s)) → is_name s ≡ false → is_cell (located [] s) ≡ true → Exists m.memory.world (located [] s) → k.program ≡ m.memory.program →
     k.world ≡ put m.memory.world (located [] s) v → HasNoted (record m { memory = k }) n s true None None → Extends Follows m n (write_of (located [] s) ∷ [])
 write_noted m n k s v i c e p q told h ts f = let L = located [] s in told (write_of L) i (subst (λ (z : World). Exists z L) (sym q) (exists_put m.memory.world L v c e)) refl refl refl
     (cell_kind (λ o. (at k.world (place.Head o)).kind) L c) (cell_size (size k.world) L c) h ts (after_put m k L v h ts c e p q f)
@@ -285,13 +285,13 @@ unfolding blank
 head_blank p x = refl
 
 -- the tags got room for the parts of a new object
-pub grown : (m : TaggedMemory) (g : Tags) (x : Object) (T : Touches) (t : ℕ) (ts : List Touch) →
+pub grown : {W : ℕ} (m : TaggedMemory W) (g : Tags) (x : Object) (T : Touches) (t : ℕ) (ts : List Touch) →
     ((n : Numbering) (T : Touches) (t : ℕ) (ts : List Touch) (ls : List Location) → length n.cells ≡ count m.tags.cells → Stands n T t ts m.tags → Stands (with_cells n ls) T t ts g) →
     count m.tags.cells ≡ length (cells_of m.memory.world) → Stands (numbering m) T t ts m.tags → Stands (numbering_in (make_object m.memory.world x) m.names) T t ts g
 grown m g x T t ts s e k = subst (λ (ls : List Location). Stands (record { cells = ls; names = m.names }) T t ts g) (sym (made_cells m.memory.world x)) (s (numbering m) T t ts (parts (size m.memory.world) x) (sym e) k)
 
 -- what the parts that a memory keeps say of a new object
-pub record NotesMade (m n : TaggedMemory) (g : Tags) (x : Object) : Type 0 where
+pub record NotesMade {W : ℕ} (m n : TaggedMemory W) (g : Tags) (x : Object) : Type 0 where
   pub program : n.memory.program ≡ m.memory.program
   pub world : n.memory.world ≡ make_object m.memory.world x
   pub numbered : IsNumbered (make_object m.memory.world x) n.numbers
@@ -308,8 +308,8 @@ pub record NotesMade (m n : TaggedMemory) (g : Tags) (x : Object) : Type 0 where
   pub test : n.test ≡ m.test
 
 -- an object more, and its touches
-pub after_make : (m n : TaggedMemory) (g : Tags) (x : Object) (h : Trace) (ts : List Touch) → NotesMade m n g x → Follows m h ts → Follows n h (ts ++ made (size m.memory.world) x)
-after_make m n g x h ts k f = record {
+pub after_make : {W : ℕ} (m n : TaggedMemory W) (g : Tags) (x : Object) (h : Trace) (ts : List Touch) → NotesMade m n g x → Follows m h ts → Follows n h (ts ++ made (size m.memory.world) x)
+after_make {W} m n g x h ts k f = record {
   test = k.test ∙ f.test;
   numbered = subst (λ (z : World). IsNumbered z n.numbers) (sym k.world) k.numbered;
   cells = let l = length-parts a x in let j = length-append (cells_of w) (parts a x) in let c = k.cells f.cells in
@@ -322,12 +322,12 @@ after_make m n g x h ts k f = record {
     stands = subst (λ (z : World). Stands (numbering_in z n.names) T (h.test - 1) (ts ++ made a x) n.tags) (sym k.world)
         (subst (λ (ls : List Location). Stands (numbering_in v ls) T (h.test - 1) (ts ++ made a x) n.tags) (sym k.names) (k.tags T (h.test - 1) ts (k.grown T (h.test - 1) ts f.cells t.stands)));
     size = ap size k.world ∙ (longer ∙ (sym (size_made a x) ∙ (ap (λ (j : ℕ). size_after j (made a x)) t.size ∙ sym (size_append (size_in T (h.test - 1)) ts (made a x)))));
-    met = subst (λ (ms : DiscoveryTree). HasDiscovered h.test (ts ++ made a x) ms) (sym k.discovery_tree) (meet_made h.test ts m.discovery_tree.met a x t.met);
+    met = λ kept. subst (λ (ms : DiscoveryTree). HasDiscovered h.test (ts ++ made a x) ms) (sym k.discovery_tree) (meet_made h.test ts m.discovery_tree.met a x (t.met kept));
     heads = λ kinds q. heads_made kinds (touched_by T) h.test ts n.heads.classes n.heads.marks a x (subst (λ (j : ℕ). HeadsStand kinds (touched_by T) j (ts ++ write_of (place.Head a) ∷ []) n.heads) f.test
         (k.heads kinds (touched_by T) ts (write_of (place.Head a)) a refl (last kinds (λ j o l. q j o (rw k.world l) ∙ ap (λ (z : World). (object_at z o).head.kind) k.world) m.test)
         (subst (λ (j : ℕ). HeadsStand kinds (touched_by T) j ts m.heads) (sym f.test) (t.heads kinds (before kinds (λ j o l. q j o (rw k.world l) ∙ ap (λ (z : World). (object_at z o).head.kind) k.world))))));
     each = ap (λ (xs : List Ended). length xs) k.ended ∙ t.each;
-    ended = λ j y e. subst (λ (ls : List Location). IsEnded T ls (j + 1) y) (sym k.names) (t.ended j y (subst (λ (xs : List Ended). slice_get xs j ≡ Some y) k.ended e));
+    ended = λ j y e. subst (λ (ls : List Location). IsEnded (keeps_walks W) T ls (j + 1) y) (sym k.names) (t.ended j y (subst (λ (xs : List Ended). slice_get xs j ≡ Some y) k.ended e));
   };
 }
   where

@@ -17,7 +17,7 @@ use Rattle.order_law.specs.Walk.{IsShownIn}
 use Rattle.vm_mem.specs.Trace.{Trace}
 use Rattle.access_tags.specs.declared.ended.Ended.{Ended}
 use Rattle.access_tags.specs.declared.memory.TaggedMemory.{TaggedMemory}
-use Rattle.access_tags.specs.Followed.{IsEnded, IsTold, Follows}
+use Rattle.access_tags.specs.Followed.{IsEnded, IsTold, Follows, keeps_walks}
 use Rattle.access_tags.specs.FoundIn.{AreEnded, added, edges_up_to}
 use Rattle.access_tags.specs.Ran.{trace_to, touched_by, size_in, owner_by}
 use Rattle.access_tags.specs.Settled.{reads_out_alone}
@@ -32,7 +32,7 @@ touched_at T zero h = absurd (omega arith)
 touched_at T (suc n) h = refl
 
 -- what a memory that follows a run is told of it
-module _ (m : TaggedMemory) (T : Touches) (n : ℕ) (f : Follows m (trace_to T n) (touched_by T n)) where
+module _ {W : ℕ} (m : TaggedMemory W) (T : Touches) (n : ℕ) (f : Follows m (trace_to T n) (touched_by T n)) where
   pub told_all : IsTold T n (touched_by T n) m
   told_all = let e = trace_test T n in subst (λ (t : ℕ). IsTold T t (touched_by T n) m) e (f.told T (ap (λ (t : ℕ). trace_to T t) (sym e)))
 
@@ -42,19 +42,19 @@ module _ (m : TaggedMemory) (T : Touches) (n : ℕ) (f : Follows m (trace_to T n
   pub count_all : 0 < n → length m.ended + 1 ≡ n
   count_all h = let e = told_all.each in omega arith
 
-  pub ended_all : (last : Ended) → 0 < n → ((h : Trace) (ts : List Touch) (S : Touches) → Follows m h ts → h ≡ trace_to S h.test → S h.test ≡ ts → IsEnded S m.names h.test last) → AreEnded T m.names m.ended last
+  pub ended_all : (last : Ended) → 0 < n → ((h : Trace) (ts : List Touch) (S : Touches) → Follows m h ts → h ≡ trace_to S h.test → S h.test ≡ ts → IsEnded (keeps_walks W) S m.names h.test last) → AreEnded (keeps_walks W) T m.names m.ended last
   ended_all last h s =
       let e = trace_test T n in
-      let own : IsEnded T m.names (trace_to T n).test last = s (trace_to T n) (touched_by T n) T f (ap (λ (t : ℕ). trace_to T t) (sym e)) (ap (λ (t : ℕ). T t) e ∙ touched_at T n h) in
+      let own : IsEnded (keeps_walks W) T m.names (trace_to T n).test last = s (trace_to T n) (touched_by T n) T f (ap (λ (t : ℕ). trace_to T t) (sym e)) (ap (λ (t : ℕ). T t) e ∙ touched_at T n h) in
       record {
         each = told_all.ended;
-        last = subst (λ (t : ℕ). IsEnded T m.names t last) (e ∙ sym (count_all h)) own;
+        last = subst (λ (t : ℕ). IsEnded (keeps_walks W) T m.names t last) (e ∙ sym (count_all h)) own;
       }
 
   -- the same of lists that are those of the memory
   pub kept_all : (names : List Location) (ended : List Ended) (last : Ended) → names ≡ m.names → ended ≡ m.ended → 0 < n →
-      ((h : Trace) (ts : List Touch) (S : Touches) → Follows m h ts → h ≡ trace_to S h.test → S h.test ≡ ts → IsEnded S m.names h.test last) → AreEnded T names ended last
-  kept_all names ended last e g h s = subst (λ (ns : List Location). AreEnded T ns ended last) (sym e) (subst (λ (xs : List Ended). AreEnded T m.names xs last) (sym g) (ended_all last h s))
+      ((h : Trace) (ts : List Touch) (S : Touches) → Follows m h ts → h ≡ trace_to S h.test → S h.test ≡ ts → IsEnded (keeps_walks W) S m.names h.test last) → AreEnded (keeps_walks W) T names ended last
+  kept_all names ended last e g h s = subst (λ (ns : List Location). AreEnded (keeps_walks W) T ns ended last) (sym e) (subst (λ (xs : List Ended). AreEnded (keeps_walks W) T m.names xs last) (sym g) (ended_all last h s))
 
   pub count_by : (ended : List Ended) → ended ≡ m.ended → 0 < n → length ended + 1 ≡ n
   count_by ended g h = ap (λ (xs : List Ended). length xs + 1) g ∙ count_all h
@@ -68,8 +68,11 @@ module _ (p : Program) (T : Touches) where
   unfolding edges_in
   all_edges n made es q e r = r ∙ (ap (λ (ms : List ℕ). edges_up_to p T (owner_in ms) n) e ∙ ap (λ (k : ℕ). edges_up_to p T (owner_in (added (size_in T) k)) k) q)
 
-  pub all_shown : (n : ℕ) (made : List ℕ) (es : List Edge) (ss : List Shown) → n ≡ length p.tests → made ≡ added (size_in T) n → PairedList (IsShownIn p T (owner_in made)) es ss → PairedList (IsShownIn p T (owner_by p T)) es ss
-  all_shown n made es ss q e r = subst (λ (k : ℕ). PairedList (IsShownIn p T (owner_in (added (size_in T) k))) es ss) q (subst (λ (ms : List ℕ). PairedList (IsShownIn p T (owner_in ms)) es ss) e r)
+  pub all_shown : (n : ℕ) (made : List ℕ) (ss : List Shown) → n ≡ length p.tests → made ≡ added (size_in T) n → PairedList (IsShownIn p T (owner_in made)) (edges_up_to p T (owner_in made) n) ss →
+      PairedList (IsShownIn p T (owner_by p T)) (edges_in p T (owner_by p T)) ss
+  unfolding edges_in
+  all_shown n made ss q e r = subst (λ (k : ℕ). PairedList (IsShownIn p T (owner_in (added (size_in T) k))) (edges_up_to p T (owner_in (added (size_in T) k)) k) ss) q
+      (subst (λ (ms : List ℕ). PairedList (IsShownIn p T (owner_in ms)) (edges_up_to p T (owner_in ms) n) ss) e r)
 
 pub positive : (k : ℕ) → (k ≡ 0 → ⊥) → 0 < k
 positive zero f = absurd (f refl)
@@ -79,7 +82,7 @@ positive (suc k) f = omega arith
 abbrev pub alone_in : List Touch → Bool
 alone_in ts = list_all (λ L. not (exposed ts L) || same L (place.Static out_field)) (places ts)
 
-pub last_alone : (m : TaggedMemory) (T : Touches) (n : ℕ) (f : Follows m (trace_to T n) (touched_by T n)) (b : Bool) → 0 < n → b ≡ alone_in (touched_by T n) → b ≡ reads_out_alone T (length m.ended + 1)
+pub last_alone : {W : ℕ} (m : TaggedMemory W) (T : Touches) (n : ℕ) (f : Follows m (trace_to T n) (touched_by T n)) (b : Bool) → 0 < n → b ≡ alone_in (touched_by T n) → b ≡ reads_out_alone T (length m.ended + 1)
 last_alone m T n f b h e = e ∙ ap (λ (ts : List Touch). alone_in ts) (sym (touched_at T n h) ∙ ap (λ (t : ℕ). T t) (sym (count_all m T n f h)))
 
 -- marks of entries, and one more behind them

@@ -1,5 +1,5 @@
 -- What a memory with tags keeps of the world that it stands for and of the tests that it follows.
-use Rattle.std.specs.Prelude.{◌≡◌, ℕ, ◌+◌, ◌-◌, ◌<◌, List, [], ◌∷◌, ◌++◌, map, length, Bool, true, false, not, ◌||◌, slice_get, get_or, Option, Some}
+use Rattle.std.specs.Prelude.{◌≡◌, ℕ, ◌+◌, ◌-◌, ◌<◌, List, [], ◌∷◌, ◌++◌, map, length, Bool, true, false, not, nat_eq, ◌||◌, slice_get, get_or, Option, Some}
 use Rattle.std.specs.List.{list_all, list_any}
 use Rattle.jvm_model.specs.declared.values.Location.{Location}
 use Rattle.jvm_model.specs.declared.values.Location.TheVariants as place
@@ -42,18 +42,22 @@ pub record IsNumbered (w : World) (n : Numbers) : Type 0 where
   pub layouts : n.layouts ≡ n.places
   pub laid : (o : ℕ) → o < size w → IsLaid n.places (object_at w o)
 
--- what is kept of test t, which ended
-pub record IsEnded (T : Touches) (names : List Location) (t : ℕ) (x : Ended) : Type 0 where
+-- whether a memory keeps walks, by its parameter
+abbrev pub keeps_walks : ℕ → Bool
+keeps_walks n = not (nat_eq n 0)
+
+-- what is kept of test t, which ended, with walks or without
+pub record IsEnded (walks_kept : Bool) (T : Touches) (names : List Location) (t : ℕ) (x : Ended) : Type 0 where
   pub rows : (p : Program) (by : ℕ → ℕ × ℕ) (more : List Location) → map (shown_by p by (names ++ more) t) x.rows ≡ map (with_places T t) (edges_at p T by t)
   pub size : x.size ≡ size_in T t
-  pub walks : HaveRowsWalks (T t) x.rows x.walks
+  pub walks : walks_kept ≡ true → HaveRowsWalks (T t) x.rows x.walks
   pub alone : x.alone ≡ list_all (λ L. not (exposed (T t) L) || same L (place.Static out_field)) (places (T t))
 
 -- the locations of a world, with these names
 abbrev pub numbering_in : World → List Location → Numbering
 numbering_in w names = record { cells = cells_of w; names = names }
 
-abbrev pub numbering : TaggedMemory → Numbering
+abbrev pub numbering : {W : ℕ} → TaggedMemory W → Numbering
 numbering m = numbering_in m.memory.world m.names
 
 -- a file or property has this number among the names
@@ -76,16 +80,16 @@ abbrev pub AreKinds : (ℕ → ℕ → Kind) → World → Type 0
 AreKinds kinds w = (u o : ℕ) → o < size w → kinds u o ≡ (at w (place.Head o)).kind
 
 -- test t of these runs, and touched ts
-pub record IsTold (T : Touches) (t : ℕ) (ts : List Touch) (m : TaggedMemory) : Type 0 where
+pub record IsTold {W : ℕ} (T : Touches) (t : ℕ) (ts : List Touch) (m : TaggedMemory W) : Type 0 where
   pub stands : Stands (numbering m) T (t - 1) ts m.tags
   pub size : size m.memory.world ≡ size_after (size_in T (t - 1)) ts
-  pub met : HasDiscovered t ts m.discovery_tree
+  pub met : keeps_walks W ≡ true → HasDiscovered t ts m.discovery_tree
   pub heads : (kinds : ℕ → ℕ → Kind) → AreKinds kinds m.memory.world → HeadsStand kinds (touched_by T) t ts m.heads
   pub each : length m.ended ≡ t - 1
-  pub ended : (i : ℕ) (x : Ended) → slice_get m.ended i ≡ Some x → IsEnded T m.names (i + 1) x
+  pub ended : (i : ℕ) (x : Ended) → slice_get m.ended i ≡ Some x → IsEnded (keeps_walks W) T m.names (i + 1) x
 
 -- a memory with tags follows these tests, of which the one that runs made these touches
-pub record Follows (m : TaggedMemory) (h : Trace) (ts : List Touch) : Type 0 where
+pub record Follows {W : ℕ} (m : TaggedMemory W) (h : Trace) (ts : List Touch) : Type 0 where
   pub test : m.test ≡ h.test
   pub numbered : IsNumbered m.memory.world m.numbers
   pub cells : count m.tags.cells ≡ length (cells_of m.memory.world)
@@ -95,6 +99,6 @@ pub record Follows (m : TaggedMemory) (h : Trace) (ts : List Touch) : Type 0 whe
   pub told : (T : Touches) → h ≡ trace_to T h.test → IsTold T h.test ts m
 
 -- A touch of a spot was noted: a read that gave this, or a write, of the head of an object of this kind or of another part.
-abbrev pub HasNoted : TaggedMemory → TaggedMemory → LocationKey → Bool → Option ℕ → Option Kind → Type 0
+abbrev pub HasNoted : {W : ℕ} → TaggedMemory W → TaggedMemory W → LocationKey → Bool → Option ℕ → Option Kind → Type 0
 HasNoted old new s write gave kind = (x : Touch) → is_name s ≡ false → Exists old.memory.world (located [] s) → x.write ≡ write → x.location ≡ located [] s → x.gave ≡ gave →
     IsKindAt (λ o. (at old.memory.world (place.Head o)).kind) (located [] s) kind → size_after (size old.memory.world) (x ∷ []) ≡ size old.memory.world → Extends Follows old new (x ∷ [])

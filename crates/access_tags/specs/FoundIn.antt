@@ -10,10 +10,10 @@ use Rattle.access_tags.specs.declared.ended.Ended.{Ended}
 use Rattle.access_tags.specs.Followed.{IsEnded}
 use Rattle.access_tags.specs.Rows.{edges_at}
 
--- what is kept of the tests before the last one, and of that
-pub record AreEnded (T : Touches) (names : List Location) (xs : List Ended) (y : Ended) : Type 0 where
-  pub each : (i : ℕ) (x : Ended) → slice_get xs i ≡ Some x → IsEnded T names (i + 1) x
-  pub last : IsEnded T names (length xs + 1) y
+-- what is kept of the tests before the last one, and of that, with walks or without
+pub record AreEnded (walks_kept : Bool) (T : Touches) (names : List Location) (xs : List Ended) (y : Ended) : Type 0 where
+  pub each : (i : ℕ) (x : Ended) → slice_get xs i ≡ Some x → IsEnded walks_kept T names (i + 1) x
+  pub last : IsEnded walks_kept T names (length xs + 1) y
 
 -- the edges to the first n tests
 abbrev pub edges_up_to : Program → Touches → (ℕ → ℕ × ℕ) → ℕ → List Edge

@@ -4,8 +4,8 @@ use crate::conflict::LocationKey;
 use crate::rows::Row;
 use et_base::Items;
 
-/// A test that ended: the rows of its edges, the walk to the object of each part that these show, how many objects there
-/// were then, and whether each of its exposed reads is of the static `System.out`.
+/// A test that ended: the rows of its edges, the walk to the object of each part that these show where walks are kept, how
+/// many objects there were then, and whether each of its exposed reads is of the static `System.out`.
 #[derive(Debug, Drop)]
 pub struct Ended {
     pub rows: Items<Row>,

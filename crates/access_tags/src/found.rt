@@ -1,6 +1,6 @@
 //! The edges of rows, and what is shown of them.
 
-ghost use Rattle.std.specs.Prelude.{◌≡◌, ◌≤◌, ◌++◌, ◌+◌, ℕ, [], length, map, slice_get, true, Some, IfOk, OnOk};
+ghost use Rattle.std.specs.Prelude.{◌≡◌, ◌≤◌, ◌++◌, ◌+◌, ℕ, [], Bool, length, map, slice_get, true, Some, IfOk, OnOk};
 ghost use Rattle.jvm_model.specs.Texts.{location_text};
 ghost use Rattle.order_law.specs.Histories.{Touches};
 ghost use Rattle.order_law.specs.OwnForm.{HasCodeUnits};
@@ -146,54 +146,6 @@ fn push_spot(
     }
 }
 
-/// The edges of tests and what is shown of each.
-#[derive(Drop)]
-pub struct Findings {
-    pub edges: Items<Edge>,
-    pub shown: Items<Shown>,
-}
-
-impl Findings {
-    /// Nothing found.
-    pub fn new(alloc: Global) -> Findings
-        ensures edges { result.edges ≡ [] }
-        ensures shown { result.shown ≡ [] }
-    {
-        Findings {
-            edges: Items::new(alloc),
-            shown: Items::new(alloc),
-        }
-    }
-
-    /// Adds what is kept of a test that ended, where the tests made so many objects each.
-    pub fn push_test(
-        &mut self,
-        alloc: Global,
-        p: &Program,
-        made: &[u64],
-        names: &[Location],
-        test: u32,
-        ended: &Ended,
-    ) -> Result<(), NoMemory>
-        requires { HasCodeUnits p.now }
-        ensures form { OnOk result (are_printed self.old.edges ≡ true → are_printed self.new.edges ≡ true) }
-        ensures edges { OnOk result (self.new.edges ≡ self.old.edges ++ map (edge_by p.now (own.owner_in made.now) names.now test) ended.now.rows) }
-        ensures shown { OnOk result (self.new.shown ≡ self.old.shown ++ shown_rows p.now (own.owner_in made.now) names.now ended.now.rows ended.now.walks) }
-    {
-        let rows = ended.rows.as_slice();
-        push_edges(alloc, p, made, names, test, rows, &mut self.edges)?;
-        push_shown(
-            alloc,
-            p,
-            made,
-            names,
-            rows,
-            ended.walks.as_slice(),
-            &mut self.shown,
-        )
-    }
-}
-
 /// Adds the edges of rows.
 fn push_edges(
     alloc: Global,
@@ -248,28 +200,74 @@ pub fn made_of(alloc: Global, ended: &[Ended], last: u64) -> Result<Vec<u64>, No
     Ok(made)
 }
 
-/// The edges of a run of tests, and what is shown of each: of the tests before the last, and of that.
-pub fn found_of(
+/// The edges of a run of tests: of those before the last, and of that.
+pub fn edges_of(
     alloc: Global,
     p: &Program,
     made: &[u64],
     names: &[Location],
     ended: &[Ended],
     last: &Ended,
-) -> Result<Findings, NoMemory>
-    ensures printed { IfOk result (λ found. are_printed found.edges ≡ true) }
-    ensures edges { IfOk result (λ found. (T : Touches) → AreEnded T names.now ended.now last.now → found.edges ≡ edges_up_to p.now T (own.owner_in made.now) (length ended.now + 1)) }
-    ensures shown { IfOk result (λ found. (T : Touches) → AreEnded T names.now ended.now last.now → AreNames names.now → HaveWalks p.now T → length ended.now + 1 ≤ length p.now.tests
-        → PairedList (IsShownIn p.now T (own.owner_in made.now)) found.edges found.shown) }
+) -> Result<Items<Edge>, NoMemory>
+    ensures printed { IfOk result (λ edges. are_printed edges ≡ true) }
+    ensures edges { IfOk result (λ edges. (kept : Bool) (T : Touches) → AreEnded kept T names.now ended.now last.now → edges ≡ edges_up_to p.now T (own.owner_in made.now) (length ended.now + 1)) }
 {
     if ended.len() >= u32::MAX as usize {
         return Err(NoMemory {});
     }
     program_units(p);
-    let mut found = Findings::new(alloc);
+    let mut edges = Items::new(alloc);
     for i in 0..ended.len() {
-        found.push_test(alloc, p, made, names, i as u32 + 1, &ended[i])?;
+        let rows = ended[i].rows.as_slice();
+        push_edges(alloc, p, made, names, i as u32 + 1, rows, &mut edges)?;
     }
-    found.push_test(alloc, p, made, names, ended.len() as u32 + 1, last)?;
-    Ok(found)
+    let rows = last.rows.as_slice();
+    push_edges(
+        alloc,
+        p,
+        made,
+        names,
+        ended.len() as u32 + 1,
+        rows,
+        &mut edges,
+    )?;
+    Ok(edges)
+}
+
+/// What is shown of these edges, where walks were kept.
+pub fn shown_of_edges(
+    alloc: Global,
+    p: &Program,
+    made: &[u64],
+    names: &[Location],
+    ended: &[Ended],
+    last: &Ended,
+) -> Result<Items<Shown>, NoMemory>
+    ensures { IfOk result (λ shown. (T : Touches) → AreEnded true T names.now ended.now last.now → AreNames names.now → HaveWalks p.now T → length ended.now + 1 ≤ length p.now.tests
+        → PairedList (IsShownIn p.now T (own.owner_in made.now)) (edges_up_to p.now T (own.owner_in made.now) (length ended.now + 1)) shown) }
+{
+    let mut shown = Items::new(alloc);
+    for test in ended {
+        let rows = test.rows.as_slice();
+        push_shown(
+            alloc,
+            p,
+            made,
+            names,
+            rows,
+            test.walks.as_slice(),
+            &mut shown,
+        )?;
+    }
+    let rows = last.rows.as_slice();
+    push_shown(
+        alloc,
+        p,
+        made,
+        names,
+        rows,
+        last.walks.as_slice(),
+        &mut shown,
+    )?;
+    Ok(shown)
 }

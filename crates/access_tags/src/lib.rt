@@ -3,8 +3,8 @@
 //! Begin with `specs/Tag.antt`, the tag of a location as a function of the touches of each test,
 //! and `specs/Numbering.antt`; then `memory.rt`, the `Memory` over `vm_heap`'s, and `tags.rt`.
 //!
-//! - `TaggedMemory::found` gives the edges of a run of the tests in order, with their first
-//!   locations and the walks there.
+//! - `TaggedMemory::edges` gives the edges of a run of the tests in order; `TaggedMemory::found`,
+//!   which only a memory that keeps walks has, their first locations and the walks there too.
 //! - `TaggedMemory::reaches` gives what each test of such a run reaches, and whether it is settled.
 //! - `tags_law` says that conflicts read off the tags are those of the definition.
 //!

@@ -1,6 +1,6 @@
 //! The memory of a detection run: it stands for the world, and keeps beside each location who wrote and read it.
 
-ghost use Rattle.std.specs.Prelude.{◌≡◌, ℕ, ◌+◌, ◌<◌, List, [], ◌∷◌, length, get_or, slice_get, false, true, None, Some, IfOk, OnOk};
+ghost use Rattle.std.specs.Prelude.{◌≡◌, ℕ, ◌+◌, ◌<◌, ◌++◌, List, [], ◌∷◌, length, get_or, slice_get, false, true, None, Some, IfOk, OnOk};
 ghost use Rattle.jvm_model.specs.declared.values.Touch.{Touch};
 ghost use Rattle.vm_mem.specs.Stores.{place_in};
 ghost use Rattle.jvm_model.specs.Linked.{Linked};
@@ -14,18 +14,22 @@ ghost use Rattle.order_law.specs.RecordForm.{is_place_text};
 ghost use Rattle.order_law.specs.Walk.{IsShownIn};
 ghost use Rattle.vm_mem.specs.Trace.{Trace, Extends, empty_trace};
 ghost use Rattle.access_tags.specs.Followed.{Follows, HasNoted, IsEnded, IsNamed};
+ghost use Rattle.access_tags.specs.HasDiscovered.{HasDiscovered};
+ghost use Rattle.access_tags.specs.Numbering.{located};
+ghost use Rattle.access_tags.specs.Paths.{HaveRowsWalks};
 ghost use Rattle.access_tags.specs.Settled.{reads_out_alone};
 ghost use Rattle.access_tags.specs.Ran.{HaveWalks, kinds_in, owner_by, trace_to, touched_by};
 
 use crate::conflict::LocationKey;
 use crate::discovery_tree::DiscoveryTree;
 use crate::ended::Ended;
-use crate::found::{found_of, made_of};
+use crate::found::{edges_of, made_of, shown_of_edges};
 use crate::heads::Heads;
 use crate::names::Names;
 use crate::noting::{elements, note_made, note_part};
 use crate::numbers::Numbers;
 use crate::reaches::reaches_of;
+use crate::rows::Row;
 use crate::tags::Tags;
 use et_base::{Items, NoMemory, Units};
 use jvm_model::{Head, InitState, Kind, Program, Value};
@@ -36,10 +40,10 @@ use vm_heap::RegionMemory;
 use vm_mem::Memory;
 
 /// The world, and beside each location the last test that wrote it and the tests that read it since. It follows the tests
-/// that run on it. More than 2^32 - 1 readers, each a location and a test, or 2^32 names of files and properties are refused
-/// as want of memory.
+/// that run on it, and with `WALKS` keeps how they came to the objects at places of conflict. More than 2^32 - 1 readers,
+/// each a location and a test, or 2^32 names of files and properties are refused as want of memory.
 #[derive(Drop)]
-pub struct TaggedMemory {
+pub struct TaggedMemory<const WALKS: bool> {
     memory: RegionMemory,
     tags: Tags,
     numbers: Numbers,
@@ -51,15 +55,15 @@ pub struct TaggedMemory {
     alloc: Global,
 }
 
-impl TaggedMemory {
+impl<const WALKS: bool> TaggedMemory<WALKS> {
     ghost use Rattle.order_law.specs.declared.records.Reach.{Reach as Reached};
 
     /// The memory of a linked program before its first test, with no touches.
-    pub fn opening(alloc: Global, p: &Program) -> Result<TaggedMemory, NoMemory>
+    pub fn opening(alloc: Global, p: &Program) -> Result<TaggedMemory<WALKS>, NoMemory>
         requires { Linked p.now }
-        ensures program { IfOk result (λ m. ⟦<TaggedMemory as Memory>⟧.program m ≡ p.now) }
-        ensures world { IfOk result (λ m. ⟦<TaggedMemory as Memory>⟧.world m ≡ suite.opening p.now) }
-        ensures follows { IfOk result (λ m. ⟦<TaggedMemory as Memory>⟧.follows m empty_trace []) }
+        ensures program { IfOk result (λ m. ⟦<TaggedMemory<WALKS> as Memory>⟧.program m ≡ p.now) }
+        ensures world { IfOk result (λ m. ⟦<TaggedMemory<WALKS> as Memory>⟧.world m ≡ suite.opening p.now) }
+        ensures follows { IfOk result (λ m. ⟦<TaggedMemory<WALKS> as Memory>⟧.follows m empty_trace []) }
     {
         let mut tags = Tags::new(alloc);
         tags.grow(p.fields.len() as u64)?;
@@ -77,37 +81,34 @@ impl TaggedMemory {
         })
     }
 
-    /// The edges of a run of the tests of a program in order, and of each edge its first 8 locations. Where the memory
-    /// follows such a run, the edges are those of the touches, in the record's order; and where to each object at a place
-    /// of conflict there is a walk of reads, it is shown. The text of each edge is in the form of a record.
-    pub fn found(&self, p: &Program) -> Result<(Items<Edge>, Items<Shown>), NoMemory>
-        ensures edges { IfOk result (λ x. (T : Touches) → ⟦<TaggedMemory as Memory>⟧.follows self.now (trace_to T (length p.now.tests)) (touched_by T (length p.now.tests))
-            → x.0 ≡ edges_in p.now T (owner_by p.now T)) }
-        ensures printed { IfOk result (λ x. list_all (λ e. is_place_text e.first) x.0 ≡ true) }
-        ensures shown { IfOk result (λ x. (T : Touches) → ⟦<TaggedMemory as Memory>⟧.follows self.now (trace_to T (length p.now.tests)) (touched_by T (length p.now.tests))
-            → HaveWalks p.now T → PairedList (IsShownIn p.now T (owner_by p.now T)) x.0 x.1) }
+    /// The edges of a run of the tests of a program in order. Where the memory follows such a run, they are those of the
+    /// touches, in the record's order. The text of each edge is in the form of a record.
+    pub fn edges(&self, p: &Program) -> Result<Items<Edge>, NoMemory>
+        ensures edges { IfOk result (λ x. (T : Touches) → ⟦<TaggedMemory<WALKS> as Memory>⟧.follows self.now (trace_to T (length p.now.tests)) (touched_by T (length p.now.tests))
+            → x ≡ edges_in p.now T (owner_by p.now T)) }
+        ensures printed { IfOk result (λ x. list_all (λ e. is_place_text e.first) x ≡ true) }
     {
         if self.test == 0 {
-            return Ok((Items::new(self.alloc), Items::new(self.alloc)));
+            return Ok(Items::new(self.alloc));
         }
         let last = self.summary()?;
         let ended = self.ended.as_slice();
         let made = made_of(self.alloc, ended, last.size)?;
         let names = self.names.as_slice();
-        let found = found_of(self.alloc, p, &made, names, ended, &last)?;
-        Ok((found.edges, found.shown))
+        let edges = edges_of(self.alloc, p, &made, names, ended, &last)?;
+        Ok(edges)
     }
 
     /// The reach of each test of a program, where the memory follows a run of its tests in order: the least set of classes
     /// that holds the test's own, those of the objects whose heads it touched, and with each class all that it mentions;
     /// and whether the test is settled. It asks for the memory's own program.
     pub fn reaches(&self, p: &Program) -> Result<Items<Reach>, NoMemory>
-        requires program { ⟦<TaggedMemory as Memory>⟧.program self.now ≡ p.now }
+        requires program { ⟦<TaggedMemory<WALKS> as Memory>⟧.program self.now ≡ p.now }
         requires linked { Linked p.now }
         ensures each { IfOk result (λ rs. length rs ≡ length p.now.tests) }
-        ensures reach { IfOk result (λ rs. (T : Touches) → ⟦<TaggedMemory as Memory>⟧.follows self.now (trace_to T (length p.now.tests)) (touched_by T (length p.now.tests))
+        ensures reach { IfOk result (λ rs. (T : Touches) → ⟦<TaggedMemory<WALKS> as Memory>⟧.follows self.now (trace_to T (length p.now.tests)) (touched_by T (length p.now.tests))
             → (i : ℕ) (r : Reached) → slice_get rs i ≡ Some r
-            → IsReachIn p.now T (kinds_in (⟦<TaggedMemory as Memory>⟧.world self.now)) (i + 1) r) }
+            → IsReachIn p.now T (kinds_in (⟦<TaggedMemory<WALKS> as Memory>⟧.world self.now)) (i + 1) r) }
     {
         let alone = self.alone()?;
         let reaches = reaches_of(self.alloc, p, &self.heads, &alone)?;
@@ -139,7 +140,8 @@ impl TaggedMemory {
         ensures told { OnOk result (HasNoted self.old self.new spot write gave kind) }
     {
         note_part(&self.numbers, &mut self.tags, spot, write)?;
-        self.discovery_tree.note(self.test, spot, write, gave)?;
+        let tree = &mut self.discovery_tree;
+        discover(tree, WALKS, self.test, spot, write, gave)?;
         self.heads.note_touch(self.test, kind)?;
         Ok(())
     }
@@ -174,16 +176,25 @@ impl TaggedMemory {
         Ok(())
     }
 
+    /// The walks to the objects of the parts that rows of the running test show, where walks are kept; else none.
+    fn walks(&self, rows: &[Row]) -> Result<Items<Items<Items<LocationKey>>>, NoMemory>
+        ensures { IfOk result (λ ws. (ts : List Touch) → WALKS ≡ true → 0 < self.now.test → HasDiscovered self.now.test ts self.now.discovery_tree → HaveRowsWalks ts rows.now ws) }
+    {
+        if !WALKS {
+            return Ok(Items::new(self.alloc));
+        }
+        self.discovery_tree
+            .walks_of_rows(self.alloc, self.test, rows)
+    }
+
     /// What is kept of the running test when it ends.
     fn summary(&self) -> Result<Ended, NoMemory>
         requires { 0 < self.now.test }
-        ensures { IfOk result (λ x. (h : Trace) (ts : List Touch) (T : Touches) → Follows self.now h ts → h ≡ trace_to T h.test → T h.test ≡ ts → IsEnded T self.now.names h.test x) }
+        ensures { IfOk result (λ x. (h : Trace) (ts : List Touch) (T : Touches) → Follows self.now h ts → h ≡ trace_to T h.test → T h.test ≡ ts → IsEnded WALKS T self.now.names h.test x) }
     {
         let mut rows = Items::new(self.alloc);
         self.tags.push_rows(self.alloc, self.test, &mut rows)?;
-        let walks = self
-            .discovery_tree
-            .walks_of_rows(self.alloc, self.test, rows.as_slice())?;
+        let walks = self.walks(rows.as_slice())?;
         Ok(Ended {
             rows,
             walks,
@@ -193,7 +204,39 @@ impl TaggedMemory {
     }
 }
 
-impl Memory for TaggedMemory {
+impl TaggedMemory<true> {
+    /// What is shown of each of these edges.
+    fn shown(&self, p: &Program) -> Result<Items<Shown>, NoMemory>
+        ensures { IfOk result (λ x. (T : Touches) → ⟦<TaggedMemory<true> as Memory>⟧.follows self.now (trace_to T (length p.now.tests)) (touched_by T (length p.now.tests))
+            → HaveWalks p.now T → PairedList (IsShownIn p.now T (owner_by p.now T)) (edges_in p.now T (owner_by p.now T)) x) }
+    {
+        if self.test == 0 {
+            return Ok(Items::new(self.alloc));
+        }
+        let last = self.summary()?;
+        let ended = self.ended.as_slice();
+        let made = made_of(self.alloc, ended, last.size)?;
+        let names = self.names.as_slice();
+        let shown = shown_of_edges(self.alloc, p, &made, names, ended, &last)?;
+        Ok(shown)
+    }
+
+    /// The edges of such a run, and of each its first 8 locations. Where to each object at a place of conflict there is a
+    /// walk of reads, it is shown.
+    pub fn found(&self, p: &Program) -> Result<(Items<Edge>, Items<Shown>), NoMemory>
+        ensures edges { IfOk result (λ x. (T : Touches) → ⟦<TaggedMemory<true> as Memory>⟧.follows self.now (trace_to T (length p.now.tests)) (touched_by T (length p.now.tests))
+            → x.0 ≡ edges_in p.now T (owner_by p.now T)) }
+        ensures printed { IfOk result (λ x. list_all (λ e. is_place_text e.first) x.0 ≡ true) }
+        ensures shown { IfOk result (λ x. (T : Touches) → ⟦<TaggedMemory<true> as Memory>⟧.follows self.now (trace_to T (length p.now.tests)) (touched_by T (length p.now.tests))
+            → HaveWalks p.now T → PairedList (IsShownIn p.now T (owner_by p.now T)) x.0 x.1) }
+    {
+        let edges = self.edges(p)?;
+        let shown = self.shown(p)?;
+        Ok((edges, shown))
+    }
+}
+
+impl<const WALKS: bool> Memory for TaggedMemory<WALKS> {
     ghost program = { λ m. m.memory.program };
 
     ghost world = { λ m. m.memory.world };
@@ -317,4 +360,22 @@ impl Memory for TaggedMemory {
         note_made(&self.numbers, &mut self.tags, object, head)?;
         Ok(object)
     }
+}
+
+/// The running test touched a part: where walks are kept, how it came to an object.
+fn discover(
+    tree: &mut DiscoveryTree,
+    keeps_walks: bool,
+    test: u32,
+    spot: LocationKey,
+    write: bool,
+    gave: Option<u64>,
+) -> Result<(), NoMemory>
+    ensures { OnOk result ((ts : List Touch) (x : Touch) → keeps_walks ≡ true → x.write ≡ write → x.location ≡ located [] spot → x.gave ≡ gave
+        → HasDiscovered test ts tree.old → HasDiscovered test (ts ++ x ∷ []) tree.new) }
+{
+    if !keeps_walks {
+        return Ok(());
+    }
+    tree.note(test, spot, write, gave)
 }

@@ -1,44 +1,48 @@
 //! The names of files and properties that tests touched.
 
-ghost use Rattle.std.specs.Prelude.{◌≡◌, ◌≤◌, ◌++◌, ◌∷◌, [], length, get_or, OnOk};
-ghost use Rattle.jvm_model.specs.World.{same};
-ghost use Rattle.jvm_model.specs.declared.values.Location.TheVariants as place;
+ghost use Rattle.std.specs.Prelude.{◌≡◌, ◌≤◌, ◌++◌, ◌∷◌, [], length, OnOk};
 ghost use Rattle.vm_mem.specs.Stores.{place_in};
 ghost use Rattle.access_tags.specs.AreNames.{AreNames};
 ghost use Rattle.access_tags.specs.Numbering.{position};
 
-use et_base::{Items, NoMemory, Units};
+use et_base::{NoMemory, Units};
+use indexmap::IndexMap;
 use jvm_model::Location;
 use sim_store::Part;
 use std::alloc::Global;
 use std::marker::Model;
 
-/// The files and properties that were touched, in the order of first touch. Contracts see the list of these locations.
+/// The files and properties that were touched, in the order of first touch, and of each part the numbers by the names.
+/// Contracts see the list of these locations.
 #[derive(Drop)]
 pub struct Names {
-    known: Items<Location>,
+    known: Vec<Location>,
+    files: IndexMap<Vec<u16>, usize>,
+    props: IndexMap<Vec<u16>, usize>,
     alloc: Global,
 }
 
 impl Model for Names {
     ghost use Rattle.std.specs.Prelude.{List};
     ghost use Rattle.jvm_model.specs.declared.values.Location.{Location as Place};
-    ghost use Rattle.access_tags.specs.AreNames.{AreNames};
+    ghost use Rattle.access_tags.specs.AreNames.{IsIndexed};
 
     ghost Value = { List Place };
 
-    ghost view = { λ s. s.known };
+    ghost view = { λ s. s.known.items };
 
-    ghost invariant = { λ s. AreNames s.known };
+    ghost invariant = { λ s. IsIndexed s.known.items s.files.entries s.props.entries };
 }
 
 impl Names {
-    /// No names.
+    /// No names. It takes no memory until the first push.
     pub fn new(alloc: Global) -> Names
         ensures { result ≡ [] }
     {
         Names {
-            known: Items::new(alloc),
+            known: Vec::new(alloc),
+            files: IndexMap::new(alloc),
+            props: IndexMap::new(alloc),
             alloc,
         }
     }
@@ -63,37 +67,36 @@ impl Names {
         ensures number { result ≡ position self.now (place_in part name.now) }
         ensures bound { result ≤ length self.now }
     {
-        let mut at = 0;
-        for known in self.known.as_slice() {
-            if is_place(known, part, name) {
-                return at;
-            }
-            at += 1;
+        let known = match part {
+            Part::File => self.files.get(name.as_slice()),
+            Part::Prop => self.props.get(name.as_slice()),
+        };
+        match known {
+            Some(number) => *number,
+            None => self.known.len(),
         }
-        at
     }
 
-    /// One more file or property.
-    #[tactic(auto, using(crate::proofs::NamesKept::names_push, crate::proofs::NamesKept::place_none))]
+    /// One more file or property, which isn't among the names.
     pub fn push(&mut self, part: Part, name: &Units) -> Result<(), NoMemory>
+        requires { position self.old (place_in part name.now) ≡ length self.old }
         ensures { OnOk result (self.new ≡ self.old ++ place_in part name.now ∷ []) }
     {
-        let name = Units::from_slice(self.alloc, name.as_slice())?;
-        let place = match part {
-            Part::File => Location::File { name },
-            Part::Prop => Location::Prop { name },
-        };
-        self.known.push(place)
-    }
-}
-
-/// Whether a location is this file or property.
-fn is_place(location: &Location, part: Part, name: &Units) -> bool
-    ensures { result ≡ same (place_in part name.now) location.now }
-{
-    match (part, location) {
-        (Part::File, Location::File { name: other }) => name.as_slice() == other.as_slice(),
-        (Part::Prop, Location::Prop { name: other }) => name.as_slice() == other.as_slice(),
-        _ => false,
+        let number = self.known.len();
+        self.known.reserve(1)?;
+        let text = Units::from_slice(self.alloc, name.as_slice())?;
+        let key = Vec::from_slice(self.alloc, name.as_slice())?;
+        match part {
+            Part::File => {
+                self.files.insert(key, number)?;
+                self.known.push_reserved(Location::File { name: text });
+                Ok(())
+            }
+            Part::Prop => {
+                self.props.insert(key, number)?;
+                self.known.push_reserved(Location::Prop { name: text });
+                Ok(())
+            }
+        }
     }
 }

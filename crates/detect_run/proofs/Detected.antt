@@ -74,6 +74,10 @@ map_twice (x ∷ xs) = ap (λ (us : List ℕ). x.outcome.units ∷ us) (map_twic
 sum_listed : (xs : List Given) → sum (map (λ (x : Given). x.outcome.units) xs) ≡ units_of xs
 sum_listed xs = sum-map (λ (x : Given). x.outcome.units) xs ∙ sym (is_sum_by units_of (λ (x : Given). x.outcome.units) refl (λ x ys. refl) xs)
 
+-- the suite ran on a memory, and so on one that is the same
+pub own_run_lent : {M : Type 0} (world : M → World) (follows : M → Trace → List Touch → Type 0) (p : Program) (us : List ℕ) (m n : M) → n ≡ m → IsOwnRun world follows p m us → IsOwnRun world follows p n us
+own_run_lent {M} world follows p us m n e r = subst (λ (x : M). IsOwnRun world follows p x us) (sym e) r
+
 -- the suite ran on a memory that followed nothing
 module _ (p : Program) {M : Type 0} (world : M → World) (follows : M → Trace → List Touch → Type 0) (old new : M) (os : List Outcome) (us : List ℕ) (begun now : ℕ) (r : RanList world follows p old new (all_tests p) os begun now) (e : us ≡ map (λ (o : Outcome). o.units) os) where
   units_are : us ≡ map (λ (x : Given). x.outcome.units) r.given

@@ -4,5 +4,6 @@ pub mod HeadsStay
 pub mod InOrder
 pub mod Kept
 pub mod OwnRun
+pub mod Showable
 pub mod Sizes
 pub mod SuiteRuns

@@ -5,6 +5,7 @@ use Rattle.jvm_model.specs.declared.values.Touch.{Touch}
 use Rattle.jvm_model.specs.Suite.{all_tests, is_detected, seq}
 use Rattle.jvm_model.specs.World.{World}
 use Rattle.order_law.specs.declared.records.Prints.{Prints}
+use Rattle.order_law.specs.declared.records.Record.{Record}
 use Rattle.order_law.specs.Conflicts.{down}
 use Rattle.order_law.specs.Histories.{after_history, touches_of}
 use Rattle.order_law.specs.Pairing.{PairedList}
@@ -21,6 +22,12 @@ pub record IsDetection (p : Program) (x : Prints) (d : Detected) : Type 0 where
   pub kept : IsRecordOf p x d.kept
   pub newer : IsSome d.kept.more
   pub shown : PairedList (IsShownOf p) d.kept.edges d.shown
+
+-- the record of what a detection run finds
+pub record IsDetectedRecord (p : Program) (x : Prints) (r : Record) : Type 0 where
+  pub whole : Detected
+  pub is : IsDetection p x whole
+  pub kept : whole.kept ≡ r
 
 -- the whole suite ran in order on this memory, and its tests took these units
 pub record IsOwnRun {M : Type 0} (world : M → World) (follows : M → Trace → List Touch → Type 0) (p : Program) (m : M) (us : List ℕ) : Type 0 where

@@ -5,7 +5,7 @@
 //! `specs/Detection.antt`, what is found; then `suite_run.rt` and `detection.rt`.
 //!
 //! - `detect` gives the record of version 2 of a checked program's own run, with the first
-//!   locations of each edge.
+//!   locations of each edge; `detect_record` gives the record alone.
 //! - `run_suite` gives the tests' outcomes over any memory, or names the first test that passes its
 //!   budget or the rest of the suite's.
 //!
@@ -18,6 +18,6 @@ mod detection;
 mod fault;
 mod suite_run;
 
-pub use detection::detect;
+pub use detection::{detect, detect_record};
 pub use fault::DetectFault;
 pub use suite_run::run_suite;

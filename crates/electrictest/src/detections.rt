@@ -1,7 +1,7 @@
 //! Detection runs: the record of a suite, and the reports on its dependences.
 
 ghost use Rattle.std.specs.Prelude.{◌≡◌, ◌+◌, Option, Ok, sum, IfOk, IfErr};
-ghost use Rattle.detect_run.specs.Detection.{IsDetection};
+ghost use Rattle.detect_run.specs.Detection.{IsDetectedRecord, IsDetection};
 ghost use Rattle.outside.specs.Depot.{Files, DepotView};
 ghost use Rattle.electrictest.specs.Causes.{MayReport};
 ghost use Rattle.electrictest.specs.Commands.{ReportEnds, ReportsOver, RefusedOver};
@@ -16,9 +16,10 @@ use crate::running::passed_units;
 use crate::status::Status;
 use dep_graph::Detected;
 use dep_record::{deps_json, deps_text, write_record};
-use detect_run::detect;
+use detect_run::{detect, detect_record};
 use et_base::{NoMemory, Text};
 use jvm_model::Names;
+use order_law::Record;
 use outside::Steps;
 use std::alloc::Global;
 use std::sync::ledger::Ledger;
@@ -46,6 +47,26 @@ pub fn detected<L: Ledger>(
     }
 }
 
+// The record alone.
+fn recorded<L: Ledger>(
+    alloc: Global,
+    loaded: &Loaded,
+    steps: &mut Steps<L>,
+) -> Result<Record, Status>
+    requires suite { IsSuite loaded.now }
+    ensures found { IfOk result (IsDetectedRecord loaded.now.checked loaded.now.prints) }
+    ensures counted { IfOk result (λ r. steps.new ≡ steps.old + sum r.units) }
+    ensures refused { IfErr result (RunRefused loaded.now) }
+{
+    match detect_record(alloc, &loaded.checked, &loaded.prints, steps) {
+        Ok(found) => Ok(found),
+        Err(fault) => {
+            let status = passed_units(alloc, &loaded.names, fault)?;
+            Err(status)
+        }
+    }
+}
+
 // The record of a suite.
 fn record_report<L: Ledger>(
     alloc: Global,
@@ -57,8 +78,8 @@ fn record_report<L: Ledger>(
         loaded.now detection.recorded r.passed r.text steps.old steps.new) }
     ensures refused { IfErr result (RunRefused loaded.now) }
 {
-    let found = detected(alloc, loaded, steps)?;
-    let text = write_record(alloc, &found.kept)?;
+    let found = recorded(alloc, loaded, steps)?;
+    let text = write_record(alloc, &found)?;
     Ok(Report { text, passed: true })
 }
 

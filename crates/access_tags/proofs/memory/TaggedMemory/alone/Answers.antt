@@ -8,7 +8,7 @@ use Rattle.access_tags.proofs.FoundAll.{told_all, count_all, last_alone, marks_t
 use Rattle.access_tags.proofs.memory.TaggedMemory.alone.Goals as goal
 
 pub returns : goal.returns
-returns c T n f i h =
+returns g c T n f i h =
     let m = c.args.self.now in
     let b = c.reads_static_alone.result in
     let told = told_all m T n f in

@@ -4,7 +4,7 @@ use Rattle.access_tags.proofs.Ending.{opened, opened_tags}
 use Rattle.access_tags.proofs.memory.TaggedMemory.opening.Goals as goal
 
 pub returns-clause-follows : goal.returns-clause-follows
-returns-clause-follows c =
+returns-clause-follows g c =
     let p = c.args.p.now in
     let a = c.new-tags.ensures.cells in
     let g = c.in_ok-grow.ensures.cells in let k = c.in_ok-grow-2.ensures.cells in let l = c.len.ensures in let o = c.len-2.ensures in

@@ -6,10 +6,10 @@ use Rattle.access_tags.proofs.Settling.{so_far_all}
 use Rattle.access_tags.proofs.memory.TaggedMemory.reaches.Goals as goal
 
 pub reaches_of-requires : goal.reaches_of-requires
-reaches_of-requires c = record { few = c.requires.linked.few_tests }
+reaches_of-requires g c = record { few = c.requires.linked.few_tests }
 
 pub returns-clause-reach : goal.returns-clause-reach
-returns-clause-reach c T f =
+returns-clause-reach g c T f =
     let m = c.args.self.now in
     let k : m.heads.classes ≡ length c.args.p.now.classes = f.classes ∙ ap (λ (p : Program). length p.classes) (f.program ∙ c.requires.program) in
     let n = length c.args.p.now.tests in

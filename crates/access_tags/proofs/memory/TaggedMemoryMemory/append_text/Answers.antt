@@ -6,4 +6,4 @@ use Rattle.access_tags.proofs.Following.{write_noted}
 use Rattle.access_tags.proofs.memory.TaggedMemoryMemory.append_text.Goals as goal
 
 pub returns-clause-told : goal.returns-clause-told
-returns-clause-told c = write_noted c.args.self.now c.note.new.self c.append_text.new.self (spot.Text c.args.object) (at c.args.self.now.memory.world (place.Text c.args.object) ++ c.args.more.now) refl refl c.requires c.in_ok-append_text.ensures.of c.in_ok-append_text.ensures.set c.in_ok-note.ensures.told
+returns-clause-told g c = write_noted c.args.self.now c.note.new.self c.append_text.new.self (spot.Text c.args.object) (at c.args.self.now.memory.world (place.Text c.args.object) ++ c.args.more.now) refl refl c.requires c.in_ok-append_text.ensures.of c.in_ok-append_text.ensures.set c.in_ok-note.ensures.told

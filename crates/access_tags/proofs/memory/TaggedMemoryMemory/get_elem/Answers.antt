@@ -6,5 +6,5 @@ use Rattle.access_tags.proofs.Following.{read_noted}
 use Rattle.access_tags.proofs.memory.TaggedMemoryMemory.get_elem.Goals as goal
 
 pub returns-clause-told : goal.returns-clause-told
-returns-clause-told c =
+returns-clause-told g c =
     read_noted c.args.self.now c.note.new.self c.get_elem.new.self (spot.Elem c.args.object c.args.index) _ _ (read_of (place.Elem c.args.object c.args.index) c.in_ok-v.v) refl c.requires c.in_ok-v.ensures.of c.in_ok-v.ensures.kept refl refl (sym c.object.ensures) refl c.in_ok-note.ensures.told

@@ -6,5 +6,5 @@ use Rattle.access_tags.proofs.Following.{read_noted}
 use Rattle.access_tags.proofs.memory.TaggedMemoryMemory.get_init.Goals as goal
 
 pub returns-clause-told : goal.returns-clause-told
-returns-clause-told c =
+returns-clause-told g c =
     read_noted c.args.self.now c.note.new.self c.get_init.new.self (spot.Init c.args.class) _ _ (read_of (place.Init c.args.class) c.in_ok-s.s) refl c.requires c.in_ok-s.ensures.of c.in_ok-s.ensures.kept refl refl refl refl c.in_ok-note.ensures.told

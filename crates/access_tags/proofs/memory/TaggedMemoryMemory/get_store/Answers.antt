@@ -5,7 +5,7 @@ use Rattle.access_tags.proofs.Ending.{lent}
 use Rattle.access_tags.proofs.memory.TaggedMemoryMemory.get_store.Goals as goal
 
 pub returns : goal.returns
-returns c =
+returns g c =
     let m = c.args.self.now in
     let x : Touch = record { write = false; location = place_in c.args.part c.args.name.now; gave = None } in
     let e = c.in_ok-note_name.ensures.memory in (

@@ -6,7 +6,7 @@ use Rattle.access_tags.proofs.Ending.{lent}
 use Rattle.access_tags.proofs.memory.TaggedMemoryMemory.get_text.Goals as goal
 
 pub returns : goal.returns
-returns c =
+returns g c =
     let m = c.args.self.now in
     let x = read_of (place.Text c.args.object) (at m.memory.world (place.Text c.args.object)) in
     let e = c.in_ok-note.ensures.memory in (

@@ -7,5 +7,5 @@ use Rattle.access_tags.proofs.Following.{read_noted}
 use Rattle.access_tags.proofs.memory.TaggedMemoryMemory.head.Goals as goal
 
 pub returns-clause-told : goal.returns-clause-told
-returns-clause-told c =
+returns-clause-told g c =
     read_noted c.args.self.now c.note.new.self c.head.new.self (spot.Head c.args.object) _ _ (read_of (place.Head c.args.object) c.in_ok-head.head) refl c.requires c.in_ok-head.ensures.of c.in_ok-head.ensures.kept refl refl refl (ap (λ (h : Head). Some h.kind) c.in_ok-head.ensures.gives) c.in_ok-note.ensures.told

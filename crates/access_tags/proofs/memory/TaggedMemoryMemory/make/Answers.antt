@@ -7,7 +7,7 @@ use Rattle.access_tags.proofs.Following.{after_make, grown, head_blank, laid_bla
 use Rattle.access_tags.proofs.memory.TaggedMemoryMemory.make.Goals as goal
 
 pub returns-clause-told : goal.returns-clause-told
-returns-clause-told c h ts f =
+returns-clause-told g c h ts f =
     let m = c.args.self.now in let p = m.memory.program in let w = m.memory.world in let x = blank p c.args.head in
     let n = record m { memory = c.make.new.self; tags = c.note_made.new.tags; numbers = c.push.new.self; heads = c.note.new.self } in
     let l = subst (λ (q : Program). IsLaid q x) (sym f.program) (laid_blank p c.args.head) in

@@ -4,4 +4,4 @@ use Rattle.access_tags.proofs.Following.{write_noted}
 use Rattle.access_tags.proofs.memory.TaggedMemoryMemory.put_field.Goals as goal
 
 pub returns-clause-told : goal.returns-clause-told
-returns-clause-told c = write_noted c.args.self.now c.note.new.self c.put_field.new.self (spot.Field c.args.object c.args.field) (c.args.v) refl refl c.requires c.in_ok-put_field.ensures.of c.in_ok-put_field.ensures.set c.in_ok-note.ensures.told
+returns-clause-told g c = write_noted c.args.self.now c.note.new.self c.put_field.new.self (spot.Field c.args.object c.args.field) (c.args.v) refl refl c.requires c.in_ok-put_field.ensures.of c.in_ok-put_field.ensures.set c.in_ok-note.ensures.told

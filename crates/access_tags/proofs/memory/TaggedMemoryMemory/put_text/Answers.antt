@@ -4,4 +4,4 @@ use Rattle.access_tags.proofs.Following.{write_noted}
 use Rattle.access_tags.proofs.memory.TaggedMemoryMemory.put_text.Goals as goal
 
 pub returns-clause-told : goal.returns-clause-told
-returns-clause-told c = write_noted c.args.self.now c.note.new.self c.put_text.new.self (spot.Text c.args.object) (c.args.u) refl refl c.requires c.in_ok-put_text.ensures.of c.in_ok-put_text.ensures.set c.in_ok-note.ensures.told
+returns-clause-told g c = write_noted c.args.self.now c.note.new.self c.put_text.new.self (spot.Text c.args.object) (c.args.u) refl refl c.requires c.in_ok-put_text.ensures.of c.in_ok-put_text.ensures.set c.in_ok-note.ensures.told
