@@ -67,11 +67,14 @@ posted_tests p C n es w l have t m = let j = posted_where p C n es w t l (revers
 pub open_test : (p : Program) (C : List (List ℕ)) (es : List law.Event) (w i t : ℕ) → HaveTests p C → HasOpen C es w i t → IsTestNumber p t
 open_test p C es w i t have x = have i t (rw x.next.split (member_mid x.next.front t x.next.rest))
 
-pub stops : (p : Program) (C : List (List ℕ)) (n : ℕ) (es : List law.Event) (w i t : ℕ) → 0 < w → w ≤ n → are_chains C ≡ true → law.Legal p C n es → HasOpen C es w i t
+pub stops : (p : Program) (C : List (List ℕ)) (n : ℕ) (es : List law.Event) (w i t : ℕ) → are_chains C ≡ true → law.Legal p C n es → HasOpen C es w i t
     → GivesNone p (reverse (law.posts es w)) t → IsStop p C n w t (reverse (law.posts es w))
-stops p C n es w i t a b form l x none = record {
-  from_one = a;
-  within = b;
+stops p C n es w i t form l x none = record {
+  events = es;
+  legal = l;
+  posted = refl;
+  chain = i;
+  next = x;
   chains = (law_of_histories p C n es (forms_apart C form) l).next w t i x.earlier x.claimed x.next;
   none = none;
 }

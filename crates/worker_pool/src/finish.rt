@@ -9,6 +9,7 @@ ghost use Rattle.run_core.specs.Refusal.{HasOpen};
 ghost use Rattle.run_core.specs.Run.{IsComplete, IsLegal, IsWorker, history};
 ghost use Rattle.worker_pool.specs.Faults.{IsPlanFault, IsRunFault};
 ghost use Rattle.worker_pool.specs.Plans.{AreTests, HaveTests, units_of};
+ghost use Rattle.worker_pool.specs.Progress.{AllHaveNone, IsNextPost, IsOneMore, MayPost};
 
 use crate::again::run_after;
 use crate::plan_fault::PlanFault;
@@ -17,7 +18,6 @@ use job_pool::fresh_machine;
 use outside::{Gate, Steps};
 use run_core::{Core, Event};
 use std::alloc::Global;
-use std::sync::Wait;
 use std::sync::ledger::Ledger;
 use test_run::{Piece, RunFault};
 use type_frames::Checked;
@@ -36,7 +36,7 @@ fn run_again<G: Gate>(
     requires given { first_over core.now.program
         (reverse (posts (history core.now) worker)) ≡ None }
     requires test { IsTestNumber core.now.program test }
-    ensures piece { IfOk result (λ x. (x.worker ≡ worker) × (x.program ≡ p.now)) }
+    ensures piece { IfOk result (IsNextPost core.now worker test) }
     ensures fault { IfErr result (λ e. IsRunFault
         core.now.program (reverse (posts (history core.now) worker)) test e) }
 {
@@ -58,11 +58,10 @@ fn next_piece<G: Gate>(
     test: u32,
 ) -> Result<Piece, PlanFault>
     requires program { p.now ≡ core.now.program }
-    requires worker { IsWorker core.now worker }
     requires form { are_chains core.now.chains ≡ true }
     requires tests { HaveTests core.now.program core.now.chains }
     requires open { (i : ℕ) × HasOpen core.now.chains (history core.now) worker i test }
-    ensures piece { IfOk result (λ x. (x.worker ≡ worker) × (x.program ≡ p.now)) }
+    ensures piece { IfOk result (IsNextPost core.now worker test) }
     ensures fault { IfErr result
         (λ e. IsPlanFault core.now.program core.now.chains core.now.workers e) }
 {
@@ -78,7 +77,7 @@ fn next_piece<G: Gate>(
     }
 }
 
-/// Runs and posts the next test of the worker's chain in hand, where it has one.
+/// Runs and posts the next test of the worker's chain in hand. Says whether it had one; else nothing changed.
 fn post_next<G: Gate>(
     alloc: Global,
     p: &Checked,
@@ -90,33 +89,44 @@ fn post_next<G: Gate>(
     requires worker { IsWorker core.old worker }
     requires form { are_chains core.old.chains ≡ true }
     requires tests { HaveTests core.old.program core.old.chains }
-    ensures same { (core.new.program ≡ core.old.program) × (core.new.chains ≡ core.old.chains)
-        × (core.new.workers ≡ core.old.workers) }
+    ensures posts { IfOk result (MayPost core.old core.new worker) }
     ensures fault { IfErr result
         (λ e. IsPlanFault core.old.program core.old.chains core.old.workers e) }
 {
     let Some(open) = core.open(worker) else {
         return Ok(false);
     };
+    let _events = core.history();
     let piece = next_piece(alloc, p, gate, core, worker, open.test)?;
-    Ok(core.step(Event::Post(piece)).is_ok())
+    match core.step(Event::Post(piece)) {
+        Ok(()) => Ok(true),
+        Err(_) => unreachable!(),
+    }
 }
 
 /// Claims the first chain that nobody claimed, for worker 1.
 fn claim_next(core: &mut Core, chains: u32)
     requires chains { chains ≡ length core.old.chains }
     requires some { 0 < core.old.workers }
-    ensures { (core.new.program ≡ core.old.program) × (core.new.chains ≡ core.old.chains)
-        × (core.new.workers ≡ core.old.workers) }
+    requires none { AllHaveNone core.old }
+    requires more { IsComplete core.old → ⊥ }
+    ensures { IsOneMore core.old core.new }
 {
-    for chain in 1..=chains {
-        if core.step(Event::Claim { worker: 1, chain }).is_ok() {
-            return;
+    let _events = core.history();
+    for place in 0..chains {
+        let claim = Event::Claim {
+            worker: 1,
+            chain: place + 1,
+        };
+        match core.step(claim) {
+            Ok(()) => return,
+            Err(_) => continue,
         }
     }
+    unreachable!()
 }
 
-/// Adds an event where one is missing: a post of the first worker that has a chain in hand, or else a claim.
+/// Adds an event: a post of the first worker that has a chain in hand, or else a claim.
 fn advance<G: Gate>(
     alloc: Global,
     p: &Checked,
@@ -129,13 +139,14 @@ fn advance<G: Gate>(
     requires some { 0 < core.old.workers }
     requires form { are_chains core.old.chains ≡ true }
     requires tests { HaveTests core.old.program core.old.chains }
-    ensures same { (core.new.program ≡ core.old.program) × (core.new.chains ≡ core.old.chains)
-        × (core.new.workers ≡ core.old.workers) }
+    requires more { IsComplete core.old → ⊥ }
+    ensures adds { IfOk result (λ _. IsOneMore core.old core.new) }
     ensures fault { IfErr result
         (λ e. IsPlanFault core.old.program core.old.chains core.old.workers e) }
 {
-    for worker in 1..=core.workers() {
-        if post_next(alloc, p, gate, core, worker)? {
+    for before in 0..core.workers() {
+        let posted = post_next(alloc, p, gate, core, before + 1)?;
+        if posted {
             return Ok(());
         }
     }
@@ -143,9 +154,9 @@ fn advance<G: Gate>(
     Ok(())
 }
 
-/// Runs what is left of the chains: those in hand on behalf of their workers, and the others on behalf of worker 1.
-pub fn finish<R: Wait, G: Gate>(
-    rt: &R,
+/// Runs what is left of the chains: those in hand on behalf of their workers, and the others on behalf of worker 1. It ends,
+/// as each round adds an event and a history has no more than a claim of each chain and a post of each test.
+pub fn finish<G: Gate>(
     alloc: Global,
     p: &Checked,
     gate: &G,
@@ -163,14 +174,12 @@ pub fn finish<R: Wait, G: Gate>(
     ensures fault { IfErr result (λ e. IsPlanFault core.program core.chains core.workers e) }
 {
     let mut core = core;
-    for _ in rt.forever() {
-        let _events = core.history();
-        if core.is_complete() {
-            return Ok(core);
-        }
+    while !core.is_complete() {
         advance(alloc, p, gate, &mut core, chains)?;
+        let _events = core.history();
     }
-    unreachable!()
+    let _events = core.history();
+    Ok(core)
 }
 
 /// Counts the units of all posts.

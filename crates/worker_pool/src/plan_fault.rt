@@ -5,7 +5,7 @@ use et_base::{Items, NoMemory};
 /// Why the chains of a plan weren't run to their end.
 #[derive(Debug, Drop)]
 pub enum PlanFault {
-    /// The units of this test, run by this worker after this list, would pass its budget.
+    /// The units of this test, run by this worker after the list that it posted, would pass its budget.
     OverBudget {
         worker: u32,
         test: u32,

@@ -75,12 +75,33 @@ fn run_workers<N: RunName + Send + Sync, R: Threads + Wait + Sync, G: Gate + Syn
     Ok(board.into_core())
 }
 
-/// Runs the chains of a plan, one worker for each share, and then what is left. A worker takes the chains of its own deque
-/// and then steals from the others; it claims a chain, runs its tests on its own machine, each after a call of the gate,
-/// and posts each. It counts the units of all posts.
+/// Runs the chains of a plan, one worker for each share, until all have ended, and answers the core of what they did. A
+/// worker takes the chains of its own deque and then steals from the others; it claims a chain, runs its tests on its own
+/// machine, each after a call of the gate, and posts each. One that was refused ends, so that chains may be left. The only
+/// error is want of memory.
+pub fn work_plan<R: Threads + Wait + Sync, G: Gate + Sync>(
+    rt: &R,
+    alloc: Global,
+    p: &Checked,
+    c: &Chains,
+    plan: &WorkPlan,
+    gate: &G,
+) -> Result<Core, NoMemory>
+    requires tests { HaveTests p.now c.now.lists }
+    ensures { IfOk result (λ k. (k.program ≡ p.now) × (k.chains ≡ c.now.lists)
+        × (k.workers ≡ length plan.now.shares)) }
+{
+    let shares = plan.shares.as_slice();
+    let program = p.program();
+    let core = Core::new(alloc, program, copy_of(alloc, c)?, shares.len() as u32)?;
+    run_workers::<Brand, R, G>(rt, alloc, p, c, shares, gate, core)
+}
+
+/// Runs the chains of a plan as `work_plan`, and then what is left. It counts the units of all posts.
 ///
-/// `OverBudget` comes only where this test gives nothing within its budget after the list that it carries: whole chains,
-/// each once, and the first tests of one more, whose next test it is.
+/// `OverBudget` comes only where this test gives nothing within its budget after the list that it carries, which the worker
+/// that it names posted in a legal history of the chains: whole chains, each once, and the first tests of one more, whose
+/// next test it is.
 pub fn run_plan<R: Threads + Wait + Sync, G: Gate + Sync, L: Ledger>(
     rt: &R,
     alloc: Global,
@@ -99,12 +120,10 @@ pub fn run_plan<R: Threads + Wait + Sync, G: Gate + Sync, L: Ledger>(
     ensures fault { IfErr result
         (λ e. IsPlanFault p.now c.now.lists (length plan.now.shares) e) }
 {
-    let shares = plan.shares.as_slice();
-    let program = p.program();
+    let _program = p.program();
     let chains = c.lists.len() as u32;
-    let core = Core::new(alloc, program, copy_of(alloc, c)?, shares.len() as u32)?;
-    let core = run_workers::<Brand, R, G>(rt, alloc, p, c, shares, gate, core)?;
-    let core = finish(rt, alloc, p, gate, core, chains)?;
+    let core = work_plan(rt, alloc, p, c, plan, gate)?;
+    let core = finish(alloc, p, gate, core, chains)?;
     count(core.history(), steps);
     Ok(core)
 }

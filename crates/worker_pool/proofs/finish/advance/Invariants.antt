@@ -1,5 +1,7 @@
-use Rattle.std.proofs.Common.{◌≡◌, ◌≤◌}
+use Rattle.std.proofs.Common.{◌≡◌, ◌<◌, ◌≤◌, ℕ}
+use Rattle.run_core.specs.Refusal.{HasNone}
+use Rattle.run_core.specs.Run.{history}
 use Rattle.worker_pool.proofs.finish.advance.Given as goal
 
-abbrev pub invariant-loop-worker : goal.invariant-loop-worker
-invariant-loop-worker g l = (l.core.program ≡ l.initial.core.program) × (l.core.chains ≡ l.initial.core.chains) × (l.core.workers ≡ l.initial.core.workers) × (1 ≤ l.worker)
+abbrev pub invariant-loop-before : goal.invariant-loop-before
+invariant-loop-before g l = (l.core ≡ l.initial.core) × ((w : ℕ) → 0 < w → w ≤ l.before → HasNone l.initial.core.chains (history l.initial.core) w)

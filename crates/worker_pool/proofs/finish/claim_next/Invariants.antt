@@ -1,5 +1,8 @@
-use Rattle.std.proofs.Common.{◌≡◌, ◌≤◌}
+use Rattle.std.proofs.Common.{◌≡◌, ◌<◌, ℕ}
+use Rattle.order_law.specs.Conflicts.{Member}
+use Rattle.order_law.specs.Plan.{claims}
+use Rattle.run_core.specs.Run.{history}
 use Rattle.worker_pool.proofs.finish.claim_next.Given as goal
 
-abbrev pub invariant-loop-chain : goal.invariant-loop-chain
-invariant-loop-chain l = (l.core.program ≡ l.initial.core.program) × (l.core.chains ≡ l.initial.core.chains) × (l.core.workers ≡ l.initial.core.workers) × (1 ≤ l.chain)
+abbrev pub invariant-loop-place : goal.invariant-loop-place
+invariant-loop-place l = (l.core ≡ l.initial.core) × ((i : ℕ) → i < l.place → (v : ℕ) × Member i (claims (history l.initial.core) v))

@@ -31,4 +31,4 @@ returns-in_ok-from_slice-in-Err-OverBudget-clause-fault g c =
     let x = c.requires.open in
     let none = subst (λ (e : RunFault). IsRunFault k.program (reverse (posts (history k) w)) t e) o.field-0-is o.ensures.fault in
     subst (λ (z : List ℕ). IsStop k.program k.chains k.workers w t z) (sym (c.in_ok-from_slice-in-Err-OverBudget.ensures ∙ c.posts.ensures))
-    (stops k.program k.chains k.workers (history k) w x.0 t c.requires.worker.0 c.requires.worker.1 c.requires.form c.history-events.ensures.legal x.1 none)
+    (stops k.program k.chains k.workers (history k) w x.0 t c.requires.form c.history-events.ensures.legal x.1 none)

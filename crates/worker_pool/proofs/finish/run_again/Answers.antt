@@ -1,4 +1,4 @@
-use Rattle.std.proofs.Common.{◌≡◌, ◌∙◌, ℕ, List, None, sym, subst}
+use Rattle.std.proofs.Common.{◌≡◌, ◌∙◌, ℕ, List, [], ◌∷◌, ◌++◌, None, ap, sym, subst}
 use Rattle.std.specs.Result.{IfErr}
 use Rattle.std.proofs.lemmas.Result.{IfOk-weaker}
 use Rattle.jvm_model.specs.declared.program.Program.{Program}
@@ -18,7 +18,10 @@ run_after-requires-clause-given g c =
     subst (λ (p : Program). first_over p l.result.now ≡ None) (sym (c.in_ok-machine.ensures.0 ∙ c.requires.program)) (subst (λ (z : List ℕ). first_over c.args.core.now.program z ≡ None) (sym l.ensures) c.requires.given)
 
 pub returns-clause-piece : goal.returns-clause-piece
-returns-clause-piece g c = IfOk-weaker c.run_after.result _ _ (λ x h. (h.1 ∙ c.in_ok-machine.ensures.1, h.0 ∙ c.in_ok-machine.ensures.0)) c.run_after.ensures.piece
+returns-clause-piece g c =
+    let m = c.in_ok-machine.ensures in
+    let l = c.posts-list in
+    IfOk-weaker c.run_after.result _ _ (λ x h. (h.1 ∙ m.1, h.0 ∙ m.0 ∙ c.requires.program, h.2 ∙ ap (λ (z : List ℕ). z ++ (c.args.test ∷ [])) l.ensures)) c.run_after.ensures.piece
 
 pub returns-clause-fault : goal.returns-clause-fault
 returns-clause-fault g c =

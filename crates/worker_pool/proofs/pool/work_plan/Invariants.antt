@@ -1,5 +1,5 @@
 use Rattle.std.proofs.Common.{length}
-use Rattle.worker_pool.proofs.pool.run_plan.Given as goal
+use Rattle.worker_pool.proofs.pool.work_plan.Given as goal
 
 abbrev pub ghosts-run_workers-N-PoolName : goal.ghosts-run_workers-N-PoolName
 ghosts-run_workers-N-PoolName g a = record { program = a.p.now; workers = length a.shares.now }
