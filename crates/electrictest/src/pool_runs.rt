@@ -1,7 +1,7 @@
 //! Runs of a selection's closure on workers.
 
 ghost use Rattle.std.specs.Prelude.{◌≡◌, ◌+◌, ◌<◌, ◌≤◌, ◌++◌, [], cond, length, Ok, OnOk, IfOk, IfErr};
-ghost use Rattle.schedule_plan.specs.Plans.{HasUnits, HaveUnits};
+ghost use Rattle.schedule_plan.specs.Plans.{HasUnits, HaveUnits, IsPlanOf, chain_units};
 ghost use Rattle.run_core.specs.Run.{history};
 ghost use Rattle.worker_pool.specs.Faults.{IsPlanFault};
 ghost use Rattle.worker_pool.specs.Plans.{units_of};
@@ -58,7 +58,7 @@ pub struct RunResult {
     pub core: Core,
 }
 
-// What is run for a selection. The only error is want of memory.
+// What is run for a selection, by the plan that is written of it. The only error is want of memory.
 fn choose(alloc: Global, begun: &Request, workers: u32) -> Result<Schedule, NoMemory>
     requires workers { 0 < workers }
     requires tests { HasUnits begun.now.tests begun.now.record.units }
@@ -66,6 +66,8 @@ fn choose(alloc: Global, begun: &Request, workers: u32) -> Result<Schedule, NoMe
         IsChosen (beginning begun.now) c.set c.chains.lists c.selected) }
     ensures units { IfOk result (λ c. HasUnits c.set begun.now.record.units) }
     ensures workers { IfOk result (λ c. length c.plan.shares ≡ workers) }
+    ensures planned { let units = begun.now.record.units in IfOk result (λ c.
+        IsPlanOf (chain_units c.chains.lists units) workers c.plan.shares) }
 {
     let graph = Graph::of(alloc, &begun.record)?;
     graph.goes_up();

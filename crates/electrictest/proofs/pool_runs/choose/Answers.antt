@@ -21,3 +21,6 @@ returns-clause-chosen c = record {
 pub returns-clause-units : goal.returns-clause-units
 returns-clause-units c =
     closure_has 1024 _ c.args.begun.now.tests c.in_ok-set.set c.args.begun.now.record.units c.goes_up.ensures (rw c.as_slice-2.ensures at c.in_ok-set.ensures) c.requires.tests
+
+pub returns-clause-planned : goal.returns-clause-planned
+returns-clause-planned c = rw c.as_slice-4.ensures at c.in_ok-shares.ensures.plan
