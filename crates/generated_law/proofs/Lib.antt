@@ -1,0 +1,17 @@
+mod Decimals
+mod SuiteText
+mod Pool
+mod TestCode
+mod ClassBytes
+mod FilesRead
+mod Members
+mod Assembling
+mod UsedEntries
+mod LinkedSuite
+mod Typed
+mod LoadedSuite
+mod TestSteps
+mod TestRuns
+mod OwnEdges
+mod OwnChains
+mod SuiteRuns

@@ -1,0 +1,4 @@
+pub mod GeneratedSuite
+pub mod GeneratedLaw
+pub mod GeneratedRun
+pub mod GeneratedRecord
