@@ -5,5 +5,4 @@ pub mod Books
 pub mod Marks
 pub mod Marking
 pub mod ConesText
-pub mod Tallies
 pub mod ManifestText

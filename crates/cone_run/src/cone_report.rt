@@ -6,13 +6,12 @@ ghost use Rattle.std.specs.Prelude.{◌≡◌, ◌<◌, ◌≤◌, ◌++◌, ◌
 ghost use Rattle.std.specs.List.{list_all, zip};
 ghost use Rattle.jvm_model.specs.Texts as line;
 ghost use Rattle.cone_run.specs.ConesText as text;
-ghost use Rattle.cone_run.specs.Tallies.{IsTally};
+ghost use Rattle.test_run.specs.Tallies.{IsTally};
 
-use crate::tallies::{Tally, push_head};
 use et_base::{NoMemory, Text};
 use jvm_model::{Names, Outcome, Verdict};
 use std::alloc::Global;
-use test_run::{Piece, count_line};
+use test_run::{Piece, Tally, count_line, push_head};
 
 // How many tests were run.
 fn count_run(pieces: &[Piece]) -> u64

@@ -28,7 +28,6 @@ mod mark_report;
 mod marking;
 mod marks;
 mod runs;
-mod tallies;
 
 pub use cone_pool::cones;
 pub use cone_report::{all_passed, cones_text};
@@ -36,4 +35,3 @@ pub use laws::cone_law;
 pub use mark_report::manifest_text;
 pub use marking::manifest;
 pub use marks::{Effect, Mark};
-pub use tallies::{Counts, Tally, push_head};

@@ -18,7 +18,7 @@ use Rattle.suite_load.specs.declared.loaded.Loaded.{Loaded}
 use Rattle.suite_load.specs.LoadAnswers.{LoadAnswers, IsProper}
 use Rattle.electrictest.specs.declared.recorded.Request.{Request}
 use Rattle.electrictest.specs.declared.reports.Report.{Report}
-use Rattle.electrictest.specs.declared.tallies.Tally.{Tally}
+use Rattle.test_run.specs.declared.tallies.Tally.{Tally}
 use Rattle.electrictest.specs.declared.status.InputFault.{InputFault}
 use Rattle.electrictest.specs.declared.status.InputFault.TheVariants as input
 use Rattle.electrictest.specs.declared.status.Status.{Status}
@@ -33,7 +33,8 @@ use Rattle.electrictest.specs.Records.{Beginning, beginning}
 use Rattle.electrictest.specs.Replies.{Unreported, ungenerated}
 use Rattle.electrictest.specs.Running.{RunRefused}
 use Rattle.electrictest.specs.Selections.{IsTestOf}
-use Rattle.electrictest.specs.Tallies.{IsTally, IsTallyOf}
+use Rattle.test_run.specs.Tallies.{IsTally}
+use Rattle.electrictest.specs.Tallies.{IsTallyOf}
 use Rattle.electrictest.specs.Words.{Ask, Asking}
 use Rattle.electrictest.proofs.AskedFor.{formed_as, reports_as, overs_as}
 use Rattle.electrictest.proofs.PlanLaws.{tests_have}

@@ -10,9 +10,10 @@ use Rattle.jvm_model.specs.declared.program.Names.{Names}
 use Rattle.jvm_model.specs.Texts.{is_passed, is_failed, is_error, head_line, count_line, verdict_line, outcome_lines, test_lines, report_on}
 use Rattle.order_law.specs.Conflicts.{Member}
 use Rattle.schedule_plan.proofs.Places.{place_of}
-use Rattle.electrictest.specs.declared.tallies.Counts.{Counts}
+use Rattle.test_run.specs.declared.tallies.Counts.{Counts}
 use Rattle.electrictest.specs.Orders.{paired, is_of, by_test, order_report}
-use Rattle.electrictest.specs.Tallies.{IsCount, report_text}
+use Rattle.test_run.specs.Tallies.{IsCount}
+use Rattle.electrictest.specs.Tallies.{report_text}
 
 abbrev Listed : Type 0
 Listed = List (ℕ × Outcome)

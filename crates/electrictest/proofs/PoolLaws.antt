@@ -15,7 +15,7 @@ use Rattle.order_law.specs.Plan as law
 use Rattle.order_law.proofs.Posts.{legal_once, posted_where}
 use Rattle.run_core.specs.Run.{Gave, Run, history, IsLegal, IsComplete}
 use Rattle.worker_pool.specs.Plans.{units_of}
-use Rattle.electrictest.specs.declared.tallies.Tally.{Tally}
+use Rattle.test_run.specs.declared.tallies.Tally.{Tally}
 use Rattle.electrictest.specs.Logs.{log_text}
 use Rattle.electrictest.specs.Tallies.{IsTallyOf, report_text}
 use Rattle.electrictest.proofs.TallyLaws.{report_is}

@@ -13,7 +13,7 @@ use Rattle.order_law.specs.Reach.{IsRecordOf}
 use Rattle.outside.specs.Depot.{Files}
 use Rattle.suite_gen.specs.Generated.{suite_text, generated_class}
 use Rattle.suite_load.specs.declared.loaded.Loaded.{Loaded}
-use Rattle.electrictest.specs.declared.tallies.Tally.{Tally}
+use Rattle.test_run.specs.declared.tallies.Tally.{Tally}
 use Rattle.electrictest.specs.declared.recorded.Request.{Request}
 use Rattle.electrictest.specs.declared.status.InputFault.{InputFault}
 use Rattle.electrictest.specs.declared.status.OverFault.{OverFault}

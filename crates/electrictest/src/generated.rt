@@ -19,7 +19,6 @@ use crate::recorded::Request;
 use crate::reports::Report;
 use crate::selections::all_tests;
 use crate::status::Status;
-use crate::tallies::Tally;
 use et_base::{NoMemory, Text, push_decimal};
 use order_law::{Edge, EdgeKind};
 use outside::{Gate, QuietDepot, Steps};
@@ -29,7 +28,7 @@ use std::sync::ledger::Ledger;
 use std::thread::Threads;
 use suite_gen::generate;
 use suite_load::{Loaded, load};
-use test_run::count_line;
+use test_run::{Tally, count_line};
 
 /// How many conflicts there are of each kind.
 #[derive(Clone, Copy)]

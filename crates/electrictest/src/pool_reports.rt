@@ -6,11 +6,11 @@ ghost use Rattle.order_law.specs.Plan.{Posted};
 ghost use Rattle.run_core.specs.Run.{history};
 ghost use Rattle.electrictest.specs.Tallies.{IsTallyOf};
 
-use crate::tallies::Tally;
 use et_base::NoMemory;
 use jvm_model::Names;
 use run_core::Core;
 use std::alloc::Global;
+use test_run::Tally;
 
 /// The tests of a list, which the core has posted, by their outcomes there. The only error is want of memory.
 #[tactic(auto, using(crate::proofs::TallyLaws::no_tests, crate::proofs::TallyLaws::few_so_far, crate::proofs::TallyLaws::tally_more))]

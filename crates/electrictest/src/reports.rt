@@ -5,14 +5,14 @@ ghost use Rattle.std.specs.List.{list_all};
 ghost use Rattle.jvm_model.specs.Texts as line;
 ghost use Rattle.order_law.specs.Conflicts.{Member};
 ghost use Rattle.electrictest.specs.Orders as order;
-ghost use Rattle.electrictest.specs.Tallies.{IsTally};
+ghost use Rattle.test_run.specs.Tallies.{IsTally};
 ghost use Rattle.electrictest.specs.Wholes as whole;
 
-use crate::tallies::{Counts, Tally, report_of};
+use crate::tallies::report_of;
 use et_base::{NoMemory, Text};
 use jvm_model::{Names, Outcome};
 use std::alloc::Global;
-use test_run::outcome_lines;
+use test_run::{Counts, Tally, outcome_lines};
 
 /// A report, and whether each test in it passed.
 #[derive(Drop)]

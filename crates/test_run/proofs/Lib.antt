@@ -2,3 +2,4 @@ pub mod Joins
 pub mod OneTest
 pub mod After
 pub mod Lists
+pub mod TallyLaws

@@ -1,3 +1,4 @@
 pub mod Outcomes
 pub mod Running
 pub mod Lists
+pub mod Tallies

@@ -1,8 +1,8 @@
-//! A machine that runs tests one after the other on its own memory, and the lines of a report on a
-//! test.
+//! A machine that runs tests one after the other on its own memory, and the lines of a report on
+//! tests.
 //!
 //! Begin with `jvm_model/specs/Suite.antt` and `specs/Running.antt`, what a machine keeps, then
-//! `machine.rt`, `piece.rt` and `lines.rt`.
+//! `machine.rt`, `piece.rt`, `lines.rt` and `tallies.rt`.
 //!
 //! - `Machine::run_test` runs one more test: its outcome is the definition's after the tests before
 //!   it, or `OverBudget` comes where its units would pass its budget.
@@ -21,9 +21,11 @@ mod piece;
 mod pool_name;
 mod run_fault;
 mod single;
+mod tallies;
 
 pub use lines::{count_line, outcome_lines};
 pub use machine::Machine;
 pub use piece::Piece;
 pub use pool_name::PoolName;
 pub use run_fault::RunFault;
+pub use tallies::{Counts, Tally, push_head};

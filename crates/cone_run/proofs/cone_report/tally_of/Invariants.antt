@@ -1,7 +1,7 @@
 use Rattle.std.proofs.Common.{take}
 use Rattle.std.specs.List.{zip}
 use Rattle.cone_run.specs.ConesText.{outcomes}
-use Rattle.cone_run.specs.Tallies.{IsTally}
+use Rattle.test_run.specs.Tallies.{IsTally}
 use Rattle.cone_run.proofs.cone_report.tally_of.Given as goal
 
 -- the tests so far

@@ -1,5 +1,5 @@
 use Rattle.std.proofs.Common.{take}
-use Rattle.electrictest.specs.Tallies.{IsTally}
+use Rattle.test_run.specs.Tallies.{IsTally}
 use Rattle.electrictest.specs.Wholes.{numbered}
 use Rattle.electrictest.proofs.reports.tally_in_order.Given as goal
 

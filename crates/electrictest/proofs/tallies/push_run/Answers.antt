@@ -2,7 +2,7 @@ use Rattle.std.proofs.Common.{◌≡◌, ◌++◌, ◌∷◌, [], codes, decimal
 use Rattle.std.proofs.lemmas.Result.{on_ok_weaker}
 use Rattle.jvm_model.specs.Texts.{chains_text}
 use Rattle.test_run.proofs.Joins.{join4}
-use Rattle.electrictest.specs.Tallies.{head_of}
+use Rattle.test_run.specs.Tallies.{head_of}
 use Rattle.electrictest.proofs.TallyLaws.{head_then}
 use Rattle.electrictest.proofs.tallies.push_run.Goals as goal
 

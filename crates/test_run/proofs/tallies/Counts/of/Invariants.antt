@@ -1,6 +1,6 @@
 use Rattle.std.proofs.Common.{take}
-use Rattle.cone_run.specs.Tallies.{IsCount}
-use Rattle.cone_run.proofs.tallies.Counts.of.Given as goal
+use Rattle.test_run.specs.Tallies.{IsCount}
+use Rattle.test_run.proofs.tallies.Counts.of.Given as goal
 
 -- the outcomes so far
 abbrev pub invariant-loop-index : goal.invariant-loop-index

@@ -1,12 +1,12 @@
 //! Reports on tests with their outcomes: the head, the lines of the tests and the counts of verdicts.
 
 ghost use Rattle.std.specs.Prelude.{◌≡◌, ◌<◌, ◌≤◌, ◌^◌, ◌++◌, [], length, OnOk};
-ghost use Rattle.cone_run.specs.Tallies.{IsCount, IsFew, counted_with, head_of, tally_with};
+ghost use Rattle.test_run.specs.Tallies.{IsCount, IsFew, counted_with, head_of, tally_with};
 
+use crate::lines::outcome_lines;
 use et_base::{NoMemory, Text, push_decimal};
 use jvm_model::{Names, Outcome, Verdict};
 use std::alloc::Global;
-use test_run::outcome_lines;
 
 /// How many tests ended with each verdict, and whether all passed.
 #[derive(Clone, Copy)]
@@ -25,7 +25,7 @@ pub struct Tally {
 }
 
 impl Counts {
-    // Of no test.
+    // The counts of no test.
     #[tactic(auto, using(crate::proofs::TallyLaws::none_counted))]
     fn new() -> Counts
         ensures { IsCount [] result }
@@ -56,7 +56,7 @@ impl Counts {
         }
     }
 
-    /// Of these outcomes.
+    /// The counts of these outcomes.
     #[tactic(auto, using(crate::proofs::TallyLaws::count_more, crate::proofs::TallyLaws::few_counted))]
     pub fn of(outcomes: &[Outcome]) -> Counts
         requires few { length outcomes.now < 2 ^ 32 }
@@ -71,7 +71,7 @@ impl Counts {
 }
 
 impl Tally {
-    /// Of no test.
+    /// The tally of no test.
     pub fn new(alloc: Global) -> Tally
         ensures lines { result.lines ≡ [] }
         ensures counts { IsCount [] result.counts }

@@ -1,7 +1,7 @@
 use Rattle.std.proofs.Common.{◌≡◌, ◌++◌, ◌∷◌, codes, decimal}
 use Rattle.std.proofs.lemmas.Result.{on_ok_weaker}
 use Rattle.test_run.proofs.Joins.{join5}
-use Rattle.electrictest.proofs.tallies.push_head.Goals as goal
+use Rattle.test_run.proofs.tallies.push_head.Goals as goal
 
 pub returns : goal.returns
 returns c =
