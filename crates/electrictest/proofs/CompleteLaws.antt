@@ -1,5 +1,5 @@
 -- What is accepted isn't refused.
-use Rattle.std.proofs.Common.{◌≡◌, ◌∙◌, ◌<◌, ◌-◌, ◌^◌, ℕ, List, refl, sym, ap, subst, arith, Option, Some, None, Result, Ok, Err, IfSome, IsOk}
+use Rattle.std.proofs.Common.{◌≡◌, ◌∙◌, ◌<◌, ◌-◌, ◌^◌, ℕ, List, refl, sym, subst, Option, Some, Result, Ok, Err, IfSome, IsOk}
 use Rattle.std.proofs.lemmas.Bool.{false≢true}
 use Rattle.order_law.proofs.OrderFaults.{law_of_faults}
 use Rattle.outside.specs.Depot.{Files, FailedAt}
@@ -11,14 +11,13 @@ use Rattle.electrictest.specs.declared.status.InputFault.{InputFault}
 use Rattle.electrictest.specs.declared.words.Command.TheVariants as command
 use Rattle.electrictest.specs.Commands.{Asked, PartReplied, Served, called}
 use Rattle.electrictest.specs.Complete.{AcceptsSuite, IsAccepted, of_depot, of_generated, IsCompleted, Complete, QuietlyComplete, quiet_depot, quiet_sink}
-use Rattle.electrictest.specs.Generated.{suite_files, suite_name}
-use Rattle.electrictest.specs.Loads.{Begins, LoadsAny, LoadsFor, LoadsNamed, begun_by}
+use Rattle.electrictest.specs.Loads.{Begins, LoadsAny, LoadsFor, begun_by}
 use Rattle.electrictest.specs.Orders.{IsUnlawful}
 use Rattle.electrictest.specs.Records.{Beginning}
-use Rattle.electrictest.specs.Replies.{IsRefusedInput, unloaded, unbegun, ungenerated, unlawful}
+use Rattle.electrictest.specs.Replies.{IsRefusedInput, unloaded, unbegun, unlawful}
 use Rattle.electrictest.specs.Words.{Ask, Asking, is_eager, suite_named, suite_word, unformed}
 use Rattle.electrictest.proofs.GeneratedLaws.{never_failed}
-use Rattle.electrictest.proofs.OwnRecordLaws.{any_once, loaded_once, named_once}
+use Rattle.electrictest.proofs.OwnRecordLaws.{any_once, loaded_once}
 use Rattle.electrictest.proofs.QuietLaws.{sink_quiet}
 
 -- ---- a suite of the depot
@@ -41,12 +40,11 @@ module _ (files : Files) (a : Ask) (l : Loaded) (accepts : AcceptsSuite files a 
   suite_taken : (f : InputFault) → IsRefusedInput files a f → ⊥
   suite_taken f (unloaded h) = let e = any_once files (is_eager a.words) (suite_word a) (Ok l) (Err (ends.Input f)) accepts.load h in absurd (cc)
   suite_taken f (unbegun {l = x} h) = not_unbegun x f h
-  suite_taken f (ungenerated c h) = subst (λ (d : Asking). LoadsAny files (is_eager a.words) (suite_named d a.words) (Ok l)) c accepts.load
   suite_taken f (unlawful {l = x} {b = b} c h u) = not_unlawful x b f c h u
 
 -- ---- a generated suite
 
-module _ (files : Files) (a : Ask) (k n : ℕ) (l : Loaded) (asks : a.command ≡ Ok (command.Gen k n)) (load : LoadsNamed (suite_files k) suite_name (Ok l)) where
+module _ (files : Files) (a : Ask) (k n : ℕ) (asks : a.command ≡ Ok (command.Gen k n)) where
   -- nothing of the depot is loaded
   none_loaded : (answer : Result Loaded Status) → LoadsFor files a answer → ⊥
   none_loaded answer h = subst (λ (c : Asking). LoadsAny files (is_eager a.words) (suite_named c a.words) answer) asks h
@@ -54,22 +52,17 @@ module _ (files : Files) (a : Ask) (k n : ℕ) (l : Loaded) (asks : a.command �
   generated_taken : (f : InputFault) → IsRefusedInput files a f → ⊥
   generated_taken f (unloaded h) = none_loaded (Err (ends.Input f)) h
   generated_taken f (unbegun {l = x} h) = none_loaded (Ok x) h.load
-  generated_taken f (ungenerated {k = j} {n = m} c h) =
-      let both : ◌≡◌ {A = Asking} (Ok (command.Gen j m)) (Ok (command.Gen k n)) = sym c ∙ asks in
-      let same : j ≡ k = cc in
-      let e = named_once (suite_files k) suite_name (Ok l) (Err (ends.Input f)) load (subst (λ (i : ℕ). LoadsNamed (suite_files i) suite_name (Err (ends.Input f))) same h) in
-      absurd (cc)
   generated_taken f (unlawful {l = x} {b = b} c h u) = none_loaded (Ok x) h.load
 
 -- ---- what is accepted
 
 in_form_at : (files : Files) (a : Ask) → IsAccepted files a → a.command ≡ unformed → ⊥
 in_form_at files a (of_depot {l = l} accepts) e = in_form files a l accepts e
-in_form_at files a (of_generated asks load) e = let both = sym asks ∙ e in absurd (cc)
+in_form_at files a (of_generated asks) e = let both = sym asks ∙ e in absurd (cc)
 
 taken_at : (files : Files) (a : Ask) → IsAccepted files a → (f : InputFault) → IsRefusedInput files a f → ⊥
 taken_at files a (of_depot {l = l} accepts) f r = suite_taken files a l accepts f r
-taken_at files a (of_generated {k = k} {n = n} {l = l} asks load) f r = generated_taken files a k n l asks load f r
+taken_at files a (of_generated {k = k} {n = n} asks) f r = generated_taken files a k n asks f r
 
 -- where neither the depot nor the sink is answered
 completed_at : (asked : Asked) (s : Status) (old new : SinkView) → IsAccepted asked.files asked.ask → ((name : List ℕ) → FailedAt asked.depot asked.depot_now name → ⊥) → (PartReplied asked old new → ⊥) →

@@ -40,7 +40,7 @@ use Rattle.electrictest.specs.EarlierRecords.{AsksEarlier, WroteImpact, EarlierA
 use Rattle.electrictest.specs.Impacts.{IsImpacted}
 use Rattle.electrictest.specs.Loads.{LoadsFor, LoadsAny, begun_by, fits_for, named_by}
 use Rattle.electrictest.specs.Records.{Beginning, nameless, begun, record_at, record_bytes, suite_fits, classes_fit, earlier_fits}
-use Rattle.electrictest.specs.Replies.{IsRefusedInput, unloaded, unbegun, ungenerated, unlawful, ReportsBy, OversBy}
+use Rattle.electrictest.specs.Replies.{IsRefusedInput, unloaded, unbegun, unlawful, ReportsBy, OversBy}
 use Rattle.electrictest.specs.Words.{Ask, Asking, is_eager, suite_named, suite_word, word_at}
 use Rattle.electrictest.proofs.DetectedLaws.{have_hashes, held_text, own_hashes, read_back}
 use Rattle.electrictest.proofs.LoadedFacts.{IsLoaded, loaded_from, plain_named, as_many, are_classes, sums_tell, is_good, same_suite}
@@ -222,7 +222,6 @@ module _ (before now : Files) (a : Ask) (was l : Loaded) (plain : is_eager a.wor
   never_refused : (f : InputFault) → IsRefusedInput now a f → ⊥
   never_refused f (unloaded h) = let e = any_once now (is_eager a.words) (suite_word a) (Ok l) (Err (ends.Input f)) asks.load h in absurd (cc)
   never_refused f (unbegun {l = x} h) = let e = (begins_once now a l (nameless kept) asks.load begun_here x (Err f) h).begins in absurd (cc)
-  never_refused f (ungenerated c h) = let e = sym asks.asks ∙ c in absurd (cc)
   never_refused f (unlawful {l = x} {b = b} c h u) = let e = sym asks.asks ∙ c in absurd (cc)
 
 pub earlier_answer : (asked : Asked) (s : Status) (old new : SinkView) → (asked.ask.command ≡ Ok command.Impact → is_eager asked.ask.words ≡ false) → Served asked s old new → EarlierAnswer asked s old new

@@ -1,36 +1,28 @@
 -- What the words of a generated suite are answered.
-use Rattle.std.proofs.Common.{◌≡◌, ◌∙◌, ◌≢◌, ℕ, List, Bool, true, false, refl, sym, ap, subst, inl, inr, Result, Ok, Err, IfOk, IfErr}
+use Rattle.std.proofs.Common.{◌≡◌, ◌∙◌, ℕ, List, Bool, true, false, sym, ap, subst, inl, inr, Result, Ok, Err, IfOk, IfErr}
+use Rattle.std.proofs.lemmas.Bool.{false≢true}
 use Rattle.outside.specs.Depot.{DepotView}
 use Rattle.outside.specs.Sink.{SinkView}
 use Rattle.electrictest.specs.declared.reports.Report.{Report}
 use Rattle.electrictest.specs.declared.status.Status.{Status}
 use Rattle.electrictest.specs.declared.status.Status.TheVariants as ends
-use Rattle.electrictest.specs.Commands.{Refused, Whole, Writes, report_status}
-use Rattle.electrictest.specs.Generated.{Sums, Unsummed}
+use Rattle.electrictest.specs.Commands.{Refused, Writes, report_status}
+use Rattle.electrictest.specs.Generated.{Sums}
 use Rattle.electrictest.specs.GeneratedAnswers.{GeneratedAnswer, GeneratedEnds, Summed}
-use Rattle.electrictest.specs.Replies.{fault_line}
 use Rattle.electrictest.specs.Words.{Ask, OfGenerated}
 
 module _ (k workers begun now : ℕ) (result : Status) (old new : SinkView) where
+  ends_as : (s : Status) → result ≡ s → GeneratedEnds k workers begun now s old new → GeneratedEnds k workers begun now result old new
+  ends_as s e h = subst (λ (z : Status). GeneratedEnds k workers begun now z old new) (sym e) h
+
   summary_written : (passed : Bool) (text : List ℕ) → Sums k workers passed text begun now → Writes text (report_status passed) result old new → GeneratedEnds k workers begun now result old new
-  summary_written true text sums (inl h) = subst (λ (z : Status). GeneratedEnds k workers begun now z old new) (sym h.0) (record { text = text; sums = sums; whole = h.1 })
-  summary_written false text sums (inl h) = subst (λ (z : Status). GeneratedEnds k workers begun now z old new) (sym h.0) (record { text = text; sums = sums; whole = h.1 })
-  summary_written passed text sums (inr h) = subst (λ (z : Status). GeneratedEnds k workers begun now z old new) (sym h.0) tt
+  summary_written true text sums (inl h) = ends_as ends.Done h.0 (record { text = text; sums = sums; whole = h.1 })
+  summary_written false text sums (inl h) = absurd (false≢true sums.summary.passes)
+  summary_written passed text sums (inr h) = ends_as ends.Sink h.0 tt
 
-  line_written : (s : Status) → s ≢ ends.NoMemory → Unsummed k s → Whole (fault_line s) old new → GeneratedEnds k workers begun now s old new
-  line_written ends.NoMemory n u h = absurd (n refl)
-  line_written (ends.Input f) n u h = (u, h)
-  line_written (ends.Over f) n u h = (u, h)
-  line_written (ends.Depot name) n u h = absurd u
-  line_written ends.Words n u h = absurd u
-  line_written ends.Done n u h = absurd u
-  line_written ends.NotPassed n u h = absurd u
-  line_written ends.Sink n u h = absurd u
-
-  refusal_written : (s : Status) → Unsummed k s → Refused s result old new → GeneratedEnds k workers begun now result old new
-  refusal_written s u (inr h) = subst (λ (z : Status). GeneratedEnds k workers begun now z old new) (sym h.0) h.1
-  refusal_written s u (inl (n, inl h)) = subst (λ (z : Status). GeneratedEnds k workers begun now z old new) (sym h.0) (line_written s n u h.1)
-  refusal_written s u (inl (n, inr h)) = subst (λ (z : Status). GeneratedEnds k workers begun now z old new) (sym h.0) tt
+  refusal_written : (s : Status) → s ≡ ends.NoMemory → Refused s result old new → GeneratedEnds k workers begun now result old new
+  refusal_written s u (inr h) = ends_as ends.NoMemory h.0 h.1
+  refusal_written s u (inl h) = absurd (h.0 u)
 
   written_by : (report : Result Report Status) (depot depot_now : DepotView) → Summed k workers report depot depot_now begun now → IfOk report (λ r. Writes r.text (report_status r.passed) result old new) →
       IfErr report (λ s. Refused s result old new) → GeneratedEnds k workers begun now result old new

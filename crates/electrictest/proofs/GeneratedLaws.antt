@@ -1,42 +1,54 @@
 -- The summary of a generated suite, from its parts.
-use Rattle.std.proofs.Common.{◌≡◌, ℕ, ◌+◌, List, ◌∷◌, ◌++◌, length, codes, sum, Bool, refl, sym, ap, ◌∙◌, subst, arith, inl, inr, All, Option, Some, None, Result, Ok, Err, IfErr, IfSome}
-use Rattle.std.proofs.lemmas.List.FromFn.{length-map-range_with_len}
-use Rattle.jvm_model.specs.declared.outcome.Outcome.{Outcome}
+use Rattle.std.proofs.Common.{◌≡◌, ◌↔◌, ℕ, ◌+◌, ◌≤◌, List, ◌∷◌, ◌++◌, length, codes, count_by, sum, Bool, refl, sym, ap, ◌∙◌, subst, arith, inl, inr, All, Option, Some, None, Result, Ok, Err, IfSome}
+use Rattle.std.specs.List.{list_all, range_with_len}
+use Rattle.std.proofs.lemmas.List.FromFn.{length-map-range_with_len, length-range_with_len}
+use Rattle.generated_law.specs.GeneratedLaw.{LoadLaw}
+use Rattle.generated_law.specs.GeneratedRecord.{ChainLaw, IsGeneratedRecord, RecordLaw}
+use Rattle.generated_law.specs.GeneratedRun.{RunLaw, outcome_of}
+use Rattle.generated_law.specs.GeneratedSuite.{gen_program, gen_test, generated_program, generated_suite, suite_files, suite_name}
+use Rattle.jvm_model.specs.declared.program.Program.{Program}
 use Rattle.jvm_model.specs.Linked.{Linked}
-use Rattle.jvm_model.specs.Suite.{seq}
-use Rattle.jvm_model.specs.Texts.{count_line}
+use Rattle.jvm_model.specs.Suite.{all_tests, is_detected, seq}
+use Rattle.jvm_model.specs.Texts.{count_line, is_error, is_failed, is_passed}
+use Rattle.jvm_model.proofs.Detection.{no_fault_where_detected}
 use Rattle.order_law.specs.declared.records.Record.{Record}
-use Rattle.order_law.specs.Reach.{IsRecordOf, units_in}
+use Rattle.order_law.specs.declared.edges.Edge.{Edge}
+use Rattle.order_law.specs.Conflicts.{Member}
+use Rattle.order_law.specs.OwnRecord.{edges_of}
+use Rattle.order_law.specs.Plan.{AreListedChainsOf}
+use Rattle.order_law.specs.Reach.{IsRecordOf, units_in as units_given}
+use Rattle.order_law.proofs.OwnRecord.{range_within}
 use Rattle.outside.specs.Depot.{Files, DepotView, FailedAt}
 use Rattle.dep_record.specs.RecordText.{said}
 use Rattle.run_core.specs.Run.{Run, history, IsLegal, IsComplete}
 use Rattle.schedule_plan.specs.Plans.{HasUnits}
 use Rattle.worker_pool.specs.Plans.{units_of}
+use Rattle.suite_gen.specs.Generated.{group_count}
 use Rattle.suite_load.specs.declared.load_fault.LoadFault.{LoadFault}
 use Rattle.suite_load.specs.declared.load_fault.LoadFault.TheVariants as fault
 use Rattle.suite_load.specs.declared.loaded.Loaded.{Loaded}
 use Rattle.suite_load.specs.LoadAnswers.{LoadAnswers, IsProper}
+use Rattle.suite_load.specs.Loading.{Loads}
+use Rattle.suite_load.proofs.LoadOnce.{loads_once}
 use Rattle.electrictest.specs.declared.recorded.Request.{Request}
-use Rattle.electrictest.specs.declared.reports.Report.{Report}
 use Rattle.test_run.specs.declared.tallies.Tally.{Tally}
-use Rattle.electrictest.specs.declared.status.InputFault.{InputFault}
-use Rattle.electrictest.specs.declared.status.InputFault.TheVariants as input
 use Rattle.electrictest.specs.declared.status.Status.{Status}
 use Rattle.electrictest.specs.declared.status.Status.TheVariants as ends
 use Rattle.electrictest.specs.declared.words.Command.TheVariants as command
-use Rattle.electrictest.specs.Causes.{AsksAny, MayRefuse}
-use Rattle.electrictest.specs.Commands.{IsProperRefusal, IsProperRun, ReportEnds, Reported}
-use Rattle.electrictest.specs.Generated.{suite_name, suite_files, summary_text, summary_by, conflict_line, counted, whole_suite, IsWholeRequest, IsSummed, Sums, Unsummed}
-use Rattle.electrictest.specs.Loads.{LoadsNamed, IsSuite, answered, status_of}
-use Rattle.electrictest.specs.PoolRuns.{IsChosen, LawOfOwnRuns, PoolRefused, outcomes}
+use Rattle.electrictest.specs.Commands.{ReportEnds, Reported}
+use Rattle.electrictest.specs.Generated.{IsSummary, IsSummed, IsWholeRequest, Sums, conflict_line, own_tests, own_units, summary_by, summary_text, whole_suite, worker_line}
+use Rattle.electrictest.specs.Loads.{IsSuite, status_of}
+use Rattle.electrictest.specs.PoolRuns.{AreOwn, IsChosen, IsOfSuite, LawOfOwnRuns, PoolRefused, outcomes}
 use Rattle.electrictest.specs.Records.{Beginning, beginning}
-use Rattle.electrictest.specs.Replies.{Unreported, ungenerated}
+use Rattle.electrictest.specs.Replies.{Unreported}
 use Rattle.electrictest.specs.Running.{RunRefused}
 use Rattle.electrictest.specs.Selections.{IsTestOf}
-use Rattle.test_run.specs.Tallies.{IsTally}
 use Rattle.electrictest.specs.Tallies.{IsTallyOf}
-use Rattle.electrictest.specs.Words.{Ask, Asking}
-use Rattle.electrictest.proofs.AskedFor.{formed_as, reports_as, overs_as}
+use Rattle.electrictest.specs.TestNames.{units_in}
+use Rattle.electrictest.specs.Words.{Ask}
+use Rattle.electrictest.proofs.AllTests.{closed_all, in_range}
+use Rattle.electrictest.proofs.AskedFor.{reports_as}
+use Rattle.electrictest.proofs.GeneratedRuns.{all_pass, given_is, none_other, passed_many, passes, units_all}
 use Rattle.electrictest.proofs.PlanLaws.{tests_have}
 use Rattle.electrictest.proofs.PoolLaws.{own_runs, pool_ran}
 use Rattle.electrictest.proofs.PoolReplies.{is_of_suite}
@@ -47,87 +59,93 @@ use Rattle.electrictest.proofs.PoolReplies.{is_of_suite}
 pub never_failed : (old new : DepotView) (name : List ℕ) → old.faults ≡ 0 → new.faults ≡ 0 → FailedAt old new name → ⊥
 never_failed old new name e f h = elim h.rose [ inl r ↦ absurd (omega (arith, e, f, r)) | inr r ↦ absurd (omega (arith, e, f, r)) ]
 
-pub unloaded_as : (Q : List ℕ → Type 0) (k : ℕ) (f : LoadFault) → LoadAnswers (suite_files k) suite_name (Err f) → IsProper Q f → ((read : List ℕ) → Q read → ⊥) → Unsummed k (status_of f)
-unloaded_as Q k fault.NoMemory h p none = tt
-unloaded_as Q k (fault.Depot read) h p none = absurd (none read p)
-unloaded_as Q k (fault.Absent x) h p none = (Err (fault.Absent x), h, refl)
-unloaded_as Q k (fault.TooLarge x) h p none = (Err (fault.TooLarge x), h, refl)
-unloaded_as Q k (fault.Suite line why) h p none = (Err (fault.Suite line why), h, refl)
-unloaded_as Q k (fault.Class x f) h p none = (Err (fault.Class x f), h, refl)
-unloaded_as Q k (fault.Link f) h p none = (Err (fault.Link f), h, refl)
-unloaded_as Q k (fault.Check f) h p none = (Err (fault.Check f), h, refl)
+-- loading has one answer
+module _ (loads : LoadLaw) (k : ℕ) (few : k ≤ 1024) where
+  loaded_once : (answer : Result Loaded LoadFault) → Loads (suite_files k) suite_name answer → answer ≡ Ok (generated_suite k)
+  loaded_once answer h =
+      let once = loads_once (suite_files k) suite_name in
+      once.2 answer h ∙ sym (once.2 (Ok (generated_suite k)) (loads k few))
+
+  pub loaded_as : (l : Loaded) → Loads (suite_files k) suite_name (Ok l) → l ≡ generated_suite k
+  loaded_as l h = let e = loaded_once (Ok l) h in cc
+
+  never_refused : (f : LoadFault) → Loads (suite_files k) suite_name (Err f) → status_of f ≡ ends.NoMemory
+  never_refused f h = let e = loaded_once (Err f) h in absurd (cc)
+
+  pub unloaded_as : (Q : List ℕ → Type 0) (f : LoadFault) → LoadAnswers (suite_files k) suite_name (Err f) → IsProper Q f → ((read : List ℕ) → Q read → ⊥) → status_of f ≡ ends.NoMemory
+  unloaded_as Q fault.NoMemory h p none = refl
+  unloaded_as Q (fault.Depot read) h p none = absurd (none read p)
+  unloaded_as Q (fault.Absent x) h p none = never_refused (fault.Absent x) h
+  unloaded_as Q (fault.TooLarge x) h p none = never_refused (fault.TooLarge x) h
+  unloaded_as Q (fault.Suite line why) h p none = never_refused (fault.Suite line why) h
+  unloaded_as Q (fault.Class x f) h p none = never_refused (fault.Class x f) h
+  unloaded_as Q (fault.Link f) h p none = never_refused (fault.Link f) h
+  unloaded_as Q (fault.Check f) h p none = never_refused (fault.Check f) h
+
+-- ---- what is loaded
+
+program_of : (k : ℕ) → (generated_suite k).checked ≡ generated_program k
+unfolding generated_suite
+program_of k = refl
+
+tests_of : (k : ℕ) → length (generated_program k).tests ≡ k
+unfolding gen_program
+tests_of k = length-map-range_with_len gen_test 1 k
+
+program_is : (k : ℕ) (l : Loaded) → l ≡ generated_suite k → l.checked ≡ generated_program k
+program_is k l same = ap (λ (z : Loaded). z.checked) same ∙ program_of k
+
+tests_are : (k : ℕ) (l : Loaded) → l ≡ generated_suite k → all_tests l.checked ≡ range_with_len 1 k
+tests_are k l same = ap (range_with_len 1) (ap (λ (p : Program). length p.tests) (program_is k l same) ∙ tests_of k)
 
 -- ---- refusals
 
-pub run_unsummed : (k : ℕ) (l : Loaded) (s : Status) → LoadsNamed (suite_files k) suite_name (Ok l) → RunRefused l s → Unsummed k s
-run_unsummed k l ends.NoMemory load r = tt
-run_unsummed k l (ends.Over f) load r = record { loaded = l; found = r.0; load = load; passes = r.1; named = r.2 }
-run_unsummed k l (ends.Input f) load r = absurd r
-run_unsummed k l (ends.Depot name) load r = absurd r
-run_unsummed k l ends.Words load r = absurd r
-run_unsummed k l ends.Done load r = absurd r
-run_unsummed k l ends.NotPassed load r = absurd r
-run_unsummed k l ends.Sink load r = absurd r
-
-pub proper_unsummed : (s : Status) → IsProperRefusal s → IsProperRun s
-proper_unsummed ends.NoMemory p = tt
-proper_unsummed (ends.Over f) p = tt
-proper_unsummed (ends.Input f) p = p
-proper_unsummed (ends.Depot name) p = absurd p
-proper_unsummed ends.Words p = absurd p
-proper_unsummed ends.Done p = absurd p
-proper_unsummed ends.NotPassed p = absurd p
-proper_unsummed ends.Sink p = absurd p
-
-pub run_proper : (l : Loaded) (s : Status) → RunRefused l s → IsProperRun s
-run_proper l ends.NoMemory r = tt
-run_proper l (ends.Over f) r = tt
-run_proper l (ends.Input f) r = absurd r
-run_proper l (ends.Depot name) r = absurd r
-run_proper l ends.Words r = absurd r
-run_proper l ends.Done r = absurd r
-run_proper l ends.NotPassed r = absurd r
-run_proper l ends.Sink r = absurd r
-
-pub pool_proper : (l : Loaded) (b : Beginning) (s : Status) → PoolRefused l b s → IsProperRun s
-pool_proper l b ends.NoMemory r = tt
-pool_proper l b (ends.Over f) r = tt
-pool_proper l b (ends.Input f) r = absurd r
-pool_proper l b (ends.Depot name) r = absurd r
-pool_proper l b ends.Words r = absurd r
-pool_proper l b ends.Done r = absurd r
-pool_proper l b ends.NotPassed r = absurd r
-pool_proper l b ends.Sink r = absurd r
+pub run_unsummed : RunLaw → (k : ℕ) → k ≤ 1024 → (l : Loaded) (s : Status) → l ≡ generated_suite k → RunRefused l s → s ≡ ends.NoMemory
+run_unsummed runs k few l ends.NoMemory same r = refl
+run_unsummed runs k few l (ends.Over f) same r =
+    let none = no_fault_where_detected l.checked (ap is_detected (program_is k l same) ∙ (runs k few).detected) in
+    let e = sym r.1 ∙ none in
+    absurd (cc)
+run_unsummed runs k few l (ends.Input f) same r = absurd r
+run_unsummed runs k few l (ends.Depot name) same r = absurd r
+run_unsummed runs k few l ends.Words same r = absurd r
+run_unsummed runs k few l ends.Done same r = absurd r
+run_unsummed runs k few l ends.NotPassed same r = absurd r
+run_unsummed runs k few l ends.Sink same r = absurd r
 
 -- ---- the suite's own record
 
 pub units_count : (l : Loaded) (r : Record) → IsRecordOf l.checked l.prints r → length r.units ≡ length l.checked.tests
-units_count l r own = ap length own.units ∙ length-map-range_with_len (λ t. units_in (seq l.checked t)) 1 (length l.checked.tests)
+units_count l r own = ap length own.units ∙ length-map-range_with_len (λ t. units_given (seq l.checked t)) 1 (length l.checked.tests)
 
 pub whole_has : (l : Loaded) (b : Request) → IsSuite l → IsWholeRequest l b → All (IsTestOf l.names) b.tests → HasUnits b.tests b.record.units
 whole_has l b suite w named = tests_have l b.tests b.tests b.record.units suite refl named (units_count l b.record w.own)
 
+of_suite : (l : Loaded) (b : Request) → IsSuite l → Linked l.checked → IsWholeRequest l b → All (IsTestOf l.names) b.tests → IsOfSuite l (beginning b)
+of_suite l b suite linked w named = is_of_suite l b.tests b suite linked refl named (units_count l b.record w.own)
+
 law_of : (l : Loaded) (b : Request) → IsSuite l → Linked l.checked → IsWholeRequest l b → All (IsTestOf l.names) b.tests → LawOfOwnRuns l (beginning b)
-law_of l b suite linked w named = own_runs l (beginning b) (is_of_suite l b.tests b suite linked refl named (units_count l b.record w.own)) w.detected w.own.edges
+law_of l b suite linked w named = own_runs l (beginning b) (of_suite l b suite linked w named) w.detected w.own.edges
 
 -- no test passes its budget
-pub pool_unsummed : (k : ℕ) (l : Loaded) (b : Request) (s : Status) → IsSuite l → Linked l.checked → IsWholeRequest l b → All (IsTestOf l.names) b.tests → PoolRefused l (beginning b) s → Unsummed k s
-pool_unsummed k l b ends.NoMemory suite linked w named r = tt
-pool_unsummed k l b (ends.Over f) suite linked w named r = absurd ((law_of l b suite linked w named).none_over f r)
-pool_unsummed k l b (ends.Input f) suite linked w named r = absurd r
-pool_unsummed k l b (ends.Depot name) suite linked w named r = absurd r
-pool_unsummed k l b ends.Words suite linked w named r = absurd r
-pool_unsummed k l b ends.Done suite linked w named r = absurd r
-pool_unsummed k l b ends.NotPassed suite linked w named r = absurd r
-pool_unsummed k l b ends.Sink suite linked w named r = absurd r
+pub pool_unsummed : (l : Loaded) (b : Request) (s : Status) → IsSuite l → Linked l.checked → IsWholeRequest l b → All (IsTestOf l.names) b.tests → PoolRefused l (beginning b) s → s ≡ ends.NoMemory
+pool_unsummed l b ends.NoMemory suite linked w named r = refl
+pool_unsummed l b (ends.Over f) suite linked w named r = absurd ((law_of l b suite linked w named).none_over f r)
+pool_unsummed l b (ends.Input f) suite linked w named r = absurd r
+pool_unsummed l b (ends.Depot name) suite linked w named r = absurd r
+pool_unsummed l b ends.Words suite linked w named r = absurd r
+pool_unsummed l b ends.Done suite linked w named r = absurd r
+pool_unsummed l b ends.NotPassed suite linked w named r = absurd r
+pool_unsummed l b ends.Sink suite linked w named r = absurd r
 
 -- ---- the summary
 
 -- of what was counted
-pub summary_is : (tests workers chains : ℕ) (kept : Record) (xs : List (ℕ × Outcome)) (l : Loaded) (t : Tally) → IsTally l.names xs t → summary_by tests workers kept chains t ≡ summary_text tests workers kept chains (outcomes xs)
+summary_is : (k workers chains : ℕ) (kept : Record) (t : Tally) → IsGeneratedRecord k kept → chains ≡ group_count k → sum kept.units ≡ own_units k → t.counts.passed ≡ k → t.counts.failed ≡ 0 → t.counts.error ≡ 0 →
+    summary_by k workers kept chains t ≡ summary_text k workers
 unfolding summary_text
-summary_is tests workers chains kept xs l t h =
-    λ i. codes "electric-gen 1" ++ (10 ∷ (conflict_line tests kept.edges chains ++ (counted (codes "workers ") workers ++ (counted (codes " units ") (sum kept.units) ++ (32 ∷ count_line (h.counts.passed i) (h.counts.failed i) (h.counts.error i))))))
+summary_is k workers chains kept t r groups units passed failed error =
+    λ i. codes "electric-gen 1" ++ (10 ∷ (conflict_line k (r.raw i) (r.waw i) (r.war i) (groups i) ++ worker_line workers (units i) (count_line (passed i) (failed i) (error i))))
 
 pub summed_of : (l : Loaded) (b : Beginning) (kept : Record) (set : List ℕ) (chains : List (List ℕ)) (many : ℕ) (run : Run) (tests workers : ℕ) (y : Tally) (text : List ℕ) → IsChosen b set chains many → run.program ≡ l.checked →
     run.chains ≡ chains → run.workers ≡ workers → IsLegal run → IsComplete run → IsTallyOf l.names (history run) set y → text ≡ summary_by tests workers kept (length chains) y →
@@ -136,32 +154,93 @@ unfolding pool_ran
 summed_of l b kept set chains many run tests workers y text chosen program same by legal whole tally reads =
     subst (λ (n : ℕ). IsSummed l b kept tests n y.counts.all_passed text (units_of run.events)) by (record {
       ran = pool_ran l b set chains many run y chosen program same legal whole tally;
-      verdicts = sym tally.tally.counts.all;
-      reports = reads ∙ (ap (λ (n : ℕ). summary_by tests n kept (length chains) y) (sym by) ∙ summary_is tests run.workers (length chains) kept tally.given l y tally.tally);
+      tally = y;
+      count = tally.tally.counts;
+      verdicts = refl;
+      reports = reads ∙ ap (λ (n : ℕ). summary_by tests n kept (length chains) y) (sym by);
     })
 
-pub sums_of : (k workers : ℕ) (l : Loaded) (b : Request) (passed : Bool) (text : List ℕ) (units begun mid now : ℕ) → IsSuite l → Linked l.checked → LoadsNamed (suite_files k) suite_name (Ok l) → IsWholeRequest l b →
-    All (IsTestOf l.names) b.tests → mid ≡ begun + sum b.record.units → now ≡ mid + units → IsSummed l (beginning b) b.record k workers passed text units → Sums k workers passed text begun now
-sums_of k workers l b passed text units begun mid now suite linked load w named before after summed =
-    let all : beginning b ≡ whole_suite l b.record = ap (λ (ts : List ℕ). record { tests = ts; said = said b.record }) w.tests in
-    let law : LawOfOwnRuns l (whole_suite l b.record) = subst (LawOfOwnRuns l) all (law_of l b suite linked w named) in
-    let s : IsSummed l (whole_suite l b.record) b.record k workers passed text units = subst (λ (z : Beginning). IsSummed l z b.record k workers passed text units) all summed in
+-- what all tests of the generated suite gave, by the laws of generated suites
+module _ (runs : RunLaw) (records : RecordLaw) (chain : ChainLaw) (k workers : ℕ) (few : k ≤ 1024) (l : Loaded) (same : l ≡ generated_suite k) (kept : Record) (own : IsRecordOf l.checked l.prints kept)
+    (suite : IsOfSuite l (whole_suite l kept)) (law : LawOfOwnRuns l (whole_suite l kept)) (passed : Bool) (text : List ℕ) (units : ℕ) (s : IsSummed l (whole_suite l kept) kept k workers passed text units) where
+  set_is : s.ran.set ≡ range_with_len 1 k
+  set_is = closed_all l (whole_suite l kept) suite own.edges refl s.ran.set s.ran.chains s.ran.selected s.ran.chosen ∙ tests_are k l same
+
+  own_outcome : (t : ℕ) → Member t (range_with_len 1 k) → seq l.checked t ≡ Some (outcome_of t)
+  own_outcome t m =
+      let r = range_within k 1 t m in
+      ap (λ (p : Program). seq p t) (program_is k l same) ∙ (runs k few).tests t r.0 (omega (arith, r.1))
+
+  given : s.ran.given ≡ own_tests k
+  given = given_is l (range_with_len 1 k) s.ran.given own_outcome (subst (λ (ts : List ℕ). AreOwn l ts s.ran.given) set_is (law.outcomes workers units s.ran))
+
+  gave : outcomes s.ran.given ≡ outcomes (own_tests k)
+  gave = ap outcomes given
+
+  pub ran_units : units ≡ own_units k
+  ran_units = s.ran.sum ∙ (ap units_in gave ∙ units_all (range_with_len 1 k))
+
+  is_own : IsGeneratedRecord k kept
+  is_own = records k l.prints kept few (subst (λ (p : Program). IsRecordOf p l.prints kept) (program_is k l same) own)
+
+  pub kept_units : sum kept.units ≡ own_units k
+  kept_units = ap sum is_own.units
+
+  in_set : (t : ℕ) → Member t s.ran.set ↔ ((1 ≤ t) × (t ≤ k))
+  in_set t = (
+    λ m. let r = range_within k 1 t (subst (λ (ts : List ℕ). Member t ts) set_is m) in (r.0, omega (arith, r.1)),
+    λ r. subst (λ (ts : List ℕ). Member t ts) (sym set_is) (in_range k 1 t r.0 (omega (arith, r.1))),
+  )
+
+  groups : length s.ran.chains ≡ group_count k
+  groups =
+      let edges : kept.edges ≡ edges_of (generated_program k) = own.edges ∙ ap edges_of (program_is k l same) in
+      chain k s.ran.set s.ran.chains few in_set (subst (λ (es : List Edge). AreListedChainsOf es (λ t. Member t s.ran.set) s.ran.chains) edges s.ran.chosen.listed)
+
+  reads : text ≡ summary_text k workers
+  reads = s.reports ∙ summary_is k workers (length s.ran.chains) kept s.tally is_own groups kept_units
+      (s.count.passed ∙ (ap (count_by is_passed) gave ∙ (passed_many (range_with_len 1 k) ∙ length-range_with_len 1 k)))
+      (s.count.failed ∙ (ap (count_by is_failed) gave ∙ none_other is_failed (λ t. rw (passes t) refl) (range_with_len 1 k)))
+      (s.count.error ∙ (ap (count_by is_error) gave ∙ none_other is_error (λ t. rw (passes t) refl) (range_with_len 1 k)))
+
+  pub summary_of : IsSummary k workers passed text (own_units k + own_units k)
+  summary_of = record {
+    loaded = l;
+    generated = same;
+    kept = kept;
+    own = own;
+    ran = record {
+      set = s.ran.set;
+      chains = s.ran.chains;
+      selected = s.ran.selected;
+      chosen = s.ran.chosen;
+      events = s.ran.events;
+      legal = s.ran.legal;
+      complete = s.ran.complete;
+      given = s.ran.given;
+      gives = s.ran.gives;
+      sum = sym ran_units ∙ s.ran.sum;
+    };
+    given = given;
+    passes = sym s.verdicts ∙ (s.count.all ∙ (ap (list_all is_passed) gave ∙ all_pass (range_with_len 1 k)));
+    reports = reads;
+    counts = refl;
+  }
+
+pub sums_of : RunLaw → RecordLaw → ChainLaw → (k workers : ℕ) → k ≤ 1024 → (l : Loaded) (b : Request) (passed : Bool) (text : List ℕ) (units begun mid now : ℕ) → l ≡ generated_suite k → IsSuite l → Linked l.checked →
+    IsWholeRequest l b → All (IsTestOf l.names) b.tests → mid ≡ begun + sum b.record.units → now ≡ mid + units → IsSummed l (beginning b) b.record k workers passed text units → Sums k workers passed text begun now
+sums_of runs records chain k workers few l b passed text units begun mid now same suite linked w named before after summed =
+    let kept = b.record in
+    let all : beginning b ≡ whole_suite l kept = ap (λ (ts : List ℕ). record { tests = ts; said = said kept }) w.tests in
+    let here : IsOfSuite l (whole_suite l kept) = subst (IsOfSuite l) all (of_suite l b suite linked w named) in
+    let law : LawOfOwnRuns l (whole_suite l kept) = subst (LawOfOwnRuns l) all (law_of l b suite linked w named) in
+    let s : IsSummed l (whole_suite l kept) kept k workers passed text units = subst (λ (z : Beginning). IsSummed l z kept k workers passed text units) all summed in
+    let first = kept_units runs records chain k workers few l same kept w.own here law passed text units s in
+    let second = ran_units runs records chain k workers few l same kept w.own here law passed text units s in
     record {
-      units = sum b.record.units + units;
-      summary = record {
-        loaded = l;
-        load = load;
-        detected = w.detected;
-        kept = b.record;
-        own = w.own;
-        ran_units = units;
-        ran = s.ran;
-        outcomes_own = law.outcomes workers units s.ran;
-        verdicts = s.verdicts;
-        reports = s.reports;
-        counts = refl;
-      };
-      steps = omega (arith, before, after);
+      units = own_units k + own_units k;
+      summary = summary_of runs records chain k workers few l same kept w.own here law passed text units s;
+      steps = omega (arith, before, after, first, second);
     }
 
 -- ---- what is asked
@@ -171,38 +250,9 @@ pub summary_answers : (told : Option Files) (a : Ask) (k workers : ℕ) (passed 
 summary_answers None a k workers passed text begun now e s = tt
 summary_answers (Some files) a k workers passed text begun now e s = record { units = s.units; report = reports_as (Ok (command.Gen k workers)) files a passed text s.units e s.summary; steps = s.steps }
 
-pub summary_refused : (told : Option Files) (a : Ask) (k workers : ℕ) (s : Status) → a.command ≡ Ok (command.Gen k workers) → Unsummed k s → IfSome told (λ files. Unreported files a s)
-summary_refused None a k workers s e u = tt
-summary_refused (Some files) a k workers ends.NoMemory e u = tt
-summary_refused (Some files) a k workers (ends.Over f) e u = overs_as (Ok (command.Gen k workers)) files a f e u
-summary_refused (Some files) a k workers (ends.Input f) e u = ungenerated e u
-summary_refused (Some files) a k workers (ends.Depot name) e u = absurd u
-summary_refused (Some files) a k workers ends.Words e u = absurd u
-summary_refused (Some files) a k workers ends.Done e u = absurd u
-summary_refused (Some files) a k workers ends.NotPassed e u = absurd u
-summary_refused (Some files) a k workers ends.Sink e u = absurd u
+pub summary_refused : (told : Option Files) (a : Ask) (s : Status) → s ≡ ends.NoMemory → IfSome told (λ files. Unreported files a s)
+summary_refused None a s e = tt
+summary_refused (Some files) a s e = subst (Unreported files a) (sym e) tt
 
-unloaded_may : (asking : Asking) (loading : Result Loaded LoadFault) (f : InputFault) → AsksAny asking → ◌≡◌ {A = Result Loaded Status} (Err (ends.Input f)) (answered loading) → MayRefuse asking f
-unloaded_may asking (Ok l) f any e = absurd (cc)
-unloaded_may asking (Err fault.NoMemory) f any e = absurd (cc)
-unloaded_may asking (Err (fault.Depot x)) f any e = absurd (cc)
-unloaded_may asking (Err (fault.Absent x)) f any e = let same : input.Absent x ≡ f = cc in subst (MayRefuse asking) same any
-unloaded_may asking (Err (fault.TooLarge x)) f any e = let same : input.TooLarge x ≡ f = cc in subst (MayRefuse asking) same any
-unloaded_may asking (Err (fault.Suite line why)) f any e = let same : input.Suite line why ≡ f = cc in subst (MayRefuse asking) same any
-unloaded_may asking (Err (fault.Class x y)) f any e = let same : input.Class x y ≡ f = cc in subst (MayRefuse asking) same any
-unloaded_may asking (Err (fault.Link y)) f any e = let same : input.Link y ≡ f = cc in subst (MayRefuse asking) same any
-unloaded_may asking (Err (fault.Check y)) f any e = let same : input.Check y ≡ f = cc in subst (MayRefuse asking) same any
-
-summary_ends : (a : Ask) (k workers : ℕ) (s : Status) (depot : DepotView) → a.command ≡ Ok (command.Gen k workers) → Unsummed k s → IsProperRun s → ReportEnds a s depot depot
-summary_ends a k workers ends.NoMemory depot e u p = tt
-summary_ends a k workers (ends.Over f) depot e u p = (command.Gen k workers, e, refl)
-summary_ends a k workers (ends.Input f) depot e u p = (unloaded_may a.command u.0 f (formed_as (command.Gen k workers) a e) u.2, p)
-summary_ends a k workers (ends.Depot name) depot e u p = absurd p
-summary_ends a k workers ends.Words depot e u p = absurd p
-summary_ends a k workers ends.Done depot e u p = absurd p
-summary_ends a k workers ends.NotPassed depot e u p = absurd p
-summary_ends a k workers ends.Sink depot e u p = absurd p
-
-pub summaries_end : (a : Ask) (k workers : ℕ) (result : Result Report Status) (depot : DepotView) → a.command ≡ Ok (command.Gen k workers) → IfErr result (Unsummed k) → IfErr result IsProperRun → IfErr result (λ s. ReportEnds a s depot depot)
-summaries_end a k workers (Ok r) depot e u p = tt
-summaries_end a k workers (Err s) depot e u p = summary_ends a k workers s depot e u p
+pub summary_ends : (a : Ask) (s : Status) (depot : DepotView) → s ≡ ends.NoMemory → ReportEnds a s depot depot
+summary_ends a s depot e = subst (λ (z : Status). ReportEnds a z depot depot) (sym e) tt

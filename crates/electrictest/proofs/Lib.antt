@@ -26,6 +26,8 @@ mod RecordSizes
 mod OwnRecordLaws
 mod OwnAnswers
 mod OwnOrderLaws
+mod AllTests
+mod GeneratedRuns
 mod GeneratedLaws
 mod GeneratedAnswers
 mod DetectedLaws

@@ -61,12 +61,12 @@ unasked_ends (Err faults.NeedsRecord) words s old new e =
 pub unloaded_ends : (Q : List ℕ → Type 0) (a : Ask) (f : LoadFault) (old new : DepotView) → AsksAny a.command → IsOverSuite a.command → ((read : List ℕ) → Q read → FailedAt old new read) → IsProper Q f → ReportEnds a (status_of f) old new
 unloaded_ends Q a fault.NoMemory old new any over failed p = tt
 unloaded_ends Q a (fault.Depot read) old new any over failed p = (any_files a.command any over, failed read p)
-unloaded_ends Q a (fault.Absent x) old new any over failed p = (any, tt)
-unloaded_ends Q a (fault.TooLarge x) old new any over failed p = (any, tt)
-unloaded_ends Q a (fault.Suite line why) old new any over failed p = (any, tt)
-unloaded_ends Q a (fault.Class x f) old new any over failed p = (any, p)
-unloaded_ends Q a (fault.Link f) old new any over failed p = (any, p)
-unloaded_ends Q a (fault.Check f) old new any over failed p = (any, p)
+unloaded_ends Q a (fault.Absent x) old new any over failed p = (any_files a.command any over, tt)
+unloaded_ends Q a (fault.TooLarge x) old new any over failed p = (any_files a.command any over, tt)
+unloaded_ends Q a (fault.Suite line why) old new any over failed p = (any_files a.command any over, tt)
+unloaded_ends Q a (fault.Class x f) old new any over failed p = (any_files a.command any over, p)
+unloaded_ends Q a (fault.Link f) old new any over failed p = (any_files a.command any over, p)
+unloaded_ends Q a (fault.Check f) old new any over failed p = (any_files a.command any over, p)
 
 -- without its quiet initialisers a suite has the same tests and as many classes
 pub quieted_suite : (l : Loaded) → IsSuite l → IsSuite (quieted l)

@@ -13,7 +13,7 @@ use Rattle.electrictest.specs.OwnPools.{AsksOwnRun, WroteOwn, OwnAnswer}
 use Rattle.electrictest.specs.OwnRecords.{HoldsSaying}
 use Rattle.electrictest.specs.PoolRuns.{IsPoolRun, IsPoolOver, IsPoolReport, IsOverPool, IsOfSuite, LawOfOwnRuns}
 use Rattle.electrictest.specs.Records.{Beginning}
-use Rattle.electrictest.specs.Replies.{IsRefusedInput, unloaded, unbegun, ungenerated, unlawful, ReportsBy, OversBy}
+use Rattle.electrictest.specs.Replies.{IsRefusedInput, unloaded, unbegun, unlawful, ReportsBy, OversBy}
 use Rattle.electrictest.specs.Words.{Ask, Asking, is_eager, suite_word}
 use Rattle.electrictest.proofs.OwnRecordLaws.{any_once, own_start, begun_by_own, begins_once, starts_once, own_ends}
 use Rattle.electrictest.proofs.PoolLaws.{own_runs}
@@ -60,7 +60,6 @@ module _ (files : Files) (a : Ask) (workers : ℕ) (log : Bool) (l : Loaded) (te
   never_refused : (f : InputFault) → IsRefusedInput files a f → ⊥
   never_refused f (unloaded h) = let e = any_once files (is_eager a.words) (suite_word a) (Ok l) (Err (ends.Input f)) own.by.load h in absurd (cc)
   never_refused f (unbegun {l = x} h) = let e = (begins_once files a l start own.by.load begun_here x (Err f) h).begins in absurd (cc)
-  never_refused f (ungenerated c h) = let e = sym own.asks ∙ c in absurd (cc)
   never_refused f (unlawful {l = x} {b = b} c h u) = let e = sym own.asks ∙ c in absurd (cc)
 
 pub own_answer : (asked : Asked) (s : Status) (old new : SinkView) → Served asked s old new → OwnAnswer asked s old new

@@ -34,7 +34,7 @@ use Rattle.electrictest.specs.OwnCones.{AsksOwn, HoldsRecord, IsOwnConeReport, I
 use Rattle.electrictest.specs.OwnRecords.{AsksOwnRecord, HoldsSaying}
 use Rattle.electrictest.specs.PoolRuns.{IsOfSuite}
 use Rattle.electrictest.specs.Records.{Beginning, record_fits}
-use Rattle.electrictest.specs.Replies.{IsRefusedInput, unloaded, unbegun, ungenerated, unlawful, ReportsBy, OversBy}
+use Rattle.electrictest.specs.Replies.{IsRefusedInput, unloaded, unbegun, unlawful, ReportsBy, OversBy}
 use Rattle.electrictest.specs.Words.{Ask, Asking, is_eager, suite_word}
 use Rattle.electrictest.proofs.DetectedLaws.{says_own}
 use Rattle.electrictest.proofs.OwnRecordLaws.{any_once, own_start, begun_by_own, begins_once, starts_once, own_ends}
@@ -120,11 +120,10 @@ module _ (c : Command) (IsReport : Loaded → Beginning → Bool → List ℕ �
       let edges : b.said.edges ≡ edges_of l.checked = ap (λ (y : Beginning). y.said.edges) same.1 ∙ saying.own.edges in
       none_first l.checked b.said.edges edges suite.linked saying.detected (S b) over.test (number b suite edges) over.first
 
-  never_refused : ((k n : ℕ) → ◌≡◌ {A = Asking} (Ok c) (Ok (command.Gen k n)) → ⊥) → (◌≡◌ {A = Asking} (Ok c) (Ok command.Order) → ⊥) → (f : InputFault) → IsRefusedInput files a f → ⊥
-  never_refused no_gen no_order f (unloaded h) = let e = any_once files (is_eager a.words) (suite_word a) (Ok l) (Err (ends.Input f)) saying.load h in absurd (cc)
-  never_refused no_gen no_order f (unbegun {l = x} h) = let e = (begins_once files a l start saying.load begun_here x (Err f) h).begins in absurd (cc)
-  never_refused no_gen no_order f (ungenerated {k = k} {n = n} e h) = no_gen k n (sym own.asks ∙ e)
-  never_refused no_gen no_order f (unlawful {l = x} {b = b} e h u) = no_order (sym own.asks ∙ e)
+  never_refused : (◌≡◌ {A = Asking} (Ok c) (Ok command.Order) → ⊥) → (f : InputFault) → IsRefusedInput files a f → ⊥
+  never_refused no_order f (unloaded h) = let e = any_once files (is_eager a.words) (suite_word a) (Ok l) (Err (ends.Input f)) saying.load h in absurd (cc)
+  never_refused no_order f (unbegun {l = x} h) = let e = (begins_once files a l start saying.load begun_here x (Err f) h).begins in absurd (cc)
+  never_refused no_order f (unlawful {l = x} {b = b} e h u) = no_order (sym own.asks ∙ e)
 
 pub own_cones_answer : (asked : Asked) (s : Status) (old new : SinkView) → Served asked s old new → OwnConesAnswer asked s old new
 own_cones_answer asked s old new h = λ workers l tests own.
@@ -139,7 +138,7 @@ own_cones_answer asked s old new h = λ workers l tests own.
     })
     asked passed text units old new (subst (λ (x : Asking). ReportsBy x files a passed text units) own.asks r))
     (λ e. let none = sym own.asks ∙ e in absurd (cc))
-    (never_refused c IsConeReport (λ b t. Member t b.tests) files a l tests own refl (λ k n e. absurd (cc)) (λ e. absurd (cc)))
+    (never_refused c IsConeReport (λ b t. Member t b.tests) files a l tests own refl (λ e. absurd (cc)))
     (λ f r. never_over c IsConeReport (λ b t. Member t b.tests) files a l tests own refl (λ b suite edges. suite.tests) f (subst (λ (x : Asking). OversBy x files a f) own.asks r))
     s h
 
@@ -156,7 +155,7 @@ own_manifest_answer asked s old new h = λ l own.
     })
     asked passed text units old new (subst (λ (x : Asking). ReportsBy x files a passed text units) own.asks r))
     (λ e. let none = sym own.asks ∙ e in absurd (cc))
-    (never_refused c IsManifest (λ b. HasWriter b.said.edges) files a l [] own refl (λ k n e. absurd (cc)) (λ e. absurd (cc)))
+    (never_refused c IsManifest (λ b. HasWriter b.said.edges) files a l [] own refl (λ e. absurd (cc)))
     (λ f r. never_over c IsManifest (λ b. HasWriter b.said.edges) files a l [] own refl
     (λ b suite edges t w. later_number l.checked b.said.edges edges suite.linked own.by.detected w.0 t w.1) f (subst (λ (x : Asking). OversBy x files a f) own.asks r))
     s h

@@ -24,7 +24,7 @@ use Rattle.electrictest.specs.OwnLists.{AsksOwnOrder, WroteOrder, OwnOrderAnswer
 use Rattle.electrictest.specs.OwnRecords.{HoldsSaying}
 use Rattle.electrictest.specs.PoolRuns.{IsOfSuite}
 use Rattle.electrictest.specs.Records.{Beginning}
-use Rattle.electrictest.specs.Replies.{IsRefusedInput, unloaded, unbegun, ungenerated, unlawful, ReportsBy, OversBy}
+use Rattle.electrictest.specs.Replies.{IsRefusedInput, unloaded, unbegun, unlawful, ReportsBy, OversBy}
 use Rattle.electrictest.specs.Words.{Ask, Asking, is_eager, suite_word}
 use Rattle.electrictest.proofs.OwnRecordLaws.{any_once, own_start, begun_by_own, begins_once, starts_once, own_ends}
 
@@ -95,7 +95,6 @@ module _ (files : Files) (a : Ask) (l : Loaded) (tests : List ℕ) (own : AsksOw
   never_refused : (f : InputFault) → IsRefusedInput files a f → ⊥
   never_refused f (unloaded h) = let e = any_once files (is_eager a.words) (suite_word a) (Ok l) (Err (ends.Input f)) own.by.load h in absurd (cc)
   never_refused f (unbegun {l = x} h) = let e = (begins_once files a l start own.by.load begun_here x (Err f) h).begins in absurd (cc)
-  never_refused f (ungenerated c h) = let e = sym own.asks ∙ c in absurd (cc)
   never_refused f (unlawful {l = x} {b = b} c h u) = never_unlawful x b f h u
 
 pub own_order_answer : (asked : Asked) (s : Status) (old new : SinkView) → Served asked s old new → OwnOrderAnswer asked s old new

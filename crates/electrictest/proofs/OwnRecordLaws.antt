@@ -26,7 +26,7 @@ use Rattle.electrictest.specs.Words.{Ask, is_eager, word_at, suite_word, unforme
 
 -- ---- a suite is loaded in one way
 
-pub named_once : (files : Files) (name : List ℕ) (x y : Result Loaded Status) → LoadsNamed files name x → LoadsNamed files name y → x ≡ y
+named_once : (files : Files) (name : List ℕ) (x y : Result Loaded Status) → LoadsNamed files name x → LoadsNamed files name y → x ≡ y
 named_once files name x y h k = h.2 ∙ (ap answered ((loads_once files name).2 h.0 h.1 ∙ sym ((loads_once files name).2 k.0 k.1)) ∙ sym k.2)
 
 pub any_once : (files : Files) (eager : Bool) (w : Option (Result (List ℕ) Status)) (x y : Result Loaded Status) → LoadsAny files eager w x → LoadsAny files eager w y → x ≡ y

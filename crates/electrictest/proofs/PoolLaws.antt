@@ -36,12 +36,12 @@ closure_inside p R S own inside (source {u} {t} c e) =
     (edge.0, omega (arith, edge.3.0, later.1))
 
 -- By its own record, a suite's tests stand in the chains of a closure, which is closed under raw edges.
-record Own (l : Loaded) (b : Beginning) (set : List ℕ) : Type 0 where
+pub record Own (l : Loaded) (b : Beginning) (set : List ℕ) : Type 0 where
   own : RecordOf l.checked b.said.edges
-  inside : (t : ℕ) → Member t set → IsTestNumber l.checked t
+  pub inside : (t : ℕ) → Member t set → IsTestNumber l.checked t
   closed : ClosedUnderRaw b.said.edges (λ t. Member t set)
 
-own_of : (l : Loaded) (b : Beginning) → IsOfSuite l b → b.said.edges ≡ edges_of l.checked →
+pub own_of : (l : Loaded) (b : Beginning) → IsOfSuite l b → b.said.edges ≡ edges_of l.checked →
     (set : List ℕ) (chains : List (List ℕ)) (many : ℕ) → IsChosen b set chains many → Own l b set
 own_of l b suite same set chains many chosen =
     let own : RecordOf l.checked b.said.edges = subst (RecordOf l.checked) (sym same) (is_record l.checked (touches_of l.checked) (owner l.checked)) in

@@ -17,7 +17,7 @@ use Rattle.electrictest.specs.Loads.{IsSuite, named_by, fits_for, begun_by, of_r
 use Rattle.electrictest.specs.Replies.{unbegun}
 use Rattle.electrictest.specs.Causes.{AsksSuch, IsOfRecord, MayRefuse, names_tests, reads_record}
 use Rattle.electrictest.specs.Commands.{Fails, IsNameRefusal, IsProperInput, IsRecordRefusal, ReportEnds, RefusedOver}
-use Rattle.electrictest.proofs.AskedFor.{such_any, such_files}
+use Rattle.electrictest.proofs.AskedFor.{such_files}
 
 -- the tests of names are tests of the program
 pub tests_are : (l : Loaded) (ts us : List ℕ) → IsSuite l → us ≡ ts → All (IsTestOf l.names) ts → All (IsTest l.checked) us
@@ -97,8 +97,8 @@ not_begun (Some files) a l named tests name ends.NotPassed old new q e k n g p =
 not_begun (Some files) a l named tests name ends.Sink old new q e k n g p = absurd p
 
 record_may : (asking : Asking) (f : InputFault) → AsksSuch reads_record asking → IsOfRecord f → MayRefuse asking f × IsProperInput f
-record_may asking (input.Absent name) h p = (such_any reads_record asking h, tt)
-record_may asking (input.TooLarge name) h p = (such_any reads_record asking h, tt)
+record_may asking (input.Absent name) h p = (such_files asking h, tt)
+record_may asking (input.TooLarge name) h p = (such_files asking h, tt)
 record_may asking (input.Record line) h p = (h, tt)
 record_may asking input.RecordOld h p = (h, tt)
 record_may asking (input.RecordForeign kept found) h p = (h, tt)

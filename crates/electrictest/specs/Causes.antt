@@ -27,11 +27,12 @@ names_tests command.Impact = false
 names_tests command.Manifest = false
 names_tests c = reads_record c
 
--- those that run tests; and those that are answered by whether each passed
+-- those that run tests of a depot's suite; and those that are answered by whether each passed
 abbrev pub runs_tests : Command → Bool
 runs_tests (command.Plan n) = false
 runs_tests command.Impact = false
 runs_tests command.Quiet = false
+runs_tests (command.Gen k n) = false
 runs_tests _ = true
 
 abbrev pub tells_verdicts : Command → Bool
@@ -50,7 +51,7 @@ AsksAny asking = refusal_of asking ≡ None
 
 -- ---- what they may be answered
 
--- by faults of the input: a file may be absent, too large or faulty whatever the command is
+-- by faults of the input: whichever files are read, one may be absent, too large or faulty
 abbrev pub MayRefuse : Asking → InputFault → Type 0
 MayRefuse asking input.NeedsRecord = asking ≡ Err fault.NeedsRecord
 MayRefuse asking (input.NoTest name) = AsksSuch names_tests asking
@@ -60,7 +61,7 @@ MayRefuse asking (input.RecordForeign kept found) = AsksSuch reads_record asking
 MayRefuse asking (input.Twice test) = asking ≡ Ok command.Order
 MayRefuse asking (input.MissingWriter test writer) = asking ≡ Ok command.Order
 MayRefuse asking (input.Inverted first second) = asking ≡ Ok command.Order
-MayRefuse asking _ = AsksAny asking
+MayRefuse asking _ = AsksSuch reads_files asking
 
 -- by a text: that a test didn't pass is told by some commands alone
 abbrev pub MayReport : Asking → Bool → Type 0

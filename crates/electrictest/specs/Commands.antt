@@ -30,13 +30,7 @@ Fails name old new (ends.Depot read) = (read ≡ name) × FailedAt old new read
 Fails name old new ends.NoMemory = Unit {0}
 Fails name old new _ = ⊥
 
--- a refusal that reads no file
-abbrev pub IsProperRefusal : Status → Type 0
-IsProperRefusal (ends.Input f) = IsProperInput f
-IsProperRefusal ends.NoMemory = Unit {0}
-IsProperRefusal _ = ⊥
-
--- such a refusal of a name of a test, or of a record
+-- a refusal of a name of a test, or of a record
 abbrev pub IsNameRefusal : Status → Type 0
 IsNameRefusal (ends.Input f) = IsOfName f
 IsNameRefusal ends.NoMemory = Unit {0}
@@ -47,14 +41,9 @@ IsRecordRefusal (ends.Input f) = IsOfRecord f
 IsRecordRefusal ends.NoMemory = Unit {0}
 IsRecordRefusal _ = ⊥
 
--- a refusal that reads no file of the depot, or a number of units that is passed
-abbrev pub IsProperRun : Status → Type 0
-IsProperRun (ends.Over f) = Unit {0}
-IsProperRun s = IsProperRefusal s
-
 -- Why there is no report, whatever the depot tells: exactly words in no form are answered `Words`, unless memory ran out, and
 -- so are those that lack their record by `NeedsRecord`; other faults of the input come for the commands that may meet them, and
--- a number of units that is passed for those that run tests. A depot is named by the file of its last read that failed.
+-- a number of units that is passed for those that run tests of a depot. A depot is named by the file of its last failed read.
 abbrev pub ReportEnds : Ask → Status → DepotView → DepotView → Type 0
 ReportEnds a ends.Words old new = a.command ≡ unformed
 ReportEnds a (ends.Input f) old new = MayRefuse a.command f × IsProperInput f

@@ -10,8 +10,7 @@ use Rattle.electrictest.specs.declared.status.Status.{Status}
 use Rattle.electrictest.specs.declared.status.Status.TheVariants as ends
 use Rattle.electrictest.specs.declared.words.Command.TheVariants as command
 use Rattle.electrictest.specs.Commands.{Asked, Replied, Served, called}
-use Rattle.electrictest.specs.Generated.{suite_files, suite_name}
-use Rattle.electrictest.specs.Loads.{LoadsFor, LoadsNamed, begun_by}
+use Rattle.electrictest.specs.Loads.{LoadsFor, begun_by}
 use Rattle.electrictest.specs.Records.{Beginning}
 use Rattle.electrictest.specs.Replies.{IsAnswer}
 use Rattle.electrictest.specs.Words.{Ask}
@@ -23,10 +22,10 @@ pub record AcceptsSuite (files : Files) (a : Ask) (l : Loaded) : Type 0 where
   pub begins : IfSome (begun_by files a l) IsOk
   pub lawful : (b : Beginning) → a.command ≡ Ok command.Order → begun_by files a l ≡ Some (Ok b) → Lawful b.said.edges b.tests
 
--- What is asked is accepted: a command over a suite of the depot, or over a generated suite that loads.
+-- What is asked is accepted: a command over a suite of the depot, or over a generated suite.
 pub data IsAccepted (files : Files) (a : Ask) : Type 0 where
   of_depot : {l : Loaded} → AcceptsSuite files a l → IsAccepted files a
-  of_generated : {k n : ℕ} {l : Loaded} → a.command ≡ Ok (command.Gen k n) → LoadsNamed (suite_files k) suite_name (Ok l) → IsAccepted files a
+  of_generated : {k n : ℕ} → a.command ≡ Ok (command.Gen k n) → IsAccepted files a
 
 -- no count of faults rose
 pub record NoneFailed (asked : Asked) (old new : SinkView) : Type 0 where

@@ -22,16 +22,14 @@ use Rattle.electrictest.specs.Plans.{IsPlanned}
 use Rattle.electrictest.specs.Impacts.{IsImpacted}
 use Rattle.electrictest.specs.ConeRuns.{IsConed, IsConedOver}
 use Rattle.electrictest.specs.Manifests.{IsManifested, IsManifestedOver}
-use Rattle.electrictest.specs.Generated.{IsSummary, IsUngenerated, IsGeneratedOver}
+use Rattle.electrictest.specs.Generated.{IsSummary}
 use Rattle.electrictest.specs.QuietLists.{IsQuietList}
 use Rattle.electrictest.specs.Detections.{IsDetected, recorded, dependences}
 
--- Why the input is refused: by its loading; by the names in the words, or the record; by the loading of a generated suite; or by
--- an order that isn't lawful.
+-- Why the input is refused: by its loading; by the names in the words, or the record; or by an order that isn't lawful.
 pub data IsRefusedInput (files : Files) (a : Ask) (f : InputFault) : Type 0 where
   unloaded : LoadsFor files a (Err (ends.Input f)) → IsRefusedInput files a f
   unbegun : {l : Loaded} → Begins files a l (Err f) → IsRefusedInput files a f
-  ungenerated : {k n : ℕ} → a.command ≡ Ok (command.Gen k n) → IsUngenerated k f → IsRefusedInput files a f
   unlawful : {l : Loaded} {b : Beginning} → a.command ≡ Ok command.Order → Begins files a l (Ok b) → IsUnlawful l b f → IsRefusedInput files a f
 
 -- the text that a command writes, and the units of the tests that it runs
@@ -61,7 +59,6 @@ OversBy (Ok (command.Deps json)) files a f = IsOver files a f
 OversBy (Ok command.Order) files a f = IsOrderedOver files a f
 OversBy (Ok (command.Cones n)) files a f = IsConedOver files a f
 OversBy (Ok command.Manifest) files a f = IsManifestedOver files a f
-OversBy (Ok (command.Gen k n)) files a f = IsGeneratedOver k f
 OversBy _ files a f = ⊥
 
 -- Why there is no report; a depot may fail at any file that is read.

@@ -1,14 +1,16 @@
 //! Generated suites, run on workers.
 
-ghost use Rattle.std.specs.Prelude.{◌≡◌, ◌+◌, ◌<◌, ◌≤◌, ◌^◌, ◌++◌, All, codes, count_by, length, sum, Ok, OnOk, IfOk, IfErr};
-ghost use Rattle.electrictest.specs.Commands.{IsProperRefusal, IsProperRun};
-ghost use Rattle.electrictest.specs.Generated.{IsWholeRequest, Sums, Unsummed};
+ghost use Rattle.std.specs.Prelude.{◌≡◌, ◌+◌, ◌<◌, ◌≤◌, ◌^◌, ◌++◌, All, codes, count_by, length, sum, OnOk, IfOk, IfErr};
+ghost use Rattle.electrictest.specs.Generated.{IsWholeRequest, Sums};
 ghost use Rattle.electrictest.specs.Generated as generated;
-ghost use Rattle.electrictest.specs.Loads.{IsSuite, LoadsNamed};
+ghost use Rattle.electrictest.specs.Loads.{IsSuite};
 ghost use Rattle.electrictest.specs.Pools.{IsPooled};
 ghost use Rattle.electrictest.specs.Records.{beginning};
 ghost use Rattle.electrictest.specs.Running.{RunRefused};
 ghost use Rattle.electrictest.specs.Selections.{IsTestOf};
+ghost use Rattle.electrictest.specs.declared.status.Status.TheVariants as ends;
+ghost use Rattle.generated_law.specs.GeneratedRecord.{is_raw, is_waw, is_war};
+ghost use Rattle.generated_law.specs.GeneratedSuite.{generated_suite, suite_files};
 ghost use Rattle.worker_pool.specs.Plans.{units_of};
 
 use crate::detections::detected;
@@ -20,6 +22,7 @@ use crate::reports::Report;
 use crate::selections::all_tests;
 use crate::status::Status;
 use et_base::{NoMemory, Text, push_decimal};
+use generated_law::{chain_law, load_law, record_law, run_law};
 use order_law::{Edge, EdgeKind};
 use outside::{Gate, QuietDepot, Steps};
 use std::alloc::Global;
@@ -39,9 +42,9 @@ struct KindCounts {
 }
 
 fn counts_of(edges: &[Edge]) -> KindCounts
-    ensures raw { result.raw ≡ count_by generated.is_raw edges.now }
-    ensures waw { result.waw ≡ count_by generated.is_waw edges.now }
-    ensures war { result.war ≡ count_by generated.is_war edges.now }
+    ensures raw { result.raw ≡ count_by is_raw edges.now }
+    ensures waw { result.waw ≡ count_by is_waw edges.now }
+    ensures war { result.war ≡ count_by is_war edges.now }
 {
     let mut raw = 0;
     let mut waw = 0;
@@ -72,7 +75,7 @@ fn total(units: &[u64]) -> u64
 fn depot_of(alloc: Global, tests: u32) -> Result<QuietDepot, NoMemory>
     requires some { 0 < tests }
     requires few { tests ≤ 1024 }
-    ensures { IfOk result (λ depot. depot ≡ generated.suite_files tests) }
+    ensures { IfOk result (λ depot. depot ≡ suite_files tests) }
 {
     let (text, class) = generate(alloc, tests)?;
     let mut files = Vec::new(alloc);
@@ -85,12 +88,11 @@ fn depot_of(alloc: Global, tests: u32) -> Result<QuietDepot, NoMemory>
 fn load_suite(alloc: Global, tests: u32) -> Result<Loaded, Status>
     requires some { 0 < tests }
     requires few { tests ≤ 1024 }
-    ensures loads { IfOk result (λ l.
-        LoadsNamed (generated.suite_files tests) generated.suite_name (Ok l)) }
+    ensures loads { IfOk result (λ l. l ≡ generated_suite tests) }
     ensures suite { IfOk result IsSuite }
-    ensures refused { IfErr result (Unsummed tests) }
-    ensures proper { IfErr result IsProperRefusal }
+    ensures refused { IfErr result (λ s. s ≡ ends.NoMemory) }
 {
+    load_law();
     let mut depot = depot_of(alloc, tests)?;
     let name = Text::from_slice(alloc, b"gen")?;
     match load(alloc, &mut depot, &name) {
@@ -128,10 +130,15 @@ fn push_counted(out: &mut Text, word: &[u8], number: u64) -> Result<(), NoMemory
 }
 
 // Appends the line of a suite's tests, conflicts and chains.
-fn push_conflicts(out: &mut Text, tests: u32, edges: &[Edge], chains: u64) -> Result<(), NoMemory>
-    ensures { OnOk result (out.new ≡ out.old ++ generated.conflict_line tests edges.now chains) }
+fn push_conflicts(
+    out: &mut Text,
+    tests: u32,
+    counts: KindCounts,
+    chains: u64,
+) -> Result<(), NoMemory>
+    ensures { let line = generated.conflict_line tests counts.raw counts.waw counts.war chains in
+        OnOk result (out.new ≡ out.old ++ line) }
 {
-    let counts = counts_of(edges);
     push_counted(out, b"tests ", tests as u64)?;
     push_counted(out, b" raw ", counts.raw)?;
     push_counted(out, b" waw ", counts.waw)?;
@@ -166,7 +173,8 @@ fn summary_of(
     let units = total(begun.record.units.as_slice());
     let chains = pooled.chosen.chains.lists.len() as u64;
     let mut text = Text::from_slice(alloc, b"electric-gen 1\n")?;
-    push_conflicts(&mut text, tests, begun.record.edges.as_slice(), chains)?;
+    let kinds = counts_of(begun.record.edges.as_slice());
+    push_conflicts(&mut text, tests, kinds, chains)?;
     push_workers(&mut text, workers, units)?;
     let counted = count_line(
         alloc,
@@ -202,9 +210,9 @@ fn summed(
 }
 
 /// The summary of the generated suite of so many tests, in a depot of its own: the conflicts of its own run, and what its tests
-/// gave on so many workers by the record of that run.
+/// gave on so many workers by the record of that run. Each test passes.
 ///
-/// `Input` and `Over` come where the generated suite doesn't load, or passes a number of units in its own run.
+/// `NoMemory` comes where memory is refused, and no other status.
 pub fn summary_for<R: Threads + Wait + Sync, G: Gate + Sync, L: Ledger>(
     rt: &R,
     alloc: Global,
@@ -217,9 +225,11 @@ pub fn summary_for<R: Threads + Wait + Sync, G: Gate + Sync, L: Ledger>(
     requires few { tests ≤ 1024 }
     requires workers { 0 < workers }
     ensures reports { IfOk result (λ r. Sums tests workers r.passed r.text steps.old steps.new) }
-    ensures refused { IfErr result (Unsummed tests) }
-    ensures proper { IfErr result IsProperRun }
+    ensures refused { IfErr result (λ s. s ≡ ends.NoMemory) }
 {
+    run_law();
+    record_law();
+    chain_law();
     let loaded = load_suite(alloc, tests)?;
     let begun = begun_of(alloc, &loaded, steps)?;
     // It is typed, and so linked.

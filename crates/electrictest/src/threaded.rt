@@ -126,7 +126,7 @@ fn asked_text<R: Threads + Wait + Sync, D: Depot, G: Gate + Sync, L: Ledger>(
 /// - `run SUITE RECORD N SEL` runs the closure of the selection, by the record, on N workers, and writes the report;
 /// - `run SUITE RECORD N SEL log` writes the history of claims and posts behind it;
 /// - `cones SUITE RECORD N SEL` runs each test of the selection alone after what it needs, on N workers, and writes the report;
-/// - `gen K N` runs a generated suite of K tests on N workers and writes its summary; it reads no file of the depot.
+/// - `gen K N` runs a generated suite of K tests on N workers and writes its summary; it reads no file, and each test passes.
 ///
 /// A worker calls the gate before each test. The call waits for its threads. `Over` comes for `run` only where a test passes its
 /// budget after the tests that the status lists, and for `cones` exactly where a selected test gives nothing.
@@ -187,7 +187,7 @@ pub fn electric<R: Threads + Wait + Sync, D: Depot, S: Sink, G: Gate + Sync, L: 
         let asked = called (threaded words.now) (D.shown depot.old) depot_now steps.old steps.new in
         IfSome (D.shown depot.old).told (λ files.
         Complete (asked files) result (S.shown sink.old) (S.shown sink.new)) }
-    // A generated suite is read of no depot, whatever it tells.
+    // A generated suite is read of no depot; its summary, want of memory or a failing sink are answered, and nothing else.
     ensures generated { let depot_now = D.shown depot.new in
         let answer = GeneratedAnswer (threaded words.now) result (D.shown depot.old) depot_now in
         answer steps.old steps.new (S.shown sink.old) (S.shown sink.new) }

@@ -1,5 +1,5 @@
 use Rattle.std.proofs.Common.{◌≡◌, take, count_by}
-use Rattle.electrictest.specs.Generated.{is_raw, is_waw, is_war}
+use Rattle.generated_law.specs.GeneratedRecord.{is_raw, is_waw, is_war}
 use Rattle.electrictest.proofs.generated.counts_of.Given as goal
 
 -- the counts so far

@@ -3,13 +3,14 @@ use Rattle.std.proofs.lemmas.Result.{IfOk-weaker, IfErr-weaker}
 use Rattle.electrictest.specs.declared.reports.Report.{Report}
 use Rattle.electrictest.specs.declared.status.Status.{Status}
 use Rattle.electrictest.specs.declared.words.Command.TheVariants as command
+use Rattle.electrictest.specs.declared.status.Status.TheVariants as ends
 use Rattle.electrictest.specs.Causes.{MayReport}
-use Rattle.electrictest.specs.Commands.{Reported}
-use Rattle.electrictest.specs.Generated.{Sums, Unsummed}
+use Rattle.electrictest.specs.Commands.{Reported, ReportEnds}
+use Rattle.electrictest.specs.Generated.{Sums}
 use Rattle.electrictest.specs.GeneratedAnswers.{Summed}
 use Rattle.electrictest.specs.Replies.{Unreported}
-use Rattle.electrictest.proofs.AskedFor.{may_report, of_this_alone}
-use Rattle.electrictest.proofs.GeneratedLaws.{summary_answers, summary_refused, summaries_end}
+use Rattle.electrictest.proofs.AskedFor.{formed_as, may_pass, of_this_alone}
+use Rattle.electrictest.proofs.GeneratedLaws.{summary_answers, summary_ends, summary_refused}
 use Rattle.electrictest.proofs.threaded.asked_text.Goals as goal
 
 pub returns-in-Ok-Gen-clause-reports : goal.returns-in-Ok-Gen-clause-reports
@@ -29,12 +30,7 @@ pub returns-in-Ok-Gen-clause-refused : goal.returns-in-Ok-Gen-clause-refused
 returns-in-Ok-Gen-clause-refused g c =
     let told = (g.D.Depot.shown c.args.depot.now).told in
     let a = c.args.ask.now in
-    let k = c.in-Ok-Gen.tests in
-    let n = c.in-Ok-Gen.workers in
-    let gen : c.command.result ≡ Ok (command.Gen c.in-Ok-Gen.tests c.in-Ok-Gen.workers) = search rules in
-    let e = sym c.command.ensures.command ∙ gen in
-    IfErr-weaker c.summary_for.result (λ (s : Status). Unsummed k s) (λ (s : Status). IfSome told (λ files. Unreported files a s))
-    (λ s u. summary_refused told a k n s e u) c.summary_for.ensures.refused
+    IfErr-weaker c.summary_for.result (λ (s : Status). s ≡ ends.NoMemory) (λ (s : Status). IfSome told (λ files. Unreported files a s)) (summary_refused told a) c.summary_for.ensures.refused
 
 pub returns-in-Ok-Gen-clause-form : goal.returns-in-Ok-Gen-clause-form
 returns-in-Ok-Gen-clause-form g c =
@@ -46,13 +42,13 @@ returns-in-Ok-Gen-clause-form g c =
     let begun = c.args.steps.now in
     let now = c.summary_for.new.steps in
     IfOk-weaker c.summary_for.result (λ (r : Report). Sums k n r.passed r.text begun now) (λ (r : Report). MayReport a.command r.passed)
-    (λ r s. may_report a.command r.passed (command.Gen k n, e, refl)) c.summary_for.ensures.reports
+    (λ r s. may_pass a.command r.passed (formed_as (command.Gen k n) a e) s.summary.passes) c.summary_for.ensures.reports
 
 pub returns-in-Ok-Gen-clause-ends : goal.returns-in-Ok-Gen-clause-ends
 returns-in-Ok-Gen-clause-ends g c =
-    let gen : c.command.result ≡ Ok (command.Gen c.in-Ok-Gen.tests c.in-Ok-Gen.workers) = search rules in
-    let e = sym c.command.ensures.command ∙ gen in
-    summaries_end c.args.ask.now c.in-Ok-Gen.tests c.in-Ok-Gen.workers c.summary_for.result (g.D.Depot.shown c.args.depot.now) e c.summary_for.ensures.refused c.summary_for.ensures.proper
+    let a = c.args.ask.now in
+    let depot = g.D.Depot.shown c.args.depot.now in
+    IfErr-weaker c.summary_for.result (λ (s : Status). s ≡ ends.NoMemory) (λ (s : Status). ReportEnds a s depot depot) (λ s e. summary_ends a s depot e) c.summary_for.ensures.refused
 
 pub returns-in-Ok-Gen-clause-generated : goal.returns-in-Ok-Gen-clause-generated
 returns-in-Ok-Gen-clause-generated g c =
