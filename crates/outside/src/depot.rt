@@ -1,7 +1,7 @@
 //! Where suites, class files and records are read from.
 
-ghost use Rattle.std.specs.Prelude.{◌≡◌, ◌<◌, ◌≤◌, length, IfOk, IfSome, IsSomeAnd, IsErrOf};
-ghost use Rattle.outside.specs.Depot.{DepotView, FailedAt, content};
+ghost use Rattle.std.specs.Prelude.{◌≡◌, ◌≤◌, length, IfOk, IsErrOf};
+ghost use Rattle.outside.specs.Depot.{DepotView, FailedAt, OfHeld, TellsOn, Agrees, has_bytes, is_absent, is_longer};
 
 use et_base::{NoMemory, Text};
 use std::alloc::AllocError;
@@ -43,25 +43,25 @@ impl From<AllocError> for DepotRefusal {
 
 /// A finite map from names to bytes, which may fail.
 pub trait Depot {
-    /// The files by name, where the depot tells them; how often it failed; and the name of the last read that answered
-    /// `Failed`, where one did.
+    /// What it told of its files; how often it failed; and the name of the last read that answered `Failed`, where one did.
     ghost shown: { Self → DepotView };
 
     /// The bytes of a file, at most `limit` of them. `Absent` comes where no file has the name, `TooLong` where the
-    /// file is longer than `limit`, and `Failed` only where the count of faults rose in this call. The depot
-    /// remembers the name of a read that answers `Failed`, until another does.
+    /// file is longer than `limit`, and `Failed` only where the count of faults rose in this call. Whichever files the depot
+    /// may hold after all that it told agree with the answer. The depot remembers the name of a read that answers `Failed`,
+    /// until another does.
     fn read(&mut self, name: &Text, limit: u64) -> Result<Vec<u8>, DepotRefusal>
-        ensures told { (shown self.new).told ≡ (shown self.old).told }
+        ensures told { TellsOn (shown self.old).told (shown self.new).told }
         ensures faults { (shown self.old).faults ≤ (shown self.new).faults }
 
         ensures within { IfOk result (λ bytes. length bytes.items ≤ limit) }
-        ensures bytes { IfOk result (λ bytes.
-            IfSome (shown self.old).told (λ files. content files name.now ≡ Some bytes.items)) }
+        ensures bytes { IfOk result (λ bytes. OfHeld (shown self.new).told (λ files.
+            Agrees files (has_bytes name.now bytes.items))) }
 
         ensures absent { IsErrOf result DepotRefusal.Absent →
-            IfSome (shown self.old).told (λ files. content files name.now ≡ None) }
+            OfHeld (shown self.new).told (λ files. Agrees files (is_absent name.now)) }
         ensures too_long { IsErrOf result DepotRefusal.TooLong →
-            IfSome (shown self.old).told (λ files. IsSomeAnd (content files name.now) (λ bytes. limit < length bytes)) }
+            OfHeld (shown self.new).told (λ files. Agrees files (is_longer name.now limit)) }
 
         ensures failed { IsErrOf result DepotRefusal.Failed →
             FailedAt (shown self.old) (shown self.new) name.now }

@@ -1,11 +1,14 @@
 //! A real folder as a depot.
 
-ghost use Rattle.std.specs.Prelude.{◌≡◌, ◌<◌, ◌≤◌, ◌++◌, ◌∷◌, length, IfOk, IfSome, IsErrOf, string_bytes};
+ghost use Rattle.std.specs.Prelude.{◌≡◌, ◌<◌, ◌≤◌, ◌++◌, ◌∷◌, [], length, IfOk, IfSome, IsErrOf, string_bytes};
 ghost use Rattle.outside.specs.Counts.{Rose, raised};
+ghost use Rattle.outside.specs.Depot.{has_bytes, is_absent, is_longer};
+ghost use Rattle.outside.specs.FolderDepot.{Keeps};
 
 use crate::counts::raise;
+use crate::heard::Heard;
 use crate::{Depot, DepotRefusal};
-use et_base::Text;
+use et_base::{Items, Text};
 use std::alloc::{AllocError, Global};
 use std::fs;
 use std::io::{ErrorKind, Read};
@@ -16,8 +19,8 @@ use std::snapshot::Snapshot;
 /// How many bytes one call reads.
 const CHUNK: usize = 16_384;
 
-/// A real folder. It doesn't tell what it holds. Contracts see it as its count of faults and the name of the last read
-/// that failed.
+/// A real folder. It tells what it holds by the answers of its reads. Contracts see it as these answers, its count of
+/// faults and the name of the last read that failed.
 ///
 /// `Absent` comes where the system says that no such file is there, `TooLong` once a byte past the limit was read, and
 /// `Failed` at every other failure of the outside; a name that is no UTF-8 is one of them.
@@ -26,18 +29,21 @@ pub struct FolderDepot<'a, R: Files> {
     rt: &'a R,
     alloc: Global,
     folder: String,
+    answers: Items<Heard>,
     faults: u64,
     // No bytes: the name is kept for contracts alone.
     last_failed: Option<Snapshot<Text>>,
 }
 
 impl<'a, R: Files> Model for FolderDepot<'a, R> {
+    ghost use Rattle.std.specs.Prelude.{map};
     ghost use Rattle.std.specs.Option.{option_map};
-    ghost use Rattle.outside.specs.FolderDepot.{FolderDepotState};
+    ghost use Rattle.outside.specs.FolderDepot.{FolderDepotState, answer_of};
 
     ghost Value = { FolderDepotState };
 
     ghost view = { λ d. record {
+      answers = map answer_of d.answers;
       faults = d.faults;
       last_failed = option_map (λ name. name.value) d.last_failed;
     } };
@@ -46,12 +52,13 @@ impl<'a, R: Files> Model for FolderDepot<'a, R> {
 impl<'a, R: Files> FolderDepot<'a, R> {
     /// A folder of a runtime, with no fault so far.
     pub fn new(rt: &'a R, alloc: Global, folder: String) -> FolderDepot<'a, R>
-        ensures { result ≡ record { faults = 0; last_failed = None } }
+        ensures { result ≡ record { answers = []; faults = 0; last_failed = None } }
     {
         FolderDepot {
             rt,
             alloc,
             folder,
+            answers: Items::new(alloc),
             faults: 0,
             last_failed: None,
         }
@@ -110,12 +117,22 @@ fn read_whole<F: Read>(alloc: Global, file: &mut F, limit: u64) -> Result<Vec<u8
 }
 
 impl<'a, R: Files> Depot for FolderDepot<'a, R> {
-    ghost use Rattle.std.specs.Prelude.{None};
+    ghost use Rattle.outside.specs.Depot.{answers};
 
-    ghost shown = { λ d. record { told = None; faults = d.faults; last_failed = d.last_failed } };
+    ghost shown = { λ d. record { told = answers d.answers; faults = d.faults; last_failed = d.last_failed } };
 
     fn read(&mut self, name: &Text, limit: u64) -> Result<Vec<u8>, DepotRefusal>
         ensures within { IfOk result (λ bytes. length bytes.items ≤ limit) }
+
+        // It keeps what it answers of the file, and nothing else.
+        ensures bytes { IfOk result (λ bytes.
+            Keeps self.old.answers self.new.answers (has_bytes name.now bytes.items)) }
+        ensures absent { IsErrOf result DepotRefusal.Absent →
+            Keeps self.old.answers self.new.answers (is_absent name.now) }
+        ensures too_long { IsErrOf result DepotRefusal.TooLong →
+            Keeps self.old.answers self.new.answers (is_longer name.now limit) }
+        ensures no_answer { IsErrOf result DepotRefusal.Failed → self.new.answers ≡ self.old.answers }
+        ensures no_memory { IsErrOf result DepotRefusal.NoMemory → self.new.answers ≡ self.old.answers }
 
         // It counts a fault just where it answers one.
         ensures fault { IsErrOf result DepotRefusal.Failed → self.new.faults ≡ raised self.old.faults }
@@ -129,9 +146,19 @@ impl<'a, R: Files> Depot for FolderDepot<'a, R> {
             self.new.last_failed ≡ self.old.last_failed }
     {
         let answer = self.read_file(name, limit);
-        if let Err(DepotRefusal::Failed) = &answer {
-            self.last_failed = Some(Snapshot::of(name));
-            self.faults = raise(self.faults);
+        match &answer {
+            Ok(bytes) => self
+                .answers
+                .push(Heard::Bytes(Snapshot::of(name), Snapshot::of(bytes)))?,
+            Err(DepotRefusal::Absent) => self.answers.push(Heard::Absent(Snapshot::of(name)))?,
+            Err(DepotRefusal::TooLong) => self
+                .answers
+                .push(Heard::Longer(Snapshot::of(name), limit))?,
+            Err(DepotRefusal::Failed) => {
+                self.last_failed = Some(Snapshot::of(name));
+                self.faults = raise(self.faults);
+            }
+            Err(DepotRefusal::NoMemory) => {}
         }
         answer
     }

@@ -5,8 +5,8 @@
 //! then `depot.rt` and `sink.rt`: the traits that folders, standard output and their stand-ins in
 //! memory keep.
 //!
-//! - `Depot::read` gives at most as many bytes as asked, those of the file where the depot tells
-//!   its files; `Failed` comes only where its count of faults rose.
+//! - `Depot::read` gives at most as many bytes as asked, and whichever files the depot may hold, by
+//!   all that it told, agree with its answers; `Failed` comes only where its count of faults rose.
 //! - `Sink::write` takes bytes from the front of a piece, and none only where its count of faults
 //!   rose.
 //! - `write_text` has all of a text taken, or the sink took a prefix and its count of faults rose.
@@ -20,6 +20,7 @@ mod depot;
 mod files;
 mod folder_depot;
 mod gate;
+mod heard;
 mod memory_depot;
 mod memory_sink;
 mod quiet_depot;

@@ -68,9 +68,9 @@ impl MemoryDepot {
 }
 
 impl Depot for MemoryDepot {
-    ghost use Rattle.std.specs.Prelude.{Some};
+    ghost use Rattle.outside.specs.Depot.{all_files};
 
-    ghost shown = { λ d. record { told = Some d.files; faults = d.faults; last_failed = d.last_failed } };
+    ghost shown = { λ d. record { told = all_files d.files; faults = d.faults; last_failed = d.last_failed } };
 
     fn read(&mut self, name: &Text, limit: u64) -> Result<Vec<u8>, DepotRefusal>
         ensures files { self.new.files ≡ self.old.files }

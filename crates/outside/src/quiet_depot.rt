@@ -34,9 +34,10 @@ impl QuietDepot {
 }
 
 impl Depot for QuietDepot {
-    ghost use Rattle.std.specs.Prelude.{Some, None};
+    ghost use Rattle.std.specs.Prelude.{None};
+    ghost use Rattle.outside.specs.Depot.{all_files};
 
-    ghost shown = { λ files. record { told = Some files; faults = 0; last_failed = None } };
+    ghost shown = { λ files. record { told = all_files files; faults = 0; last_failed = None } };
 
     fn read(&mut self, name: &Text, limit: u64) -> Result<Vec<u8>, DepotRefusal> {
         read_file(self.alloc, &self.files, name, limit)
