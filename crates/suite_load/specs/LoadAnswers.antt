@@ -37,7 +37,7 @@ abbrev pub Says : {A : Type 0} → (Result A LoadFault → Type 0) → Result A 
 Says R (Ok x) = R (Ok x)
 Says R (Err e) = IfSome (says e) (λ f. R (Err f))
 
--- Whatever the depot tells: of a failing depot P holds at the file that is named; want of memory is no fault of a class
+-- Of a failing depot P holds at the file that is named; want of memory is no fault of a class
 -- file, of linking or of the check, and a line that names no test is none of linking.
 abbrev pub IsProper : (List ℕ → Type 0) → LoadFault → Type 0
 IsProper P fault.NoMemory = Unit {0}

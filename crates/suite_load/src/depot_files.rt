@@ -1,7 +1,7 @@
 //! A suite's text and its class files, read from a depot.
 
-ghost use Rattle.std.specs.Prelude.{◌≡◌, ◌≤◌, ◌<◌, ◌^◌, ◌+◌, ◌++◌, ◌∷◌, [], drop, length, map, IfOk, OnOk, IfErr, IfSome};
-ghost use Rattle.outside.specs.Depot.{FailedAt};
+ghost use Rattle.std.specs.Prelude.{◌≡◌, ◌≤◌, ◌<◌, ◌^◌, ◌+◌, ◌++◌, ◌∷◌, [], drop, length, map, IfOk, OnOk, IfErr};
+ghost use Rattle.outside.specs.Depot.{FailedAt, OfHeld, TellsOn};
 ghost use Rattle.class_link.specs.Link.{AreLines};
 ghost use Rattle.class_reader.specs.Faults.{class_of};
 ghost use Rattle.suite_load.specs.SuiteForm.{suite_of};
@@ -45,9 +45,9 @@ fn read_file<D: Depot>(
     name: &Text,
     most: u64,
 ) -> Result<Text, LoadFault>
-    ensures told { (D.shown depot.new).told ≡ (D.shown depot.old).told }
+    ensures told { TellsOn (D.shown depot.old).told (D.shown depot.new).told }
     ensures faults { (D.shown depot.old).faults ≤ (D.shown depot.new).faults }
-    ensures answers { IfSome (D.shown depot.old).told (λ files.
+    ensures answers { OfHeld (D.shown depot.new).told (λ files.
         Answers result (loading.file_of files most name.now)) }
     ensures proper { IfErr result (IsProper (λ read.
         (read ≡ name.now) × FailedAt (D.shown depot.old) (D.shown depot.new) read)) }
@@ -83,13 +83,13 @@ pub fn suite_in<D: Depot>(
     depot: &mut D,
     name: &Text,
 ) -> Result<(SuiteText, PrintSums), LoadFault>
-    ensures told { (D.shown depot.new).told ≡ (D.shown depot.old).told }
+    ensures told { TellsOn (D.shown depot.old).told (D.shown depot.new).told }
     ensures faults { (D.shown depot.old).faults ≤ (D.shown depot.new).faults }
     ensures lines { IfOk result (λ x. AreLines (loading.lines_of x.0)) }
     ensures few { IfOk result (λ x. length x.0.classes ≤ 1024) }
-    ensures answers { IfSome (D.shown depot.old).told (λ files.
+    ensures answers { OfHeld (D.shown depot.new).told (λ files.
         Gives says (λ x. x.0) result (loading.suite_in files name.now)) }
-    ensures sums { IfOk result (λ x. IfSome (D.shown depot.old).told (λ files.
+    ensures sums { IfOk result (λ x. OfHeld (D.shown depot.new).told (λ files.
         AreSums x.1 (loading.bytes_of files name.now) [])) }
     ensures none { IfOk result (λ x. length x.1.classes ≡ 0) }
     ensures proper { IfErr result (IsProper (λ read.
@@ -144,14 +144,14 @@ fn class_in<D: Depot>(
     sums: &mut PrintSums,
 ) -> Result<(ClassFile, u64), LoadFault>
     requires { read ≤ 67108864 }
-    ensures told { (D.shown depot.new).told ≡ (D.shown depot.old).told }
+    ensures told { TellsOn (D.shown depot.old).told (D.shown depot.new).told }
     ensures faults { (D.shown depot.old).faults ≤ (D.shown depot.new).faults }
-    ensures answers { IfSome (D.shown depot.old).told (λ files.
+    ensures answers { OfHeld (D.shown depot.new).told (λ files.
         Answers result (loading.class_in files read name.now)) }
     ensures proper { IfErr result (IsProper (λ read.
         (read ≡ name.now) × FailedAt (D.shown depot.old) (D.shown depot.new) read)) }
     ensures within { IfOk result (λ x. x.1 ≤ 67108864) }
-    ensures sums { OnOk result (IfSome (D.shown depot.old).told (λ files.
+    ensures sums { OnOk result (OfHeld (D.shown depot.new).told (λ files.
         AreMoreSums sums.old sums.new (loading.bytes_of files name.now ∷ []))) }
     ensures one_more { OnOk result (length sums.new.classes ≡ length sums.old.classes + 1) }
 {
@@ -168,17 +168,17 @@ pub fn classes_in<D: Depot>(
     names: &[Text],
     sums: &mut PrintSums,
 ) -> Result<Items<ClassFile>, LoadFault>
-    ensures told { (D.shown depot.new).told ≡ (D.shown depot.old).told }
+    ensures told { TellsOn (D.shown depot.old).told (D.shown depot.new).told }
     ensures faults { (D.shown depot.old).faults ≤ (D.shown depot.new).faults }
     ensures count { IfOk result (λ cs. length cs ≡ length names.now) }
-    ensures sums { OnOk result (IfSome (D.shown depot.old).told (λ files.
+    ensures sums { OnOk result (OfHeld (D.shown depot.new).told (λ files.
         AreMoreSums sums.old sums.new (map (loading.bytes_of files) names.now))) }
     ensures as_many { OnOk result
         (length sums.new.classes ≡ length sums.old.classes + length names.now) }
-    ensures answers { IfSome (D.shown depot.old).told (λ files.
+    ensures answers { OfHeld (D.shown depot.new).told (λ files.
         Answers result (loading.classes_in files 0 names.now)) }
     ensures proper { IfErr result (IsProper (λ read.
-        IfSome (D.shown depot.old).told (λ files. loading.IsReadAmong files names.now read)
+        OfHeld (D.shown depot.new).told (λ files. loading.IsReadAmong files names.now read)
         × FailedAt (D.shown depot.old) (D.shown depot.new) read)) }
 {
     let mut classes = Items::new(alloc);

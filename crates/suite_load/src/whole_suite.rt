@@ -1,8 +1,8 @@
 //! Loading of a whole suite.
 
-ghost use Rattle.std.specs.Prelude.{◌≡◌, ◌≤◌, length, IfOk, IfErr, IfSome, ◌-◌};
+ghost use Rattle.std.specs.Prelude.{◌≡◌, ◌≤◌, length, IfOk, IfErr, ◌-◌};
 ghost use Rattle.jvm_model.specs.Builtin.{builtin_count};
-ghost use Rattle.outside.specs.Depot.{FailedAt};
+ghost use Rattle.outside.specs.Depot.{FailedAt, OfHeld, TellsOn};
 ghost use Rattle.type_frames.specs.Typing.{IsTyped};
 ghost use Rattle.suite_load.specs.Loading.{IsRead};
 ghost use Rattle.suite_load.specs.LoadAnswers.{LoadAnswers, IsProper};
@@ -24,14 +24,14 @@ use std::alloc::Global;
 /// rule of the type checker (`Check`). `Depot` comes where the depot failed at a file, which is named, and `NoMemory` where an allocation was
 /// refused. The bytes of a class file are dropped before the next one is read.
 pub fn load<D: Depot>(alloc: Global, depot: &mut D, name: &Text) -> Result<Loaded, LoadFault>
-    ensures told { (D.shown depot.new).told ≡ (D.shown depot.old).told }
+    ensures told { TellsOn (D.shown depot.old).told (D.shown depot.new).told }
     ensures faults { (D.shown depot.old).faults ≤ (D.shown depot.new).faults }
-    // Which program or fault it is, where the depot's files are told.
-    ensures loads { IfSome (D.shown depot.old).told (λ files. LoadAnswers files name.now result) }
-    // Whatever the depot tells, `Depot` names the file of its last read that failed, and where it tells its files, one that is
-    // read; want of memory is answered by itself alone, and a line that names no test by its line.
+    // Which program or fault it is, of whichever files the depot may hold by what it told.
+    ensures loads { OfHeld (D.shown depot.new).told (λ files. LoadAnswers files name.now result) }
+    // `Depot` names the file of its last read that failed, one that is read of whichever files the depot may hold; want of
+    // memory is answered by itself alone, and a line that names no test by its line.
     ensures proper { IfErr result (IsProper (λ read.
-        IfSome (D.shown depot.old).told (λ files. IsRead files name.now read)
+        OfHeld (D.shown depot.new).told (λ files. IsRead files name.now read)
         × FailedAt (D.shown depot.old) (D.shown depot.new) read)) }
     // There is a name for each test.
     ensures names { IfOk result (λ l. length l.names.tests ≡ length l.checked.tests) }
