@@ -12,6 +12,7 @@ use vm_frames::FrameStack;
 
 /// Takes two ints and puts what the operation gives of them, the upper one second; division and remainder by 0 throw
 /// (`iadd`, `isub`, `imul`, `idiv`, `irem`, `ishl`, `ishr`, `iushr`, `iand`, `ior`, `ixor`).
+#[inline(always)]
 pub fn binary_ints(stack: &mut FrameStack, op: Op) -> Next
     requires { HasRow (form.Binary op false) stack.old }
     ensures { Ends (form.Binary op false) result stack.old stack.new }
@@ -30,6 +31,7 @@ pub fn binary_ints(stack: &mut FrameStack, op: Op) -> Next
 /// Takes two longs and puts what the operation gives of them, the upper one second; division and remainder by 0 throw.
 /// A shift takes its distance as an int (`ladd`, `lsub`, `lmul`, `ldiv`, `lrem`, `lshl`, `lshr`, `lushr`, `land`, `lor`,
 /// `lxor`).
+#[inline(always)]
 pub fn binary_longs(stack: &mut FrameStack, op: Op) -> Next
     requires { HasRow (form.Binary op true) stack.old }
     ensures { Ends (form.Binary op true) result stack.old stack.new }

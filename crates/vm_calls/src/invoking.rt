@@ -39,12 +39,13 @@ pub fn call<M: Memory>(
 {
     match form {
         Instr::InvokeStatic { method } => invoke_static(stack, memory, tables, *method, left),
-        Instr::InvokeVirtual { named, method } => invoke_virtual(
-            stack, memory, tables, selections, *named, *method, left,
-        ),
-        Instr::InvokeInterface { named, method } => invoke_interface(
-            stack, memory, tables, selections, *named, *method, left,
-        ),
+        Instr::InvokeVirtual { method, .. } => {
+            invoke_on_object(stack, memory, tables, selections, None, *method, left)
+        }
+        Instr::InvokeInterface { named, method } => {
+            let interface = Some(*named);
+            invoke_on_object(stack, memory, tables, selections, interface, *method, left)
+        }
         Instr::InvokeSpecial { named, method } => invoke_special(
             stack, memory, tables, selections, *named, *method, left,
         ),
@@ -131,10 +132,13 @@ fn enter_selected(
     enter_choice(stack, tables, choice, tables.arguments(method) + 1, left)
 }
 
-/// Calls a method on the object below the arguments; an interface is named by invokeinterface.
+/// Calls the method that is selected by the class of the object below the arguments (`invokevirtual`, and `invokeinterface`
+/// with the interface that it names): a private method is the one that is named; another is the first of its name and
+/// descriptor upwards, or a default method. Null throws, and an object whose class doesn't implement the interface throws
+/// IncompatibleClassChangeError, unless the method is private. It reads the object's head.
 #[inline(always)]
 #[tactic(auto, using(crate::proofs::Entered::selected_touches, crate::proofs::Entered::object_there))]
-fn invoke_on_object<M: Memory>(
+pub fn invoke_on_object<M: Memory>(
     stack: &mut FrameStack,
     memory: &mut M,
     tables: &Tables,
@@ -167,51 +171,6 @@ fn invoke_on_object<M: Memory>(
         Value::Int(_) => unreachable!(),
         Value::Long(_) => unreachable!(),
     }
-}
-
-/// Calls the method that is selected by the class of the object below the arguments: a private method is the one that is
-/// named; another is the first of its name and descriptor upwards, or a default method. Null throws. It reads the
-/// object's head.
-#[inline(always)]
-pub fn invoke_virtual<M: Memory>(
-    stack: &mut FrameStack,
-    memory: &mut M,
-    tables: &Tables,
-    selections: &mut Selections,
-    named: Kind,
-    method: u32,
-    left: &mut u64,
-) -> Result<Next, NoMemory>
-    requires selections { selections.old ≡ tables.now }
-    requires row { IsReady (call_row (form.InvokeVirtual named method))
-        tables.now M.program M.world memory.old stack.old }
-    ensures made { Makes (call_row (form.InvokeVirtual named method)) M.program M.world M.follows
-        memory.old memory.new stack.old left.old result stack.new left.new }
-    ensures kept { selections.new ≡ selections.old }
-{
-    invoke_on_object(stack, memory, tables, selections, None, method, left)
-}
-
-/// The same of a method of an interface: an object whose class doesn't implement the interface that is named throws
-/// IncompatibleClassChangeError, unless the method is private.
-pub fn invoke_interface<M: Memory>(
-    stack: &mut FrameStack,
-    memory: &mut M,
-    tables: &Tables,
-    selections: &mut Selections,
-    named: u32,
-    method: u32,
-    left: &mut u64,
-) -> Result<Next, NoMemory>
-    requires selections { selections.old ≡ tables.now }
-    requires row { IsReady (call_row (form.InvokeInterface named method))
-        tables.now M.program M.world memory.old stack.old }
-    ensures made { Makes (call_row (form.InvokeInterface named method)) M.program M.world M.follows
-        memory.old memory.new stack.old left.old result stack.new left.new }
-    ensures kept { selections.new ≡ selections.old }
-{
-    let interface = Some(named);
-    invoke_on_object(stack, memory, tables, selections, interface, method, left)
 }
 
 /// Calls a method without regard to the object's class: `<init>` is the one that is named; another is looked for from the

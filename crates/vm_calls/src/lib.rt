@@ -22,6 +22,6 @@ mod selecting;
 mod selections;
 
 pub use choice::Choice;
-pub use invoking::{call, invoke_interface, invoke_special, invoke_static, invoke_virtual};
+pub use invoking::{call, invoke_on_object, invoke_special, invoke_static};
 pub use returning::give_back;
 pub use selections::Selections;

@@ -2,7 +2,8 @@
 use Rattle.std.proofs.Common.{◌≡◌, ◌<◌, ℕ, suc, List, Bool, cond, refl, sym, ap, ◌∙◌, subst, arith, Option, Some, None, true, false, nat_le, ◌-◌}
 use Rattle.jvm_model.specs.declared.values.Touch.{Touch}
 use Rattle.jvm_model.specs.declared.instr.Instr.{Instr}
-use Rattle.jvm_model.specs.declared.outcome.Next.TheVariants.{Go}
+use Rattle.jvm_model.specs.declared.outcome.Next.{Next}
+use Rattle.jvm_model.specs.declared.outcome.Next.TheVariants.{Go, Fault, Raise, Enter, Leave, Over}
 use Rattle.jvm_model.specs.declared.program.Program.{Program}
 use Rattle.jvm_model.specs.declared.state.EntryKind.TheVariants.{InMethod}
 use Rattle.jvm_model.specs.World.{World}
@@ -14,16 +15,19 @@ use Rattle.jvm_model.specs.State.{State, Turn}
 use Rattle.jvm_model.specs.Step.{group_of, row, row_here, row_or_none, after_row}
 use Rattle.jvm_model.specs.View.{counted, touched, IsSafe, IsRow, IsTurn}
 use Rattle.jvm_model.proofs.Steps.{step_runs, safe_row}
-use Rattle.vm_arith.specs.Pure.{GoesOn, Branches, is_pure}
+use Rattle.vm_arith.specs.Pure.{GoesOn, GoesTo, Branches, Ends, TouchesNothing, is_pure}
 use Rattle.vm_frames.specs.Stack.{HasRoom}
-use Rattle.vm_mem.specs.Refines.{Refines, Traces}
+use Rattle.vm_mem.specs.Refines.{IsReady, Refines, Row, Traces}
 use Rattle.vm_mem.specs.Trace.{Trace}
 use Rattle.vm_arith.proofs.Rows.{has_row}
+use Rattle.vm_arith.proofs.Steps.{thrown}
 use Rattle.check_sound.specs.ReachLaw.{puts}
 use Rattle.vm_interp.specs.Reaching.{CanStep}
-use Rattle.vm_interp.specs.Dispatching.{CanGo, CanRun}
+use Rattle.vm_interp.specs.declared.flow.Flow.{Flow}
+use Rattle.vm_interp.specs.declared.flow.Flow.TheVariants.{Jump, Other}
+use Rattle.vm_interp.specs.Dispatching.{CanGo, CanRun, EndsFlow, IsLeft, next_of, settled, settled_flow, settled_units}
 use Rattle.vm_interp.specs.Rows.{form_row}
-use Rattle.vm_interp.proofs.Quiet.{grows}
+use Rattle.vm_interp.proofs.Quiet.{grows, untouched}
 
 -- the row of a form goes on, where this is the place of the next instruction
 record Goes (i : Instr) (next : ℕ) (s u : Entries) : Type 0 where
@@ -85,3 +89,46 @@ straight_meets p w i n s u left h e l = went_meets p s w i n (with_place u n) e 
 
 pub straight_tells : {M : Type 0} (follows : M → Trace → List Touch → Type 0) (m : M) (p : Program) (w : World) (i : Instr) (s u : Entries) → GoesOn i s u → Traces (form_row i) p w s Go follows m m
 straight_tells follows m p w i s u h = went_tells p s w i (next_place p s.top.number s.top.pc) (with_place u (next_place p s.top.number s.top.pc)) refl (goes i (next_place p s.top.number s.top.pc) s u h) follows m
+
+-- a form that goes to a place of the code
+targets : (i : Instr) (to n : ℕ) (s u : Entries) → GoesTo i to s u → Goes i n s (with_place u to)
+targets i to n s u h = record { frame = h.frame.kind; number = h.frame.number; row = λ p e. h.row p s.top.pc }
+
+module _ (p : Program) (w : World) (i : Instr) (to : ℕ) (s u : Entries) (h : GoesTo i to s u) where
+  target_meets : (left : ℕ) → 0 < left → Refines (form_row i) p w s left Go (with_place u to) w (left - 1)
+  target_meets left l = went_meets p s w i (next_place p s.top.number s.top.pc) (with_place u to) refl (targets i to (next_place p s.top.number s.top.pc) s u h) left l
+
+  target_tells : {M : Type 0} (follows : M → Trace → List Touch → Type 0) (m : M) → Traces (form_row i) p w s Go follows m m
+  target_tells follows m = went_tells p s w i (next_place p s.top.number s.top.pc) (with_place u to) refl (targets i to (next_place p s.top.number s.top.pc) s u h) follows m
+
+pub target_made : {M : Type 0} (program : M → Program) (world : M → World) (follows : M → Trace → List Touch → Type 0) (m : M) (i : Instr) (to : ℕ) (s u t : Entries) (left left' : ℕ) → GoesTo i to s u → t ≡ with_place u to → left' ≡ left - 1 → 0 < left → (program m ≡ program m) × EndsFlow (form_row i) program world follows m m s left Jump t left'
+target_made program world follows m i to s u t left left' h e k l = (refl, (rw (e, k) (target_meets (program m) (world m) i to s u h left l), target_tells (program m) (world m) i to s u h follows m))
+
+-- a form that goes on at the next instruction or throws by itself
+pub settled_meets : (p : Program) (w : World) (i : Instr) (x : Next) (n : ℕ) (s u : Entries) (left : ℕ) → Ends i x s u → next_place p s.top.number s.top.pc ≡ n → 0 < left → Refines (form_row i) p w s left (next_of (settled_flow x)) (settled x n u) w (settled_units x left)
+settled_meets p w i Go n s u left h e l = straight_meets p w i n s u left h e l
+settled_meets p w i (Fault c) n s u left h e l = thrown i n left (Fault c) s u h (λ k. absurd (cc)) p w e
+settled_meets p w i (Raise v) n s u left h e l = absurd h
+settled_meets p w i (Enter m) n s u left h e l = absurd h
+settled_meets p w i Leave n s u left h e l = absurd h
+settled_meets p w i Over n s u left h e l = absurd h
+
+pub settled_left : (i : Instr) (x : Next) (n : ℕ) (s u : Entries) → Ends i x s u → s.top.kind ≡ InMethod → IsLeft (settled_flow x) s.top.number n (settled x n u)
+settled_left i Go n s u h k = (record { frame = h.frame.kind ∙ k; number = h.frame.number }, refl)
+settled_left i (Fault c) n s u h k = tt
+settled_left i (Raise v) n s u h k = absurd h
+settled_left i (Enter m) n s u h k = absurd h
+settled_left i Leave n s u h k = absurd h
+settled_left i Over n s u h k = absurd h
+
+pub quiet_tells : {M : Type 0} (follows : M → Trace → List Touch → Type 0) (m : M) (p : Program) (w : World) (i : Instr) (x : Next) (s : Entries) → TouchesNothing i → Traces (form_row i) p w s x follows m m
+quiet_tells follows m p w i x s t o h ts k = subst (λ (us : List Touch). follows m h us) (sym (untouched p i s t w ts)) k
+
+-- a row that is named in two ways
+pub ready_as : {M : Type 0} (t u : Row Entries) (p : Program) (program : M → Program) (world : M → World) (m : M) (s : Entries) → t ≡ u → IsReady t p program world m s → IsReady u p program world m s
+ready_as t u p program world m s e h = subst (λ (r : Row Entries). IsReady r p program world m s) e h
+
+pub flow_as : {M : Type 0} (t u : Row Entries) (program : M → Program) (world : M → World) (follows : M → Trace → List Touch → Type 0) (m n : M) (s s' : Entries) (left left' : ℕ) (x : Next) (y : Flow) → t ≡ u → next_of y ≡ x → EndsFlow u program world follows m n s left (Other x) s' left' → EndsFlow t program world follows m n s left y s' left'
+flow_as t u program world follows m n s s' left left' x y e k h =
+    subst (λ (r : Row Entries). EndsFlow r program world follows m n s left y s' left') (sym e)
+        (subst (λ (z : Next). EndsFlow u program world follows m n s left (Other z) s' left') (sym k) h)

@@ -5,14 +5,16 @@ ghost use Rattle.jvm_model.specs.declared.instr.Instr.TheVariants as form;
 ghost use Rattle.jvm_model.specs.Classes.{form_at};
 ghost use Rattle.jvm_model.specs.Entries.{Entries, with_place};
 ghost use Rattle.jvm_model.specs.Step as steps;
-ghost use Rattle.vm_frames.specs.Stack.{HasRoom};
+ghost use Rattle.vm_frames.specs.Stack.{HasIntOnTop, HasRoom};
 ghost use Rattle.vm_mem.specs.Refines.{IsNext, IsReady};
 ghost use Rattle.jvm_model.specs.declared.state.EntryKind.TheVariants.{InMethod};
 ghost use Rattle.vm_interp.specs.declared.flow.Flow.TheVariants.{Jump, FallThrough};
-ghost use Rattle.vm_interp.specs.Dispatching.{CanRun, IsLeft, MakesFlow, next_of, place_behind};
+ghost use Rattle.vm_arith.specs.Pure.{Ends, HasRow};
+ghost use Rattle.vm_interp.specs.Dispatching.{CanRun, IsLeft, MakesFlow, next_of, place_behind, settled, settled_flow, settled_units};
 ghost use Rattle.check_sound.specs.ReachLaw.{puts};
 ghost use Rattle.vm_interp.specs.Reaching.{HasPlaceBelow, HasSpace};
-ghost use Rattle.vm_interp.specs.Rows.{form_row};
+ghost use Rattle.vm_calls.specs.Calls.{object_row};
+ghost use Rattle.vm_interp.specs.Rows.{IsOnObject, form_row};
 
 use crate::cursor::InstrCursor;
 use crate::flow::Flow;
@@ -23,8 +25,11 @@ use crate::straight::{
 use et_base::NoMemory;
 use jvm_model::{Cell, EntryKind, Instr, Next, Op};
 use std::mem;
-use vm_arith::{compare, convert, dup, if_ints, if_null, if_refs, if_zero, increase, pop};
-use vm_calls::{Selections, give_back, invoke_special, invoke_static, invoke_virtual};
+use vm_arith::{
+    binary_ints, binary_longs, compare, convert, dup, if_ints, if_null, if_refs, if_zero, increase,
+    lookup_switch, neg_int, neg_long, pop, table_switch,
+};
+use vm_calls::{Selections, give_back, invoke_on_object, invoke_special, invoke_static};
 use vm_frames::FrameStack;
 use vm_mem::Memory;
 use vm_objects::{
@@ -152,6 +157,15 @@ fn hot_form<M: Memory>(
             and_ints(stack);
             Ok(fall_through(stack, cursor, left))
         }
+        Instr::Binary { op, wide } => calculate(stack, memory, *op, *wide, cursor, left),
+        Instr::Neg { wide: false } => {
+            neg_int(stack);
+            Ok(fall_through(stack, cursor, left))
+        }
+        Instr::Neg { wide: true } => {
+            neg_long(stack);
+            Ok(fall_through(stack, cursor, left))
+        }
         Instr::IfZero { test, to } => {
             let taken = if_zero(stack, *test);
             Ok(branch(stack, taken, *to, cursor, left))
@@ -171,6 +185,14 @@ fn hot_form<M: Memory>(
         Instr::Goto { to } => {
             jump(stack, *to, left);
             Ok(Flow::Jump)
+        }
+        Instr::Table {
+            low,
+            targets,
+            other,
+        } => switch_by_table(stack, memory, *low, targets.as_slice(), *other, left),
+        Instr::Lookup { pairs, other } => {
+            switch_by_lookup(stack, memory, pairs.as_slice(), *other, left)
         }
         Instr::GetField { field, .. } => {
             let method = stack.number();
@@ -197,7 +219,7 @@ fn hot_form<M: Memory>(
             Ok(classify_flow(answer, stack, method, next))
         }
         Instr::ArrayStore {
-            of: Cell::Int | Cell::Byte | Cell::Char,
+            of: Cell::Int | Cell::Long | Cell::Byte | Cell::Char | Cell::Short,
         } => {
             let method = stack.number();
             let next = place_after(cursor);
@@ -230,9 +252,8 @@ fn hot_form<M: Memory>(
             let answer = invoke_special(stack, memory, tables, selections, *named, *method, left)?;
             Ok(called(answer))
         }
-        Instr::InvokeVirtual { named, method } => {
-            let answer = invoke_virtual(stack, memory, tables, selections, *named, *method, left)?;
-            Ok(called(answer))
+        Instr::InvokeVirtual { .. } | Instr::InvokeInterface { .. } => {
+            call_on_object(stack, memory, tables, selections, form, left)
         }
         Instr::Return { of: Some(of) } => {
             let answer = give_back(stack, memory, tables, Some(*of), left)?;
@@ -258,6 +279,103 @@ fn fall_through(stack: &mut FrameStack, cursor: InstrCursor<'_>, left: &mut u64)
     let next = place_after(cursor);
     jump(stack, next, left);
     Flow::FallThrough
+}
+
+/// Takes two numbers and puts what the operation gives of them, or throws where it divides by 0.
+#[inline(always)]
+#[tactic(auto, using(crate::proofs::Found::settled_meets, crate::proofs::Found::settled_left, crate::proofs::Found::quiet_tells))]
+fn calculate<M: Memory>(
+    stack: &mut FrameStack,
+    _memory: &mut M,
+    op: Op,
+    wide: bool,
+    cursor: InstrCursor<'_>,
+    left: &mut u64,
+) -> Result<Flow, NoMemory>
+    requires place { IsNext (M.program _memory.old) stack.old
+        (place_behind cursor.body.now cursor.rest.now) }
+    requires row { HasRow (form.Binary op wide) stack.old }
+    requires frame { stack.old.top.kind ≡ InMethod }
+    requires units { 0 < left.old }
+    ensures made { MakesFlow (form_row (form.Binary op wide)) M.program M.world M.follows
+        _memory.old _memory.new stack.old left.old result stack.new left.new }
+    ensures left { IfOk result (λ x. IsLeft x stack.old.top.number
+        (place_behind cursor.entry.body.now cursor.entry.rest.now) stack.new) }
+{
+    let answer = binary(stack, op, wide);
+    Ok(settle(answer, stack, cursor, left))
+}
+
+/// Takes two numbers of a type and puts what the operation gives of them.
+#[inline(always)]
+fn binary(stack: &mut FrameStack, op: Op, wide: bool) -> Next
+    requires { HasRow (form.Binary op wide) stack.old }
+    ensures { Ends (form.Binary op wide) result stack.old stack.new }
+{
+    if wide {
+        binary_longs(stack, op)
+    } else {
+        binary_ints(stack, op)
+    }
+}
+
+/// Goes on at the next instruction, and counts the step, where a form that touches nothing answered so.
+#[inline(always)]
+fn settle(answer: Next, stack: &mut FrameStack, cursor: InstrCursor<'_>, left: &mut u64) -> Flow
+    requires { 0 < left.old }
+    ensures flow { result ≡ settled_flow answer }
+    ensures entries { stack.new
+        ≡ settled answer (place_behind cursor.entry.body.now cursor.entry.rest.now) stack.old }
+    ensures counted { left.new ≡ settled_units answer left.old }
+{
+    match answer {
+        Next::Go => fall_through(stack, cursor, left),
+        Next::Fault { .. } | Next::Raise(_) | Next::Enter { .. } | Next::Leave | Next::Over =>
+            Flow::Other(answer),
+    }
+}
+
+/// Takes an int and goes on at its place among the targets from that of `low` on, or at `other` past them.
+#[inline(always)]
+fn switch_by_table<M: Memory>(
+    stack: &mut FrameStack,
+    _memory: &mut M,
+    low: i32,
+    targets: &[u32],
+    other: u32,
+    left: &mut u64,
+) -> Result<Flow, NoMemory>
+    requires row { HasIntOnTop stack.old.top.stack }
+    requires frame { stack.old.top.kind ≡ InMethod }
+    requires units { 0 < left.old }
+    ensures made { MakesFlow (form_row (form.Table low targets.now other)) M.program M.world
+        M.follows _memory.old _memory.new stack.old left.old result stack.new left.new }
+    ensures left { IfOk result (λ x. (next : ℕ) → IsLeft x stack.old.top.number next stack.new) }
+{
+    let to = table_switch(stack, low, targets, other);
+    jump(stack, to, left);
+    Ok(Flow::Jump)
+}
+
+/// Takes an int and goes on at the target that is paired with it, or at `other`.
+#[inline(always)]
+fn switch_by_lookup<M: Memory>(
+    stack: &mut FrameStack,
+    _memory: &mut M,
+    pairs: &[(i32, u32)],
+    other: u32,
+    left: &mut u64,
+) -> Result<Flow, NoMemory>
+    requires row { HasIntOnTop stack.old.top.stack }
+    requires frame { stack.old.top.kind ≡ InMethod }
+    requires units { 0 < left.old }
+    ensures made { MakesFlow (form_row (form.Lookup pairs.now other)) M.program M.world
+        M.follows _memory.old _memory.new stack.old left.old result stack.new left.new }
+    ensures left { IfOk result (λ x. (next : ℕ) → IsLeft x stack.old.top.number next stack.new) }
+{
+    let to = lookup_switch(stack, pairs, other);
+    jump(stack, to, left);
+    Ok(Flow::Jump)
 }
 
 /// Goes on at the target of a branch that is taken, else at the next instruction, and counts the step.
@@ -309,6 +427,45 @@ fn classify_flow(answer: Next, stack: &FrameStack, method: u32, next: u32) -> Fl
     }
 }
 
+/// Calls a method on an object by its class: one copy of the code serves both forms.
+#[inline(always)]
+fn call_on_object<M: Memory>(
+    stack: &mut FrameStack,
+    memory: &mut M,
+    tables: &Tables,
+    selections: &mut Selections,
+    form: &Instr,
+    left: &mut u64,
+) -> Result<Flow, NoMemory>
+    requires form { IsOnObject form.now }
+    requires selections { selections.old ≡ tables.now }
+    requires row { IsReady (form_row form.now) tables.now M.program M.world memory.old stack.old }
+    ensures made { MakesFlow (form_row form.now) M.program M.world M.follows
+        memory.old memory.new stack.old left.old result stack.new left.new }
+    ensures left { IfOk result (λ x. (method next : ℕ) (s : Entries) → IsLeft x method next s) }
+    ensures kept { selections.new ≡ selections.old }
+{
+    let (interface, method) = called_on_object(form);
+    let answer = invoke_on_object(
+        stack, memory, tables, selections, interface, method, left,
+    )?;
+    Ok(called(answer))
+}
+
+/// The interface that a call on an object names, None where it names a class, and the method.
+#[inline(always)]
+#[tactic(auto, unfolding(jvm_model::specs::Step::row, jvm_model::specs::RowsCalls::row_calls))]
+fn called_on_object(form: &Instr) -> (Option<u32>, u32)
+    requires { IsOnObject form.now }
+    ensures { form_row form.now ≡ object_row result.0 result.1 }
+{
+    match form {
+        Instr::InvokeVirtual { method, .. } => (None, *method),
+        Instr::InvokeInterface { named, method } => (Some(*named), *method),
+        _ => unreachable!(),
+    }
+}
+
 /// How a call left the entries that answered this.
 #[inline(always)]
 fn called(answer: Next) -> Flow
@@ -322,7 +479,7 @@ fn called(answer: Next) -> Flow
 }
 
 /// Makes the row of an instruction on a copy of the entries and of the units left, so that no address of theirs is handed
-/// on.
+/// on. It tells no flow apart: where it did, LLVM no longer gave each branch its own jump, and loops were a third slower.
 #[inline(always)]
 fn row_apart<M: Memory>(
     stack: &mut FrameStack,

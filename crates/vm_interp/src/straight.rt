@@ -49,6 +49,7 @@ pub fn store_local(stack: &mut FrameStack, local: u16)
 }
 
 /// Adds the two ints on top (`iadd`).
+#[inline(always)]
 #[tactic(auto, unfolding(jvm_model::specs::Step::row, jvm_model::specs::RowsArith::row_arith))]
 pub fn add_ints(stack: &mut FrameStack)
     requires { HasRow (form.Binary op.Add false) stack.old }
@@ -60,6 +61,7 @@ pub fn add_ints(stack: &mut FrameStack)
 }
 
 /// Subtracts the upper one of the two ints on top from the lower one (`isub`).
+#[inline(always)]
 #[tactic(auto, unfolding(jvm_model::specs::Step::row, jvm_model::specs::RowsArith::row_arith))]
 pub fn subtract_ints(stack: &mut FrameStack)
     requires { HasRow (form.Binary op.Sub false) stack.old }
@@ -71,6 +73,7 @@ pub fn subtract_ints(stack: &mut FrameStack)
 }
 
 /// Multiplies the two ints on top (`imul`).
+#[inline(always)]
 #[tactic(auto, unfolding(jvm_model::specs::Step::row, jvm_model::specs::RowsArith::row_arith))]
 pub fn multiply_ints(stack: &mut FrameStack)
     requires { HasRow (form.Binary op.Mul false) stack.old }
@@ -82,6 +85,7 @@ pub fn multiply_ints(stack: &mut FrameStack)
 }
 
 /// The bits that both ints on top have (`iand`).
+#[inline(always)]
 #[tactic(auto, unfolding(jvm_model::specs::Step::row, jvm_model::specs::RowsArith::row_arith))]
 pub fn and_ints(stack: &mut FrameStack)
     requires { HasRow (form.Binary op.And false) stack.old }
