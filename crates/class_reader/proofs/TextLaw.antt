@@ -1,11 +1,12 @@
 -- Texts by the first slot that has them, and keys of names and descriptors.
 use Rattle.std.proofs.Math.Bool.{or_comm, or_assoc, or-true, or-false}
 use Rattle.std.proofs.Common.{◌≡◌, ℕ, zero, suc, ◌+◌, ◌-◌, ◌*◌, ◌<◌, ◌≤◌, Bool, true, false, cond, eqb, eq-eqb, ◌&&◌, ◌||◌, List, [], ◌∷◌, ◌++◌, length, map, take, get_or, Option, Some, None, is_some, unwrap_or, refl, sym, ap, ◌∙◌, arith, add-zero}
-use Rattle.std.specs.Prelude.{nat_eq, OnOk, Result, Ok, Err}
+use Rattle.std.specs.Prelude.{OnOk, Result, Ok, Err}
 use Rattle.std.specs.Option.{option_or}
 use Rattle.std.specs.Str.{bytes_eq}
-use Rattle.std.specs.HashSet.{HashSet, contains, Updates, IsEmpty}
-use Rattle.std.specs.HashMap.{HashMap, get_by}
+use Rattle.std.specs.Ordering.{nat_cmp}
+use Rattle.std.specs.BTreeSet.{BTreeSet, contains, Updates, IsEmpty}
+use Rattle.std.specs.BTreeMap.{BTreeMap, is_at}
 use denote.Ref.{Bor}
 use Rattle.std.proofs.lemmas.Bool.{eqb-true}
 use Rattle.std.proofs.lemmas.Bool.Decides.{nat_tests, same_from_decides}
@@ -17,7 +18,7 @@ use Rattle.class_pool.specs.Pool.{entry_of, is_text}
 use Rattle.class_reader.specs.declared.parts.MemberPart.{MemberPart}
 use Rattle.class_reader.specs.declared.texts.Mark.{Mark}
 use Rattle.class_reader.specs.Names.{is_text_of, same_text, is_repeated}
-use Rattle.class_reader.specs.Lookups.{noted_first}
+use Rattle.class_reader.specs.Lookups.{noted, noted_first}
 use Rattle.class_reader.specs.Texts.{first_from, first_of, mark_with, mark_of, key_of, is_same, IsSeen, IsSeenWith}
 
 -- ---- first slots
@@ -148,11 +149,15 @@ cond_or : (a b : Bool) → cond a true b ≡ (b || a)
 cond_or true b = sym (or-true b)
 cond_or false b = sym (or-false b)
 
+-- a number is at a key exactly where they are equal
+is_at_number : (n m : ℕ) → is_at (nat_cmp n) m ≡ eqb n m
+is_at_number n m = grind (arith, nat_tests)
+
 -- one more name and descriptor
-pub seen_more : {S : Type 0} (slots : List (Option Entry)) (before : List MemberPart) (name descriptor : ℕ) (old new : HashSet ℕ S) → length slots < 65536 → is_text (entry_of slots name) ≡ true → is_text (entry_of slots descriptor) ≡ true
-    → IsSeen slots before old → Updates nat_eq old new (key_of slots name descriptor) true → IsSeenWith slots before name descriptor new
+pub seen_more : (slots : List (Option Entry)) (before : List MemberPart) (name descriptor : ℕ) (old new : BTreeSet ℕ) → length slots < 65536 → is_text (entry_of slots name) ≡ true → is_text (entry_of slots descriptor) ≡ true
+    → IsSeen slots before old → Updates nat_cmp old new (key_of slots name descriptor) true → IsSeenWith slots before name descriptor new
 seen_more slots before name descriptor old new few hn hd seen updates = λ n d tn td.
-    updates.0 (key_of slots n d) ∙ ap (λ b. cond b true (contains nat_eq old (key_of slots n d))) (key_same slots name descriptor n d few hn hd tn td)
+    updates.0 (key_of slots n d) ∙ ap (λ b. cond b true (contains nat_cmp old (key_of slots n d))) (is_at_number _ _ ∙ key_same slots name descriptor n d few hn hd tn td)
     ∙ ap (cond (is_same slots name descriptor n d) true) (seen n d tn td) ∙ cond_or (is_same slots name descriptor n d) (is_repeated slots before n d)
 
 is_repeated-push : (slots : List (Option Entry)) (before : List MemberPart) (m : MemberPart) (n d : ℕ) → is_repeated slots (before ++ m ∷ []) n d ≡ (is_repeated slots before n d || is_same slots m.name m.descriptor n d)
@@ -160,10 +165,10 @@ is_repeated-push slots [] m n d = or_comm (is_same slots m.name m.descriptor n d
 is_repeated-push slots (a ∷ before) m n d = ap (λ b. is_same slots a.name a.descriptor n d || b) (is_repeated-push slots before m n d) ∙ sym (or_assoc (is_same slots a.name a.descriptor n d) (is_repeated slots before n d) (is_same slots m.name m.descriptor n d))
 
 -- the member of that name and descriptor
-pub seen_member : {S : Type 0} (slots : List (Option Entry)) (before : List MemberPart) (m : MemberPart) (keys : HashSet ℕ S) → IsSeenWith slots before m.name m.descriptor keys → IsSeen slots (before ++ m ∷ []) keys
+pub seen_member : (slots : List (Option Entry)) (before : List MemberPart) (m : MemberPart) (keys : BTreeSet ℕ) → IsSeenWith slots before m.name m.descriptor keys → IsSeen slots (before ++ m ∷ []) keys
 seen_member slots before m keys seen = λ n d tn td. seen n d tn td ∙ sym (is_repeated-push slots before m n d)
 
-pub seen_none : {S : Type 0} (slots : List (Option Entry)) (keys : HashSet ℕ S) → IsEmpty keys → IsSeen slots [] keys
+pub seen_none : (slots : List (Option Entry)) (keys : BTreeSet ℕ) → IsEmpty keys → IsSeen slots [] keys
 seen_none slots keys e = λ n d tn td. rw e refl
 
 -- one slot more
@@ -173,7 +178,7 @@ first_more slots i slot q lt e =
     ap (λ xs. first_from 0 xs q) (take_more slots i slot lt ∙ ap (λ x. take i slots ++ x ∷ []) (sym e)) ∙ first_from-push 0 (take i slots) slot q
     ∙ ap (λ m. option_or (first_from 0 (take i slots) q) (cond (is_text_of q slot) (Some m) None)) n
 
-first_noted : {S : Type 0} (slots : List (Option Entry)) (i : ℕ) (slot : Option Entry) (texts : HashMap (Bor (List ℕ)) ℕ S) → i < length slots → slot ≡ get_or slots i slot → ((q : List ℕ) → get_by (λ k. bytes_eq q k.now) texts ≡ first_from 0 (take i slots) q)
+first_noted : (slots : List (Option Entry)) (i : ℕ) (slot : Option Entry) (texts : BTreeMap (Bor (List ℕ)) ℕ) → i < length slots → slot ≡ get_or slots i slot → ((q : List ℕ) → noted texts q ≡ first_from 0 (take i slots) q)
     → noted_first texts slot i ≡ first_of slots slot
 first_noted slots i (Some (Utf8 us)) texts lt e noted =
     let n : 0 + i ≡ i = omega arith in
@@ -181,8 +186,8 @@ first_noted slots i (Some (Utf8 us)) texts lt e noted =
 first_noted slots i _ texts lt e noted = refl
 
 -- the mark of one slot more
-pub marks_more : {S : Type 0} (slots : List (Option Entry)) (i : ℕ) (slot : Option Entry) (texts : HashMap (Bor (List ℕ)) ℕ S) (first : Option ℕ) (mark : Mark) (marks : List Mark) → i < length slots → slot ≡ get_or slots i slot
-    → ((q : List ℕ) → get_by (λ k. bytes_eq q k.now) texts ≡ first_from 0 (take i slots) q) → first ≡ noted_first texts slot i → mark ≡ mark_with slot first
+pub marks_more : (slots : List (Option Entry)) (i : ℕ) (slot : Option Entry) (texts : BTreeMap (Bor (List ℕ)) ℕ) (first : Option ℕ) (mark : Mark) (marks : List Mark) → i < length slots → slot ≡ get_or slots i slot
+    → ((q : List ℕ) → noted texts q ≡ first_from 0 (take i slots) q) → first ≡ noted_first texts slot i → mark ≡ mark_with slot first
     → marks ≡ map (mark_of slots) (take i slots) → marks ++ mark ∷ [] ≡ map (mark_of slots) (take (i + 1) slots)
 marks_more slots i slot texts first mark marks lt e noted is made so_far =
     let one : mark ≡ mark_of slots (get_or slots i slot) = made ∙ ap (mark_with slot) (is ∙ first_noted slots i slot texts lt e noted) ∙ ap (mark_of slots) e in

@@ -1,12 +1,18 @@
--- What a map from texts to numbers has for an entry, or this number where its text isn't noted yet.
+-- What a map from texts to numbers has for a text and for an entry.
 use Rattle.std.specs.Prelude.{ℕ, List, Option, Some, None}
 use Rattle.std.specs.Option.{option_or}
-use Rattle.std.specs.Str.{bytes_eq}
-use Rattle.std.specs.HashMap.{HashMap, get_by}
+use Rattle.std.specs.Ordering.{nat_cmp}
+use Rattle.std.specs.Cmp.Lexicographic.{slice_cmp}
+use Rattle.std.specs.BTreeMap.{BTreeMap, get_by}
 use denote.Ref.{Bor}
 use Rattle.class_pool.specs.declared.pool.Entry.{Entry}
 use Rattle.class_pool.specs.declared.pool.Entry.TheVariants.{Utf8}
 
-abbrev pub noted_first : {S : Type 0} → HashMap (Bor (List ℕ)) ℕ S → Option Entry → ℕ → Option ℕ
-noted_first texts (Some (Utf8 units)) i = option_or (get_by (λ k. bytes_eq units k.now) texts) (Some i)
+-- the number that is noted for a text
+abbrev pub noted : BTreeMap (Bor (List ℕ)) ℕ → List ℕ → Option ℕ
+noted texts text = get_by (λ k. slice_cmp nat_cmp text k.now) texts
+
+-- the number that is noted for an entry's text, or this one where there is none
+abbrev pub noted_first : BTreeMap (Bor (List ℕ)) ℕ → Option Entry → ℕ → Option ℕ
+noted_first texts (Some (Utf8 units)) i = option_or (noted texts units) (Some i)
 noted_first texts _ i = None

@@ -1,6 +1,7 @@
 -- What tests say of the texts of a pool, each text looked at once.
-use Rattle.std.specs.Prelude.{◌≡◌, ℕ, nat_eq, ◌+◌, ◌*◌, ◌^◌, ◌<◌, length, map, List, [], ◌∷◌, Option, Some, None, unwrap_or, Bool, true, ◌&&◌, ◌||◌, if◌then◌else◌}
-use Rattle.std.specs.HashSet.{HashSet, contains}
+use Rattle.std.specs.Prelude.{◌≡◌, ℕ, ◌+◌, ◌*◌, ◌^◌, ◌<◌, length, map, List, [], ◌∷◌, Option, Some, None, unwrap_or, Bool, true, ◌&&◌, ◌||◌, if◌then◌else◌}
+use Rattle.std.specs.Ordering.{nat_cmp}
+use Rattle.std.specs.BTreeSet.{BTreeSet, contains}
 use Rattle.class_pool.specs.declared.pool.Entry.{Entry}
 use Rattle.class_pool.specs.declared.pool.Entry.TheVariants.{Utf8}
 use Rattle.class_pool.specs.Pool.{entry_of, is_text}
@@ -39,15 +40,15 @@ abbrev pub is_same : List (Option Entry) → ℕ → ℕ → ℕ → ℕ → Boo
 is_same slots n d name descriptor = same_text (entry_of slots n) (entry_of slots name) && same_text (entry_of slots d) (entry_of slots descriptor)
 
 -- the keys are those of the names and descriptors that pass the test
-abbrev pub Keys : {S : Type 0} → List (Option Entry) → HashSet ℕ S → (ℕ → ℕ → Bool) → Type 0
-Keys slots keys test = (n d : ℕ) → is_text (entry_of slots n) ≡ true → is_text (entry_of slots d) ≡ true → contains nat_eq keys (key_of slots n d) ≡ test n d
+abbrev pub Keys : List (Option Entry) → BTreeSet ℕ → (ℕ → ℕ → Bool) → Type 0
+Keys slots keys test = (n d : ℕ) → is_text (entry_of slots n) ≡ true → is_text (entry_of slots d) ≡ true → contains nat_cmp keys (key_of slots n d) ≡ test n d
 
 -- the keys are those of these members
-abbrev pub IsSeen : {S : Type 0} → List (Option Entry) → List MemberPart → HashSet ℕ S → Type 0
+abbrev pub IsSeen : List (Option Entry) → List MemberPart → BTreeSet ℕ → Type 0
 IsSeen slots before keys = Keys slots keys (λ n d. is_repeated slots before n d)
 
 -- the keys are those of these members and of one more name and descriptor
-abbrev pub IsSeenWith : {S : Type 0} → List (Option Entry) → List MemberPart → ℕ → ℕ → HashSet ℕ S → Type 0
+abbrev pub IsSeenWith : List (Option Entry) → List MemberPart → ℕ → ℕ → BTreeSet ℕ → Type 0
 IsSeenWith slots before name descriptor keys = Keys slots keys (λ n d. is_repeated slots before n d || is_same slots name descriptor n d)
 
 -- a mark for each slot of a pool

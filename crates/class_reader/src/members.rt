@@ -15,7 +15,7 @@ use class_pool::fields::u16_at;
 use class_pool::{Fault, ReadError};
 use et_base::Items;
 use std::alloc::Global;
-use std::collections::HashSet;
+use std::collections::BTreeSet;
 
 // A kind of members: what reads one behind those before it, whose keys are kept beside them.
 trait Kind {
@@ -30,7 +30,7 @@ trait Kind {
         &self,
         texts: &Texts,
         before: &[MemberPart],
-        keys: &mut HashSet<u32>,
+        keys: &mut BTreeSet<u32>,
         bytes: &'a [u8],
     ) -> Result<(MemberPart, &'a [u8]), ReadError>
         requires few { length before.now < 65535 }
@@ -50,7 +50,7 @@ impl Kind for Fields {
         &self,
         texts: &Texts,
         before: &[MemberPart],
-        keys: &mut HashSet<u32>,
+        keys: &mut BTreeSet<u32>,
         bytes: &'a [u8],
     ) -> Result<(MemberPart, &'a [u8]), ReadError> {
         let (flags, rest) = u16_at(bytes)?;
@@ -85,7 +85,7 @@ impl Kind for Methods {
         &self,
         texts: &Texts,
         before: &[MemberPart],
-        keys: &mut HashSet<u32>,
+        keys: &mut BTreeSet<u32>,
         bytes: &'a [u8],
     ) -> Result<(MemberPart, &'a [u8]), ReadError> {
         let (flags, rest) = u16_at(bytes)?;
@@ -122,7 +122,7 @@ fn members_counted<'a, K: Kind>(
     ensures { Gives (λ x. (x.0, x.1.now)) result (counted (λ before _ b. K.member_at texts.now before b) [] count bytes.now) }
 {
     let mut members = Items::new(alloc);
-    let mut keys = HashSet::new(alloc);
+    let mut keys = BTreeSet::new(alloc);
     let mut rest = bytes;
     for i in 0..count {
         let (member, next) = kind.member_of(texts, members.as_slice(), &mut keys, rest)?;

@@ -3,21 +3,20 @@
 ghost use Rattle.std.specs.Prelude.{◌≡◌, ℕ, ◌<◌, ◌^◌, ◌||◌, true, not, length, map, List, IfOk, IfErr, OnOk, if◌then◌else◌};
 ghost use Rattle.std.specs.Option.{option_or};
 ghost use Rattle.std.specs.Str.{bytes_eq};
-ghost use Rattle.std.specs.HashMap as hash;
 ghost use Rattle.class_pool.specs.Pool.{entry_of, is_text};
 ghost use Rattle.et_base.specs.Answers.{nothing, tested};
 ghost use Rattle.class_pool.specs.Reading.{Gives};
 ghost use Rattle.class_pool.specs.declared.fault.Fault.TheVariants.{Repeated};
 ghost use Rattle.class_reader.specs.Texts.{first_of, mark_with, mark_of, key_of};
 ghost use Rattle.class_reader.specs.Names.{is_text_of, is_repeated};
-ghost use Rattle.class_reader.specs.Lookups.{noted_first};
+ghost use Rattle.class_reader.specs.Lookups.{noted, noted_first};
 
 use crate::parts::MemberPart;
 use class_pool::fault::wants;
 use class_pool::names::{argument_units, is_field_descriptor, is_method_name, is_unqualified};
 use class_pool::{Entry, Fault, Pool, ReadError};
 use std::alloc::Global;
-use std::collections::{HashMap, HashSet};
+use std::collections::{BTreeMap, BTreeSet};
 use std::marker::Model;
 
 /// What tests say of a slot's text.
@@ -57,9 +56,9 @@ fn mark_with(slot: &Option<Entry>, first: Option<u16>) -> Mark
 }
 
 // The number that is noted for a text; where there is none, this one, which is noted then.
-fn note<'a>(texts: &mut HashMap<&'a [u16], u16>, text: &'a [u16], i: u16) -> Result<u16, ReadError>
-    ensures first { IfOk result (λ n. Some n ≡ option_or (hash.get_by (λ k. bytes_eq text.now k.now) texts.old) (Some i)) }
-    ensures noted { OnOk result ((q : List ℕ) → hash.get_by (λ k. bytes_eq q k.now) texts.new ≡ option_or (hash.get_by (λ k. bytes_eq q k.now) texts.old) (if bytes_eq text.now q then Some i else None)) }
+fn note<'a>(texts: &mut BTreeMap<&'a [u16], u16>, text: &'a [u16], i: u16) -> Result<u16, ReadError>
+    ensures first { IfOk result (λ n. Some n ≡ option_or (noted texts.old text.now) (Some i)) }
+    ensures noted { OnOk result ((q : List ℕ) → noted texts.new q ≡ option_or (noted texts.old q) (if bytes_eq text.now q then Some i else None)) }
     ensures err { IfErr result (λ e. e ≡ ReadError.Memory) }
 {
     match texts.get(text).copied() {
@@ -72,12 +71,12 @@ fn note<'a>(texts: &mut HashMap<&'a [u16], u16>, text: &'a [u16], i: u16) -> Res
 }
 
 fn note_slot<'a>(
-    texts: &mut HashMap<&'a [u16], u16>,
+    texts: &mut BTreeMap<&'a [u16], u16>,
     slot: &'a Option<Entry>,
     i: u16,
 ) -> Result<Option<u16>, ReadError>
     ensures first { IfOk result (λ n. n ≡ noted_first texts.old slot.now i) }
-    ensures noted { OnOk result ((q : List ℕ) → hash.get_by (λ k. bytes_eq q k.now) texts.new ≡ option_or (hash.get_by (λ k. bytes_eq q k.now) texts.old) (if is_text_of q slot.now then Some i else None)) }
+    ensures noted { OnOk result ((q : List ℕ) → noted texts.new q ≡ option_or (noted texts.old q) (if is_text_of q slot.now then Some i else None)) }
     ensures err { IfErr result (λ e. e ≡ ReadError.Memory) }
 {
     match slot {
@@ -94,7 +93,7 @@ fn marks_of(alloc: Global, slots: &[Option<Entry>]) -> Result<Vec<Mark>, ReadErr
     ensures marks { IfOk result (λ v. v.items ≡ map (mark_of slots.now) slots.now) }
     ensures err { IfErr result (λ e. e ≡ ReadError.Memory) }
 {
-    let mut texts = HashMap::new(alloc);
+    let mut texts = BTreeMap::new(alloc);
     let mut marks = Vec::with_capacity(alloc, slots.len())?;
     for (i, slot) in slots.iter().enumerate() {
         let first = note_slot(&mut texts, slot, i as u16)?;
@@ -169,7 +168,7 @@ impl<'a> Texts<'a> {
     pub fn once(
         &self,
         _before: &[MemberPart],
-        keys: &mut HashSet<u32>,
+        keys: &mut BTreeSet<u32>,
         name: u16,
         descriptor: u16,
         left: usize,

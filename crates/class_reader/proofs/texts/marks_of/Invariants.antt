@@ -1,10 +1,9 @@
 use Rattle.std.proofs.Common.{◌≡◌, ℕ, List, map, take}
-use Rattle.std.specs.Str.{bytes_eq}
-use Rattle.std.specs.HashMap as hash
+use Rattle.class_reader.specs.Lookups.{noted}
 use Rattle.class_reader.specs.Texts.{first_from, mark_of}
 use Rattle.class_reader.proofs.texts.marks_of.Given as goal
 
 abbrev pub invariant-loop-i : goal.invariant-loop-i
 invariant-loop-i l =
-    ((q : List ℕ) → hash.get_by (λ k. bytes_eq q k.now) l.texts ≡ first_from 0 (take l.i l.slots) q)
+    ((q : List ℕ) → noted l.texts q ≡ first_from 0 (take l.i l.slots) q)
     × (l.marks.items ≡ map (mark_of l.slots) (take l.i l.slots))
