@@ -131,4 +131,4 @@ ready_as t u p program world m s e h = subst (λ (r : Row Entries). IsReady r p 
 pub flow_as : {M : Type 0} (t u : Row Entries) (program : M → Program) (world : M → World) (follows : M → Trace → List Touch → Type 0) (m n : M) (s s' : Entries) (left left' : ℕ) (x : Next) (y : Flow) → t ≡ u → next_of y ≡ x → EndsFlow u program world follows m n s left (Other x) s' left' → EndsFlow t program world follows m n s left y s' left'
 flow_as t u program world follows m n s s' left left' x y e k h =
     subst (λ (r : Row Entries). EndsFlow r program world follows m n s left y s' left') (sym e)
-        (subst (λ (z : Next). EndsFlow u program world follows m n s left (Other z) s' left') (sym k) h)
+    (subst (λ (z : Next). EndsFlow u program world follows m n s left (Other z) s' left') (sym k) h)

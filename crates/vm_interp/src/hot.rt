@@ -446,9 +446,7 @@ fn call_on_object<M: Memory>(
     ensures kept { selections.new ≡ selections.old }
 {
     let (interface, method) = called_on_object(form);
-    let answer = invoke_on_object(
-        stack, memory, tables, selections, interface, method, left,
-    )?;
+    let answer = invoke_on_object(stack, memory, tables, selections, interface, method, left)?;
     Ok(called(answer))
 }
 
