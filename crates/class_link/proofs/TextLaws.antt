@@ -1,33 +1,88 @@
--- Different texts seen as a list.
-use Rattle.std.proofs.Common.{◌≡◌, ◌+◌, ℕ, Bool, false, not, ◌||◌, cond, List, [], ◌∷◌, ◌++◌, map, position, refl, ap, ◌∙◌, nat_eq}
-use Rattle.std.specs.List.{list_any, prefix_len}
-use Rattle.std.specs.Cmp.Lexicographic.{pointwise}
-use Rattle.std.proofs.lemmas.List.{map-append, length-map}
+-- Different texts seen as a list, with their places.
+use Rattle.std.proofs.Common.{◌≡◌, ◌+◌, ◌<◌, ℕ, suc, Bool, true, false, ◌||◌, cond, List, [], ◌∷◌, ◌++◌, length, position, Option, Some, None, is_some, refl, sym, ap, ◌∙◌, arith, add-zero, IfSome}
+use Rattle.std.specs.List.{list_any, position_from}
+use Rattle.std.specs.Ordering.{nat_cmp}
+use Rattle.std.specs.Cmp.Lexicographic.{slice_cmp}
+use Rattle.std.specs.BTreeMap.{BTreeMap, Updates, is_at, IsEmpty}
+use Rattle.std.specs.Map.{KeepsOthers}
 use Rattle.std.specs.Str.{bytes_eq}
+use Rattle.std.specs.declared.vec.Vec.{Vec}
+use Rattle.std.specs.declared.alloc.Global.{Global}
+use Rattle.std.proofs.lemmas.Bool.{or_parts}
+use Rattle.std.proofs.lemmas.Cmp.{nat_list_cmp_total, nat_list_eq_equiv, eq_by_cmp_equiv}
+use Rattle.std.proofs.lemmas.Iterator.Adapters.{position_from-zero}
+use Rattle.std.proofs.lemmas.List.{length-append}
+use Rattle.std.proofs.lemmas.List.Quantifiers.{position-Some}
+use Rattle.std.proofs.lemmas.Map.Text.{is_eq-slice_cmp}
+use Rattle.std.proofs.lemmas.Slice.Eq.{bytes_eq-Decides}
 use Rattle.class_link.specs.Literals.{noted}
+use Rattle.class_link.specs.Placed.{number_in, IsPlaced}
 
--- a test of items, and one of what they are mapped to, which agree
-any_mapped : {A B : Type 0} (f : A → B) (p : A → Bool) (q : B → Bool) → ((x : A) → p x ≡ q (f x)) → (xs : List A) → list_any p xs ≡ list_any q (map f xs)
-any_mapped f p q h [] = refl
-any_mapped f p q h (x ∷ xs) = rw (h x) (ap (λ b. q (f x) || b) (any_mapped f p q h xs))
+-- ---- places
 
-prefix_mapped : {A B : Type 0} (f : A → B) (p : A → Bool) (q : B → Bool) → ((x : A) → p x ≡ q (f x)) → (xs : List A) → prefix_len p xs ≡ prefix_len q (map f xs)
-prefix_mapped f p q h [] = refl
-prefix_mapped f p q h (x ∷ xs) = rw (h x) (ap (λ n. cond (q (f x)) (1 + n) 0) (prefix_mapped f p q h xs))
+some_from : (p : List ℕ → Bool) (i : ℕ) (texts : List (List ℕ)) → is_some (position_from p i texts) ≡ list_any p texts
+some_from p i [] = refl
+some_from p i (t ∷ ts) = elim (p t) as (λ b. is_some (cond b (Some i) (position_from p (i + 1) ts)) ≡ (b || list_any p ts)) [ true ↦ refl | false ↦ some_from p (i + 1) ts ]
 
-position_mapped : {A B : Type 0} (f : A → B) (p : A → Bool) (q : B → Bool) → ((x : A) → p x ≡ q (f x)) → (xs : List A) → position p xs ≡ position q (map f xs)
-position_mapped f p q h xs = rw (prefix_mapped f (λ x. not (p x)) (λ y. not (q y)) (λ x. ap not (h x)) xs) (simp length-map)
+-- a text is among those that have a place
+placed_among : (text : List ℕ) (texts : List (List ℕ)) → is_some (position (bytes_eq text) texts) ≡ list_any (bytes_eq text) texts
+placed_among text texts = ap is_some (position_from-zero (bytes_eq text) texts) ∙ some_from (bytes_eq text) 0 texts
 
--- a key that isn't there goes last
-pub goes_last : {A B : Type 0} (f : A → B) (p : A → Bool) (k : A) (n : B) (xs : List A) → list_any p xs ≡ false → f k ≡ n → map f (cond (list_any p xs) xs (xs ++ k ∷ [])) ≡ map f xs ++ n ∷ []
-goes_last f p k n xs new is = rw new (map-append f xs (k ∷ []) ∙ ap (λ y. map f xs ++ y ∷ []) is)
+-- one more text, which isn't among them, has the last place
+from_last : (text q : List ℕ) (i : ℕ) (texts : List (List ℕ)) → list_any (bytes_eq text) texts ≡ false
+    → position_from (bytes_eq q) i (texts ++ text ∷ []) ≡ cond (bytes_eq text q) (Some (i + length texts)) (position_from (bytes_eq q) i texts)
+from_last text q i [] new = rw (nat_list_eq_equiv.symm q text, add-zero) refl
+from_last text q i (t ∷ ts) new =
+    let n : (i + 1) + length ts ≡ i + suc (length ts) = omega arith in
+    let apart = or_parts (bytes_eq text t) (list_any (bytes_eq text) ts) new in
+    elim (bytes_eq q t) as (λ b. bytes_eq q t ≡ b → cond b (Some i) (position_from (bytes_eq q) (i + 1) (ts ++ text ∷ [])) ≡ cond (bytes_eq text q) (Some (i + suc (length ts))) (cond b (Some i) (position_from (bytes_eq q) (i + 1) ts))) [
+      | true ↦ λ same. rw (ap (bytes_eq text) ((bytes_eq-Decides q t).0 same) ∙ apart.0) refl
+      | false ↦ λ _. from_last text q (i + 1) ts apart.1 ∙ ap (λ m. cond (bytes_eq text q) (Some m) (position_from (bytes_eq q) (i + 1) ts)) n
+    ] refl
 
--- the keys of a set of texts, seen as the texts f k
-pub text_among : {A : Type 0} (f : A → List ℕ) (text : List ℕ) (ks : List A) → list_any (λ k. pointwise nat_eq text (f k)) ks ≡ list_any (bytes_eq text) (map f ks)
-text_among f text ks = any_mapped f (λ k. pointwise nat_eq text (f k)) (bytes_eq text) (λ k. refl) ks
+position_last : (text q : List ℕ) (texts : List (List ℕ)) → list_any (bytes_eq text) texts ≡ false
+    → position (bytes_eq q) (texts ++ text ∷ []) ≡ cond (bytes_eq text q) (Some (length texts)) (position (bytes_eq q) texts)
+position_last text q texts new =
+    let n : 0 + length texts ≡ length texts = omega arith in
+    position_from-zero (bytes_eq q) (texts ++ text ∷ []) ∙ from_last text q 0 texts new ∙ ap (λ m. cond (bytes_eq text q) (Some m) (position_from (bytes_eq q) 0 texts)) n ∙ ap (cond (bytes_eq text q) (Some (length texts))) (sym (position_from-zero (bytes_eq q) texts))
 
-pub text_place : {A : Type 0} (f : A → List ℕ) (text : List ℕ) (ks : List A) → position (λ k. pointwise nat_eq text (f k)) ks ≡ position (bytes_eq text) (map f ks)
-text_place f text ks = position_mapped f (λ k. pointwise nat_eq text (f k)) (bytes_eq text) (λ k. refl) ks
+-- ---- the map
+
+-- a key that is put into the map has its number, and each other text what it had
+number_after : (key : Vec ℕ Global) (n : ℕ) (old new : BTreeMap (Vec ℕ Global) ℕ) → Updates (λ a b. slice_cmp nat_cmp a.items b.items) old new key (Some n)
+    → (q : List ℕ) → number_in new q ≡ cond (bytes_eq key.items q) (Some n) (number_in old q)
+unfolding KeepsOthers
+number_after key n old new updates q =
+    let apart : bytes_eq key.items q ≡ false → (k : Vec ℕ Global) → is_at (λ k. slice_cmp nat_cmp key.items k.items) k ≡ true → is_at (λ k. slice_cmp nat_cmp q k.items) k ≡ false = λ e k at.
+    let same : key.items ≡ k.items = (bytes_eq-Decides key.items k.items).0 (sym (is_eq-slice_cmp key.items k.items) ∙ at) in
+    is_eq-slice_cmp q k.items ∙ nat_list_eq_equiv.symm q k.items ∙ ap (λ t. bytes_eq t q) (sym same) ∙ e in
+    elim (bytes_eq key.items q) as (λ b. bytes_eq key.items q ≡ b → number_in new q ≡ cond b (Some n) (number_in old q)) [
+      | true ↦ λ e. ap (number_in new) (sym ((bytes_eq-Decides key.items q).0 e)) ∙ updates.1
+      | false ↦ λ e. updates.3 _ (λ x y. (eq_by_cmp_equiv nat_list_cmp_total).congr q x.items y.items) (apart e)
+    ] refl
+
+pub none_placed : (places : BTreeMap (Vec ℕ Global) ℕ) → IsEmpty places → IsPlaced [] places
+none_placed places none = record { few = omega arith; at = λ q. rw none refl }
+
+-- the map has a text that is among them
+pub text_among : (texts : List (List ℕ)) (places : BTreeMap (Vec ℕ Global) ℕ) (text : List ℕ) → IsPlaced texts places → is_some (number_in places text) ≡ list_any (bytes_eq text) texts
+text_among texts places text placed = ap is_some (placed.at text) ∙ placed_among text texts
+
+-- the place of a text is a number of 32 bits, and so is the next one
+pub place_below : (texts : List (List ℕ)) (places : BTreeMap (Vec ℕ Global) ℕ) (text : List ℕ) (found : Option ℕ) → IsPlaced texts places → found ≡ number_in places text → IfSome found (λ place. place + 1 < 4294967296)
+place_below texts places text None placed is = tt
+place_below texts places text (Some place) placed is =
+    let below = (position-Some (bytes_eq text) texts place text (sym (is ∙ placed.at text))).0 in
+    omega (arith, below, placed.few)
+
+-- one more text, which isn't among them, with its place
+pub placed_more : (texts more : List (List ℕ)) (text : List ℕ) (key : Vec ℕ Global) (n : ℕ) (old new : BTreeMap (Vec ℕ Global) ℕ) → IsPlaced texts old → list_any (bytes_eq text) texts ≡ false → key.items ≡ text → n ≡ length texts
+    → length texts + 1 < 4294967295 → Updates (λ a b. slice_cmp nat_cmp a.items b.items) old new key (Some n) → more ≡ texts ++ text ∷ [] → IsPlaced more new
+placed_more texts more text key n old new placed absent is last few updates longer = rw longer (record {
+  few = rw (length-append texts (text ∷ [])) few;
+  at = λ q. number_after key n old new updates q ∙ ap (λ t. cond (bytes_eq t q) (Some n) (number_in old q)) is ∙ ap (λ m. cond (bytes_eq text q) (Some m) (number_in old q)) last
+      ∙ ap (cond (bytes_eq text q) (Some (length texts))) (placed.at q) ∙ sym (position_last text q texts absent);
+})
 
 -- texts that are noted one after another
 pub noted_append : (seen xs ys : List (List ℕ)) → noted seen (xs ++ ys) ≡ noted (noted seen xs) ys

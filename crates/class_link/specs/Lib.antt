@@ -1,5 +1,6 @@
 pub mod ClassNames
 pub mod Literals
+pub mod Placed
 pub mod Assembly
 pub mod References
 pub mod Bodies

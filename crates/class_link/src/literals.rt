@@ -26,7 +26,7 @@ impl Model for Literals {
 }
 
 impl Literals {
-    /// The number of the constant with this content, from 1; it takes constant time.
+    /// The number of the constant with this content, from 1, in logarithmic time.
     pub(crate) fn number(&self, text: &[u16]) -> u32
         ensures { result ≡ literal_number self.now text.now }
     {

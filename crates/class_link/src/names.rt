@@ -45,7 +45,7 @@ impl ClassNames {
         self.names.len()
     }
 
-    /// The number of the class of this name; it takes constant time.
+    /// The number of the class of this name, in logarithmic time.
     pub(crate) fn number(&self, name: &[u16]) -> Option<u32>
         ensures { result ≡ class_number self.now name.now }
     {

@@ -5,24 +5,26 @@ ghost use Rattle.std.specs.List.{list_any};
 ghost use Rattle.std.specs.Str.{bytes_eq};
 
 use et_base::{Items, NoMemory, Units};
-use indexmap::IndexSet;
 use std::alloc::Global;
+use std::collections::BTreeMap;
 use std::marker::Model;
 
 /// Different texts, fewer than 2^32 - 1, in the order in which they came. Contracts see the list of them.
 #[derive(Drop)]
 pub(crate) struct TextSet {
-    texts: IndexSet<Vec<u16>>,
+    texts: Vec<Units>,
+    places: BTreeMap<Vec<u16>, u32>,
 }
 
 impl Model for TextSet {
-    ghost use Rattle.std.specs.Prelude.{◌<◌, ℕ, List, length, map};
+    ghost use Rattle.std.specs.Prelude.{ℕ, List};
+    ghost use Rattle.class_link.specs.Placed.{IsPlaced};
 
     ghost Value = { List (List ℕ) };
 
-    ghost view = { λ s. map (λ v. v.items) s.texts.keys };
+    ghost view = { λ s. s.texts.items };
 
-    ghost invariant = { λ s. length s.texts.keys < 4294967295 };
+    ghost invariant = { λ s. IsPlaced s.texts.items s.places };
 }
 
 impl TextSet {
@@ -31,7 +33,8 @@ impl TextSet {
         ensures { result ≡ [] }
     {
         TextSet {
-            texts: IndexSet::new(alloc),
+            texts: Vec::new(alloc),
+            places: BTreeMap::new(alloc),
         }
     }
 
@@ -40,10 +43,7 @@ impl TextSet {
         ensures place { result ≡ position (bytes_eq text.now) self.now }
         ensures within { IfSome result (λ place. place + 1 < 4294967296) }
     {
-        match self.texts.get_index_of(text) {
-            Some(place) => Some(place as u32),
-            None => None,
-        }
+        self.places.get(text).copied()
     }
 
     /// How many texts there are.
@@ -59,10 +59,15 @@ impl TextSet {
         ensures is_new { IfOk result (λ is_new. is_new ≡ not (list_any (bytes_eq text.now) self.old)) }
         ensures texts { OnOk result (self.new ≡ cond (list_any (bytes_eq text.now) self.old) self.old (self.old ++ text.now ∷ [])) }
     {
-        if self.texts.contains(text) {
+        if self.places.contains_key(text) {
             return Ok(false);
         }
-        self.texts.insert(Vec::from_slice(alloc, text)?)?;
+        let place = self.len();
+        self.texts.reserve(1)?;
+        let kept = Units::from_slice(alloc, text)?;
+        let key = Vec::from_slice(alloc, text)?;
+        self.places.insert(key, place)?;
+        self.texts.push_reserved(kept);
         Ok(true)
     }
 
