@@ -91,6 +91,15 @@ one_marked n ms ns t d at p k same there u c h = elim (cases_eq (u * n + c) at) 
       rw (lt-ltb c n h) (rw f (get_or-set_other ns at (u * n + c) true false e ∙ (same (u * n + c) ∙ sym (or-false (get_or ms (u * n + c) false)))))
 ]
 
+-- a class that is marked already
+pub marked_again : (n : ℕ) (ms : List Bool) (t d : ℕ) → is_marked n ms t d ≡ true → (u c : ℕ) → is_marked n ms u c ≡ (is_marked n ms u c || (nat_eq u t && nat_eq d c))
+marked_again n ms t d e u c = again (nat_eq u t) (nat_eq d c) (λ a b. ap (λ (i : ℕ). is_marked n ms i c) (eqb-true u t a) ∙ (ap (λ (i : ℕ). is_marked n ms t i) (sym (eqb-true d c b)) ∙ e))
+  where
+    again : (a b : Bool) → ((a ≡ true) → (b ≡ true) → is_marked n ms u c ≡ true) → is_marked n ms u c ≡ (is_marked n ms u c || (a && b))
+    again true true f = rw (f refl refl) refl
+    again true false f = sym (or-false (is_marked n ms u c))
+    again false b f = sym (or-false (is_marked n ms u c))
+
 -- classes that are looked at one after another
 pub class_more : (c d : ℕ) (m g a b e : Bool) → b ≡ (a || ((nat_lt c d && m) && g)) → (c ≡ d → m ≡ true) → e ≡ (b || (nat_eq c d && g)) → e ≡ (a || ((nat_lt c (d + 1) && m) && g))
 class_more c d m g a b e p f r = r ∙ (rw p (elim (cases_order c d) [

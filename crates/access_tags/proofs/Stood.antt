@@ -1,8 +1,8 @@
 -- What is kept stands for the touches, after one more of them and after the end of a test.
 use Rattle.std.proofs.Common.{◌≡◌, ℕ, suc, Bool, true, false, not, ◌||◌, ◌&&◌, cond, List, [], ◌∷◌, ◌++◌, map, flat_map, refl, sym, ◌∙◌, ap, subst, nat_eq, inl, inr}
 use Rattle.std.specs.List.{list_any}
-use Rattle.std.proofs.lemmas.Bool.{cases_Bool}
-use Rattle.std.proofs.lemmas.List.{map-append}
+use Rattle.std.proofs.lemmas.Bool.{cases_Bool, eqb-true}
+use Rattle.std.proofs.lemmas.List.{append-nil, map-append}
 use Rattle.jvm_model.specs.declared.values.Location.{Location}
 use Rattle.jvm_model.specs.declared.values.Touch.{Touch}
 use Rattle.jvm_model.specs.World.{same}
@@ -15,7 +15,7 @@ use Rattle.access_tags.specs.declared.conflict.Conflict.{Conflict}
 use Rattle.access_tags.specs.declared.conflict.LocationKey.{LocationKey}
 use Rattle.access_tags.specs.declared.conflict.Touched.{Touched}
 use Rattle.access_tags.specs.declared.mark.Mark.{Mark}
-use Rattle.access_tags.specs.Tag.{Tag, tag, writer, readers, mark, no_mark, noted, ended, is_new, places, conflict, with_writer, conflicts_at, conflicts_found}
+use Rattle.access_tags.specs.Tag.{Tag, tag, writer, readers, mark, no_mark, marked, noted, covers, ended, is_new, places, conflict, with_writer, conflicts_at, conflicts_found}
 use Rattle.access_tags.specs.Cells.{Apart}
 use Rattle.access_tags.specs.Numbering.{Numbering, located, is_name, view, IsPlaced, ArePlaced, locations, is_at, tag_at, at_location}
 use Rattle.access_tags.specs.Stands.{StandFor}
@@ -38,6 +38,39 @@ ended_untouched t g e = let w : g.mark.written ≡ false = ap (λ (m : Mark). m.
 
 tag_ended : (T : Touches) (t : ℕ) (ts : List Touch) (L : Location) → T (suc t) ≡ ts → ended (suc t) (tag T t ts L) ≡ tag T (suc t) [] L
 tag_ended T t ts L e = rw e refl
+
+-- a touch that leaves a mark as it is leaves the tag, and isn't the first
+covered_tag : (write : Bool) (g : Tag) → covers write g.mark ≡ true → noted write g ≡ g
+covered_tag write g k = ap (λ (m : Mark). tag_with g.writer g.readers m) (base write g.mark.exposed g.mark.written k)
+  where
+    base : (b e w : Bool) → (w || (e && not b)) ≡ true → marked b (record { exposed = e; written = w }) ≡ record { exposed = e; written = w }
+    base true e true q = refl
+    base true true false q = absurd (cc)
+    base true false false q = absurd (cc)
+    base false true w q = refl
+    base false false true q = refl
+    base false false false q = absurd (cc)
+
+covered_new : (write : Bool) (m : Mark) → covers write m ≡ true → is_new m ≡ false
+covered_new write m = base m.exposed m.written
+  where
+    base : (e w : Bool) → (w || (e && not write)) ≡ true → (not e && not w) ≡ false
+    base true w q = refl
+    base false true q = refl
+    base false false q = absurd (cc)
+
+covered_there : (write : Bool) (c : ℕ → Tag) (i l : ℕ) → covers write (c i).mark ≡ true → c l ≡ cond (nat_eq l i) (noted write (c i)) (c l)
+covered_there write c i l k = elim (cases_Bool (nat_eq l i)) [
+  | inl e ↦ rw e (ap c (eqb-true l i e) ∙ sym (covered_tag write (c i) k))
+  | inr e ↦ rw e refl
+]
+
+abbrev AreNoted : Bool → Bool → (ℕ → Tag) → ℕ → Type 0
+AreNoted b write c i = (l : ℕ) → c l ≡ cond (b && nat_eq l i) (noted write (c i)) (c l)
+
+covered_both : (b write : Bool) (c d : ℕ → Tag) (i : ℕ) → covers write (cond b (d i) (c i)).mark ≡ true → AreNoted (not b) write c i × AreNoted b write d i
+covered_both true write c d i k = (λ l. refl, λ l. covered_there write d i l k)
+covered_both false write c d i k = (λ l. covered_there write c i l k, λ l. refl)
 
 module _ (n : Numbering) (T : Touches) (t : ℕ) (ts : List Touch) (c d : ℕ → Tag) (xs : List Touched) (s : StandFor n T t ts c d xs) where
   -- one more touch
@@ -63,6 +96,10 @@ module _ (n : Numbering) (T : Touches) (t : ℕ) (ts : List Touch) (c d : ℕ �
         touched = locations_more b y ∙ (rw m (rw s.touched (rw (← e) (sym (places_more ts x)))));
         placed = placed_more b xs y s.placed p;
       }
+
+  pub covered_stands : (y : Touched) (x : Touch) (write : Bool) → x.write ≡ write → IsPlaced n y → x.location ≡ located n.names y.spot → covers write (tag_at c d y).mark ≡ true → StandFor n T t (ts ++ x ∷ []) c d xs
+  covered_stands y x write w p e k = let a = covered_both (is_name y.spot) write c d y.at k in
+      subst (λ (ys : List Touched). StandFor n T t (ts ++ x ∷ []) c d ys) (append-nil xs) (noted_stands y x write c d false w p e (sym (covered_new write (tag_at c d y).mark k)) a.0 a.1)
 
   -- the end of the test
   pub apart : Apart same (locations n xs)

@@ -48,6 +48,10 @@ no_tag = record { writer = 0; readers = []; mark = no_mark }
 abbrev pub marked : Bool → Mark → Mark
 marked write m = cond write (record { exposed = m.exposed; written = true }) (record { exposed = m.exposed || not m.written; written = m.written })
 
+-- whether one more touch leaves the mark as it is
+abbrev pub covers : Bool → Mark → Bool
+covers write m = m.written || (m.exposed && not write)
+
 -- no touch yet
 abbrev pub is_new : Mark → Bool
 is_new m = not m.exposed && not m.written

@@ -57,7 +57,7 @@ impl AccessLog {
         let Some(interval) = Interval::of(part) else {
             return Err(NoMemory {});
         };
-        self.intervals.grow(1, interval)?;
+        self.intervals.push(interval)?;
         Ok(())
     }
 

@@ -46,6 +46,7 @@ impl Cells {
     }
 
     /// What the running test did at a location.
+    #[inline(always)]
     pub fn mark(&self, at: u64) -> Mark
         requires { at < count self.now }
         ensures { result ≡ (tag_in self.now at).mark }
@@ -204,6 +205,6 @@ fn link(readers: &mut Region<Reader>, reader: Reader) -> Result<u32, NoMemory>
     if last >= u32::MAX as u64 {
         return Err(NoMemory {});
     }
-    readers.grow(1, reader)?;
+    readers.push(reader)?;
     Ok(last as u32 + 1)
 }

@@ -1,6 +1,6 @@
 //! The classes of the objects whose heads tests touch, and what these tests reach.
 
-ghost use Rattle.std.specs.Prelude.{◌≡◌, ◌<◌, ◌+◌, ◌*◌, ◌++◌, ◌∷◌, [], ℕ, List, ◌||◌, ◌&&◌, length, IfOk, OnOk};
+ghost use Rattle.std.specs.Prelude.{◌≡◌, ◌<◌, ◌+◌, ◌*◌, ◌++◌, ◌∷◌, [], ℕ, List, ◌||◌, ◌&&◌, length, nat_eq, IfOk, OnOk};
 ghost use Rattle.jvm_model.specs.declared.values.Location.TheVariants as place;
 ghost use Rattle.jvm_model.specs.declared.values.Kind.{Kind as KindOf};
 ghost use Rattle.order_law.specs.Histories.{Touches};
@@ -43,6 +43,7 @@ impl Heads {
     }
 
     /// The running test, with this number, touched the head of an object of this kind, or where none is told another part.
+    #[inline(always)]
     pub fn note_touch(&mut self, test: u32, kind: Option<Kind>) -> Result<(), NoMemory>
         ensures classes { self.new.classes ≡ self.old.classes }
         ensures stands { OnOk result ((kinds : ℕ → ℕ → KindOf) (T : Touches) (ts : List Touch) (x : Touch) → IsKindAt (kinds test) x.location kind
@@ -56,6 +57,7 @@ impl Heads {
     }
 
     /// The running test, with this number, touched the head of an object of this kind.
+    #[inline(always)]
     pub fn note(&mut self, test: u32, kind: Kind) -> Result<(), NoMemory>
         ensures classes { self.new.classes ≡ self.old.classes }
         ensures stands { OnOk result ((kinds : ℕ → ℕ → KindOf) (T : Touches) (ts : List Touch) (x : Touch) (o : ℕ) → x.location ≡ place.Head o
@@ -67,6 +69,21 @@ impl Heads {
         if class >= self.classes {
             return Ok(());
         }
+        if self.is_marked(test, class) {
+            return Ok(());
+        }
+        self.mark(test, class)?;
+        Ok(())
+    }
+
+    /// Marks a class for a test.
+    #[inline(never)]
+    fn mark(&mut self, test: u32, class: u32) -> Result<(), NoMemory>
+        requires { class < self.old.classes }
+        ensures classes { self.new.classes ≡ self.old.classes }
+        ensures marked { OnOk result ((u c : ℕ) → c < self.old.classes → is_marked self.old.classes self.new.marks u c
+            ≡ (is_marked self.old.classes self.old.marks u c || (nat_eq u test && nat_eq class c))) }
+    {
         let at = place(test, class, self.classes);
         make_room(&mut self.marks, at, false)?;
         self.marks.set(at, true);

@@ -1,7 +1,7 @@
 //! What is kept beside a location.
 
 ghost use Rattle.std.specs.Prelude.{◌≡◌};
-ghost use Rattle.access_tags.specs.Tag.{marked, is_new};
+ghost use Rattle.access_tags.specs.Tag.{covers, marked, is_new};
 
 /// What the running test did at a location: whether it has an exposed read of it, which no write of its own precedes, and
 /// whether it wrote it.
@@ -46,6 +46,14 @@ impl Mark {
             exposed: self.exposed || !self.written,
             written: self.written,
         }
+    }
+
+    /// Whether one more touch leaves the mark as it is.
+    #[inline(always)]
+    pub fn covers(self, write: bool) -> bool
+        ensures { result ≡ covers write self }
+    {
+        self.written || (self.exposed && !write)
     }
 
     /// Whether there was no touch.

@@ -129,6 +129,7 @@ impl<const WALKS: bool> TaggedMemory<WALKS> {
 
     /// Notes one more touch of a part that is there, but a file or property: with the object that a read gave, and of a head
     /// with the kind of its object. It makes no object.
+    #[inline(always)]
     fn note(
         &mut self,
         spot: LocationKey,

@@ -17,6 +17,7 @@ use et_base::NoMemory;
 use jvm_model::{Head, Kind, Value};
 
 /// Notes one more touch of a part that is there, but a file or property.
+#[inline(always)]
 pub fn note_part(
     numbers: &Numbers,
     tags: &mut Tags,

@@ -44,6 +44,7 @@ impl Numbers {
     }
 
     /// The number of a location that is there, but a file or property. Takes no memory.
+    #[inline(always)]
     pub fn number(&self, spot: LocationKey) -> Option<u64>
         ensures { IfSome result (λ n. (w : World) → IsNumbered w self.now → is_name spot ≡ false → Exists w (located [] spot)
             → n ≡ number_in w (located [] spot)) }
@@ -63,6 +64,7 @@ impl Numbers {
     }
 
     /// The number of the field of an object that has this place among the fields.
+    #[inline(always)]
     fn field_part(&self, object: u64, place: usize) -> Option<u64>
         ensures { IfSome result (λ n. n ≡ get_or self.now.bases.items object 0 + (2 + place)) }
     {
@@ -71,6 +73,7 @@ impl Numbers {
     }
 
     /// The number of the part of an object that has so many before it.
+    #[inline(always)]
     fn part(&self, object: u64, before: u64) -> Option<u64>
         ensures { IfSome result (λ n. n ≡ get_or self.now.bases.items object 0 + before) }
     {

@@ -1,10 +1,10 @@
 //! The tags of a memory's locations.
 
-ghost use Rattle.std.specs.Prelude.{◌≡◌, ◌+◌, ◌<◌, ◌≤◌, ◌^◌, ◌++◌, ◌∷◌, [], ℕ, suc, List, length, cond, map, nat_eq, not, ◌&&◌, ◌||◌, OnOk};
+ghost use Rattle.std.specs.Prelude.{◌≡◌, ◌+◌, ◌<◌, ◌≤◌, ◌^◌, ◌++◌, ◌∷◌, [], ℕ, suc, List, length, cond, map, nat_eq, true, not, ◌&&◌, ◌||◌, OnOk};
 ghost use Rattle.std.specs.List.{list_all};
 ghost use Rattle.jvm_model.specs.declared.values.Location.{Location};
 ghost use Rattle.jvm_model.specs.World.{same};
-ghost use Rattle.access_tags.specs.Tag.{ended, conflicts_at, is_new, noted};
+ghost use Rattle.access_tags.specs.Tag.{covers, ended, conflicts_at, is_new, noted};
 ghost use Rattle.access_tags.specs.Counted.{HaveCounted};
 ghost use Rattle.access_tags.specs.HaveEnded.{HaveEnded};
 ghost use Rattle.access_tags.specs.Numbering.{Numbering, are_alone, conflicts_in, is_alone, is_name, tag_at};
@@ -39,7 +39,7 @@ impl Tags {
     ghost use Rattle.access_tags.specs.Numbering.{located, with_cells, with_names, IsPlaced};
     ghost use Rattle.jvm_model.specs.declared.values.Location.TheVariants as place;
     ghost use Rattle.order_law.specs.Exposed.{exposed};
-    ghost use Rattle.access_tags.specs.Stands.{Stands};
+    ghost use Rattle.access_tags.specs.Stands.{HasTouched, Stands};
     ghost use Rattle.access_tags.specs.Rows.{edges_at, shown_by, with_places};
     ghost use Rattle.access_tags.specs.declared.rows.Row.{Row as Found};
     ghost use Rattle.jvm_model.specs.declared.program.Program.{Program};
@@ -98,12 +98,37 @@ impl Tags {
         self.cells.len()
     }
 
+    /// Whether one more touch of a part by the running test is known to leave its tag as it is; of files and properties it
+    /// isn't. Takes no memory.
+    #[inline(always)]
+    fn covers(&self, spot: LocationKey, at: u64, write: bool) -> bool
+        ensures { result ≡ true → covers write (tag_at (tag_in self.now.cells) (tag_in self.now.named) (record { spot = spot; at = at })).mark ≡ true }
+    {
+        match spot {
+            LocationKey::Named { .. } => false,
+            _ => at < self.cells.len() && self.cells.mark(at).covers(write),
+        }
+    }
+
     /// One more touch of a part by the running test. There is no memory for a part past the locations.
+    #[inline(always)]
     pub fn note(&mut self, spot: LocationKey, at: u64, write: bool) -> Result<(), NoMemory>
         ensures cells { count self.new.cells ≡ count self.old.cells }
         ensures named { count self.new.named ≡ count self.old.named }
-        ensures stands { OnOk result ((n : Numbering) (T : Touches) (t : ℕ) (ts : List Touch) (x : Touch) → IsPlaced n (record { spot = spot; at = at }) → x.write ≡ write
-            → x.location ≡ located n.names spot → Stands n T t ts self.old → Stands n T t (ts ++ x ∷ []) self.new) }
+        ensures stands { OnOk result (HasTouched self.old self.new spot at write) }
+    {
+        if self.covers(spot, at, write) {
+            return Ok(());
+        }
+        self.note_change(spot, at, write)
+    }
+
+    /// One more touch of a part, which may change its tag.
+    #[inline(never)]
+    fn note_change(&mut self, spot: LocationKey, at: u64, write: bool) -> Result<(), NoMemory>
+        ensures cells { count self.new.cells ≡ count self.old.cells }
+        ensures named { count self.new.named ≡ count self.old.named }
+        ensures stands { OnOk result (HasTouched self.old self.new spot at write) }
     {
         if at >= self.room(spot) {
             return Err(NoMemory {});
