@@ -14,7 +14,7 @@ use Rattle.electrictest.proofs.commands.electric_plain.Goals as goal
 pub returns-clause-served : goal.returns-clause-served
 returns-clause-served g c =
     served_by c.plain-ask.result _ _ _ c.answered.result _ _ c.plain-ask.ensures.asks
-    _ c.args.steps.now c.reported-report.new.steps c.reported-report.result c.reported-report.ensures.reports c.reported-report.ensures.refused c.reported-report.ensures.ends c.answered.ensures.reports c.answered.ensures.refuses
+    (g.D.Depot.shown c.reported-report.new.depot).told c.args.steps.now c.reported-report.new.steps c.reported-report.result c.reported-report.ensures.reports c.reported-report.ensures.refused c.reported-report.ensures.ends c.answered.ensures.reports c.answered.ensures.refuses
 
 pub returns-clause-own : goal.returns-clause-own
 returns-clause-own g c =

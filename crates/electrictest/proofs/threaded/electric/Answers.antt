@@ -16,7 +16,7 @@ use Rattle.electrictest.proofs.threaded.electric.Goals as goal
 pub returns-clause-served : goal.returns-clause-served
 returns-clause-served g c =
     served_by c.threaded-ask.result _ _ _ c.answered.result _ _ c.threaded-ask.ensures
-    _ c.args.steps.now c.asked_text-report.new.steps c.asked_text-report.result c.asked_text-report.ensures.reports c.asked_text-report.ensures.refused c.asked_text-report.ensures.ends c.answered.ensures.reports c.answered.ensures.refuses
+    (g.D.Depot.shown c.asked_text-report.new.depot).told c.args.steps.now c.asked_text-report.new.steps c.asked_text-report.result c.asked_text-report.ensures.reports c.asked_text-report.ensures.refused c.asked_text-report.ensures.ends c.answered.ensures.reports c.answered.ensures.refuses
 
 pub returns-clause-own : goal.returns-clause-own
 returns-clause-own g c =
