@@ -9,7 +9,7 @@ use Rattle.test_run.specs.declared.run_fault.RunFault.{RunFault}
 use Rattle.test_run.specs.declared.run_fault.RunFault.TheVariants as run
 use Rattle.test_run.specs.Running.{IsTest, Posted}
 use Rattle.cone_run.specs.declared.marks.Mark.{Mark}
-use Rattle.cone_run.specs.Cones.{AreConesOf, IsConeFault, IsFirstOver, cone_units}
+use Rattle.cone_run.specs.Cones.{AreConesOf, IsConeFault, cone_units}
 use Rattle.cone_run.specs.ConesText.{cones_text, outcomes}
 use Rattle.cone_run.specs.ManifestText.{manifest_text}
 use Rattle.cone_run.specs.Marks.{AreMarks, HasSpent}

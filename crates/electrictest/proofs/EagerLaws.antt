@@ -1,5 +1,5 @@
 -- An eager form is over the suite without its quiet initialisers.
-use Rattle.std.proofs.Common.{◌≡◌, ℕ, List, Bool, true, Option, Some, Result, Ok, Err, ap, sym, refl, subst}
+use Rattle.std.proofs.Common.{◌≡◌, ℕ, List, Bool, true, Option, Some, Result, Ok, sym, refl, subst}
 use Rattle.outside.specs.Depot.{Files, Told, OfHeld}
 use Rattle.suite_load.specs.declared.loaded.Loaded.{Loaded}
 use Rattle.quiet_law.proofs.Suite.{quiet_law}

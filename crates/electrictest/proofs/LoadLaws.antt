@@ -1,5 +1,5 @@
 -- How the words and a suite's loading are answered.
-use Rattle.std.proofs.Common.{◌≡◌, ◌≤◌, ℕ, List, Bool, refl, sym, ap, subst, ◌∙◌, Option, Some, None, Result, Ok, Err, IfOk, IfErr, ◌-◌}
+use Rattle.std.proofs.Common.{◌≡◌, ◌≤◌, ℕ, List, refl, sym, ap, subst, ◌∙◌, Option, Some, None, Result, Ok, Err, IfOk, IfErr, ◌-◌}
 use Rattle.outside.specs.Depot.{Files, Told, DepotView, FailedAt, OfHeld, TellsOn}
 use Rattle.outside.proofs.CountLemmas.{rose_later}
 use Rattle.suite_load.specs.declared.load_fault.LoadFault.{LoadFault}
