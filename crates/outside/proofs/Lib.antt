@@ -1,3 +1,4 @@
+pub mod AnswerLaws
 pub mod CountLemmas
 pub mod FileLemmas
 pub mod FolderLemmas

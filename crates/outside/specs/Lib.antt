@@ -1,3 +1,4 @@
+pub mod AlikeAnswers
 pub mod Counts
 pub mod Depot
 pub mod FolderDepot

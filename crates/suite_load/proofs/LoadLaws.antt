@@ -2,7 +2,7 @@
 use Rattle.std.proofs.Common.{◌≡◌, ◌≤◌, ◌<◌, ℕ, ◌+◌, List, [], ◌∷◌, ◌++◌, length, map, take, drop, get_or, Option, Some, None, Result, Ok, Err, IfSome, refl, sym, ap, ◌∙◌, subst}
 use Rattle.std.proofs.lemmas.List.{take_more, take_all, take-append-drop, drop_more, append_assoc, append-nil, map-append}
 use Rattle.et_base.specs.Answers.{Fails}
-use Rattle.outside.specs.Depot.{Files, DepotView, FailedAt}
+use Rattle.outside.specs.Depot.{Files, OfHeld, DepotView, FailedAt}
 use Rattle.outside.proofs.CountLemmas.{rose_later}
 use Rattle.class_reader.specs.declared.parts.ClassParts.{ClassParts}
 use Rattle.jvm_model.specs.declared.program.Names.{Names}
@@ -76,44 +76,31 @@ read_fails files read (first ∷ front) name back classes now e (c, next, rest, 
 parted : (names : List (List ℕ)) (i : ℕ) (name : List ℕ) → i < length names → name ≡ get_or names i name → names ≡ take i names ++ (name ∷ drop (i + 1) names)
 parted names i name lt e = sym (take-append-drop i names) ∙ ap (λ xs. take i names ++ xs) (drop_more names i name lt ∙ ap (λ n. n ∷ drop (i + 1) names) (sym e))
 
--- ---- the same where the depot tells its files
+-- ---- the class files of the names so far
 
-abbrev pub SoFar : Option Files → List (List ℕ) → List ClassParts → ℕ → Type 0
-SoFar told front classes now = IfSome told (λ files. AreRead files 0 front classes now)
-
-pub so_far_none : (told : Option Files) (classes : List ClassParts) → classes ≡ [] → SoFar told [] classes 0
-so_far_none None classes e = tt
-so_far_none (Some files) classes e = (e, refl)
-
-pub so_far_more : (told was : Option Files) (names : List (List ℕ)) (i : ℕ) (name : List ℕ) (classes : List ClassParts) (now next : ℕ) (c : ClassParts) → was ≡ told → i < length names → name ≡ get_or names i name →
-    SoFar told (take i names) classes now → IfSome was (λ files. class_in files now name ≡ Ok (c, next)) → SoFar told (take (i + 1) names) (classes ++ c ∷ []) next
-so_far_more None was names i name classes now next c w lt e h g = tt
-so_far_more (Some files) was names i name classes now next c w lt e h g =
-    let there = subst (λ o. IfSome o (λ files. class_in files now name ≡ Ok (c, next))) w g in
+pub so_far_more : (files : Files) (names : List (List ℕ)) (i : ℕ) (name : List ℕ) (classes : List ClassParts) (now next : ℕ) (c : ClassParts) → i < length names → name ≡ get_or names i name →
+    AreRead files 0 (take i names) classes now → class_in files now name ≡ Ok (c, next) → AreRead files 0 (take (i + 1) names) (classes ++ c ∷ []) next
+so_far_more files names i name classes now next c lt e h there =
     let longer = take_more names i name lt ∙ ap (λ n. take i names ++ n ∷ []) (sym e) in
     subst (λ ns. AreRead files 0 ns (classes ++ c ∷ []) next) (sym longer) (read_more files 0 (take i names) name classes now next c h there)
 
-pub so_far_fails : (told was : Option Files) (names : List (List ℕ)) (i : ℕ) (name : List ℕ) (classes : List ClassParts) (now : ℕ) (e : LoadFault) → was ≡ told → i < length names → name ≡ get_or names i name →
-    SoFar told (take i names) classes now → IfSome was (λ files. Fails (says e) (class_in files now name)) → IfSome told (λ files. Fails (says e) (classes_in files 0 names))
-so_far_fails None was names i name classes now e w lt at h g = tt
-so_far_fails (Some files) was names i name classes now e w lt at h g =
-    let there = subst (λ o. IfSome o (λ files. Fails (says e) (class_in files now name))) w g in
+pub so_far_fails : (files : Files) (names : List (List ℕ)) (i : ℕ) (name : List ℕ) (classes : List ClassParts) (now : ℕ) (e : LoadFault) → i < length names → name ≡ get_or names i name →
+    AreRead files 0 (take i names) classes now → Fails (says e) (class_in files now name) → Fails (says e) (classes_in files 0 names)
+so_far_fails files names i name classes now e lt at h there =
     fails_weaker (says e) (classes_in files 0 names) (class_in files now name)
     (λ f k. ap (classes_in files 0) (parted names i name lt at) ∙ read_fails files 0 (take i names) name (drop (i + 1) names) classes now f h k) there
 
-pub so_far_all : (told : Option Files) (names : List (List ℕ)) (i : ℕ) (classes : List ClassParts) (now : ℕ) → length names ≤ i → SoFar told (take i names) classes now → IfSome told (λ files. classes_in files 0 names ≡ Ok classes)
-so_far_all None names i classes now le h = tt
-so_far_all (Some files) names i classes now le h = read_gives files 0 names classes now (subst (λ ns. AreRead files 0 ns classes now) (take_all i names le) h)
+pub so_far_all : (files : Files) (names : List (List ℕ)) (i : ℕ) (classes : List ClassParts) (now : ℕ) → length names ≤ i → AreRead files 0 (take i names) classes now → classes_in files 0 names ≡ Ok classes
+so_far_all files names i classes now le h = read_gives files 0 names classes now (subst (λ ns. AreRead files 0 ns classes now) (take_all i names le) h)
 
-read_here : (told : Option Files) (names : List (List ℕ)) (i : ℕ) (name : List ℕ) (classes : List ClassParts) (now : ℕ) → i < length names → name ≡ get_or names i name → SoFar told (take i names) classes now → IfSome told (λ files. IsReadAmong files names name)
-read_here None names i name classes now lt e h = tt
-read_here (Some files) names i name classes now lt e h = (take i names, drop (i + 1) names, parted names i name lt e, rw (read_gives files 0 (take i names) classes now h) refl)
+read_here : (files : Files) (names : List (List ℕ)) (i : ℕ) (name : List ℕ) (classes : List ClassParts) (now : ℕ) → i < length names → name ≡ get_or names i name → AreRead files 0 (take i names) classes now → IsReadAmong files names name
+read_here files names i name classes now lt e h = (take i names, drop (i + 1) names, parted names i name lt e, rw (read_gives files 0 (take i names) classes now h) refl)
 
-pub so_far_proper : (told : Option Files) (names : List (List ℕ)) (i : ℕ) (name : List ℕ) (classes : List ClassParts) (now : ℕ) (e : LoadFault) (first old new : DepotView) → i < length names → name ≡ get_or names i name → SoFar told (take i names) classes now → first.faults ≤ old.faults →
-    IsProper (λ read. (read ≡ name) × FailedAt old new read) e → IsProper (λ read. IfSome told (λ files. IsReadAmong files names read) × FailedAt first new read) e
-so_far_proper told names i name classes now e first old new lt at h le d =
-    proper_weaker (λ read. (read ≡ name) × FailedAt old new read) (λ read. IfSome told (λ files. IsReadAmong files names read) × FailedAt first new read) e
-    (λ read f. (subst (λ n. IfSome told (λ files. IsReadAmong files names n)) (sym f.0) (read_here told names i name classes now lt at h), failed_later first old new read le f.1)) d
+pub so_far_proper : (names : List (List ℕ)) (i : ℕ) (name : List ℕ) (classes : List ClassParts) (now : ℕ) (e : LoadFault) (first old new : DepotView) → i < length names → name ≡ get_or names i name → OfHeld new.told (λ files. AreRead files 0 (take i names) classes now) → first.faults ≤ old.faults →
+    IsProper (λ read. (read ≡ name) × FailedAt old new read) e → IsProper (λ read. OfHeld new.told (λ files. IsReadAmong files names read) × FailedAt first new read) e
+so_far_proper names i name classes now e first old new lt at h le d =
+    proper_weaker (λ read. (read ≡ name) × FailedAt old new read) (λ read. OfHeld new.told (λ files. IsReadAmong files names read) × FailedAt first new read) e
+    (λ read f. (λ files may. subst (IsReadAmong files names) (sym f.0) (read_here files names i name classes now lt at (h files may)), failed_later first old new read le f.1)) d
 
 -- ---- loading as a whole
 
@@ -122,42 +109,32 @@ unfolding read_in
 read_done files name suite classes e h = ap (λ r. r >>= λ s. classes_in files 0 s.classes >>= λ cs. Ok (s, cs)) e ∙ ap (λ r. r >>= λ cs. Ok (suite, cs)) h
 
 -- the suite text isn't read
-pub unread_suite : (told : Option Files) (name : List ℕ) (e : LoadFault) → IfSome told (λ files. Fails (says e) (suite_in files name)) → IfSome told (λ files. LoadAnswers files name (Err e))
+pub unread_suite : (files : Files) (name : List ℕ) (e : LoadFault) → Fails (says e) (suite_in files name) → LoadAnswers files name (Err e)
 unfolding read_in
-unread_suite None name e h = tt
-unread_suite (Some files) name e h =
+unread_suite files name e h =
     fails_on (λ f. Loads files name (Err f)) (says e) (suite_in files name)
     (λ f k. subst (λ r. ReadGives (sums_in files name) r (Err f)) (sym (ap (λ r. r >>= λ s. classes_in files 0 s.classes >>= λ cs. Ok (s, cs)) k)) refl) h
 
 -- a class file isn't read
-pub unread_class : (told was : Option Files) (name : List ℕ) (suite : SuiteText) (names : List (List ℕ)) (e : LoadFault) → was ≡ told → names ≡ suite.classes → IfSome told (λ files. suite_in files name ≡ Ok suite) → IfSome was (λ files. Fails (says e) (classes_in files 0 names)) →
-    IfSome told (λ files. LoadAnswers files name (Err e))
+pub unread_class : (files : Files) (name : List ℕ) (suite : SuiteText) (names : List (List ℕ)) (e : LoadFault) → names ≡ suite.classes → suite_in files name ≡ Ok suite → Fails (says e) (classes_in files 0 names) → LoadAnswers files name (Err e)
 unfolding read_in
-unread_class None was name suite names e w n s h = tt
-unread_class (Some files) was name suite names e w n s h =
-    let there = subst (λ o. IfSome o (λ files. Fails (says e) (classes_in files 0 names))) w h in
+unread_class files name suite names e n s h =
     fails_on (λ f. Loads files name (Err f)) (says e) (classes_in files 0 names)
     (λ f k.
     let whole = ap (λ r. r >>= λ t. classes_in files 0 t.classes >>= λ cs. Ok (t, cs)) s ∙ ap (λ r. r >>= λ cs. Ok (suite, cs)) (ap (classes_in files 0) (sym n) ∙ k) in
-    subst (λ r. ReadGives (sums_in files name) r (Err f)) (sym whole) refl) there
+    subst (λ r. ReadGives (sums_in files name) r (Err f)) (sym whole) refl) h
 
 -- the files are read
-pub all_read : (told was : Option Files) (name : List ℕ) (suite : SuiteText) (names : List (List ℕ)) (classes : List ClassParts) → was ≡ told → names ≡ suite.classes → IfSome told (λ files. suite_in files name ≡ Ok suite) → IfSome was (λ files. classes_in files 0 names ≡ Ok classes) →
-    IfSome told (λ files. read_in files name ≡ Ok (suite, classes))
-all_read None was name suite names classes w n s h = tt
-all_read (Some files) was name suite names classes w n s h =
-    let there = subst (λ o. IfSome o (λ files. classes_in files 0 names ≡ Ok classes)) w h in
-    read_done files name suite classes s (ap (classes_in files 0) (sym n) ∙ there)
+pub all_read : (files : Files) (name : List ℕ) (suite : SuiteText) (names : List (List ℕ)) (classes : List ClassParts) → names ≡ suite.classes → suite_in files name ≡ Ok suite → classes_in files 0 names ≡ Ok classes → read_in files name ≡ Ok (suite, classes)
+all_read files name suite names classes n s h = read_done files name suite classes s (ap (classes_in files 0) (sym n) ∙ h)
 
-pub not_checked : (told : Option Files) (name : List ℕ) (suite : SuiteText) (classes : List ClassParts) (e : LoadFault) → IfSome told (λ files. read_in files name ≡ Ok (suite, classes)) → Checks suite classes (Err e) → IfSome told (λ files. LoadAnswers files name (Err e))
-not_checked None name suite classes e r h = tt
-not_checked (Some files) name suite classes e r h = refuses_weaker (λ f. ReadGives (sums_in files name) (Ok (suite, classes)) (Err f)) (λ f. Loads files name (Err f)) (says e)
+pub not_checked : (files : Files) (name : List ℕ) (suite : SuiteText) (classes : List ClassParts) (e : LoadFault) → read_in files name ≡ Ok (suite, classes) → Checks suite classes (Err e) → LoadAnswers files name (Err e)
+not_checked files name suite classes e r h = refuses_weaker (λ f. ReadGives (sums_in files name) (Ok (suite, classes)) (Err f)) (λ f. Loads files name (Err f)) (says e)
     (λ f k. subst (λ x. ReadGives (sums_in files name) x (Err f)) (sym r) k) (h (sums_in files name))
 
-pub loads_all : (told : Option Files) (name : List ℕ) (suite : SuiteText) (classes : List ClassParts) (p q : Program) (names : Names) (prints : Prints) → names ≡ names_in suite q → q ≡ p → IfSome told (λ files. read_in files name ≡ Ok (suite, classes)) →
-    IfSome told (λ files. prints ≡ sums_in files name suite) → Checks suite classes (Ok p) → IfSome told (λ files. LoadAnswers files name (Ok (record { checked = p; names = names; prints = prints })))
-loads_all None name suite classes p q names prints e s r d h = tt
-loads_all (Some files) name suite classes p q names prints e s r d h =
+pub loads_all : (files : Files) (name : List ℕ) (suite : SuiteText) (classes : List ClassParts) (p q : Program) (names : Names) (prints : Prints) → names ≡ names_in suite q → q ≡ p → read_in files name ≡ Ok (suite, classes) →
+    prints ≡ sums_in files name suite → Checks suite classes (Ok p) → LoadAnswers files name (Ok (record { checked = p; names = names; prints = prints }))
+loads_all files name suite classes p q names prints e s r d h =
     let sums = sums_in files name in
     let made : Names → Prints → Loaded = λ n k. record { checked = p; names = n; prints = k } in
     let named = subst (λ n. ReadGives sums (Ok (suite, classes)) (Ok (made n (sums suite)))) (sym (e ∙ ap (names_in suite) s)) (h sums) in
@@ -165,29 +142,22 @@ loads_all (Some files) name suite classes p q names prints e s r d h =
 
 -- ---- sums
 
-pub sums_none : (told : Option Files) (s : PrintSums) → IfSome told (λ files. AreMoreSums s s [])
-sums_none None s = tt
-sums_none (Some files) s = λ text over h. subst (λ xs. AreSums s text xs) (sym (append-nil over)) h
+pub sums_none : (s : PrintSums) → AreMoreSums s s []
+sums_none s = λ text over h. subst (λ xs. AreSums s text xs) (sym (append-nil over)) h
 
-pub sums_more : (told was : Option Files) (names : List (List ℕ)) (i : ℕ) (name : List ℕ) (first old new : PrintSums) → was ≡ told → i < length names → name ≡ get_or names i name →
-    IfSome told (λ files. AreMoreSums first old (map (bytes_of files) (take i names))) → IfSome was (λ files. AreMoreSums old new (bytes_of files name ∷ [])) →
-    IfSome told (λ files. AreMoreSums first new (map (bytes_of files) (take (i + 1) names)))
-sums_more None was names i name first old new w lt at h g = tt
-sums_more (Some files) was names i name first old new w lt at h g =
-    let here = subst (λ o. IfSome o (λ files. AreMoreSums old new (bytes_of files name ∷ []))) w g in
+pub sums_more : (files : Files) (names : List (List ℕ)) (i : ℕ) (name : List ℕ) (first old new : PrintSums) → i < length names → name ≡ get_or names i name →
+    AreMoreSums first old (map (bytes_of files) (take i names)) → AreMoreSums old new (bytes_of files name ∷ []) → AreMoreSums first new (map (bytes_of files) (take (i + 1) names))
+sums_more files names i name first old new lt at h here =
     let front = take i names in
     let longer = ap (map (bytes_of files)) (take_more names i name lt ∙ ap (λ n. front ++ n ∷ []) (sym at)) ∙ map-append (bytes_of files) front (name ∷ []) in
     λ text over s. subst (λ xs. AreSums new text (over ++ xs)) (sym longer)
     (subst (λ xs. AreSums new text xs) (append_assoc over (map (bytes_of files) front) (bytes_of files name ∷ [])) (here text (over ++ map (bytes_of files) front) (h text over s)))
 
-pub sums_last : (told : Option Files) (names : List (List ℕ)) (i : ℕ) (first new : PrintSums) → length names ≤ i → IfSome told (λ files. AreMoreSums first new (map (bytes_of files) (take i names))) → IfSome told (λ files. AreMoreSums first new (map (bytes_of files) names))
-sums_last None names i first new le h = tt
-sums_last (Some files) names i first new le h = subst (λ ns. AreMoreSums first new (map (bytes_of files) ns)) (take_all i names le) h
+pub sums_last : (files : Files) (names : List (List ℕ)) (i : ℕ) (first new : PrintSums) → length names ≤ i → AreMoreSums first new (map (bytes_of files) (take i names)) → AreMoreSums first new (map (bytes_of files) names)
+sums_last files names i first new le h = subst (λ ns. AreMoreSums first new (map (bytes_of files) ns)) (take_all i names le) h
 
 -- all sums of a suite that is read
-pub sums_all : (told was : Option Files) (name : List ℕ) (suite : SuiteText) (names : List (List ℕ)) (old new : PrintSums) (prints : Prints) → was ≡ told → names ≡ suite.classes → IfSome told (λ files. AreSums old (bytes_of files name) []) →
-    IfSome was (λ files. AreMoreSums old new (map (bytes_of files) names)) → ((text : List ℕ) (files : List (List ℕ)) → AreSums new text files → prints ≡ prints_of text files) → IfSome told (λ files. prints ≡ sums_in files name suite)
-sums_all None was name suite names old new prints w n h g k = tt
-sums_all (Some files) was name suite names old new prints w n h g k =
-    let there = subst (λ o. IfSome o (λ files. AreMoreSums old new (map (bytes_of files) names))) w g in
+pub sums_all : (files : Files) (name : List ℕ) (suite : SuiteText) (names : List (List ℕ)) (old new : PrintSums) (prints : Prints) → names ≡ suite.classes → AreSums old (bytes_of files name) [] → AreMoreSums old new (map (bytes_of files) names) →
+    ((text : List ℕ) (files : List (List ℕ)) → AreSums new text files → prints ≡ prints_of text files) → prints ≡ sums_in files name suite
+sums_all files name suite names old new prints n h there k =
     k (bytes_of files name) (map (bytes_of files) names) (there (bytes_of files name) [] h) ∙ ap (λ ns. prints_of (bytes_of files name) (map (bytes_of files) ns)) n

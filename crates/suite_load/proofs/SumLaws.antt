@@ -1,5 +1,5 @@
 -- What sums hold, and of which bytes.
-use Rattle.std.proofs.Common.{◌≡◌, ℕ, List, [], ◌∷◌, ◌++◌, length, flat_map, nat_le, Bool, true, false, sym, ap, subst, ◌∙◌, append_assoc, if◌then◌else◌, Option, Some, None, Result, Ok, Err, IfSome}
+use Rattle.std.proofs.Common.{◌≡◌, ℕ, List, [], ◌∷◌, ◌++◌, length, flat_map, nat_le, Bool, true, false, sym, ap, subst, ◌∙◌, append_assoc, if◌then◌else◌, Option, Some, None, Result, Ok, Err}
 use Rattle.std.specs.Option.{unwrap_or}
 use Rattle.std.proofs.lemmas.Grind.{flat_map-append}
 use Rattle.std.proofs.lemmas.List.{append-nil}
@@ -36,10 +36,8 @@ read_bytes : (files : Files) (most : ℕ) (name read : List ℕ) → file_of fil
 unfolding file_of
 read_bytes files most name read e = by_content most name read (content files name) e
 
-pub file_sums : (told : Option Files) (most : ℕ) (name read piece : List ℕ) (old new : PrintSums) → IfSome told (λ files. file_of files most name ≡ Ok read) → piece ≡ read → AreMoreSums old new (piece ∷ []) → IfSome told (λ files. AreMoreSums old new (bytes_of files name ∷ []))
-file_sums None most name read piece old new r e h = tt
-file_sums (Some files) most name read piece old new r e h = subst (λ z. AreMoreSums old new (z ∷ [])) (e ∙ sym (read_bytes files most name read r)) h
+pub file_sums : (files : Files) (most : ℕ) (name read piece : List ℕ) (old new : PrintSums) → file_of files most name ≡ Ok read → piece ≡ read → AreMoreSums old new (piece ∷ []) → AreMoreSums old new (bytes_of files name ∷ [])
+file_sums files most name read piece old new r e h = subst (λ z. AreMoreSums old new (z ∷ [])) (e ∙ sym (read_bytes files most name read r)) h
 
-pub suite_sums : (told : Option Files) (most : ℕ) (name read piece : List ℕ) (sums : PrintSums) → IfSome told (λ files. file_of files most name ≡ Ok read) → piece ≡ read → AreSums sums piece [] → IfSome told (λ files. AreSums sums (bytes_of files name) [])
-suite_sums None most name read piece sums r e h = tt
-suite_sums (Some files) most name read piece sums r e h = subst (λ z. AreSums sums z []) (e ∙ sym (read_bytes files most name read r)) h
+pub suite_sums : (files : Files) (most : ℕ) (name read piece : List ℕ) (sums : PrintSums) → file_of files most name ≡ Ok read → piece ≡ read → AreSums sums piece [] → AreSums sums (bytes_of files name) []
+suite_sums files most name read piece sums r e h = subst (λ z. AreSums sums z []) (e ∙ sym (read_bytes files most name read r)) h

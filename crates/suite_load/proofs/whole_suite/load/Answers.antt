@@ -10,24 +10,27 @@ use Rattle.suite_load.proofs.whole_suite.load.Goals as goal
 pub returns-in_err-suite-clause-loads : goal.returns-in_err-suite-clause-loads
 returns-in_err-suite-clause-loads g c =
     let p = err_from_is_err_and c.from_residual.result c.from_residual.ensures.1 in
-    rw (p.1, p.2) (unread_suite _ c.args.name.now c.in_err-suite.field-0.0 c.in_err-suite.ensures.answers)
+    rw (p.1, p.2) (λ files may. unread_suite files c.args.name.now c.in_err-suite.field-0.0 (c.in_err-suite.ensures.answers files may))
 
 pub returns-in_err-classes-clause-loads : goal.returns-in_err-classes-clause-loads
 returns-in_err-classes-clause-loads g c =
     let p = err_from_is_err_and c.from_residual-in_err-classes.result c.from_residual-in_err-classes.ensures.1 in
-    rw (p.1, p.2) (unread_class _ _ c.args.name.now c.in_ok-suite.suite c.as_slice.result.now c.in_err-classes.field-0.0 c.suite_in.ensures.told c.as_slice.ensures c.in_ok-suite.ensures.answers c.in_err-classes.ensures.answers)
+    rw (p.1, p.2) (λ files may. unread_class files c.args.name.now c.in_ok-suite.suite c.as_slice.result.now c.in_err-classes.field-0.0 c.as_slice.ensures (c.in_ok-suite.ensures.answers files (c.classes_in.ensures.told files may)) (c.in_err-classes.ensures.answers files may))
 
 pub returns-in_err-checked-clause-loads : goal.returns-in_err-checked-clause-loads
 returns-in_err-checked-clause-loads g c =
     let p = err_from_is_err_and c.from_residual-in_err-checked.result c.from_residual-in_err-checked.ensures.1 in
-    let read = all_read _ _ c.args.name.now c.in_ok-suite.suite c.as_slice.result.now c.in_ok-classes.classes c.suite_in.ensures.told c.as_slice.ensures c.in_ok-suite.ensures.answers c.in_ok-classes.ensures.answers in
-    rw (p.1, p.2) (not_checked _ c.args.name.now c.in_ok-suite.suite c.in_ok-classes.classes c.in_err-checked.field-0.0 read (rw c.as_slice-2.ensures at c.in_err-checked.ensures.gives))
+    rw (p.1, p.2) (λ files may.
+    let suite = c.in_ok-suite.ensures.answers files (c.classes_in.ensures.told files may) in
+    let read = all_read files c.args.name.now c.in_ok-suite.suite c.as_slice.result.now c.in_ok-classes.classes c.as_slice.ensures suite (c.in_ok-classes.ensures.answers files may) in
+    not_checked files c.args.name.now c.in_ok-suite.suite c.in_ok-classes.classes c.in_err-checked.field-0.0 read (rw c.as_slice-2.ensures at c.in_err-checked.ensures.gives))
 
 pub returns-clause-loads : goal.returns-clause-loads
-returns-clause-loads g c =
-    let read = all_read _ _ c.args.name.now c.in_ok-suite.suite c.as_slice.result.now c.in_ok-classes.classes c.suite_in.ensures.told c.as_slice.ensures c.in_ok-suite.ensures.answers c.in_ok-classes.ensures.answers in
-    let sums = sums_all _ _ c.args.name.now c.in_ok-suite.suite c.as_slice.result.now c.in_ok-suite.sums c.classes_in.new.sums c.prints.result c.suite_in.ensures.told c.as_slice.ensures c.in_ok-suite.ensures.sums c.in_ok-classes.ensures.sums c.prints.ensures.sums in
-    loads_all _ c.args.name.now c.in_ok-suite.suite c.in_ok-classes.classes c.in_ok-checked.checked c.program.result.now c.in_ok-names.names c.prints.result c.in_ok-names.ensures c.program.ensures.same read sums (rw c.as_slice-2.ensures at c.in_ok-checked.ensures.gives)
+returns-clause-loads g c = λ files may.
+    let before = c.classes_in.ensures.told files may in
+    let read = all_read files c.args.name.now c.in_ok-suite.suite c.as_slice.result.now c.in_ok-classes.classes c.as_slice.ensures (c.in_ok-suite.ensures.answers files before) (c.in_ok-classes.ensures.answers files may) in
+    let sums = sums_all files c.args.name.now c.in_ok-suite.suite c.as_slice.result.now c.in_ok-suite.sums c.classes_in.new.sums c.prints.result c.as_slice.ensures (c.in_ok-suite.ensures.sums files before) (c.in_ok-classes.ensures.sums files may) c.prints.ensures.sums in
+    loads_all files c.args.name.now c.in_ok-suite.suite c.in_ok-classes.classes c.in_ok-checked.checked c.program.result.now c.in_ok-names.names c.prints.result c.in_ok-names.ensures c.program.ensures.same read sums (rw c.as_slice-2.ensures at c.in_ok-checked.ensures.gives)
 
 pub returns-clause-names : goal.returns-clause-names
 returns-clause-names g c =
