@@ -1,5 +1,5 @@
 -- What is accepted isn't refused.
-use Rattle.std.proofs.Common.{◌≡◌, ◌∙◌, ◌<◌, ◌-◌, ◌^◌, ℕ, List, refl, sym, subst, Option, Some, Result, Ok, Err, IfSome, IsOk}
+use Rattle.std.proofs.Common.{◌≡◌, ◌∙◌, ℕ, List, refl, sym, subst, Option, Some, Result, Ok, Err, IfSome, IsOk}
 use Rattle.std.proofs.lemmas.Bool.{false≢true}
 use Rattle.order_law.proofs.OrderFaults.{law_of_faults}
 use Rattle.outside.specs.Depot.{Files, FailedAt}

@@ -1,5 +1,5 @@
 -- What a call reads of a depot's files: the suite, and for some commands a record of it (this project's).
-use Rattle.std.specs.Prelude.{◌≡◌, ◌≤◌, ℕ, ◌-◌, length, List, [], Bool, true, Option, Some, None, option_map, Result, Ok, Err, if◌then◌else◌}
+use Rattle.std.specs.Prelude.{◌≡◌, ◌≤◌, ℕ, ◌-◌, length, List, [], Bool, Option, Some, None, option_map, Result, Ok, Err, if◌then◌else◌}
 use Rattle.jvm_model.specs.Builtin.{builtin_count}
 use Rattle.outside.specs.Depot.{Files}
 use Rattle.dep_record.specs.RecordText.{Said}

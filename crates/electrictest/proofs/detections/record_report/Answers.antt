@@ -1,4 +1,4 @@
-use Rattle.std.proofs.Common.{refl, sym, ap, sum, ◌+◌, ◌∙◌}
+use Rattle.std.proofs.Common.{refl, sym, ap, sum, ◌∙◌}
 use Rattle.order_law.specs.declared.records.Record.{Record}
 use Rattle.dep_record.specs.RecordText.{record_text}
 use Rattle.electrictest.proofs.detections.record_report.Goals as goal

@@ -19,11 +19,11 @@ begin-requires-clause-named g c =
 pub returns-in_err-text-clause-refused : goal.returns-in_err-text-clause-refused
 returns-in_err-text-clause-refused g c =
     let p = err_from_is_err_and c.from_residual-in_err-text.result c.from_residual-in_err-text.ensures.1 in
-    rw (p.1, p.2) (unplanned (g.D.Depot.shown c.args.depot.now).told c.args.ask.now c.args.loaded.now)
+    rw (p.1, p.2) (unplanned (g.D.Depot.shown c.begin.new.depot).told c.args.ask.now c.args.loaded.now)
 
 pub returns-clause-reports : goal.returns-clause-reports
 returns-clause-reports g c = λ steps.
-    plan_reports _ c.args.ask.now c.args.workers c.args.loaded.now (beginning c.in_ok-begun.begun) c.in_ok-text.text steps c.requires.asks c.in_ok-begun.ensures.begins c.in_ok-text.ensures
+    plan_reports (g.D.Depot.shown c.begin.new.depot).told c.args.ask.now c.args.workers c.args.loaded.now (beginning c.in_ok-begun.begun) c.in_ok-text.text steps c.requires.asks c.in_ok-begun.ensures.begins c.in_ok-text.ensures
 
 pub returns-clause-form : goal.returns-clause-form
 returns-clause-form g c = formed_as (command.Plan c.args.workers) c.args.ask.now c.requires.asks
