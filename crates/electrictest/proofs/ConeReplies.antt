@@ -1,5 +1,5 @@
 -- Cones and the manifest, or their refusal, answer what is asked.
-use Rattle.std.proofs.Common.{◌≡◌, ◌↔◌, ℕ, ◌+◌, ◌<◌, ◌≤◌, List, length, get_or, sum_by, Bool, true, Option, Some, None, Ok, IfSome, All, refl, sym}
+use Rattle.std.proofs.Common.{◌≡◌, ◌↔◌, ℕ, ◌+◌, ◌<◌, ◌≤◌, List, length, get_or, sum_by, Bool, true, Some, Ok, All, refl, sym}
 use Rattle.std.specs.List.{list_all}
 use Rattle.jvm_model.specs.declared.program.Program.{Program}
 use Rattle.jvm_model.specs.Texts.{is_passed}
@@ -13,7 +13,7 @@ use Rattle.cone_run.specs.Cones.{AreConesOf, IsConeFault, IsFirstOver, cone_unit
 use Rattle.cone_run.specs.ConesText.{cones_text, outcomes}
 use Rattle.cone_run.specs.ManifestText.{manifest_text}
 use Rattle.cone_run.specs.Marks.{AreMarks, HasSpent}
-use Rattle.outside.specs.Depot.{Files, DepotView}
+use Rattle.outside.specs.Depot.{Files, Told, DepotView, OfHeld}
 use Rattle.selection_close.specs.Closed.{IsAscendingOf}
 use Rattle.suite_load.specs.declared.loaded.Loaded.{Loaded}
 use Rattle.worker_pool.proofs.Tests.{member_at}
@@ -88,28 +88,26 @@ same_fault p R S T run.NoMemory same h = tt
 
 -- ---- answers
 
-pub counted_reports : (told : Option Files) (a : Ask) (l : Loaded) (b : Beginning) (c : Command) (passed : Bool) (text : List ℕ) (begun now : ℕ) (IsReport : Loaded → Beginning → ℕ → Type 0) → a.command ≡ Ok c →
-    ((files : Files) (units : ℕ) → OfBegun (λ x y. IsReport x y units) files a → ReportsBy (Ok c) files a passed text units) → IfSome told (λ files. begun_by files a l ≡ Some (Ok b)) → IsOfSuite l b →
+pub counted_reports : (told : Told) (a : Ask) (l : Loaded) (b : Beginning) (c : Command) (passed : Bool) (text : List ℕ) (begun now : ℕ) (IsReport : Loaded → Beginning → ℕ → Type 0) → a.command ≡ Ok c →
+    ((files : Files) (units : ℕ) → OfBegun (λ x y. IsReport x y units) files a → ReportsBy (Ok c) files a passed text units) → OfHeld told (λ files. begun_by files a l ≡ Some (Ok b)) → IsOfSuite l b →
     AreCounted (IsReport l b) begun now → ReportsOver told a l passed text begun now
-counted_reports None a l b c passed text begun now IsReport e by g suite r = tt
-counted_reports (Some files) a l b c passed text begun now IsReport e by g suite r = λ h.
-    let report : OfBegun (λ x y. IsReport x y r.units) files a = record { loaded = l; beginning = b; begins = record { load = h; begins = g }; suite = suite; is = r.report } in
+counted_reports told a l b c passed text begun now IsReport e by g suite r = λ files may h.
+    let report : OfBegun (λ x y. IsReport x y r.units) files a = record { loaded = l; beginning = b; begins = record { load = h; begins = g files may }; suite = suite; is = r.report } in
     record { units = r.units; report = reports_as (Ok c) files a passed text r.units e (by files r.units report); steps = r.counts }
 
-pub cones_refused : (told : Option Files) (a : Ask) (l : Loaded) (b : Beginning) (c : Command) (S : Beginning → ℕ → Type 0) (s : Status) → a.command ≡ Ok c →
-    ((files : Files) (f : OverFault) → OfBegun (λ x y. IsOverCone x y (S y) f) files a → OversBy (Ok c) files a f) → IfSome told (λ files. begun_by files a l ≡ Some (Ok b)) → IsOfSuite l b →
+pub cones_refused : (told : Told) (a : Ask) (l : Loaded) (b : Beginning) (c : Command) (S : Beginning → ℕ → Type 0) (s : Status) → a.command ≡ Ok c →
+    ((files : Files) (f : OverFault) → OfBegun (λ x y. IsOverCone x y (S y) f) files a → OversBy (Ok c) files a f) → OfHeld told (λ files. begun_by files a l ≡ Some (Ok b)) → IsOfSuite l b →
     ConesRefused l b (S b) s → RefusedOver told a l s
-cones_refused None a l b c S s e by g suite r = tt
-cones_refused (Some files) a l b c S ends.NoMemory e by g suite r = λ h. tt
-cones_refused (Some files) a l b c S (ends.Over f) e by g suite r = λ h.
-    let over : OfBegun (λ x y. IsOverCone x y (S y) f) files a = record { loaded = l; beginning = b; begins = record { load = h; begins = g }; suite = suite; is = r } in
+cones_refused told a l b c S ends.NoMemory e by g suite r = λ files may h. tt
+cones_refused told a l b c S (ends.Over f) e by g suite r = λ files may h.
+    let over : OfBegun (λ x y. IsOverCone x y (S y) f) files a = record { loaded = l; beginning = b; begins = record { load = h; begins = g files may }; suite = suite; is = r } in
     overs_as (Ok c) files a f e (by files f over)
-cones_refused (Some files) a l b c S (ends.Input f) e by g suite r = absurd r
-cones_refused (Some files) a l b c S (ends.Depot name) e by g suite r = absurd r
-cones_refused (Some files) a l b c S ends.Words e by g suite r = absurd r
-cones_refused (Some files) a l b c S ends.Done e by g suite r = absurd r
-cones_refused (Some files) a l b c S ends.NotPassed e by g suite r = absurd r
-cones_refused (Some files) a l b c S ends.Sink e by g suite r = absurd r
+cones_refused told a l b c S (ends.Input f) e by g suite r = absurd r
+cones_refused told a l b c S (ends.Depot name) e by g suite r = absurd r
+cones_refused told a l b c S ends.Words e by g suite r = absurd r
+cones_refused told a l b c S ends.Done e by g suite r = absurd r
+cones_refused told a l b c S ends.NotPassed e by g suite r = absurd r
+cones_refused told a l b c S ends.Sink e by g suite r = absurd r
 
 pub cones_ends : (a : Ask) (l : Loaded) (b : Beginning) (S : ℕ → Type 0) (s : Status) (old new : DepotView) → AsksSuch runs_tests a.command → ConesRefused l b S s → ReportEnds a s old new
 cones_ends a l b S ends.NoMemory old new runs r = tt

@@ -1,6 +1,6 @@
 -- An eager form is over the suite without its quiet initialisers.
-use Rattle.std.proofs.Common.{◌≡◌, ℕ, List, Bool, true, Option, Some, None, Result, Ok, Err, IfSome, ap, sym, refl, subst}
-use Rattle.outside.specs.Depot.{Files}
+use Rattle.std.proofs.Common.{◌≡◌, ℕ, List, Bool, true, Option, Some, Result, Ok, Err, ap, sym, refl, subst}
+use Rattle.outside.specs.Depot.{Files, Told, OfHeld}
 use Rattle.suite_load.specs.declared.loaded.Loaded.{Loaded}
 use Rattle.quiet_law.proofs.Suite.{quiet_law}
 use Rattle.electrictest.specs.declared.status.Status.{Status}
@@ -21,7 +21,6 @@ eager_answer files a over l asks =
     let loaded = loaded_from files (word_at a.words 1) l asks.load in
     (loads_quieted files a l (over asks.eager) asks, quiet_law l.checked (loaded_typed files (word_at a.words 1) loaded.0 l asks.bytes loaded.1) asks.detected asks.room)
 
--- so it is over whatever a depot tells
-pub told_eager : (told : Option Files) (a : Ask) → (is_eager a.words ≡ true → IsOverSuite a.command) → IfSome told (λ files. EagerAnswer files a)
-told_eager None a over = tt
-told_eager (Some files) a over = eager_answer files a over
+-- so it is of whichever files a depot may hold
+pub told_eager : (told : Told) (a : Ask) → (is_eager a.words ≡ true → IsOverSuite a.command) → OfHeld told (λ files. EagerAnswer files a)
+told_eager told a over = λ files may. eager_answer files a over

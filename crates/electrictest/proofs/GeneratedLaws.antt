@@ -1,5 +1,5 @@
 -- The summary of a generated suite, from its parts.
-use Rattle.std.proofs.Common.{◌≡◌, ◌↔◌, ℕ, ◌+◌, ◌≤◌, List, ◌∷◌, ◌++◌, length, codes, count_by, sum, Bool, refl, sym, ap, ◌∙◌, subst, arith, inl, inr, All, Option, Some, None, Result, Ok, Err, IfSome}
+use Rattle.std.proofs.Common.{◌≡◌, ◌↔◌, ℕ, ◌+◌, ◌≤◌, List, ◌∷◌, ◌++◌, length, codes, count_by, sum, Bool, refl, sym, ap, ◌∙◌, subst, arith, inl, inr, All, Some, Result, Ok, Err}
 use Rattle.std.specs.List.{list_all, range_with_len}
 use Rattle.std.proofs.lemmas.List.FromFn.{length-map-range_with_len, length-range_with_len}
 use Rattle.generated_law.specs.GeneratedLaw.{LoadLaw}
@@ -18,7 +18,7 @@ use Rattle.order_law.specs.OwnRecord.{edges_of}
 use Rattle.order_law.specs.Plan.{AreListedChainsOf}
 use Rattle.order_law.specs.Reach.{IsRecordOf, units_in as units_given}
 use Rattle.order_law.proofs.OwnRecord.{range_within}
-use Rattle.outside.specs.Depot.{Files, DepotView, FailedAt}
+use Rattle.outside.specs.Depot.{Told, DepotView, FailedAt, OfHeld}
 use Rattle.dep_record.specs.RecordText.{said}
 use Rattle.run_core.specs.Run.{Run, history, IsLegal, IsComplete}
 use Rattle.schedule_plan.specs.Plans.{HasUnits}
@@ -245,14 +245,12 @@ sums_of runs records chain k workers few l b passed text units begun mid now sam
 
 -- ---- what is asked
 
-pub summary_answers : (told : Option Files) (a : Ask) (k workers : ℕ) (passed : Bool) (text : List ℕ) (begun now : ℕ) → a.command ≡ Ok (command.Gen k workers) → Sums k workers passed text begun now →
-    IfSome told (λ files. Reported files a passed text begun now)
-summary_answers None a k workers passed text begun now e s = tt
-summary_answers (Some files) a k workers passed text begun now e s = record { units = s.units; report = reports_as (Ok (command.Gen k workers)) files a passed text s.units e s.summary; steps = s.steps }
+pub summary_answers : (told : Told) (a : Ask) (k workers : ℕ) (passed : Bool) (text : List ℕ) (begun now : ℕ) → a.command ≡ Ok (command.Gen k workers) → Sums k workers passed text begun now →
+    OfHeld told (λ files. Reported files a passed text begun now)
+summary_answers told a k workers passed text begun now e s = λ files may. record { units = s.units; report = reports_as (Ok (command.Gen k workers)) files a passed text s.units e s.summary; steps = s.steps }
 
-pub summary_refused : (told : Option Files) (a : Ask) (s : Status) → s ≡ ends.NoMemory → IfSome told (λ files. Unreported files a s)
-summary_refused None a s e = tt
-summary_refused (Some files) a s e = subst (Unreported files a) (sym e) tt
+pub summary_refused : (told : Told) (a : Ask) (s : Status) → s ≡ ends.NoMemory → OfHeld told (λ files. Unreported files a s)
+summary_refused told a s e = λ files may. subst (Unreported files a) (sym e) tt
 
 pub summary_ends : (a : Ask) (s : Status) (depot : DepotView) → s ≡ ends.NoMemory → ReportEnds a s depot depot
 summary_ends a s depot e = subst (λ (z : Status). ReportEnds a z depot depot) (sym e) tt

@@ -2,7 +2,7 @@
 use Rattle.std.proofs.Common.{◌≡◌, ℕ, List, true, refl, arith, Option, Some, None, Ok, IfSome}
 use Rattle.order_law.specs.declared.records.More.{More}
 use Rattle.order_law.specs.declared.records.Record.{Record}
-use Rattle.outside.specs.Depot.{Files}
+use Rattle.outside.specs.Depot.{Files, Told, OfHeld}
 use Rattle.suite_load.specs.declared.loaded.Loaded.{Loaded}
 use Rattle.impact_pick.specs.Form.{fits_prints}
 use Rattle.impact_pick.specs.ImpactText.{impact_text}
@@ -22,7 +22,6 @@ impact_of files a l r (Some m) text steps c e fits is begins =
     let report : IsImpacted files a true text 0 = record { loaded = l; beginning = nameless r; begins = begins; more = m; newer = e; reports = is; ends = refl; free = refl } in
     record { units = 0; report = reports_as (Ok command.Impact) files a true text 0 c report; steps = omega arith }
 
-pub impact_reports : (told : Option Files) (a : Ask) (l : Loaded) (r : Record) (text : List ℕ) (steps : ℕ) → a.command ≡ Ok command.Impact → IfSome told (λ files. begun_by files a l ≡ Some (Ok (nameless r))) →
+pub impact_reports : (told : Told) (a : Ask) (l : Loaded) (r : Record) (text : List ℕ) (steps : ℕ) → a.command ≡ Ok command.Impact → OfHeld told (λ files. begun_by files a l ≡ Some (Ok (nameless r))) →
     fits_prints r.more l.prints ≡ true → IfSome r.more (λ m. text ≡ impact_text l.names m l.checked l.prints) → ReportsOver told a l true text steps steps
-impact_reports None a l r text steps c g fits is = tt
-impact_reports (Some files) a l r text steps c g fits is = λ h. impact_of files a l r r.more text steps c refl fits is (record { load = h; begins = g })
+impact_reports told a l r text steps c g fits is = λ files may h. impact_of files a l r r.more text steps c refl fits is (record { load = h; begins = g files may })

@@ -1,4 +1,5 @@
 mod AskedFor
+mod Held
 mod Request
 mod Founds
 mod ListRuns

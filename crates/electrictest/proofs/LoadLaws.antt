@@ -1,6 +1,6 @@
 -- How the words and a suite's loading are answered.
-use Rattle.std.proofs.Common.{◌≡◌, ◌≤◌, ℕ, List, Bool, refl, sym, ap, subst, ◌∙◌, Option, Some, None, Result, Ok, Err, IfSome, IfOk, IfErr, ◌-◌}
-use Rattle.outside.specs.Depot.{Files, DepotView, FailedAt}
+use Rattle.std.proofs.Common.{◌≡◌, ◌≤◌, ℕ, List, Bool, refl, sym, ap, subst, ◌∙◌, Option, Some, None, Result, Ok, Err, IfOk, IfErr, ◌-◌}
+use Rattle.outside.specs.Depot.{Files, Told, DepotView, FailedAt, OfHeld, TellsOn}
 use Rattle.outside.proofs.CountLemmas.{rose_later}
 use Rattle.suite_load.specs.declared.load_fault.LoadFault.{LoadFault}
 use Rattle.suite_load.specs.declared.load_fault.LoadFault.TheVariants as fault
@@ -21,6 +21,7 @@ use Rattle.electrictest.specs.Loads.{IsSuite, LoadsFor, LoadsAny, answered, quie
 use Rattle.electrictest.specs.Replies.{Unreported, unloaded}
 use Rattle.electrictest.specs.Commands.{ReportEnds, ReportsOver, RefusedOver, Reported}
 use Rattle.electrictest.proofs.AskedFor.{any_files, suite_of_words}
+use Rattle.electrictest.proofs.Held.{carried}
 
 -- ---- loading
 
@@ -32,23 +33,21 @@ module _ (a : Ask) (name : List ℕ) (asks : refusal_of a.command ≡ None) (ove
   loads_for files answer h = subst (λ (w : Option (Result (List ℕ) Status)). LoadsAny files (is_eager a.words) w (prepared (is_eager a.words) (answered answer))) (sym names_suite) (answered answer, (answer, h, refl), refl)
 
 -- its loading, for an eager form without its quiet initialisers
-pub loads_all : (told : Option Files) (a : Ask) (name : List ℕ) (x l : Loaded) → refusal_of a.command ≡ None → IsOverSuite a.command → name ≡ word_at a.words 1 →
-    IfSome told (λ files. LoadAnswers files name (Ok x)) → ◌≡◌ {A = Result Loaded Status} (Ok l) (prepared (is_eager a.words) (Ok x)) → IfSome told (λ files. LoadsFor files a (Ok l))
-loads_all None a name x l e over n h p = tt
-loads_all (Some files) a name x l e over n h p = subst (LoadsFor files a) (sym p) (loads_for a name e over n files (Ok x) h)
+pub loads_all : (told : Told) (a : Ask) (name : List ℕ) (x l : Loaded) → refusal_of a.command ≡ None → IsOverSuite a.command → name ≡ word_at a.words 1 →
+    OfHeld told (λ files. LoadAnswers files name (Ok x)) → ◌≡◌ {A = Result Loaded Status} (Ok l) (prepared (is_eager a.words) (Ok x)) → OfHeld told (λ files. LoadsFor files a (Ok l))
+loads_all told a name x l e over n h p = λ files may. subst (LoadsFor files a) (sym p) (loads_for a name e over n files (Ok x) (h files may))
 
 -- the fault of its loading
-pub unloaded_for : (told : Option Files) (a : Ask) (name : List ℕ) (f : LoadFault) (old new : DepotView) → refusal_of a.command ≡ None → IsOverSuite a.command → name ≡ word_at a.words 1 →
-    IfSome told (λ files. LoadAnswers files name (Err f)) → IsProper (λ read. IfSome told (λ files. IsRead files name read) × FailedAt old new read) f → IfSome told (λ files. Unreported files a (status_of f))
-unloaded_for None a name f old new e over n h p = tt
-unloaded_for (Some files) a name fault.NoMemory old new e over n h p = tt
-unloaded_for (Some files) a name (fault.Depot read) old new e over n h p = of_suite name (names_suite a name e over n) p.0
-unloaded_for (Some files) a name (fault.Absent x) old new e over n h p = unloaded (loads_for a name e over n files (Err (fault.Absent x)) h)
-unloaded_for (Some files) a name (fault.TooLarge x) old new e over n h p = unloaded (loads_for a name e over n files (Err (fault.TooLarge x)) h)
-unloaded_for (Some files) a name (fault.Suite line why) old new e over n h p = unloaded (loads_for a name e over n files (Err (fault.Suite line why)) h)
-unloaded_for (Some files) a name (fault.Class x f) old new e over n h p = unloaded (loads_for a name e over n files (Err (fault.Class x f)) h)
-unloaded_for (Some files) a name (fault.Link f) old new e over n h p = unloaded (loads_for a name e over n files (Err (fault.Link f)) h)
-unloaded_for (Some files) a name (fault.Check f) old new e over n h p = unloaded (loads_for a name e over n files (Err (fault.Check f)) h)
+pub unloaded_for : (told : Told) (a : Ask) (name : List ℕ) (f : LoadFault) (old new : DepotView) → refusal_of a.command ≡ None → IsOverSuite a.command → name ≡ word_at a.words 1 →
+    OfHeld told (λ files. LoadAnswers files name (Err f)) → IsProper (λ read. OfHeld told (λ files. IsRead files name read) × FailedAt old new read) f → OfHeld told (λ files. Unreported files a (status_of f))
+unloaded_for told a name fault.NoMemory old new e over n h p = λ files may. tt
+unloaded_for told a name (fault.Depot read) old new e over n h p = λ files may. of_suite name (names_suite a name e over n) (p.0 files may)
+unloaded_for told a name (fault.Absent x) old new e over n h p = λ files may. unloaded (loads_for a name e over n files (Err (fault.Absent x)) (h files may))
+unloaded_for told a name (fault.TooLarge x) old new e over n h p = λ files may. unloaded (loads_for a name e over n files (Err (fault.TooLarge x)) (h files may))
+unloaded_for told a name (fault.Suite line why) old new e over n h p = λ files may. unloaded (loads_for a name e over n files (Err (fault.Suite line why)) (h files may))
+unloaded_for told a name (fault.Class x f) old new e over n h p = λ files may. unloaded (loads_for a name e over n files (Err (fault.Class x f)) (h files may))
+unloaded_for told a name (fault.Link f) old new e over n h p = λ files may. unloaded (loads_for a name e over n files (Err (fault.Link f)) (h files may))
+unloaded_for told a name (fault.Check f) old new e over n h p = λ files may. unloaded (loads_for a name e over n files (Err (fault.Check f)) (h files may))
 
 -- whatever the depot tells: words that ask for nothing, and a fault of loading
 pub unasked_ends : (asking : Asking) (words : List (List ℕ)) (s : Status) (old new : DepotView) → refusal_of asking ≡ Some s → ReportEnds (ask asking words) s old new
@@ -75,22 +74,17 @@ quieted_suite l s = record { names = s.names; few = s.few; sums = s.sums ∙ ap 
 
 -- ---- and then the command
 
-module _ (told : Option Files) (a : Ask) (l : Loaded) (load : IfSome told (λ files. LoadsFor files a (Ok l))) where
-  report_all : (told : Option Files) → IfSome told (λ files. LoadsFor files a (Ok l)) → (passed : Bool) (text : List ℕ) (begun now : ℕ) → ReportsOver told a l passed text begun now → IfSome told (λ files. Reported files a passed text begun now)
-  report_all None load passed text begun now r = tt
-  report_all (Some files) load passed text begun now r = r load
+module _ (a : Ask) (l : Loaded) (mid new : Told) (later : TellsOn mid new) (load : OfHeld mid (λ files. LoadsFor files a (Ok l))) where
+  loaded_later : OfHeld new (λ files. LoadsFor files a (Ok l))
+  loaded_later = carried mid new later load
 
-  pub reports_all : (begun now : ℕ) (report : Result Report Status) → IfOk report (λ r. ReportsOver told a l r.passed r.text begun now) → IfOk report (λ r. IfSome told (λ files. Reported files a r.passed r.text begun now))
-  reports_all begun now (Ok r) h = report_all told load r.passed r.text begun now h
+  pub reports_all : (begun now : ℕ) (report : Result Report Status) → IfOk report (λ r. ReportsOver new a l r.passed r.text begun now) → IfOk report (λ r. OfHeld new (λ files. Reported files a r.passed r.text begun now))
+  reports_all begun now (Ok r) h = λ files may. h files may (loaded_later files may)
   reports_all begun now (Err s) h = tt
 
-  refuse_all : (told : Option Files) → IfSome told (λ files. LoadsFor files a (Ok l)) → (s : Status) → RefusedOver told a l s → IfSome told (λ files. Unreported files a s)
-  refuse_all None load s r = tt
-  refuse_all (Some files) load s r = r load
-
-  pub refuses_all : (report : Result Report Status) → IfErr report (λ s. RefusedOver told a l s) → IfErr report (λ s. IfSome told (λ files. Unreported files a s))
+  pub refuses_all : (report : Result Report Status) → IfErr report (λ s. RefusedOver new a l s) → IfErr report (λ s. OfHeld new (λ files. Unreported files a s))
   refuses_all (Ok r) h = tt
-  refuses_all (Err s) h = refuse_all told load s h
+  refuses_all (Err s) h = λ files may. h files may (loaded_later files may)
 
 -- a depot that failed after the suite was loaded
 module _ (a : Ask) (old mid new : DepotView) (le : old.faults ≤ mid.faults) where

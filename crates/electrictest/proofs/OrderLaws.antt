@@ -1,6 +1,6 @@
 -- An order, a plan and their refusals answer what is asked.
-use Rattle.std.proofs.Common.{◌≡◌, ℕ, List, Bool, true, refl, sym, subst, arith, Option, Some, None, Ok, IfSome}
-use Rattle.outside.specs.Depot.{Files, DepotView}
+use Rattle.std.proofs.Common.{◌≡◌, ℕ, List, Bool, true, refl, sym, subst, arith, Some, Ok}
+use Rattle.outside.specs.Depot.{Told, DepotView, OfHeld}
 use Rattle.order_law.specs.OrderFault.{OrderFault, twice, missing_writer, inverted}
 use Rattle.jvm_model.specs.declared.program.Names.{Names}
 use Rattle.suite_load.specs.declared.loaded.Loaded.{Loaded}
@@ -20,25 +20,23 @@ use Rattle.electrictest.specs.Causes.{MayRefuse}
 use Rattle.electrictest.specs.Commands.{IsProperInput, ReportEnds, ReportsOver, RefusedOver}
 use Rattle.electrictest.proofs.AskedFor.{reports_as, overs_as}
 
-pub order_reports : (told : Option Files) (a : Ask) (l : Loaded) (b : Beginning) (passed : Bool) (text : List ℕ) (begun now : ℕ) → a.command ≡ Ok command.Order → IfSome told (λ files. begun_by files a l ≡ Some (Ok b)) →
+pub order_reports : (told : Told) (a : Ask) (l : Loaded) (b : Beginning) (passed : Bool) (text : List ℕ) (begun now : ℕ) → a.command ≡ Ok command.Order → OfHeld told (λ files. begun_by files a l ≡ Some (Ok b)) →
     IsOfSuite l b → Reports l b passed text begun now → ReportsOver told a l passed text begun now
-order_reports None a l b passed text begun now e g suite r = tt
-order_reports (Some files) a l b passed text begun now e g suite r = λ h.
-    let report : IsOrdered files a passed text r.units = record { loaded = l; beginning = b; begins = record { load = h; begins = g }; suite = suite; report = r.report } in
+order_reports told a l b passed text begun now e g suite r = λ files may h.
+    let report : IsOrdered files a passed text r.units = record { loaded = l; beginning = b; begins = record { load = h; begins = g files may }; suite = suite; report = r.report } in
     record { units = r.units; report = reports_as (Ok command.Order) files a passed text r.units e report; steps = r.counts }
 
-pub order_refused : (told : Option Files) (a : Ask) (l : Loaded) (b : Beginning) (s : Status) → a.command ≡ Ok command.Order → IfSome told (λ files. begun_by files a l ≡ Some (Ok b)) → IsOfSuite l b → OrderRefused l b s → RefusedOver told a l s
-order_refused None a l b s e g suite r = tt
-order_refused (Some files) a l b ends.NoMemory e g suite r = λ h. tt
-order_refused (Some files) a l b (ends.Input f) e g suite r = λ h. unlawful e (record { load = h; begins = g }) r
-order_refused (Some files) a l b (ends.Over f) e g suite r = λ h.
-    let over : IsOrderedOver files a f = record { loaded = l; beginning = b; begins = record { load = h; begins = g }; suite = suite; over = r } in
+pub order_refused : (told : Told) (a : Ask) (l : Loaded) (b : Beginning) (s : Status) → a.command ≡ Ok command.Order → OfHeld told (λ files. begun_by files a l ≡ Some (Ok b)) → IsOfSuite l b → OrderRefused l b s → RefusedOver told a l s
+order_refused told a l b ends.NoMemory e g suite r = λ files may h. tt
+order_refused told a l b (ends.Input f) e g suite r = λ files may h. unlawful e (record { load = h; begins = g files may }) r
+order_refused told a l b (ends.Over f) e g suite r = λ files may h.
+    let over : IsOrderedOver files a f = record { loaded = l; beginning = b; begins = record { load = h; begins = g files may }; suite = suite; over = r } in
     overs_as (Ok command.Order) files a f e over
-order_refused (Some files) a l b (ends.Depot name) e g suite r = absurd r
-order_refused (Some files) a l b ends.Words e g suite r = absurd r
-order_refused (Some files) a l b ends.Done e g suite r = absurd r
-order_refused (Some files) a l b ends.NotPassed e g suite r = absurd r
-order_refused (Some files) a l b ends.Sink e g suite r = absurd r
+order_refused told a l b (ends.Depot name) e g suite r = absurd r
+order_refused told a l b ends.Words e g suite r = absurd r
+order_refused told a l b ends.Done e g suite r = absurd r
+order_refused told a l b ends.NotPassed e g suite r = absurd r
+order_refused told a l b ends.Sink e g suite r = absurd r
 
 order_may : (asking : Asking) (names : Names) (x : OrderFault) → asking ≡ Ok command.Order → MayRefuse asking (order_input names x) × IsProperInput (order_input names x)
 order_may asking names (twice t) e = (e, tt)
@@ -55,9 +53,8 @@ order_ends a l b ends.Done old new e r = absurd r
 order_ends a l b ends.NotPassed old new e r = absurd r
 order_ends a l b ends.Sink old new e r = absurd r
 
-pub plan_reports : (told : Option Files) (a : Ask) (workers : ℕ) (l : Loaded) (b : Beginning) (text : List ℕ) (steps : ℕ) → a.command ≡ Ok (command.Plan workers) → IfSome told (λ files. begun_by files a l ≡ Some (Ok b)) →
+pub plan_reports : (told : Told) (a : Ask) (workers : ℕ) (l : Loaded) (b : Beginning) (text : List ℕ) (steps : ℕ) → a.command ≡ Ok (command.Plan workers) → OfHeld told (λ files. begun_by files a l ≡ Some (Ok b)) →
     IsPlanReport b workers text → ReportsOver told a l true text steps steps
-plan_reports None a workers l b text steps e g r = tt
-plan_reports (Some files) a workers l b text steps e g r = λ h.
-    let report : IsPlanned files a workers true text 0 = record { loaded = l; beginning = b; begins = record { load = h; begins = g }; report = r; ends = refl; free = refl } in
+plan_reports told a workers l b text steps e g r = λ files may h.
+    let report : IsPlanned files a workers true text 0 = record { loaded = l; beginning = b; begins = record { load = h; begins = g files may }; report = r; ends = refl; free = refl } in
     record { units = 0; report = reports_as (Ok (command.Plan workers)) files a true text 0 e report; steps = omega arith }

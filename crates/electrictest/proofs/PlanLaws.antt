@@ -1,5 +1,5 @@
 -- Plans and their texts.
-use Rattle.std.proofs.Common.{◌≡◌, ℕ, ◌+◌, ◌*◌, ◌^◌, ◌<◌, ◌≤◌, List, [], ◌∷◌, length, map, sum, nat_le, true, refl, ap, ◌∙◌, subst, arith, All, Option, Some, None}
+use Rattle.std.proofs.Common.{◌≡◌, ℕ, ◌+◌, ◌*◌, ◌^◌, ◌<◌, ◌≤◌, List, [], ◌∷◌, length, map, sum, nat_le, true, refl, ap, ◌∙◌, subst, arith, All}
 use Rattle.std.specs.List.{list_all}
 use Rattle.std.proofs.lemmas.Bool.{and_parts, leb-true}
 use Rattle.std.proofs.lemmas.List.Sums.{sum_by-cons}
@@ -10,7 +10,7 @@ use Rattle.order_law.specs.Plan.{AreListedChainsOf}
 use Rattle.order_law.specs.RecordForm.{is_record_form}
 use Rattle.dep_graph.specs.Graphs.{GoUp}
 use Rattle.selection_close.specs.Closed.{IsClosure}
-use Rattle.outside.specs.Depot.{Files}
+use Rattle.outside.specs.Depot.{Told}
 use Rattle.suite_load.specs.declared.loaded.Loaded.{Loaded}
 use Rattle.schedule_plan.specs.Plans.{HasUnits, HaveUnits}
 use Rattle.schedule_plan.proofs.Places.{place_of}
@@ -67,6 +67,5 @@ tests_have l ts us units s e h many t m =
     subst (λ (x : ℕ). (0 < x) × (x ≤ length units)) p.2 (q.0, omega arith)
 
 -- memory may be refused to any plan
-pub unplanned : (told : Option Files) (a : Ask) (l : Loaded) → RefusedOver told a l ends.NoMemory
-unplanned None a l = tt
-unplanned (Some files) a l = λ h. tt
+pub unplanned : (told : Told) (a : Ask) (l : Loaded) → RefusedOver told a l ends.NoMemory
+unplanned told a l = λ files may h. tt

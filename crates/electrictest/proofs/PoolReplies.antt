@@ -1,6 +1,6 @@
 -- A run on workers, or its refusal, answers what is asked.
-use Rattle.std.proofs.Common.{◌≡◌, ℕ, List, length, Bool, Option, Some, None, Ok, IfSome, All}
-use Rattle.outside.specs.Depot.{Files, DepotView}
+use Rattle.std.proofs.Common.{◌≡◌, ℕ, List, length, Bool, Some, Ok, All}
+use Rattle.outside.specs.Depot.{Told, DepotView, OfHeld}
 use Rattle.jvm_model.specs.Linked.{Linked}
 use Rattle.suite_load.specs.declared.loaded.Loaded.{Loaded}
 use Rattle.electrictest.specs.declared.status.Status.{Status}
@@ -25,26 +25,24 @@ is_of_suite l ts b suite linked same named units = record {
   tests = units_are_tests l.checked b.tests b.record.units units (tests_have l ts b.tests b.record.units suite same named units);
 }
 
-pub pool_reports : (told : Option Files) (a : Ask) (workers : ℕ) (log : Bool) (l : Loaded) (b : Beginning) (passed : Bool) (text : List ℕ) (begun now : ℕ) → a.command ≡ Ok (command.Run workers log) →
-    IfSome told (λ files. begun_by files a l ≡ Some (Ok b)) → IsOfSuite l b → PoolReports l b workers log passed text begun now → ReportsOver told a l passed text begun now
-pool_reports None a workers log l b passed text begun now e g suite r = tt
-pool_reports (Some files) a workers log l b passed text begun now e g suite r = λ h.
-    let report : IsPoolRun files a workers log passed text r.units = record { loaded = l; beginning = b; begins = record { load = h; begins = g }; suite = suite; report = r.report } in
+pub pool_reports : (told : Told) (a : Ask) (workers : ℕ) (log : Bool) (l : Loaded) (b : Beginning) (passed : Bool) (text : List ℕ) (begun now : ℕ) → a.command ≡ Ok (command.Run workers log) →
+    OfHeld told (λ files. begun_by files a l ≡ Some (Ok b)) → IsOfSuite l b → PoolReports l b workers log passed text begun now → ReportsOver told a l passed text begun now
+pool_reports told a workers log l b passed text begun now e g suite r = λ files may h.
+    let report : IsPoolRun files a workers log passed text r.units = record { loaded = l; beginning = b; begins = record { load = h; begins = g files may }; suite = suite; report = r.report } in
     record { units = r.units; report = reports_as (Ok (command.Run workers log)) files a passed text r.units e report; steps = r.counts }
 
-pub pool_refused : (told : Option Files) (a : Ask) (workers : ℕ) (log : Bool) (l : Loaded) (b : Beginning) (s : Status) → a.command ≡ Ok (command.Run workers log) →
-    IfSome told (λ files. begun_by files a l ≡ Some (Ok b)) → IsOfSuite l b → PoolRefused l b s → RefusedOver told a l s
-pool_refused None a workers log l b s e g suite r = tt
-pool_refused (Some files) a workers log l b ends.NoMemory e g suite r = λ h. tt
-pool_refused (Some files) a workers log l b (ends.Over f) e g suite r = λ h.
-    let over : IsPoolOver files a f = record { loaded = l; beginning = b; begins = record { load = h; begins = g }; suite = suite; over = r } in
+pub pool_refused : (told : Told) (a : Ask) (workers : ℕ) (log : Bool) (l : Loaded) (b : Beginning) (s : Status) → a.command ≡ Ok (command.Run workers log) →
+    OfHeld told (λ files. begun_by files a l ≡ Some (Ok b)) → IsOfSuite l b → PoolRefused l b s → RefusedOver told a l s
+pool_refused told a workers log l b ends.NoMemory e g suite r = λ files may h. tt
+pool_refused told a workers log l b (ends.Over f) e g suite r = λ files may h.
+    let over : IsPoolOver files a f = record { loaded = l; beginning = b; begins = record { load = h; begins = g files may }; suite = suite; over = r } in
     overs_as (Ok (command.Run workers log)) files a f e over
-pool_refused (Some files) a workers log l b (ends.Input f) e g suite r = absurd r
-pool_refused (Some files) a workers log l b (ends.Depot name) e g suite r = absurd r
-pool_refused (Some files) a workers log l b ends.Words e g suite r = absurd r
-pool_refused (Some files) a workers log l b ends.Done e g suite r = absurd r
-pool_refused (Some files) a workers log l b ends.NotPassed e g suite r = absurd r
-pool_refused (Some files) a workers log l b ends.Sink e g suite r = absurd r
+pool_refused told a workers log l b (ends.Input f) e g suite r = absurd r
+pool_refused told a workers log l b (ends.Depot name) e g suite r = absurd r
+pool_refused told a workers log l b ends.Words e g suite r = absurd r
+pool_refused told a workers log l b ends.Done e g suite r = absurd r
+pool_refused told a workers log l b ends.NotPassed e g suite r = absurd r
+pool_refused told a workers log l b ends.Sink e g suite r = absurd r
 
 pub pool_ends : (a : Ask) (l : Loaded) (b : Beginning) (s : Status) (old new : DepotView) → AsksSuch runs_tests a.command → PoolRefused l b s → ReportEnds a s old new
 pool_ends a l b ends.NoMemory old new runs r = tt

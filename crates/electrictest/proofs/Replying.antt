@@ -1,6 +1,6 @@
 -- What is on the sink, from what was written.
-use Rattle.std.proofs.Common.{◌≡◌, ◌≢◌, ℕ, List, Bool, true, false, refl, sym, subst, inl, inr, Option, Some, None, IfSome, Result, Ok, Err, IfOk, IfErr}
-use Rattle.outside.specs.Depot.{Files, DepotView}
+use Rattle.std.proofs.Common.{◌≡◌, ◌≢◌, ℕ, List, Bool, true, false, refl, sym, subst, inl, inr, Result, Ok, Err, IfOk, IfErr}
+use Rattle.outside.specs.Depot.{Files, Told, DepotView, OfHeld}
 use Rattle.outside.specs.Sink.{SinkView}
 use Rattle.electrictest.specs.declared.reports.Report.{Report}
 use Rattle.electrictest.specs.declared.status.Status.{Status}
@@ -29,12 +29,11 @@ pub writes_as : (piece text : List ℕ) (s : Status) (passed : Bool) (result : S
 writes_as piece text s passed result sink sink_now e f w = subst (λ z. Writes z (report_status passed) result sink sink_now) e (subst (λ z. Writes piece z result sink sink_now) f w)
 
 -- a report was written
-served_done : (told : Option Files) (a b : Ask) (depot depot_now : DepotView) (begun now : ℕ) (passed : Bool) (text : List ℕ) (result : Status) (sink sink_now : SinkView) → a ≡ b →
-    IfSome told (λ files. Reported files a passed text begun now) → Writes text (report_status passed) result sink sink_now →
-    IfSome told (λ files. Served (called b depot depot_now begun now files) result sink sink_now)
-served_done None a b depot depot_now begun now passed text result sink sink_now e r w = tt
-served_done (Some files) a b depot depot_now begun now passed text result sink sink_now e r w =
-    done_at (called b depot depot_now begun now files) passed text result sink sink_now (subst (λ z. Reported files z passed text begun now) e r) w
+served_done : (told : Told) (a b : Ask) (depot depot_now : DepotView) (begun now : ℕ) (passed : Bool) (text : List ℕ) (result : Status) (sink sink_now : SinkView) → a ≡ b →
+    OfHeld told (λ files. Reported files a passed text begun now) → Writes text (report_status passed) result sink sink_now →
+    OfHeld told (λ files. Served (called b depot depot_now begun now files) result sink sink_now)
+served_done told a b depot depot_now begun now passed text result sink sink_now e r w = λ files may.
+    done_at (called b depot depot_now begun now files) passed text result sink sink_now (subst (λ z. Reported files z passed text begun now) e (r files may)) w
 
 taken_done : (passed : Bool) (text : List ℕ) (result : Status) (sink sink_now : SinkView) → Writes text (report_status passed) result sink sink_now → Taken result sink sink_now
 taken_done true text result sink sink_now (inl h) = subst (λ z. Taken z sink sink_now) (sym h.0) (text, h.1)
@@ -113,11 +112,10 @@ refused_at asked s result sink sink_now r e (inl (n, w)) =
     (line_served asked s sink sink_now n e) w
 
 -- a refusal was written
-served_refused : (told : Option Files) (a b : Ask) (depot depot_now : DepotView) (begun now : ℕ) (s result : Status) (sink sink_now : SinkView) → a ≡ b → IfSome told (λ files. Unreported files a s) → ReportEnds a s depot depot_now → Refused s result sink sink_now →
-    IfSome told (λ files. Served (called b depot depot_now begun now files) result sink sink_now)
-served_refused None a b depot depot_now begun now s result sink sink_now e r n h = tt
-served_refused (Some files) a b depot depot_now begun now s result sink sink_now e r n h =
-    refused_at (called b depot depot_now begun now files) s result sink sink_now (subst (λ z. Unreported files z s) e r) (subst (λ z. ReportEnds z s depot depot_now) e n) h
+served_refused : (told : Told) (a b : Ask) (depot depot_now : DepotView) (begun now : ℕ) (s result : Status) (sink sink_now : SinkView) → a ≡ b → OfHeld told (λ files. Unreported files a s) → ReportEnds a s depot depot_now → Refused s result sink sink_now →
+    OfHeld told (λ files. Served (called b depot depot_now begun now files) result sink sink_now)
+served_refused told a b depot depot_now begun now s result sink sink_now e r n h = λ files may.
+    refused_at (called b depot depot_now begun now files) s result sink sink_now (subst (λ z. Unreported files z s) e (r files may)) (subst (λ z. ReportEnds z s depot depot_now) e n) h
 
 taken_refused : (a : Ask) (depot depot_now : DepotView) (s result : Status) (sink sink_now : SinkView) → ReportEnds a s depot depot_now → Refused s result sink sink_now → Taken result sink sink_now
 taken_refused a depot depot_now s result sink sink_now e (inr h) = subst (λ z. Taken z sink sink_now) (sym h.0) h.1
@@ -142,9 +140,9 @@ ends_refused a b s result depot depot_now sink sink_now q e (inl (n, inr h)) = s
 -- ---- a report or a refusal
 
 module _ (a b : Ask) (depot depot_now : DepotView) (result : Status) (sink sink_now : SinkView) (same : a ≡ b) where
-  pub served_by : (told : Option Files) (begun now : ℕ) (report : Result Report Status) → IfOk report (λ r. IfSome told (λ files. Reported files a r.passed r.text begun now)) → IfErr report (λ s. IfSome told (λ files. Unreported files a s)) →
+  pub served_by : (told : Told) (begun now : ℕ) (report : Result Report Status) → IfOk report (λ r. OfHeld told (λ files. Reported files a r.passed r.text begun now)) → IfErr report (λ s. OfHeld told (λ files. Unreported files a s)) →
       IfErr report (λ s. ReportEnds a s depot depot_now) → IfOk report (λ r. Writes r.text (report_status r.passed) result sink sink_now) → IfErr report (λ s. Refused s result sink sink_now) →
-      IfSome told (λ files. Served (called b depot depot_now begun now files) result sink sink_now)
+      OfHeld told (λ files. Served (called b depot depot_now begun now files) result sink sink_now)
   served_by told begun now (Ok r) reports refused ends w n = served_done told a b depot depot_now begun now r.passed r.text result sink sink_now same reports w
   served_by told begun now (Err s) reports refused ends w n = served_refused told a b depot depot_now begun now s result sink sink_now same refused ends n
 
@@ -157,8 +155,3 @@ module _ (a b : Ask) (depot depot_now : DepotView) (result : Status) (sink sink_
       Ends b result depot depot_now sink sink_now
   ends_by (Ok r) form ends w n = ends_done a b r.passed r.text result depot depot_now sink sink_now same form w
   ends_by (Err s) form ends w n = ends_refused a b s result depot depot_now sink sink_now same ends n
-
--- what is so for each depot's files is so for those that are told
-pub for_told : {P Q : Files → Type 0} (told : Option Files) → ((files : Files) → P files → Q files) → IfSome told P → IfSome told Q
-for_told None f h = tt
-for_told (Some files) f h = f files h

@@ -1,7 +1,7 @@
 -- What a command with a record begins with, and why it doesn't begin.
-use Rattle.std.proofs.Common.{◌≡◌, ℕ, List, refl, sym, ap, subst, ◌∙◌, arith, All, Option, Some, None, option_map, Result, Ok, Err, IfSome}
+use Rattle.std.proofs.Common.{◌≡◌, ℕ, List, refl, sym, ap, subst, ◌∙◌, arith, All, Option, Some, option_map, Result, Ok, Err, IfSome}
 use Rattle.et_base.specs.Answers as answers
-use Rattle.outside.specs.Depot.{Files, DepotView}
+use Rattle.outside.specs.Depot.{Files, Told, DepotView, OfHeld}
 use Rattle.dep_record.specs.RecordText.{Said}
 use Rattle.suite_load.specs.declared.loaded.Loaded.{Loaded}
 use Rattle.test_run.specs.Running.{IsTest}
@@ -31,17 +31,16 @@ not_named : (fits : Loaded → Said → Result (Unit {0}) InputFault) (files : F
 unfolding begun
 not_named fits files l name f = refl
 
-pub unnamed : (told : Option Files) (a : Ask) (l : Loaded) (named : Result (List ℕ) InputFault) (s : Status) → named_by a.command a.words l ≡ Some named → answers.Fails (says s) named → IsNameRefusal s → RefusedOver told a l s
-unnamed None a l named s e g p = tt
-unnamed (Some files) a l named ends.NoMemory e g p = λ h. tt
-unnamed (Some files) a l named (ends.Input f) e g p = λ h.
+pub unnamed : (told : Told) (a : Ask) (l : Loaded) (named : Result (List ℕ) InputFault) (s : Status) → named_by a.command a.words l ≡ Some named → answers.Fails (says s) named → IsNameRefusal s → RefusedOver told a l s
+unnamed told a l named ends.NoMemory e g p = λ files may h. tt
+unnamed told a l named (ends.Input f) e g p = λ files may h.
     unbegun (record { load = h; begins = begun_as files a l named (Err f) e (ap (λ n. begun (fits_for a.command) files l n (word_at a.words 2)) g ∙ not_named (fits_for a.command) files l (word_at a.words 2) f) })
-unnamed (Some files) a l named (ends.Depot name) e g p = absurd p
-unnamed (Some files) a l named (ends.Over f) e g p = absurd p
-unnamed (Some files) a l named ends.Words e g p = absurd p
-unnamed (Some files) a l named ends.Done e g p = absurd p
-unnamed (Some files) a l named ends.NotPassed e g p = absurd p
-unnamed (Some files) a l named ends.Sink e g p = absurd p
+unnamed told a l named (ends.Depot name) e g p = absurd p
+unnamed told a l named (ends.Over f) e g p = absurd p
+unnamed told a l named ends.Words e g p = absurd p
+unnamed told a l named ends.Done e g p = absurd p
+unnamed told a l named ends.NotPassed e g p = absurd p
+unnamed told a l named ends.Sink e g p = absurd p
 
 -- the command has a record, and where a name is of no test it names tests
 reads_by : (asking : Asking) (words : List (List ℕ)) (l : Loaded) (named : Result (List ℕ) InputFault) → named_by asking words l ≡ Some named → AsksSuch reads_record asking
@@ -83,18 +82,17 @@ begun_by_tests files a l named tests name b q e k n g =
     (ap (λ z. begun (fits_for a.command) files l z (word_at a.words 2)) k ∙ (ap (begun (fits_for a.command) files l (Ok tests)) (sym n) ∙ (ap (λ (f : Loaded → Said → Result (Unit {0}) InputFault). begun f files l (Ok tests) name) q ∙ g)))
 
 -- nor where the record is refused
-pub not_begun : (told : Option Files) (a : Ask) (l : Loaded) (named : Result (List ℕ) InputFault) (tests name : List ℕ) (s : Status) (old new : DepotView) {fits : Loaded → Said → Result (Unit {0}) InputFault} → fits_for a.command ≡ fits →
-    named_by a.command a.words l ≡ Some named → named ≡ Ok tests → name ≡ word_at a.words 2 → IfSome told (λ files. answers.Fails (says s) (begun fits files l (Ok tests) name)) → Fails name old new s → RefusedOver told a l s
-not_begun None a l named tests name s old new q e k n g p = tt
-not_begun (Some files) a l named tests name ends.NoMemory old new q e k n g p = λ h. tt
-not_begun (Some files) a l named tests name (ends.Input f) old new q e k n g p = λ h.
-    unbegun (record { load = h; begins = begun_by_tests files a l named tests name (Err f) q e k n g })
-not_begun (Some files) a l named tests name (ends.Depot read) old new q e k n g p = λ h. of_record l tests h (e ∙ ap Some k) (p.0 ∙ n)
-not_begun (Some files) a l named tests name (ends.Over f) old new q e k n g p = absurd p
-not_begun (Some files) a l named tests name ends.Words old new q e k n g p = absurd p
-not_begun (Some files) a l named tests name ends.Done old new q e k n g p = absurd p
-not_begun (Some files) a l named tests name ends.NotPassed old new q e k n g p = absurd p
-not_begun (Some files) a l named tests name ends.Sink old new q e k n g p = absurd p
+pub not_begun : (told : Told) (a : Ask) (l : Loaded) (named : Result (List ℕ) InputFault) (tests name : List ℕ) (s : Status) (old new : DepotView) {fits : Loaded → Said → Result (Unit {0}) InputFault} → fits_for a.command ≡ fits →
+    named_by a.command a.words l ≡ Some named → named ≡ Ok tests → name ≡ word_at a.words 2 → OfHeld told (λ files. answers.Fails (says s) (begun fits files l (Ok tests) name)) → Fails name old new s → RefusedOver told a l s
+not_begun told a l named tests name ends.NoMemory old new q e k n g p = λ files may h. tt
+not_begun told a l named tests name (ends.Input f) old new q e k n g p = λ files may h.
+    unbegun (record { load = h; begins = begun_by_tests files a l named tests name (Err f) q e k n (g files may) })
+not_begun told a l named tests name (ends.Depot read) old new q e k n g p = λ files may h. of_record l tests h (e ∙ ap Some k) (p.0 ∙ n)
+not_begun told a l named tests name (ends.Over f) old new q e k n g p = absurd p
+not_begun told a l named tests name ends.Words old new q e k n g p = absurd p
+not_begun told a l named tests name ends.Done old new q e k n g p = absurd p
+not_begun told a l named tests name ends.NotPassed old new q e k n g p = absurd p
+not_begun told a l named tests name ends.Sink old new q e k n g p = absurd p
 
 record_may : (asking : Asking) (f : InputFault) → AsksSuch reads_record asking → IsOfRecord f → MayRefuse asking f × IsProperInput f
 record_may asking (input.Absent name) h p = (such_files asking h, tt)
@@ -126,10 +124,9 @@ proper_fails name ends.NotPassed old new p = absurd p
 proper_fails name ends.Sink old new p = absurd p
 
 -- what is begun
-pub begins : (told : Option Files) (a : Ask) (l : Loaded) (named : Result (List ℕ) InputFault) (tests name : List ℕ) (b : Beginning) {fits : Loaded → Said → Result (Unit {0}) InputFault} → fits_for a.command ≡ fits →
-    named_by a.command a.words l ≡ Some named → named ≡ Ok tests → name ≡ word_at a.words 2 → IfSome told (λ files. begun fits files l (Ok tests) name ≡ Ok b) → IfSome told (λ files. begun_by files a l ≡ Some (Ok b))
-begins None a l named tests name b q e k n g = tt
-begins (Some files) a l named tests name b q e k n g = begun_by_tests files a l named tests name (Ok b) q e k n g
+pub begins : (told : Told) (a : Ask) (l : Loaded) (named : Result (List ℕ) InputFault) (tests name : List ℕ) (b : Beginning) {fits : Loaded → Said → Result (Unit {0}) InputFault} → fits_for a.command ≡ fits →
+    named_by a.command a.words l ≡ Some named → named ≡ Ok tests → name ≡ word_at a.words 2 → OfHeld told (λ files. begun fits files l (Ok tests) name ≡ Ok b) → OfHeld told (λ files. begun_by files a l ≡ Some (Ok b))
+begins told a l named tests name b q e k n g = λ files may. begun_by_tests files a l named tests name (Ok b) q e k n (g files may)
 
 -- what gives the tests that a command names gives these
 pub named_gives : (r : Result (List ℕ) Status) (o : Option (Result (List ℕ) InputFault)) (named : Result (List ℕ) InputFault) → o ≡ Some named → IfSome o (Gives (λ ts. ts) r) → Gives (λ ts. ts) r named

@@ -1,7 +1,7 @@
 -- What the top call promises: its status, the bytes on the sink and the steps (this project's).
-use Rattle.std.specs.Prelude.{◌≡◌, ◌≢◌, ◌⊎◌, ℕ, ◌+◌, ◌-◌, ◌^◌, ◌≤◌, List, length, Bool, true, false, Option, Ok, IfSome}
+use Rattle.std.specs.Prelude.{◌≡◌, ◌≢◌, ◌⊎◌, ℕ, ◌+◌, ◌-◌, ◌^◌, ◌≤◌, List, length, Bool, true, false, Ok}
 use Rattle.outside.specs.Counts.{Rose}
-use Rattle.outside.specs.Depot.{Files, DepotView, FailedAt}
+use Rattle.outside.specs.Depot.{Files, Told, DepotView, FailedAt, OfHeld}
 use Rattle.outside.specs.Sink.{SinkView, TookPrefix, appended, HasRoom}
 use Rattle.class_reader.specs.declared.fault.ClassFault.TheVariants as class
 use Rattle.class_link.specs.declared.fault.LinkFault.TheVariants as linking
@@ -65,13 +65,13 @@ pub record Reported (files : Files) (a : Ask) (passed : Bool) (text : List ℕ) 
   pub report : Reports files a passed text units
   pub steps : now ≡ begun + units
 
--- What a command over a loaded suite answers, where the depot's files are told and the suite is theirs: a text, or why there is
--- none.
-abbrev pub ReportsOver : Option Files → Ask → Loaded → Bool → List ℕ → ℕ → ℕ → Type 0
-ReportsOver told a l passed text begun now = IfSome told (λ files. LoadsFor files a (Ok l) → Reported files a passed text begun now)
+-- What a command over a loaded suite answers, of whichever files the depot may hold that have this suite: a text, or why there
+-- is none.
+abbrev pub ReportsOver : Told → Ask → Loaded → Bool → List ℕ → ℕ → ℕ → Type 0
+ReportsOver told a l passed text begun now = OfHeld told (λ files. LoadsFor files a (Ok l) → Reported files a passed text begun now)
 
-abbrev pub RefusedOver : Option Files → Ask → Loaded → Status → Type 0
-RefusedOver told a l s = IfSome told (λ files. LoadsFor files a (Ok l) → Unreported files a s)
+abbrev pub RefusedOver : Told → Ask → Loaded → Status → Type 0
+RefusedOver told a l s = OfHeld told (λ files. LoadsFor files a (Ok l) → Unreported files a s)
 
 -- the text was taken; where a told room holds it, the count of faults stood still
 pub record Whole (text : List ℕ) (old new : SinkView) : Type 0 where

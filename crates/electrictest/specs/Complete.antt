@@ -2,7 +2,7 @@
 use Rattle.std.specs.Prelude.{◌≡◌, ◌<◌, ◌≤◌, ◌-◌, ◌^◌, ℕ, List, length, Some, None, Ok, IfSome, IsOk}
 use Rattle.order_law.specs.Conflicts.{Lawful}
 use Rattle.outside.specs.Counts.{Rose}
-use Rattle.outside.specs.Depot.{Files, DepotView}
+use Rattle.outside.specs.Depot.{Files, DepotView, all_files}
 use Rattle.outside.specs.QuietSink.{QuietSinkState}
 use Rattle.outside.specs.Sink.{SinkView}
 use Rattle.suite_load.specs.declared.loaded.Loaded.{Loaded}
@@ -51,7 +51,7 @@ Complete asked s old new = IsAccepted asked.files asked.ask → NoneFailed asked
 
 -- what a `QuietDepot` of these files shows, and a `QuietSink`
 abbrev pub quiet_depot : Files → DepotView
-quiet_depot files = record { told = Some files; faults = 0; last_failed = None }
+quiet_depot files = record { told = all_files files; faults = 0; last_failed = None }
 
 abbrev pub quiet_sink : QuietSinkState → SinkView
 quiet_sink s = record { told = Some s.held; room = Some s.room; faults = s.faults }

@@ -1,6 +1,7 @@
 //! What a command with a record of the suite begins with.
 
 ghost use Rattle.std.specs.Prelude.{◌≡◌, ◌≤◌, All, Ok, IfOk, IfErr, IfSome, Some, length};
+ghost use Rattle.outside.specs.Depot.{OfHeld, TellsOn};
 ghost use Rattle.electrictest.specs.Commands.{IsNameRefusal, ReportEnds, RefusedOver};
 ghost use Rattle.electrictest.specs.Loads.{IsSuite, NamesTests, begun_by, named_by};
 ghost use Rattle.electrictest.specs.PoolRuns.{IsOfSuite};
@@ -47,15 +48,15 @@ pub fn begin<D: Depot>(
 ) -> Result<Request, Status>
     requires named { NamesTests ask.now loaded.now }
     requires suite { IsSuite loaded.now }
-    ensures told { (D.shown depot.new).told ≡ (D.shown depot.old).told }
+    ensures told { TellsOn (D.shown depot.old).told (D.shown depot.new).told }
     ensures faults { (D.shown depot.old).faults ≤ (D.shown depot.new).faults }
-    ensures begins { IfOk result (λ b. IfSome (D.shown depot.old).told (λ files.
+    ensures begins { IfOk result (λ b. OfHeld (D.shown depot.new).told (λ files.
         begun_by files ask.now loaded.now ≡ Some (Ok (beginning b)))) }
     ensures suite { IfOk result (λ b. IsOfSuite loaded.now (beginning b)) }
     ensures tests { IfOk result (λ b. All (IsTest loaded.now.checked) b.tests) }
     ensures units { IfOk result (λ b. HasUnits b.tests b.record.units) }
     ensures many { IfOk result (λ b. length b.record.units ≡ length loaded.now.checked.tests) }
-    ensures refused { IfErr result (λ s. RefusedOver (D.shown depot.old).told ask.now loaded.now s) }
+    ensures refused { IfErr result (λ s. RefusedOver (D.shown depot.new).told ask.now loaded.now s) }
     ensures ends { IfErr result (λ s.
         ReportEnds ask.now s (D.shown depot.old) (D.shown depot.new)) }
 {

@@ -1,8 +1,8 @@
 //! Detection runs: the record of a suite, and the reports on its dependences.
 
-ghost use Rattle.std.specs.Prelude.{◌≡◌, ◌+◌, Option, Ok, sum, IfOk, IfErr};
+ghost use Rattle.std.specs.Prelude.{◌≡◌, ◌+◌, Ok, sum, IfOk, IfErr};
 ghost use Rattle.detect_run.specs.Detection.{IsDetectedRecord, IsDetection};
-ghost use Rattle.outside.specs.Depot.{Files, DepotView};
+ghost use Rattle.outside.specs.Depot.{Told, DepotView};
 ghost use Rattle.electrictest.specs.Causes.{MayReport};
 ghost use Rattle.electrictest.specs.Commands.{ReportEnds, ReportsOver, RefusedOver};
 ghost use Rattle.electrictest.specs.declared.words.Command.TheVariants as command;
@@ -120,9 +120,9 @@ pub fn record_for<L: Ledger>(
     steps: &mut Steps<L>,
 ) -> Result<Report, Status>
     requires suite { IsSuite loaded.now }
-    ensures reports { (told : Option Files) (a : Ask) → a.command ≡ Ok command.Detect → IfOk result (λ r.
+    ensures reports { (told : Told) (a : Ask) → a.command ≡ Ok command.Detect → IfOk result (λ r.
         ReportsOver told a loaded.now r.passed r.text steps.old steps.new) }
-    ensures refused { (told : Option Files) (a : Ask) → a.command ≡ Ok command.Detect →
+    ensures refused { (told : Told) (a : Ask) → a.command ≡ Ok command.Detect →
         IfErr result (λ s. RefusedOver told a loaded.now s) }
     ensures form { (a : Ask) → a.command ≡ Ok command.Detect →
         IfOk result (λ r. MayReport a.command r.passed) }
@@ -142,9 +142,9 @@ pub fn deps_for<L: Ledger>(
     steps: &mut Steps<L>,
 ) -> Result<Report, Status>
     requires suite { IsSuite loaded.now }
-    ensures reports { (told : Option Files) (a : Ask) → a.command ≡ Ok (command.Deps json) → IfOk result (λ r.
+    ensures reports { (told : Told) (a : Ask) → a.command ≡ Ok (command.Deps json) → IfOk result (λ r.
         ReportsOver told a loaded.now r.passed r.text steps.old steps.new) }
-    ensures refused { (told : Option Files) (a : Ask) → a.command ≡ Ok (command.Deps json) →
+    ensures refused { (told : Told) (a : Ask) → a.command ≡ Ok (command.Deps json) →
         IfErr result (λ s. RefusedOver told a loaded.now s) }
     ensures form { (a : Ask) → a.command ≡ Ok (command.Deps json) →
         IfOk result (λ r. MayReport a.command r.passed) }

@@ -5,8 +5,8 @@
 //! command's own file, say `quiet_lists.rt`.
 //!
 //! - `electric` serves every command: what is on the sink by each status is what is defined for
-//!   these words, where the depot tells its files (`served`), and whatever it tells as `taken`
-//!   says.
+//!   these words, of whichever files the depot may hold by what it told (`served`), and in any
+//!   case as `taken` says.
 //! - `electric_plain` serves in the same way what needs no threads.
 //! - `own_orders_law` and `own_runs_law` say what the suite's own record gives, and the other calls of `laws.rt` what comes
 //!   of faults that don't.

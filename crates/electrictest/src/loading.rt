@@ -1,6 +1,7 @@
 //! From words and a depot's files to a checked program.
 
-ghost use Rattle.std.specs.Prelude.{◌≡◌, ◌≤◌, IfOk, IfErr, IfSome, Ok};
+ghost use Rattle.std.specs.Prelude.{◌≡◌, ◌≤◌, IfOk, IfErr, Ok};
+ghost use Rattle.outside.specs.Depot.{OfHeld, TellsOn};
 ghost use Rattle.electrictest.specs.Causes.{AsksAny};
 ghost use Rattle.electrictest.specs.Commands.{ReportEnds};
 ghost use Rattle.electrictest.specs.Loads.{LoadsFor, IsSuite};
@@ -74,11 +75,11 @@ fn prepared(alloc: Global, eager: bool, loaded: Loaded) -> Result<Loaded, NoMemo
 /// loading does; `Depot` only where the depot failed.
 pub fn load_for<D: Depot>(alloc: Global, ask: &Ask<'_>, depot: &mut D) -> Result<Loaded, Status>
     requires over { asked_for.IsOverSuite ask.now.command }
-    ensures told { (D.shown depot.new).told ≡ (D.shown depot.old).told }
+    ensures told { TellsOn (D.shown depot.old).told (D.shown depot.new).told }
     ensures faults { (D.shown depot.old).faults ≤ (D.shown depot.new).faults }
-    ensures loads { IfOk result (λ l. IfSome (D.shown depot.old).told (λ files.
+    ensures loads { IfOk result (λ l. OfHeld (D.shown depot.new).told (λ files.
         LoadsFor files ask.now (Ok l))) }
-    ensures refused { IfErr result (λ s. IfSome (D.shown depot.old).told (λ files.
+    ensures refused { IfErr result (λ s. OfHeld (D.shown depot.new).told (λ files.
         Unreported files ask.now s)) }
     ensures suite { IfOk result IsSuite }
     ensures form { IfOk result (λ _. AsksAny ask.now.command) }

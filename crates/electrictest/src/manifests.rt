@@ -1,6 +1,7 @@
 //! What becomes of each test without one of its writers.
 
 ghost use Rattle.std.specs.Prelude.{◌≡◌, ◌≤◌, Ok, length, IfOk, IfErr};
+ghost use Rattle.outside.specs.Depot.{TellsOn};
 ghost use Rattle.cone_run.specs.Marks.{HasWriter};
 ghost use Rattle.electrictest.specs.Causes.{MayReport};
 ghost use Rattle.electrictest.specs.Commands.{ReportEnds, ReportsOver, RefusedOver};
@@ -63,11 +64,11 @@ pub fn manifest_for<D: Depot, L: Ledger>(
 ) -> Result<Report, Status>
     requires asks { ask.now.command ≡ Ok command.Manifest }
     requires suite { IsSuite loaded.now }
-    ensures told { (D.shown depot.new).told ≡ (D.shown depot.old).told }
+    ensures told { TellsOn (D.shown depot.old).told (D.shown depot.new).told }
     ensures faults { (D.shown depot.old).faults ≤ (D.shown depot.new).faults }
-    ensures reports { IfOk result (λ r. let told = (D.shown depot.old).told in
+    ensures reports { IfOk result (λ r. let told = (D.shown depot.new).told in
         ReportsOver told ask.now loaded.now r.passed r.text steps.old steps.new) }
-    ensures refused { IfErr result (λ s. RefusedOver (D.shown depot.old).told ask.now loaded.now s) }
+    ensures refused { IfErr result (λ s. RefusedOver (D.shown depot.new).told ask.now loaded.now s) }
     ensures form { IfOk result (λ r. MayReport ask.now.command r.passed) }
     ensures ends { IfErr result (λ s.
         ReportEnds ask.now s (D.shown depot.old) (D.shown depot.new)) }

@@ -1,6 +1,7 @@
 //! Runs of a selection's closure on workers.
 
 ghost use Rattle.std.specs.Prelude.{◌≡◌, ◌+◌, ◌<◌, ◌≤◌, ◌++◌, [], cond, length, Ok, OnOk, IfOk, IfErr};
+ghost use Rattle.outside.specs.Depot.{TellsOn};
 ghost use Rattle.schedule_plan.specs.Plans.{HasUnits, HaveUnits, IsPlanOf, chain_units};
 ghost use Rattle.run_core.specs.Run.{history};
 ghost use Rattle.worker_pool.specs.Faults.{IsPlanFault};
@@ -245,11 +246,11 @@ pub fn run_for<R: Threads + Wait + Sync, D: Depot, G: Gate + Sync, L: Ledger>(
     requires workers { 0 < workers }
     requires asks { ask.now.command ≡ Ok (command.Run workers log) }
     requires suite { IsSuite loaded.now }
-    ensures told { (D.shown depot.new).told ≡ (D.shown depot.old).told }
+    ensures told { TellsOn (D.shown depot.old).told (D.shown depot.new).told }
     ensures faults { (D.shown depot.old).faults ≤ (D.shown depot.new).faults }
-    ensures reports { IfOk result (λ r. let told = (D.shown depot.old).told in
+    ensures reports { IfOk result (λ r. let told = (D.shown depot.new).told in
         ReportsOver told ask.now loaded.now r.passed r.text steps.old steps.new) }
-    ensures refused { IfErr result (λ s. RefusedOver (D.shown depot.old).told ask.now loaded.now s) }
+    ensures refused { IfErr result (λ s. RefusedOver (D.shown depot.new).told ask.now loaded.now s) }
     ensures form { IfOk result (λ r. MayReport ask.now.command r.passed) }
     ensures ends { IfErr result (λ s.
         ReportEnds ask.now s (D.shown depot.old) (D.shown depot.new)) }

@@ -1,7 +1,7 @@
 //! The quiet classes of a suite.
 
-ghost use Rattle.std.specs.Prelude.{◌≡◌, ℕ, Option, Ok, IfOk, IfErr};
-ghost use Rattle.outside.specs.Depot.{Files, DepotView};
+ghost use Rattle.std.specs.Prelude.{◌≡◌, ℕ, Ok, IfOk, IfErr};
+ghost use Rattle.outside.specs.Depot.{Told, DepotView};
 ghost use Rattle.electrictest.specs.Causes.{MayReport};
 ghost use Rattle.electrictest.specs.Commands.{ReportEnds, ReportsOver, RefusedOver};
 ghost use Rattle.electrictest.specs.declared.words.Command.TheVariants as command;
@@ -16,9 +16,9 @@ use suite_load::Loaded;
 /// The report on the classes of a suite whose initialisers only set constants; it runs no test. The only refusal is want of
 /// memory.
 pub fn quiet_for(alloc: Global, loaded: &Loaded) -> Result<Report, Status>
-    ensures reports { (told : Option Files) (a : Ask) (steps : ℕ) → a.command ≡ Ok command.Quiet →
+    ensures reports { (told : Told) (a : Ask) (steps : ℕ) → a.command ≡ Ok command.Quiet →
         IfOk result (λ r. ReportsOver told a loaded.now r.passed r.text steps steps) }
-    ensures refused { (told : Option Files) (a : Ask) →
+    ensures refused { (told : Told) (a : Ask) →
         IfErr result (λ s. RefusedOver told a loaded.now s) }
     ensures form { (a : Ask) → a.command ≡ Ok command.Quiet →
         IfOk result (λ r. MayReport a.command r.passed) }

@@ -1,7 +1,7 @@
 //! The record that a command is given.
 
 ghost use Rattle.std.specs.Prelude.{◌≡◌, ◌≤◌, [], length, true, Ok, IfOk, IfErr, IfSome, IsSome};
-ghost use Rattle.outside.specs.Depot.{FailedAt};
+ghost use Rattle.outside.specs.Depot.{OfHeld, TellsOn};
 ghost use Rattle.dep_record.specs.RecordReading.{said_in};
 ghost use Rattle.dep_record.specs.RecordText.{said};
 ghost use Rattle.impact_pick.specs.Form.{fits_prints};
@@ -42,9 +42,9 @@ fn named(refusal: DepotRefusal, name: Text) -> Status
 // The bytes of the record of this name.
 #[tactic(auto, unfolding(crate::specs::Records::record_bytes))]
 fn record_bytes<D: Depot>(alloc: Global, depot: &mut D, name: &Text) -> Result<Text, Status>
-    ensures told { (D.shown depot.new).told ≡ (D.shown depot.old).told }
+    ensures told { TellsOn (D.shown depot.old).told (D.shown depot.new).told }
     ensures faults { (D.shown depot.old).faults ≤ (D.shown depot.new).faults }
-    ensures gives { IfSome (D.shown depot.old).told (λ files.
+    ensures gives { OfHeld (D.shown depot.new).told (λ files.
         Gives (λ bytes. bytes) result (records.record_bytes files name.now)) }
     ensures fails { IfErr result (Fails name.now (D.shown depot.old) (D.shown depot.new)) }
 {
@@ -146,9 +146,9 @@ fn earlier_fits(loaded: &Loaded, kept: &Record) -> Result<(), Status>
 // What the record of this name says.
 #[tactic(auto, unfolding(crate::specs::Records::record_at))]
 fn record_at<D: Depot>(alloc: Global, depot: &mut D, name: &Text) -> Result<Record, Status>
-    ensures told { (D.shown depot.new).told ≡ (D.shown depot.old).told }
+    ensures told { TellsOn (D.shown depot.old).told (D.shown depot.new).told }
     ensures faults { (D.shown depot.old).faults ≤ (D.shown depot.new).faults }
-    ensures gives { IfSome (D.shown depot.old).told (λ files.
+    ensures gives { OfHeld (D.shown depot.new).told (λ files.
         Gives said result (records.record_at files name.now)) }
     ensures fails { IfErr result (Fails name.now (D.shown depot.old) (D.shown depot.new)) }
 {
@@ -168,9 +168,9 @@ pub fn begin_with<D: Depot>(
     tests: Items<u32>,
     name: &[u8],
 ) -> Result<Request, Status>
-    ensures told { (D.shown depot.new).told ≡ (D.shown depot.old).told }
+    ensures told { TellsOn (D.shown depot.old).told (D.shown depot.new).told }
     ensures faults { (D.shown depot.old).faults ≤ (D.shown depot.new).faults }
-    ensures gives { IfSome (D.shown depot.old).told (λ files.
+    ensures gives { OfHeld (D.shown depot.new).told (λ files.
         let begun = records.begun records.record_fits files loaded.now (Ok tests) name.now in
         Gives records.beginning result begun) }
     ensures tests { IfOk result (λ b. b.tests ≡ tests) }
@@ -195,9 +195,9 @@ pub fn earlier_record<D: Depot>(
     loaded: &Loaded,
     name: &[u8],
 ) -> Result<Record, Status>
-    ensures told { (D.shown depot.new).told ≡ (D.shown depot.old).told }
+    ensures told { TellsOn (D.shown depot.old).told (D.shown depot.new).told }
     ensures faults { (D.shown depot.old).faults ≤ (D.shown depot.new).faults }
-    ensures gives { IfSome (D.shown depot.old).told (λ files.
+    ensures gives { OfHeld (D.shown depot.new).told (λ files.
         let begun = records.begun records.earlier_fits files loaded.now (Ok []) name.now in
         Gives records.nameless result begun) }
     ensures fits { IfOk result (λ r. fits_prints r.more loaded.now.prints ≡ true) }

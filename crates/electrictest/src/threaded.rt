@@ -1,6 +1,7 @@
 //! The top call for all commands.
 
-ghost use Rattle.std.specs.Prelude.{◌≡◌, ◌≤◌, None, IfOk, IfErr, IfSome};
+ghost use Rattle.std.specs.Prelude.{◌≡◌, ◌≤◌, None, IfOk, IfErr};
+ghost use Rattle.outside.specs.Depot.{OfHeld, TellsOn};
 ghost use Rattle.electrictest.specs.Causes.{MayReport};
 ghost use Rattle.electrictest.specs.Commands.{called, ReportEnds, Reported, ReportsOver, RefusedOver, Taken, Served, Ends};
 ghost use Rattle.electrictest.specs.Complete.{Complete};
@@ -44,12 +45,12 @@ fn text_for<R: Threads + Wait + Sync, D: Depot, G: Gate + Sync, L: Ledger>(
     requires form { refusal_of ask.now.command ≡ None }
     requires over { IsOverSuite ask.now.command }
     requires suite { IsSuite loaded.now }
-    ensures told { (D.shown depot.new).told ≡ (D.shown depot.old).told }
+    ensures told { TellsOn (D.shown depot.old).told (D.shown depot.new).told }
     ensures faults { (D.shown depot.old).faults ≤ (D.shown depot.new).faults }
-    ensures reports { IfOk result (λ r. let told = (D.shown depot.old).told in
+    ensures reports { IfOk result (λ r. let told = (D.shown depot.new).told in
         ReportsOver told ask.now loaded.now r.passed r.text steps.old steps.new) }
     ensures refused { IfErr result (λ s.
-        RefusedOver (D.shown depot.old).told ask.now loaded.now s) }
+        RefusedOver (D.shown depot.new).told ask.now loaded.now s) }
     ensures form { IfOk result (λ r. MayReport ask.now.command r.passed) }
     ensures ends { IfErr result (λ s.
         ReportEnds ask.now s (D.shown depot.old) (D.shown depot.new)) }
@@ -75,11 +76,11 @@ fn suite_text<R: Threads + Wait + Sync, D: Depot, G: Gate + Sync, L: Ledger>(
     steps: &mut Steps<L>,
 ) -> Result<Report, Status>
     requires over { IsOverSuite ask.now.command }
-    ensures told { (D.shown depot.new).told ≡ (D.shown depot.old).told }
+    ensures told { TellsOn (D.shown depot.old).told (D.shown depot.new).told }
     ensures faults { (D.shown depot.old).faults ≤ (D.shown depot.new).faults }
-    ensures reports { IfOk result (λ r. IfSome (D.shown depot.old).told (λ files.
+    ensures reports { IfOk result (λ r. OfHeld (D.shown depot.new).told (λ files.
         Reported files ask.now r.passed r.text steps.old steps.new)) }
-    ensures refused { IfErr result (λ s. IfSome (D.shown depot.old).told (λ files.
+    ensures refused { IfErr result (λ s. OfHeld (D.shown depot.new).told (λ files.
         reply.Unreported files ask.now s)) }
     ensures form { IfOk result (λ r. MayReport ask.now.command r.passed) }
     ensures ends { IfErr result (λ s.
@@ -100,11 +101,11 @@ fn asked_text<R: Threads + Wait + Sync, D: Depot, G: Gate + Sync, L: Ledger>(
     gate: &G,
     steps: &mut Steps<L>,
 ) -> Result<Report, Status>
-    ensures told { (D.shown depot.new).told ≡ (D.shown depot.old).told }
+    ensures told { TellsOn (D.shown depot.old).told (D.shown depot.new).told }
     ensures faults { (D.shown depot.old).faults ≤ (D.shown depot.new).faults }
-    ensures reports { IfOk result (λ r. IfSome (D.shown depot.old).told (λ files.
+    ensures reports { IfOk result (λ r. OfHeld (D.shown depot.new).told (λ files.
         Reported files ask.now r.passed r.text steps.old steps.new)) }
-    ensures refused { IfErr result (λ s. IfSome (D.shown depot.old).told (λ files.
+    ensures refused { IfErr result (λ s. OfHeld (D.shown depot.new).told (λ files.
         reply.Unreported files ask.now s)) }
     ensures form { IfOk result (λ r. MayReport ask.now.command r.passed) }
     ensures ends { IfErr result (λ s.
@@ -139,53 +140,53 @@ pub fn electric<R: Threads + Wait + Sync, D: Depot, S: Sink, G: Gate + Sync, L: 
     gate: &G,
     steps: &mut Steps<L>,
 ) -> Status
-    ensures told { (D.shown depot.new).told ≡ (D.shown depot.old).told }
+    ensures told { TellsOn (D.shown depot.old).told (D.shown depot.new).told }
     ensures depot_faults { (D.shown depot.old).faults ≤ (D.shown depot.new).faults }
     ensures sink_faults { (S.shown sink.old).faults ≤ (S.shown sink.new).faults }
-    // What it answers, where the depot's files are told.
+    // What it answers, of whichever files the depot may hold by what it told.
     ensures served { let depot_now = D.shown depot.new in
         let asked = called (threaded words.now) (D.shown depot.old) depot_now steps.old steps.new in
-        IfSome (D.shown depot.old).told (λ files.
+        OfHeld depot_now.told (λ files.
         Served (asked files) result (S.shown sink.old) (S.shown sink.new)) }
     // With the suite's own record a run is answered by what its tests do in the suite's own order, and so is a lawful order.
     ensures own { let depot_now = D.shown depot.new in
         let asked = called (threaded words.now) (D.shown depot.old) depot_now steps.old steps.new in
-        IfSome (D.shown depot.old).told (λ files.
+        OfHeld depot_now.told (λ files.
         OwnAnswer (asked files) result (S.shown sink.old) (S.shown sink.new)) }
     ensures own_order { let depot_now = D.shown depot.new in
         let asked = called (threaded words.now) (D.shown depot.old) depot_now steps.old steps.new in
-        IfSome (D.shown depot.old).told (λ files.
+        OfHeld depot_now.told (λ files.
         OwnOrderAnswer (asked files) result (S.shown sink.old) (S.shown sink.new)) }
     // So they are with the record that `detect` wrote.
     ensures detected { let depot_now = D.shown depot.new in
         let asked = called (threaded words.now) (D.shown depot.old) depot_now steps.old steps.new in
-        IfSome (D.shown depot.old).told (λ files.
+        OfHeld depot_now.told (λ files.
         DetectedAnswer (asked files) result (S.shown sink.old) (S.shown sink.new)) }
     ensures detected_order { let depot_now = D.shown depot.new in
         let asked = called (threaded words.now) (D.shown depot.old) depot_now steps.old steps.new in
-        IfSome (D.shown depot.old).told (λ files.
+        OfHeld depot_now.told (λ files.
         DetectedOrderAnswer (asked files) result (S.shown sink.old) (S.shown sink.new)) }
     // With the suite's own record, `detect`'s text too, each test alone is answered by what it does in the suite's own order, and
     // the manifest compares with that.
     ensures own_cones { let depot_now = D.shown depot.new in
         let asked = called (threaded words.now) (D.shown depot.old) depot_now steps.old steps.new in
-        IfSome (D.shown depot.old).told (λ files.
+        OfHeld depot_now.told (λ files.
         OwnConesAnswer (asked files) result (S.shown sink.old) (S.shown sink.new)) }
     ensures own_manifest { let depot_now = D.shown depot.new in
         let asked = called (threaded words.now) (D.shown depot.old) depot_now steps.old steps.new in
-        IfSome (D.shown depot.old).told (λ files.
+        OfHeld depot_now.told (λ files.
         OwnManifestAnswer (asked files) result (S.shown sink.old) (S.shown sink.new)) }
     // With the record of an earlier state each test that an impact doesn't name has the report lines that it had.
     ensures earlier { let depot_now = D.shown depot.new in
         let asked = called (threaded words.now) (D.shown depot.old) depot_now steps.old steps.new in
-        IfSome (D.shown depot.old).told (λ files.
+        OfHeld depot_now.told (λ files.
         EarlierAnswer (asked files) result (S.shown sink.old) (S.shown sink.new)) }
     // An eager form is over the suite without its quiet initialisers, in which each test ends as in the suite as it is.
-    ensures eager { IfSome (D.shown depot.old).told (λ files. EagerAnswer files (threaded words.now)) }
+    ensures eager { OfHeld (D.shown depot.new).told (λ files. EagerAnswer files (threaded words.now)) }
     // Where what is asked is accepted, and neither the depot nor the sink failed, nothing is refused.
     ensures complete { let depot_now = D.shown depot.new in
         let asked = called (threaded words.now) (D.shown depot.old) depot_now steps.old steps.new in
-        IfSome (D.shown depot.old).told (λ files.
+        OfHeld depot_now.told (λ files.
         Complete (asked files) result (S.shown sink.old) (S.shown sink.new)) }
     // A generated suite is read of no depot; its summary, want of memory or a failing sink are answered, and nothing else.
     ensures generated { let depot_now = D.shown depot.new in

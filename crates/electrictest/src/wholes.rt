@@ -1,7 +1,7 @@
 //! Runs of the whole suite.
 
-ghost use Rattle.std.specs.Prelude.{◌≡◌, Option, Ok, IfOk, IfErr};
-ghost use Rattle.outside.specs.Depot.{Files, DepotView};
+ghost use Rattle.std.specs.Prelude.{◌≡◌, Ok, IfOk, IfErr};
+ghost use Rattle.outside.specs.Depot.{Told, DepotView};
 ghost use Rattle.electrictest.specs.Causes.{MayReport};
 ghost use Rattle.electrictest.specs.Commands.{ReportEnds, ReportsOver, RefusedOver};
 ghost use Rattle.electrictest.specs.declared.words.Command.TheVariants as command;
@@ -38,9 +38,9 @@ pub fn whole_for<L: Ledger>(
     loaded: &Loaded,
     steps: &mut Steps<L>,
 ) -> Result<Report, Status>
-    ensures reports { (told : Option Files) (a : Ask) → a.command ≡ Ok command.Whole → IfOk result (λ r.
+    ensures reports { (told : Told) (a : Ask) → a.command ≡ Ok command.Whole → IfOk result (λ r.
         ReportsOver told a loaded.now r.passed r.text steps.old steps.new) }
-    ensures refused { (told : Option Files) (a : Ask) → a.command ≡ Ok command.Whole →
+    ensures refused { (told : Told) (a : Ask) → a.command ≡ Ok command.Whole →
         IfErr result (λ s. RefusedOver told a loaded.now s) }
     ensures form { (a : Ask) → a.command ≡ Ok command.Whole →
         IfOk result (λ r. MayReport a.command r.passed) }

@@ -29,7 +29,7 @@ returns-in_err-begun-clause-refused g c =
     let l = c.args.loaded.now in
     let n = c.requires.named in
     let p = err_from_is_err_and c.from_residual-in_err-begun.result c.from_residual-in_err-begun.ensures.1 in
-    rw (p.1, p.2) (not_begun (g.D.Depot.shown c.args.depot.now).told a l n.0 c.in_ok-tests.tests c.record.result.now c.in_err-begun.field-0.0 (g.D.Depot.shown c.args.depot.now) (g.D.Depot.shown c.begin_with.new.depot) n.1.fits n.1.by
+    rw (p.1, p.2) (not_begun (g.D.Depot.shown c.begin_with.new.depot).told a l n.0 c.in_ok-tests.tests c.record.result.now c.in_err-begun.field-0.0 (g.D.Depot.shown c.args.depot.now) (g.D.Depot.shown c.begin_with.new.depot) n.1.fits n.1.by
     (named_gives (Ok c.in_ok-tests.tests) (named_by a.command a.words l) n.0 n.1.by c.in_ok-tests.ensures.gives) c.record.ensures c.in_err-begun.ensures.gives c.in_err-begun.ensures.fails)
 
 pub returns-in_err-begun-clause-ends : goal.returns-in_err-begun-clause-ends
@@ -42,7 +42,7 @@ returns-clause-begins g c =
     let a = c.args.ask.now in
     let l = c.args.loaded.now in
     let n = c.requires.named in
-    begins (g.D.Depot.shown c.args.depot.now).told a l n.0 c.in_ok-tests.tests c.record.result.now (beginning c.in_ok-begun.begun) n.1.fits n.1.by
+    begins (g.D.Depot.shown c.begin_with.new.depot).told a l n.0 c.in_ok-tests.tests c.record.result.now (beginning c.in_ok-begun.begun) n.1.fits n.1.by
     (named_gives (Ok c.in_ok-tests.tests) (named_by a.command a.words l) n.0 n.1.by c.in_ok-tests.ensures.gives) c.record.ensures c.in_ok-begun.ensures.gives
 
 pub returns-clause-suite : goal.returns-clause-suite

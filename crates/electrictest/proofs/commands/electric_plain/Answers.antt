@@ -5,9 +5,10 @@ use Rattle.electrictest.proofs.CompleteLaws.{complete_answer}
 use Rattle.electrictest.proofs.DetectedLaws.{detected_order_answer}
 use Rattle.electrictest.proofs.EagerLaws.{told_eager}
 use Rattle.electrictest.proofs.EarlierLaws.{earlier_answer}
+use Rattle.electrictest.proofs.Held.{for_held}
 use Rattle.electrictest.proofs.OwnConeLaws.{own_manifest_answer}
 use Rattle.electrictest.proofs.OwnOrderLaws.{own_order_answer}
-use Rattle.electrictest.proofs.Replying.{for_told, served_by, taken_by, ends_by}
+use Rattle.electrictest.proofs.Replying.{served_by, taken_by, ends_by}
 use Rattle.electrictest.proofs.commands.electric_plain.Goals as goal
 
 pub returns-clause-served : goal.returns-clause-served
@@ -18,35 +19,40 @@ returns-clause-served g c =
 pub returns-clause-own : goal.returns-clause-own
 returns-clause-own g c =
     let old = g.D.Depot.shown c.args.depot.now in
-    let asked = called (plain c.args.words.now) old (g.D.Depot.shown c.reported-report.new.depot) c.args.steps.now c.reported-report.new.steps in
-    for_told old.told (λ files. own_order_answer (asked files) c.answered.result _ _) (returns-clause-served g c)
+    let new = g.D.Depot.shown c.reported-report.new.depot in
+    let asked = called (plain c.args.words.now) old new c.args.steps.now c.reported-report.new.steps in
+    for_held new.told (λ files. own_order_answer (asked files) c.answered.result _ _) (returns-clause-served g c)
 
 pub returns-clause-detected : goal.returns-clause-detected
 returns-clause-detected g c =
     let old = g.D.Depot.shown c.args.depot.now in
-    let asked = called (plain c.args.words.now) old (g.D.Depot.shown c.reported-report.new.depot) c.args.steps.now c.reported-report.new.steps in
-    for_told old.told (λ files. detected_order_answer (asked files) c.answered.result _ _) (returns-clause-served g c)
+    let new = g.D.Depot.shown c.reported-report.new.depot in
+    let asked = called (plain c.args.words.now) old new c.args.steps.now c.reported-report.new.steps in
+    for_held new.told (λ files. detected_order_answer (asked files) c.answered.result _ _) (returns-clause-served g c)
 
 pub returns-clause-own_manifest : goal.returns-clause-own_manifest
 returns-clause-own_manifest g c =
     let old = g.D.Depot.shown c.args.depot.now in
-    let asked = called (plain c.args.words.now) old (g.D.Depot.shown c.reported-report.new.depot) c.args.steps.now c.reported-report.new.steps in
-    for_told old.told (λ files. own_manifest_answer (asked files) c.answered.result _ _) (returns-clause-served g c)
+    let new = g.D.Depot.shown c.reported-report.new.depot in
+    let asked = called (plain c.args.words.now) old new c.args.steps.now c.reported-report.new.steps in
+    for_held new.told (λ files. own_manifest_answer (asked files) c.answered.result _ _) (returns-clause-served g c)
 
 pub returns-clause-earlier : goal.returns-clause-earlier
 returns-clause-earlier g c =
     let old = g.D.Depot.shown c.args.depot.now in
-    let asked = called (plain c.args.words.now) old (g.D.Depot.shown c.reported-report.new.depot) c.args.steps.now c.reported-report.new.steps in
-    for_told old.told (λ files. earlier_answer (asked files) c.answered.result _ _ (plain_impact c.args.words.now)) (returns-clause-served g c)
+    let new = g.D.Depot.shown c.reported-report.new.depot in
+    let asked = called (plain c.args.words.now) old new c.args.steps.now c.reported-report.new.steps in
+    for_held new.told (λ files. earlier_answer (asked files) c.answered.result _ _ (plain_impact c.args.words.now)) (returns-clause-served g c)
 
 pub returns-clause-eager : goal.returns-clause-eager
-returns-clause-eager g c = told_eager (g.D.Depot.shown c.args.depot.now).told (plain c.args.words.now) (plain_over c.args.words.now)
+returns-clause-eager g c = told_eager (g.D.Depot.shown c.reported-report.new.depot).told (plain c.args.words.now) (plain_over c.args.words.now)
 
 pub returns-clause-complete : goal.returns-clause-complete
 returns-clause-complete g c =
     let old = g.D.Depot.shown c.args.depot.now in
-    let asked = called (plain c.args.words.now) old (g.D.Depot.shown c.reported-report.new.depot) c.args.steps.now c.reported-report.new.steps in
-    for_told old.told (λ files. complete_answer (asked files) c.answered.result _ _) (returns-clause-served g c)
+    let new = g.D.Depot.shown c.reported-report.new.depot in
+    let asked = called (plain c.args.words.now) old new c.args.steps.now c.reported-report.new.steps in
+    for_held new.told (λ files. complete_answer (asked files) c.answered.result _ _) (returns-clause-served g c)
 
 pub returns-clause-taken : goal.returns-clause-taken
 returns-clause-taken g c =

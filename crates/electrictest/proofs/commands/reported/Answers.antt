@@ -4,11 +4,11 @@ use Rattle.electrictest.proofs.commands.reported.Goals as goal
 
 pub returns-clause-reports : goal.returns-clause-reports
 returns-clause-reports g c =
-    reports_all (g.D.Depot.shown c.args.depot.now).told c.args.ask.now c.in_ok-loaded.loaded c.in_ok-loaded.ensures.loads c.args.steps.now c.report_for.new.steps c.report_for.result (rw c.load_for.ensures.told at c.report_for.ensures.reports)
+    reports_all c.args.ask.now c.in_ok-loaded.loaded (g.D.Depot.shown c.load_for.new.depot).told (g.D.Depot.shown c.report_for.new.depot).told c.report_for.ensures.told c.in_ok-loaded.ensures.loads c.args.steps.now c.report_for.new.steps c.report_for.result c.report_for.ensures.reports
 
 pub returns-clause-refused : goal.returns-clause-refused
 returns-clause-refused g c =
-    refuses_all (g.D.Depot.shown c.args.depot.now).told c.args.ask.now c.in_ok-loaded.loaded c.in_ok-loaded.ensures.loads c.report_for.result (rw c.load_for.ensures.told at c.report_for.ensures.refused)
+    refuses_all c.args.ask.now c.in_ok-loaded.loaded (g.D.Depot.shown c.load_for.new.depot).told (g.D.Depot.shown c.report_for.new.depot).told c.report_for.ensures.told c.in_ok-loaded.ensures.loads c.report_for.result c.report_for.ensures.refused
 
 pub returns-clause-ends : goal.returns-clause-ends
 returns-clause-ends g c =

@@ -26,7 +26,7 @@ returns-clause-reports g c =
     let a = c.args.ask.now in
     let l = c.args.loaded.now in
     let b = beginning c.in_ok-begun.begun in
-    let told = (g.D.Depot.shown c.args.depot.now).told in
+    let told = (g.D.Depot.shown c.begin.new.depot).told in
     let begun = c.args.steps.now in
     let now = c.cones_of.new.steps in
     IfOk-weaker c.cones_of.result (λ (r : Report). AreCounted (IsConeReport l b r.passed r.text) begun now) (λ (r : Report). ReportsOver told a l r.passed r.text begun now)
@@ -37,7 +37,7 @@ returns-clause-refused g c =
     let a = c.args.ask.now in
     let l = c.args.loaded.now in
     let b = beginning c.in_ok-begun.begun in
-    let told = (g.D.Depot.shown c.args.depot.now).told in
+    let told = (g.D.Depot.shown c.begin.new.depot).told in
     IfErr-weaker c.cones_of.result (λ (s : Status). ConesRefused l b (λ (t : ℕ). Member t b.tests) s) (λ (s : Status). RefusedOver told a l s)
     (λ s h. cones_refused told a l b (command.Cones c.args.workers) (λ y t. Member t y.tests) s c.requires.asks (λ files f is. is) c.in_ok-begun.ensures.begins c.in_ok-begun.ensures.suite h) c.cones_of.ensures.refused
 

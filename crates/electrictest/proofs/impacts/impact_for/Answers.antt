@@ -24,7 +24,7 @@ returns-in_err-record-clause-ends g c =
 pub returns-in_err-text-clause-refused : goal.returns-in_err-text-clause-refused
 returns-in_err-text-clause-refused g c =
     let p = err_from_is_err_and c.from_residual-in_err-text.result c.from_residual-in_err-text.ensures.1 in
-    rw (p.1, p.2) (unplanned (g.D.Depot.shown c.args.depot.now).told c.args.ask.now c.args.loaded.now)
+    rw (p.1, p.2) (unplanned _ c.args.ask.now c.args.loaded.now)
 
 pub returns-clause-reports : goal.returns-clause-reports
 returns-clause-reports g c = λ steps.

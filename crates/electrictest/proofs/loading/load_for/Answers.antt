@@ -1,4 +1,5 @@
-use Rattle.std.proofs.Common.{◌≡◌, sym, ap, subst, ◌∙◌, rules, Ok, Some, IfSome}
+use Rattle.std.proofs.Common.{◌≡◌, sym, ap, subst, ◌∙◌, rules, Ok, Some}
+use Rattle.outside.specs.Depot.{OfHeld}
 use Rattle.electrictest.specs.declared.status.Status.{Status}
 use Rattle.electrictest.specs.Commands.{ReportEnds}
 use Rattle.electrictest.specs.Loads.{prepared}
@@ -8,7 +9,7 @@ use Rattle.electrictest.proofs.loading.load_for.Goals as goal
 
 pub returns-in-Ok-clause-loads : goal.returns-in-Ok-clause-loads
 returns-in-Ok-clause-loads g c =
-    let told = (g.D.Depot.shown c.args.depot.now).told in
+    let told = (g.D.Depot.shown c.load.new.depot).told in
     let asks = sym c.refusal.ensures ∙ c.in_default.is in
     let named = c.in_ok-name.ensures ∙ c.suite.ensures in
     let same = c.in_ok-prepared-in-Ok.ensures.prepared ∙ ap (λ b. prepared b (Ok c.in-Ok.loaded)) c.is_eager.ensures in
@@ -16,10 +17,10 @@ returns-in-Ok-clause-loads g c =
 
 pub returns-clause-refused : goal.returns-clause-refused
 returns-clause-refused g c =
-    let told = (g.D.Depot.shown c.args.depot.now).told in
+    let told = (g.D.Depot.shown c.load.new.depot).told in
     let asks = sym c.refusal.ensures ∙ c.in_default.is in
     let named = c.in_ok-name.ensures ∙ c.suite.ensures in
-    subst (λ (s : Status). IfSome told (λ files. Unreported files c.args.ask.now s)) (sym c.status_of.ensures)
+    subst (λ (s : Status). OfHeld told (λ files. Unreported files c.args.ask.now s)) (sym c.status_of.ensures)
     (unloaded_for told c.args.ask.now c.in_ok-name.name c.in-Err.fault (g.D.Depot.shown c.args.depot.now) (g.D.Depot.shown c.load.new.depot) asks c.requires.over named c.in-Err.ensures.loads c.in-Err.ensures.proper)
 
 pub returns-in-Some-clause-ends : goal.returns-in-Some-clause-ends

@@ -24,7 +24,7 @@ returns-clause-reports g c =
     let a = c.args.ask.now in
     let l = c.args.loaded.now in
     let b = beginning c.in_ok-begun.begun in
-    let told = (g.D.Depot.shown c.args.depot.now).told in
+    let told = (g.D.Depot.shown c.begin.new.depot).told in
     let begun = c.args.steps.now in
     let now = c.manifest_of.new.steps in
     IfOk-weaker c.manifest_of.result (λ (r : Report). AreCounted (IsManifest l b r.passed r.text) begun now) (λ (r : Report). ReportsOver told a l r.passed r.text begun now)
@@ -35,7 +35,7 @@ returns-clause-refused g c =
     let a = c.args.ask.now in
     let l = c.args.loaded.now in
     let b = beginning c.in_ok-begun.begun in
-    let told = (g.D.Depot.shown c.args.depot.now).told in
+    let told = (g.D.Depot.shown c.begin.new.depot).told in
     IfErr-weaker c.manifest_of.result (λ (s : Status). ConesRefused l b (HasWriter b.said.edges) s) (λ (s : Status). RefusedOver told a l s)
     (λ s h. cones_refused told a l b command.Manifest (λ y. HasWriter y.said.edges) s c.requires.asks (λ files f is. is) c.in_ok-begun.ensures.begins c.in_ok-begun.ensures.suite h) c.manifest_of.ensures.refused
 

@@ -26,7 +26,7 @@ returns-clause-reports g c =
     let a = c.args.ask.now in
     let l = c.args.loaded.now in
     let b = beginning c.in_ok-begun.begun in
-    let told = (g.D.Depot.shown c.args.depot.now).told in
+    let told = (g.D.Depot.shown c.begin.new.depot).told in
     let begun = c.args.steps.now in
     let now = c.order_of.new.steps in
     IfOk-weaker c.order_of.result (λ (r : Report). Reports l b r.passed r.text begun now) (λ (r : Report). ReportsOver told a l r.passed r.text begun now)
@@ -37,7 +37,7 @@ returns-clause-refused g c =
     let a = c.args.ask.now in
     let l = c.args.loaded.now in
     let b = beginning c.in_ok-begun.begun in
-    let told = (g.D.Depot.shown c.args.depot.now).told in
+    let told = (g.D.Depot.shown c.begin.new.depot).told in
     IfErr-weaker c.order_of.result (λ (s : Status). OrderRefused l b s) (λ (s : Status). RefusedOver told a l s)
     (λ s h. order_refused told a l b s c.requires.asks c.in_ok-begun.ensures.begins c.in_ok-begun.ensures.suite h) c.order_of.ensures.refused
 

@@ -27,7 +27,7 @@ returns-clause-reports g c =
     let workers = c.args.workers in
     let log = c.args.log in
     let b = beginning c.in_ok-begun.begun in
-    let told = (g.D.Depot.shown c.args.depot.now).told in
+    let told = (g.D.Depot.shown c.begin.new.depot).told in
     let begun = c.args.steps.now in
     let now = c.pool_of.new.steps in
     IfOk-weaker c.pool_of.result (λ (r : Report). PoolReports l b workers log r.passed r.text begun now) (λ (r : Report). ReportsOver told a l r.passed r.text begun now)
@@ -40,7 +40,7 @@ returns-clause-refused g c =
     let workers = c.args.workers in
     let log = c.args.log in
     let b = beginning c.in_ok-begun.begun in
-    let told = (g.D.Depot.shown c.args.depot.now).told in
+    let told = (g.D.Depot.shown c.begin.new.depot).told in
     IfErr-weaker c.pool_of.result (λ (s : Status). PoolRefused l b s) (λ (s : Status). RefusedOver told a l s)
     (λ s h. pool_refused told a workers log l b s c.requires.asks c.in_ok-begun.ensures.begins c.in_ok-begun.ensures.suite h) c.pool_of.ensures.refused
 

@@ -1,5 +1,6 @@
-use Rattle.std.proofs.Common.{◌≡◌, ◌∙◌, IfSome, Ok, refl, rules, sym}
+use Rattle.std.proofs.Common.{◌≡◌, ◌∙◌, Ok, refl, rules, sym}
 use Rattle.std.proofs.lemmas.Result.{IfOk-weaker, IfErr-weaker}
+use Rattle.outside.specs.Depot.{OfHeld}
 use Rattle.electrictest.specs.declared.reports.Report.{Report}
 use Rattle.electrictest.specs.declared.status.Status.{Status}
 use Rattle.electrictest.specs.declared.words.Command.TheVariants as command
@@ -23,14 +24,14 @@ returns-in-Ok-Gen-clause-reports g c =
     let e = sym c.command.ensures.command ∙ gen in
     let begun = c.args.steps.now in
     let now = c.summary_for.new.steps in
-    IfOk-weaker c.summary_for.result (λ (r : Report). Sums k n r.passed r.text begun now) (λ (r : Report). IfSome told (λ files. Reported files a r.passed r.text begun now))
+    IfOk-weaker c.summary_for.result (λ (r : Report). Sums k n r.passed r.text begun now) (λ (r : Report). OfHeld told (λ files. Reported files a r.passed r.text begun now))
     (λ r s. summary_answers told a k n r.passed r.text begun now e s) c.summary_for.ensures.reports
 
 pub returns-in-Ok-Gen-clause-refused : goal.returns-in-Ok-Gen-clause-refused
 returns-in-Ok-Gen-clause-refused g c =
     let told = (g.D.Depot.shown c.args.depot.now).told in
     let a = c.args.ask.now in
-    IfErr-weaker c.summary_for.result (λ (s : Status). s ≡ ends.NoMemory) (λ (s : Status). IfSome told (λ files. Unreported files a s)) (summary_refused told a) c.summary_for.ensures.refused
+    IfErr-weaker c.summary_for.result (λ (s : Status). s ≡ ends.NoMemory) (λ (s : Status). OfHeld told (λ files. Unreported files a s)) (summary_refused told a) c.summary_for.ensures.refused
 
 pub returns-in-Ok-Gen-clause-form : goal.returns-in-Ok-Gen-clause-form
 returns-in-Ok-Gen-clause-form g c =

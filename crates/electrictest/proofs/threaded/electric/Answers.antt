@@ -1,6 +1,7 @@
 use Rattle.electrictest.specs.Commands.{called}
 use Rattle.electrictest.specs.Words.{threaded}
 use Rattle.electrictest.proofs.AskedFor.{threaded_impact, threaded_over}
+use Rattle.electrictest.proofs.Held.{for_held}
 use Rattle.electrictest.proofs.OwnAnswers.{own_answer}
 use Rattle.electrictest.proofs.OwnConeLaws.{own_cones_answer, own_manifest_answer}
 use Rattle.electrictest.proofs.OwnOrderLaws.{own_order_answer}
@@ -9,7 +10,7 @@ use Rattle.electrictest.proofs.DetectedLaws.{detected_answer, detected_order_ans
 use Rattle.electrictest.proofs.EagerLaws.{told_eager}
 use Rattle.electrictest.proofs.EarlierLaws.{earlier_answer}
 use Rattle.electrictest.proofs.GeneratedAnswers.{generated_by}
-use Rattle.electrictest.proofs.Replying.{for_told, served_by, taken_by, ends_by}
+use Rattle.electrictest.proofs.Replying.{served_by, taken_by, ends_by}
 use Rattle.electrictest.proofs.threaded.electric.Goals as goal
 
 pub returns-clause-served : goal.returns-clause-served
@@ -20,53 +21,61 @@ returns-clause-served g c =
 pub returns-clause-own : goal.returns-clause-own
 returns-clause-own g c =
     let old = g.D.Depot.shown c.args.depot.now in
-    let asked = called (threaded c.args.words.now) old (g.D.Depot.shown c.asked_text-report.new.depot) c.args.steps.now c.asked_text-report.new.steps in
-    for_told old.told (λ files. own_answer (asked files) c.answered.result _ _) (returns-clause-served g c)
+    let new = g.D.Depot.shown c.asked_text-report.new.depot in
+    let asked = called (threaded c.args.words.now) old new c.args.steps.now c.asked_text-report.new.steps in
+    for_held new.told (λ files. own_answer (asked files) c.answered.result _ _) (returns-clause-served g c)
 
 pub returns-clause-own_order : goal.returns-clause-own_order
 returns-clause-own_order g c =
     let old = g.D.Depot.shown c.args.depot.now in
-    let asked = called (threaded c.args.words.now) old (g.D.Depot.shown c.asked_text-report.new.depot) c.args.steps.now c.asked_text-report.new.steps in
-    for_told old.told (λ files. own_order_answer (asked files) c.answered.result _ _) (returns-clause-served g c)
+    let new = g.D.Depot.shown c.asked_text-report.new.depot in
+    let asked = called (threaded c.args.words.now) old new c.args.steps.now c.asked_text-report.new.steps in
+    for_held new.told (λ files. own_order_answer (asked files) c.answered.result _ _) (returns-clause-served g c)
 
 pub returns-clause-detected : goal.returns-clause-detected
 returns-clause-detected g c =
     let old = g.D.Depot.shown c.args.depot.now in
-    let asked = called (threaded c.args.words.now) old (g.D.Depot.shown c.asked_text-report.new.depot) c.args.steps.now c.asked_text-report.new.steps in
-    for_told old.told (λ files. detected_answer (asked files) c.answered.result _ _) (returns-clause-served g c)
+    let new = g.D.Depot.shown c.asked_text-report.new.depot in
+    let asked = called (threaded c.args.words.now) old new c.args.steps.now c.asked_text-report.new.steps in
+    for_held new.told (λ files. detected_answer (asked files) c.answered.result _ _) (returns-clause-served g c)
 
 pub returns-clause-detected_order : goal.returns-clause-detected_order
 returns-clause-detected_order g c =
     let old = g.D.Depot.shown c.args.depot.now in
-    let asked = called (threaded c.args.words.now) old (g.D.Depot.shown c.asked_text-report.new.depot) c.args.steps.now c.asked_text-report.new.steps in
-    for_told old.told (λ files. detected_order_answer (asked files) c.answered.result _ _) (returns-clause-served g c)
+    let new = g.D.Depot.shown c.asked_text-report.new.depot in
+    let asked = called (threaded c.args.words.now) old new c.args.steps.now c.asked_text-report.new.steps in
+    for_held new.told (λ files. detected_order_answer (asked files) c.answered.result _ _) (returns-clause-served g c)
 
 pub returns-clause-own_cones : goal.returns-clause-own_cones
 returns-clause-own_cones g c =
     let old = g.D.Depot.shown c.args.depot.now in
-    let asked = called (threaded c.args.words.now) old (g.D.Depot.shown c.asked_text-report.new.depot) c.args.steps.now c.asked_text-report.new.steps in
-    for_told old.told (λ files. own_cones_answer (asked files) c.answered.result _ _) (returns-clause-served g c)
+    let new = g.D.Depot.shown c.asked_text-report.new.depot in
+    let asked = called (threaded c.args.words.now) old new c.args.steps.now c.asked_text-report.new.steps in
+    for_held new.told (λ files. own_cones_answer (asked files) c.answered.result _ _) (returns-clause-served g c)
 
 pub returns-clause-own_manifest : goal.returns-clause-own_manifest
 returns-clause-own_manifest g c =
     let old = g.D.Depot.shown c.args.depot.now in
-    let asked = called (threaded c.args.words.now) old (g.D.Depot.shown c.asked_text-report.new.depot) c.args.steps.now c.asked_text-report.new.steps in
-    for_told old.told (λ files. own_manifest_answer (asked files) c.answered.result _ _) (returns-clause-served g c)
+    let new = g.D.Depot.shown c.asked_text-report.new.depot in
+    let asked = called (threaded c.args.words.now) old new c.args.steps.now c.asked_text-report.new.steps in
+    for_held new.told (λ files. own_manifest_answer (asked files) c.answered.result _ _) (returns-clause-served g c)
 
 pub returns-clause-earlier : goal.returns-clause-earlier
 returns-clause-earlier g c =
     let old = g.D.Depot.shown c.args.depot.now in
-    let asked = called (threaded c.args.words.now) old (g.D.Depot.shown c.asked_text-report.new.depot) c.args.steps.now c.asked_text-report.new.steps in
-    for_told old.told (λ files. earlier_answer (asked files) c.answered.result _ _ (threaded_impact c.args.words.now)) (returns-clause-served g c)
+    let new = g.D.Depot.shown c.asked_text-report.new.depot in
+    let asked = called (threaded c.args.words.now) old new c.args.steps.now c.asked_text-report.new.steps in
+    for_held new.told (λ files. earlier_answer (asked files) c.answered.result _ _ (threaded_impact c.args.words.now)) (returns-clause-served g c)
 
 pub returns-clause-eager : goal.returns-clause-eager
-returns-clause-eager g c = told_eager (g.D.Depot.shown c.args.depot.now).told (threaded c.args.words.now) (threaded_over c.args.words.now)
+returns-clause-eager g c = told_eager (g.D.Depot.shown c.asked_text-report.new.depot).told (threaded c.args.words.now) (threaded_over c.args.words.now)
 
 pub returns-clause-complete : goal.returns-clause-complete
 returns-clause-complete g c =
     let old = g.D.Depot.shown c.args.depot.now in
-    let asked = called (threaded c.args.words.now) old (g.D.Depot.shown c.asked_text-report.new.depot) c.args.steps.now c.asked_text-report.new.steps in
-    for_told old.told (λ files. complete_answer (asked files) c.answered.result _ _) (returns-clause-served g c)
+    let new = g.D.Depot.shown c.asked_text-report.new.depot in
+    let asked = called (threaded c.args.words.now) old new c.args.steps.now c.asked_text-report.new.steps in
+    for_held new.told (λ files. complete_answer (asked files) c.answered.result _ _) (returns-clause-served g c)
 
 pub returns-clause-generated : goal.returns-clause-generated
 returns-clause-generated g c =
