@@ -1,8 +1,10 @@
 //! The program `electric`: the words of the command line, the files of the current folder and
 //! standard output.
 //!
-//! Begin with `main`, which hands the words to `electrictest`'s `electric` over a `FolderDepot` and
-//! a `StdSink`; what is promised of a run is that call's contract (`docs/CLAIMS.md`).
+//! Begin with `main`, which hands the words to `answer` over a `FolderDepot` and a `StdSink`.
+//! `answer`, over any depot and sink, hands them to `electrictest`'s `electric` as they came and
+//! promises what that call does (`docs/CLAIMS.md`): of this folder, of whichever files agree with
+//! what its reads answered. `exit_code` gives the status's code. `main` itself has no clause.
 //!
 //! - `heard.rt` is a sink that keeps the fault line that goes through it; contracts see the sink
 //!   behind it alone.
