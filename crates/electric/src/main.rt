@@ -2,9 +2,9 @@
 //! standard output.
 //!
 //! Begin with `main`, which hands the words to `answer` over a `FolderDepot` and a `StdSink`.
-//! `answer`, over any depot and sink, hands them to `electrictest`'s `electric` as they came and
-//! promises what that call does (`docs/CLAIMS.md`): of this folder, of whichever files agree with
-//! what its reads answered. `exit_code` gives the status's code. `main` itself has no clause.
+//! `answer`, over any depot and sink, hands them to `electrictest`'s `electric` as they came, and
+//! has the `served`, `taken` and `ends` of that call (`docs/CLAIMS.md`): of the folder, for whichever
+//! files agree with what its reads answered. `exit_code` is the status's code. `main` has no clause.
 //!
 //! - `heard.rt` is a sink that keeps the fault line that goes through it; contracts see the sink
 //!   behind it alone.
