@@ -9,7 +9,7 @@ use crate::turns::Turns;
 use electrictest::{Status, electric};
 use et_base::{Items, NoMemory, Text};
 use order_law::Chains;
-use outside::{Depot, Sink, Steps};
+use outside::{Depot, OpenGate, Sink, Steps};
 use run_core::{Core, Refused, RunName};
 use schedule_plan::{Share, WorkPlan};
 use std::alloc::Global;
@@ -23,7 +23,7 @@ use test_run::{Machine, Piece};
 use type_frames::Checked;
 use verdict_board::Board;
 use vm_heap::RegionMemory;
-use worker_pool::run_plan;
+use worker_pool::{run_plan, work_plan};
 
 const COUNTER_FILES: [File; 2] = [(b"s", COUNTER_SUITE), (b"Counter.class", &COUNTER_CLASS)];
 
@@ -159,6 +159,57 @@ fn a_worker_steals_while_another_is_held(rt: HostRuntime) -> Result<(), Fail> {
     assert_eq!(rt; gate.passed(), 2);
     assert_eq!(rt; gate.number(2), 1);
     assert!(rt; gate.worker(1) != gate.worker(2));
+    Ok(())
+}
+
+// A plan for so many workers, of which the first holds the second chain and the last the first one.
+fn far_shares(alloc: Global, workers: u32) -> Result<WorkPlan, NoMemory> {
+    let mut shares = Items::new(alloc);
+    for place in 0..workers {
+        let mut chains = Items::new(alloc);
+        if place == 0 {
+            chains.push(1)?;
+        }
+        if place + 1 == workers {
+            chains.push(0)?;
+        }
+        shares.push(Share { chains, load: 0 })?;
+    }
+    Ok(WorkPlan { shares })
+}
+
+// Whether both tests are posted where the workers have ended, before the caller runs what they left.
+fn is_all_posted<R: Threads + Wait + Sync>(
+    rt: &R,
+    alloc: Global,
+    p: &Checked,
+    workers: u32,
+) -> Result<bool, NoMemory>
+    requires { length p.now.tests ≡ 2 }
+{
+    let chains = two_chains(alloc)?;
+    let plan = far_shares(alloc, workers)?;
+    let core = work_plan(rt, alloc, p, &chains, &plan, &OpenGate::new())?;
+    Ok(core.is_complete())
+}
+
+// Whether so many workers leave nothing of the counter's tests.
+fn is_nothing_left<R: Threads + Wait + Sync>(
+    rt: &R,
+    alloc: Global,
+    workers: u32,
+) -> Result<bool, NoMemory> {
+    match counter(alloc)? {
+        Some(p) => is_all_posted(rt, alloc, &p, workers),
+        None => Ok(false),
+    }
+}
+
+#[test]
+fn workers_leave_nothing(rt: HostRuntime) -> Result<(), Fail> {
+    for workers in [1, 4, 16] {
+        assert!(rt; is_nothing_left(&rt, rt.alloc(), workers)?);
+    }
     Ok(())
 }
 

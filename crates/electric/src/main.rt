@@ -1,8 +1,10 @@
 //! The program `electric`: the words of the command line, the files of the current folder and
 //! standard output.
 //!
-//! Begin with `main`, which hands the words to `electrictest`'s `electric` over a `FolderDepot` and
-//! a `StdSink`; what is promised of a run is that call's contract (`docs/CLAIMS.md`).
+//! Begin with `main`, which hands the words to `answer` over a `FolderDepot` and a `StdSink`.
+//! `answer`, over any depot and sink, hands them to `electrictest`'s `electric` as they came, and
+//! has the `served`, `taken` and `ends` of that call (`docs/CLAIMS.md`): of the folder, for whichever
+//! files agree with what its reads answered. `exit_code` is the status's code. `main` has no clause.
 //!
 //! - `heard.rt` is a sink that keeps the fault line that goes through it; contracts see the sink
 //!   behind it alone.
@@ -14,7 +16,12 @@
 //! what it has to write.
 #![tactic(auto)]
 
-ghost use Rattle.std.specs.Prelude.{◌≡◌, ◌<◌};
+ghost use Rattle.std.specs.Prelude.{◌≡◌, ◌<◌, None, IfSome, option_map};
+ghost use Rattle.std.specs.Process.{exit_status};
+ghost use Rattle.electrictest.specs.declared.status.Status.TheVariants as ends;
+ghost use Rattle.electrictest.specs.Commands.{Writes};
+ghost use Rattle.electrictest.specs.Codes.{code_of};
+ghost use Rattle.electric.specs.Answers.{Answers, word_text, words_text};
 
 mod heard;
 mod hints;
@@ -25,16 +32,19 @@ use crate::hints::hint;
 use crate::progress::Progress;
 use electrictest::{Status, electric, written};
 use et_base::{Items, Text};
-use outside::{FolderDepot, Gate, Sink, StdSink, Steps};
+use outside::{Depot, FolderDepot, Gate, Sink, StdSink, Steps};
 use std::alloc::Global;
 use std::env;
 use std::io::{ErrorKind, IsTerminal, Print, Write};
 use std::marker::Brand;
 use std::process::ExitCode;
-use std::rt::Files;
 use std::sync::Wait;
 use std::sync::ledger::{Blank, Ledger};
 use std::thread::Threads;
+
+type Folder<'a> = FolderDepot<'a, HostRuntime>;
+
+type Output<'a> = StdSink<'a, HostRuntime>;
 
 const HELP: &[u8] = b"electric runs the tests of a suite of Java class files.
 
@@ -91,38 +101,66 @@ fn words(rt: &HostRuntime) -> Result<Items<Text>, Status> {
 }
 
 // The text of `--help` or `--version`.
-fn fixed_text(words: &[Text]) -> Option<&'static [u8]> {
+fn text_of(word: &[u8]) -> Option<&'static [u8]>
+    ensures { option_map (λ text. text.now) result ≡ word_text word.now }
+{
+    if word == b"--help".as_slice() {
+        Some(HELP)
+    } else if word == b"--version".as_slice() {
+        Some(VERSION)
+    } else {
+        None
+    }
+}
+
+// The text of `--help` or `--version`, where it stands alone.
+fn fixed_text(words: &[Text]) -> Option<&'static [u8]>
+    ensures { option_map (λ text. text.now) result ≡ words_text words.now }
+{
     match words {
-        [word] if word.as_slice() == b"--help".as_slice() => Some(HELP),
-        [word] if word.as_slice() == b"--version".as_slice() => Some(VERSION),
+        [word] => text_of(word.as_slice()),
         _ => None,
     }
 }
 
-// Answers the words on a sink.
-fn answer<R: Threads + Wait + Sync + Files, S: Sink, G: Gate + Sync, L: Ledger>(
+// Answers the words on a sink: `--help` and `--version` by their texts, and others over a depot.
+fn answer<R, D, S, G, L>(
     rt: &R,
     alloc: Global,
     words: &[Text],
+    depot: &mut D,
     sink: &mut S,
     gate: &G,
     blank: Blank,
 ) -> Status
+where
+    R: Threads + Wait + Sync,
+    D: Depot,
+    S: Sink,
+    G: Gate + Sync,
+    L: Ledger,
     requires name { blank.name ≡ L.name }
     requires parts { blank.parts ≡ L.parts }
     requires some { 0 < blank.parts }
+    ensures fixed { IfSome (words_text words.now) (λ text.
+        Writes text ends.Done result (S.shown sink.old) (S.shown sink.new)) }
+    ensures served { let depot_now = D.shown depot.new in words_text words.now ≡ None →
+        Answers words.now result (D.shown depot.old) depot_now (S.shown sink.old) (S.shown sink.new) }
 {
-    if let Some(text) = fixed_text(words) {
-        return written(sink, text, Status::Done);
-    }
-    match String::from_str(alloc, ".") {
-        Ok(folder) => {
-            let mut depot = FolderDepot::new(rt, alloc, folder);
+    match fixed_text(words) {
+        Some(text) => written(sink, text, Status::Done),
+        None => {
             let mut steps = Steps::<L>::new(blank);
-            electric(rt, alloc, words, &mut depot, sink, gate, &mut steps)
+            electric(rt, alloc, words, depot, sink, gate, &mut steps)
         }
-        Err(_) => Status::NoMemory,
     }
+}
+
+// The exit code of a status.
+fn exit_code(status: &Status) -> ExitCode
+    ensures { exit_status result ≡ code_of status.now }
+{
+    ExitCode::from(status.code())
 }
 
 // Says on standard error what a refusal was, where standard output isn't a terminal, and what helps with it. Nothing depends
@@ -141,18 +179,22 @@ fn main(rt: HostRuntime) -> ExitCode {
     let alloc = rt.alloc();
     let words = match words(&rt) {
         Ok(words) => words,
-        Err(status) => return ExitCode::from(status.code()),
+        Err(status) => return exit_code(&status),
     };
     let words = words.as_slice();
     let mut sink = Heard::new(alloc, StdSink::new(&rt));
-    let status = answer::<HostRuntime, Heard<StdSink<'_, HostRuntime>>, Progress<'_>, Brand>(
-        &rt,
-        alloc,
-        words,
-        &mut sink,
-        &Progress::new(&rt),
-        Blank::new(1),
-    );
+    let status = match String::from_str(alloc, ".") {
+        Ok(folder) => answer::<HostRuntime, Folder<'_>, Heard<Output<'_>>, Progress<'_>, Brand>(
+            &rt,
+            alloc,
+            words,
+            &mut FolderDepot::new(&rt, alloc, folder),
+            &mut sink,
+            &Progress::new(&rt),
+            Blank::new(1),
+        ),
+        Err(_) => Status::NoMemory,
+    };
     explain(&rt, words, sink.line(), &status);
-    ExitCode::from(status.code())
+    exit_code(&status)
 }
