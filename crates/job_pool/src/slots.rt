@@ -1,6 +1,8 @@
 //! The workers of a pool.
 
-ghost use Rattle.std.specs.Prelude.{◌≡◌, ◌<◌, ◌≤◌, ◌^◌, All, length, vec_len, IfOk};
+ghost use Rattle.std.specs.Prelude.{◌≡◌, ◌<◌, ◌≤◌, ◌^◌, All, length, map, IfOk};
+ghost use Rattle.std.specs.List.{range_with_len};
+ghost use Rattle.job_pool.specs.Filled.{chains_of};
 
 use crate::machines::fresh_machine;
 use chain_deque::{Chain, ChainOwner, Thief};
@@ -17,7 +19,7 @@ use vm_heap::RegionMemory;
 pub struct Slot<'p, N: PoolName> {
     pub worker: u32,
     pub machine: Machine<'p, RegionMemory>,
-    owner: ChainOwner,
+    pub owner: ChainOwner,
     thieves: Vec<Thief>,
     of: PhantomData<N>,
     ghost program: { machine.program ≡ N.program },
@@ -36,6 +38,8 @@ impl<'p, N: PoolName> Slot<'p, N> {
         requires program { p.now ≡ N.program }
         requires worker { (0 < worker) × (worker ≤ N.workers) }
         requires short { length numbers.now < 2 ^ 32 }
+        ensures worker { IfOk result (λ s. s.worker ≡ worker) }
+        ensures filled { IfOk result (λ s. s.owner.seen.pushed ≡ chains_of numbers.now) }
     {
         Ok(Slot {
             worker,
@@ -68,9 +72,10 @@ impl<'p, N: PoolName> Slot<'p, N> {
     }
 }
 
-/// A deque with these numbers. The only error is want of memory.
+/// A deque onto which the chains of these numbers were pushed, in order. The only error is want of memory.
 fn owner_of(alloc: Global, numbers: &[u32]) -> Result<ChainOwner, NoMemory>
     requires { length numbers.now < 2 ^ 32 }
+    ensures { IfOk result (λ o. o.seen.pushed ≡ chains_of numbers.now) }
 {
     let mut owner = ChainOwner::new(alloc, numbers.len() as u32)?;
     for number in numbers {
@@ -81,7 +86,9 @@ fn owner_of(alloc: Global, numbers: &[u32]) -> Result<ChainOwner, NoMemory>
 
 /// Gives each worker a thief of each other, in rising number round from its own. The only error is want of memory.
 fn lend<N: PoolName>(slots: &mut Vec<Slot<'_, N>>) -> Result<(), NoMemory>
-    ensures { vec_len slots.new ≡ vec_len slots.old }
+    ensures workers { map (λ s. s.worker) slots.new.items ≡ map (λ s. s.worker) slots.old.items }
+    ensures filled { map (λ s. s.owner.seen.pushed) slots.new.items
+        ≡ map (λ s. s.owner.seen.pushed) slots.old.items }
 {
     let workers = slots.len();
     for to in 0..workers {
@@ -98,7 +105,8 @@ fn lend<N: PoolName>(slots: &mut Vec<Slot<'_, N>>) -> Result<(), NoMemory>
     Ok(())
 }
 
-/// A worker for each list of numbers, with a fresh machine and thieves of all others. The only error is want of memory.
+/// A worker for each list of numbers, with a fresh machine and thieves of all others: the workers' numbers rise from 1, and
+/// onto the deque of each the chains of its list were pushed, in order. The only error is want of memory.
 pub fn slots_of<'p, N: PoolName>(
     alloc: Global,
     p: &'p Checked,
@@ -107,7 +115,10 @@ pub fn slots_of<'p, N: PoolName>(
     requires program { p.now ≡ N.program }
     requires workers { (length lists.now ≡ N.workers) × (N.workers < 2 ^ 32) }
     requires short { All (λ l. length l < 2 ^ 32) lists.now }
-    ensures { IfOk result (λ slots. vec_len slots ≡ N.workers) }
+    ensures workers { IfOk result (λ slots.
+        map (λ s. s.worker) slots.items ≡ range_with_len 1 N.workers) }
+    ensures filled { IfOk result (λ slots.
+        map (λ s. s.owner.seen.pushed) slots.items ≡ map chains_of lists.now) }
 {
     let mut slots = Vec::new(alloc);
     for index in 0..lists.len() {
