@@ -1,13 +1,12 @@
-//! Tests of the machine's calls that no command makes, and of its memories.
+//! Tests of what no command does with the machine and its memories.
 //!
 //! Begin with `suites.rt`, which loads two suites from files in memory, and `memories.rt`, which
-//! runs their tests over each memory.
+//! runs their tests over each memory: no command runs over `PlainMemory` or `TraceMemory`.
 //!
-//! - `resets.rt` sets a machine back, also after a refusal.
-//! - `stack_maps.rt` reads the frames of a stack map.
+//! - `resets.rt` sets a machine back after a refusal, and goes on with it.
+//! - `stack_maps.rt` reads the frames of a stack map by themselves.
 //!
-//! The commands run whole tests over one memory alone. What these calls answer is compared with
-//! what a report on the suites says, or with the bytecode.
+//! What these calls answer is compared with what a report on the suites says, or with the bytecode.
 //!
 //! A crate with tests is proved twice, so these stand in a crate of their own. It has no edit that
 //! must fail: outside its tests it has no code, and edits are tried without tests.

@@ -27,7 +27,8 @@ fn is_refused<L: Ledger>(machine: &mut Machine<'_, RegionMemory>, units: u64, bl
     matches!(given, Err(RunFault::OverBudget { test: 1 })) && machine.is_spent()
 }
 
-// The tests have these lines in a report, and again when the machine is set back, and when it is set back after a refusal.
+// The tests have these lines in a report, again when the machine is set back, and once more when
+// it is set back after a refusal.
 #[derive(Drop)]
 struct LinesAgain(&'static [u8]);
 

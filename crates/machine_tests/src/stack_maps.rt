@@ -14,7 +14,8 @@ fn is_overflow(stack: &[VType]) -> bool {
     }
 }
 
-// Whether the frames are that of `R.deep` alone: at its handler, without locals, and with the error alone on the stack.
+// Whether the frames are that of `R.deep` alone: at its handler, without locals, and with the
+// error alone on the stack.
 fn are_of_deep(frames: &[Frame]) -> bool {
     match frames {
         [frame] => {

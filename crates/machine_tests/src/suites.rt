@@ -8,7 +8,11 @@ use suite_load::{LoadFault, Loaded, load};
 /// A file's name and its bytes.
 pub type File<'a> = (&'a [u8], &'a [u8]);
 
-// `class Counter { static int n; static void set() { n = 5; } static void show() { electric.Env.print(n); } }`
+// class Counter {
+//     static int n;
+//     static void set() { n = 5; }
+//     static void show() { electric.Env.print(n); }
+// }
 const COUNTER_CLASS: [u8; 218] = [
     202, 254, 186, 190, 0, 0, 0, 52, 0, 19, 1, 0, 7, 67, 111, 117, 110, 116, 101, 114, 7, 0, 1, 1,
     0, 16, 106, 97, 118, 97, 47, 108, 97, 110, 103, 47, 79, 98, 106, 101, 99, 116, 7, 0, 3, 1, 0,
@@ -31,14 +35,20 @@ end
 /// A test that writes a static, and one that prints it.
 pub const COUNTER_FILES: [File; 2] = [(b"s", COUNTER_SUITE), (b"Counter.class", &COUNTER_CLASS)];
 
+/// The lines of its tests in a report.
 pub const COUNTER_LINES: &[u8] = b"test 1 Counter.set passed units 6
 test 2 Counter.show passed units 8
 out \"5\\n\"
 ";
 
-// `class R { static int d; static void down() { d++; down(); }
-// static void deep() { try { down(); } catch (StackOverflowError e) { electric.Env.print(d); } } }`. By bytes `deep` is
-// `0 invokestatic R.down; 3 return; 4 pop; 5 getstatic d; 8 print; 11 return`, with its handler at 4.
+// class R {
+//     static int d;
+//     static void down() { d++; down(); }
+//     static void deep() { try { down(); } catch (StackOverflowError e) { electric.Env.print(d); } }
+// }
+//
+// By bytes `deep` is `0 invokestatic R.down; 3 return; 4 pop; 5 getstatic d; 8 print; 11 return`,
+// with its handler at 4.
 const R_CLASS: [u8; 311] = [
     202, 254, 186, 190, 0, 0, 0, 52, 0, 24, 1, 0, 1, 82, 7, 0, 1, 1, 0, 16, 106, 97, 118, 97, 47,
     108, 97, 110, 103, 47, 79, 98, 106, 101, 99, 116, 7, 0, 3, 1, 0, 1, 100, 1, 0, 1, 73, 1, 0, 4,
@@ -64,6 +74,7 @@ end
 /// A test that overflows the stack and catches the error.
 pub const R_FILES: [File; 2] = [(b"s", R_SUITE), (b"R.class", &R_CLASS)];
 
+/// The lines of its test in a report.
 pub const R_LINES: &[u8] = b"test 1 R.deep passed units 8200
 out \"1023\\n\"
 ";
