@@ -27,12 +27,12 @@ fn are_of_deep(frames: &[Frame]) -> bool {
 
 // Whether the frames of the last method, `R.deep`, are read, and none of the one before it.
 fn are_read(alloc: Global, program: &Program) -> Result<bool, FrameFault> {
-    let [.., _, _] = program.methods.as_slice() else {
+    let count = u32::try_from(program.methods.len()).unwrap_or(0);
+    if count < 2 {
         return Ok(false);
-    };
-    let deep = (program.methods.len() - 1) as u32;
-    let frames = read_frames(alloc, program, deep)?;
-    let none = read_frames(alloc, program, deep - 1)?;
+    }
+    let frames = read_frames(alloc, program, count - 1)?;
+    let none = read_frames(alloc, program, count - 2)?;
     Ok(are_of_deep(frames.as_slice()) && none.is_empty())
 }
 
