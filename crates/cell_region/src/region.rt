@@ -60,11 +60,6 @@ impl<T: Copy> Region<T> {
         self.len
     }
 
-    /// Whether there are no cells.
-    pub fn is_empty(&self) -> bool {
-        self.len == 0
-    }
-
     /// Appends n cells, each with the content `fill`. After a refusal the list is as before.
     pub fn grow(&mut self, n: u64, fill: T) -> Result<Block, NoMemory>
         ensures block { IfOk result (λ b. (b.start ≡ length self.old) × (b.len ≡ n)) }
