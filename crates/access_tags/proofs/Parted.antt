@@ -1,9 +1,9 @@
 -- The tags after a test ended at some parts and then at more, and the conflicts there.
 use Rattle.std.proofs.Common.{◌≡◌, ℕ, ◌+◌, ◌<◌, ◌≤◌, Bool, true, false, ◌||◌, ◌&&◌, not, cond, List, [], ◌∷◌, ◌++◌, length, get_or, take, flat_map, nat_eq, refl, sym, ◌∙◌, ap, subst, inl, inr}
 use Rattle.std.specs.List.{list_any}
-use Rattle.std.proofs.lemmas.Bool.{cases_Bool, or_parts}
+use Rattle.std.proofs.lemmas.Bool.{cases_Bool, eqb-true, or_parts, and_parts}
 use Rattle.std.proofs.lemmas.Grind.{flat_map-append}
-use Rattle.std.proofs.lemmas.List.{append-nil, append_assoc, map-append, take_more}
+use Rattle.std.proofs.lemmas.List.{append-nil, append_assoc, map-append}
 use Rattle.std.proofs.lemmas.List.Folds.{list_any-append}
 use Rattle.jvm_model.specs.declared.values.Location.{Location}
 use Rattle.jvm_model.specs.World.{same}
@@ -11,16 +11,18 @@ use Rattle.jvm_model.proofs.Locations.{same_true}
 use Rattle.access_tags.specs.declared.conflict.Conflict.{Conflict}
 use Rattle.access_tags.specs.declared.conflict.LocationKey.{LocationKey}
 use Rattle.access_tags.specs.declared.conflict.Touched.{Touched}
-use Rattle.access_tags.specs.declared.rows.Row.{Row}
 use Rattle.access_tags.specs.declared.interval.Interval.{Interval}
+use Rattle.access_tags.specs.declared.mark.Mark.{Mark}
+use Rattle.access_tags.specs.declared.mark.Past.{Past}
+use Rattle.access_tags.specs.declared.mark.Reader.{Reader}
 use Rattle.access_tags.specs.declared.table.Table.{Table}
-use Rattle.access_tags.specs.Tag.{Tag, ended}
-use Rattle.access_tags.specs.Cells.{Apart}
+use Rattle.access_tags.specs.Tag.{Tag, conflicts_at, ended}
+use Rattle.access_tags.specs.Cells.{Apart, chain, tag_by}
 use Rattle.access_tags.specs.Counted.{Counts, HaveCounted}
 use Rattle.access_tags.specs.HaveEnded.{HaveEnded}
 use Rattle.access_tags.specs.Numbering.{Numbering, located, is_name, view, ArePlaced, locations, is_at}
-use Rattle.access_tags.specs.Rows.{IsTable}
 use Rattle.access_tags.specs.Intervals.{part_at, parts_to, parts_of, parts}
+use Rattle.access_tags.proofs.Chains.{chain_end}
 use Rattle.access_tags.proofs.Numbered.{changed, any_location}
 use Rattle.access_tags.proofs.Spanned.{to_none, to_more, parts_more}
 
@@ -81,8 +83,20 @@ counted_none a = record { later = refl; counts = λ hs k. subst (λ (xs : List (
 pub counted_after : (a b c : Table) (xs ys : List (Conflict LocationKey)) → HaveCounted a b xs → HaveCounted b c ys → HaveCounted a c (xs ++ ys)
 counted_after a b c xs ys f g = record { later = g.later ∙ f.later; counts = λ hs k. subst (λ (zs : List (Conflict LocationKey)). Counts c zs) (append_assoc hs xs ys) (g.counts (hs ++ xs) (f.counts hs k)) }
 
-pub counted_more : (t : ℕ) (rows : List Row) (gs hs : List (Conflict LocationKey)) (i : ℕ) (d : Conflict LocationKey) → i < length hs → IsTable t ((gs ++ take i hs) ++ get_or hs i d ∷ []) rows → IsTable t (gs ++ take (i + 1) hs) rows
-counted_more t rows gs hs i d h k = subst (λ (xs : List (Conflict LocationKey)). IsTable t xs rows) (append_assoc gs (take i hs) (get_or hs i d ∷ []) ∙ ap (λ (ys : List (Conflict LocationKey)). gs ++ ys) (sym (take_more hs i d h))) k
+-- where no test wrote or read, there are no conflicts
+no_conflicts : (x : LocationKey) (p : Past) (rs : List Reader) (m : Mark) → (nat_eq p.writer 0 && nat_eq p.readers 0) ≡ true → conflicts_at x (tag_by p rs m) ≡ []
+no_conflicts x p rs m h =
+    let both = and_parts (nat_eq p.writer 0) (nat_eq p.readers 0) h in
+    let w = both.0 in
+    let r = eqb-true p.readers 0 both.1 in
+    let e : chain rs p.readers ≡ [] = ap (λ (n : ℕ). chain rs n) r ∙ chain_end rs in
+    rw w (rw e (elim (cases_Bool m.exposed) [
+      | inl a ↦ rw a (elim (cases_Bool m.written) [ inl b ↦ rw b refl | inr b ↦ rw b refl ])
+      | inr a ↦ rw a (elim (cases_Bool m.written) [ inl b ↦ rw b refl | inr b ↦ rw b refl ])
+    ]))
+
+pub counted_there : (t : Table) (x : LocationKey) (p : Past) (rs : List Reader) (m : Mark) → (nat_eq p.writer 0 && nat_eq p.readers 0) ≡ true → HaveCounted t t (conflicts_at x (tag_by p rs m))
+counted_there t x p rs m h = subst (λ (xs : List (Conflict LocationKey)). HaveCounted t t xs) (sym (no_conflicts x p rs m h)) (counted_none t)
 
 -- one part or one interval more
 module _ (f : Touched → List (Conflict LocationKey)) (a b c : Table) where

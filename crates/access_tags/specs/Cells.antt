@@ -26,9 +26,13 @@ AreDown rs = (k : ℕ) → (get_or rs k no_reader).next ≤ k
 abbrev pub no_past : Past
 no_past = record { writer = 0; readers = 0 }
 
+-- the tag of a location with this past and mark, where the latest reader stands first
+abbrev pub tag_by : Past → List Reader → Mark → Tag
+tag_by x rs m = record { writer = x.writer; readers = chain rs x.readers; mark = m }
+
 -- the tag of the location with number n in these lists
 abbrev pub look : List Past → List Reader → List Mark → ℕ → Tag
-look ps rs ms n = record { writer = (get_or ps n no_past).writer; readers = chain (reverse rs) (get_or ps n no_past).readers; mark = get_or ms n no_mark }
+look ps rs ms n = tag_by (get_or ps n no_past) (reverse rs) (get_or ms n no_mark)
 
 pub record AreCells (ps : List Past) (rs : List Reader) (ms : List Mark) : Type 0 where
   pub full : length ms ≤ length ps

@@ -24,6 +24,10 @@ key k u = 3 * u + kind_number k
 abbrev pub row_with : EdgeKind → ℕ → List LocationKey → Row
 row_with k u xs = record { kind = k; earlier = u; count = length xs; spots = take 8 xs }
 
+-- a table has the rows of this earlier test, where these are the conflicts
+abbrev pub HasRows : ℕ → List (Conflict LocationKey) → List Row → Type 0
+HasRows u hs rows = (k : EdgeKind) (d : Row) → get_or rows (key k u) d ≡ row_with k u (found k u hs)
+
 -- a table has the row of each kind and each earlier test, where these are the conflicts
 abbrev pub IsTable : ℕ → List (Conflict LocationKey) → List Row → Type 0
 IsTable t hs rows = (k : EdgeKind) (u : ℕ) (d : Row) → u < t → get_or rows (key k u) d ≡ row_with k u (found k u hs)

@@ -2,11 +2,13 @@
 
 ghost use Rattle.std.specs.Prelude.{◌≡◌, ◌+◌, ◌<◌, ◌≤◌, ◌^◌, ℕ, [], ◌∷◌, ◌++◌, length, map, reverse, cond, nat_eq, IfOk, OnOk, OnErr};
 ghost use Rattle.order_law.specs.declared.edges.EdgeKind.TheVariants as kinds;
-ghost use Rattle.access_tags.specs.Tag.{conflict, with_writer};
-ghost use Rattle.access_tags.specs.Cells.{AreCells, AreDown, chain};
+ghost use Rattle.access_tags.specs.Tag.{conflict, conflicts_at, with_writer};
+ghost use Rattle.access_tags.specs.Counted.{HaveCounted};
+ghost use Rattle.access_tags.specs.Cells.{AreCells, AreDown, chain, tag_by};
 
 use crate::conflict::{Conflict, LocationKey};
 use crate::mark::{Mark, Past, Reader};
+use crate::table::Table;
 use cell_region::Region;
 use et_base::NoMemory;
 use order_law::EdgeKind;
@@ -23,7 +25,7 @@ pub struct Cells {
 }
 
 impl Cells {
-    ghost use Rattle.access_tags.specs.Tag.{no_tag, noted, ended, is_new, conflicts_at};
+    ghost use Rattle.access_tags.specs.Tag.{no_tag, noted, ended, is_new};
     ghost use Rattle.access_tags.specs.Shelf.{tag_in, count};
 
     /// No locations. It takes no memory until it grows.
@@ -87,26 +89,18 @@ impl Cells {
         old.is_new()
     }
 
-    /// Adds the conflicts at a location, which is shown as `place`.
-    pub fn collect(
-        &self,
-        at: u64,
-        place: LocationKey,
-        conflicts: &mut Vec<Conflict<LocationKey>>,
-    ) -> Result<(), NoMemory>
+    /// Counts the conflicts at a location, which is shown as `place`.
+    #[inline(always)]
+    pub fn count_at(&self, at: u64, place: LocationKey, table: &mut Table) -> Result<(), NoMemory>
         requires { at < count self.now }
-        ensures { OnOk result (conflicts.new.items ≡ conflicts.old.items ++ conflicts_at place (tag_in self.now at)) }
+        ensures { OnOk result (HaveCounted table.old table.new (conflicts_at place (tag_in self.now at))) }
     {
-        let mark = self.marks.get(at);
         let past = self.pasts.get(at);
-        if mark.exposed {
-            conflict_writer(conflicts, EdgeKind::Raw, place, past.writer)?;
+        if past.is_none() {
+            return Ok(());
         }
-        if mark.written {
-            conflict_writer(conflicts, EdgeKind::Waw, place, past.writer)?;
-            conflict_readers(conflicts, &self.readers, past.readers, place)?;
-        }
-        Ok(())
+        let mark = self.marks.get(at);
+        count_past(table, &self.readers, mark, past, place)
     }
 
     /// The running test, with this number, ended: what it did at the location joins what earlier tests did there.
@@ -149,41 +143,65 @@ impl Cells {
     }
 }
 
-/// Adds the conflict with a location's last writer, where there is one.
-fn conflict_writer(
-    conflicts: &mut Vec<Conflict<LocationKey>>,
-    kind: EdgeKind,
+/// Counts the conflicts at a location of a test that left this mark there with the tests before it.
+#[inline(never)]
+fn count_past(
+    table: &mut Table,
+    readers: &Region<Reader>,
+    mark: Mark,
+    past: Past,
     place: LocationKey,
-    writer: u32,
 ) -> Result<(), NoMemory>
-    ensures { OnOk result (conflicts.new.items ≡ conflicts.old.items ++ with_writer kind place writer) }
+    requires down { AreDown readers.now }
+    requires first { past.readers ≤ length readers.now }
+    ensures { OnOk result (HaveCounted table.old table.new
+        (conflicts_at place (tag_by past (reverse readers.now) mark))) }
 {
-    if writer != 0 {
-        conflicts.push(Conflict {
-            kind,
-            earlier: writer,
-            place,
-        })?;
+    if mark.exposed {
+        count_writer(table, EdgeKind::Raw, place, past.writer)?;
+    }
+    if mark.written {
+        count_writer(table, EdgeKind::Waw, place, past.writer)?;
+        count_readers(table, readers, past.readers, place)?;
     }
     Ok(())
 }
 
-/// Adds the conflicts with the readers of a chain, which begins at this number.
-fn conflict_readers(
-    conflicts: &mut Vec<Conflict<LocationKey>>,
+/// Counts the conflict with a location's last writer, where there is one.
+fn count_writer(
+    table: &mut Table,
+    kind: EdgeKind,
+    place: LocationKey,
+    writer: u32,
+) -> Result<(), NoMemory>
+    ensures { OnOk result (HaveCounted table.old table.new (with_writer kind place writer)) }
+{
+    if writer == 0 {
+        return Ok(());
+    }
+    table.add(Conflict {
+        kind,
+        earlier: writer,
+        place,
+    })
+}
+
+/// Counts the conflicts with the readers of a chain, which begins at this number.
+fn count_readers(
+    table: &mut Table,
     readers: &Region<Reader>,
     first: u32,
     place: LocationKey,
 ) -> Result<(), NoMemory>
     requires down { AreDown readers.now }
     requires first { first ≤ length readers.now }
-    ensures { OnOk result (conflicts.new.items ≡ conflicts.old.items
-        ++ map (conflict kinds.War place) (chain (reverse readers.now) first)) }
+    ensures { OnOk result (HaveCounted table.old table.new
+        (map (conflict kinds.War place) (chain (reverse readers.now) first))) }
 {
     let mut at = first;
     while at > 0 {
         let reader = readers.get(at as u64 - 1);
-        conflicts.push(Conflict {
+        table.add(Conflict {
             kind: EdgeKind::War,
             earlier: reader.test,
             place,

@@ -1,6 +1,6 @@
 //! What is kept beside a location.
 
-ghost use Rattle.std.specs.Prelude.{◌≡◌};
+ghost use Rattle.std.specs.Prelude.{◌≡◌, ◌&&◌, nat_eq};
 ghost use Rattle.access_tags.specs.Tag.{covers, marked, is_new};
 
 /// What the running test did at a location: whether it has an exposed read of it, which no write of its own precedes, and
@@ -24,6 +24,16 @@ pub struct Past {
 pub struct Reader {
     pub test: u32,
     pub next: u32,
+}
+
+impl Past {
+    /// Whether no test wrote there, and none read since.
+    #[inline(always)]
+    pub fn is_none(self) -> bool
+        ensures { result ≡ (nat_eq self.writer 0 && nat_eq self.readers 0) }
+    {
+        self.writer == 0 && self.readers == 0
+    }
 }
 
 impl Mark {

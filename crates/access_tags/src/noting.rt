@@ -1,6 +1,6 @@
 //! Touches of the parts of a world, noted at their numbers.
 
-ghost use Rattle.std.specs.Prelude.{◌≡◌, ◌<◌, List, [], ◌∷◌, length, false, None, OnOk};
+ghost use Rattle.std.specs.Prelude.{◌≡◌, ◌<◌, List, [], ◌∷◌, length, true, false, None, OnOk};
 ghost use Rattle.jvm_model.specs.Access.{elems_made, fields_made, made};
 ghost use Rattle.jvm_model.specs.Classes.{blank, elems_of};
 ghost use Rattle.jvm_model.specs.View.{Exists, keys};
@@ -35,6 +35,20 @@ pub fn note_part(
     Ok(())
 }
 
+/// Notes that a part of a new object is written.
+#[inline(always)]
+fn note_new(numbers: &Numbers, tags: &mut Tags, spot: LocationKey) -> Result<(), NoMemory>
+    ensures room { HaveSameRoom tags.old tags.new }
+    ensures told { OnOk result ((w : World) (names : List Location) (x : Touch) → IsNumbered w numbers.now → is_name spot ≡ false → Exists w (located [] spot)
+        → x.write ≡ true → x.location ≡ located [] spot → HaveNoted (numbering_in w names) tags.old tags.new (x ∷ [])) }
+{
+    let Some(at) = numbers.number(spot) else {
+        return Err(NoMemory {});
+    };
+    tags.note_first(spot, at, true)?;
+    Ok(())
+}
+
 /// Notes that the fields of a new object are written.
 fn note_fields(
     numbers: &Numbers,
@@ -48,7 +62,7 @@ fn note_fields(
 {
     for (field, _) in fields {
         let field = *field;
-        note_part(numbers, tags, LocationKey::Field { object, field }, true)?;
+        note_new(numbers, tags, LocationKey::Field { object, field })?;
     }
     Ok(())
 }
@@ -60,7 +74,7 @@ fn note_elems(numbers: &Numbers, tags: &mut Tags, object: u64, elems: u32) -> Re
         → HaveNoted (numbering_in w names) tags.old tags.new (elems_made object 0 (object_at w object).elems)) }
 {
     for index in 0..elems {
-        note_part(numbers, tags, LocationKey::Elem { object, index }, true)?;
+        note_new(numbers, tags, LocationKey::Elem { object, index })?;
     }
     Ok(())
 }
@@ -76,7 +90,7 @@ pub fn note_made(
     ensures told { OnOk result ((w : World) (names : List Location) → IsNumbered w numbers.now → object < size w → object_at w object ≡ blank numbers.now.places head
         → HaveNoted (numbering_in w names) tags.old tags.new (made object (blank numbers.now.places head))) }
 {
-    note_part(numbers, tags, LocationKey::Head { object }, true)?;
+    note_new(numbers, tags, LocationKey::Head { object })?;
     note_fields(numbers, tags, object, numbers.fields(head.kind))?;
     note_elems(numbers, tags, object, elements(head))?;
     Ok(())

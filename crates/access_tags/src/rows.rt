@@ -7,6 +7,7 @@ use crate::conflict::{Conflict, LocationKey};
 use et_base::{Items, NoMemory};
 use order_law::EdgeKind;
 use std::alloc::Global;
+use std::mem;
 
 /// How many locations a row shows at most.
 const SHOWN: usize = 8;
@@ -25,7 +26,7 @@ impl Row {
     ghost use Rattle.order_law.specs.declared.edges.EdgeKind.{EdgeKind as Kind};
     ghost use Rattle.access_tags.specs.declared.conflict.LocationKey.{LocationKey as Part};
     ghost use Rattle.access_tags.specs.declared.conflict.Conflict.{Conflict as Found};
-    ghost use Rattle.access_tags.specs.Rows.{row_with, row_of, rows_between, IsTable, key};
+    ghost use Rattle.access_tags.specs.Rows.{row_with, row_of, rows_between, HasRows, IsTable, key};
 
     /// No conflicts yet.
     fn none(alloc: Global, kind: EdgeKind, earlier: u32) -> Row
@@ -39,13 +40,16 @@ impl Row {
         }
     }
 
-    /// One more location.
-    fn add(&mut self, spot: LocationKey) -> Result<(), NoMemory>
+    /// One more location. There is room for one at first, since most rows have no more.
+    fn add(&mut self, alloc: Global, spot: LocationKey) -> Result<(), NoMemory>
         ensures { OnOk result ((k : Kind) (u : ℕ) (xs : List Part) → self.old ≡ row_with k u xs → self.new ≡ row_with k u (xs ++ spot ∷ [])) }
     {
         let Some(count) = self.count.checked_add(1) else {
             return Err(NoMemory {});
         };
+        if self.count == 0 {
+            self.spots = Items::with_capacity(alloc, 1)?;
+        }
         self.count = count;
         if self.spots.len() < SHOWN {
             self.spots.push(spot)?;
@@ -70,6 +74,7 @@ impl Row {
     /// One more conflict, which is left out where it is with no earlier test.
     pub fn count(
         rows: &mut Vec<Row>,
+        alloc: Global,
         conflict: Conflict<LocationKey>,
         later: u32,
     ) -> Result<(), NoMemory>
@@ -81,39 +86,37 @@ impl Row {
             return Ok(());
         }
         let row = &mut rows[3 * conflict.earlier as usize + number(conflict.kind)];
-        row.add(conflict.place)?;
+        row.add(alloc, conflict.place)?;
         Ok(())
     }
 
-    /// Adds a copy of a row that has a location.
-    fn push(&self, alloc: Global, rows: &mut Items<Row>) -> Result<(), NoMemory>
-        ensures { OnOk result ((k : Kind) (u : ℕ) (xs : List Part) → self.now ≡ row_with k u xs → rows.new ≡ rows.old ++ row_of k u xs) }
+    /// Moves a row that has a location to the end of these.
+    fn hand_on(&mut self, alloc: Global, rows: &mut Items<Row>) -> Result<(), NoMemory>
+        ensures { OnOk result ((k : Kind) (u : ℕ) (xs : List Part) → self.old ≡ row_with k u xs → rows.new ≡ rows.old ++ row_of k u xs) }
     {
         if self.count == 0 {
             return Ok(());
         }
-        rows.push(Row {
-            kind: self.kind,
-            earlier: self.earlier,
-            count: self.count,
-            spots: Items::from_slice(alloc, self.spots.as_slice())?,
-        })
+        let none = Row::none(alloc, self.kind, self.earlier);
+        rows.push(mem::replace(self, none))
     }
 
-    /// Adds the rows of an earlier test.
-    pub fn push_three(
+    /// Moves the rows of an earlier test that have a location to the end of these.
+    pub fn hand_three_on(
         alloc: Global,
-        table: &[Row],
+        table: &mut Vec<Row>,
         earlier: u32,
         rows: &mut Items<Row>,
     ) -> Result<(), NoMemory>
-        requires { 3 * earlier + 2 < length table.now }
-        ensures { OnOk result ((t : ℕ) (hs : List (Found Part)) → earlier < t → IsTable t hs table.now → rows.new ≡ rows.old ++ rows_between earlier hs) }
+        requires { 3 * earlier + 2 < length table.old.items }
+        ensures len { length table.new.items ≡ length table.old.items }
+        ensures later { OnOk result ((i : ℕ) (d : Row) → 3 * (earlier + 1) ≤ i → get_or table.new.items i d ≡ get_or table.old.items i d) }
+        ensures rows { OnOk result ((hs : List (Found Part)) → HasRows earlier hs table.old.items → rows.new ≡ rows.old ++ rows_between earlier hs) }
     {
         let first = 3 * earlier as usize;
-        table[first].push(alloc, rows)?;
-        table[first + 1].push(alloc, rows)?;
-        table[first + 2].push(alloc, rows)?;
+        table[first].hand_on(alloc, rows)?;
+        table[first + 1].hand_on(alloc, rows)?;
+        table[first + 2].hand_on(alloc, rows)?;
         Ok(())
     }
 }

@@ -16,6 +16,9 @@ use std::alloc::Global;
 /// The most bytes of a text that isn't cut.
 const MOST_BYTES: usize = 200;
 
+/// Most texts have no more bytes, and are written without growing.
+const COMMON_BYTES: usize = 32;
+
 // These are code units, as their type says.
 fn units(name: &[u16])
     ensures { are_code_units name.now ≡ true }
@@ -94,13 +97,13 @@ fn shown(made: &[u64], location: &Location) -> Result<(), NoMemory>
 }
 
 // A text of more than 200 bytes is cut.
-fn cut(alloc: Global, text: &[u8]) -> Result<Text, NoMemory>
-    ensures { IfOk result (λ short. short ≡ record_of.cut text.now) }
+fn cut(alloc: Global, text: Text) -> Result<Text, NoMemory>
+    ensures { IfOk result (λ short. short ≡ record_of.cut text) }
 {
     if text.len() <= MOST_BYTES {
-        return Text::from_slice(alloc, text);
+        return Ok(text);
     }
-    let mut short = Text::from_slice(alloc, &text[..MOST_BYTES])?;
+    let mut short = Text::from_slice(alloc, &text.as_slice()[..MOST_BYTES])?;
     short.extend_from_slice(b"...")?;
     Ok(short)
 }
@@ -120,7 +123,7 @@ pub fn place_text(
 {
     own_form_law();
     shown(made, location)?;
-    let mut whole = Text::new(alloc);
+    let mut whole = Text::with_capacity(alloc, COMMON_BYTES)?;
     push_location(&mut whole, p, made, location)?;
-    cut(alloc, whole.as_slice())
+    cut(alloc, whole)
 }

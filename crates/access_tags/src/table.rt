@@ -1,6 +1,6 @@
 //! The conflicts of a test, counted by the earlier test and the kind.
 
-ghost use Rattle.std.specs.Prelude.{◌≡◌, ◌*◌, ◌<◌, ◌++◌, [], List, length, IfOk, OnOk};
+ghost use Rattle.std.specs.Prelude.{◌≡◌, ◌*◌, ◌<◌, ◌++◌, ◌∷◌, [], List, length, IfOk, OnOk};
 ghost use Rattle.access_tags.specs.Rows.{rows_to};
 
 use crate::conflict::{Conflict, LocationKey};
@@ -13,6 +13,7 @@ use std::alloc::Global;
 pub struct Table {
     later: u32,
     rows: Vec<Row>,
+    alloc: Global,
     ghost full: { length rows.items ≡ 3 * later },
 }
 
@@ -29,27 +30,25 @@ impl Table {
         Ok(Table {
             later,
             rows: Row::table(alloc, later)?,
+            alloc,
         })
     }
 
-    /// More conflicts, of which one with no earlier test is left out.
-    pub fn add_all(&mut self, conflicts: &[Conflict<LocationKey>]) -> Result<(), NoMemory>
-        ensures { OnOk result (HaveCounted self.old self.new conflicts.now) }
+    /// One more conflict, which is left out where it is with no earlier test.
+    pub fn add(&mut self, conflict: Conflict<LocationKey>) -> Result<(), NoMemory>
+        ensures { OnOk result (HaveCounted self.old self.new (conflict ∷ [])) }
     {
-        for conflict in conflicts {
-            Row::count(&mut self.rows, *conflict, self.later)?;
-        }
-        Ok(())
+        Row::count(&mut self.rows, self.alloc, conflict, self.later)
     }
 
-    /// Adds the rows that have a location, by the earlier test and then the kind.
-    pub fn push_rows(&self, alloc: Global, rows: &mut Items<Row>) -> Result<(), NoMemory>
-        requires { 0 < self.now.later }
-        ensures { OnOk result ((hs : List (Found Part)) → Counts self.now hs
-            → rows.new ≡ rows.old ++ rows_to self.now.later hs) }
+    /// Moves the rows that have a location to the end of these, by the earlier test and then the kind.
+    pub fn hand_on(&mut self, rows: &mut Items<Row>) -> Result<(), NoMemory>
+        requires { 0 < self.old.later }
+        ensures { OnOk result ((hs : List (Found Part)) → Counts self.old hs
+            → rows.new ≡ rows.old ++ rows_to self.old.later hs) }
     {
         for earlier in 1..self.later {
-            Row::push_three(alloc, &self.rows, earlier, rows)?;
+            Row::hand_three_on(self.alloc, &mut self.rows, earlier, rows)?;
         }
         Ok(())
     }

@@ -14,7 +14,7 @@ ghost use Rattle.access_tags.specs.Intervals.{parts, parts_of};
 
 use crate::access_log::AccessLog;
 use crate::cells::Cells;
-use crate::conflict::{Conflict, LocationKey, Touched};
+use crate::conflict::{LocationKey, Touched};
 use crate::interval::Interval;
 use crate::mark::Mark;
 use crate::rows::Row;
@@ -130,6 +130,16 @@ impl Tags {
         ensures named { count self.new.named ≡ count self.old.named }
         ensures stands { OnOk result (HasTouched self.old self.new spot at write) }
     {
+        self.note_first(spot, at, write)
+    }
+
+    /// The same of a part that is most likely touched for the first time, as each one of a new object is.
+    #[inline(always)]
+    pub fn note_first(&mut self, spot: LocationKey, at: u64, write: bool) -> Result<(), NoMemory>
+        ensures cells { count self.new.cells ≡ count self.old.cells }
+        ensures named { count self.new.named ≡ count self.old.named }
+        ensures stands { OnOk result (HasTouched self.old self.new spot at write) }
+    {
         if at >= self.room(spot) {
             return Err(NoMemory {});
         }
@@ -148,16 +158,8 @@ impl Tags {
             → (xs : List Found) × (rows.new ≡ rows.old ++ xs) × (map (shown_by p by n.names test) xs ≡ map (with_places T test) (edges_at p T by test))) }
     {
         let mut table = Table::new(alloc, test)?;
-        let mut conflicts = Vec::new(alloc);
-        count_all(
-            &self.cells,
-            &self.named,
-            &self.touched,
-            &mut conflicts,
-            &mut table,
-        )?;
-        table.push_rows(alloc, rows)?;
-        Ok(())
+        count_all(&self.cells, &self.named, &self.touched, &mut table)?;
+        table.hand_on(rows)
     }
 
     /// Whether each exposed read of the running test is of this static. Takes no memory.
@@ -229,23 +231,6 @@ fn mark(cells: &Cells, named: &Cells, part: Touched) -> Mark
     }
 }
 
-/// Adds the conflicts at a part.
-fn collect(
-    cells: &Cells,
-    named: &Cells,
-    part: Touched,
-    conflicts: &mut Vec<Conflict<LocationKey>>,
-) -> Result<(), NoMemory>
-    requires { part.at < room cells.now named.now part.spot }
-    ensures { OnOk result (conflicts.new.items ≡ conflicts.old.items
-        ++ conflicts_at part.spot (tag_at (tag_in cells.now) (tag_in named.now) part)) }
-{
-    match part.spot {
-        LocationKey::Named { .. } => named.collect(part.at, part.spot, conflicts),
-        _ => cells.collect(part.at, part.spot, conflicts),
-    }
-}
-
 /// Whether a test has no exposed read of a part, or the part is this static.
 fn reads_alone_at(cells: &Cells, named: &Cells, part: Touched, field: u32) -> bool
     requires { part.at < room cells.now named.now part.spot }
@@ -270,21 +255,22 @@ fn reads_alone(cells: &Cells, named: &Cells, interval: Interval, field: u32) -> 
     true
 }
 
-/// Counts the conflicts at a part. The list is for its conflicts alone.
+/// Counts the conflicts at a part.
+#[inline(always)]
 fn count_part(
     cells: &Cells,
     named: &Cells,
     part: Touched,
-    conflicts: &mut Vec<Conflict<LocationKey>>,
     table: &mut Table,
 ) -> Result<(), NoMemory>
     requires { part.at < room cells.now named.now part.spot }
     ensures { OnOk result (HaveCounted table.old table.new
         (conflicts_at part.spot (tag_at (tag_in cells.now) (tag_in named.now) part))) }
 {
-    conflicts.clear();
-    collect(cells, named, part, conflicts)?;
-    table.add_all(conflicts)
+    match part.spot {
+        LocationKey::Named { .. } => named.count_at(part.at, part.spot, table),
+        _ => cells.count_at(part.at, part.spot, table),
+    }
 }
 
 /// Counts the conflicts at the parts of an interval.
@@ -292,7 +278,6 @@ fn count_interval(
     cells: &Cells,
     named: &Cells,
     interval: Interval,
-    conflicts: &mut Vec<Conflict<LocationKey>>,
     table: &mut Table,
 ) -> Result<(), NoMemory>
     requires within { AreWithin cells.now named.now (parts_of interval) }
@@ -301,7 +286,7 @@ fn count_interval(
         (conflicts_in (tag_in cells.now) (tag_in named.now) (parts_of interval))) }
 {
     for index in interval.first..interval.end {
-        count_part(cells, named, interval.part(index), conflicts, table)?;
+        count_part(cells, named, interval.part(index), table)?;
     }
     Ok(())
 }
@@ -311,7 +296,6 @@ fn count_all(
     cells: &Cells,
     named: &Cells,
     touched: &AccessLog,
-    conflicts: &mut Vec<Conflict<LocationKey>>,
     table: &mut Table,
 ) -> Result<(), NoMemory>
     requires { AreWithin cells.now named.now (parts touched.now.intervals) }
@@ -319,7 +303,7 @@ fn count_all(
         (conflicts_in (tag_in cells.now) (tag_in named.now) (parts touched.now.intervals))) }
 {
     for i in 0..touched.len() {
-        count_interval(cells, named, touched.get(i), conflicts, table)?;
+        count_interval(cells, named, touched.get(i), table)?;
     }
     Ok(())
 }

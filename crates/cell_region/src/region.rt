@@ -71,7 +71,9 @@ impl<T: Copy> Region<T> {
         let Some(end) = start.checked_add(n) else {
             return Err(NoMemory {});
         };
-        make_room(&mut self.chunks, self.alloc, end, fill)?;
+        if end.div_ceil(CHUNK) > self.chunks.len() as u64 {
+            make_room(&mut self.chunks, self.alloc, end, fill)?;
+        }
         fill_cells(&mut self.chunks, start, end, fill);
         self.len = end;
         Ok(Block { start, len: n })

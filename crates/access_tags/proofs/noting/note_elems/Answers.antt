@@ -7,12 +7,12 @@ use Rattle.access_tags.proofs.noting.note_elems.Goals as goal
 
 pub loop-index-preserved : goal.loop-index-preserved
 loop-index-preserved c =
-    let v = c.loop-index.invariant in let r = c.in_ok-note_part.ensures.room in
+    let v = c.loop-index.invariant in let r = c.in_ok-note_new.ensures.room in
     record {
       room = record { cells = r.cells ∙ v.room.cells; named = r.named ∙ v.room.named };
       told = λ w names i h e. let l : c.loop-index.index < length (object_at w c.args.object).elems = omega arith in
-          elems_noted w names c.args.numbers.now c.args.tags.now c.loop-index.tags c.note_part.new.tags c.args.object c.loop-index.index Null l
-          c.in_ok-note_part.ensures.told i h (v.told w names i h e);
+          elems_noted w names c.args.numbers.now c.args.tags.now c.loop-index.tags c.note_new.new.tags c.args.object c.loop-index.index Null l
+          c.in_ok-note_new.ensures.told i h (v.told w names i h e);
     }
 
 pub returns-clause-told : goal.returns-clause-told

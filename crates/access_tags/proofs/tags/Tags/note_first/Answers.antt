@@ -5,7 +5,7 @@ use Rattle.access_tags.specs.Shelf.{tag_in}
 use Rattle.access_tags.specs.Stands.{StandFor}
 use Rattle.access_tags.specs.AccessLogs.{touched_in}
 use Rattle.access_tags.proofs.Stood.{noted_stands}
-use Rattle.access_tags.proofs.tags.Tags.note_change.Goals as goal
+use Rattle.access_tags.proofs.tags.Tags.note_first.Goals as goal
 
 pub returns-in_ok-push-clause-stands : goal.returns-in_ok-push-clause-stands
 returns-in_ok-push-clause-stands c n T t ts x p w l s =
