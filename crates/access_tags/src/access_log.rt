@@ -47,6 +47,7 @@ impl AccessLog {
 
     /// One more part. There is no memory where its object, its number or the index after it is past 32 bits. After a
     /// refusal the parts are as before.
+    #[inline(always)]
     pub fn push(&mut self, part: Touched) -> Result<(), NoMemory>
         ensures pushed { OnOk result (touched_in self.new ≡ touched_in self.old ++ part ∷ []) }
         ensures kept { OnErr result (touched_in self.new ≡ touched_in self.old) }
@@ -62,6 +63,7 @@ impl AccessLog {
     }
 
     /// Adds a part to the last interval, where it is the next one of it. Answers whether it is.
+    #[inline(always)]
     fn lengthen(&mut self, part: Touched) -> bool
         ensures longer { result ≡ true → touched_in self.new ≡ touched_in self.old ++ part ∷ [] }
         ensures kept { result ≡ false → self.new ≡ self.old }

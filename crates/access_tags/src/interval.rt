@@ -51,6 +51,7 @@ pub struct Interval {
 
 impl Interval {
     /// The interval of one part. There is none where its object, its number or the index after it is past 32 bits.
+    #[inline(always)]
     pub fn of(part: Touched) -> Option<Interval>
         ensures parts { IfSome result (λ s. parts_of s ≡ part ∷ []) }
         ensures order { IfSome result (λ s. s.first ≤ s.end) }
@@ -69,6 +70,7 @@ impl Interval {
     }
 
     /// With one part more, where it is the one after the last.
+    #[inline(always)]
     #[tactic(auto, using(crate::proofs::Spanned::with_part))]
     pub fn with(self, part: Touched) -> Option<Interval>
         requires { self.first ≤ self.end }
@@ -89,6 +91,7 @@ impl Interval {
     }
 
     /// Whether a part is the one after the last.
+    #[inline(always)]
     #[tactic(auto, using(crate::proofs::Spanned::next_part))]
     fn is_next(self, part: Touched) -> bool
         requires { self.first ≤ self.end }
@@ -101,6 +104,7 @@ impl Interval {
     }
 
     /// Whether a part is the one with the index `end`. A head or text, which has no index, is none.
+    #[inline(always)]
     #[tactic(auto, using(crate::proofs::Spanned::same_static, crate::proofs::Spanned::same_init, crate::proofs::Spanned::same_field, crate::proofs::Spanned::same_elem, crate::proofs::Spanned::same_name))]
     fn is_next_spot(self, spot: LocationKey) -> bool
         ensures { result ≡ true → spot_in self.sort self.object self.end ≡ spot }
@@ -132,6 +136,7 @@ impl Interval {
 }
 
 /// The sort, object and index of a part, each 0 where it has none.
+#[inline(always)]
 fn split(spot: LocationKey) -> (Sort, u64, u32)
     ensures { spot_in result.0 result.1 result.2 ≡ spot }
 {
@@ -147,6 +152,7 @@ fn split(spot: LocationKey) -> (Sort, u64, u32)
 }
 
 /// The number in 32 bits.
+#[inline(always)]
 fn narrow(n: u64) -> Option<u32>
     ensures { IfSome result (λ m. m ≡ n) }
 {

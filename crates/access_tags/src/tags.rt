@@ -159,7 +159,8 @@ impl Tags {
     {
         let mut table = Table::new(alloc, test)?;
         count_all(&self.cells, &self.named, &self.touched, &mut table)?;
-        table.hand_on(rows)
+        table.hand_on(rows)?;
+        Ok(())
     }
 
     /// Whether each exposed read of the running test is of this static. Takes no memory.
