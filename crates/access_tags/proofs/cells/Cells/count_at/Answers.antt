@@ -1,4 +1,4 @@
-use Rattle.std.proofs.Common.{◌≡◌, ◌<◌, length, get_or, reverse, arith, sym, ◌∙◌, subst}
+use Rattle.std.proofs.Common.{◌≡◌, get_or, reverse, arith, sym, ◌∙◌, subst}
 use Rattle.std.proofs.lemmas.List.{get_or_default}
 use Rattle.access_tags.specs.declared.mark.Past.{Past}
 use Rattle.access_tags.specs.Tag.{conflicts_at, no_mark}

@@ -1,4 +1,4 @@
-use Rattle.std.proofs.Common.{List, length, sym, subst}
+use Rattle.std.proofs.Common.{List, sym, subst}
 use Rattle.order_law.specs.declared.edges.Edge.{Edge}
 use Rattle.order_law.specs.Pairing.{PairedList}
 use Rattle.order_law.specs.Walk.{IsShownIn}
