@@ -9,11 +9,11 @@ use outside::{Sink, SinkFailed};
 use std::alloc::Global;
 use std::marker::Model;
 
-/// For how many bytes it asks memory.
+/// How many bytes are gathered at most.
 const SIZE: usize = 65536;
 
-/// Gathers pieces and hands them on to a sink together, as no more fit or it is told to. Contracts see the sink and
-/// the bytes that are still to be handed on.
+/// Gathers pieces, and hands them on to a sink together where no more fit or `flush` asks for it. Contracts see the sink
+/// and the bytes that are still to be handed on.
 #[derive(Drop)]
 pub struct Gathered<S: Sink + Drop> {
     sink: S,
