@@ -34,9 +34,12 @@ impl<S: Sink + Drop> Heard<S> {
         }
     }
 
-    /// The fault line, with its line feed; empty where there was none, or no memory to keep it.
-    pub fn line(&self) -> &[u8] {
-        self.line.as_slice()
+    /// The sink, and the fault line with its line feed; that is empty where there was none, or no memory to keep it.
+    pub fn into_parts(self) -> (S, Text)
+        ensures { result.0 ≡ self }
+    {
+        let Heard { sink, line } = self;
+        (sink, line)
     }
 
     fn hear(&mut self, piece: &[u8])

@@ -1,32 +1,39 @@
 //! The program `electric`: the words of the command line, the files of the current folder and
 //! standard output.
 //!
-//! Begin with `main`, which hands the words to `answer` over a `FolderDepot` and a `StdSink`.
+//! Begin with `main`, which hands the words to `answer` over a `FolderDepot` and a `StdSink`, and then
+//! has `delivered` hand on what is gathered for it.
 //! `answer`, over any depot and sink, hands them to `electrictest`'s `electric` as they came, and
 //! has the `served`, `taken` and `ends` of that call (`docs/CLAIMS.md`): of the folder, for whichever
 //! files agree with what its reads answered. `exit_code` is the status's code. `main` has no clause.
 //!
 //! - `heard.rt` is a sink that keeps the fault line that goes through it; contracts see the sink
 //!   behind it alone.
+//! - `gathered.rt` is a sink that hands many lines on as one; it shows what the sink behind it took
+//!   with what is still gathered.
 //! - `hints.rt` says on standard error which word isn't understood, and what is accepted there.
 //! - `progress.rt` is a gate that tells a terminal on standard error how many tests were begun.
 //!
-//! Neither is part of a promise, and standard output stays what is proved of it, byte for byte.
+//! Neither of these two is part of a promise, and standard output stays what is proved of it, byte for byte.
 //! The files beside `src` (`args`, `data`, `stdout`) are what the gate runs the program on, and
 //! what it has to write.
 #![tactic(auto)]
 
-ghost use Rattle.std.specs.Prelude.{◌≡◌, ◌<◌, None, IfSome, option_map};
+ghost use Rattle.std.specs.Prelude.{◌≡◌, ◌⊎◌, ◌<◌, [], None, IfSome, option_map};
 ghost use Rattle.std.specs.Process.{exit_status};
+ghost use Rattle.outside.specs.Counts.{Rose};
 ghost use Rattle.electrictest.specs.declared.status.Status.TheVariants as ends;
 ghost use Rattle.electrictest.specs.Commands.{Writes};
 ghost use Rattle.electrictest.specs.Codes.{code_of};
 ghost use Rattle.electric.specs.Answers.{Answers, word_text, words_text};
+ghost use Rattle.electric.specs.Gathered.{HandedOn};
 
+mod gathered;
 mod heard;
 mod hints;
 mod progress;
 
+use crate::gathered::Gathered;
 use crate::heard::Heard;
 use crate::hints::hint;
 use crate::progress::Progress;
@@ -44,7 +51,7 @@ use std::thread::Threads;
 
 type Folder<'a> = FolderDepot<'a, HostRuntime>;
 
-type Output<'a> = StdSink<'a, HostRuntime>;
+type Output<'a> = Heard<Gathered<StdSink<'a, HostRuntime>>>;
 
 const HELP: &[u8] = b"electric runs the tests of a suite of Java class files.
 
@@ -156,6 +163,19 @@ where
     }
 }
 
+// Hands on what is gathered. The status stands where that succeeds, and is `Sink` where the sink failed.
+fn delivered<S: Sink + Drop>(sink: &mut Gathered<S>, status: Status) -> Status
+    ensures handed { HandedOn
+        (S.shown sink.old.sink) (S.shown sink.new.sink) sink.old.bytes sink.new.bytes }
+    ensures ends { ((result ≡ status) × (sink.new.bytes ≡ []))
+        ⊎ ((result ≡ ends.Sink) × Rose (S.shown sink.old.sink).faults (S.shown sink.new.sink).faults) }
+{
+    match sink.flush() {
+        Ok(()) => status,
+        Err(_) => Status::Sink,
+    }
+}
+
 // The exit code of a status.
 fn exit_code(status: &Status) -> ExitCode
     ensures { exit_status result ≡ code_of status.now }
@@ -182,9 +202,9 @@ fn main(rt: HostRuntime) -> ExitCode {
         Err(status) => return exit_code(&status),
     };
     let words = words.as_slice();
-    let mut sink = Heard::new(alloc, StdSink::new(&rt));
+    let mut sink = Heard::new(alloc, Gathered::new(alloc, StdSink::new(&rt)));
     let status = match String::from_str(alloc, ".") {
-        Ok(folder) => answer::<HostRuntime, Folder<'_>, Heard<Output<'_>>, Progress<'_>, Brand>(
+        Ok(folder) => answer::<HostRuntime, Folder<'_>, Output<'_>, Progress<'_>, Brand>(
             &rt,
             alloc,
             words,
@@ -195,6 +215,8 @@ fn main(rt: HostRuntime) -> ExitCode {
         ),
         Err(_) => Status::NoMemory,
     };
-    explain(&rt, words, sink.line(), &status);
+    let (mut output, line) = sink.into_parts();
+    let status = delivered(&mut output, status);
+    explain(&rt, words, line.as_slice(), &status);
     exit_code(&status)
 }
