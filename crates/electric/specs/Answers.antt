@@ -1,5 +1,5 @@
 -- What the program answers to the words of its command line (this project's).
-use Rattle.std.specs.Prelude.{◌≡◌, ℕ, List, [], ◌∷◌, codes, Option, Some, None, if◌then◌else◌}
+use Rattle.std.specs.Prelude.{ℕ, List, [], ◌∷◌, codes, Option, Some, None, if◌then◌else◌}
 use Rattle.std.specs.Str.{bytes_eq}
 use Rattle.outside.specs.Depot.{DepotView, OfHeld}
 use Rattle.outside.specs.Sink.{SinkView}

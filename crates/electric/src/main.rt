@@ -167,8 +167,9 @@ where
 fn delivered<S: Sink + Drop>(sink: &mut Gathered<S>, status: Status) -> Status
     ensures handed { HandedOn
         (S.shown sink.old.sink) (S.shown sink.new.sink) sink.old.bytes sink.new.bytes }
-    ensures ends { ((result ≡ status) × (sink.new.bytes ≡ []))
-        ⊎ ((result ≡ ends.Sink) × Rose (S.shown sink.old.sink).faults (S.shown sink.new.sink).faults) }
+    ensures ends { let faults = (S.shown sink.new.sink).faults in
+        ((result ≡ status) × (sink.new.bytes ≡ []))
+        ⊎ ((result ≡ ends.Sink) × Rose (S.shown sink.old.sink).faults faults) }
 {
     match sink.flush() {
         Ok(()) => status,
