@@ -1,7 +1,6 @@
 -- The numbers of marked classes, one class after another.
-use Rattle.std.proofs.Common.{◌≡◌, ◌⊎◌, ◌+◌, ◌-◌, ◌<◌, ◌≤◌, ◌↔◌, ℕ, Bool, true, false, List, [], ◌∷◌, ◌++◌, length, get_or, refl, sym, ◌∙◌, ap, subst, arith, nat_lt, inl, inr}
+use Rattle.std.proofs.Common.{◌≡◌, ◌⊎◌, ◌+◌, ◌-◌, ◌<◌, ◌≤◌, ◌↔◌, ℕ, Bool, true, false, List, [], ◌∷◌, ◌++◌, get_or, refl, sym, ◌∙◌, ap, subst, arith, nat_lt, inl, inr}
 use Rattle.std.proofs.lemmas.Bool.{cases_lt, lt-ltb, and_parts, and_from}
-use Rattle.std.proofs.lemmas.List.{get_or_past}
 use Rattle.jvm_model.specs.Builtin.{builtin_count}
 use Rattle.order_law.specs.Conflicts.{Member}
 use Rattle.order_law.specs.RecordForm.{numbers_ascend}
@@ -30,9 +29,6 @@ member_one (x ∷ xs) n j (inr m) = elim (member_one xs n j m) [ inl k ↦ inl (
 abbrev pub AreNumbers : List Bool → ℕ → List ℕ → Type 0
 AreNumbers ms class xs = (j : ℕ) → Member j xs ↔ ((j + (builtin_count - 1) < class) × (get_or ms (j + (builtin_count - 1)) false ≡ true))
 
-pub numbers_first : (ms : List Bool) → ((c : ℕ) → get_or ms c false ≡ true → builtin_count ≤ c) → AreNumbers ms builtin_count []
-numbers_first ms given j = (λ m. absurd m, λ x. absurd (let g = given (j + (builtin_count - 1)) x.1 in let h = x.0 in omega arith))
-
 module _ (ms : List Bool) (class : ℕ) (xs : List ℕ) (r : AreNumbers ms class xs) where
   pub numbers_below : (n : ℕ) → n ≡ class - (builtin_count - 1) → builtin_count ≤ class → (j : ℕ) → Member j xs → j < n
   numbers_below n e g j m = let h = ((r j).0 m).0 in omega arith
@@ -56,16 +52,4 @@ module _ (ms : List Bool) (class : ℕ) (xs : List ℕ) (r : AreNumbers ms class
       | inl h ↦ (r j).1 (h, x.1)
       | inr h ↦ absurd (let w : j + (builtin_count - 1) ≡ class = omega arith in let z : true ≡ false = sym x.1 ∙ (ap (λ (i : ℕ). get_or ms i false) w ∙ k) in cc)
     ],
-  )
-
-  pub numbers_last : length ms ≤ class → (j : ℕ) → Member j xs ↔ (get_or ms (j + (builtin_count - 1)) false ≡ true)
-  numbers_last h j = (
-    λ m. ((r j).0 m).1,
-    λ x. (r j).1 (
-      elim (cases_lt (j + (builtin_count - 1)) class) [
-        | inl k ↦ k
-        | inr k ↦ absurd (let z : false ≡ true = sym (get_or_past ms (j + (builtin_count - 1)) false (omega arith)) ∙ x in cc)
-      ],
-      x,
-    ),
   )

@@ -1,7 +1,7 @@
 -- Classes that are added one after another, and what they mention.
-use Rattle.std.proofs.Common.{◌≡◌, ◌+◌, ◌<◌, ◌≤◌, ◌^◌, ℕ, zero, suc, Bool, true, false, not, ◌||◌, ◌&&◌, List, [], ◌∷◌, ◌++◌, length, get_or, set, take, replicate, refl, sym, ◌∙◌, ap, subst, arith, nat_eq, nat_lt, nat_le, inl, inr}
+use Rattle.std.proofs.Common.{◌≡◌, ◌+◌, ◌<◌, ◌≤◌, ℕ, zero, suc, Bool, true, false, not, ◌||◌, ◌&&◌, List, [], ◌∷◌, ◌++◌, length, get_or, set, take, refl, sym, ◌∙◌, ap, subst, arith, nat_eq, nat_lt, nat_le, inl, inr}
 use Rattle.std.specs.List.{list_any}
-use Rattle.std.proofs.lemmas.Bool.{cases_Bool, cases_eq, eqb-true, eq-eqb, ne_eqb, lt-ltb, le-leb, ltb-true, leb-true, and_parts, and_from, or_cases, or_right}
+use Rattle.std.proofs.lemmas.Bool.{cases_eq, eqb-true, eq-eqb, ne_eqb, lt-ltb, le-leb, ltb-true, leb-true, and_parts, and_from, or_cases, or_right}
 use Rattle.std.proofs.lemmas.List.{length-set, get_or-set_other}
 use Rattle.std.proofs.lemmas.List.Folds.{list_any-append, list_any_more}
 use Rattle.std.proofs.lemmas.Grind.{get_or-set_at}
@@ -15,29 +15,9 @@ use Rattle.order_law.specs.Conflicts.{Member}
 use Rattle.order_law.specs.Histories.{Touches}
 use Rattle.order_law.specs.Reach.{ReachesIn, mentioned}
 use Rattle.access_tags.specs.Given.{is_given, AreReached}
-use Rattle.access_tags.proofs.Grown.{get_or-defaults}
-
--- no marks
-pub none_reached : (n : ℕ) → length (replicate n false) < 2 ^ 32 → AreReached (replicate n false) []
-none_reached n h = record {
-  few = h;
-  given = λ c e. absurd (let z : false ≡ true = sym (get_or-defaults [] n c false) ∙ e in cc);
-  listed = λ c. sym (get_or-defaults [] n c false);
-}
 
 -- one class more
 module _ (ms : List Bool) (cs : List ℕ) (class : ℕ) where
-  pub add_none : (is_given (length ms) class && not (get_or ms class false)) ≡ false → (c : ℕ) → get_or ms c false ≡ (get_or ms c false || (nat_eq c class && is_given (length ms) c))
-  add_none e c = elim (cases_Bool (nat_eq c class)) [
-    | inl h ↦ let q = eqb-true c class h in rw h (base (get_or ms c false) (is_given (length ms) c) (subst (λ (i : ℕ). (is_given (length ms) i && not (get_or ms i false)) ≡ false) (sym q) e))
-    | inr h ↦ rw h (sym (or-false (get_or ms c false)))
-  ]
-    where
-      base : (a b : Bool) → (b && not a) ≡ false → a ≡ (a || b)
-      base true b k = refl
-      base false true k = absurd (cc)
-      base false false k = refl
-
   module _ (new : (is_given (length ms) class && not (get_or ms class false)) ≡ true) where
     given : is_given (length ms) class ≡ true
     given = (and_parts (is_given (length ms) class) (not (get_or ms class false)) new).0

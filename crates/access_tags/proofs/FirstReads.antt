@@ -54,10 +54,6 @@ meet_next t u ts ms h m = record {
   stamped = λ o. let low = m.stamped o in omega arith;
 }
 
-none_from_place : (y : Option Touch) → None ≡ option_map location_of y → y ≡ None
-none_from_place None e = refl
-none_from_place (Some x) e = absurd (cc)
-
 some_or : (z : Option LocationKey) (y w : Option Touch) → is_some z ≡ true → option_map (located []) z ≡ option_map location_of y → option_or y w ≡ y
 some_or z (Some x) w s e = refl
 some_or None None w s e = absurd (cc)

@@ -1,5 +1,5 @@
 -- The marks of heads after one more touch, after touches of no head, and when the next test begins.
-use Rattle.std.proofs.Common.{◌≡◌, ◌⊎◌, ◌+◌, ◌*◌, ◌<◌, ℕ, zero, suc, Bool, true, false, ◌||◌, ◌&&◌, cond, List, [], ◌∷◌, ◌++◌, length, get_or, set, refl, sym, ◌∙◌, ap, subst, arith, nat_eq, nat_lt, inl, inr, Option, Some, None}
+use Rattle.std.proofs.Common.{◌≡◌, ◌⊎◌, ◌+◌, ◌*◌, ◌<◌, ℕ, suc, Bool, true, false, ◌||◌, ◌&&◌, cond, List, [], ◌∷◌, ◌++◌, length, get_or, set, refl, sym, ◌∙◌, ap, subst, arith, nat_eq, nat_lt, inl, inr, Option, Some, None}
 use Rattle.std.proofs.lemmas.Bool.{cases_Bool, cases_eq, cases_order, eqb-true, eq-eqb, ne_eqb, lt-ltb, le-ltb}
 use Rattle.std.proofs.lemmas.List.{append_assoc, get_or-set_other}
 use Rattle.std.proofs.lemmas.List.Folds.{list_any-append}
@@ -16,18 +16,6 @@ use Rattle.jvm_model.specs.Access.{write_of, made, fields_made, elems_made, text
 use Rattle.order_law.specs.Histories.{Touches}
 use Rattle.order_law.specs.Reach.{inner_class}
 use Rattle.access_tags.specs.HeadMarks.{is_class, is_head_of, touches_class, touches_so_far, is_marked, AreMarked}
-
--- no marks and no touches
-pub heads_none : (kinds : ℕ → ℕ → Kind) (T : Touches) (n : ℕ) → AreMarked kinds T 0 [] n []
-heads_none kinds T n zero c h = rw (lt-ltb c n h) refl
-heads_none kinds T n (suc u) c h = rw (lt-ltb c n h) (rw (le-ltb (suc u) 0 (omega arith)) (rw (ne_eqb (suc u) 0 (λ e. omega arith)) refl))
-
--- the touches so far
-so_far_here : (T : Touches) (t : ℕ) (ts : List Touch) → touches_so_far T t ts t ≡ ts
-so_far_here T t ts = rw (eq-eqb t t refl) refl
-
-so_far_there : (T : Touches) (t : ℕ) (ts us : List Touch) (u : ℕ) → nat_eq u t ≡ false → touches_so_far T t ts u ≡ touches_so_far T t us u
-so_far_there T t ts us u e = rw e refl
 
 so_far_next : (T : Touches) (t : ℕ) (ts : List Touch) (u : ℕ) → T t ≡ ts → touches_so_far T (suc t) [] u ≡ touches_so_far T t ts u
 so_far_next T t ts u e = elim (cases_order u t) [
@@ -114,22 +102,6 @@ class_same c d m g a b p f = p ∙ elim (cases_order c d) [
   | inr (inl l) ↦ rw (lt-ltb c d l) (rw (lt-ltb c (d + 1) (omega arith)) refl)
   | inr (inr l) ↦ rw (le-ltb c d (omega arith)) (rw (le-ltb c (d + 1) (omega arith)) refl)
 ]
-
-pub class_all : (c n : ℕ) (ms : List Bool) (t : ℕ) (g a b : Bool) → b ≡ (a || ((nat_lt c n && is_marked n ms t c) && g)) → b ≡ (a || (is_marked n ms t c && g))
-class_all c n ms t g a b p = p ∙ base (nat_lt c n) (get_or ms (t * n + c) false)
-  where
-    base : (x y : Bool) → (a || ((x && (x && y)) && g)) ≡ (a || ((x && y) && g))
-    base true y = refl
-    base false y = refl
-
--- a class that has no marks
-pub none_marked : (n : ℕ) (ms : List Bool) (t u c : ℕ) (b : Bool) → b ≡ false → is_marked n ms u c ≡ (is_marked n ms u c || (nat_eq u t && b))
-none_marked n ms t u c b e = rw e (base (is_marked n ms u c) (nat_eq u t))
-  where
-    base : (x y : Bool) → x ≡ (x || (y && false))
-    base true y = refl
-    base false true = refl
-    base false false = refl
 
 -- making an object touches its head alone
 quiet_both : (k : ℕ → Kind) (c : ℕ) (us vs : List Touch) → touches_class k c us ≡ false → touches_class k c vs ≡ false → touches_class k c (us ++ vs) ≡ false

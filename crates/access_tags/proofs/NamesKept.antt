@@ -14,10 +14,6 @@ use Rattle.vm_mem.specs.Stores.{place_in}
 use Rattle.access_tags.specs.AreNames.{AreNames, AreNumbers, Entry, IsIndexed, IsNumber}
 use Rattle.access_tags.specs.Numbering.{position}
 
-pub place_none : (x : Part) (name : List ℕ) → place_of (place_in x name) ≡ None
-place_none part.File name = refl
-place_none part.Prop name = refl
-
 pub names_push : (xs : List Location) (L : Location) → place_of L ≡ None → AreNames xs → AreNames (xs ++ L ∷ [])
 names_push [] L e a zero = e
 names_push [] L e a (suc k) = refl

@@ -58,10 +58,6 @@ placed w names s n e h a =
     let t : list_any (same L) (cond (is_named L) names (cells_of w)) ≡ true = rw q st.there in
     subst (λ (M : Location). IsAt (numbering_in w names) (record { spot = s; at = n }) M) (sym (spot_alone names s e)) (record { kind = k; at = l; there = t })
 
--- nothing more is noted, and these touches after those
-pub noted_none : (n : Numbering) (a b : Tags) → b ≡ a → HaveNoted n a b []
-noted_none n a b e T t ts s = subst (λ (xs : List Touch). Stands n T t xs b) (sym (append-nil ts)) (subst (λ (g : Tags). Stands n T t ts g) (sym e) s)
-
 pub noted_after : (n : Numbering) (a b c : Tags) (xs ys zs : List Touch) → zs ≡ xs ++ ys → HaveNoted n a b xs → HaveNoted n b c ys → HaveNoted n a c zs
 noted_after n a b c xs ys zs e f g T t ts s = subst (λ (us : List Touch). Stands n T t us c) (append_assoc ts xs ys ∙ ap (λ (us : List Touch). ts ++ us) (sym e)) (g T t (ts ++ xs) (f T t ts s))
 

@@ -24,7 +24,7 @@ use Rattle.access_tags.specs.Numbering.{Numbering, located, is_name, view, ArePl
 use Rattle.access_tags.specs.Intervals.{part_at, parts_to, parts_of, parts}
 use Rattle.access_tags.proofs.Chains.{chain_end}
 use Rattle.access_tags.proofs.Numbered.{changed, any_location}
-use Rattle.access_tags.proofs.Spanned.{to_none, to_more, parts_more}
+use Rattle.access_tags.proofs.Spanned.{to_more, parts_more}
 
 -- two lists, one after the other
 placed_left : (n : Numbering) (xs ys : List Touched) → ArePlaced n (xs ++ ys) → ArePlaced n xs
@@ -58,9 +58,6 @@ both_sides false true t x y z h e f = f ∙ ap (λ (g : Tag). ended t g) e
 both_sides false false t x y z h e f = f ∙ e
 
 module _ (t : ℕ) where
-  pub ended_none : (c d : ℕ → Tag) → HaveEnded t c d c d []
-  ended_none c d n p a L = refl
-
   pub ended_one : (c d e f : ℕ → Tag) (x : Touched) → ((l : ℕ) → e l ≡ cond (not (is_name x.spot) && nat_eq l x.at) (ended t (c x.at)) (c l)) →
       ((l : ℕ) → f l ≡ cond (is_name x.spot && nat_eq l x.at) (ended t (d x.at)) (d l)) → HaveEnded t c d e f (x ∷ [])
   ended_one c d e f x g h n p a L = changed n x (λ (z : Tag). ended t z) c d e f p.0 g h L ∙ elim (cases_Bool (is_at n L x)) [
@@ -116,10 +113,3 @@ module _ (t : ℕ) (c d e f g h : ℕ → Tag) where
 
   pub ended_parts : (ss : List Interval) (i : ℕ) (k : Interval) → i < length ss → HaveEnded t c d e f (parts (take i ss)) → HaveEnded t e f g h (parts_of (get_or ss i k)) → HaveEnded t c d g h (parts (take (i + 1) ss))
   ended_parts ss i k l u v = subst (λ (xs : List Touched). HaveEnded t c d g h xs) (sym (parts_more ss i k l)) (ended_after t c d e f g h (parts (take i ss)) (parts_of (get_or ss i k)) u v)
-
--- none yet
-pub counted_first : (f : Touched → List (Conflict LocationKey)) (a : Table) (s : Interval) → HaveCounted a a (flat_map f (parts_to s s.first))
-counted_first f a s = subst (λ (xs : List Touched). HaveCounted a a (flat_map f xs)) (sym (to_none s)) (counted_none a)
-
-pub ended_first : (t : ℕ) (c d : ℕ → Tag) (s : Interval) → HaveEnded t c d c d (parts_to s s.first)
-ended_first t c d s = subst (λ (xs : List Touched). HaveEnded t c d c d xs) (sym (to_none s)) (ended_none t c d)

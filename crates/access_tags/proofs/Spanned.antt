@@ -1,9 +1,9 @@
 -- The parts of intervals, one more at a time.
-use Rattle.std.proofs.Common.{◌≡◌, ℕ, zero, suc, ◌+◌, ◌-◌, ◌<◌, ◌≤◌, Bool, true, false, ◌&&◌, nat_eq, List, [], ◌∷◌, ◌++◌, length, get_or, set, take, map, flat_map, refl, sym, ◌∙◌, ap, subst, arith, inl, inr}
+use Rattle.std.proofs.Common.{◌≡◌, ℕ, zero, suc, ◌+◌, ◌-◌, ◌<◌, ◌≤◌, Bool, true, false, ◌&&◌, nat_eq, List, [], ◌∷◌, ◌++◌, length, get_or, set, take, map, flat_map, sym, ◌∙◌, ap, subst, arith}
 use Rattle.std.specs.List.{range_with_len, list_all}
-use Rattle.std.proofs.lemmas.Bool.{cases_lt, cases_eq, eqb-true, and_parts}
-use Rattle.std.proofs.lemmas.Grind.{flat_map-append, get_or-set_at}
-use Rattle.std.proofs.lemmas.List.{append-nil, append_assoc, length-append, length-set, get_or_append_left, get_or-append_right, get_or-set_other, take_more}
+use Rattle.std.proofs.lemmas.Bool.{eqb-true, and_parts}
+use Rattle.std.proofs.lemmas.Grind.{flat_map-append}
+use Rattle.std.proofs.lemmas.List.{append-nil, append_assoc, take_more}
 use Rattle.std.proofs.lemmas.List.Concat.{get_or-flat_map}
 use Rattle.std.proofs.lemmas.List.Folds.{length-flat_map-take, list_all-append, list_all_at}
 use Rattle.std.proofs.lemmas.List.FromFn.{get_or-map-range_with_len, length-map-range_with_len, map-range_with_len_more}
@@ -15,7 +15,7 @@ use Rattle.access_tags.specs.declared.conflict.LocationKey.TheVariants as spot
 use Rattle.access_tags.specs.declared.conflict.Touched.{Touched}
 use Rattle.access_tags.specs.declared.interval.Sort.{Sort}
 use Rattle.access_tags.specs.declared.interval.Interval.{Interval}
-use Rattle.access_tags.specs.Intervals.{part_at, parts_to, parts_of, parts, spot_in, AreOrdered}
+use Rattle.access_tags.specs.Intervals.{part_at, parts_to, parts_of, parts, spot_in}
 use Rattle.access_tags.specs.Within.{room, AreWithin}
 
 -- the parts of an interval
@@ -31,10 +31,6 @@ interval k o a b n = record { sort = k; object = o; first = a; end = b; at = n }
 
 same_part : (y : LocationKey) (m : ℕ) (x : Touched) → y ≡ x.spot → m ≡ x.at → record { spot = y; at = m } ≡ x
 same_part y m x e f = ap (λ (z : LocationKey). record { spot = z; at = m }) e ∙ ap (λ (j : ℕ). record { spot = x.spot; at = j }) f
-
-pub one_part : (k : Sort) (o a b n : ℕ) (x : Touched) → b ≡ a + 1 → n ≡ x.at → spot_in k o a ≡ x.spot → parts_of (interval k o a b n) ≡ x ∷ []
-one_part k o a b n x e f g = let s = interval k o a b n in
-    ap (λ (i : ℕ). parts_to s i) e ∙ (to_more s a (omega arith) ∙ (ap (λ (ys : List Touched). ys ++ part_at s a ∷ []) (to_none s) ∙ ap (λ (y : Touched). y ∷ []) (same_part (spot_in k o a) (n + (a - a)) x g (omega arith))))
 
 pub with_part : (s : Interval) (b : ℕ) (x : Touched) → s.first ≤ s.end → b ≡ s.end + 1 → part_at s s.end ≡ x → parts_of (interval s.sort s.object s.first b s.at) ≡ parts_of s ++ x ∷ []
 with_part s b x h e f = ap (λ (i : ℕ). parts_to s i) e ∙ (to_more s s.end h ∙ ap (λ (y : Touched). parts_of s ++ y ∷ []) f)
@@ -60,10 +56,6 @@ pub same_elem : (o e p f : ℕ) → (nat_eq p o && nat_eq f e) ≡ true → spot
 same_elem o e p f q = let h = and_parts (nat_eq p o) (nat_eq f e) q in
     ap (λ (i : ℕ). spot.Elem i e) (sym (eqb-true p o h.0)) ∙ ap (λ (i : ℕ). spot.Elem p i) (sym (eqb-true f e h.1))
 
--- a test of the parts
-pub all_none : (f : Touched → Bool) (s : Interval) → list_all f (parts_to s s.first) ≡ true
-all_none f s = ap (λ (ys : List Touched). list_all f ys) (to_none s)
-
 pub all_to : (f : Touched → Bool) (s : Interval) (i : ℕ) → s.first ≤ i → list_all f (parts_to s (i + 1)) ≡ (list_all f (parts_to s i) && f (part_at s i))
 all_to f s i h = ap (λ (ys : List Touched). list_all f ys) (to_more s i h) ∙ (list_all-append f (parts_to s i) (part_at s i ∷ []) ∙ ap (λ (b : Bool). list_all f (parts_to s i) && b) (and-true (f (part_at s i))))
 
@@ -74,17 +66,11 @@ parts_more ss i d h = ap parts (take_more ss i d h) ∙ (flat_map-append (λ s. 
 pub parts_all : (ss : List Interval) (i : ℕ) → i ≡ length ss → parts (take i ss) ≡ parts ss
 parts_all ss i e = ap parts (ap (λ (j : ℕ). take j ss) e ∙ take-length ss)
 
-pub parts_push : (ss : List Interval) (s : Interval) (x : Touched) → parts_of s ≡ x ∷ [] → parts (ss ++ s ∷ []) ≡ parts ss ++ x ∷ []
-parts_push ss s x e = flat_map-append (λ s. parts_of s) ss (s ∷ []) ∙ ap (λ (ys : List Touched). parts ss ++ ys) (append-nil (parts_of s) ∙ e)
-
 pub parts_longer : (ss : List Interval) (i : ℕ) (d s : Interval) (x : Touched) → i + 1 ≡ length ss → parts_of s ≡ parts_of (get_or ss i d) ++ x ∷ [] → parts (set ss i s) ≡ parts ss ++ x ∷ []
 parts_longer [] i d s x h e = absurd (omega arith)
 parts_longer (y ∷ []) zero d s x h e = append-nil (parts_of s) ∙ (e ∙ ap (λ (ys : List Touched). ys ++ x ∷ []) (sym (append-nil (parts_of y))))
 parts_longer (y ∷ z ∷ ss) zero d s x h e = absurd (omega arith)
 parts_longer (y ∷ ss) (suc i) d s x h e = ap (λ (ys : List Touched). parts_of y ++ ys) (parts_longer ss i d s x (omega arith) e) ∙ sym (append_assoc (parts_of y) (parts ss) (x ∷ []))
-
-pub all_parts : (f : Touched → Bool) (ss : List Interval) (i : ℕ) (d : Interval) → i < length ss → list_all f (parts (take (i + 1) ss)) ≡ (list_all f (parts (take i ss)) && list_all f (parts_of (get_or ss i d)))
-all_parts f ss i d h = ap (λ (ys : List Touched). list_all f ys) (parts_more ss i d h) ∙ list_all-append f (parts (take i ss)) (parts_of (get_or ss i d))
 
 less_than : (i n m : ℕ) → i < n → m ≡ n → i < m
 less_than i n m h e = omega arith
@@ -101,33 +87,11 @@ one_fails f s i h l e =
     let q = get_or-map-range_with_len (λ i. part_at s i) s.first (s.end - s.first) (i - s.first) i (part_at s i) g (omega arith) in
     list_all_at f (parts_of s) (i - s.first) (part_at s i) (less_than (i - s.first) (s.end - s.first) (length (parts_of s)) g n) (ap f q ∙ e)
 
--- their ends
-pub ordered_none : AreOrdered []
-ordered_none k s h = absurd (omega arith)
-
-pub ordered_push : (ss : List Interval) (s : Interval) → AreOrdered ss → s.first ≤ s.end → AreOrdered (ss ++ s ∷ [])
-ordered_push ss s a h k d l = let n = length-append ss (s ∷ []) in elim (cases_lt k (length ss)) [
-  | inl g ↦ rw (get_or_append_left ss (s ∷ []) d k g) (a k d g)
-  | inr g ↦ let z : k - length ss ≡ 0 = omega arith in rw (get_or-append_right ss (s ∷ []) (length ss) k d refl g) (rw z h)
-]
-
-pub ordered_set : (ss : List Interval) (i : ℕ) (s : Interval) → AreOrdered ss → i < length ss → s.first ≤ s.end → AreOrdered (set ss i s)
-ordered_set ss i s a h g k d l = let n = length-set ss i s in elim (cases_eq k i) [
-  | inl e ↦ rw (get_or-set_at ss i k s d e h) g
-  | inr e ↦ rw (get_or-set_other ss i k s d e) (a k d (omega arith))
-]
-
 -- their numbers
 sum_below : (a b c k : ℕ) → a + b ≤ c → k < b → a + k < c
 sum_below a b c k h l = omega arith
 
 module _ (c d : Cells) where
-  pub within_push : (xs : List Touched) (x : Touched) → AreWithin c d xs → x.at < room c d x.spot → AreWithin c d (xs ++ x ∷ [])
-  within_push xs x a h k e l = let n = length-append xs (x ∷ []) in elim (cases_lt k (length xs)) [
-    | inl g ↦ rw (get_or_append_left xs (x ∷ []) e k g) (a k e g)
-    | inr g ↦ let z : k - length xs ≡ 0 = omega arith in rw (get_or-append_right xs (x ∷ []) (length xs) k e refl g) (rw z h)
-  ]
-
   pub within_interval : (ss : List Interval) (i : ℕ) (s : Interval) → AreWithin c d (parts ss) → i < length ss → AreWithin c d (parts_of (get_or ss i s))
   within_interval ss i s a h k e l =
       let n = length (flat_map (λ s. parts_of s) (take i ss)) in

@@ -1,5 +1,5 @@
 -- Rows by the conflicts, one conflict more at a time.
-use Rattle.std.proofs.Common.{◌≡◌, ◌≢◌, ℕ, zero, suc, ◌+◌, ◌*◌, ◌-◌, ◌<◌, ◌≤◌, Bool, true, false, ◌&&◌, cond, List, [], ◌∷◌, ◌++◌, length, get_or, set, map, filter, flat_map, take, refl, sym, ◌∙◌, ap, subst, arith, nat_eq, inl, inr}
+use Rattle.std.proofs.Common.{◌≡◌, ℕ, zero, suc, ◌+◌, ◌*◌, ◌-◌, ◌<◌, ◌≤◌, Bool, true, false, ◌&&◌, cond, List, [], ◌∷◌, ◌++◌, length, get_or, set, map, filter, flat_map, refl, sym, ◌∙◌, ap, subst, arith, nat_eq, inl, inr}
 use Rattle.std.specs.List.{range_with_len}
 use Rattle.std.proofs.lemmas.Bool.{cases_Bool, cases_lt, eqb-true, eq-eqb, eqb-false, ne_eqb}
 use Rattle.std.proofs.lemmas.List.{get_or-set_other, length-append, append-nil, append_assoc, map-append, map-id, flat_map_more}
@@ -12,37 +12,7 @@ use Rattle.access_tags.specs.declared.conflict.Conflict.{Conflict}
 use Rattle.access_tags.specs.declared.conflict.LocationKey.{LocationKey}
 use Rattle.access_tags.specs.declared.rows.Row.{Row}
 use Rattle.access_tags.specs.Tag.{found, is_conflict, same_kind, kind_number}
-use Rattle.access_tags.specs.Rows.{key, row_with, row_of, rows_between, IsTable}
-
--- the first 8 of one more
-take_all : {A : Type 0} (xs : List A) (n : ℕ) → length xs ≤ n → take n xs ≡ xs
-take_all [] zero h = refl
-take_all [] (suc n) h = refl
-take_all (x ∷ xs) zero h = absurd (omega arith)
-take_all (x ∷ xs) (suc n) h = ap (λ ys. x ∷ ys) (take_all xs n (omega arith))
-
-take_left : {A : Type 0} (xs ys : List A) (n : ℕ) → n ≤ length xs → take n (xs ++ ys) ≡ take n xs
-take_left xs ys zero h = refl
-take_left [] ys (suc n) h = absurd (omega arith)
-take_left (x ∷ xs) ys (suc n) h = ap (λ zs. x ∷ zs) (take_left xs ys n (omega arith))
-
-length_taken : {A : Type 0} (xs : List A) (n : ℕ) → length (take n xs) < n → length xs < n
-length_taken xs zero h = absurd (omega arith)
-length_taken [] (suc n) h = omega arith
-length_taken (x ∷ xs) (suc n) h = let g = length_taken xs n (omega arith) in omega arith
-
-abbrev row : EdgeKind → ℕ → ℕ → List LocationKey → Row
-row k u n xs = record { kind = k; earlier = u; count = n; spots = xs }
-
-pub shown_more : (k : EdgeKind) (u n : ℕ) (xs : List LocationKey) (x : LocationKey) → n ≡ length xs + 1 → length (take 8 xs) < 8 → row k u n (take 8 xs ++ x ∷ []) ≡ row_with k u (xs ++ x ∷ [])
-shown_more k u n xs x e h = let g = length_taken xs 8 h in let l = length-append xs (x ∷ []) in
-    ap (λ (m : ℕ). row k u m (take 8 xs ++ x ∷ [])) (e ∙ sym l)
-    ∙ ap (λ (ys : List LocationKey). row k u (length (xs ++ x ∷ [])) ys) (ap (λ (ys : List LocationKey). ys ++ x ∷ []) (take_all xs 8 (omega arith)) ∙ sym (take_all (xs ++ x ∷ []) 8 (omega arith)))
-
-pub shown_same : (k : EdgeKind) (u n : ℕ) (xs : List LocationKey) (x : LocationKey) → n ≡ length xs + 1 → 8 ≤ length (take 8 xs) → row k u n (take 8 xs) ≡ row_with k u (xs ++ x ∷ [])
-shown_same k u n xs x e h = let l = length-append xs (x ∷ []) in
-    ap (λ (m : ℕ). row k u m (take 8 xs)) (e ∙ sym l)
-    ∙ ap (λ (ys : List LocationKey). row k u (length (xs ++ x ∷ [])) ys) (sym (take_left xs (x ∷ []) 8 (elim (cases_lt (length xs) 8) [ inl g ↦ absurd (let z = ap (λ (ys : List LocationKey). length ys) (take_all xs 8 (omega arith)) in omega arith) | inr g ↦ g ])))
+use Rattle.access_tags.specs.Rows.{key, row_with, rows_between, IsTable}
 
 -- one conflict more
 same_three : (u v a : ℕ) → nat_eq (3 * u + a) (3 * v + a) ≡ nat_eq u v
@@ -92,11 +62,6 @@ tally_in t hs x rows o r l f low q g k u e b = let at = key x.kind x.earlier in 
       ∙ (f k u e b ∙ ap (λ (ys : List LocationKey). row_with k u ys) (sym (found_more k u hs x ∙ rw y (append-nil (found k u hs)))))
 ]
 
-pub tally_out : (t : ℕ) (hs : List (Conflict LocationKey)) (x : Conflict LocationKey) (rows : List Row) → IsTable t hs rows → t ≤ x.earlier → IsTable t (hs ++ x ∷ []) rows
-tally_out t hs x rows f high k u e b =
-    let y : nat_eq (key k u) (key x.kind x.earlier) ≡ false = ne_eqb (key k u) (key x.kind x.earlier) (λ q. absurd (let a = kind_below k in let c = kind_below x.kind in omega arith)) in
-    f k u e b ∙ ap (λ (ys : List LocationKey). row_with k u ys) (sym (found_more k u hs x ∙ rw y (append-nil (found k u hs))))
-
 -- a table of no conflicts, with the rows of one test more
 table_more : (t : ℕ) (rows : List Row) → length rows ≡ 3 * t → IsTable t [] rows → IsTable (t + 1) [] (rows ++ row_with Raw t [] ∷ row_with Waw t [] ∷ row_with War t [] ∷ [])
 table_more t rows l f k u d h = elim (cases_lt u t) [
@@ -131,14 +96,6 @@ three_longer rows a b c = let e = length-append ((rows ++ a ∷ []) ++ b ∷ [])
 -- the rows of a test
 pub three_rows : (o p q r u v w : List Row) → p ≡ o ++ u → q ≡ p ++ v → r ≡ q ++ w → r ≡ o ++ (u ++ (v ++ w))
 three_rows o p q r u v w e f g = g ∙ (ap (λ (x : List Row). x ++ w) (f ∙ ap (λ (x : List Row). x ++ v) e) ∙ (append_assoc (o ++ u) v w ∙ append_assoc o u (v ++ w)))
-
-pub row_none : (k : EdgeKind) (u n : ℕ) (rs : List Row) (xs : List LocationKey) → n ≡ length xs → n ≡ 0 → rs ≡ rs ++ row_of k u xs
-row_none k u n rs [] e z = sym (append-nil rs)
-row_none k u n rs (x ∷ xs) e z = absurd (omega arith)
-
-pub row_some : (k : EdgeKind) (u n : ℕ) (rs : List Row) (r : Row) (xs : List LocationKey) → n ≡ length xs → n ≢ 0 → r ≡ row_with k u xs → rs ++ r ∷ [] ≡ rs ++ row_of k u xs
-row_some k u n rs r [] e z q = absurd (z e)
-row_some k u n rs r (x ∷ xs) e z q = ap (λ (y : Row). rs ++ y ∷ []) q
 
 range_more : (a n : ℕ) → range_with_len a (n + 1) ≡ range_with_len a n ++ (a + n) ∷ []
 range_more a n = sym (map-id (range_with_len a (n + 1))) ∙ (map-range_with_len_more (λ (x : ℕ). x) a n (a + n) refl ∙ ap (λ (xs : List ℕ). xs ++ (a + n) ∷ []) (map-id (range_with_len a n)))

@@ -3,7 +3,7 @@ use Rattle.std.proofs.Common.{◌≡◌, ◌+◌, ◌<◌, ◌≤◌, ℕ, true,
 use Rattle.std.specs.List.{IsDistinct, list_any}
 use Rattle.std.specs.Cmp.{nat_eq_equiv}
 use Rattle.std.proofs.lemmas.Bool.{cases_lt, eqb-true, false_from_ne_true, or_cases}
-use Rattle.std.proofs.lemmas.List.{append-nil, reverse-append, map-append}
+use Rattle.std.proofs.lemmas.List.{reverse-append, map-append}
 use Rattle.std.proofs.lemmas.List.Folds.{list_any-append}
 use Rattle.std.proofs.lemmas.Map.Keys.{IsDistinct-push}
 use Rattle.std.proofs.lemmas.Map.Steps.{length-le_from_distinct_below}
@@ -24,9 +24,6 @@ Left ts at reads ys = (zs : List Touch) × Walk ts at zs × (map location_of ys 
 
 abbrev pub Goes : List ParentEdge → ℕ → ℕ → ℕ → List LocationKey → Type 0
 Goes ms t object at reads = (ts ys : List Touch) → 0 < t → HasParents t ts ms → Walk ts object ys → Left ts at reads ys
-
-pub goes_first : (ms : List ParentEdge) (t object : ℕ) → Goes ms t object object []
-goes_first ms t object ts ys p m w = (ys, w, sym (append-nil (map location_of ys)), omega arith)
 
 -- the read that first gave an object
 module _ (ms : List ParentEdge) (t : ℕ) (ts : List Touch) (m : HasParents t ts ms) (p : 0 < t) where

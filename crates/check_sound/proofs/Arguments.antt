@@ -188,12 +188,6 @@ text_slots p w e (t ∷ ts) (v ∷ vs) h = subst (λ (xs : List VType). HaveType
 text_slots p w e [] (v ∷ vs) h = absurd h
 text_slots p w e (t ∷ ts) [] h = absurd h
 
-pub arguments_range : (p : Program) (w : World) (ts : List (List ℕ)) (vs : List Value) → Arguments p w ts vs → Ranged p w vs
-arguments_range p w [] [] h = tt
-arguments_range p w (t ∷ ts) (v ∷ vs) h = (h.0.range, arguments_range p w ts vs h.1)
-arguments_range p w [] (v ∷ vs) h = absurd h
-arguments_range p w (t ∷ ts) [] h = absurd h
-
 slots_range : (p : Program) (w : World) (vs : List Value) → Ranged p w vs → Ranged p w (slots_of vs)
 slots_range p w [] h = tt
 slots_range p w (value.Int n ∷ vs) h = (tt, slots_range p w vs h.1)

@@ -280,10 +280,6 @@ module _ (p : Program) (ty : IsTyped p) {w : World} {s : Entries} {i : Instr} (r
       at_seam [] v ys = refl
       at_seam (x ∷ xs) v ys = at_seam xs v ys
 
-  count_is : (m : ℕ) → argument_count p m ≡ length (parameters (method_at p m).descriptor)
-  unfolding argument_count
-  count_is m = refl
-
 -- ---- static methods
 
 module _ (p : Program) (ty : IsTyped p) {w : World} {s : Entries} where

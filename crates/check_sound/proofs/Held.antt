@@ -19,7 +19,7 @@ use Rattle.type_frames.specs.TypedState.{kind_at, IsInRange, IsInstance, RefersT
 use Rattle.type_frames.proofs.AssignLaws.{assignable_trans}
 use Rattle.et_base.proofs.Texts.{units_true}
 use Rattle.check_sound.proofs.Tree.{Over}
-use Rattle.check_sound.proofs.Grow.{Ranged, type_over, types_over, stack_over, range_over, ranged_over}
+use Rattle.check_sound.proofs.Grow.{Ranged, types_over, stack_over, ranged_over}
 
 -- the value has the type
 pub record Is (p : Program) (w : World) (e : Environment) (t : VType) (v : Value) : Type 0 where
@@ -42,9 +42,6 @@ IsShort (value.Long n) = ⊥
 IsShort v = Unit {0}
 
 module _ {p : Program} {w : World} {e : Environment} where
-  pub is_over : {u : World} {t : VType} {v : Value} → Over w u → Is p w e t v → Is p u e t v
-  is_over {u = u} {t = t} {v = v} g i = record { type = type_over p w u g e t v i.type; range = range_over p w u g v i.range }
-
   pub locals_over : {u : World} {ts : List VType} {vs : List Value} → Over w u → Locals p w e ts vs → Locals p u e ts vs
   locals_over {u = u} {ts = ts} {vs = vs} g i = record { types = types_over p w u g e ts vs i.types; range = ranged_over p w u g vs i.range }
 

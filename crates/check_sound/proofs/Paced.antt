@@ -27,14 +27,6 @@ pub record Limits : Type 1 where
   pub gets : ℕ → Type 0
   pub states : ℕ → Type 0
 
--- each static and each state
-abbrev pub unlimited : Limits
-unlimited = record { puts = λ f. Unit {0}; gets = λ f. Unit {0}; states = λ c. Unit {0} }
-
--- no static, and no state
-abbrev pub neither : Limits
-neither = record { puts = λ f. ⊥; gets = λ f. ⊥; states = λ c. ⊥ }
-
 abbrev pub MayWrite : Limits → Location → Type 0
 MayWrite M l = MeetsOf M.puts M.states l
 

@@ -1,12 +1,12 @@
 -- A book with one piece more, and the pieces that are left of it.
-use Rattle.std.proofs.Common.{◌≡◌, ◌≢◌, ℕ, zero, suc, ◌+◌, ◌*◌, ◌<◌, ◌≤◌, ◌^◌, List, [], ◌∷◌, ◌++◌, length, get_or, set, sum_by, All, Bool, true, false, is_some, Option, Some, None, IfSome, refl, sym, ◌∙◌, ap, subst, inl, inr, arith}
+use Rattle.std.proofs.Common.{◌≡◌, ℕ, zero, suc, ◌+◌, ◌<◌, ◌≤◌, ◌^◌, List, [], ◌∷◌, ◌++◌, length, get_or, set, sum_by, All, Bool, true, false, is_some, Option, Some, None, refl, sym, ◌∙◌, ap, subst, inl, inr, arith}
 use Rattle.std.proofs.lemmas.List.{get_or-set_same, get_or-set_other, get_or_default, get_or_read, length-set}
 use Rattle.std.proofs.lemmas.List.Sums.{sum_by-append, sum_by-cons, sum_by-le, sum_by-set}
 use Rattle.std.proofs.lemmas.Bool.{cases_eq}
 use Rattle.jvm_model.specs.declared.program.Program.{Program}
 use Rattle.order_law.specs.declared.edges.Edge.{Edge}
 use Rattle.test_run.specs.Running.{Posted}
-use Rattle.cone_run.specs.Cones.{IsCone, IsConeOf, cone_units}
+use Rattle.cone_run.specs.Cones.{IsCone, cone_units}
 use Rattle.cone_run.specs.Books.{IsBook, IsPosted, AreLeft, posted_units}
 use Rattle.cone_run.specs.Runs.{IsPieceOf}
 use Rattle.cone_run.proofs.ConeLists.{cone_piece}
@@ -31,10 +31,6 @@ module _ (p : Program) (R : List Edge) (sel : List ℕ) where
     each = λ i x h. (let z : None ≡ Some x = sym (none i) ∙ h in absurd (cc));
     sum = sym (none_sum p pieces (λ i l. none i));
   }
-
-  -- a claim leaves the rest
-  pub book_claimed : (claimed new : List Bool) (pieces : List (Option Posted)) (units : ℕ) → IsBook p R sel claimed pieces units → length new ≡ length claimed → IsBook p R sel new pieces units
-  book_claimed claimed new pieces units b e = record { few = b.few; claims = e ∙ b.claims; places = b.places; each = b.each; sum = b.sum }
 
   -- each piece has few units
   few_at : (o : Option Posted) (t : ℕ) → ((x : Posted) → o ≡ Some x → IsPosted p R t x) → posted_units p o ≤ 2 ^ 36
@@ -80,10 +76,6 @@ module _ (p : Program) (R : List Edge) (sel : List ℕ) where
           omega arith);
     }
 
-  -- what is left of a book
-  pub left_begun : (claimed : List Bool) (pieces : List (Option Posted)) (units : ℕ) → IsBook p R sel claimed pieces units → AreLeft p R sel 0 pieces
-  left_begun claimed pieces units b = record { places = b.places; gone = λ i h. absurd (omega arith); each = b.each }
-
   pub left_next : (pieces : List (Option Posted)) (place : ℕ) → place < length sel → AreLeft p R sel place pieces → AreLeft p R sel (place + 1) (set pieces place None)
   left_next pieces place lt a =
       let e = a.places in
@@ -103,10 +95,6 @@ module _ (p : Program) (R : List Edge) (sel : List ℕ) where
   -- the piece that is taken out, and the units of the others
   pub taken_units : (pieces : List (Option Posted)) (place : ℕ) → place < length pieces → sum_by (posted_units p) (set pieces place None) + posted_units p (get_or pieces place None) ≡ sum_by (posted_units p) pieces
   taken_units pieces place lt = let a = sum_by-set (posted_units p) pieces place None None lt in omega arith
-
-  pub taken_piece : (pieces : List (Option Posted)) (place : ℕ) (o : Option Posted) → AreLeft p R sel place pieces → o ≡ get_or pieces place None → IfSome o (IsConeOf p R (get_or sel place 0))
-  taken_piece pieces place None a e = tt
-  taken_piece pieces place (Some x) a e = (a.each place x (sym e)).of
 
   -- at the end nothing is left
   pub left_none : (pieces : List (Option Posted)) (place : ℕ) → length sel ≤ place → AreLeft p R sel place pieces → sum_by (posted_units p) pieces ≡ 0

@@ -1,11 +1,10 @@
 -- The run of a list, test by test.
-use Rattle.std.proofs.Common.{◌≡◌, ℕ, suc, ◌+◌, ◌-◌, ◌*◌, ◌^◌, ◌<◌, ◌≤◌, List, [], ◌∷◌, ◌++◌, length, take, drop, get_or, Bool, true, false, Option, Some, None, Result, Ok, Err, IfOk, OnOk, OnErr, refl, sym, ◌∙◌, ap, subst, arith}
+use Rattle.std.proofs.Common.{◌≡◌, ℕ, suc, ◌+◌, ◌-◌, ◌*◌, ◌^◌, ◌<◌, ◌≤◌, List, [], ◌∷◌, ◌++◌, length, take, drop, get_or, true, false, Option, Some, None, Result, Ok, Err, IfOk, OnOk, OnErr, sym, ◌∙◌, ap, subst, arith}
 use Rattle.std.proofs.Math.Seq.{split_at}
-use Rattle.std.proofs.lemmas.List.{take_all, take_more}
-use Rattle.jvm_model.specs.declared.outcome.Outcome.{Outcome}
+use Rattle.std.proofs.lemmas.List.{take_more}
 use Rattle.jvm_model.specs.declared.program.Program.{Program}
 use Rattle.jvm_model.specs.State.{no_test, test_at}
-use Rattle.jvm_model.specs.Suite.{Given, opening, one_test, runs_on, runs, first_over_on, first_over, last_outcome, outcome_in, units_of, world_after, suite_limit}
+use Rattle.jvm_model.specs.Suite.{Given, opening, one_test, runs, first_over_on, first_over, outcome_in, units_of, world_after, suite_limit}
 use Rattle.jvm_model.specs.World.{World}
 use Rattle.jvm_model.proofs.Budgets.{one_test_units}
 use Rattle.jvm_model.proofs.Runs.{last_outcome_is}
@@ -121,13 +120,6 @@ module _ (p : Program) (l : List ℕ) (i : ℕ) where
       let units : cone_units p l ≡ cone_units p (take i l) = ap (λ (z : List ℕ). cone_units p z) whole ∙ f.units (drop (suc i) l) in
       (ap (λ (z : List ℕ). first_over p z) whole ∙ (f.first (drop (suc i) l) ∙ ap (λ (z : ℕ). Some z) (sym f.named)), omega arith)
   list_fault begun now fault.NoMemory lt n f = tt
-
-  -- or all of it ran
-  pub whole_piece : (x : Posted) → length l ≤ i → IsPieceOf p (take i l) x → IsPieceOf p l x
-  whole_piece x h k = subst (λ (z : List ℕ). IsPieceOf p z x) (take_all i l h) k
-
-  pub whole_units : length l ≤ i → cone_units p (take i l) ≡ cone_units p l
-  whole_units h = ap (λ (z : List ℕ). cone_units p z) (take_all i l h)
 
 -- the units of a list with one test more
 pub low_next : (a b c i : ℕ) → a ≤ i * 67108864 → b ≡ c → c ≤ suite_limit → a + b ≤ (i + 1) * 67108864

@@ -1,8 +1,7 @@
 -- The rows after one more edge.
-use Rattle.std.proofs.Common.{◌≡◌, ℕ, zero, suc, ◌+◌, ◌/◌, ◌%◌, ◌<◌, ◌≤◌, Bool, true, false, ◌&&◌, ◌||◌, nat_eq, List, [], ◌∷◌, ◌++◌, length, take, drop, get_or, set, refl, sym, ◌∙◌, ap, subst, inl, inr}
-use Rattle.std.proofs.lemmas.Bool.{and_parts, and_from, or_cases, or_left, or_right, eqb-true, eq-eqb, ne_eqb, cases_eq, true≢false}
-use Rattle.std.proofs.lemmas.List.{take_more, get_or-set_same, get_or-set_other, get_or_past}
-use Rattle.std.proofs.Math.Bool.{or-false}
+use Rattle.std.proofs.Common.{◌≡◌, ℕ, zero, suc, ◌+◌, ◌/◌, ◌%◌, ◌<◌, ◌≤◌, true, false, ◌&&◌, ◌||◌, nat_eq, List, [], ◌∷◌, ◌++◌, length, take, drop, get_or, sym, ◌∙◌, ap, subst, inl, inr}
+use Rattle.std.proofs.lemmas.Bool.{and_parts, and_from, or_cases, or_left, or_right, eqb-true, eq-eqb, true≢false}
+use Rattle.std.proofs.lemmas.List.{take_more, get_or_past}
 use Rattle.std.proofs.Math.Seq.{drop-cons}
 use Rattle.order_law.specs.declared.edges.Edge.{Edge}
 use Rattle.order_law.specs.declared.edges.EdgeKind.{EdgeKind}
@@ -77,24 +76,3 @@ rows_still_empty (y ∷ xs) x f g u (suc t) = rows_still_empty xs x (λ v s. f v
 -- past the rows nothing is before
 pub past_rows : (m : ℕ) (R : List Edge) (rows : List TestSet) (u t : ℕ) → AreRows m R rows → length rows ≤ t → Before R u t → ⊥
 past_rows m R rows u t r h b = true≢false (sym ((r.exact u t).1 b) ∙ ap (λ (x : TestSet). holds x u) (get_or_past rows t nothing h) ∙ none_of_nothing u)
-
-swapped : (x y z : Bool) → (x || (y || z)) ≡ (y || (x || z))
-swapped true true z = refl
-swapped true false z = refl
-swapped false y z = refl
-
--- the row that one edge changes
-pub row_added : (rows : List TestSet) (row : TestSet) (a b : ℕ) → b < length rows →
-    ((u : ℕ) → holds row u ≡ (nat_eq u a || (holds (get_or rows b nothing) u || has_row rows u a))) →
-    (u t : ℕ) → has_row (set rows b row) u t ≡ (has_row rows u t || (nat_eq t b && (nat_eq u a || has_row rows u a)))
-row_added rows row a b lt f u t = elim (cases_eq t b) [
-  | inl e ↦
-      ap (λ (x : ℕ). holds (get_or (set rows b row) x nothing) u) e ∙ ap (λ (x : TestSet). holds x u) (get_or-set_same rows b row nothing lt) ∙ f u
-      ∙ swapped (nat_eq u a) (holds (get_or rows b nothing) u) (has_row rows u a)
-      ∙ ap (λ (x : ℕ). has_row rows u x || (nat_eq u a || has_row rows u a)) (sym e)
-      ∙ ap (λ (x : Bool). has_row rows u t || (x && (nat_eq u a || has_row rows u a))) (sym (eq-eqb t b e))
-  | inr e ↦
-      ap (λ (x : TestSet). holds x u) (get_or-set_other rows b t row nothing e)
-      ∙ sym (or-false (has_row rows u t))
-      ∙ ap (λ (x : Bool). has_row rows u t || (x && (nat_eq u a || has_row rows u a))) (sym (ne_eqb t b e))
-]

@@ -1,5 +1,5 @@
 -- The lists of raw writers after one more edge.
-use Rattle.std.proofs.Common.{◌≡◌, ℕ, zero, suc, ◌+◌, ◌<◌, List, [], ◌∷◌, ◌++◌, length, take, drop, get_or, set, refl, sym, ◌∙◌, ap, subst, inl, inr}
+use Rattle.std.proofs.Common.{◌≡◌, ℕ, ◌+◌, ◌<◌, List, [], ◌∷◌, ◌++◌, length, take, drop, get_or, set, refl, sym, ◌∙◌, ap, subst, inl, inr}
 use Rattle.std.proofs.lemmas.Bool.{cases_eq}
 use Rattle.std.proofs.lemmas.List.{get_or-set_same, get_or-set_other}
 use Rattle.std.proofs.Math.ListN.{length-set}
@@ -66,16 +66,3 @@ module _ (n m : ℕ) (R : List Edge) (o : AreOrdered n R) (i : ℕ) (e : Edge) (
               (writers_same (take i R) e t (get_or lists t []) (s.each t b) (λ h g. other (sym g)))
         ];
       })
-
--- one more empty list
-pub still_empty : (xs : List (List ℕ)) → ((t : ℕ) → get_or xs t [] ≡ []) → (t : ℕ) → get_or (xs ++ ([] ∷ [])) t [] ≡ []
-still_empty [] f zero = refl
-still_empty [] f (suc t) = refl
-still_empty (x ∷ xs) f zero = f 0
-still_empty (x ∷ xs) f (suc t) = still_empty xs (λ s. f (suc s)) t
-
-pub sources_begun : (m : ℕ) (lists : List (List ℕ)) → length lists ≡ m → ((t : ℕ) → get_or lists t [] ≡ []) → AreSources m [] lists
-sources_begun m lists e f = record {
-  many = e;
-  each = λ t h. subst (λ (l : List ℕ). AreWriters [] t l) (sym (f t)) (record { exact = λ u. (λ z. absurd z, λ z. absurd z); ascending = tt });
-}

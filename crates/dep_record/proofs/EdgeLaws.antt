@@ -13,9 +13,6 @@ use Rattle.dep_record.specs.declared.refusal.RecordRefusal.{RecordRefusal}
 use Rattle.dep_record.specs.declared.refusal.RecordRefusal.TheVariants.{RecordFault, NoMemory}
 use Rattle.dep_record.proofs.CutLaws.{pieces_by, pieces_are}
 
-over_yes : (first : List ℕ) (more : List (List ℕ)) → is_over ([] ∷ first ∷ more) ≡ false
-over_yes first more = refl
-
 over_by : (b : ℕ) (bs : List ℕ) (hit : Bool) (parts : Option (List ℕ × List ℕ)) → is_over (cond hit ([] ∷ pieces_by 10 bs parts) (onto_first b (pieces_by 10 bs parts))) ≡ false
 over_by b bs true None = refl
 over_by b bs true (Some x) = refl

@@ -13,7 +13,7 @@ use Rattle.jvm_model.proofs.Budgets.{one_test_units}
 use Rattle.vm_mem.specs.Trace.{Trace}
 use Rattle.test_run.specs.Lists.{RanList, RanNext}
 use Rattle.test_run.specs.Outcomes.{touches_of}
-use Rattle.test_run.specs.Running.{Machined, least}
+use Rattle.test_run.specs.Running.{least}
 use Rattle.test_run.proofs.After.{own_budget}
 use Rattle.test_run.proofs.Lists.{ran_first, ran_more}
 use Rattle.detect_run.specs.declared.fault.DetectFault.{DetectFault}
@@ -97,7 +97,3 @@ module _ {M : Type 0} (world : M → World) (follows : M → Trace → List Touc
 
     pub ran_all : RanList world follows p old m (all_tests p) os begun now
     ran_all = let e : i ≡ length p.tests = omega arith in subst (λ (n : ℕ). RanList world follows p old m (range_with_len 1 n) os begun now) e a.ran
-
--- a machine that ran tests is of the same program, and isn't spent
-pub is_of : {M : Type 0} (old now : Machined M) (l : List ℕ) (p : Program) → now ≡ record old { list = old.list ++ l; memory = now.memory } → old.program ≡ p → now.program ≡ p
-is_of {M} old now l p e f = ap (λ (z : Machined M). z.program) e ∙ f

@@ -1,18 +1,12 @@
 -- Cones and the manifest, or their refusal, answer what is asked.
-use Rattle.std.proofs.Common.{◌≡◌, ◌↔◌, ℕ, ◌+◌, ◌<◌, ◌≤◌, List, length, get_or, sum_by, Bool, true, Some, Ok, All, refl, sym}
-use Rattle.std.specs.List.{list_all}
+use Rattle.std.proofs.Common.{◌≡◌, ◌↔◌, ℕ, ◌<◌, ◌≤◌, List, length, get_or, Bool, Some, Ok, All, refl}
 use Rattle.jvm_model.specs.declared.program.Program.{Program}
-use Rattle.jvm_model.specs.Texts.{is_passed}
 use Rattle.order_law.specs.declared.edges.Edge.{Edge}
 use Rattle.order_law.specs.Conflicts.{Member}
 use Rattle.test_run.specs.declared.run_fault.RunFault.{RunFault}
 use Rattle.test_run.specs.declared.run_fault.RunFault.TheVariants as run
-use Rattle.test_run.specs.Running.{IsTest, Posted}
-use Rattle.cone_run.specs.declared.marks.Mark.{Mark}
-use Rattle.cone_run.specs.Cones.{AreConesOf, IsConeFault, cone_units}
-use Rattle.cone_run.specs.ConesText.{cones_text, outcomes}
-use Rattle.cone_run.specs.ManifestText.{manifest_text}
-use Rattle.cone_run.specs.Marks.{AreMarks, HasSpent}
+use Rattle.test_run.specs.Running.{IsTest}
+use Rattle.cone_run.specs.Cones.{IsConeFault}
 use Rattle.outside.specs.Depot.{Files, Told, DepotView, OfHeld}
 use Rattle.selection_close.specs.Closed.{IsAscendingOf}
 use Rattle.suite_load.specs.declared.loaded.Loaded.{Loaded}
@@ -23,9 +17,8 @@ use Rattle.electrictest.specs.declared.status.OverFault.{OverFault}
 use Rattle.electrictest.specs.declared.words.Command.{Command}
 use Rattle.electrictest.specs.Causes.{AsksSuch, runs_tests}
 use Rattle.electrictest.specs.Commands.{ReportEnds, ReportsOver, RefusedOver}
-use Rattle.electrictest.specs.ConeRuns.{AreCounted, ConesRefused, IsConeReport, IsOverCone, OfBegun}
+use Rattle.electrictest.specs.ConeRuns.{AreCounted, ConesRefused, IsOverCone, OfBegun}
 use Rattle.electrictest.specs.Loads.{begun_by}
-use Rattle.electrictest.specs.Manifests.{IsManifest}
 use Rattle.electrictest.specs.PoolRuns.{IsOfSuite}
 use Rattle.electrictest.specs.Records.{Beginning}
 use Rattle.electrictest.specs.Replies.{ReportsBy, OversBy}
@@ -51,22 +44,6 @@ module _ (p : Program) (tests sel : List ℕ) (once : IsAscendingOf tests sel) (
   few_selected few = few_tests p sel once.ascending selected_test few
 
 -- ---- reports
-
-pub cones_counted : (l : Loaded) (b : Beginning) (sel : List ℕ) (xs : List Posted) (passed : Bool) (text : List ℕ) (begun now : ℕ) → IsAscendingOf b.tests sel → AreConesOf l.checked b.said.edges sel xs →
-    passed ≡ list_all is_passed (outcomes xs) → text ≡ cones_text l.names sel xs → now ≡ begun + sum_by (λ x. cone_units l.checked x.list) xs → AreCounted (IsConeReport l b passed text) begun now
-cones_counted l b sel xs passed text begun now once cones q e counts = record {
-  units = sum_by (λ (x : Posted). cone_units l.checked x.list) xs;
-  report = record { selected = sel; once = once; pieces = xs; cones = cones; verdicts = sym q; reports = e; sum = refl };
-  counts = counts;
-}
-
-pub manifest_counted : (l : Loaded) (b : Beginning) (ms : List Mark) (text : List ℕ) (begun now : ℕ) → AreMarks l.checked b.said.edges ms → text ≡ manifest_text l.names ms → HasSpent l.checked b.said.edges begun now →
-    AreCounted (IsManifest l b true text) begun now
-manifest_counted l b ms text begun now are e spent = record {
-  units = spent.units;
-  report = record { marks = ms; are = are; reports = e; ends = refl; sum = spent.are };
-  counts = spent.counts;
-}
 
 -- ---- refusals
 

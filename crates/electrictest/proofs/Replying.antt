@@ -23,11 +23,6 @@ done_at : (asked : Asked) (passed : Bool) (text : List ℕ) (result : Status) (s
 done_at asked true text result sink sink_now r w = written_at asked ends.Done result sink sink_now (record { text = text; units = r.units; answers = r.report; counted = r.steps; failed = tt }) (λ h. h) w
 done_at asked false text result sink sink_now r w = written_at asked ends.NotPassed result sink sink_now (record { text = text; units = r.units; answers = r.report; counted = r.steps; failed = tt }) (λ h. h) w
 
--- the text and the status that were written, by the report
-pub writes_as : (piece text : List ℕ) (s : Status) (passed : Bool) (result : Status) (sink sink_now : SinkView) → piece ≡ text → s ≡ report_status passed →
-    Writes piece s result sink sink_now → Writes text (report_status passed) result sink sink_now
-writes_as piece text s passed result sink sink_now e f w = subst (λ z. Writes z (report_status passed) result sink sink_now) e (subst (λ z. Writes piece z result sink sink_now) f w)
-
 -- a report was written
 served_done : (told : Told) (a b : Ask) (depot depot_now : DepotView) (begun now : ℕ) (passed : Bool) (text : List ℕ) (result : Status) (sink sink_now : SinkView) → a ≡ b →
     OfHeld told (λ files. Reported files a passed text begun now) → Writes text (report_status passed) result sink sink_now →

@@ -30,13 +30,6 @@ prefixed ts (Err f) = Err f
 abbrev pub AreSoFar : Names → List (List ℕ) → ℕ → List ℕ → Type 0
 AreSoFar names ps n ts = tests_of names ps ≡ prefixed ts (tests_of names (drop n ps))
 
-prefixed_none : (r : Result (List ℕ) InputFault) → r ≡ prefixed [] r
-prefixed_none (Ok more) = refl
-prefixed_none (Err f) = refl
-
-pub so_far_none : (names : Names) (ps : List (List ℕ)) (ts : List ℕ) → ts ≡ [] → AreSoFar names ps 0 ts
-so_far_none names ps ts e = prefixed_none (tests_of names ps) ∙ ap (λ z. prefixed z (tests_of names ps)) (sym e)
-
 prefixed_more : (ts : List ℕ) (t : ℕ) (r : Result (List ℕ) InputFault) → prefixed ts (r >>= λ more. Ok (t ∷ more)) ≡ prefixed (ts ++ t ∷ []) r
 prefixed_more ts t (Ok more) = ap Ok (sym (append_assoc ts (t ∷ []) more))
 prefixed_more ts t (Err f) = refl

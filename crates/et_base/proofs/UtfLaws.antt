@@ -1,5 +1,5 @@
 -- Modified UTF-8: what is read is spelled so, and what is spelled so is read.
-use Rattle.std.proofs.Common.{◌≡◌, ℕ, zero, suc, ◌+◌, ◌-◌, ◌*◌, ◌/◌, ◌%◌, ◌^◌, ◌<◌, ◌≤◌, Bool, true, false, cond, eqb, ltb, leb, ◌||◌, List, [], ◌∷◌, ◌++◌, length, Option, Some, None, Result, Ok, Err, refl, sym, ap, subst, ◌∙◌, append_assoc, arith, inl, inr, All}
+use Rattle.std.proofs.Common.{◌≡◌, ℕ, zero, suc, ◌+◌, ◌-◌, ◌/◌, ◌%◌, ◌^◌, ◌<◌, ◌≤◌, Bool, true, false, cond, eqb, ltb, leb, ◌||◌, List, [], ◌∷◌, ◌++◌, length, Option, Some, None, Result, Ok, Err, refl, sym, ap, subst, ◌∙◌, append_assoc, arith, inl, inr, All}
 use Rattle.std.proofs.lemmas.Bool.{and_parts, and_from, or_cases, eqb-true, ltb-true, lt-ltb, leb-true, le-ltb, le-leb, cases_lt}
 use Rattle.std.proofs.lemmas.Bool.Decides.{nat_tests}
 use Rattle.std.proofs.lemmas.List.{append-nil, length-append}
@@ -18,9 +18,6 @@ length-group u = by_test (is_one u) (λ h. rw h refl) (λ h. by_test (ltb u 2048
 
 pub group_some : (u : ℕ) → 0 < length (group u)
 group_some u = rw length-group (grind arith)
-
-pub group_short : (u : ℕ) → length (group u) ≤ 3
-group_short u = rw length-group (grind arith)
 
 chosen : {A : Type 0} {X : Type 0} (b : Bool) (r q y : Option A) → cond b r q ≡ y → ((b ≡ true) → r ≡ y → X) → ((b ≡ false) → q ≡ y → X) → X
 chosen true r q y e first second = first refl e
@@ -261,10 +258,6 @@ all_answers bytes = answers (length bytes) 0 bytes [] bytes (omega arith) refl (
 pub spells_from_read : (bytes us : List ℕ) → units_read bytes ≡ Ok us → (bytes ≡ utf us) × IsUnits us
 spells_from_read bytes us e = subst (Answers bytes [] bytes) e (all_answers bytes)
 
--- an offset that is answered is that of the first bad group
-pub first_bad_from_read : (bytes : List ℕ) (at : ℕ) → units_read bytes ≡ Err at → IsFirstBad bytes at
-first_bad_from_read bytes at e = subst (Answers bytes [] bytes) e (all_answers bytes)
-
 -- ---- what is written is bytes
 
 abbrev pub IsByte : ℕ → Type 0
@@ -281,19 +274,3 @@ group_bytes u lt = All-from_recursion IsByte (group u) (by_test (is_one u)
 pub utf_bytes : (us : List ℕ) → IsUnits us → All IsByte (utf us)
 utf_bytes [] all = All-nil IsByte
 utf_bytes (u ∷ us) all = All-append IsByte (group u) (utf us) (group_bytes u (All-head IsUnit u us all)) (utf_bytes us (All-tail IsUnit u us all))
-
--- how many there are
-pub length-utf-cons : (u : ℕ) (us : List ℕ) → length (utf (u ∷ us)) ≡ length (group u) + length (utf us)
-length-utf-cons u us = length-append (group u) (utf us)
-
-pub length-utf-le : (us : List ℕ) → length (utf us) ≤ 3 * length us
-length-utf-le [] = omega arith
-length-utf-le (u ∷ us) = omega (arith, group_short u, length-utf-cons u us, length-utf-le us)
-
-pub length-le-utf : (us : List ℕ) → length us ≤ length (utf us)
-length-le-utf [] = omega arith
-length-le-utf (u ∷ us) = omega (arith, group_some u, length-utf-cons u us, length-le-utf us)
-
--- two lists of units with the same bytes are the same
-pub utf_injective : (us vs : List ℕ) → IsUnits us → IsUnits vs → utf us ≡ utf vs → us ≡ vs
-utf_injective us vs p q e = let a : Ok us ≡ Ok vs = sym (units_read-utf us p) ∙ ap units_read e ∙ units_read-utf vs q in cc

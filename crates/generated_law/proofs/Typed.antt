@@ -85,9 +85,6 @@ methods_right k name j a (suc n) b low few at =
 
 -- ---- members
 
-field_right : (c : ClassRec) (g : ℕ) → unsupported_field c (gen_field g) ≡ None
-field_right c g = refl
-
 fields_right : (k : ℕ) (c : ClassRec) (a n b : ℕ) → a + n ≤ group_count k → b ≡ field_number a → fields_fault (generated_program k) c (range_with_len b n) ≡ None
 fields_right k c a zero b few at = refl
 fields_right k c a (suc n) b few at =

@@ -28,9 +28,6 @@ pub record FormPairs (R : Instr → Instr → Type 0) (t u : Option Target) (o :
 
 module _ (R : Instr → Instr → Type 0) (t u : Option Target) (o : RawOp) (c : FormPairs R t u o)
     (loads_alone : is_plain (loads o) ≡ true) (stores_alone : is_plain (stores o) ≡ true) (moves_alone : is_plain (moves o.opcode) ≡ true) (numbers_alone : is_plain (numbers o) ≡ true) (conversions_alone : is_plain (conversions o.opcode) ≡ true) where
-  abbrev n : ℕ
-  n = o.opcode
-
   constants_pair : R (constants t o) (constants u o)
   unfolding constants
   constants_pair =

@@ -101,9 +101,6 @@ range_in (suc k) a d e = elim (or_cases (nat_eq d a) (member d (range_with_len (
   | inr t ↦ let r = range_in k (a + 1) d t in let x = r.0 in let y = r.1 in (omega arith, omega arith)
 ]
 
-nothing_differs : {A : Type 0} (xs : List A) (i j : ℕ) → length xs ≡ 0 → i < length xs → i ≡ j
-nothing_differs xs i j e h = absurd (omega arith)
-
 -- ---- the law
 
 module _ (cs ds : List ClassParts) (lines : TestLines) (p q : Program) (x y : Prints) (r : Record) (m : More)
@@ -117,9 +114,6 @@ module _ (cs ds : List ClassParts) (lines : TestLines) (p q : Program) (x y : Pr
 
   abbrev body : ClassParts → CodePart → Body
   body c code = linked_body (setting cs) c.pool code
-
-  abbrev other : ClassParts → CodePart → Body
-  other c code = linked_body (setting ds) c.pool code
 
   known : AllKnown cs
   known = known_from cs cs_are

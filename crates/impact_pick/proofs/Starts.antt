@@ -70,9 +70,6 @@ module _ (cs ds : List ClassParts) (keeps : ℕ → Bool) (kept : AreKept cs ds 
   abbrev N : Numbers
   N = n cs ds keeps kept dp dq
 
-  abbrev C : ℕ → ℕ → Type 0
-  C = Tested (same_class keeps)
-
   pub has_kept : (i j : ℕ) (c : ClassParts) → keeps (builtin_count + i) ≡ true → slice_get cs i ≡ Some c → NamesNumber (all_names cs) c.pool j → HasKept cs ds keeps kept dp dq (name_at c.pool j)
   has_kept i j c e h w =
       let s : name_at c.pool j ≡ text_at c.pool w.name = ap (λ (z : Option Entry). unwrap_or (class_name_of c.pool z) []) w.entry in

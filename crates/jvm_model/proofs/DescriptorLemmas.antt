@@ -2,7 +2,7 @@
 use Rattle.std.proofs.Common.{◌≡◌, ◌≢◌, ℕ, zero, suc, ◌<◌, ◌≤◌, List, [], ◌∷◌, length, take, drop, Bool, true, false, nat_eq, refl, ap, ◌∙◌, arith, length-drop}
 use Rattle.std.proofs.lemmas.Bool.{false_from_ne_true, eqb-true}
 use Rattle.jvm_model.specs.Descriptors.{Scan, at_type, in_array, in_name, onto_first, types_in, past_types}
-use Rattle.jvm_model.specs.Scanning.{type_length, SplitsType, EndsTypes}
+use Rattle.jvm_model.specs.Scanning.{type_length, SplitsType}
 
 -- the types from a unit on that is a bracket, an L or neither
 abbrev types_by : Bool → Bool → ℕ → List ℕ → List (List ℕ)
@@ -103,9 +103,3 @@ splits_open u us e = record {
 
 pub splits : (us : List ℕ) (u : ℕ) (rest : List ℕ) → us ≡ u ∷ rest → u ≢ 41 → SplitsType us (take (type_length false us) us) (drop (type_length false us) us)
 splits us u rest is n = rw is (splits_open u rest (false_from_ne_true (nat_eq u 41) (λ t. n (eqb-true u 41 t))))
-
-pub ends_empty : (us : List ℕ) → us ≡ [] → EndsTypes us
-ends_empty us is = rw is (record { types = refl; past = refl })
-
-pub ends_closed : (us : List ℕ) (u : ℕ) (rest : List ℕ) → us ≡ u ∷ rest → u ≡ 41 → EndsTypes us
-ends_closed us u rest is e = rw (is, e) (record { types = refl; past = refl })

@@ -1,13 +1,13 @@
 -- Walks up the superclasses and superinterfaces of a linked program come to their end within the bound: the classes on a way
 -- up differ, and there are fewer than the bound.
-use Rattle.std.proofs.Common.{◌≡◌, ℕ, zero, suc, ◌+◌, ◌≤◌, List, [], ◌∷◌, ◌++◌, length, true, false, nat_eq, eqb, refl, sym, ◌∙◌, ap, subst, inl, inr, arith, Option, Some, None, All}
+use Rattle.std.proofs.Common.{◌≡◌, ℕ, zero, suc, ◌+◌, ◌≤◌, List, [], ◌∷◌, ◌++◌, length, true, false, nat_eq, eqb, refl, sym, ◌∙◌, ap, subst, inl, inr, arith, All}
 use Rattle.std.specs.Prelude.{flat_map}
 use Rattle.std.specs.List.{IsDistinct}
 use Rattle.std.proofs.lemmas.Bool.{eqb-true, eq-eqb, false_from_ne_true, or_cases, or_right}
 use Rattle.std.proofs.lemmas.Map.Steps.{length-le_from_distinct_below}
 use Rattle.jvm_model.specs.declared.program.Program.{Program}
 use Rattle.jvm_model.specs.Classes.{class_at, class_bound, member, lineage_in}
-use Rattle.jvm_model.specs.Lookup.{field_path_in, pedigree_in}
+use Rattle.jvm_model.specs.Lookup.{pedigree_in}
 use Rattle.jvm_model.specs.Linked.{IsClass, IsDirect, IsAncestor, direct, further, Linked}
 use Rattle.jvm_model.proofs.Upwards.{superclass_is, all_apart}
 
@@ -92,21 +92,6 @@ module _ (p : Program) where
 
   pedigree_same : (k m c : ℕ) → ((d : ℕ) → IsDirect p c d → pedigree_in p k d ≡ pedigree_in p m d) → pedigree_in p (suc k) c ≡ pedigree_in p (suc m) c
   pedigree_same k m c h = ap {B = List ℕ} (λ xs. c ∷ xs) (same_flat (λ j. pedigree_in p k j) (λ j. pedigree_in p m j) (class_at p c).interfaces (λ d e. h d (inr e)))
-
-  -- the fields' path above
-  abbrev path_above : ℕ → Option ℕ → List ℕ
-  path_above k None = []
-  path_above k (Some d) = field_path_in p k d
-
-  path_above_same : (k m c : ℕ) (o : Option ℕ) → (class_at p c).superclass ≡ o → ((d : ℕ) → IsDirect p c d → field_path_in p k d ≡ field_path_in p m d) → path_above k o ≡ path_above m o
-  path_above_same k m c None e h = refl
-  path_above_same k m c (Some d) e h = h d (inl e)
-
-  path_same : (k m c : ℕ) → ((d : ℕ) → IsDirect p c d → field_path_in p k d ≡ field_path_in p m d) → field_path_in p (suc k) c ≡ field_path_in p (suc m) c
-  path_same k m c h =
-      let a = same_flat (λ j. field_path_in p k j) (λ j. field_path_in p m j) (class_at p c).interfaces (λ d e. h d (inr e)) in
-      ap {B = List ℕ} (λ xs. (c ∷ xs) ++ path_above k (class_at p c).superclass) a
-      ∙ ap (λ ys. (c ∷ flat_map (λ j. field_path_in p m j) (class_at p c).interfaces) ++ ys) (path_above_same k m c (class_at p c).superclass refl h)
 
   module _ (l : Linked p) where
     -- one step of each walk, at the bound

@@ -391,17 +391,9 @@ module _ (R : List Edge) (l : List ℕ) where
   either (fault_is {x} f) = inr (x, f)
   either (none_is w) = inl w
 
-  the_fault : (x : OrderFault) → {o : Option OrderFault} → FaultIs o → o ≡ Some x → IsOrderFault R l x
-  the_fault x (fault_is {x = y} f) e = let h : y ≡ x = cc in subst (λ (z : OrderFault). IsOrderFault R l z) h f
-  the_fault x (none_is w) e = absurd (cc)
-
   the_lawful : {o : Option OrderFault} → FaultIs o → o ≡ None → Lawful R l
   the_lawful (fault_is f) e = absurd (cc)
   the_lawful (none_is w) e = w
-
--- what the computed fault says
-pub first_fault : (R : List Edge) (l : List ℕ) (x : OrderFault) → order_fault R l ≡ Some x → IsOrderFault R l x
-first_fault R l x e = the_fault R l x (order_fault_is R l) e
 
 pub lawful_list : (R : List Edge) (l : List ℕ) → order_fault R l ≡ None → Lawful R l
 lawful_list R l e = the_lawful R l (order_fault_is R l) e

@@ -23,12 +23,6 @@ use Rattle.order_law.proofs.Pairs.{list-append}
 use Rattle.order_law.proofs.Lists.{length-paired, take-list, drop-list, reverse-list, replicate-list}
 
 module _ (n : Numbers) (P : ℕ → ℕ → Type 0) where
-  abbrev pub Value_of : Value → Value → Type 0
-  Value_of = PairedValue (with_places n P)
-
-  abbrev pub Values_of : List Value → List Value → Type 0
-  Values_of = PairedList (PairedValue (with_places n P))
-
   -- an entry's number is that of its method or class
   abbrev pub PairedNumber : EntryKind → ℕ → ℕ → Type 0
   PairedNumber Absent a b = Unit {0}

@@ -7,11 +7,6 @@ pub rose_later : (a b c : ℕ) → a ≤ b → Rose b c → Rose a c
 rose_later a b c le (inl lt) = inl (omega arith)
 rose_later a b c le (inr top) = inr top
 
--- a count that rose doesn't fall again
-pub rose_earlier : (a b c : ℕ) → a ≤ b → b ≤ c → Rose a b → Rose a c
-rose_earlier a b c first later (inl lt) = inl (omega arith)
-rose_earlier a b c first later (inr top) = grind arith
-
 -- a count that stayed below the greatest u64 didn't rise
 pub not_rose : (a b : ℕ) → b ≡ a → a < 2 ^ 64 - 1 → Rose a b → ⊥
 not_rose a b same below (inl lt) = omega arith

@@ -1,5 +1,5 @@
 -- What was read of a file so far, and what a folder told.
-use Rattle.std.proofs.Common.{◌≡◌, ◌+◌, ◌<◌, ◌++◌, ℕ, List, length, Option, Some, None, IfSome, Result, Ok, Err, IfOk, refl, ap, ◌∙◌, sym, subst, arith, append-nil, length-append}
+use Rattle.std.proofs.Common.{◌≡◌, ◌+◌, ℕ, List, length, Option, Some, Result, Ok, Err, IfOk, refl, subst}
 use Rattle.std.proofs.lemmas.List.Elements.{All-pop}
 use Rattle.std.specs.Prelude.{All, IsErrOf, Vec}
 use Rattle.std.specs.declared.alloc.Global.{Global}
@@ -7,26 +7,12 @@ use Rattle.outside.specs.Depot.{Answer, Agrees, OfHeld, TellsOn, has_bytes, is_a
 use Rattle.outside.specs.FolderDepot.{Keeps}
 use Rattle.outside.specs.declared.depot.DepotRefusal.{DepotRefusal}
 use Rattle.outside.specs.declared.depot.DepotRefusal.TheVariants as refusal
-use Rattle.std.specs.Io.KnownBytes.{Consumes, IsAtEnd}
+use Rattle.std.specs.Io.KnownBytes.{Consumes}
 
 -- These bytes were read, and this many more are within the limit.
 pub record Read {F : Type 0} (remaining : F → Option (List ℕ)) (old new : F) (bytes : List ℕ) (limit left : ℕ) : Type 0 where
   pub size : length bytes + left ≡ limit
   pub known : Consumes (remaining old) (remaining new) bytes
-
--- at the end they are the file
-pub read_all : (old new : Option (List ℕ)) (bytes : List ℕ) → Consumes old new bytes → IsAtEnd new → IfSome old (λ all. bytes ≡ all)
-read_all None new bytes known end = tt
-read_all (Some all) None bytes known end = absurd known
-read_all (Some all) (Some rest) bytes known end = sym (known ∙ ap (λ r. bytes ++ r) end ∙ append-nil bytes)
-
--- more bytes than the limit are no more than the file
-pub read_past : (old new : Option (List ℕ)) (bytes : List ℕ) (limit : ℕ) → Consumes old new bytes → limit < length bytes → IfSome old (λ all. limit < length all)
-read_past None new bytes limit known past = tt
-read_past (Some all) None bytes limit known past = absurd known
-read_past (Some all) (Some rest) bytes limit known past =
-    let size : length all ≡ length bytes + length rest = ap (λ l. length l) known ∙ length-append bytes rest in
-    omega (arith, size, past)
 
 -- ---- the answers of a folder
 

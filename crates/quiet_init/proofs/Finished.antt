@@ -51,10 +51,6 @@ module _ (p : Program) where
       let hf : fs ≡ opened_with vs p.fields = ef ∙ ap (λ (r : Program). opened_with vs r.fields) eq in
       λ i. record (eq i) { classes = (hc ∙ classes_done flags e) i; fields = (hf ∙ fields_done vs lk l) i }
 
-  -- there is an opening value for each field, and a flag for each class
-  pub long_openings : (vs : List Value) (q : Program) → AreOpenings p vs → q ≡ p → length vs ≡ length q.fields
-  long_openings vs q l e = l.long ∙ ap (λ (r : Program). length r.fields) (sym e)
-
   pub long_flags : (flags : List Bool) (q : Program) → AreFlags p flags → q ≡ p → length flags ≡ length q.classes
   long_flags flags q h e = as_many p flags h ∙ ap (λ (r : Program). length r.classes) (sym e)
 

@@ -6,7 +6,7 @@ use Rattle.std.specs.List.{list_any}
 use Rattle.std.specs.Str.{bytes_eq}
 use Rattle.jvm_model.specs.declared.program.Program.{Program}
 use Rattle.jvm_model.specs.Builtin.{object_class}
-use Rattle.jvm_model.specs.Classes.{class_at, method_at, is_private, is_static, is_interface, class_bound, upwards, first_mentions, init_name, is_below, implements, member}
+use Rattle.jvm_model.specs.Classes.{class_at, method_at, is_private, is_static, is_interface, class_bound, upwards, first_mentions, init_name, is_below, member}
 use Rattle.jvm_model.specs.Lookup.{is_method, pedigree_in, superinterfaces, interface_methods, one_or_first, find_in_interfaces, or_else, find_declared, find_in_object, find_method, field_path_in, field_path, find_field}
 use Rattle.jvm_model.specs.Driver.{no_arguments, plain_method_in}
 use Rattle.jvm_model.specs.Linked.{test_method}
@@ -18,10 +18,6 @@ module _ (p : Program) where
   pub is_below_kept : (c d : ℕ) → is_below (quiet p) c d ≡ is_below p c d
   unfolding is_below
   is_below_kept c d = ap (λ (xs : List ℕ). member d xs) (upwards_kept p c)
-
-  pub implements_kept : (c i : ℕ) → implements (quiet p) c i ≡ implements p c i
-  unfolding implements
-  implements_kept c i = λ k. member i (flat_map (λ d. own_interfaces_kept p d k) (upwards_kept p c k))
 
   pedigree_kept : (k : ℕ) → ◌≡◌ {A = ℕ → List ℕ} (λ c. pedigree_in (quiet p) k c) (λ c. pedigree_in p k c)
   pedigree_kept zero = λ i c. []

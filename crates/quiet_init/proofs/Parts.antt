@@ -1,8 +1,8 @@
 -- The classes of the program without quiet initialisers, and which of them are trivial.
 use Rattle.std.proofs.Common.{◌≡◌, ◌⊎◌, ℕ, zero, suc, ◌<◌, List, [], ◌∷◌, ◌++◌, length, map, filter, Bool, true, false, not, ◌&&◌, cond, Option, Some, None, is_some, refl, sym, ◌∙◌, ap, inl, inr, arith}
 use Rattle.std.specs.Prelude.{flat_map}
-use Rattle.std.specs.List.{list_all, list_any, range_with_len}
-use Rattle.std.proofs.lemmas.Bool.{and_parts, and_from, cases_lt}
+use Rattle.std.specs.List.{list_any, range_with_len}
+use Rattle.std.proofs.lemmas.Bool.{and_from, cases_lt}
 use Rattle.std.proofs.lemmas.List.{get_or_past}
 use Rattle.std.proofs.lemmas.List.FromFn.{get_or-map-range_with_len, length-map-range_with_len}
 use Rattle.jvm_model.specs.declared.program.ClassRec.{ClassRec}
@@ -15,9 +15,6 @@ use Rattle.jvm_model.specs.Classes.{no_class, no_field, class_at, field_at, meth
 use Rattle.quiet_init.specs.Quiet.{is_still_start, starts_still, is_quiet, left_by, quiet_class, quiet_field, quiet}
 
 module _ (p : Program) where
-  abbrev q : Program
-  q = quiet p
-
   pub class_count : length (quiet p).classes ≡ length p.classes
   unfolding quiet
   class_count = length-map-range_with_len (quiet_class p) 0 (length p.classes)
@@ -25,10 +22,6 @@ module _ (p : Program) where
   pub field_count : length (quiet p).fields ≡ length p.fields
   unfolding quiet
   field_count = length-map-range_with_len (quiet_field p) 0 (length p.fields)
-
-  pub tests_kept : (quiet p).tests ≡ p.tests
-  unfolding quiet
-  tests_kept = refl
 
   past_class : (c : ℕ) → class_at p c ≡ no_class → quiet_class p c ≡ no_class
   past_class c e = by (is_quiet p c)
@@ -136,14 +129,6 @@ module _ (p : Program) where
   defaults_kept c = λ i. filter (λ d. list_any (λ m. is_default_method (method_at p m)) (methods_kept d i)) (own_interfaces_kept c i)
 
 -- ---- trivial classes
-
--- what a class doesn't start, and no default interface of it
-abbrev starts_none : Program → ℕ → Bool
-starts_none p d = not (declares_start p d) && list_all (λ i. not (declares_start p i)) (default_interfaces p d)
-
-all_map : (f g : ℕ → Bool) (xs : List ℕ) → ((x : ℕ) → f x ≡ true → g x ≡ true) → list_all f xs ≡ true → list_all g xs ≡ true
-all_map f g [] h e = refl
-all_map f g (x ∷ xs) h e = let k = and_parts (f x) (list_all f xs) e in and_from (g x) (list_all g xs) (h x k.0) (all_map f g xs h k.1)
 
 module _ (p : Program) where
   -- a still start is one

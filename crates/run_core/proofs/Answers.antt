@@ -1,5 +1,5 @@
 -- What the calls of a core answer.
-use Rattle.std.proofs.Common.{◌≡◌, ℕ, zero, suc, ◌+◌, ◌-◌, ◌^◌, ◌<◌, ◌≤◌, nat_eq, List, [], ◌∷◌, ◌++◌, length, get_or, take, drop, reverse, slice_get, Option, Some, None, MatchOption, Bor, option_copied, refl, sym, ◌∙◌, ap, subst, inl, inr, arith, true≢false}
+use Rattle.std.proofs.Common.{◌≡◌, ℕ, suc, ◌+◌, ◌-◌, ◌^◌, ◌<◌, ◌≤◌, nat_eq, List, [], ◌∷◌, ◌++◌, length, get_or, take, drop, reverse, Option, Some, None, MatchOption, Bor, option_copied, refl, sym, ◌∙◌, ap, subst, inl, inr, arith, true≢false}
 use Rattle.std.specs.List.{fold}
 use Rattle.std.proofs.lemmas.Bool.{cases_Bool, cases_lt, eqb-true, eq-eqb}
 use Rattle.std.proofs.lemmas.List.{length-append, length-reverse}
@@ -112,25 +112,6 @@ split_is : (l xs : List ℕ) (t : ℕ) → l ≡ xs ++ (t ∷ []) → before_las
 split_is l xs t e =
     ap (λ (z : List ℕ). before_last z ++ (last_of z ∷ [])) e ∙ ap (λ (z : List ℕ). z ++ (last_of (xs ++ (t ∷ [])) ∷ [])) (before_is xs t)
     ∙ ap (λ (z : ℕ). xs ++ (z ∷ [])) (last_is xs t) ∙ sym e
-
--- one place more at which two lists are the same
-pub take_next : (xs ys : List ℕ) (k : ℕ) → take k xs ≡ take k ys → slice_get xs k ≡ slice_get ys k → take (suc k) xs ≡ take (suc k) ys
-take_next [] [] k e g = refl
-take_next [] (y ∷ ys) zero e g = absurd (let x = g in cc)
-take_next [] (y ∷ ys) (suc k) e g = absurd (let x = ap length e in omega arith)
-take_next (x ∷ xs) [] zero e g = absurd (let x = g in cc)
-take_next (x ∷ xs) [] (suc k) e g = absurd (let x = ap length e in omega arith)
-take_next (x ∷ xs) (y ∷ ys) zero e g = let a : x ≡ y = (cc) in ap (λ (z : ℕ). z ∷ []) a
-take_next (x ∷ xs) (y ∷ ys) (suc k) e g =
-    let a : x ≡ y = (cc) in let b : take k xs ≡ take k ys = (cc) in
-    ap (λ (z : ℕ). z ∷ take (suc k) xs) a ∙ ap (λ (z : List ℕ). y ∷ z) (take_next xs ys k b g)
-
--- the element at a place of a list with one more
-pub snoc_get : (xs : List ℕ) (t k : ℕ) → k ≤ length xs → slice_get (xs ++ (t ∷ [])) k ≡ Some (get_or (xs ++ (t ∷ [])) k 0)
-snoc_get [] t zero h = refl
-snoc_get [] t (suc k) h = absurd (omega arith)
-snoc_get (x ∷ xs) t zero h = refl
-snoc_get (x ∷ xs) t (suc k) h = snoc_get xs t k (omega arith)
 
 -- ---- refusals
 claimer_is : (es : List law.Event) (i v : ℕ) → IsClaimer es i v → 0 < v → Member i (law.claims es v)

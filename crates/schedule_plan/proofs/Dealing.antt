@@ -14,9 +14,6 @@ use Rattle.schedule_plan.proofs.Inserted.{not_itself, not_both, falling_distinct
 
 -- ---- sums of the units of earlier chains
 module _ (sizes : List ℕ) where
-  abbrev size : ℕ → ℕ
-  size c = at sizes c
-
   abbrev counted : ℕ → ℕ → ℕ
   counted c d = cond (is_earlier sizes d c) (at sizes d) 0
 

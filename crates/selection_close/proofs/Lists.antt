@@ -30,9 +30,6 @@ member_next l q t h m = elim (member_either (take q l) (get_or l q 0 ∷ []) t (
 pub member_all : (l : List ℕ) (q t : ℕ) → length l ≤ q → Member t l → Member t (take q l)
 member_all l q t h m = subst (λ (x : List ℕ). Member t x) (sym (take_all q l h)) m
 
-pub none_yet : (l : List ℕ) (t : ℕ) → Member t (take 0 l) → ⊥
-none_yet l t m = m
-
 pub still_none : (l : List ℕ) (q t : ℕ) → q < length l → (Member t (take q l) → ⊥) → (get_or l q 0 ≡ t → ⊥) → Member t (take (q + 1) l) → ⊥
 still_none l q t h f g m = elim (member_next l q t h m) [ inl a ↦ f a | inr e ↦ g (sym e) ]
 

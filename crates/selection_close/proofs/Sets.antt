@@ -1,22 +1,18 @@
 -- Sets of the tests of a list, and what they lack.
 use Rattle.std.proofs.Common.{◌≡◌, ℕ, zero, suc, ◌+◌, ◌<◌, ◌≤◌, true, false, nat_eq, List, [], ◌∷◌, length, get_or, take, refl, sym, ◌∙◌, ap, subst, inl, inr, arith}
-use Rattle.std.proofs.lemmas.Bool.{or_cases, or_left, or_right, eqb-true, eq-eqb, true≢false}
+use Rattle.std.proofs.lemmas.Bool.{or_cases, or_left, or_right, eqb-true, eq-eqb}
 use Rattle.std.proofs.lemmas.List.{take_more, take_all}
-use Rattle.std.proofs.lemmas.Option.{slice_get-get_or}
 use Rattle.order_law.specs.declared.edges.Edge.{Edge}
 use Rattle.order_law.specs.declared.edges.EdgeKind.TheVariants.{Raw}
 use Rattle.order_law.specs.Conflicts.{Member, HasEdge}
-use Rattle.order_law.specs.OrderFault.{HasWriters, IsMissing}
+use Rattle.order_law.specs.OrderFault.{HasWriters}
 use Rattle.order_law.specs.Plan.{Ascending}
 use Rattle.order_law.proofs.Members.{member_left, member_right}
 use Rattle.dep_graph.specs.declared.sets.TestSet.{TestSet}
 use Rattle.dep_graph.specs.Sets.{holds}
 use Rattle.dep_graph.specs.Graphs.{GoUp, AreWriters}
 use Rattle.selection_close.specs.Faults.{HoldsList, HasAll, IsLeastOutside, gained}
-use Rattle.selection_close.proofs.Lists.{member_at, member_next, member_all}
-
-pub holds_none : (s : TestSet) (l : List ℕ) → ((u : ℕ) → holds s u ≡ false) → HoldsList s (take 0 l)
-holds_none s l f = λ u h. (λ e. absurd (true≢false (sym e ∙ f u)), λ m. absurd m)
+use Rattle.selection_close.proofs.Lists.{member_at, member_next}
 
 module _ (s n : TestSet) (l : List ℕ) (i : ℕ) (lt : i < length l) (f : HoldsList s (take i l)) (g : (u : ℕ) → u < 1088 → holds n u ≡ gained s (get_or l i 0) u) where
   to_list : (u : ℕ) → u < 1088 → holds n u ≡ true → Member u (take (i + 1) l)
@@ -34,14 +30,8 @@ module _ (s n : TestSet) (l : List ℕ) (i : ℕ) (lt : i < length l) (f : Holds
   pub holds_next : HoldsList n (take (i + 1) l)
   holds_next = λ u h. (to_list u h, from_list u h)
 
-pub holds_all : (s : TestSet) (l : List ℕ) (i : ℕ) → length l ≤ i → HoldsList s (take i l) → HoldsList s l
-holds_all s l i h f = subst (λ (x : List ℕ). HoldsList s x) (take_all i l h) f
-
 pub held_next : (s : TestSet) (l : List ℕ) (i : ℕ) → i < length l → ((v : ℕ) → Member v (take i l) → holds s v ≡ true) → holds s (get_or l i 0) ≡ true → (v : ℕ) → Member v (take (i + 1) l) → holds s v ≡ true
 held_next s l i lt f e v m = elim (member_next l i v lt m) [ inl a ↦ f v a | inr g ↦ ap (λ (x : ℕ). holds s x) g ∙ e ]
-
-pub has_all : (R : List Edge) (s : TestSet) (t : ℕ) (l : List ℕ) (i : ℕ) → AreWriters R t l → length l ≤ i → ((v : ℕ) → Member v (take i l) → holds s v ≡ true) → HasAll R s t
-has_all R s t l i w h f = λ u e. f u (member_all l i u h ((w.exact u).1 e))
 
 before_place : (l : List ℕ) (i v : ℕ) → Ascending l → i < length l → Member v l → v < get_or l i 0 → Member v (take i l)
 before_place [] i v a h m lt = absurd m
@@ -63,16 +53,3 @@ writers_next R l s i up hs lt f ha t m = elim (member_next l i t lt m) [
   | inl a ↦ f t a
   | inr e ↦ λ u h. (hs u (below R up u t h)).0 (ha u (subst (λ (z : ℕ). HasEdge R Raw u z) e h))
 ]
-
-pub writers_all : (R : List Edge) (l : List ℕ) (i : ℕ) → length l ≤ i → ((t : ℕ) → Member t (take i l) → HasWriters R l t) → (t : ℕ) → Member t l → HasWriters R l t
-writers_all R l i h f t m = f t (member_all l i t h m)
-
-pub missing_at : (R : List Edge) (l : List ℕ) (s : TestSet) (i u : ℕ) → GoUp 1024 R → HoldsList s l → i < length l → IsLeastOutside R s (get_or l i 0) u → ((t : ℕ) → Member t (take i l) → HasWriters R l t) → IsMissing R l (get_or l i 0) u
-missing_at R l s i u up hs lt x f = record {
-  place = i;
-  listed = slice_get-get_or l i 0 lt;
-  edge = x.edge;
-  outside = λ m. true≢false (sym ((hs u (below R up u (get_or l i 0) x.edge)).1 m) ∙ x.outside);
-  first = f;
-  least = λ v h e. (hs v (below R up v (get_or l i 0) e)).0 (x.least v h e);
-}

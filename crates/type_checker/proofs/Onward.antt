@@ -1,6 +1,6 @@
 -- The walk over the instructions of a method.
-use Rattle.std.proofs.Common.{◌≡◌, ℕ, List, ◌∷◌, length, ◌<◌, ◌≤◌, ◌+◌, get_or, drop, Option, Some, None, slice_get, refl, ap, sym, ◌∙◌, subst, add-one}
-use Rattle.std.proofs.lemmas.List.{drop_more, drop_all}
+use Rattle.std.proofs.Common.{◌≡◌, ℕ, List, ◌∷◌, length, ◌<◌, ◌+◌, get_or, drop, Option, Some, None, slice_get, refl, ap, sym, ◌∙◌, subst, add-one}
+use Rattle.std.proofs.lemmas.List.{drop_more}
 use Rattle.std.proofs.lemmas.Option.{slice_get-get_or}
 use Rattle.jvm_model.specs.declared.program.Program.{Program}
 use Rattle.jvm_model.specs.declared.program.Placed.{Placed}
@@ -55,9 +55,6 @@ onward p name j e k f g s lt h =
       t.1 ∙ ap (λ y. passed_on p e (taken_at e x.pc y) (Some x)) s ∙ ap (λ y. passed_on p e y (Some x)) (sym r) ∙ ap (passed_on p e (taken_by e (slice_get e.body.code k) (incoming p e k))) (sym i.there) ∙ sym (next_in p e k),
       ap (code_fault p name j e k) i.split ∙ first_here p name j e k x (drop (k + 1) e.body.code) ∙ ap (λ y. or_later y (code_fault p name j e (k + 1) (drop (k + 1) e.body.code))) q,
     )
-
-pub at_end : (p : Program) (name : List ℕ) (j : ℕ) (e : Environment) (k : ℕ) → length e.body.code ≤ k → code_fault p name j e k (drop k e.body.code) ≡ None
-at_end p name j e k h = ap (code_fault p name j e k) (drop_all k e.body.code h)
 
 pub turned_by : (p : Program) (e : Environment) (k : ℕ) (x : Placed) (f : Slots) (s : StackEffect) → s ≡ sides p e x.pc f x.form → (t : Turned) → IsJudged p e k x f s t → IsTurned p e k x (Some f) t
 turned_by p e k x f s q way.NoFrame h = absurd h

@@ -1,7 +1,7 @@
 -- Lists seen from their ends.
-use Rattle.std.proofs.Common.{◌≡◌, ℕ, zero, suc, List, [], ◌∷◌, ◌++◌, ◌<◌, ◌≤◌, ◌-◌, ◌+◌, ◌⊎◌, inl, inr, length, reverse, take, drop, set, map, get_or, refl, ap, sym, ◌∙◌, arith}
+use Rattle.std.proofs.Common.{◌≡◌, ℕ, zero, suc, List, [], ◌∷◌, ◌++◌, ◌<◌, ◌≤◌, ◌-◌, ◌+◌, ◌⊎◌, inl, inr, length, reverse, take, drop, map, get_or, refl, ap, sym, ◌∙◌, arith}
 use Rattle.std.proofs.lemmas.Bool.{cases_lt}
-use Rattle.std.proofs.lemmas.List.{append_assoc, map-append, get_or-reverse, get_or_past, length-reverse, length-drop, reverse-append, take-append-drop, drop_all, drop_more, drop-set-lt, take_more_set}
+use Rattle.std.proofs.lemmas.List.{map-append, get_or-reverse, get_or_past, length-reverse, length-drop, reverse-append, take-append-drop, drop_all}
 use Rattle.type_frames.specs.declared.vtype.VType.{VType}
 use Rattle.type_frames.specs.declared.stack_effect.Substitution.{Substitution}
 use Rattle.type_frames.specs.declared.stack_effect.Substitution.TheVariants.{Keep, All}
@@ -37,16 +37,6 @@ reverse_rest s n = go (cases_lt (length s) n)
         let q : length (reverse s) ≤ n = omega (arith, length-reverse s) in
         ap (λ k. reverse (take k s)) e ∙ sym (drop_all n (reverse s) q)
     go (inr le) = rest_within s n le
-
--- one more element of a list that is changed in place
-pub turn_more : (f : VType → VType) (xs : List VType) (i : ℕ) (d : VType) → i < length xs → take (i + 1) (set xs i (f (get_or xs i d))) ++ map f (drop (i + 1) (set xs i (f (get_or xs i d)))) ≡ take i xs ++ map f (drop i xs)
-turn_more f xs i d lt =
-    let y = f (get_or xs i d) in
-    let lti : i < i + 1 = omega arith in
-    ap (λ l. l ++ map f (drop (i + 1) (set xs i y))) (take_more_set xs i y lt)
-    ∙ ap (λ l. (take i xs ++ y ∷ []) ++ map f l) (drop-set-lt (i + 1) xs i y lti)
-    ∙ append_assoc (take i xs) (y ∷ []) (map f (drop (i + 1) xs))
-    ∙ ap (λ l. take i xs ++ map f l) (sym (drop_more xs i d lt))
 
 map-reverse : (f : VType → VType) (s : List VType) → reverse (map f s) ≡ map f (reverse s)
 map-reverse f [] = refl

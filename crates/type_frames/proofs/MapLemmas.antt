@@ -1,7 +1,6 @@
 -- Lists that are read item by item.
 use Rattle.std.proofs.Common.{◌≡◌, ℕ, List, [], ◌∷◌, ◌++◌, Option, Some, None, refl, ap, sym, ◌∙◌, length, ◌<◌, ◌≤◌, ◌-◌, ◌+◌, replicate, arith}
 use Rattle.std.proofs.lemmas.List.{append_assoc, append-nil, length_push, replicate-append-replicate}
-use Rattle.type_frames.specs.Given.{joined}
 use Rattle.type_frames.specs.MapReading.{prefixed}
 use Rattle.type_frames.specs.declared.vtype.VType.{VType}
 use Rattle.type_frames.specs.Frames.{padded}
@@ -10,13 +9,6 @@ use Rattle.type_frames.specs.declared.vtype.VType.TheVariants.{Top}
 pub prefixed_nothing : {A : Type 0} (o : Option (List A)) → prefixed [] o ≡ o
 prefixed_nothing None = refl
 prefixed_nothing (Some xs) = refl
-
-pub prefixed_push : {A : Type 0} (xs : List A) (x : A) (o : Option (List A)) → prefixed (xs ++ x ∷ []) o ≡ prefixed xs (joined (Some x) o)
-prefixed_push xs x None = refl
-prefixed_push xs x (Some ys) = ap Some (append_assoc xs (x ∷ []) ys)
-
-pub prefixed_end : {A : Type 0} (xs : List A) → prefixed xs (Some []) ≡ Some xs
-prefixed_end xs = ap Some (append-nil xs)
 
 pub padded_push : (n : ℕ) (ts : List VType) → length ts < n → padded n (ts ++ Top ∷ []) ≡ padded n ts
 padded_push n ts lt =

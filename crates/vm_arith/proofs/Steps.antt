@@ -5,24 +5,10 @@ use Rattle.jvm_model.specs.declared.instr.Instr.TheVariants as form
 use Rattle.jvm_model.specs.declared.outcome.Next.{Next}
 use Rattle.jvm_model.specs.declared.outcome.Next.TheVariants.{Go, Fault, Raise, Enter, Leave, Over}
 use Rattle.jvm_model.specs.Entries.{Entries, with_place}
-use Rattle.jvm_model.specs.RowsMoves.{row_moves}
-use Rattle.jvm_model.specs.RowsBranches.{row_branches}
 use Rattle.jvm_model.specs.Step.{row}
 use Rattle.jvm_model.specs.View.{counted, ended}
 use Rattle.jvm_model.specs.Rows.{answer}
-use Rattle.vm_arith.specs.Pure.{IsSameFrame, GoesOn, GoesTo, GoesFrom, Ends, IsStep}
-
-unchanged : (s : Entries) → IsSameFrame s s
-unchanged s = record { kind = refl; number = refl; pc = refl; below = refl }
-
--- nop goes on, and goto to its target, with the entries as they are
-pub nop_goes_on : (s : Entries) → GoesOn form.Nop s s
-unfolding row row_moves
-nop_goes_on s = record { frame = unchanged s; row = λ p q. refl }
-
-pub goto_goes_to : (to : ℕ) (s : Entries) → GoesTo (form.Goto to) to s s
-unfolding row row_branches
-goto_goes_to to s = record { frame = unchanged s; row = λ p q. refl }
+use Rattle.vm_arith.specs.Pure.{GoesOn, GoesTo, GoesFrom, Ends, IsStep}
 
 pub same_form : (i j : Instr) (s u : Entries) → i ≡ j → GoesOn j s u → GoesOn i s u
 same_form i j s u e h = subst (λ (k : Instr). GoesOn k s u) (sym e) h

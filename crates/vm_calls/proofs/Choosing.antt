@@ -54,10 +54,6 @@ module _ (p : Program) (f : ℕ → Bool) where
 
 -- ---- kept methods
 
-any_same : (f g : ℕ → Bool) (xs : List ℕ) → ((x : ℕ) → f x ≡ g x) → list_any f xs ≡ list_any g xs
-any_same f g [] e = refl
-any_same f g (x ∷ xs) e = rw (e x, any_same f g xs e) refl
-
 redeclared : (p : Program) (ms above : List ℕ) (x : ℕ) → above ≡ insert_all nat_eq [] (flat_map (λ n. above_of p n) ms) → list_any (λ n. redeclares p n x) ms ≡ member (method_at p x).class above
 redeclared p ms above x e =
     let c = (method_at p x).class in

@@ -1,6 +1,6 @@
 -- The instructions of a code by number.
 use Rattle.std.proofs.Common.{◌≡◌, ℕ, zero, suc, ◌<◌, ◌+◌, List, [], ◌∷◌, length, get_or, take, drop, ◌-◌, eqb, Bool, true, false, cond, refl, sym, ap, ◌∙◌, subst, arith, Option, Some, None, IfSome, IsSome, slice_get, ◌≤◌, All}
-use Rattle.std.proofs.lemmas.Bool.{eq-eqb, eqb-true, ne_eqb}
+use Rattle.std.proofs.lemmas.Bool.{eq-eqb, ne_eqb}
 use Rattle.std.proofs.lemmas.List.{length-drop, take_all}
 use Rattle.std.proofs.lemmas.List.Elements.{All-head, All-tail}
 use Rattle.std.proofs.lemmas.Option.{slice_get_within}
@@ -9,7 +9,6 @@ use Rattle.jvm_model.specs.declared.instr.Instr.{Instr}
 use Rattle.jvm_model.specs.declared.program.Placed.{Placed}
 use Rattle.jvm_model.specs.declared.program.Body.{Body}
 use Rattle.jvm_model.specs.declared.program.Program.{Program}
-use Rattle.jvm_model.specs.declared.state.EntryKind.TheVariants.{InMethod}
 use Rattle.jvm_model.specs.Classes.{Found, found_in, found_of, form_at, next_place, place_after, method_at}
 use Rattle.jvm_model.specs.Entries.{Entries}
 use Rattle.jvm_model.specs.Linked.{Ascends, IsBody, Linked}
@@ -17,7 +16,7 @@ use Rattle.jvm_model.specs.Step.{row_here, row_or_none}
 use Rattle.jvm_model.specs.View.{IsRow, IsSafe}
 use Rattle.jvm_model.specs.World.{World}
 use Rattle.vm_tables.specs.Numbers.{instruction, instruction_of, after_or, no_placed}
-use Rattle.vm_tables.proofs.Places.{ascending_number, form_bare, form_some, get_some, next_found, place_at, place_past}
+use Rattle.vm_tables.proofs.Places.{ascending_number, form_bare, form_some, get_some, next_found, place_past}
 use Rattle.check_sound.proofs.Arrive.{has_number}
 use Rattle.vm_interp.specs.Dispatching.{IsAtForm, IsIn, IsInCode, IsLeft, IsRest, Stands, StaysAt}
 use Rattle.vm_interp.specs.declared.flow.Flow.{Flow}
@@ -101,9 +100,6 @@ drop_one (x ∷ xs) (suc i) = drop_one xs i
 pub rest_some : (b : Body) (rest : List Placed) → IsRest b rest → 0 < length rest
 rest_some b rest h = subst (λ (xs : List Placed). 0 < length xs) (sym h.all) (let l = length-drop h.from b.code in let k = h.within in omega arith)
 
-pub stands_there : (p : Program) (b : Body) (s : Entries) (i : ℕ) → IsInCode p b s → i < length b.code → (get_or b.code i no_placed).pc ≡ s.top.pc → Stands p b (drop i b.code) s
-stands_there p b s i h l e = record { code = h; placed = record { of = record { from = i; within = l; all = refl }; place = sym (place_at b.code i b.length no_placed l ∙ e) } }
-
 -- a row that left the frame of a method left that of its code
 in_code : (p : Program) (b : Body) (m : ℕ) (s : Entries) → (method_at p m).body ≡ Some b → IsIn m s → IsInCode p b s
 in_code p b m s e h = record { frame = h.frame; own = subst (λ (n : ℕ). (method_at p n).body ≡ Some b) (sym h.number) e }
@@ -156,30 +152,6 @@ stuck p s w e h = subst (λ (o : Option Instr). IsSafe IsRow (row_or_none p o s)
 -- where an instruction is found, the method has code
 pub has_body : (p : Program) (m pc : ℕ) → IsSome (form_at p m pc) → (method_at p m).body ≡ None → ⊥
 has_body p m pc h e = let bad : IsSome {T = Instr} None = subst (λ (o : Option Instr). IsSome o) (form_bare p m pc None (ap (λ (o : Option Body). found_of o pc) e ∙ sym (ap (λ (o : Option Body). instruction_of o None) e)) e) h in absurd (cc)
-
--- where an instruction is found at the start of a code, it's the first
-none_low : (n : ℕ) (code : List Placed) (end : ℕ) → 0 < n → Ascends n code → found_in code end 0 ≡ None
-none_low n [] end l a = refl
-none_low n (x ∷ xs) end l a =
-    chosen (eqb x.pc 0) false (Some (record { form = x.form; after = place_after xs end })) (found_in xs end 0) (ne_eqb x.pc 0 (λ e. (let low = a.0 in let none : ⊥ = omega arith in none)))
-    ∙ none_low (x.pc + 1) xs end (omega arith) a.1
-
-starts_at : (x : Placed) (xs : List Placed) (end : ℕ) (b : Bool) → eqb x.pc 0 ≡ b → Ascends 0 (x ∷ xs) → (found_in (x ∷ xs) end 0 ≡ None → ⊥) → 0 ≡ x.pc
-starts_at x xs end true e a h = sym (eqb-true x.pc 0 e)
-starts_at x xs end false e a h = absurd (h (chosen (eqb x.pc 0) false (Some (record { form = x.form; after = place_after xs end })) (found_in xs end 0) e ∙ none_low (x.pc + 1) xs end (omega arith) a.1))
-
-starts : (code : List Placed) (end : ℕ) → Ascends 0 code → (found_in code end 0 ≡ None → ⊥) → (0 < length code) × (0 ≡ place_after code end)
-starts [] end a h = absurd (h refl)
-starts (x ∷ xs) end a h = (omega arith, starts_at x xs end (eqb x.pc 0) refl a h)
-
--- a frame at the start of its code stands there
-pub stands_first : (p : Program) (m : ℕ) (b : Body) (s : Entries) → Linked p → s.top.kind ≡ InMethod → s.top.number ≡ m → (method_at p m).body ≡ Some b → s.top.pc ≡ 0 → IsAtForm p s → Stands p b b.code s
-stands_first p m b s linked k n own z h =
-    let own' : (method_at p s.top.number).body ≡ Some b = ap (λ (i : ℕ). (method_at p i).body) n ∙ own in
-    let first = starts b.code b.length (is_body p m b linked own).ascending
-    (λ e. (let none = form_none p s.top.number s.top.pc b own' (ap (λ (i : ℕ). found_in b.code b.length i) z ∙ e) in
-    let bad : IsSome {T = Instr} None = subst (λ (o : Option Instr). IsSome o) none (h k) in absurd (cc))) in
-    record { code = record { frame = k; own = own' }; placed = record { of = record { from = 0; within = first.0; all = refl }; place = z ∙ first.1 } }
 
 -- so a frame whose row is safe isn't there
 some_or : (p : Program) (s : Entries) (w : World) (o : Option Instr) → form_at p s.top.number s.top.pc ≡ o → IsSafe IsRow (row_here p s) w → IsSome o

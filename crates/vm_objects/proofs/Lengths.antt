@@ -31,11 +31,6 @@ module _ (p : Program) (k : Kind) (s : Entries) (w : World) where
   ints_there (suc d) (Lit n ∷ vs) bad ns h = absurd h
   ints_there (suc d) (Obj o ∷ vs) bad ns h = absurd h
 
-  -- there is one length at least
-  pub some_there : (d : ℕ) (vs : List Value) → IsSafe IsRow (sized p k s d vs false []) w → 0 < d
-  some_there zero vs h = absurd h
-  some_there (suc d) vs h = omega arith
-
 -- a length is taken
 length_step : (p : Program) (k : Kind) (s : Entries) (d : ℕ) (m : ℤ) (n : ℕ) (vs : List Value) (bad : Bool) (ns : List ℕ) → count_of m ≡ Some n → sized p k s (suc d) (Int m ∷ vs) bad ns ≡ sized p k s d vs bad (n ∷ ns)
 length_step p k s d (pos j) n vs bad ns h = let q : j ≡ n = cc in ap (λ x. sized p k s d vs bad (x ∷ ns)) q

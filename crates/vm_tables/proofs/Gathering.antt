@@ -1,5 +1,5 @@
 -- Superinterfaces noted one after another.
-use Rattle.std.proofs.Common.{◌≡◌, ℕ, ◌+◌, ◌*◌, ◌<◌, List, [], ◌∷◌, ◌++◌, append-nil, length, get_or, take, flat_map, All, false, true, nat_eq, refl, sym, ◌∙◌, ap, subst, inl, inr, arith, length-append}
+use Rattle.std.proofs.Common.{◌≡◌, ℕ, ◌+◌, ◌*◌, ◌<◌, List, [], ◌∷◌, ◌++◌, append-nil, length, get_or, take, flat_map, All, false, true, nat_eq, sym, ◌∙◌, ap, subst, inl, inr, arith, length-append}
 use Rattle.std.proofs.lemmas.Bool.{or_cases, eqb-true}
 use Rattle.std.proofs.lemmas.List.{take_more}
 use Rattle.std.proofs.lemmas.List.Concat.{flat_map-append}
@@ -15,9 +15,6 @@ use Rattle.member_lookup.proofs.MentionFacts.{first_is}
 use Rattle.vm_tables.specs.Interfaces.{lineage, IsClosed, Gathers}
 
 module _ (p : Program) where
-  pub gathers_none : (old : List ℕ) → IsClosed p old → Gathers p [] old old
-  gathers_none old h = record { noted = refl; closed = h }
-
   gathers_append : (xs ys old mid new : List ℕ) → Gathers p xs old mid → Gathers p ys mid new → Gathers p (xs ++ ys) old new
   gathers_append xs ys old mid new v w = record {
     noted = w.noted ∙ (ap (λ ks. insert_all nat_eq ks ys) v.noted ∙ sym (insert_append old xs ys));
@@ -70,9 +67,6 @@ module _ (p : Program) where
 
     pub interfaces_there : (i : ℕ) (xs : List ℕ) → IsClass p i → xs ≡ (class_at p i).interfaces → All (λ j. IsClass p j) xs
     interfaces_there i xs h e = subst (λ ys. All (λ j. IsClass p j) ys) (sym e) (l.numbers.classes i h).interfaces
-
-  pub closed_none : (noted : List ℕ) → noted ≡ [] → IsClosed p noted
-  closed_none noted n d e m r = let none : member d [] ≡ true = subst (λ (ks : List ℕ). member d ks ≡ true) n m in absurd (cc)
 
   -- what is noted from nothing
   pub own_gathered : (c : ℕ) (xs old new : List ℕ) → xs ≡ (class_at p c).interfaces → old ≡ [] → Gathers p (flat_map (λ j. lineage p j) xs) old new → new ≡ own_interfaces p c

@@ -1,9 +1,9 @@
 -- The layout of a class begins with that of each class above it, so a field has one place.
-use Rattle.std.proofs.Common.{◌≡◌, ℕ, zero, suc, ◌+◌, ◌<◌, ◌≤◌, List, [], ◌∷◌, ◌++◌, length, get_or, set, drop, filter, take, All, Bool, true, false, not, ◌||◌, cond, nat_eq, refl, sym, ◌∙◌, ap, subst, inl, inr, arith, add-one, add-zero, Option, Some, None, get_or-set_other, get_or-set_same}
-use Rattle.std.proofs.lemmas.Bool.{cases_Bool, cases_lt, eqb-true, eqb-false, or_cases, or_left, or_right}
+use Rattle.std.proofs.Common.{◌≡◌, ℕ, zero, suc, ◌+◌, ◌<◌, ◌≤◌, List, [], ◌∷◌, ◌++◌, length, get_or, filter, take, All, Bool, true, false, not, cond, nat_eq, refl, sym, ◌∙◌, ap, subst, inl, inr, arith, Option, Some, None}
+use Rattle.std.proofs.lemmas.Bool.{cases_Bool, cases_lt, or_cases, or_left, or_right}
 use Rattle.std.proofs.lemmas.List.{get_or_past}
 use Rattle.std.proofs.lemmas.List.Elements.{All-from_get_or}
-use Rattle.std.proofs.Math.Seq.{drop-cons, take-append_seam}
+use Rattle.std.proofs.Math.Seq.{take-append_seam}
 use Rattle.jvm_model.specs.declared.program.Program.{Program}
 use Rattle.jvm_model.specs.Classes.{class_at, field_at, no_class, class_bound, is_static, member, upwards_in, plain_fields, layout_in, layout}
 use Rattle.jvm_model.specs.Linked.{IsClass, IsField, Linked}
@@ -13,21 +13,6 @@ use Rattle.member_lookup.proofs.Ancestry.{any_append, member_get}
 use Rattle.vm_tables.specs.FieldPlaces.{place, AreFieldPlaces, IsHeld, HaveEntries}
 
 -- ---- one more place is noted
-
-placed_at : (b m : Bool) (places : List ℕ) (f x i n o : ℕ) → nat_eq f x ≡ b → x < length places → get_or places f 0 ≡ cond m (i + 1 + n) o → get_or (set places x i) f 0 ≡ cond (b || m) (i + cond b 0 (suc n)) o
-placed_at true m places f x i n o e l h = rw (eqb-true f x e) (get_or-set_same places x i 0 l ∙ sym (add-zero i))
-placed_at false m places f x i n o e l h =
-    let later : i + 1 + n ≡ i + suc n = omega arith in
-    get_or-set_other places x f i 0 (eqb-false f x e) ∙ h ∙ ap (λ k. cond m k o) later
-
-pub placed_more : (fields old places : List ℕ) (i f : ℕ) → i < length fields → get_or fields i 0 < length places
-    → get_or places f 0 ≡ cond (member f (drop (i + 1) fields)) (i + 1 + place f (drop (i + 1) fields)) (get_or old f 0)
-    → get_or (set places (get_or fields i 0) i) f 0 ≡ cond (member f (drop i fields)) (i + place f (drop i fields)) (get_or old f 0)
-placed_more fields old places i f l s h =
-    let x = get_or fields i 0 in
-    let front : drop i fields ≡ x ∷ drop (i + 1) fields = rw add-one (drop-cons fields i 0 l) in
-    let here = placed_at (nat_eq f x) (member f (drop (i + 1) fields)) places f x i (place f (drop (i + 1) fields)) (get_or old f 0) refl s h in
-    subst (λ (xs : List ℕ). get_or (set places x i) f 0 ≡ cond (member f xs) (i + place f xs) (get_or old f 0)) (sym front) here
 
 -- what a write to a whole vector leaves
 pub written : (n : ℕ) (new rest : List ℕ) → length new ≡ n → take n (new ++ rest) ≡ new

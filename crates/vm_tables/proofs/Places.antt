@@ -1,7 +1,7 @@
 -- The numbers of instructions by byte place.
 use Rattle.std.proofs.Common.{inl, inr, ◌≡◌, ◌≢◌, ℕ, zero, suc, ◌<◌, ◌≤◌, ◌+◌, ◌-◌, List, [], ◌∷◌, ◌++◌, length, get_or, set, take, drop, cond, eqb, Bool, true, false, Option, Some, None, IsSome, slice_get, refl, sym, ap, ◌∙◌, arith, subst, get_or-set_other, get_or-set_same}
 use Rattle.std.proofs.lemmas.List.Elements.{All-get_or}
-use Rattle.std.proofs.lemmas.Bool.{eqb-true, eqb-false, eq-eqb, ne_eqb, cases_lt}
+use Rattle.std.proofs.lemmas.Bool.{eqb-true, eqb-false, cases_lt}
 use Rattle.std.proofs.lemmas.List.{get_or_default, take_more, length-take-le, get_or-take, get_or_append_left, get_or_past, drop_all, length_push}
 use Rattle.std.proofs.Math.Seq.{get_or-append_seam}
 use Rattle.jvm_model.specs.declared.instr.Instr.{Instr}
@@ -110,16 +110,6 @@ pub less_one_some : (n : ℕ) → 0 < n → less_one n ≡ Some (n - 1)
 less_one_some zero h = let none : ⊥ = omega arith in absurd none
 less_one_some (suc n) h = let back : suc n - 1 ≡ n = omega arith in rw back refl
 
--- The run of a code: an instruction's own place has its number, so the place after it has the next one.
-pub number_in-place : (n : ℕ) (code : List Placed) (i : ℕ) (d : Placed) → Ascends n code → i < length code → number_in code (get_or code i d).pc ≡ i + 1
-number_in-place n [] i d a l = let none : ⊥ = omega arith in absurd none
-number_in-place n (x ∷ xs) zero d a l = rw (eq-eqb x.pc x.pc refl) refl
-number_in-place n (x ∷ xs) (suc i) d a l =
-    let later : x.pc + 1 + i ≤ (get_or xs i d).pc = ascending_number (x.pc + 1) xs i d a.1 (omega arith) in
-    let apart : eqb x.pc (get_or xs i d).pc ≡ false = ne_eqb x.pc (get_or xs i d).pc (λ e. (let none : ⊥ = omega arith in none)) in
-    let next : i + 1 ≡ suc i = omega arith in
-    rw (apart, number_in-place (x.pc + 1) xs i d a.1 (omega arith), next) (let last : suc i + 1 ≡ suc (suc i) = omega arith in sym last)
-
 later_le : (b : Bool) (n k : ℕ) → n ≤ k → cond b 1 (one_later n) ≤ suc k
 later_le true n k h = omega arith
 later_le false zero k h = omega arith
@@ -152,9 +142,6 @@ place_at (x ∷ xs) (suc i) end d l = place_at xs i end d (omega arith)
 
 pub place_past : (code : List Placed) (i end : ℕ) → length code ≤ i → place_after (drop i code) end ≡ end
 place_past code i end l = ap (λ xs. place_after xs end) (drop_all i code l)
-
-pub placed_low : (b : Body) (i : ℕ) (d : Placed) → IsBody b → i < length b.code → (get_or b.code i d).pc < 65536
-placed_low b i d w l = let inside : (get_or b.code i d).pc < b.length = All-get_or (λ (y : Placed). y.pc < b.length) b.code i d l w.within in omega (arith, w.short)
 
 -- where an entry of a table leads
 abbrev next_by : Body → ℕ → ℕ → ℕ
