@@ -1,8 +1,7 @@
 //! Asks the top call about files in memory.
 
 ghost use Rattle.std.specs.Prelude.{◌≡◌, ◌<◌};
-ghost use Rattle.electrictest.specs.Commands.{Ends};
-ghost use Rattle.electrictest.specs.Words.{plain};
+ghost use Rattle.electrictest.specs.{Commands.Ends, Words.plain};
 
 use electrictest::{Status, electric_plain};
 use et_base::{Items, NoMemory, Text};

@@ -2,8 +2,7 @@
 use Rattle.std.proofs.Common.{◌≡◌, ◌⊎◌, ◌+◌, ◌-◌, ◌<◌, ◌≤◌, ◌↔◌, ℕ, Bool, true, false, List, [], ◌∷◌, ◌++◌, get_or, refl, sym, ◌∙◌, ap, subst, arith, nat_lt, inl, inr}
 use Rattle.std.proofs.lemmas.Bool.{cases_lt, lt-ltb, and_parts, and_from}
 use Rattle.jvm_model.specs.Builtin.{builtin_count}
-use Rattle.order_law.specs.Conflicts.{Member}
-use Rattle.order_law.specs.RecordForm.{numbers_ascend}
+use Rattle.order_law.specs.{Conflicts.Member, RecordForm.numbers_ascend}
 
 pub ascend_more : (xs : List ℕ) (n : ℕ) → numbers_ascend xs ≡ true → ((j : ℕ) → Member j xs → j < n) → numbers_ascend (xs ++ n ∷ []) ≡ true
 ascend_more [] n a b = refl

@@ -1,14 +1,11 @@
 -- The numbers of locations after a write and after an object was made.
 use Rattle.std.proofs.Common.{◌≡◌, ℕ, zero, suc, ◌+◌, ◌<◌, true, List, [], ◌∷◌, ◌++◌, length, get_or, set, map, refl, sym, ◌∙◌, ap, arith, nat_eq, inl, inr, Some, length-append, append_assoc}
 use Rattle.std.specs.List.{range_with_len}
-use Rattle.std.proofs.lemmas.Bool.{cases_Bool}
-use Rattle.std.proofs.lemmas.List.{length-map, append-nil}
-use Rattle.jvm_model.specs.declared.values.Location.{Location}
+use Rattle.std.proofs.lemmas.{Bool.cases_Bool, List.length-map, List.append-nil}
+use Rattle.jvm_model.specs.declared.values.{Location.Location, Value.Value}
 use Rattle.jvm_model.specs.declared.values.Location.TheVariants as place
-use Rattle.jvm_model.specs.declared.values.Value.{Value}
 use Rattle.jvm_model.specs.World.{Object, World, Content, put, put_at, keep, object_at, no_object, size, make_object}
-use Rattle.jvm_model.specs.Classes.{member}
-use Rattle.jvm_model.specs.View.{keys, Exists}
+use Rattle.jvm_model.specs.{Classes.member, View.keys, View.Exists}
 use Rattle.jvm_model.proofs.Ranges.{length_put_at}
 use Rattle.access_tags.specs.Worlds.{parts, all_parts, statics_of, states_of, cells_of, width, bases, bases_of, ChangesLaw}
 use Rattle.access_tags.proofs.Spread.{length-parts, length-statics, length-states}

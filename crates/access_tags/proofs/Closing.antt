@@ -2,18 +2,12 @@
 use Rattle.std.proofs.Common.{◌≡◌, ◌+◌, ◌<◌, ◌≤◌, ℕ, zero, suc, Bool, true, false, not, ◌||◌, ◌&&◌, List, [], ◌∷◌, ◌++◌, length, get_or, set, take, refl, sym, ◌∙◌, ap, subst, arith, nat_eq, nat_lt, nat_le, inl, inr}
 use Rattle.std.specs.List.{list_any}
 use Rattle.std.proofs.lemmas.Bool.{cases_eq, eqb-true, eq-eqb, ne_eqb, lt-ltb, le-leb, ltb-true, leb-true, and_parts, and_from, or_cases, or_right}
-use Rattle.std.proofs.lemmas.List.{length-set, get_or-set_other}
-use Rattle.std.proofs.lemmas.List.Folds.{list_any-append, list_any_more}
-use Rattle.std.proofs.lemmas.Grind.{get_or-set_at}
-use Rattle.std.proofs.Math.Bool.{or-false}
-use Rattle.jvm_model.specs.Builtin.{builtin_count}
+use Rattle.std.proofs.lemmas.{List.length-set, List.get_or-set_other, Grind.get_or-set_at}
+use Rattle.std.proofs.{lemmas.List.Folds.list_any-append, lemmas.List.Folds.list_any_more, Math.Bool.or-false}
+use Rattle.jvm_model.specs.{Builtin.builtin_count, Classes.class_at, Linked.IsGiven}
 use Rattle.jvm_model.specs.declared.program.Program.{Program}
 use Rattle.jvm_model.specs.declared.values.Kind.{Kind}
-use Rattle.jvm_model.specs.Classes.{class_at}
-use Rattle.jvm_model.specs.Linked.{IsGiven}
-use Rattle.order_law.specs.Conflicts.{Member}
-use Rattle.order_law.specs.Histories.{Touches}
-use Rattle.order_law.specs.Reach.{ReachesIn, mentioned}
+use Rattle.order_law.specs.{Conflicts.Member, Histories.Touches, Reach.ReachesIn, Reach.mentioned}
 use Rattle.access_tags.specs.Given.{is_given, AreReached}
 
 -- one class more

@@ -2,10 +2,8 @@
 use Rattle.std.proofs.Common.{◌≡◌, ℕ, zero, suc, ◌+◌, ◌-◌, ◌<◌, ◌≤◌, List, ◌++◌, flat_map, length, refl, ap, arith}
 use Rattle.std.specs.List.{range_with_len}
 use Rattle.jvm_model.specs.declared.program.Program.{Program}
-use Rattle.order_law.specs.declared.edges.Edge.{Edge}
-use Rattle.order_law.specs.declared.edges.EdgeKind.TheVariants.{Raw, Waw, War}
-use Rattle.order_law.specs.Histories.{Touches}
-use Rattle.order_law.specs.OwnRecord.{edges_between_in, edges_in}
+use Rattle.order_law.specs.declared.edges.{Edge.Edge, EdgeKind.TheVariants.Raw, EdgeKind.TheVariants.Waw, EdgeKind.TheVariants.War}
+use Rattle.order_law.specs.{Histories.Touches, OwnRecord.edges_between_in, OwnRecord.edges_in}
 use Rattle.access_tags.specs.Tag.{conflicts_found, edges_between, edges_to, RowsLaw}
 use Rattle.access_tags.proofs.Conflicts.{tags_law}
 

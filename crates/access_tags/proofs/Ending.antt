@@ -1,45 +1,29 @@
 -- What a memory with tags follows after another name came, and after another test began.
 use Rattle.std.proofs.Common.{◌≡◌, ◌⊎◌, ℕ, zero, suc, ◌+◌, ◌-◌, ◌<◌, Bool, true, false, not, ◌||◌, List, [], ◌∷◌, ◌++◌, length, get_or, slice_get, map, refl, sym, ◌∙◌, ap, subst, arith, inl, inr, Option, None, Some, Result, OnOk, length-append, append_assoc}
 use Rattle.std.specs.List.{list_all, list_any}
-use Rattle.std.proofs.Math.Bool.{or-true}
-use Rattle.std.proofs.Math.Seq.{get_or-append_seam}
-use Rattle.std.proofs.lemmas.Bool.{cases_Bool, cases_lt}
+use Rattle.std.proofs.{Math.Bool.or-true, Math.Seq.get_or-append_seam}
+use Rattle.std.proofs.lemmas.{Bool.cases_Bool, Bool.cases_lt, Result.on_ok_weaker}
 use Rattle.std.proofs.lemmas.List.{append-nil, get_or_append_left, length-map, same_from_push}
-use Rattle.std.proofs.lemmas.Result.{on_ok_weaker}
 use Rattle.std.proofs.lemmas.Option.{get_or_from_slice_get, slice_get-get_or, slice_get_within}
 use Rattle.jvm_model.specs.declared.program.Program.{Program}
-use Rattle.jvm_model.specs.declared.values.Location.{Location}
+use Rattle.jvm_model.specs.declared.values.{Location.Location, Touch.Touch, InitState.TheVariants.Idle, Kind.Kind}
 use Rattle.jvm_model.specs.declared.values.Location.TheVariants as place
-use Rattle.jvm_model.specs.declared.values.Touch.{Touch}
 use Rattle.jvm_model.specs.World.{World, Object, same, size}
 use Rattle.sim_store.specs.declared.store.Part.{Part}
 use Rattle.sim_store.specs.declared.store.Part.TheVariants as sort
 use Rattle.jvm_model.proofs.Locations.{same_true}
-use Rattle.order_law.specs.Histories.{Touches}
-use Rattle.vm_mem.specs.Stores.{place_in, put_in}
+use Rattle.order_law.specs.{Histories.Touches, Exposed.exposed}
+use Rattle.vm_mem.specs.{Stores.place_in, Stores.put_in, Kept.Kept}
 use Rattle.vm_mem.specs.Trace.{Trace, Extends, next_test, empty_trace}
-use Rattle.jvm_model.specs.declared.values.InitState.TheVariants.{Idle}
-use Rattle.jvm_model.specs.declared.values.Kind.{Kind}
-use Rattle.jvm_model.specs.Builtin.{out_field}
-use Rattle.jvm_model.specs.Suite.{opening}
-use Rattle.order_law.specs.Exposed.{exposed}
-use Rattle.access_tags.specs.HeadMarks.{touches_class}
+use Rattle.jvm_model.specs.{Builtin.out_field, Suite.opening}
+use Rattle.access_tags.specs.{HeadMarks.touches_class, HeadsStand.HeadsStand, HasDiscovered.HasDiscovered, Paths.HaveRowsWalks, Tag.places}
 use Rattle.access_tags.proofs.Following.{NotesOne, after_put, after_read}
-use Rattle.vm_mem.specs.Kept.{Kept}
-use Rattle.access_tags.specs.HeadsStand.{HeadsStand}
-use Rattle.access_tags.specs.HasDiscovered.{HasDiscovered}
-use Rattle.access_tags.specs.Paths.{HaveRowsWalks}
-use Rattle.access_tags.specs.Tag.{places}
 use Rattle.access_tags.specs.declared.ended.Ended.{Ended}
 use Rattle.access_tags.specs.declared.heads.Heads.{Heads}
 use Rattle.access_tags.specs.declared.numbers.Numbers.{Numbers}
 use Rattle.access_tags.specs.declared.rows.Row.{Row}
-use Rattle.access_tags.proofs.FirstReads.{meet_next, meet_ungiven}
-use Rattle.access_tags.proofs.FoundAll.{trace_test}
-use Rattle.access_tags.proofs.Grown.{no_tag_past}
-use Rattle.access_tags.proofs.HeadNotes.{heads_next, heads_quiet}
-use Rattle.access_tags.proofs.More.{more_names_stand}
-use Rattle.access_tags.proofs.Spread.{length-states, length-statics}
+use Rattle.access_tags.proofs.{FirstReads.meet_next, FirstReads.meet_ungiven, FoundAll.trace_test, Grown.no_tag_past}
+use Rattle.access_tags.proofs.{HeadNotes.heads_next, HeadNotes.heads_quiet, More.more_names_stand, Spread.length-states, Spread.length-statics}
 use Rattle.access_tags.specs.declared.conflict.LocationKey.TheVariants as spot
 use Rattle.access_tags.specs.declared.memory.TaggedMemory.{TaggedMemory}
 use Rattle.access_tags.specs.declared.tags.Tags.{Tags}
@@ -47,9 +31,7 @@ use Rattle.access_tags.specs.Followed.{Follows, HaveSameRoom, IsEnded, IsNamed, 
 use Rattle.access_tags.specs.Numbering.{Numbering, IsAt, IsPlaced, is_named, located, position, with_cells, with_names}
 use Rattle.access_tags.specs.Ran.{size_after, size_in, trace_to, touched_by}
 use Rattle.access_tags.specs.Rows.{edges_at, shown_by, with_places}
-use Rattle.access_tags.specs.AccessLogs.{touched_in}
-use Rattle.access_tags.specs.Shelf.{count, tag_in}
-use Rattle.access_tags.specs.Stands.{Stands}
+use Rattle.access_tags.specs.{AccessLogs.touched_in, Shelf.count, Shelf.tag_in, Stands.Stands}
 use Rattle.access_tags.specs.Worlds.{bases, cells_of, states_of, statics_of, width}
 use Rattle.access_tags.proofs.Marks.{same_self}
 

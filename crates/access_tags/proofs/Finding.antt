@@ -6,18 +6,12 @@ use Rattle.jvm_model.specs.declared.program.Program.{Program}
 use Rattle.jvm_model.specs.declared.values.Location.{Location}
 use Rattle.order_law.specs.declared.edges.Edge.{Edge}
 use Rattle.order_law.specs.declared.records.Shown.{Shown}
-use Rattle.order_law.specs.Histories.{Touches}
-use Rattle.order_law.specs.RecordForm.{is_place_text}
+use Rattle.order_law.specs.{Histories.Touches, RecordForm.is_place_text, Pairing.PairedList, Walk.IsShownIn}
 use Rattle.std.proofs.lemmas.List.Folds.{list_all-append}
-use Rattle.order_law.specs.Pairing.{PairedList}
-use Rattle.order_law.specs.Walk.{IsShownIn}
 use Rattle.order_law.proofs.Pairs.{list-append}
 use Rattle.access_tags.specs.declared.ended.Ended.{Ended}
-use Rattle.access_tags.specs.Followed.{IsEnded}
-use Rattle.access_tags.specs.AreNames.{AreNames}
+use Rattle.access_tags.specs.{Followed.IsEnded, AreNames.AreNames, Places.shown_rows, Ran.HaveWalks}
 use Rattle.access_tags.specs.FoundIn.{added, are_printed, edges_up_to}
-use Rattle.access_tags.specs.Places.{shown_rows}
-use Rattle.access_tags.specs.Ran.{HaveWalks}
 use Rattle.access_tags.specs.Rows.{edge_by, shown_by, with_places, edges_at}
 use Rattle.access_tags.proofs.Placed.{test_edges, test_shown}
 

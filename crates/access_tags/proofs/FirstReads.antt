@@ -2,11 +2,8 @@
 use Rattle.std.proofs.Common.{◌≡◌, ◌<◌, ◌≤◌, ℕ, suc, true, false, cond, List, [], ◌∷◌, ◌++◌, length, get_or, set, refl, sym, ◌∙◌, ap, arith, nat_eq, inl, inr, Option, Some, None, is_some, option_map}
 use Rattle.std.specs.Option.{option_or}
 use Rattle.std.proofs.lemmas.Bool.{cases_Bool, cases_eq, eqb-true, eq-eqb, ne_eqb}
-use Rattle.std.proofs.lemmas.List.{get_or-set_other, get_or_past}
-use Rattle.std.proofs.lemmas.Grind.{get_or-set_at}
-use Rattle.jvm_model.specs.declared.values.Location.{Location}
-use Rattle.jvm_model.specs.declared.values.Value.{Value}
-use Rattle.jvm_model.specs.declared.values.Touch.{Touch}
+use Rattle.std.proofs.lemmas.{List.get_or-set_other, List.get_or_past, Grind.get_or-set_at}
+use Rattle.jvm_model.specs.declared.values.{Location.Location, Value.Value, Touch.Touch}
 use Rattle.jvm_model.specs.World.{Object}
 use Rattle.jvm_model.specs.Access.{made, fields_made, elems_made, text_made}
 use Rattle.order_law.specs.Walk.{gives, first_giving}

@@ -3,25 +3,18 @@ use Rattle.std.proofs.Common.{◌≡◌, ℕ, suc, ◌+◌, ◌-◌, ◌<◌, Bo
 use Rattle.std.proofs.Math.Seq.{get_or-append_seam}
 use Rattle.std.proofs.lemmas.Bool.{cases_eq, cases_lt}
 use Rattle.std.proofs.lemmas.List.{length-map, get_or_append_left, get_or-set_same, get_or-set_other}
-use Rattle.jvm_model.specs.declared.values.Head.{Head}
-use Rattle.jvm_model.specs.declared.values.Kind.{Kind}
+use Rattle.jvm_model.specs.declared.values.{Head.Head, Kind.Kind, Location.Location, Touch.Touch, InitState.TheVariants.Idle, Value.Value}
 use Rattle.jvm_model.specs.declared.values.Kind.TheVariants as kind
-use Rattle.jvm_model.specs.declared.values.Location.{Location}
 use Rattle.jvm_model.specs.declared.values.Location.TheVariants as place
-use Rattle.jvm_model.specs.declared.values.Touch.{Touch}
-use Rattle.jvm_model.specs.declared.values.InitState.TheVariants.{Idle}
-use Rattle.jvm_model.specs.declared.values.Value.{Value}
 use Rattle.jvm_model.specs.declared.values.Value.TheVariants.{Null}
 use Rattle.jvm_model.specs.declared.program.Program.{Program}
 use Rattle.jvm_model.specs.Access.{elems_made, fields_made, made, text_made, write_of}
 use Rattle.jvm_model.specs.Classes.{blank, elems_of, fields_of, member}
 use Rattle.jvm_model.specs.View.{Exists, keys}
 use Rattle.jvm_model.specs.World.{World, Object, Content, at, put, put_at, keep, size, object_at, no_object, make_object}
-use Rattle.jvm_model.proofs.Locations.{size_put}
-use Rattle.jvm_model.proofs.Ranges.{length_put_at}
+use Rattle.jvm_model.proofs.{Locations.size_put, Ranges.length_put_at}
 use Rattle.order_law.specs.Histories.{Touches}
-use Rattle.vm_mem.specs.Kept.{Kept}
-use Rattle.vm_mem.specs.Trace.{Trace, Extends}
+use Rattle.vm_mem.specs.{Kept.Kept, Trace.Trace, Trace.Extends}
 use Rattle.access_tags.specs.declared.ended.Ended.{Ended}
 use Rattle.access_tags.specs.declared.heads.Heads.{Heads}
 use Rattle.access_tags.specs.declared.conflict.LocationKey.{LocationKey}
@@ -32,16 +25,10 @@ use Rattle.access_tags.specs.declared.tags.Tags.{Tags}
 use Rattle.access_tags.specs.Followed.{AreKinds, Follows, HasNoted, HaveNoted, HaveSameRoom, IsEnded, IsLaid, IsNumbered, numbering, numbering_in, keeps_walks}
 use Rattle.access_tags.specs.Numbering.{Numbering, is_name, located, with_cells}
 use Rattle.access_tags.specs.Ran.{size_after, size_in, touched_by, with_head}
-use Rattle.access_tags.specs.HeadMarks.{IsKindAt}
-use Rattle.access_tags.specs.HeadsStand.{HeadsStand}
-use Rattle.access_tags.specs.HasDiscovered.{HasDiscovered}
-use Rattle.access_tags.proofs.FirstReads.{meet_made}
-use Rattle.access_tags.proofs.HeadNotes.{heads_made}
-use Rattle.access_tags.specs.Shelf.{count}
-use Rattle.access_tags.specs.Stands.{Stands}
+use Rattle.access_tags.specs.{HeadMarks.IsKindAt, HeadsStand.HeadsStand, HasDiscovered.HasDiscovered, Shelf.count, Stands.Stands}
+use Rattle.access_tags.proofs.{FirstReads.meet_made, HeadNotes.heads_made, Spread.length-parts}
 use Rattle.access_tags.specs.Worlds.{cells_of, bases_of, parts, width}
 use Rattle.access_tags.proofs.Changes.{keys_kept, made_bases, made_cells, put_bases, put_cells}
-use Rattle.access_tags.proofs.Spread.{length-parts}
 
 -- how many objects there are after touches
 pub size_append : (n : ℕ) (ts xs : List Touch) → size_after n (ts ++ xs) ≡ size_after (size_after n ts) xs

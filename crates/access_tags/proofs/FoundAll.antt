@@ -1,27 +1,20 @@
 -- What is kept of a run of a program's tests gives all that is found.
 use Rattle.std.proofs.Common.{◌≡◌, ◌+◌, ◌<◌, ◌≤◌, ℕ, zero, suc, Bool, false, not, ◌||◌, List, [], ◌∷◌, ◌++◌, length, get_or, map, slice_get, refl, sym, ◌∙◌, ap, subst, arith, Some}
 use Rattle.std.specs.List.{list_all}
-use Rattle.jvm_model.specs.Builtin.{out_field}
-use Rattle.jvm_model.specs.World.{same}
+use Rattle.jvm_model.specs.{Builtin.out_field, World.same}
 use Rattle.jvm_model.specs.declared.program.Program.{Program}
-use Rattle.jvm_model.specs.declared.values.Location.{Location}
+use Rattle.jvm_model.specs.declared.values.{Location.Location, Touch.Touch}
 use Rattle.jvm_model.specs.declared.values.Location.TheVariants as place
-use Rattle.jvm_model.specs.declared.values.Touch.{Touch}
 use Rattle.order_law.specs.declared.edges.Edge.{Edge}
 use Rattle.order_law.specs.declared.records.Shown.{Shown}
-use Rattle.order_law.specs.Exposed.{exposed}
-use Rattle.order_law.specs.Histories.{Touches}
-use Rattle.order_law.specs.OwnRecord.{edges_in, owner_in}
-use Rattle.order_law.specs.Pairing.{PairedList}
-use Rattle.order_law.specs.Walk.{IsShownIn}
+use Rattle.order_law.specs.{Exposed.exposed, Histories.Touches, OwnRecord.edges_in, OwnRecord.owner_in, Pairing.PairedList, Walk.IsShownIn}
 use Rattle.vm_mem.specs.Trace.{Trace}
 use Rattle.access_tags.specs.declared.ended.Ended.{Ended}
 use Rattle.access_tags.specs.declared.memory.TaggedMemory.{TaggedMemory}
 use Rattle.access_tags.specs.Followed.{IsEnded, IsTold, Follows, keeps_walks}
 use Rattle.access_tags.specs.FoundIn.{AreEnded, added, edges_up_to}
 use Rattle.access_tags.specs.Ran.{trace_to, touched_by, size_in, owner_by}
-use Rattle.access_tags.specs.Settled.{reads_out_alone}
-use Rattle.access_tags.specs.Tag.{places}
+use Rattle.access_tags.specs.{Settled.reads_out_alone, Tag.places}
 
 pub trace_test : (T : Touches) (t : ℕ) → (trace_to T t).test ≡ t
 trace_test T zero = refl

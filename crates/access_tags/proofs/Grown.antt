@@ -2,13 +2,10 @@
 use Rattle.std.proofs.Common.{◌≡◌, ℕ, [], zero, suc, ◌≤◌, List, ◌∷◌, ◌++◌, length, get_or, replicate, reverse, refl, ◌∙◌, ap, arith, length-append}
 use Rattle.std.proofs.lemmas.List.{length-replicate, get_or_past}
 use Rattle.jvm_model.proofs.Ranges.{default_in}
-use Rattle.access_tags.specs.declared.mark.Mark.{Mark}
-use Rattle.access_tags.specs.declared.mark.Past.{Past}
-use Rattle.access_tags.specs.declared.mark.Reader.{Reader}
+use Rattle.access_tags.specs.declared.mark.{Mark.Mark, Past.Past, Reader.Reader}
 use Rattle.access_tags.specs.Tag.{no_mark, no_tag}
 use Rattle.access_tags.specs.Cells.{chain, look, no_past, AreCells}
-use Rattle.access_tags.proofs.Settle.{same_tag}
-use Rattle.access_tags.proofs.Chains.{chain_end}
+use Rattle.access_tags.proofs.{Settle.same_tag, Chains.chain_end}
 
 -- defaults at the end change no place
 pub get_or-defaults : {A : Type 0} (xs : List A) (n i : ℕ) (d : A) → get_or (xs ++ replicate n d) i d ≡ get_or xs i d

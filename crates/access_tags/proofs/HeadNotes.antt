@@ -1,20 +1,13 @@
 -- The marks of heads after one more touch, after touches of no head, and when the next test begins.
 use Rattle.std.proofs.Common.{◌≡◌, ◌⊎◌, ◌+◌, ◌*◌, ◌<◌, ℕ, suc, Bool, true, false, ◌||◌, ◌&&◌, cond, List, [], ◌∷◌, ◌++◌, length, get_or, set, refl, sym, ◌∙◌, ap, subst, arith, nat_eq, nat_lt, inl, inr, Option, Some, None}
 use Rattle.std.proofs.lemmas.Bool.{cases_Bool, cases_eq, cases_order, eqb-true, eq-eqb, ne_eqb, lt-ltb, le-ltb}
-use Rattle.std.proofs.lemmas.List.{append_assoc, get_or-set_other}
-use Rattle.std.proofs.lemmas.List.Folds.{list_any-append}
-use Rattle.std.proofs.lemmas.Grind.{get_or-set_at}
-use Rattle.std.proofs.Math.Bool.{or-false, or-true}
-use Rattle.std.proofs.Math.Nat.{mul_comm}
-use Rattle.std.proofs.lemmas.Nat.{mul-add-lt}
-use Rattle.jvm_model.specs.declared.values.Kind.{Kind}
+use Rattle.std.proofs.lemmas.{List.append_assoc, List.get_or-set_other, Grind.get_or-set_at, Nat.mul-add-lt}
+use Rattle.std.proofs.{lemmas.List.Folds.list_any-append, Math.Bool.or-false, Math.Bool.or-true, Math.Nat.mul_comm}
+use Rattle.jvm_model.specs.declared.values.{Kind.Kind, Value.Value, Touch.Touch}
 use Rattle.jvm_model.specs.declared.values.Location.TheVariants as place
-use Rattle.jvm_model.specs.declared.values.Value.{Value}
-use Rattle.jvm_model.specs.declared.values.Touch.{Touch}
 use Rattle.jvm_model.specs.World.{Object}
 use Rattle.jvm_model.specs.Access.{write_of, made, fields_made, elems_made, text_made}
-use Rattle.order_law.specs.Histories.{Touches}
-use Rattle.order_law.specs.Reach.{inner_class}
+use Rattle.order_law.specs.{Histories.Touches, Reach.inner_class}
 use Rattle.access_tags.specs.HeadMarks.{is_class, is_head_of, touches_class, touches_so_far, is_marked, AreMarked}
 
 so_far_next : (T : Touches) (t : ℕ) (ts : List Touch) (u : ℕ) → T t ≡ ts → touches_so_far T (suc t) [] u ≡ touches_so_far T t ts u

@@ -1,7 +1,6 @@
 -- The maker of an object, one test at a time.
 use Rattle.std.proofs.Common.{◌≡◌, ℕ, suc, ◌+◌, ◌-◌, ◌<◌, ◌≤◌, List, ◌∷◌, length, get_or, drop, refl, ◌∙◌, ap, arith, drop-cons}
-use Rattle.std.proofs.lemmas.Bool.{lt-ltb, le-ltb}
-use Rattle.std.proofs.lemmas.List.{drop_all}
+use Rattle.std.proofs.lemmas.{Bool.lt-ltb, Bool.le-ltb, List.drop_all}
 use Rattle.jvm_model.specs.Texts.{maker}
 
 step : (xs : List ℕ) (i d : ℕ) → i < length xs → drop i xs ≡ get_or xs i d ∷ drop (i + 1) xs

@@ -1,15 +1,12 @@
 -- What one more touch changes.
 use Rattle.std.proofs.Common.{◌≡◌, Bool, true, false, not, ◌&&◌, ◌||◌, cond, List, [], ◌∷◌, ◌++◌, map, filter, refl, sym, ◌∙◌, ap, subst, inl, inr}
 use Rattle.std.specs.List.{list_any}
-use Rattle.std.proofs.lemmas.Bool.{cases_Bool}
+use Rattle.std.proofs.lemmas.{Bool.cases_Bool, List.map-append}
 use Rattle.std.proofs.lemmas.List.Elements.{filter-append}
-use Rattle.std.proofs.lemmas.List.{map-append}
-use Rattle.jvm_model.specs.declared.values.Touch.{Touch}
-use Rattle.jvm_model.specs.declared.values.Location.{Location}
+use Rattle.jvm_model.specs.declared.values.{Touch.Touch, Location.Location}
 use Rattle.jvm_model.specs.World.{same}
 use Rattle.jvm_model.proofs.Locations.{same_true, same_refl}
-use Rattle.order_law.specs.Exposed.{written, exposed}
-use Rattle.order_law.specs.OwnRecord.{first_places}
+use Rattle.order_law.specs.{Exposed.written, Exposed.exposed, OwnRecord.first_places}
 use Rattle.access_tags.specs.Tag.{mark, marked, is_new, places}
 
 written_bool : (a b w c : Bool) → cond a (b || (w || c)) (w || c) ≡ cond a (b || w) w || c

@@ -1,23 +1,17 @@
 -- What is kept stands for the touches after more locations came.
 use Rattle.std.proofs.Common.{◌≡◌, ℕ, suc, ◌<◌, ◌≤◌, Bool, true, false, ◌||◌, cond, List, [], ◌∷◌, ◌++◌, length, get_or, refl, sym, ◌∙◌, ap, subst, arith, inl, inr}
 use Rattle.std.specs.List.{list_any}
-use Rattle.std.proofs.lemmas.Bool.{cases_Bool, cases_lt}
-use Rattle.std.proofs.lemmas.List.{get_or_past, get_or_append_left}
+use Rattle.std.proofs.lemmas.{Bool.cases_Bool, Bool.cases_lt, List.get_or_past, List.get_or_append_left}
 use Rattle.std.proofs.lemmas.List.Folds.{list_any-append}
-use Rattle.jvm_model.specs.declared.values.Location.{Location}
+use Rattle.jvm_model.specs.declared.values.{Location.Location, Touch.Touch}
 use Rattle.jvm_model.specs.declared.values.Location.TheVariants as place
-use Rattle.jvm_model.specs.declared.values.Touch.{Touch}
 use Rattle.jvm_model.specs.World.{same}
 use Rattle.order_law.specs.Histories.{Touches}
-use Rattle.access_tags.specs.declared.conflict.LocationKey.{LocationKey}
+use Rattle.access_tags.specs.declared.conflict.{LocationKey.LocationKey, Touched.Touched}
 use Rattle.access_tags.specs.declared.conflict.LocationKey.TheVariants as spot
-use Rattle.access_tags.specs.declared.conflict.Touched.{Touched}
-use Rattle.access_tags.specs.Tag.{Tag, no_tag}
+use Rattle.access_tags.specs.{Tag.Tag, Tag.no_tag, Stands.StandFor, Shelf.count, Within.AreWithin}
 use Rattle.access_tags.specs.Numbering.{Numbering, with_cells, with_names, located, is_name, is_named, position, IsAt, IsPlaced, ArePlaced, locations}
-use Rattle.access_tags.specs.Stands.{StandFor}
 use Rattle.access_tags.specs.declared.cells.Cells.{Cells}
-use Rattle.access_tags.specs.Shelf.{count}
-use Rattle.access_tags.specs.Within.{AreWithin}
 
 pub within_more : (xs : List Touched) (c c' d d' : Cells) → count c ≤ count c' → count d ≤ count d' → AreWithin c d xs → AreWithin c' d' xs
 within_more xs c c' d d' h k f i e l = by_sort (is_name (get_or xs i e).spot) (f i e l)

@@ -2,19 +2,15 @@
 use Rattle.std.proofs.Common.{◌≡◌, ℕ, Bool, true, false, not, ◌||◌, ◌&&◌, List, [], ◌∷◌, refl, sym, ◌∙◌, ap, inl, inr}
 use Rattle.std.specs.List.{list_all}
 use Rattle.std.proofs.lemmas.Bool.{cases_Bool}
-use Rattle.jvm_model.specs.declared.values.Location.{Location}
+use Rattle.jvm_model.specs.declared.values.{Location.Location, Touch.Touch}
 use Rattle.jvm_model.specs.declared.values.Location.TheVariants as place
-use Rattle.jvm_model.specs.declared.values.Touch.{Touch}
 use Rattle.jvm_model.specs.World.{same}
 use Rattle.jvm_model.proofs.Locations.{same_true}
-use Rattle.order_law.specs.Exposed.{exposed}
-use Rattle.order_law.specs.Histories.{Touches}
-use Rattle.access_tags.specs.declared.conflict.LocationKey.{LocationKey}
+use Rattle.order_law.specs.{Exposed.exposed, Histories.Touches}
+use Rattle.access_tags.specs.declared.conflict.{LocationKey.LocationKey, Touched.Touched}
 use Rattle.access_tags.specs.declared.conflict.LocationKey.TheVariants as spot
-use Rattle.access_tags.specs.declared.conflict.Touched.{Touched}
-use Rattle.access_tags.specs.Tag.{Tag, places}
+use Rattle.access_tags.specs.{Tag.Tag, Tag.places, Stands.StandFor}
 use Rattle.access_tags.specs.Numbering.{Numbering, located, is_name, is_named, is_static, IsPlaced, ArePlaced, locations, tag_at}
-use Rattle.access_tags.specs.Stands.{StandFor}
 use Rattle.access_tags.proofs.Numbered.{tag_there}
 
 named_static : (L : Location) (f : ℕ) → is_named L ≡ true → same L (place.Static f) ≡ false

@@ -1,19 +1,13 @@
 -- Touches of the parts of a world, noted at their numbers.
 use Rattle.std.proofs.Common.{◌≡◌, ℕ, zero, suc, ◌+◌, ◌<◌, true, false, cond, List, [], ◌∷◌, ◌++◌, length, get_or, nat_eq, take, map, Option, None, refl, sym, ◌∙◌, ap, subst, arith, append_assoc}
 use Rattle.std.specs.List.{list_any}
-use Rattle.std.proofs.Math.Bool.{or-true}
-use Rattle.std.proofs.Math.ListN.{get_or-map}
-use Rattle.std.proofs.Math.Seq.{take-length}
+use Rattle.std.proofs.{Math.Bool.or-true, Math.ListN.get_or-map, Math.Seq.take-length}
 use Rattle.std.proofs.lemmas.Bool.{eq-eqb}
 use Rattle.std.proofs.lemmas.List.{append-nil, length-map, length-take-le, take_more}
 use Rattle.jvm_model.specs.declared.program.Program.{Program}
-use Rattle.jvm_model.specs.declared.values.Head.{Head}
-use Rattle.jvm_model.specs.declared.values.Kind.{Kind}
+use Rattle.jvm_model.specs.declared.values.{Head.Head, Kind.Kind, Location.Location, Touch.Touch, Value.Value}
 use Rattle.jvm_model.specs.declared.values.Kind.TheVariants as kind
-use Rattle.jvm_model.specs.declared.values.Location.{Location}
 use Rattle.jvm_model.specs.declared.values.Location.TheVariants as place
-use Rattle.jvm_model.specs.declared.values.Touch.{Touch}
-use Rattle.jvm_model.specs.declared.values.Value.{Value}
 use Rattle.jvm_model.specs.Access.{elems_made, fields_made, made, text_made, write_of}
 use Rattle.jvm_model.specs.Classes.{blank, default_of, elems_of, field_at, fields_of, layout, member}
 use Rattle.jvm_model.specs.View.{Exists, keys}
@@ -25,8 +19,7 @@ use Rattle.access_tags.specs.declared.tags.Tags.{Tags}
 use Rattle.vm_tables.specs.FieldPlaces.{place as place_of_field}
 use Rattle.access_tags.specs.Followed.{HaveNoted, IsNumbered, numbering_in}
 use Rattle.access_tags.specs.Numbering.{Numbering, IsAt, IsPlaced, is_name, is_named, located, position}
-use Rattle.access_tags.specs.Stands.{Stands}
-use Rattle.access_tags.specs.Worlds.{cells_of, number_in}
+use Rattle.access_tags.specs.{Stands.Stands, Worlds.cells_of, Worlds.number_in}
 use Rattle.access_tags.proofs.Spread.{numbers_law}
 
 -- a spot that is no name is a location whatever the names

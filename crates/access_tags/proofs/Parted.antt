@@ -8,23 +8,16 @@ use Rattle.std.proofs.lemmas.List.Folds.{list_any-append}
 use Rattle.jvm_model.specs.declared.values.Location.{Location}
 use Rattle.jvm_model.specs.World.{same}
 use Rattle.jvm_model.proofs.Locations.{same_true}
-use Rattle.access_tags.specs.declared.conflict.Conflict.{Conflict}
-use Rattle.access_tags.specs.declared.conflict.LocationKey.{LocationKey}
-use Rattle.access_tags.specs.declared.conflict.Touched.{Touched}
+use Rattle.access_tags.specs.declared.conflict.{Conflict.Conflict, LocationKey.LocationKey, Touched.Touched}
 use Rattle.access_tags.specs.declared.interval.Interval.{Interval}
-use Rattle.access_tags.specs.declared.mark.Mark.{Mark}
-use Rattle.access_tags.specs.declared.mark.Past.{Past}
-use Rattle.access_tags.specs.declared.mark.Reader.{Reader}
+use Rattle.access_tags.specs.declared.mark.{Mark.Mark, Past.Past, Reader.Reader}
 use Rattle.access_tags.specs.declared.table.Table.{Table}
 use Rattle.access_tags.specs.Tag.{Tag, conflicts_at, ended}
 use Rattle.access_tags.specs.Cells.{Apart, chain, tag_by}
-use Rattle.access_tags.specs.Counted.{Counts, HaveCounted}
-use Rattle.access_tags.specs.HaveEnded.{HaveEnded}
+use Rattle.access_tags.specs.{Counted.Counts, Counted.HaveCounted, HaveEnded.HaveEnded}
 use Rattle.access_tags.specs.Numbering.{Numbering, located, is_name, view, ArePlaced, locations, is_at}
 use Rattle.access_tags.specs.Intervals.{part_at, parts_to, parts_of, parts}
-use Rattle.access_tags.proofs.Chains.{chain_end}
-use Rattle.access_tags.proofs.Numbered.{changed, any_location}
-use Rattle.access_tags.proofs.Spanned.{to_more, parts_more}
+use Rattle.access_tags.proofs.{Chains.chain_end, Numbered.changed, Numbered.any_location, Spanned.to_more, Spanned.parts_more}
 
 -- two lists, one after the other
 placed_left : (n : Numbering) (xs ys : List Touched) → ArePlaced n (xs ++ ys) → ArePlaced n xs

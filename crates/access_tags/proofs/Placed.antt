@@ -3,27 +3,21 @@ use Rattle.std.proofs.Common.{◌≡◌, ◌+◌, ◌-◌, ◌<◌, ◌≤◌, �
 use Rattle.std.specs.List.{range_with_len}
 use Rattle.std.proofs.lemmas.List.{append_assoc, map-append, take_all}
 use Rattle.jvm_model.specs.declared.program.Program.{Program}
-use Rattle.jvm_model.specs.declared.values.Location.{Location}
+use Rattle.jvm_model.specs.declared.values.{Location.Location, Touch.Touch}
 use Rattle.jvm_model.specs.declared.values.Location.TheVariants as place
-use Rattle.jvm_model.specs.declared.values.Touch.{Touch}
 use Rattle.jvm_model.specs.World.{place_of}
-use Rattle.order_law.specs.declared.edges.Edge.{Edge}
-use Rattle.order_law.specs.declared.edges.EdgeKind.{EdgeKind}
-use Rattle.order_law.specs.declared.edges.EdgeKind.TheVariants.{Raw, Waw, War}
-use Rattle.order_law.specs.Conflicts.{Member}
-use Rattle.order_law.specs.Histories.{Touches, IsTestNumber}
+use Rattle.order_law.specs.declared.edges.{Edge.Edge, EdgeKind.EdgeKind, EdgeKind.TheVariants.Raw, EdgeKind.TheVariants.Waw, EdgeKind.TheVariants.War}
+use Rattle.order_law.specs.{Conflicts.Member, Histories.Touches, Histories.IsTestNumber}
 use Rattle.order_law.specs.OwnRecord.{conflict_places_in, edge_of, edges_between_in}
 use Rattle.order_law.specs.Pairing.{PairedList, no_more, one_more}
 use Rattle.order_law.specs.Walk.{Walk, IsPlaceIn, IsShownIn, IsWalkText, read_text}
-use Rattle.order_law.proofs.Members.{member_either, member_flat_map}
-use Rattle.order_law.proofs.OwnRecord.{range_within}
+use Rattle.order_law.proofs.{Members.member_either, Members.member_flat_map, OwnRecord.range_within}
 use Rattle.access_tags.specs.declared.conflict.LocationKey.{LocationKey}
 use Rattle.access_tags.specs.declared.conflict.LocationKey.TheVariants as spot
 use Rattle.access_tags.specs.declared.rows.Row.{Row}
-use Rattle.access_tags.specs.Numbering.{located}
+use Rattle.access_tags.specs.{Numbering.located, Ran.HaveWalks}
 use Rattle.access_tags.specs.Paths.{object_of, IsWalkOf, HaveRowsWalks}
 use Rattle.access_tags.specs.Places.{zipped, place_by, places_by, shown_rows}
-use Rattle.access_tags.specs.Ran.{HaveWalks}
 use Rattle.access_tags.specs.Rows.{edge_by, shown_by, with_places, edges_at}
 use Rattle.access_tags.proofs.Shows.{take_more, walk_shown}
 

@@ -2,21 +2,12 @@
 use Rattle.std.proofs.Common.{◌≡◌, ◌↔◌, ◌+◌, ◌-◌, ◌<◌, ℕ, Bool, true, false, not, ◌||◌, ◌&&◌, List, [], ◌∷◌, map, filter, length, refl, sym, ◌∙◌, ap, subst, nat_eq, inl, inr, Option, Some, None}
 use Rattle.std.proofs.lemmas.Bool.{cases_Bool, eqb-true, eq-eqb, and_parts, and_from, or_cases, or_left, or_right}
 use Rattle.jvm_model.specs.declared.program.Program.{Program}
-use Rattle.jvm_model.specs.declared.values.Kind.{Kind}
-use Rattle.jvm_model.specs.declared.values.Location.{Location}
+use Rattle.jvm_model.specs.declared.values.{Kind.Kind, Location.Location, Touch.Touch}
 use Rattle.jvm_model.specs.declared.values.Location.TheVariants as place
-use Rattle.jvm_model.specs.declared.values.Touch.{Touch}
-use Rattle.jvm_model.specs.Builtin.{builtin_count}
-use Rattle.jvm_model.specs.Classes.{class_at}
-use Rattle.jvm_model.specs.Linked.{IsGiven}
-use Rattle.jvm_model.specs.State.{test_at}
-use Rattle.jvm_model.specs.World.{same}
+use Rattle.jvm_model.specs.{Builtin.builtin_count, Classes.class_at, Linked.IsGiven, State.test_at, World.same}
 use Rattle.jvm_model.proofs.Locations.{same_true}
-use Rattle.order_law.specs.Conflicts.{Member}
-use Rattle.order_law.specs.Histories.{Touches}
-use Rattle.order_law.specs.OwnRecord.{first_places}
+use Rattle.order_law.specs.{Conflicts.Member, Histories.Touches, OwnRecord.first_places, RecordForm.numbers_ascend}
 use Rattle.order_law.specs.Reach.{inner_class, ReachesIn, own, touched, mentioned, is_settled_in, IsReachIn}
-use Rattle.order_law.specs.RecordForm.{numbers_ascend}
 use Rattle.access_tags.specs.Given.{is_given}
 use Rattle.access_tags.specs.HeadMarks.{is_class, is_head_of, touches_class, is_marked}
 use Rattle.access_tags.proofs.Closing.{given_at, is_given_at}

@@ -3,9 +3,7 @@ use Rattle.std.proofs.Common.{◌≡◌, ℕ, zero, suc, ◌+◌, ◌^◌, ◌<�
 use Rattle.std.proofs.lemmas.Bool.{cases_Bool, cases_eq, eqb-true, eqb-false}
 use Rattle.std.proofs.lemmas.List.{get_or-set_other, length-set, length-reverse, reverse-append, length-append}
 use Rattle.std.proofs.lemmas.Grind.{get_or-set_at}
-use Rattle.access_tags.specs.declared.mark.Mark.{Mark}
-use Rattle.access_tags.specs.declared.mark.Past.{Past}
-use Rattle.access_tags.specs.declared.mark.Reader.{Reader}
+use Rattle.access_tags.specs.declared.mark.{Mark.Mark, Past.Past, Reader.Reader}
 use Rattle.access_tags.specs.Tag.{Tag, ended, marked, noted, no_mark}
 use Rattle.access_tags.specs.Cells.{chain, look, no_past, no_reader, AreDown, AreCells}
 use Rattle.access_tags.proofs.Chains.{chain_lower, chain_top, chain_end}

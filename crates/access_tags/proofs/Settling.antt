@@ -6,9 +6,7 @@ use Rattle.jvm_model.specs.declared.values.Kind.{Kind}
 use Rattle.order_law.specs.declared.records.Reach.{Reach}
 use Rattle.order_law.specs.Histories.{Touches}
 use Rattle.order_law.specs.Reach.{is_settled_in, IsReachIn, puts_out_somewhere}
-use Rattle.access_tags.specs.HeadMarks.{touches_so_far}
-use Rattle.access_tags.specs.Ran.{touched_by}
-use Rattle.access_tags.specs.Settled.{AreReaches, reads_out_alone}
+use Rattle.access_tags.specs.{HeadMarks.touches_so_far, Ran.touched_by, Settled.AreReaches, Settled.reads_out_alone}
 
 pub settled_is : (p : Program) (S : Touches) (t : ℕ) (a q : Bool) → a ≡ reads_out_alone S t → q ≡ puts_out_somewhere p → (a && not q) ≡ is_settled_in p S t
 unfolding is_settled_in

@@ -3,15 +3,12 @@ use Rattle.std.proofs.Common.{◌≡◌, ℕ, zero, suc, ◌+◌, ◌-◌, ◌<�
 use Rattle.std.specs.List.{range_with_len}
 use Rattle.std.proofs.lemmas.Bool.{cases_Bool}
 use Rattle.std.proofs.lemmas.List.{length-map, map-append, take-map}
-use Rattle.jvm_model.specs.declared.values.Location.{Location}
-use Rattle.jvm_model.specs.declared.values.Touch.{Touch}
+use Rattle.jvm_model.specs.declared.values.{Location.Location, Touch.Touch}
 use Rattle.jvm_model.specs.declared.program.Program.{Program}
-use Rattle.order_law.specs.declared.edges.EdgeKind.{EdgeKind}
-use Rattle.order_law.specs.declared.edges.EdgeKind.TheVariants.{Raw, Waw, War}
+use Rattle.order_law.specs.declared.edges.{EdgeKind.EdgeKind, EdgeKind.TheVariants.Raw, EdgeKind.TheVariants.Waw, EdgeKind.TheVariants.War}
 use Rattle.order_law.specs.Histories.{Touches}
 use Rattle.order_law.specs.OwnRecord.{conflict_places_in, edge_of, edges_between_in}
-use Rattle.access_tags.specs.declared.conflict.Conflict.{Conflict}
-use Rattle.access_tags.specs.declared.conflict.LocationKey.{LocationKey}
+use Rattle.access_tags.specs.declared.conflict.{Conflict.Conflict, LocationKey.LocationKey}
 use Rattle.access_tags.specs.Tag.{found, is_conflict, conflicts_found}
 use Rattle.access_tags.specs.Numbering.{Numbering, located, at_location}
 use Rattle.access_tags.specs.Rows.{row_of, rows_between, rows_to, shown_by, with_places, edges_at}

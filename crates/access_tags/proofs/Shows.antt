@@ -6,9 +6,7 @@ use Rattle.jvm_model.specs.declared.values.Touch.{Touch}
 use Rattle.order_law.specs.Pairing.{PairedList, no_more, one_more}
 use Rattle.order_law.specs.Walk.{Walk, IsWalkText, read_text}
 use Rattle.access_tags.specs.declared.conflict.LocationKey.{LocationKey}
-use Rattle.access_tags.specs.ParentEdges.{location_of}
-use Rattle.access_tags.specs.Numbering.{located}
-use Rattle.access_tags.specs.Paths.{IsWalkTo}
+use Rattle.access_tags.specs.{ParentEdges.location_of, Numbering.located, Paths.IsWalkTo}
 
 -- one pair more
 paired_push : {A B : Type 0} {R : A → B → Type 0} {xs : List A} {ys : List B} {x : A} {y : B} → PairedList R xs ys → R x y → PairedList R (xs ++ x ∷ []) (ys ++ y ∷ [])

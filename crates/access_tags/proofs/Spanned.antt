@@ -1,20 +1,15 @@
 -- The parts of intervals, one more at a time.
 use Rattle.std.proofs.Common.{◌≡◌, ℕ, zero, suc, ◌+◌, ◌-◌, ◌<◌, ◌≤◌, Bool, true, false, ◌&&◌, nat_eq, List, [], ◌∷◌, ◌++◌, length, get_or, set, take, map, flat_map, sym, ◌∙◌, ap, subst, arith}
 use Rattle.std.specs.List.{range_with_len, list_all}
-use Rattle.std.proofs.lemmas.Bool.{eqb-true, and_parts}
-use Rattle.std.proofs.lemmas.Grind.{flat_map-append}
+use Rattle.std.proofs.lemmas.{Bool.eqb-true, Bool.and_parts, Grind.flat_map-append}
 use Rattle.std.proofs.lemmas.List.{append-nil, append_assoc, take_more}
-use Rattle.std.proofs.lemmas.List.Concat.{get_or-flat_map}
+use Rattle.std.proofs.{lemmas.List.Concat.get_or-flat_map, Math.Bool.and-true, Math.Bool.and-false, Math.Seq.take-length}
 use Rattle.std.proofs.lemmas.List.Folds.{length-flat_map-take, list_all-append, list_all_at}
 use Rattle.std.proofs.lemmas.List.FromFn.{get_or-map-range_with_len, length-map-range_with_len, map-range_with_len_more}
-use Rattle.std.proofs.Math.Bool.{and-true, and-false}
-use Rattle.std.proofs.Math.Seq.{take-length}
 use Rattle.access_tags.specs.declared.cells.Cells.{Cells}
-use Rattle.access_tags.specs.declared.conflict.LocationKey.{LocationKey}
+use Rattle.access_tags.specs.declared.conflict.{LocationKey.LocationKey, Touched.Touched}
 use Rattle.access_tags.specs.declared.conflict.LocationKey.TheVariants as spot
-use Rattle.access_tags.specs.declared.conflict.Touched.{Touched}
-use Rattle.access_tags.specs.declared.interval.Sort.{Sort}
-use Rattle.access_tags.specs.declared.interval.Interval.{Interval}
+use Rattle.access_tags.specs.declared.interval.{Sort.Sort, Interval.Interval}
 use Rattle.access_tags.specs.Intervals.{part_at, parts_to, parts_of, parts, spot_in}
 use Rattle.access_tags.specs.Within.{room, AreWithin}
 

@@ -2,15 +2,12 @@
 use Rattle.std.proofs.Common.{◌≡◌, ◌≢◌, ℕ, zero, suc, ◌+◌, ◌-◌, ◌<◌, ◌≤◌, true, false, ◌||◌, List, [], ◌∷◌, ◌++◌, length, get_or, map, refl, sym, ◌∙◌, ap, subst, arith, nat_eq, inl, inr, Some, length-append}
 use Rattle.std.specs.List.{list_any, range_with_len}
 use Rattle.std.proofs.lemmas.Bool.{cases_Bool, cases_eq, eq-eqb, ne_eqb, or_from}
-use Rattle.std.proofs.lemmas.List.{length-map}
+use Rattle.std.proofs.lemmas.{List.length-map, Option.same_Some}
 use Rattle.std.proofs.lemmas.List.Folds.{list_any-append}
-use Rattle.std.proofs.lemmas.Option.{same_Some}
-use Rattle.jvm_model.specs.declared.values.Location.{Location}
+use Rattle.jvm_model.specs.declared.values.{Location.Location, Value.Value}
 use Rattle.jvm_model.specs.declared.values.Location.TheVariants as place
-use Rattle.jvm_model.specs.declared.values.Value.{Value}
 use Rattle.jvm_model.specs.World.{Object, World, same, place_of, no_object, object_at, size}
-use Rattle.jvm_model.specs.Classes.{member}
-use Rattle.jvm_model.specs.View.{keys}
+use Rattle.jvm_model.specs.{Classes.member, View.keys}
 use Rattle.jvm_model.proofs.Locations.{same_true}
 use Rattle.vm_tables.specs.FieldPlaces.{place as place_in}
 use Rattle.access_tags.specs.Numbering.{position}

@@ -1,27 +1,19 @@
 -- What is kept stands for the touches, after one more of them and after the end of a test.
 use Rattle.std.proofs.Common.{◌≡◌, ℕ, suc, Bool, true, false, not, ◌||◌, ◌&&◌, cond, List, [], ◌∷◌, ◌++◌, map, flat_map, refl, sym, ◌∙◌, ap, subst, nat_eq, inl, inr}
 use Rattle.std.specs.List.{list_any}
-use Rattle.std.proofs.lemmas.Bool.{cases_Bool, eqb-true}
-use Rattle.std.proofs.lemmas.List.{append-nil, map-append}
-use Rattle.jvm_model.specs.declared.values.Location.{Location}
-use Rattle.jvm_model.specs.declared.values.Touch.{Touch}
+use Rattle.std.proofs.lemmas.{Bool.cases_Bool, Bool.eqb-true, List.append-nil, List.map-append}
+use Rattle.jvm_model.specs.declared.values.{Location.Location, Touch.Touch}
 use Rattle.jvm_model.specs.World.{same}
 use Rattle.jvm_model.proofs.Locations.{same_true}
-use Rattle.order_law.specs.declared.edges.EdgeKind.{EdgeKind}
-use Rattle.order_law.specs.declared.edges.EdgeKind.TheVariants.{Raw, Waw, War}
-use Rattle.order_law.specs.Exposed.{written, exposed}
-use Rattle.order_law.specs.Histories.{Touches}
-use Rattle.access_tags.specs.declared.conflict.Conflict.{Conflict}
-use Rattle.access_tags.specs.declared.conflict.LocationKey.{LocationKey}
-use Rattle.access_tags.specs.declared.conflict.Touched.{Touched}
+use Rattle.order_law.specs.declared.edges.{EdgeKind.EdgeKind, EdgeKind.TheVariants.Raw, EdgeKind.TheVariants.Waw, EdgeKind.TheVariants.War}
+use Rattle.order_law.specs.{Exposed.written, Exposed.exposed, Histories.Touches}
+use Rattle.access_tags.specs.declared.conflict.{Conflict.Conflict, LocationKey.LocationKey, Touched.Touched}
 use Rattle.access_tags.specs.declared.mark.Mark.{Mark}
 use Rattle.access_tags.specs.Tag.{Tag, tag, writer, readers, mark, no_mark, marked, noted, covers, ended, is_new, places, conflict, with_writer, conflicts_at, conflicts_found}
-use Rattle.access_tags.specs.Cells.{Apart}
+use Rattle.access_tags.specs.{Cells.Apart, Stands.StandFor}
 use Rattle.access_tags.specs.Numbering.{Numbering, located, is_name, view, IsPlaced, ArePlaced, locations, is_at, tag_at, at_location}
-use Rattle.access_tags.specs.Stands.{StandFor}
 use Rattle.access_tags.proofs.Marks.{mark_more, places_more, any_touched}
-use Rattle.access_tags.proofs.Places.{any_first, first_apart}
-use Rattle.access_tags.proofs.Settle.{tag_with}
+use Rattle.access_tags.proofs.{Places.any_first, Places.first_apart, Settle.tag_with}
 use Rattle.access_tags.proofs.Numbered.{changed, tag_there, any_location}
 
 -- a location that isn't touched

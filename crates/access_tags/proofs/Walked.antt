@@ -1,15 +1,10 @@
 -- The walk to an object by the meetings of the running test.
 use Rattle.std.proofs.Common.{◌≡◌, ◌+◌, ◌<◌, ◌≤◌, ℕ, true, false, List, [], ◌∷◌, ◌++◌, map, reverse, length, refl, sym, ◌∙◌, ap, subst, arith, eqb, inl, inr, Option, Some, None, option_map, append_assoc, length-append}
-use Rattle.std.specs.List.{IsDistinct, list_any}
-use Rattle.std.specs.Cmp.{nat_eq_equiv}
+use Rattle.std.specs.{List.IsDistinct, List.list_any, Cmp.nat_eq_equiv}
 use Rattle.std.proofs.lemmas.Bool.{cases_lt, eqb-true, false_from_ne_true, or_cases}
-use Rattle.std.proofs.lemmas.List.{reverse-append, map-append}
-use Rattle.std.proofs.lemmas.List.Folds.{list_any-append}
-use Rattle.std.proofs.lemmas.Map.Keys.{IsDistinct-push}
-use Rattle.std.proofs.lemmas.Map.Steps.{length-le_from_distinct_below}
-use Rattle.std.proofs.lemmas.Option.{same_Some}
-use Rattle.jvm_model.specs.declared.values.Location.{Location}
-use Rattle.jvm_model.specs.declared.values.Touch.{Touch}
+use Rattle.std.proofs.lemmas.{List.reverse-append, List.map-append, Option.same_Some}
+use Rattle.std.proofs.{lemmas.List.Folds.list_any-append, lemmas.Map.Keys.IsDistinct-push, lemmas.Map.Steps.length-le_from_distinct_below}
+use Rattle.jvm_model.specs.declared.values.{Location.Location, Touch.Touch}
 use Rattle.order_law.specs.Walk.{first_giving, holder, Walk, from_static, through}
 use Rattle.order_law.proofs.Walks.{walk_one}
 use Rattle.access_tags.specs.declared.conflict.LocationKey.{LocationKey}

@@ -1,14 +1,12 @@
 -- Names of files and properties, and their numbers.
 use Rattle.std.specs.Prelude.{◌≡◌, ◌<◌, ℕ, List, length, get_or, Option, None, Some}
-use Rattle.std.specs.Map.{lookup}
-use Rattle.std.specs.Str.{bytes_eq}
+use Rattle.std.specs.{Map.lookup, Str.bytes_eq}
 use Rattle.std.specs.declared.vec.Vec.{Vec}
 use Rattle.std.specs.declared.alloc.Global.{Global}
 use Rattle.jvm_model.specs.World.{place_of}
 use Rattle.jvm_model.specs.declared.values.Location.{Location}
 use Rattle.jvm_model.specs.declared.values.Location.TheVariants as place
-use Rattle.sim_store.specs.declared.store.Part.{Part}
-use Rattle.sim_store.specs.declared.store.Part.TheVariants.{File, Prop}
+use Rattle.sim_store.specs.declared.store.{Part.Part, Part.TheVariants.File, Part.TheVariants.Prop}
 use Rattle.vm_mem.specs.Stores.{place_in}
 use Rattle.access_tags.specs.Numbering.{position}
 

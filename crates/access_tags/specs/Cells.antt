@@ -1,9 +1,7 @@
 -- What is kept of the locations, by their numbers.
 use Rattle.std.specs.Prelude.{◌≡◌, ◌≤◌, ◌<◌, ◌^◌, ℕ, suc, List, [], ◌∷◌, Bool, false, cond, length, reverse, get_or, nat_eq}
 use Rattle.std.specs.List.{list_any}
-use Rattle.access_tags.specs.declared.mark.Mark.{Mark}
-use Rattle.access_tags.specs.declared.mark.Past.{Past}
-use Rattle.access_tags.specs.declared.mark.Reader.{Reader}
+use Rattle.access_tags.specs.declared.mark.{Mark.Mark, Past.Past, Reader.Reader}
 use Rattle.access_tags.specs.Tag.{Tag, no_mark}
 
 -- no two are equal, by the test e

@@ -1,7 +1,6 @@
 -- The conflicts that are counted in a table.
 use Rattle.std.specs.Prelude.{◌≡◌, List, ◌++◌}
-use Rattle.access_tags.specs.declared.conflict.Conflict.{Conflict}
-use Rattle.access_tags.specs.declared.conflict.LocationKey.{LocationKey}
+use Rattle.access_tags.specs.declared.conflict.{Conflict.Conflict, LocationKey.LocationKey}
 use Rattle.access_tags.specs.declared.table.Table.{Table}
 use Rattle.access_tags.specs.Rows.{IsTable}
 

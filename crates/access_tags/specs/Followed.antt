@@ -1,16 +1,12 @@
 -- What a memory with tags keeps of the world that it stands for and of the tests that it follows.
 use Rattle.std.specs.Prelude.{◌≡◌, ℕ, ◌+◌, ◌-◌, ◌<◌, List, [], ◌∷◌, ◌++◌, map, length, Bool, true, false, not, nat_eq, ◌||◌, slice_get, get_or, Option, Some}
 use Rattle.std.specs.List.{list_all, list_any}
-use Rattle.jvm_model.specs.declared.values.Location.{Location}
+use Rattle.jvm_model.specs.declared.values.{Location.Location, Touch.Touch, Kind.Kind}
 use Rattle.jvm_model.specs.declared.values.Location.TheVariants as place
-use Rattle.jvm_model.specs.declared.values.Touch.{Touch}
 use Rattle.jvm_model.specs.declared.program.Program.{Program}
-use Rattle.jvm_model.specs.Builtin.{out_field}
-use Rattle.jvm_model.specs.Classes.{fields_of}
-use Rattle.jvm_model.specs.View.{Exists, keys}
+use Rattle.jvm_model.specs.{Builtin.out_field, Classes.fields_of, View.Exists, View.keys}
 use Rattle.jvm_model.specs.World.{World, Object, at, size, object_at, same}
-use Rattle.order_law.specs.Exposed.{exposed}
-use Rattle.order_law.specs.Histories.{Touches}
+use Rattle.order_law.specs.{Exposed.exposed, Histories.Touches}
 use Rattle.vm_mem.specs.Trace.{Trace, Extends}
 use Rattle.access_tags.specs.declared.ended.Ended.{Ended}
 use Rattle.access_tags.specs.declared.memory.TaggedMemory.{TaggedMemory}
@@ -18,17 +14,10 @@ use Rattle.access_tags.specs.declared.numbers.Numbers.{Numbers}
 use Rattle.access_tags.specs.declared.tags.Tags.{Tags}
 use Rattle.access_tags.specs.Numbering.{Numbering, is_name, located, position}
 use Rattle.access_tags.specs.Ran.{trace_to, size_in, size_after, touched_by}
-use Rattle.access_tags.specs.Paths.{HaveRowsWalks}
-use Rattle.access_tags.specs.HasDiscovered.{HasDiscovered}
-use Rattle.access_tags.specs.HeadMarks.{IsKindAt}
-use Rattle.access_tags.specs.HeadsStand.{HeadsStand}
+use Rattle.access_tags.specs.{Paths.HaveRowsWalks, HasDiscovered.HasDiscovered, HeadMarks.IsKindAt, HeadsStand.HeadsStand, Shelf.count, Stands.Stands}
 use Rattle.access_tags.specs.declared.conflict.LocationKey.{LocationKey}
-use Rattle.jvm_model.specs.declared.values.Kind.{Kind}
 use Rattle.access_tags.specs.Rows.{edges_at, shown_by, with_places}
-use Rattle.access_tags.specs.Shelf.{count}
-use Rattle.access_tags.specs.Stands.{Stands}
-use Rattle.access_tags.specs.Tag.{places}
-use Rattle.access_tags.specs.Worlds.{cells_of, bases_of}
+use Rattle.access_tags.specs.{Tag.places, Worlds.cells_of, Worlds.bases_of}
 
 -- an object has the fields of its kind, and none where it has elements
 pub record IsLaid (p : Program) (x : Object) : Type 0 where

@@ -4,11 +4,9 @@ use Rattle.std.specs.List.{list_all, range_with_len}
 use Rattle.jvm_model.specs.declared.program.Program.{Program}
 use Rattle.jvm_model.specs.declared.values.Location.{Location}
 use Rattle.order_law.specs.declared.edges.Edge.{Edge}
-use Rattle.order_law.specs.Histories.{Touches}
-use Rattle.order_law.specs.RecordForm.{is_place_text}
+use Rattle.order_law.specs.{Histories.Touches, RecordForm.is_place_text}
 use Rattle.access_tags.specs.declared.ended.Ended.{Ended}
-use Rattle.access_tags.specs.Followed.{IsEnded}
-use Rattle.access_tags.specs.Rows.{edges_at}
+use Rattle.access_tags.specs.{Followed.IsEnded, Rows.edges_at}
 
 -- what is kept of the tests before the last one, and of that, with walks or without
 pub record AreEnded (walks_kept : Bool) (T : Touches) (names : List Location) (xs : List Ended) (y : Ended) : Type 0 where

@@ -4,8 +4,7 @@ use Rattle.std.specs.List.{list_any}
 use Rattle.jvm_model.specs.declared.values.Location.{Location}
 use Rattle.jvm_model.specs.World.{same}
 use Rattle.access_tags.specs.declared.conflict.Touched.{Touched}
-use Rattle.access_tags.specs.Tag.{Tag, ended}
-use Rattle.access_tags.specs.Cells.{Apart}
+use Rattle.access_tags.specs.{Tag.Tag, Tag.ended, Cells.Apart}
 use Rattle.access_tags.specs.Numbering.{Numbering, ArePlaced, is_at, locations, view}
 
 -- from the tags c of cells and d of names to e and f test t ended at these parts, of which no two are the same location

@@ -1,12 +1,9 @@
 -- The classes of the objects whose heads tests touch.
 use Rattle.std.specs.Prelude.{◌≡◌, ◌<◌, ◌+◌, ◌*◌, ℕ, List, [], Bool, false, ◌&&◌, cond, nat_eq, nat_lt, get_or, Option, Some, None}
 use Rattle.std.specs.List.{list_any}
-use Rattle.jvm_model.specs.declared.values.Kind.{Kind}
-use Rattle.jvm_model.specs.declared.values.Location.{Location}
+use Rattle.jvm_model.specs.declared.values.{Kind.Kind, Location.Location, Touch.Touch}
 use Rattle.jvm_model.specs.declared.values.Location.TheVariants as place
-use Rattle.jvm_model.specs.declared.values.Touch.{Touch}
-use Rattle.order_law.specs.Histories.{Touches}
-use Rattle.order_law.specs.Reach.{inner_class}
+use Rattle.order_law.specs.{Histories.Touches, Reach.inner_class}
 
 -- whether it is the class
 abbrev pub is_class : Option ℕ → ℕ → Bool

@@ -1,7 +1,6 @@
 -- What is kept of the heads that tests touch.
 use Rattle.std.specs.Prelude.{ℕ, List}
-use Rattle.jvm_model.specs.declared.values.Kind.{Kind}
-use Rattle.jvm_model.specs.declared.values.Touch.{Touch}
+use Rattle.jvm_model.specs.declared.values.{Kind.Kind, Touch.Touch}
 use Rattle.order_law.specs.Histories.{Touches}
 use Rattle.access_tags.specs.declared.heads.Heads.{Heads}
 use Rattle.access_tags.specs.HeadMarks.{AreMarked}

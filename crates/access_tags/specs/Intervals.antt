@@ -1,12 +1,10 @@
 -- The parts that were touched, in intervals of which each one is beside the one before it.
 use Rattle.std.specs.Prelude.{ℕ, ◌+◌, ◌-◌, ◌≤◌, ◌<◌, List, map, flat_map, length, get_or}
 use Rattle.std.specs.List.{range_with_len}
-use Rattle.access_tags.specs.declared.conflict.LocationKey.{LocationKey}
+use Rattle.access_tags.specs.declared.conflict.{LocationKey.LocationKey, Touched.Touched}
 use Rattle.access_tags.specs.declared.conflict.LocationKey.TheVariants as spot
-use Rattle.access_tags.specs.declared.conflict.Touched.{Touched}
-use Rattle.access_tags.specs.declared.interval.Sort.{Sort}
+use Rattle.access_tags.specs.declared.interval.{Sort.Sort, Interval.Interval}
 use Rattle.access_tags.specs.declared.interval.Sort.TheVariants as sort
-use Rattle.access_tags.specs.declared.interval.Interval.{Interval}
 
 -- the part of a sort with an index, of object o where the sort has one
 abbrev pub spot_in : Sort → ℕ → ℕ → LocationKey

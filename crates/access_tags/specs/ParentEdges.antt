@@ -1,7 +1,6 @@
 -- The first reads of the running test that gave objects.
 use Rattle.std.specs.Prelude.{◌≡◌, ◌<◌, ◌≤◌, ℕ, List, [], get_or, cond, nat_eq, Option, Some, None, option_map}
-use Rattle.jvm_model.specs.declared.values.Location.{Location}
-use Rattle.jvm_model.specs.declared.values.Touch.{Touch}
+use Rattle.jvm_model.specs.declared.values.{Location.Location, Touch.Touch}
 use Rattle.order_law.specs.Walk.{first_giving}
 use Rattle.access_tags.specs.declared.conflict.LocationKey.{LocationKey}
 use Rattle.access_tags.specs.declared.conflict.LocationKey.TheVariants as spot

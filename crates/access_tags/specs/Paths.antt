@@ -1,13 +1,11 @@
 -- The walks of the parts that rows show.
 use Rattle.std.specs.Prelude.{◌≡◌, ℕ, List, [], map, Option, Some, None}
 use Rattle.jvm_model.specs.declared.values.Touch.{Touch}
-use Rattle.order_law.specs.Pairing.{PairedList}
-use Rattle.order_law.specs.Walk.{Walk}
+use Rattle.order_law.specs.{Pairing.PairedList, Walk.Walk}
 use Rattle.access_tags.specs.declared.conflict.LocationKey.{LocationKey}
 use Rattle.access_tags.specs.declared.conflict.LocationKey.TheVariants as spot
 use Rattle.access_tags.specs.declared.rows.Row.{Row}
-use Rattle.access_tags.specs.ParentEdges.{location_of}
-use Rattle.access_tags.specs.Numbering.{located}
+use Rattle.access_tags.specs.{ParentEdges.location_of, Numbering.located}
 
 -- the object that a part is of
 abbrev pub object_of : LocationKey → Option ℕ

@@ -3,8 +3,7 @@ use Rattle.std.specs.Prelude.{ℕ, List, [], ◌∷◌, map}
 use Rattle.jvm_model.specs.declared.values.Location.{Location}
 use Rattle.jvm_model.specs.declared.program.Program.{Program}
 use Rattle.jvm_model.specs.Texts.{location_text}
-use Rattle.order_law.specs.declared.records.Place.{Place}
-use Rattle.order_law.specs.declared.records.Shown.{Shown}
+use Rattle.order_law.specs.declared.records.{Place.Place, Shown.Shown}
 use Rattle.order_law.specs.Walk.{read_text}
 use Rattle.access_tags.specs.declared.conflict.LocationKey.{LocationKey}
 use Rattle.access_tags.specs.declared.rows.Row.{Row}

@@ -1,17 +1,12 @@
 -- A run of the tests 1, 2, .. in order: its story, and the objects that each test makes, by the touches of each.
 use Rattle.std.specs.Prelude.{◌≡◌, ℕ, zero, suc, ◌-◌, ◌<◌, List, [], ◌∷◌, map, cond, max}
-use Rattle.jvm_model.specs.declared.values.Location.{Location}
+use Rattle.jvm_model.specs.declared.values.{Location.Location, Touch.Touch, Kind.Kind}
 use Rattle.jvm_model.specs.declared.values.Location.TheVariants as place
-use Rattle.jvm_model.specs.declared.values.Touch.{Touch}
-use Rattle.jvm_model.specs.declared.values.Kind.{Kind}
 use Rattle.jvm_model.specs.declared.program.Program.{Program}
 use Rattle.jvm_model.specs.World.{World, at, place_of}
 use Rattle.jvm_model.specs.Suite.{all_tests}
 use Rattle.order_law.specs.declared.edges.EdgeKind.{EdgeKind}
-use Rattle.order_law.specs.Conflicts.{Member}
-use Rattle.order_law.specs.Histories.{Touches, IsTestNumber}
-use Rattle.order_law.specs.OwnRecord.{conflict_places_in, owner_in}
-use Rattle.order_law.specs.Walk.{Walk}
+use Rattle.order_law.specs.{Conflicts.Member, Histories.Touches, Histories.IsTestNumber, OwnRecord.conflict_places_in, OwnRecord.owner_in, Walk.Walk}
 use Rattle.std.specs.Prelude.{Some}
 use Rattle.vm_mem.specs.Trace.{Trace, empty_trace, next_test}
 

@@ -4,17 +4,13 @@ use Rattle.std.specs.List.{range_with_len}
 use Rattle.jvm_model.specs.declared.values.Location.{Location}
 use Rattle.jvm_model.specs.declared.program.Program.{Program}
 use Rattle.jvm_model.specs.Texts.{location_text}
-use Rattle.order_law.specs.declared.edges.Edge.{Edge}
-use Rattle.order_law.specs.declared.edges.EdgeKind.{EdgeKind}
-use Rattle.order_law.specs.declared.edges.EdgeKind.TheVariants.{Raw, Waw, War}
+use Rattle.order_law.specs.declared.edges.{Edge.Edge, EdgeKind.EdgeKind, EdgeKind.TheVariants.Raw, EdgeKind.TheVariants.Waw, EdgeKind.TheVariants.War}
 use Rattle.order_law.specs.Histories.{Touches}
 use Rattle.order_law.specs.OwnRecord.{conflict_places_in, cut, edges_between_in}
-use Rattle.access_tags.specs.declared.conflict.Conflict.{Conflict}
-use Rattle.access_tags.specs.declared.conflict.LocationKey.{LocationKey}
+use Rattle.access_tags.specs.declared.conflict.{Conflict.Conflict, LocationKey.LocationKey}
 use Rattle.access_tags.specs.declared.conflict.LocationKey.TheVariants as spot
 use Rattle.access_tags.specs.declared.rows.Row.{Row}
-use Rattle.access_tags.specs.Tag.{found, kind_number}
-use Rattle.access_tags.specs.Numbering.{located}
+use Rattle.access_tags.specs.{Tag.found, Tag.kind_number, Numbering.located}
 
 -- the place of a kind and an earlier test in a table
 abbrev pub key : EdgeKind → ℕ → ℕ

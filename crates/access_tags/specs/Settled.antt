@@ -1,15 +1,12 @@
 -- What the tests of a program reach, and whether they are settled.
 use Rattle.std.specs.Prelude.{◌≡◌, ◌+◌, ℕ, List, Bool, not, ◌||◌, slice_get, Some}
 use Rattle.std.specs.List.{list_all}
-use Rattle.jvm_model.specs.Builtin.{out_field}
-use Rattle.jvm_model.specs.World.{same}
+use Rattle.jvm_model.specs.{Builtin.out_field, World.same}
 use Rattle.jvm_model.specs.declared.program.Program.{Program}
 use Rattle.jvm_model.specs.declared.values.Kind.{Kind}
 use Rattle.jvm_model.specs.declared.values.Location.TheVariants as place
 use Rattle.order_law.specs.declared.records.Reach.{Reach}
-use Rattle.order_law.specs.Histories.{Touches, exposed_in}
-use Rattle.order_law.specs.OwnRecord.{places_in}
-use Rattle.order_law.specs.Reach.{IsReachIn}
+use Rattle.order_law.specs.{Histories.Touches, Histories.exposed_in, OwnRecord.places_in, Reach.IsReachIn}
 
 -- whether each exposed read of a test is of the static `System.out`
 abbrev pub reads_out_alone : Touches → ℕ → Bool

@@ -1,14 +1,11 @@
 -- What is kept of a run of tests stands for its touches.
 use Rattle.std.specs.Prelude.{◌≡◌, ℕ, Bool, List, [], ◌∷◌, ◌++◌}
-use Rattle.jvm_model.specs.declared.values.Location.{Location}
-use Rattle.jvm_model.specs.declared.values.Touch.{Touch}
+use Rattle.jvm_model.specs.declared.values.{Location.Location, Touch.Touch}
 use Rattle.order_law.specs.Histories.{Touches}
-use Rattle.access_tags.specs.declared.conflict.LocationKey.{LocationKey}
-use Rattle.access_tags.specs.declared.conflict.Touched.{Touched}
+use Rattle.access_tags.specs.declared.conflict.{LocationKey.LocationKey, Touched.Touched}
 use Rattle.access_tags.specs.declared.tags.Tags.{Tags}
 use Rattle.access_tags.specs.Tag.{Tag, tag, places}
-use Rattle.access_tags.specs.Shelf.{tag_in}
-use Rattle.access_tags.specs.AccessLogs.{touched_in}
+use Rattle.access_tags.specs.{Shelf.tag_in, AccessLogs.touched_in}
 use Rattle.access_tags.specs.Numbering.{Numbering, view, located, IsPlaced, ArePlaced, locations}
 
 -- These tags of cells and of names, and this list of what is touched: t tests ended, and the running one touched ts.

@@ -1,15 +1,11 @@
 -- The tag of a location, as a function of the touches of each test; and the conflicts that are read off it when a test ends.
 use Rattle.std.specs.Prelude.{◌≡◌, ◌<◌, ◌≤◌, ℕ, zero, suc, ◌-◌, List, [], ◌∷◌, ◌++◌, map, filter, flat_map, Bool, true, false, not, ◌&&◌, ◌||◌, cond, nat_eq}
 use Rattle.std.specs.List.{range_with_len}
-use Rattle.jvm_model.specs.declared.values.Location.{Location}
-use Rattle.jvm_model.specs.declared.values.Touch.{Touch}
+use Rattle.jvm_model.specs.declared.values.{Location.Location, Touch.Touch}
 use Rattle.jvm_model.specs.declared.program.Program.{Program}
 use Rattle.jvm_model.specs.Suite.{all_tests}
-use Rattle.order_law.specs.declared.edges.Edge.{Edge}
-use Rattle.order_law.specs.declared.edges.EdgeKind.{EdgeKind}
-use Rattle.order_law.specs.declared.edges.EdgeKind.TheVariants.{Raw, Waw, War}
-use Rattle.order_law.specs.Exposed.{written, exposed}
-use Rattle.order_law.specs.Histories.{Touches}
+use Rattle.order_law.specs.declared.edges.{Edge.Edge, EdgeKind.EdgeKind, EdgeKind.TheVariants.Raw, EdgeKind.TheVariants.Waw, EdgeKind.TheVariants.War}
+use Rattle.order_law.specs.{Exposed.written, Exposed.exposed, Histories.Touches}
 use Rattle.order_law.specs.OwnRecord.{first_places, conflict_places_in, edge_of, edges_in}
 use Rattle.access_tags.specs.declared.conflict.Conflict.{Conflict}
 use Rattle.access_tags.specs.declared.mark.Mark.{Mark}

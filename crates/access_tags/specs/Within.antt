@@ -1,10 +1,8 @@
 -- What is touched is among the locations that there are.
 use Rattle.std.specs.Prelude.{ℕ, ◌<◌, List, length, get_or, cond}
 use Rattle.access_tags.specs.declared.cells.Cells.{Cells}
-use Rattle.access_tags.specs.declared.conflict.LocationKey.{LocationKey}
-use Rattle.access_tags.specs.declared.conflict.Touched.{Touched}
-use Rattle.access_tags.specs.Numbering.{is_name}
-use Rattle.access_tags.specs.Shelf.{count}
+use Rattle.access_tags.specs.declared.conflict.{LocationKey.LocationKey, Touched.Touched}
+use Rattle.access_tags.specs.{Numbering.is_name, Shelf.count}
 
 -- how many locations there are of the spot's sort
 abbrev pub room : Cells → Cells → LocationKey → ℕ

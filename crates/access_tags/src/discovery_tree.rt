@@ -2,8 +2,7 @@
 
 ghost use Rattle.std.specs.Prelude.{◌≡◌, ◌<◌, ◌++◌, ◌∷◌, [], ℕ, List, map, is_some, IfOk, OnOk};
 ghost use Rattle.order_law.specs.Walk.{Walk};
-ghost use Rattle.access_tags.specs.Numbering.{located};
-ghost use Rattle.access_tags.specs.ParentEdges.{location_of, met_by};
+ghost use Rattle.access_tags.specs.{Numbering.located, ParentEdges.location_of, ParentEdges.met_by};
 ghost use Rattle.access_tags.specs.Paths.{AreWalks, HaveRowsWalks, IsWalkTo, object_of};
 
 use crate::conflict::LocationKey;

@@ -2,19 +2,12 @@
 
 ghost use Rattle.std.specs.Prelude.{◌≡◌, ◌≤◌, ◌++◌, ◌+◌, ℕ, [], Bool, length, map, slice_get, true, Some, IfOk, OnOk};
 ghost use Rattle.jvm_model.specs.Texts.{location_text};
-ghost use Rattle.order_law.specs.Histories.{Touches};
-ghost use Rattle.order_law.specs.OwnForm.{HasCodeUnits};
+ghost use Rattle.order_law.specs.{Histories.Touches, OwnForm.HasCodeUnits, Pairing.PairedList, RecordForm.is_place_text, Walk.IsShownIn};
 ghost use Rattle.order_law.specs.OwnRecord as own;
-ghost use Rattle.order_law.specs.Pairing.{PairedList};
-ghost use Rattle.order_law.specs.RecordForm.{is_place_text};
-ghost use Rattle.order_law.specs.Walk.{IsShownIn};
 ghost use Rattle.access_tags.specs.declared.ended.Ended.{Ended as Kept};
-ghost use Rattle.access_tags.specs.AreNames.{AreNames};
+ghost use Rattle.access_tags.specs.{AreNames.AreNames, Ran.HaveWalks, Numbering.located, Rows.edge_by};
 ghost use Rattle.access_tags.specs.FoundIn.{AreEnded, added, are_printed, edges_up_to};
-ghost use Rattle.access_tags.specs.Ran.{HaveWalks};
-ghost use Rattle.access_tags.specs.Numbering.{located};
 ghost use Rattle.access_tags.specs.Places.{place_by, shown_parts, shown_rows};
-ghost use Rattle.access_tags.specs.Rows.{edge_by};
 
 use crate::conflict::LocationKey;
 use crate::ended::Ended;

@@ -6,9 +6,7 @@ ghost use Rattle.jvm_model.specs.declared.values.Kind.{Kind as KindOf};
 ghost use Rattle.order_law.specs.Histories.{Touches};
 ghost use Rattle.jvm_model.specs.State.{test_at};
 ghost use Rattle.order_law.specs.Reach as reach;
-ghost use Rattle.access_tags.specs.HeadMarks.{is_marked};
-ghost use Rattle.access_tags.specs.Reached.{has, count};
-ghost use Rattle.access_tags.specs.Given.{is_given};
+ghost use Rattle.access_tags.specs.{HeadMarks.is_marked, Reached.has, Reached.count, Given.is_given};
 
 use crate::reached::Reached;
 use crate::room::make_room;

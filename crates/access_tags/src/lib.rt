@@ -14,8 +14,7 @@
 //! never given back.
 #![tactic(auto)]
 
-ghost use Rattle.access_tags.specs.Tag.{TagsLaw, RowsLaw};
-ghost use Rattle.access_tags.specs.Worlds.{NumbersLaw, ChangesLaw};
+ghost use Rattle.access_tags.specs.{Tag.TagsLaw, Tag.RowsLaw, Worlds.NumbersLaw, Worlds.ChangesLaw};
 
 mod access_log;
 mod cells;

@@ -2,8 +2,7 @@
 
 ghost use Rattle.std.specs.Prelude.{◌≡◌, ◌≤◌, ◌++◌, ◌∷◌, [], length, OnOk};
 ghost use Rattle.vm_mem.specs.Stores.{place_in};
-ghost use Rattle.access_tags.specs.AreNames.{AreNames};
-ghost use Rattle.access_tags.specs.Numbering.{position};
+ghost use Rattle.access_tags.specs.{AreNames.AreNames, Numbering.position};
 
 use et_base::{NoMemory, Units};
 use indexmap::IndexMap;

@@ -2,11 +2,9 @@
 
 ghost use Rattle.std.specs.Prelude.{◌≡◌, ◌<◌, List, [], ◌∷◌, length, true, false, None, OnOk};
 ghost use Rattle.jvm_model.specs.Access.{elems_made, fields_made, made};
-ghost use Rattle.jvm_model.specs.Classes.{blank, elems_of};
-ghost use Rattle.jvm_model.specs.View.{Exists, keys};
+ghost use Rattle.jvm_model.specs.{Classes.blank, Classes.elems_of, View.Exists, View.keys};
 ghost use Rattle.jvm_model.specs.World.{World, Object, object_at, size};
-ghost use Rattle.jvm_model.specs.declared.values.Location.{Location};
-ghost use Rattle.jvm_model.specs.declared.values.Touch.{Touch};
+ghost use Rattle.jvm_model.specs.declared.values.{Location.Location, Touch.Touch};
 ghost use Rattle.access_tags.specs.Followed.{HaveNoted, HaveSameRoom, IsNumbered, numbering_in};
 ghost use Rattle.access_tags.specs.Numbering.{is_name, located};
 

@@ -1,13 +1,8 @@
 //! The numbers of a world's locations.
 
 ghost use Rattle.std.specs.Prelude.{◌≡◌, ◌+◌, ◌++◌, ◌∷◌, [], length, get_or, false, IfOk, IfSome, OnOk};
-ghost use Rattle.jvm_model.specs.Classes.{fields_of};
-ghost use Rattle.jvm_model.specs.Linked.{Linked};
-ghost use Rattle.jvm_model.specs.View.{Exists};
-ghost use Rattle.jvm_model.specs.World.{World};
-ghost use Rattle.access_tags.specs.Followed.{IsNumbered};
-ghost use Rattle.access_tags.specs.Numbering.{is_name, located};
-ghost use Rattle.access_tags.specs.Worlds.{number_in};
+ghost use Rattle.jvm_model.specs.{Classes.fields_of, Linked.Linked, View.Exists, World.World};
+ghost use Rattle.access_tags.specs.{Followed.IsNumbered, Numbering.is_name, Numbering.located, Worlds.number_in};
 
 use crate::conflict::LocationKey;
 use et_base::NoMemory;

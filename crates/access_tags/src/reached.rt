@@ -2,14 +2,10 @@
 
 ghost use Rattle.std.specs.Prelude.{◌≡◌, ◌≤◌, ◌+◌, ◌-◌, ◌↔◌, ℕ, true, false, not, ◌||◌, ◌&&◌, nat_eq, length, take, IfOk, OnOk};
 ghost use Rattle.std.specs.List.{list_any};
-ghost use Rattle.jvm_model.specs.Builtin.{builtin_count};
+ghost use Rattle.jvm_model.specs.{Builtin.builtin_count, Linked.IsGiven};
 ghost use Rattle.jvm_model.specs.Classes as classes;
-ghost use Rattle.jvm_model.specs.Linked.{IsGiven};
 ghost use Rattle.jvm_model.specs.declared.values.Kind.{Kind};
-ghost use Rattle.order_law.specs.Conflicts.{Member};
-ghost use Rattle.order_law.specs.Histories.{Touches};
-ghost use Rattle.order_law.specs.Reach.{ReachesIn};
-ghost use Rattle.order_law.specs.RecordForm.{numbers_ascend};
+ghost use Rattle.order_law.specs.{Conflicts.Member, Histories.Touches, Reach.ReachesIn, RecordForm.numbers_ascend};
 ghost use Rattle.access_tags.specs.Given.{AreReached, is_given};
 
 use et_base::{Items, NoMemory};

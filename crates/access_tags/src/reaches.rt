@@ -1,12 +1,9 @@
 //! What the tests of a program reach.
 
 ghost use Rattle.std.specs.Prelude.{◌≡◌, ◌<◌, ◌≤◌, ◌+◌, ℕ, List, not, ◌&&◌, length, get_or, false, IfOk};
-ghost use Rattle.jvm_model.specs.declared.values.Kind.{Kind as KindOf};
-ghost use Rattle.jvm_model.specs.declared.values.Touch.{Touch};
+ghost use Rattle.jvm_model.specs.declared.values.{Kind.Kind as KindOf, Touch.Touch};
 ghost use Rattle.order_law.specs.Histories.{Touches};
-ghost use Rattle.access_tags.specs.HeadMarks.{touches_so_far};
-ghost use Rattle.access_tags.specs.HeadsStand.{HeadsStand};
-ghost use Rattle.access_tags.specs.Settled.{AreReaches, reads_out_alone};
+ghost use Rattle.access_tags.specs.{HeadMarks.touches_so_far, HeadsStand.HeadsStand, Settled.AreReaches, Settled.reads_out_alone};
 
 use crate::heads::Heads;
 use et_base::{Items, NoMemory};

@@ -5,11 +5,8 @@ ghost use Rattle.std.specs.List.{list_all};
 ghost use Rattle.jvm_model.specs.declared.values.Location.{Location};
 ghost use Rattle.jvm_model.specs.World.{same};
 ghost use Rattle.access_tags.specs.Tag.{covers, ended, conflicts_at, is_new, noted};
-ghost use Rattle.access_tags.specs.Counted.{HaveCounted};
-ghost use Rattle.access_tags.specs.HaveEnded.{HaveEnded};
+ghost use Rattle.access_tags.specs.{Counted.HaveCounted, HaveEnded.HaveEnded, Shelf.tag_in, Shelf.count, Within.room, Within.AreWithin};
 ghost use Rattle.access_tags.specs.Numbering.{Numbering, are_alone, conflicts_in, is_alone, is_name, tag_at};
-ghost use Rattle.access_tags.specs.Shelf.{tag_in, count};
-ghost use Rattle.access_tags.specs.Within.{room, AreWithin};
 ghost use Rattle.access_tags.specs.Intervals.{parts, parts_of};
 
 use crate::access_log::AccessLog;

@@ -1,13 +1,8 @@
 -- What rows of the tables stand for.
 use Rattle.std.specs.Prelude.{ℕ, ◌+◌, List, [], ◌∷◌, length, map, Option, Some, None, option_map, ◌&&◌, if◌then◌else◌}
-use Rattle.jvm_model.specs.declared.library.ClassDef.{ClassDef}
-use Rattle.jvm_model.specs.declared.library.FieldDef.{FieldDef}
-use Rattle.jvm_model.specs.declared.library.MethodDef.{MethodDef}
-use Rattle.jvm_model.specs.declared.library.Native.{Native}
+use Rattle.jvm_model.specs.declared.library.{ClassDef.ClassDef, FieldDef.FieldDef, MethodDef.MethodDef, Native.Native}
 use Rattle.std.specs.Str.{bytes_eq}
-use Rattle.builtin_lib.specs.declared.rows.FieldRow.{FieldRow}
-use Rattle.builtin_lib.specs.declared.rows.MethodRow.{MethodRow}
-use Rattle.builtin_lib.specs.declared.rows.ClassRow.{ClassRow}
+use Rattle.builtin_lib.specs.declared.rows.{FieldRow.FieldRow, MethodRow.MethodRow, ClassRow.ClassRow}
 
 abbrev pub field_of : FieldRow → FieldDef
 field_of r = record { name = r.name.now; descriptor = r.descriptor.now; flags = r.flags; opening = r.opening }

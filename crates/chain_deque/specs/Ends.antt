@@ -2,12 +2,9 @@
 use Rattle.std.specs.Prelude.{◌≡◌, ℕ, ◌≤◌, true, false, length}
 use Rattle.std.specs.declared.alloc.Global.{Global}
 use Rattle.atomic_blocks.specs.Lent.{RowsId}
-use Rattle.crossbeam_deque.specs.declared.handles.Worker.{Worker}
-use Rattle.crossbeam_deque.specs.declared.handles.Stealer.{Stealer}
+use Rattle.crossbeam_deque.specs.declared.handles.{Worker.Worker, Stealer.Stealer}
 use Rattle.crossbeam_deque.specs.Handles.{Pass, view, IsPassOf, worker_deque, stealer_deque, worker_flavor, stealer_flavor, worker_view, worker_capacity, worker_index}
-use Rattle.chain_deque.specs.declared.rule.Chain.{Chain}
-use Rattle.chain_deque.specs.declared.rule.Seen.{Seen}
-use Rattle.chain_deque.specs.declared.rule.InTurn.{InTurn}
+use Rattle.chain_deque.specs.declared.rule.{Chain.Chain, Seen.Seen, InTurn.InTurn}
 
 -- which deque it is, how many chains it has room for, and what the owner's pass has seen
 pub record OwnerView : Type 0 where

@@ -3,8 +3,7 @@
 use Rattle.std.specs.Prelude.{◌≡◌, ℕ, suc, ◌+◌, ◌-◌, ◌<◌, ◌≤◌, Bool, true, false, cond, ◌==◌, nat_lt, List, [], ◌∷◌, ◌++◌, length, drop, take, All, count_by, sum_by}
 use mathlib.Core.Option.{some}
 use lib.ListN.{get_elem?}
-use Rattle.chain_deque.specs.declared.rule.Chain.{Chain}
-use Rattle.chain_deque.specs.declared.rule.Seen.{Seen}
+use Rattle.chain_deque.specs.declared.rule.{Chain.Chain, Seen.Seen}
 
 abbrev pub seen : Bool → Bool → ℕ → ℕ → List Chain → List ℕ → Seen
 seen owns live made out pushed took = record { owns = owns; live = live; made = made; out = out; pushed = pushed; took = took }

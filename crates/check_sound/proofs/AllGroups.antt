@@ -3,21 +3,12 @@ use Rattle.std.proofs.Common.{◌≡◌}
 use Rattle.jvm_model.specs.declared.instr.Instr.{Instr}
 use Rattle.jvm_model.specs.declared.instr.Instr.TheVariants as form
 use Rattle.jvm_model.specs.declared.program.Program.{Program}
-use Rattle.jvm_model.specs.World.{World}
-use Rattle.jvm_model.specs.Entries.{Entries}
-use Rattle.jvm_model.specs.RowsStatics.{row_statics}
-use Rattle.jvm_model.specs.RowsFields.{row_fields}
+use Rattle.jvm_model.specs.{World.World, Entries.Entries, RowsStatics.row_statics, RowsFields.row_fields}
 use Rattle.jvm_model.specs.Step.{statics, fields, group_of}
 use Rattle.type_frames.specs.Typing.{IsTyped}
-use Rattle.check_sound.proofs.Ready.{Row, Ready}
-use Rattle.check_sound.proofs.StaticRows.{get_static, put_static}
-use Rattle.check_sound.proofs.FieldRows.{get_field, put_field}
-use Rattle.check_sound.proofs.NestedRow.{create-typed}
-use Rattle.check_sound.proofs.ArrayRows.{arrays-typed}
-use Rattle.check_sound.proofs.CastRows.{casts-typed, throw-typed}
-use Rattle.check_sound.proofs.NativeRows.{native-typed}
-use Rattle.check_sound.proofs.DriverRows.{drive-typed}
-use Rattle.check_sound.proofs.WholeStep.{Groups}
+use Rattle.check_sound.proofs.{Ready.Row, Ready.Ready, StaticRows.get_static, StaticRows.put_static, FieldRows.get_field, FieldRows.put_field}
+use Rattle.check_sound.proofs.{NestedRow.create-typed, ArrayRows.arrays-typed, CastRows.casts-typed, CastRows.throw-typed, NativeRows.native-typed}
+use Rattle.check_sound.proofs.{DriverRows.drive-typed, WholeStep.Groups}
 
 module _ (p : Program) (ty : IsTyped p) where
   statics-typed : (w : World) (s : Entries) (i : Instr) → group_of i ≡ statics → Ready p w s i → Row p w (row_statics p i s)

@@ -5,30 +5,19 @@ use Rattle.std.proofs.lemmas.Bool.{cases_Bool, and_parts, eqb-true}
 use Rattle.std.proofs.lemmas.List.{reverse-append, append_assoc}
 use Rattle.jvm_model.specs.declared.values.Value.{Value}
 use Rattle.jvm_model.specs.declared.values.Value.TheVariants as value
-use Rattle.jvm_model.specs.declared.program.Program.{Program}
-use Rattle.jvm_model.specs.declared.program.Body.{Body}
-use Rattle.jvm_model.specs.World.{World}
-use Rattle.jvm_model.specs.Classes.{method_at}
-use Rattle.jvm_model.specs.Descriptors.{parameters}
+use Rattle.jvm_model.specs.declared.program.{Program.Program, Body.Body}
+use Rattle.jvm_model.specs.{World.World, Classes.method_at, Descriptors.parameters, Linked.IsMethod}
 use Rattle.jvm_model.specs.Entries.{slots_of, filled, frame_of}
-use Rattle.jvm_model.specs.Linked.{IsMethod}
 use Rattle.type_frames.specs.declared.vtype.VType.{VType}
 use Rattle.type_frames.specs.declared.vtype.VType.TheVariants.{Top, Int, Long, Null, Object, UninitThis, Uninit}
 use Rattle.type_frames.specs.declared.stack_effect.OperandConstraint.{OperandConstraint}
 use Rattle.type_frames.specs.declared.stack_effect.OperandConstraint.TheVariants.{Fits, Half, Never}
-use Rattle.type_frames.specs.Frames.{spread, padded}
-use Rattle.type_frames.specs.Descriptors.{types_of, class_name}
-use Rattle.type_frames.specs.Given.{entry_types, given_frames}
-use Rattle.type_frames.specs.Environment.{Environment, environment_of}
-use Rattle.type_frames.specs.StackEffect.{needs_of}
-use Rattle.type_frames.specs.Rules.{opening, meet_all}
-use Rattle.type_frames.specs.Typing.{IsTyped}
+use Rattle.type_frames.specs.{Frames.spread, Frames.padded, Descriptors.types_of, Descriptors.class_name, Given.entry_types, Given.given_frames}
+use Rattle.type_frames.specs.{Environment.Environment, Environment.environment_of, StackEffect.needs_of, Rules.opening, Rules.meet_all, Typing.IsTyped}
 use Rattle.type_frames.specs.TypedState.{IsInRange, HaveTypes, Goes}
-use Rattle.check_sound.proofs.Grow.{Ranged}
+use Rattle.check_sound.proofs.{Grow.Ranged, Arrive.typed_method, Arrive.arrived_first, Ready.HasPlain, Ready.Takes}
 use Rattle.check_sound.proofs.Held.{Is, Locals, is_fits, nothing_held}
-use Rattle.check_sound.proofs.Arrive.{typed_method, arrived_first}
 use Rattle.check_sound.proofs.Operands.{Operands, IsPop, popped, long_popped, none_there}
-use Rattle.check_sound.proofs.Ready.{HasPlain, Takes}
 use Rattle.check_sound.proofs.ReturnRows.{plain_int, plain_long}
 use Rattle.check_sound.proofs.ParameterTexts.{IsText, AreTexts, parameters_formed}
 

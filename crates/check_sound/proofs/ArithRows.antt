@@ -3,39 +3,27 @@ use Rattle.std.proofs.Common.{◌≡◌, ℕ, ℤ, zero, suc, List, [], ◌∷�
 use Rattle.std.specs.Ordering.{int_eq}
 use Rattle.jvm_model.specs.declared.values.Value.{Value}
 use Rattle.jvm_model.specs.declared.values.Value.TheVariants as value
-use Rattle.jvm_model.specs.declared.instr.Instr.{Instr}
+use Rattle.jvm_model.specs.declared.instr.{Instr.Instr, Op.Op, Conv.Conv}
 use Rattle.jvm_model.specs.declared.instr.Instr.TheVariants as form
-use Rattle.jvm_model.specs.declared.instr.Op.{Op}
 use Rattle.jvm_model.specs.declared.instr.Op.TheVariants as op
-use Rattle.jvm_model.specs.declared.instr.Conv.{Conv}
 use Rattle.jvm_model.specs.declared.instr.Conv.TheVariants as conv
 use Rattle.jvm_model.specs.declared.program.Program.{Program}
-use Rattle.jvm_model.specs.World.{World}
-use Rattle.jvm_model.specs.Access.{Access}
-use Rattle.jvm_model.specs.Builtin.{arithmetic_exception}
-use Rattle.jvm_model.specs.Entries.{Entries}
-use Rattle.jvm_model.specs.Rows.{Answer}
-use Rattle.jvm_model.specs.Step.{group_of, arith}
+use Rattle.jvm_model.specs.{World.World, Access.Access, Builtin.arithmetic_exception, Entries.Entries, Rows.Answer, Step.group_of, Step.arith}
 use Rattle.et_base.specs.Numbers.{add32}
 use Rattle.std.specs.Prelude.{slice_index_or}
 use Rattle.std.proofs.lemmas.Option.{slice_get_within}
 use Rattle.type_frames.specs.declared.vtype.VType.{VType}
-use Rattle.type_frames.specs.Environment.{Environment}
-use Rattle.type_frames.specs.Rules.{meets}
-use Rattle.type_frames.specs.TypedState.{HasType, HaveTypes}
+use Rattle.type_frames.specs.{Environment.Environment, Rules.meets, TypedState.HasType, TypedState.HaveTypes, Typing.IsTyped}
 use Rattle.check_sound.proofs.MoveRows.{read_local, kept_local, set_range}
 use Rattle.jvm_model.specs.RowsArith.{increased, divides, shifts, two_ints, two_longs, long_by_int, row_arith}
 use Rattle.type_frames.specs.declared.stack_effect.OperandConstraint.{OperandConstraint}
 use Rattle.type_frames.specs.declared.stack_effect.OperandConstraint.TheVariants.{Fits, Half}
 use Rattle.type_frames.specs.declared.vtype.VType.TheVariants.{Top, Int, Long, Null, Object, UninitThis, Uninit}
 use Rattle.type_frames.specs.StackEffect.{sides, second_need, int_need, long_need}
-use Rattle.type_frames.specs.Typing.{IsTyped}
-use Rattle.check_sound.proofs.Tree.{typed_done}
+use Rattle.check_sound.proofs.{Tree.typed_done, Ends.fault_typed, Thrown.arithmetic_thrown}
 use Rattle.check_sound.proofs.Held.{is_fits, Locals, int_on, long_on}
 use Rattle.check_sound.proofs.Operands.{Operands, rest_of, popping-fits, popping-long, on_int-typed, on_long-typed, choose-typed}
 use Rattle.check_sound.proofs.Ready.{Ends, Row, Ready, here, rest, operands, on}
-use Rattle.check_sound.proofs.Ends.{fault_typed}
-use Rattle.check_sound.proofs.Thrown.{arithmetic_thrown}
 
 module _ (p : Program) {w : World} where
   -- division by 0 throws

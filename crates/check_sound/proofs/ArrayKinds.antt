@@ -2,27 +2,19 @@
 use Rattle.std.proofs.Common.{◌≡◌, ◌⊎◌, ℕ, zero, suc, ◌-◌, List, [], ◌∷◌, ◌++◌, drop, replicate, Bool, true, false, not, ◌&&◌, ◌||◌, nat_eq, Option, Some, None, refl, sym, ◌∙◌, ap, subst, arith, inl, inr}
 use Rattle.std.specs.Str.{bytes_eq}
 use Rattle.std.proofs.lemmas.Bool.{cases_Bool, and_parts, or_cases, eqb-true}
-use Rattle.std.proofs.lemmas.Iterator.Adapters.{position_from-zero}
-use Rattle.std.proofs.lemmas.List.Quantifiers.{position-Some}
-use Rattle.jvm_model.specs.declared.program.ClassRec.{ClassRec}
-use Rattle.jvm_model.specs.Builtin.{object_class}
+use Rattle.std.proofs.{lemmas.Iterator.Adapters.position_from-zero, lemmas.List.Quantifiers.position-Some}
+use Rattle.jvm_model.specs.declared.program.{ClassRec.ClassRec, Program.Program}
+use Rattle.jvm_model.specs.{Builtin.object_class, RowsArrays.base_letter, Kinds.element_kind, Linked.Linked, Linked.IsKind}
 use Rattle.jvm_model.specs.Classes.{class_at, no_class, is_interface, is_below}
-use Rattle.jvm_model.specs.RowsArrays.{base_letter}
-use Rattle.type_frames.specs.StackEffect.{element_type}
+use Rattle.type_frames.specs.{StackEffect.element_type, TypedState.IsInstance, TypedState.element_text}
 use Rattle.type_frames.specs.Assign.{class_named, takes_any, extends, class_fits, element_fits, is_array, object_fits, assignable}
 use Rattle.et_base.proofs.Texts.{units_true}
 use Rattle.check_sound.proofs.Instances.{plain_name, plain_fits, array_fits}
-use Rattle.jvm_model.specs.declared.values.Base.{Base}
+use Rattle.jvm_model.specs.declared.values.{Base.Base, Kind.Kind}
 use Rattle.jvm_model.specs.declared.values.Base.TheVariants as base
-use Rattle.jvm_model.specs.declared.values.Kind.{Kind}
 use Rattle.jvm_model.specs.declared.values.Kind.TheVariants as kind
-use Rattle.jvm_model.specs.declared.program.Program.{Program}
-use Rattle.jvm_model.specs.Kinds.{element_kind}
-use Rattle.jvm_model.specs.Linked.{Linked, IsKind}
-use Rattle.type_frames.specs.declared.vtype.VType.{VType}
-use Rattle.type_frames.specs.declared.vtype.VType.TheVariants.{Object}
+use Rattle.type_frames.specs.declared.vtype.{VType.VType, VType.TheVariants.Object}
 use Rattle.type_frames.specs.Descriptors.{class_name, types_of, name_of, kind_name, base_text}
-use Rattle.type_frames.specs.TypedState.{IsInstance, element_text}
 use Rattle.check_sound.proofs.KindNames.{class_within}
 
 -- the elements of kind k are references, of kind e

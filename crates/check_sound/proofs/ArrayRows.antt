@@ -2,53 +2,38 @@
 use Rattle.std.proofs.Common.{◌≡◌, ℕ, ℤ, ◌<◌, List, [], ◌∷◌, ◌++◌, true, ◌||◌, cond, pos, negsuc, nat_eq, nat_lt, refl, sym, ◌∙◌, ap, subst, inl, inr}
 use Rattle.std.specs.Prelude.{slice_index_or}
 use Rattle.std.proofs.lemmas.Bool.{and_parts, or_cases, eqb-true, ltb-true}
-use Rattle.jvm_model.specs.declared.values.Value.{Value}
+use Rattle.jvm_model.specs.declared.values.{Value.Value, Kind.Kind, Base.Base, Head.Head}
 use Rattle.jvm_model.specs.declared.values.Value.TheVariants as value
-use Rattle.jvm_model.specs.declared.values.Kind.{Kind}
 use Rattle.jvm_model.specs.declared.values.Kind.TheVariants as kind
-use Rattle.jvm_model.specs.declared.values.Base.{Base}
-use Rattle.jvm_model.specs.declared.values.Head.{Head}
 use Rattle.jvm_model.specs.declared.values.Location.TheVariants as place
-use Rattle.jvm_model.specs.declared.instr.Cell.{Cell}
+use Rattle.jvm_model.specs.declared.instr.{Cell.Cell, Instr.Instr}
 use Rattle.jvm_model.specs.declared.instr.Cell.TheVariants as cell
-use Rattle.jvm_model.specs.declared.instr.Instr.{Instr}
 use Rattle.jvm_model.specs.declared.instr.Instr.TheVariants as form
 use Rattle.jvm_model.specs.declared.outcome.Next.TheVariants.{Fault}
 use Rattle.jvm_model.specs.declared.program.Program.{Program}
-use Rattle.jvm_model.specs.World.{World, size}
+use Rattle.jvm_model.specs.{World.World, World.size, Classes.member, Entries.Entries, Entries.with_stack, Kinds.element_kind, Kinds.kind_fits}
 use Rattle.jvm_model.specs.Access.{Access, read, write}
 use Rattle.jvm_model.specs.Builtin.{object_class, null_pointer_exception, array_index_exception, array_store_exception}
-use Rattle.jvm_model.specs.Classes.{member}
-use Rattle.jvm_model.specs.Entries.{Entries, with_stack}
-use Rattle.jvm_model.specs.Kinds.{element_kind, kind_fits}
-use Rattle.jvm_model.specs.Linked.{Linked, IsKind}
+use Rattle.jvm_model.specs.{Linked.Linked, Linked.IsKind, Narrow.narrow, Step.group_of, Step.arrays}
 use Rattle.et_base.specs.Numbers.{l2i}
-use Rattle.jvm_model.specs.Narrow.{narrow}
 use Rattle.jvm_model.specs.Rows.{Answer, answer, popping, on_int, on_object, goes_on, constant_kind}
 use Rattle.jvm_model.specs.RowsArrays.{on_array, in_range, element_letter, holds_references, checked, stored_in, loaded_from, row_arrays}
-use Rattle.jvm_model.specs.Step.{group_of, arrays}
 use Rattle.type_frames.specs.declared.stack_effect.OperandConstraint.TheVariants.{Fits, Array}
 use Rattle.type_frames.specs.declared.vtype.VType.{VType}
 use Rattle.type_frames.specs.declared.vtype.VType.TheVariants.{Top, Int, Long, Null, Object}
-use Rattle.type_frames.specs.Frames.{Slots}
-use Rattle.type_frames.specs.Environment.{Environment}
-use Rattle.type_frames.specs.Assign.{is_array, assignable}
+use Rattle.type_frames.specs.{Frames.Slots, Environment.Environment, Assign.is_array, Assign.assignable, Typing.IsTyped}
 use Rattle.type_frames.specs.Descriptors.{types_of, name_of, kind_name}
 use Rattle.type_frames.specs.StackEffect.{sides, array_need, element_type, loaded, place_of, objects_text}
 use Rattle.type_frames.specs.Rules.{meets, is_any_array, is_small}
-use Rattle.type_frames.specs.Typing.{IsTyped}
 use Rattle.type_frames.specs.TypedState.{kind_at, IsInstance, RefersTo, HasType, IsDeclared, IsReferenceOf, element_text}
 use Rattle.type_frames.proofs.AssignLaws.{assignable_trans}
 use Rattle.check_sound.proofs.Tree.{head_at, typed_done, typed_read, typed_write}
 use Rattle.check_sound.proofs.Held.{Is, Held, int_on, is_fits, refers_fits}
 use Rattle.check_sound.proofs.Operands.{Operands, IsPop, rest_of, popping-seen, popping-typed, popping-fits, popping-long, on_int-typed, on_object-typed, head-typed, choose-typed}
 use Rattle.check_sound.proofs.Ready.{Ends, Row, Ready, here, rest, operands, on}
-use Rattle.check_sound.proofs.Ends.{fault_typed}
+use Rattle.check_sound.proofs.{Ends.fault_typed, CallEffects.Result, CallEffects.push, DeclaredValues.declared_result, CastRows.constant_is_kind}
 use Rattle.check_sound.proofs.Thrown.{null_pointer_thrown, array_index_thrown, array_store_thrown}
-use Rattle.check_sound.proofs.CallEffects.{Result, push}
 use Rattle.jvm_model.proofs.NarrowedFits.{narrowed_fits, smalls}
-use Rattle.check_sound.proofs.DeclaredValues.{declared_result}
-use Rattle.check_sound.proofs.CastRows.{constant_is_kind}
 use Rattle.check_sound.proofs.KindNames.{kind_instance}
 use Rattle.check_sound.proofs.ArrayKinds.{Plain, Refs, array_below, array_kind, plain_cells, ref_cells}
 

@@ -10,12 +10,8 @@ use Rattle.std.proofs.lemmas.Option.{slice_get-get_or, slice_get_within, get_or_
 use Rattle.jvm_model.specs.declared.values.Value.{Value}
 use Rattle.jvm_model.specs.declared.state.EntryKind.TheVariants.{InMethod}
 use Rattle.jvm_model.specs.declared.instr.Instr.TheVariants as form
-use Rattle.jvm_model.specs.declared.program.Program.{Program}
-use Rattle.jvm_model.specs.declared.program.MethodRec.{MethodRec}
-use Rattle.jvm_model.specs.declared.program.Body.{Body}
-use Rattle.jvm_model.specs.declared.program.Placed.{Placed}
-use Rattle.jvm_model.specs.World.{World}
-use Rattle.jvm_model.specs.Builtin.{builtin_count}
+use Rattle.jvm_model.specs.declared.program.{Program.Program, MethodRec.MethodRec, Body.Body, Placed.Placed}
+use Rattle.jvm_model.specs.{World.World, Builtin.builtin_count}
 use Rattle.jvm_model.specs.Library.{builtin_defs, builtin_classes, builtin_methods}
 use Rattle.jvm_model.specs.Classes.{no_class, no_method, class_at, method_at, form_at, next_place}
 use Rattle.jvm_model.specs.Linked.{IsBody, IsPlace, count}
@@ -24,12 +20,10 @@ use Rattle.jvm_model.proofs.BuiltinRules.{class_keeps, method_keeps}
 use Rattle.type_frames.specs.declared.vtype.Frame.{Frame}
 use Rattle.type_frames.specs.declared.stack_effect.StackEffect.{StackEffect}
 use Rattle.type_frames.specs.Frames.{Slots, slots_of, index_of}
-use Rattle.type_frames.specs.Given.{given_frames}
+use Rattle.type_frames.specs.{Given.given_frames, StackEffect.sides, TypedState.Goes}
 use Rattle.type_frames.specs.Environment.{Environment, environment_of, given_at, is_target, leads, targets}
-use Rattle.type_frames.specs.StackEffect.{sides}
 use Rattle.type_frames.specs.Rules.{turned, is_sound, all_made, rule_1, rule_2, rule_3, rule_4, rule_5, rule_6, rule_7, rule_9, rule_10, rule_11, Test, first_broken, tests, broken, after, opening, fits_given, fits_at, fits_next, slots_fit}
 use Rattle.type_frames.specs.Typing.{passed_on, taken_by, incoming, before, breach_of, judged, breach_at, IsTypedMethod, IsTyped}
-use Rattle.type_frames.specs.TypedState.{Goes}
 use Rattle.check_sound.proofs.Held.{Locals, Held, locals_fit, held_fits}
 
 -- ---- all rules are kept

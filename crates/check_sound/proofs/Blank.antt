@@ -3,28 +3,18 @@ use Rattle.std.proofs.Common.{◌≡◌, ℕ, zero, suc, ◌<◌, ◌-◌, ◌+�
 use Rattle.std.specs.Prelude.{filter}
 use Rattle.std.specs.List.{list_all}
 use Rattle.std.proofs.lemmas.Bool.{cases_Bool, not-true, or_cases, eqb-true, eq-eqb, ltb-true, ltb-false}
-use Rattle.std.proofs.lemmas.List.{length-replicate, get_or-replicate}
-use Rattle.std.proofs.lemmas.Option.{slice_get-get_or}
-use Rattle.jvm_model.specs.declared.values.Value.{Value}
+use Rattle.std.proofs.lemmas.{List.length-replicate, List.get_or-replicate, Option.slice_get-get_or}
+use Rattle.jvm_model.specs.declared.values.{Value.Value, Base.Base, Kind.Kind, Head.Head}
 use Rattle.jvm_model.specs.declared.values.Value.TheVariants as value
-use Rattle.jvm_model.specs.declared.values.Base.{Base}
 use Rattle.jvm_model.specs.declared.values.Base.TheVariants as base
-use Rattle.jvm_model.specs.declared.values.Kind.{Kind}
 use Rattle.jvm_model.specs.declared.values.Kind.TheVariants as kind
-use Rattle.jvm_model.specs.declared.values.Head.{Head}
-use Rattle.jvm_model.specs.declared.program.Program.{Program}
-use Rattle.jvm_model.specs.declared.program.ClassRec.{ClassRec}
-use Rattle.jvm_model.specs.declared.program.FieldRec.{FieldRec}
-use Rattle.jvm_model.specs.World.{World, look}
-use Rattle.jvm_model.specs.Builtin.{builtin_count}
+use Rattle.jvm_model.specs.declared.program.{Program.Program, ClassRec.ClassRec, FieldRec.FieldRec}
+use Rattle.jvm_model.specs.{World.World, World.look, Builtin.builtin_count, View.keys}
 use Rattle.jvm_model.specs.Library.{builtin_defs, builtin_classes, builtin_fields}
 use Rattle.jvm_model.specs.Classes.{no_class, class_at, field_at, is_static, member, plain_fields, layout_in, layout, upwards, default_of, element_default, fields_of, elems_of, blank}
 use Rattle.jvm_model.specs.Linked.{IsClass, IsField, IsKind, first_or, opens}
-use Rattle.jvm_model.specs.View.{keys}
-use Rattle.jvm_model.proofs.BuiltinRules.{class_keeps, field_keeps}
-use Rattle.jvm_model.proofs.Upwards.{member_class}
-use Rattle.type_frames.specs.Descriptors.{types_of, is_float}
-use Rattle.type_frames.specs.Typing.{unsupported_field, IsTyped}
+use Rattle.jvm_model.proofs.{BuiltinRules.class_keeps, BuiltinRules.field_keeps, Upwards.member_class}
+use Rattle.type_frames.specs.{Descriptors.types_of, Descriptors.is_float, Typing.unsupported_field, Typing.IsTyped}
 use Rattle.type_frames.specs.TypedState.{IsDeclared, IsReferenceOf, element_text}
 use Rattle.check_sound.proofs.Tree.{IsNew}
 use Rattle.check_sound.proofs.Arrive.{counted_at, slice_get_drop, all_at_index}

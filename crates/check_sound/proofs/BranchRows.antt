@@ -1,26 +1,18 @@
 -- The rows of branches and switches.
 use Rattle.std.proofs.Common.{◌≡◌, ℕ, ℤ, suc, ◌<◌, List, [], ◌∷◌, length, map, Bool, true, false, ◌&&◌, ◌||◌, cond, nat_eq, nat_lt, pos, get_or, All, refl, sym, subst, arith}
-use Rattle.std.specs.List.{list_any}
+use Rattle.std.specs.{List.list_any, Ordering.int_eq}
 use Rattle.std.specs.Prelude.{int_le, unsigned_abs, ◌-ℤ◌}
-use Rattle.std.specs.Ordering.{int_eq}
 use Rattle.std.proofs.lemmas.List.Folds.{list_any_at}
 use Rattle.std.proofs.lemmas.Bool.{and_parts, ltb-true, eq-eqb, or_left, or_right}
 use Rattle.jvm_model.specs.declared.values.Value.{Value}
-use Rattle.jvm_model.specs.declared.instr.Instr.{Instr}
+use Rattle.jvm_model.specs.declared.instr.{Instr.Instr, IfTest.IfTest}
 use Rattle.jvm_model.specs.declared.instr.Instr.TheVariants as form
-use Rattle.jvm_model.specs.declared.instr.IfTest.{IfTest}
 use Rattle.jvm_model.specs.declared.program.Program.{Program}
-use Rattle.jvm_model.specs.World.{World}
-use Rattle.jvm_model.specs.Entries.{Entries}
-use Rattle.jvm_model.specs.Linked.{IsPlace}
-use Rattle.jvm_model.specs.Rows.{goes_to}
-use Rattle.jvm_model.specs.Step.{group_of, branches}
+use Rattle.jvm_model.specs.{World.World, Entries.Entries, Linked.IsPlace, Rows.goes_to, Step.group_of, Step.branches}
 use Rattle.jvm_model.specs.RowsBranches.{row_branches, holds, goes_if, table_target, lookup_target, flag_is, same_reference, is_null}
 use Rattle.type_frames.specs.declared.stack_effect.OperandConstraint.TheVariants.{Ref}
 use Rattle.type_frames.specs.declared.vtype.VType.TheVariants.{Int}
-use Rattle.type_frames.specs.Environment.{leads}
-use Rattle.type_frames.specs.StackEffect.{sides}
-use Rattle.type_frames.specs.Typing.{IsTyped}
+use Rattle.type_frames.specs.{Environment.leads, StackEffect.sides, Typing.IsTyped}
 use Rattle.check_sound.proofs.Held.{Held, Locals}
 use Rattle.check_sound.proofs.Operands.{rest_of, popping-typed, popping-fits, on_int-typed, choose-typed}
 use Rattle.check_sound.proofs.Ready.{Ends, Row, Ready, here, then, rest, sides_at, operands, on, to, is_form}

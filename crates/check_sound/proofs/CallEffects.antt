@@ -1,38 +1,27 @@
 -- What a call leaves of the frame of types, and the values that it gives.
 use Rattle.std.proofs.Common.{◌≡◌, ℕ, ◌≤◌, List, [], ◌∷◌, ◌++◌, length, drop, Bool, true, false, Option, Some, None, refl, sym, ◌∙◌, subst, arith}
 use Rattle.std.specs.Prelude.{slice_index_or}
-use Rattle.std.proofs.lemmas.List.{length-append, length-reverse}
+use Rattle.std.proofs.lemmas.{List.length-append, List.length-reverse, Option.same_Some}
 use Rattle.std.specs.Str.{bytes_eq}
 use Rattle.std.proofs.lemmas.Bool.{and_parts, eqb-true, leb-true}
-use Rattle.std.proofs.lemmas.Option.{same_Some}
-use Rattle.jvm_model.specs.declared.values.Value.{Value}
+use Rattle.jvm_model.specs.declared.values.{Value.Value, Kind.Kind}
 use Rattle.jvm_model.specs.declared.values.Value.TheVariants as value
-use Rattle.jvm_model.specs.declared.values.Kind.{Kind}
 use Rattle.jvm_model.specs.declared.values.Kind.TheVariants as kind
 use Rattle.jvm_model.specs.declared.instr.Instr.{Instr}
 use Rattle.jvm_model.specs.declared.instr.Instr.TheVariants as form
-use Rattle.jvm_model.specs.declared.program.Program.{Program}
-use Rattle.jvm_model.specs.declared.program.MethodRec.{MethodRec}
-use Rattle.jvm_model.specs.declared.program.Placed.{Placed}
-use Rattle.jvm_model.specs.World.{World}
+use Rattle.jvm_model.specs.declared.program.{Program.Program, MethodRec.MethodRec, Placed.Placed}
+use Rattle.jvm_model.specs.{World.World, Linked.Linked, Linked.IsClass, Narrow.narrow, Narrow.narrowed}
 use Rattle.jvm_model.specs.Classes.{method_at, init_name, is_below}
-use Rattle.jvm_model.specs.Linked.{Linked, IsClass}
-use Rattle.jvm_model.specs.Narrow.{narrow, narrowed}
 use Rattle.type_frames.specs.declared.vtype.VType.{VType}
 use Rattle.type_frames.specs.declared.vtype.VType.TheVariants.{Top, Int, Long, Null, Object, UninitThis, Uninit}
-use Rattle.type_frames.specs.declared.stack_effect.OperandConstraint.{OperandConstraint}
-use Rattle.type_frames.specs.declared.stack_effect.OperandConstraint.TheVariants.{Raw}
-use Rattle.type_frames.specs.declared.stack_effect.StackEffect.{StackEffect}
+use Rattle.type_frames.specs.declared.stack_effect.{OperandConstraint.OperandConstraint, OperandConstraint.TheVariants.Raw, StackEffect.StackEffect}
 use Rattle.type_frames.specs.Frames.{Slots, same, places_of, spread}
-use Rattle.type_frames.specs.Descriptors.{name_of}
-use Rattle.type_frames.specs.Environment.{Environment, made_at}
+use Rattle.type_frames.specs.{Descriptors.name_of, Environment.Environment, Environment.made_at}
 use Rattle.type_frames.specs.StackEffect.{sides, place_of, on_stack, argument_needs, result_types, call_sides, is_that, is_start, started, init_sides, special_sides, special_need, is_raw}
 use Rattle.type_frames.specs.Rules.{meets, meet_all, turned, after}
 use Rattle.type_frames.specs.TypedState.{HaveStackTypes, kind_at, IsInRange, IsInstance, is_class_with, HasType, called_by}
 use Rattle.check_sound.proofs.Held.{Locals, Held, on_top, int_on, long_on, locals_turned, held_turned}
-use Rattle.check_sound.proofs.Arrive.{Kept}
-use Rattle.check_sound.proofs.Instances.{instance_itself, below_is}
-use Rattle.check_sound.proofs.Ready.{HasPlain}
+use Rattle.check_sound.proofs.{Arrive.Kept, Instances.instance_itself, Instances.below_is, Ready.HasPlain}
 
 -- what these sides of a call of the method do to locals and operands
 pub record CallEffects (p : Program) (e : Environment) (f : Slots) (s : StackEffect) (m : MethodRec) : Type 0 where

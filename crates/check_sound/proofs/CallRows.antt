@@ -1,34 +1,25 @@
 -- The rows of calls: a method is entered with its arguments, and the calling frame waits.
 use Rattle.std.proofs.Common.{◌≡◌, ℕ, zero, suc, ◌+◌, ◌-◌, ◌<◌, ◌≤◌, List, [], ◌∷◌, ◌++◌, length, take, drop, reverse, Bool, true, false, not, ◌&&◌, ◌||◌, cond, nat_eq, nat_le, Option, Some, None, slice_get, refl, sym, ◌∙◌, ap, subst, arith, inl, inr, length-append}
 use Rattle.std.specs.Prelude.{flat_map, slice_index_or}
-use Rattle.std.specs.List.{IsDistinct}
-use Rattle.std.specs.Str.{bytes_eq}
+use Rattle.std.specs.{List.IsDistinct, Str.bytes_eq}
 use Rattle.std.proofs.lemmas.Bool.{or_cases, and_parts, leb-true, leb-false, eqb-true}
 use Rattle.std.proofs.lemmas.List.{length-drop, reverse-append, reverse-reverse, length-reverse, append_assoc}
 use Rattle.std.proofs.Math.Seq.{take-append_seam, drop-append_seam}
-use Rattle.jvm_model.specs.declared.values.Value.{Value}
+use Rattle.jvm_model.specs.declared.values.{Value.Value, Kind.Kind}
 use Rattle.jvm_model.specs.declared.values.Value.TheVariants as value
-use Rattle.jvm_model.specs.declared.values.Kind.{Kind}
 use Rattle.jvm_model.specs.declared.values.Kind.TheVariants as kind
-use Rattle.jvm_model.specs.declared.state.EntryKind.{EntryKind}
-use Rattle.jvm_model.specs.declared.state.EntryKind.TheVariants.{Absent, InMethod, InClass}
+use Rattle.jvm_model.specs.declared.state.{EntryKind.EntryKind, EntryKind.TheVariants.Absent, EntryKind.TheVariants.InMethod, EntryKind.TheVariants.InClass}
 use Rattle.jvm_model.specs.declared.instr.Instr.{Instr}
 use Rattle.jvm_model.specs.declared.instr.Instr.TheVariants as form
 use Rattle.jvm_model.specs.declared.library.Native.{Native}
-use Rattle.jvm_model.specs.declared.program.Program.{Program}
-use Rattle.jvm_model.specs.declared.program.MethodRec.{MethodRec}
-use Rattle.jvm_model.specs.declared.program.Body.{Body}
-use Rattle.jvm_model.specs.World.{World}
-use Rattle.jvm_model.specs.Access.{Access}
+use Rattle.jvm_model.specs.declared.program.{Program.Program, MethodRec.MethodRec, Body.Body}
+use Rattle.jvm_model.specs.{World.World, Access.Access, Kinds.class_of, Descriptors.parameters, Descriptors.return_type, Rows.Answer, Rows.with_kind}
 use Rattle.jvm_model.specs.Selection.{Selected, chosen, failing, select_virtual, select_interface, select_special, or_kept, special_start, special_path, declared_in, is_like, named_class as class_named_by}
-use Rattle.jvm_model.specs.Kinds.{class_of}
 use Rattle.check_sound.proofs.SelectLaws.{SelectedOf, selected_virtual, selected_interface, selected_special}
 use Rattle.jvm_model.specs.Builtin.{stream_class, string_class, abstract_method_error, stack_overflow_error, null_pointer_exception}
 use Rattle.jvm_model.specs.Classes.{method_at, class_at, is_static, is_below, init_name, clinit_name}
-use Rattle.jvm_model.specs.Descriptors.{parameters, return_type}
 use Rattle.jvm_model.specs.Entries.{Entry, Entries, is_full, with_stack, frame_of, called, slots_of}
 use Rattle.jvm_model.specs.Linked.{Linked, IsClass, IsMethod, IsKind, IsFoundIn}
-use Rattle.jvm_model.specs.Rows.{Answer, with_kind}
 use Rattle.jvm_model.specs.RowsCalls.{enters_native, calls, calls_selected, argument_count, on_receiver, receiver, call_virtual, call_interface, call_special, row_calls}
 use Rattle.jvm_model.specs.Step.{group_of, calls as of_calls}
 use Rattle.type_frames.specs.declared.vtype.VType.{VType}
@@ -36,29 +27,22 @@ use Rattle.type_frames.specs.declared.vtype.VType.TheVariants.{Top, Int, Long, N
 use Rattle.type_frames.specs.declared.stack_effect.OperandConstraint.{OperandConstraint}
 use Rattle.type_frames.specs.declared.stack_effect.OperandConstraint.TheVariants.{Fits, Raw, Never}
 use Rattle.type_frames.specs.declared.stack_effect.StackEffect.{StackEffect}
-use Rattle.type_frames.specs.Frames.{spread, places_of}
+use Rattle.type_frames.specs.{Frames.spread, Frames.places_of, Environment.Environment, Environment.made_at, Assign.assignable, Rules.meets, Rules.turned}
 use Rattle.type_frames.specs.Descriptors.{types_of, name_of, kind_name}
 use Rattle.type_frames.specs.Given.{is_constructor, this_types, entry_types}
-use Rattle.type_frames.specs.Environment.{Environment, made_at}
-use Rattle.type_frames.specs.Assign.{assignable}
 use Rattle.jvm_model.proofs.Upwards.{below_same as itself_below, below_trans}
 use Rattle.check_sound.proofs.Instances.{below_class, super_below, instance_itself}
 use Rattle.type_frames.specs.StackEffect.{sides, argument_needs, result_types, on_stack, call_sides, is_that, is_start, init_sides, special_need, object_of, place_of}
-use Rattle.type_frames.specs.Rules.{meets, turned}
 use Rattle.type_frames.specs.Typing.{IsTyped}
 use Rattle.type_frames.specs.TypedState.{is_class_with, kind_at, IsInRange, IsInstance, RefersTo, HasType, HaveTypes, IsBelow, class_begun, called_by}
-use Rattle.check_sound.proofs.Tree.{typed_done, typed_spend}
-use Rattle.check_sound.proofs.Grow.{Ranged}
+use Rattle.check_sound.proofs.{Tree.typed_done, Tree.typed_spend, Grow.Ranged, Arrive.has_number, Ends.fault_typed, Ends.using-typed}
 use Rattle.check_sound.proofs.Held.{refers_fits, Is, Held, IsShort, held_over, locals_over, is_fits}
-use Rattle.check_sound.proofs.Arrive.{has_number}
 use Rattle.check_sound.proofs.Operands.{Operands, IsPop, popped, none_there, rest_of, choose-typed, on_reference-typed, with_kind-typed, refers_nullable, IsNonNull, IsKindOf}
 use Rattle.check_sound.proofs.Ready.{TypedEntries, stub, closed, below_same, Takes, Gives, operand_types, NativeCall, Enters, Ends, Row, Ready, here, sides_at, rest, operands, next_typed, raised_typed, waits_typed, names_form, form_kind, form_found}
 use Rattle.check_sound.proofs.Onward.{whole, not_full, ready_grows}
 use Rattle.check_sound.proofs.Thrown.{builtin_is, abstract_thrown, overflow_thrown, null_pointer_thrown}
-use Rattle.check_sound.proofs.Ends.{fault_typed, using-typed}
 use Rattle.check_sound.proofs.CallEffects.{values_few, on_stack_length, this_of, CallEffects, call_of, Result, push}
-use Rattle.check_sound.proofs.ReturnRows.{home, named_class}
-use Rattle.check_sound.proofs.ParameterTexts.{AreTexts}
+use Rattle.check_sound.proofs.{ReturnRows.home, ReturnRows.named_class, ParameterTexts.AreTexts}
 use Rattle.check_sound.proofs.Arguments.{method_texts, Arguments, arguments_reverse, Taken, take_args, text_slots, EntersWith, entered_frame, takes_args, takes_append, one_each_reverse}
 
 -- The arguments of a call of the method m, the last on top, over the operands that the frame keeps: n values, with which m

@@ -1,40 +1,30 @@
 -- The rows of checkcast and instanceof, and athrow's.
 use Rattle.std.proofs.Common.{◌≡◌, ℕ, List, [], ◌∷◌, Bool, true, false, not, cond, nat_eq, refl, sym, subst, arith}
-use Rattle.jvm_model.specs.declared.values.Value.{Value}
+use Rattle.jvm_model.specs.declared.values.{Value.Value, Kind.Kind}
 use Rattle.jvm_model.specs.declared.values.Value.TheVariants as value
-use Rattle.jvm_model.specs.declared.values.Kind.{Kind}
 use Rattle.jvm_model.specs.declared.values.Kind.TheVariants as kind
 use Rattle.jvm_model.specs.declared.instr.Instr.{Instr}
 use Rattle.jvm_model.specs.declared.instr.Instr.TheVariants as form
 use Rattle.jvm_model.specs.declared.program.Program.{Program}
-use Rattle.jvm_model.specs.World.{World}
+use Rattle.jvm_model.specs.{World.World, Library.builtin_defs, Library.builtin_classes, Entries.Entries, Kinds.kind_fits, Kinds.class_of}
 use Rattle.jvm_model.specs.Builtin.{object_class, throwable_class, string_class, stream_class, class_cast_exception, null_pointer_exception}
-use Rattle.jvm_model.specs.Library.{builtin_defs, builtin_classes}
 use Rattle.jvm_model.specs.Classes.{is_below, is_interface, member}
 use Rattle.jvm_model.proofs.BuiltinRules.{class_keeps}
 use Rattle.type_frames.proofs.AssignLaws.{builtin_plain}
-use Rattle.check_sound.proofs.Instances.{takes_every, instance_below}
+use Rattle.check_sound.proofs.{Instances.takes_every, Instances.instance_below, Tree.typed_done, Tree.typed_known, Ends.fault_typed, KindNames.kind_instance}
 use Rattle.std.proofs.lemmas.Bool.{not-true}
-use Rattle.jvm_model.specs.Entries.{Entries}
-use Rattle.jvm_model.specs.Kinds.{kind_fits, class_of}
-use Rattle.jvm_model.specs.Linked.{Linked, IsKind}
+use Rattle.jvm_model.specs.{Linked.Linked, Linked.IsKind, Access.done}
 use Rattle.jvm_model.specs.declared.outcome.Next.TheVariants.{Raise}
-use Rattle.jvm_model.specs.Access.{done}
 use Rattle.jvm_model.specs.Rows.{constant_kind, answer, on_object}
 use Rattle.jvm_model.specs.RowsCasts.{cast_to, cast, tested, row_casts}
 use Rattle.jvm_model.specs.Step.{group_of, casts, row_throw}
 use Rattle.type_frames.specs.declared.vtype.VType.TheVariants.{Object}
-use Rattle.type_frames.specs.Descriptors.{name_of, kind_name}
-use Rattle.type_frames.specs.StackEffect.{sides}
-use Rattle.type_frames.specs.Typing.{IsTyped}
+use Rattle.type_frames.specs.{Descriptors.name_of, Descriptors.kind_name, StackEffect.sides, Typing.IsTyped}
 use Rattle.type_frames.specs.TypedState.{kind_at, IsInstance, RefersTo}
-use Rattle.check_sound.proofs.Tree.{typed_done, typed_known}
 use Rattle.check_sound.proofs.Held.{Is, Held, on_top, int_on}
 use Rattle.check_sound.proofs.Operands.{rest_of, popping-fits, head-typed, choose-typed}
 use Rattle.check_sound.proofs.Ready.{Ends, Row, Ready, here, rest, operands, on, raised_typed}
-use Rattle.check_sound.proofs.Ends.{fault_typed}
 use Rattle.check_sound.proofs.Thrown.{under_object, builtin_is, class_cast_thrown, null_pointer_thrown}
-use Rattle.check_sound.proofs.KindNames.{kind_instance}
 use Rattle.check_sound.proofs.Ready.{names_form}
 
 -- what a constant object is an instance of is a class of the program

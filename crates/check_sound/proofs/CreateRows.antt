@@ -2,43 +2,30 @@
 use Rattle.std.proofs.Common.{◌≡◌, ℕ, ℤ, zero, suc, ◌+◌, ◌≤◌, List, [], ◌∷◌, get_or, true, false, pos, negsuc, nat_eq, Option, Some, slice_get, refl, sym, ◌∙◌, ap, subst, arith, inl, inr}
 use Rattle.std.specs.List.{position_from}
 use Rattle.std.proofs.lemmas.Bool.{cases_Bool, eqb-true, eq-eqb}
-use Rattle.jvm_model.specs.declared.values.Value.{Value}
+use Rattle.jvm_model.specs.declared.values.{Value.Value, Kind.Kind, Head.Head}
 use Rattle.jvm_model.specs.declared.values.Value.TheVariants as value
-use Rattle.jvm_model.specs.declared.values.Kind.{Kind}
 use Rattle.jvm_model.specs.declared.values.Kind.TheVariants as kind
-use Rattle.jvm_model.specs.declared.values.Head.{Head}
 use Rattle.jvm_model.specs.declared.values.Location.TheVariants as place
 use Rattle.jvm_model.specs.declared.instr.Instr.TheVariants as form
-use Rattle.jvm_model.specs.declared.program.Program.{Program}
-use Rattle.jvm_model.specs.declared.program.Placed.{Placed}
+use Rattle.jvm_model.specs.declared.program.{Program.Program, Placed.Placed}
 use Rattle.jvm_model.specs.World.{World, size, make_object}
-use Rattle.jvm_model.specs.World.{Object as Made}
-use Rattle.jvm_model.specs.Builtin.{instantiation_error, negative_size_exception}
-use Rattle.jvm_model.specs.Classes.{blank, instance_head}
+use Rattle.jvm_model.specs.{World.Object as Made, Builtin.instantiation_error, Builtin.negative_size_exception, Classes.blank, Classes.instance_head}
 use Rattle.jvm_model.specs.Entries.{Entries}
 use Rattle.jvm_model.specs.Linked.{IsKind, IsArray, Ascends}
 use Rattle.jvm_model.specs.RowsCreate.{new_object, is_bare, array_head, new_array, row_create}
 use Rattle.std.proofs.lemmas.Option.{slice_get_within, get_or_from_slice_get}
-use Rattle.jvm_model.proofs.Places.{places_from}
-use Rattle.check_sound.proofs.KindNames.{kind_itself}
-use Rattle.jvm_model.proofs.Locations.{at_make_new, size_make}
+use Rattle.jvm_model.proofs.{Places.places_from, Locations.at_make_new, Locations.size_make}
+use Rattle.check_sound.proofs.{KindNames.kind_itself, Arrive.is_body, Onward.grows_make, Onward.ready_grows}
 use Rattle.type_frames.specs.declared.vtype.VType.TheVariants.{Top, Int, Object, Uninit}
-use Rattle.type_frames.specs.Frames.{index_of}
-use Rattle.type_frames.specs.Given.{places}
+use Rattle.type_frames.specs.{Frames.index_of, Given.places, Descriptors.kind_name, StackEffect.sides, StackEffect.is_that, Typing.IsTyped}
 use Rattle.type_frames.specs.Environment.{Environment, found_at, class_made, made_at}
-use Rattle.type_frames.specs.Descriptors.{kind_name}
-use Rattle.type_frames.specs.StackEffect.{sides, is_that}
-use Rattle.type_frames.specs.Typing.{IsTyped}
 use Rattle.type_frames.specs.TypedState.{kind_at, IsInstance, is_class_with, HasType}
 use Rattle.check_sound.proofs.Tree.{typed_done, typed_make, typed_spend}
 use Rattle.check_sound.proofs.Held.{Is, Held, on_top, locals_over, held_over, locals_turned, held_turned}
-use Rattle.check_sound.proofs.Arrive.{is_body}
 use Rattle.check_sound.proofs.Operands.{rest_of, popping-fits, on_int-typed, choose-typed}
 use Rattle.check_sound.proofs.Ready.{Ends, Row, Ready, here, rest, operands, on, names_form}
-use Rattle.check_sound.proofs.Onward.{grows_make, ready_grows}
 use Rattle.check_sound.proofs.Ends.{fault_typed, using-typed, new_kind}
-use Rattle.check_sound.proofs.Thrown.{instantiation_thrown, negative_size_thrown}
-use Rattle.check_sound.proofs.Blank.{blank_new}
+use Rattle.check_sound.proofs.{Thrown.instantiation_thrown, Thrown.negative_size_thrown, Blank.blank_new}
 
 -- ---- the class that a `new` names
 

@@ -6,27 +6,14 @@ use Rattle.et_base.proofs.Cases.{ends_some}
 use Rattle.jvm_model.specs.declared.values.Value.{Value}
 use Rattle.jvm_model.specs.declared.values.Value.TheVariants as value
 use Rattle.jvm_model.specs.declared.program.Program.{Program}
-use Rattle.jvm_model.specs.World.{World}
-use Rattle.jvm_model.specs.Access.{Access}
-use Rattle.jvm_model.specs.Classes.{member}
-use Rattle.jvm_model.specs.Narrow.{narrow, narrowed}
-use Rattle.jvm_model.specs.Rows.{Answer, popping}
-use Rattle.jvm_model.specs.Linked.{fits_int}
+use Rattle.jvm_model.specs.{World.World, Access.Access, Classes.member, Narrow.narrow, Narrow.narrowed, Rows.Answer, Rows.popping, Linked.fits_int}
 use Rattle.jvm_model.proofs.NarrowedFits.{narrowed_fits, smalls}
 use Rattle.type_frames.specs.declared.vtype.VType.{VType}
 use Rattle.type_frames.specs.declared.vtype.VType.TheVariants.{Top, Int, Long, Null, Object, UninitThis, Uninit}
 use Rattle.type_frames.specs.declared.stack_effect.OperandConstraint.{OperandConstraint}
-use Rattle.type_frames.specs.Environment.{Environment}
-use Rattle.type_frames.specs.Descriptors.{types_of, class_name}
-use Rattle.type_frames.specs.StackEffect.{needs_of}
-use Rattle.type_frames.specs.Typing.{IsTyped}
+use Rattle.type_frames.specs.{Environment.Environment, Descriptors.types_of, Descriptors.class_name, StackEffect.needs_of, Typing.IsTyped}
 use Rattle.type_frames.specs.TypedState.{IsInRange, RefersTo, IsReferenceOf, IsDeclared}
-use Rattle.check_sound.proofs.Tree.{Tree}
-use Rattle.check_sound.proofs.ParameterTexts.{one_type}
-use Rattle.check_sound.proofs.Operands.{Operands}
-use Rattle.check_sound.proofs.Ready.{HasPlain}
-use Rattle.check_sound.proofs.CallEffects.{Result}
-use Rattle.check_sound.proofs.ParameterTexts.{IsText}
+use Rattle.check_sound.proofs.{Tree.Tree, ParameterTexts.one_type, Operands.Operands, Ready.HasPlain, CallEffects.Result, ParameterTexts.IsText}
 use Rattle.check_sound.proofs.Arguments.{Argument, Arguments, take_args}
 
 -- ---- texts of fields

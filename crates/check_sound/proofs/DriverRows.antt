@@ -1,59 +1,40 @@
 -- Steps of the driver: a class is used, the test's object is made, a method is called, and the test is judged.
 use Rattle.std.proofs.Common.{◌≡◌, ℕ, ◌-◌, ◌<◌, List, [], ◌∷◌, ◌++◌, length, Bool, true, false, not, ◌&&◌, cond, nat_eq, Option, Some, None, IfSome, IsSome, refl, sym, ◌∙◌, ap, subst, arith}
 use Rattle.std.specs.Prelude.{flat_map}
-use Rattle.std.specs.List.{IsDistinct}
-use Rattle.std.specs.Str.{bytes_eq}
+use Rattle.std.specs.{List.IsDistinct, Str.bytes_eq}
 use Rattle.std.proofs.lemmas.Bool.{or_left, or_right, eq-eqb}
 use Rattle.std.proofs.lemmas.Option.{same_Some}
-use Rattle.jvm_model.specs.declared.values.Value.{Value}
+use Rattle.jvm_model.specs.declared.values.{Value.Value, Kind.Kind, Head.Head, InitState.InitState}
 use Rattle.jvm_model.specs.declared.values.Value.TheVariants as value
-use Rattle.jvm_model.specs.declared.values.Kind.{Kind}
-use Rattle.jvm_model.specs.declared.values.Head.{Head}
-use Rattle.jvm_model.specs.declared.values.InitState.{InitState}
 use Rattle.jvm_model.specs.declared.values.InitState.TheVariants.{Idle, Running, Done, Erroneous}
 use Rattle.jvm_model.specs.declared.values.Location.TheVariants as place
-use Rattle.jvm_model.specs.declared.state.EntryKind.{EntryKind}
-use Rattle.jvm_model.specs.declared.state.EntryKind.TheVariants.{Absent, InMethod, InClass}
+use Rattle.jvm_model.specs.declared.state.{EntryKind.EntryKind, EntryKind.TheVariants.Absent, EntryKind.TheVariants.InMethod, EntryKind.TheVariants.InClass}
 use Rattle.jvm_model.specs.declared.state.Stage.{Stage}
 use Rattle.jvm_model.specs.declared.state.Stage.TheVariants.{First, Made, Built, SetUp, Called, Last}
 use Rattle.jvm_model.specs.declared.outcome.Verdict.{Verdict}
-use Rattle.jvm_model.specs.declared.program.Program.{Program}
-use Rattle.jvm_model.specs.declared.program.TestEntry.{TestEntry}
-use Rattle.jvm_model.specs.declared.program.Body.{Body}
+use Rattle.jvm_model.specs.declared.program.{Program.Program, TestEntry.TestEntry, Body.Body}
 use Rattle.jvm_model.specs.World.{World, put, make_object}
 use Rattle.jvm_model.specs.Access.{Access, done, read, write, bind}
 use Rattle.jvm_model.specs.Builtin.{throwable_class, message_field, assertion_error, stack_overflow_error, no_class_error, abstract_method_error}
 use Rattle.jvm_model.specs.Classes.{class_at, method_at, is_static, is_below, is_trivial, init_name, upwards, member, blank, instance_head, literal_at}
-use Rattle.jvm_model.specs.Descriptors.{parameters}
+use Rattle.jvm_model.specs.{Descriptors.parameters, Kinds.class_of, Lookup.is_method}
 use Rattle.jvm_model.specs.Driver.{no_arguments, set_up_name, tear_down_name, plain_method_in, plain_method_of, driven, drives, once_driven, makes, drive_first, drive_init, drive_method, drive_set_up, drive_tear_down, judged, judged_message, judge, drive_at, drive}
 use Rattle.jvm_model.specs.Entries.{Entry, all_entries, is_full, class_entry, with_entry, frame_of}
-use Rattle.jvm_model.specs.Kinds.{class_of}
 use Rattle.jvm_model.specs.Linked.{IsClass, IsMethod, IsKind, IsTest}
-use Rattle.jvm_model.specs.Lookup.{is_method}
 use Rattle.jvm_model.specs.Rows.{ready, begun, refused, begun_at, begin}
 use Rattle.jvm_model.specs.State.{State, Turn, ended, stuck_turn, no_test, test_at}
-use Rattle.jvm_model.proofs.Locations.{at_put_same, size_make}
-use Rattle.jvm_model.proofs.Upwards.{below_same}
-use Rattle.jvm_model.proofs.Interfaces.{member_first}
-use Rattle.type_frames.specs.declared.vtype.VType.{VType}
-use Rattle.type_frames.specs.declared.vtype.VType.TheVariants.{UninitThis, Object}
-use Rattle.type_frames.specs.Frames.{spread}
-use Rattle.type_frames.specs.Descriptors.{types_of, name_of}
-use Rattle.type_frames.specs.Given.{is_constructor}
-use Rattle.type_frames.specs.Typing.{IsTyped}
+use Rattle.jvm_model.proofs.{Locations.at_put_same, Locations.size_make, Upwards.below_same, Interfaces.member_first}
+use Rattle.type_frames.specs.declared.vtype.{VType.VType, VType.TheVariants.UninitThis, VType.TheVariants.Object}
+use Rattle.type_frames.specs.{Frames.spread, Descriptors.types_of, Descriptors.name_of, Given.is_constructor, Typing.IsTyped}
 use Rattle.type_frames.specs.TypedState.{kind_at, IsInstance, is_class_with, RefersTo, HaveTypes, Goes, IsTop, IsBelow, AllBelow, IsThrowable, IsOfClass, HasObject, HasStage}
 use Rattle.et_base.proofs.Texts.{units_true}
 use Rattle.check_sound.proofs.Tree.{IsSpot, typed_done, typed_read, typed_mark, typed_make, typed_spend, Over}
-use Rattle.check_sound.proofs.Grow.{Ranged, throwable_over}
+use Rattle.check_sound.proofs.{Grow.Ranged, Grow.throwable_over, RaiseRows.throwable_instance, Blank.blank_new, Instances.below_is}
 use Rattle.check_sound.proofs.Ready.{TypedEntries, Rest, closed}
 use Rattle.check_sound.proofs.Onward.{grows_make, grows_begin, entries_grow}
-use Rattle.check_sound.proofs.RaiseRows.{throwable_instance}
 use Rattle.check_sound.proofs.Thrown.{abstract_thrown, overflow_thrown, no_class_thrown}
-use Rattle.check_sound.proofs.Blank.{blank_new}
-use Rattle.check_sound.proofs.Instances.{below_is}
 use Rattle.check_sound.proofs.Ends.{Local, TurnsTo, Step, tested, throws-typed, new_kind, stage_over}
-use Rattle.check_sound.proofs.Arguments.{EntersWith, entered_frame}
-use Rattle.check_sound.proofs.CallRows.{this_type, this_is}
+use Rattle.check_sound.proofs.{Arguments.EntersWith, Arguments.entered_frame, CallRows.this_type, CallRows.this_is}
 use Rattle.check_sound.proofs.SelectLaws.{found, declares, of_classes}
 use Rattle.check_sound.proofs.LibraryTypes.{string_name, message_spot, message_got}
 

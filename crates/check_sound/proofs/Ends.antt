@@ -1,30 +1,24 @@
 -- How a step ends: after its row, after a class is used, and where it throws by itself.
 use Rattle.std.proofs.Common.{◌≡◌, ℕ, ◌<◌, ◌≤◌, List, length, Bool, true, false, cond, Option, Some, None, IfSome, refl, sym, ◌∙◌, ap, subst, arith}
-use Rattle.jvm_model.specs.declared.values.Value.{Value}
+use Rattle.jvm_model.specs.declared.values.{Value.Value, Kind.Kind, Head.Head, InitState.InitState}
 use Rattle.jvm_model.specs.declared.values.Value.TheVariants as value
-use Rattle.jvm_model.specs.declared.values.Kind.{Kind}
 use Rattle.jvm_model.specs.declared.values.Kind.TheVariants as kind
-use Rattle.jvm_model.specs.declared.values.Head.{Head}
-use Rattle.jvm_model.specs.declared.values.InitState.{InitState}
 use Rattle.jvm_model.specs.declared.values.InitState.TheVariants.{Idle, Running, Done, Erroneous}
 use Rattle.jvm_model.specs.declared.values.Location.TheVariants as place
-use Rattle.jvm_model.specs.declared.state.EntryKind.{EntryKind}
-use Rattle.jvm_model.specs.declared.state.EntryKind.TheVariants.{Absent, InMethod, InClass}
+use Rattle.jvm_model.specs.declared.state.{EntryKind.EntryKind, EntryKind.TheVariants.Absent, EntryKind.TheVariants.InMethod, EntryKind.TheVariants.InClass}
 use Rattle.jvm_model.specs.declared.state.Stage.{Stage}
 use Rattle.jvm_model.specs.declared.state.Stage.TheVariants.{First, Made, Built, SetUp, Called, Last}
 use Rattle.jvm_model.specs.declared.instr.Instr.{Instr}
 use Rattle.jvm_model.specs.declared.outcome.Next.TheVariants as step
-use Rattle.jvm_model.specs.declared.program.Program.{Program}
-use Rattle.jvm_model.specs.declared.program.TestEntry.{TestEntry}
+use Rattle.jvm_model.specs.declared.program.{Program.Program, TestEntry.TestEntry}
 use Rattle.jvm_model.specs.World.{Object, World, size, at, make_object}
 use Rattle.jvm_model.specs.Access.{Access, done, read, write, bind}
 use Rattle.jvm_model.specs.Builtin.{throwable_class, stack_overflow_error, no_class_error}
 use Rattle.jvm_model.specs.Classes.{blank, instance_head, is_trivial, is_below}
-use Rattle.jvm_model.specs.Kinds.{class_of}
+use Rattle.jvm_model.specs.{Kinds.class_of, Throwing.throws}
 use Rattle.jvm_model.specs.Entries.{Entries, is_full, with_entry, class_entry, with_stack}
 use Rattle.jvm_model.specs.Rows.{Answer, answer, ready, begun, refused, begun_at, begin, once, using}
 use Rattle.jvm_model.specs.State.{State, Turn, next, ended, stuck_turn, test_at, or_first, thrown_at, raise, raised_in, with_entries}
-use Rattle.jvm_model.specs.Throwing.{throws}
 use Rattle.jvm_model.proofs.Locations.{at_make_new, size_make}
 use Rattle.type_frames.specs.Typing.{IsTyped}
 use Rattle.type_frames.specs.TypedState.{kind_at, IsTop, IsThrowable, HasObject, HasStage}
@@ -32,8 +26,7 @@ use Rattle.check_sound.proofs.Tree.{Tree, typed_done, typed_read, typed_mark, ty
 use Rattle.check_sound.proofs.Grow.{Ranged, throwable_over, kind_over}
 use Rattle.check_sound.proofs.Ready.{TypedEntries, IsThrown, Ends, Row, Ready, again_typed, raised_typed, any_raised}
 use Rattle.check_sound.proofs.Onward.{grows_make, entries_grow, begun_typed}
-use Rattle.check_sound.proofs.Thrown.{overflow_thrown, no_class_thrown}
-use Rattle.check_sound.proofs.Blank.{blank_new}
+use Rattle.check_sound.proofs.{Thrown.overflow_thrown, Thrown.no_class_thrown, Blank.blank_new}
 
 -- the parts of a typed state beside its world
 pub record Local (p : Program) (w : World) (s : State) : Type 0 where

@@ -3,47 +3,33 @@ use Rattle.std.proofs.Common.{◌≡◌, ◌≢◌, ◌⊎◌, ℕ, zero, suc, �
 use Rattle.std.specs.Prelude.{flat_map}
 use Rattle.std.proofs.lemmas.Bool.{cases_lt, and_parts, or_cases, or_left, or_right, eqb-true}
 use Rattle.std.proofs.lemmas.List.Folds.{list_any-append}
-use Rattle.jvm_model.specs.declared.values.Value.{Value}
+use Rattle.jvm_model.specs.declared.values.{Value.Value, Kind.Kind}
 use Rattle.jvm_model.specs.declared.values.Value.TheVariants as value
-use Rattle.jvm_model.specs.declared.values.Kind.{Kind}
 use Rattle.jvm_model.specs.declared.values.Kind.TheVariants as kind
 use Rattle.jvm_model.specs.declared.values.Location.TheVariants as place
 use Rattle.jvm_model.specs.declared.instr.Instr.TheVariants as form
-use Rattle.jvm_model.specs.declared.program.Program.{Program}
-use Rattle.jvm_model.specs.declared.program.ClassRec.{ClassRec}
-use Rattle.jvm_model.specs.World.{World, size}
-use Rattle.jvm_model.specs.Entries.{Entries, with_stack}
+use Rattle.jvm_model.specs.declared.program.{Program.Program, ClassRec.ClassRec}
+use Rattle.jvm_model.specs.{World.World, World.size, Entries.Entries, Entries.with_stack, Library.builtin_defs, Library.builtin_classes, RowsFields.row_fields}
 use Rattle.jvm_model.specs.Builtin.{object_class, string_class, stream_class, builtin_count, null_pointer_exception}
-use Rattle.jvm_model.specs.Library.{builtin_defs, builtin_classes}
 use Rattle.jvm_model.specs.Classes.{no_class, class_at, field_at, member, is_static, is_below, upwards, class_bound, plain_fields, layout_in, layout}
 use Rattle.jvm_model.specs.Lookup.{is_field, field_path_in, field_path, find_field}
 use Rattle.jvm_model.specs.Rows.{Answer, constant_kind, on_object, goes_on, popping, answer}
-use Rattle.jvm_model.specs.RowsFields.{row_fields}
-use Rattle.jvm_model.specs.Narrow.{narrowed}
-use Rattle.jvm_model.specs.Access.{Access, write}
+use Rattle.jvm_model.specs.{Narrow.narrowed, Access.Access, Access.write}
 use Rattle.jvm_model.specs.declared.outcome.Next.TheVariants.{Fault}
-use Rattle.check_sound.proofs.Arguments.{Argument}
+use Rattle.check_sound.proofs.{Arguments.Argument, Ends.fault_typed, Thrown.builtin_is, Thrown.null_pointer_thrown, CallEffects.push}
 use Rattle.jvm_model.specs.Linked.{Linked, IsClass, count, IsField, IsKind, IsPlainField, IsFoundField, is_interface_at}
-use Rattle.jvm_model.proofs.Interfaces.{member-flat_map}
-use Rattle.jvm_model.proofs.BuiltinRules.{builtin_class}
+use Rattle.jvm_model.proofs.{Interfaces.member-flat_map, BuiltinRules.builtin_class}
 use Rattle.jvm_model.proofs.Upwards.{superclass_is, below_same, below_trans, upwards_step}
-use Rattle.type_frames.specs.declared.vtype.VType.{VType}
-use Rattle.type_frames.specs.declared.vtype.VType.TheVariants.{Object, UninitThis}
+use Rattle.type_frames.specs.declared.vtype.{VType.VType, VType.TheVariants.Object, VType.TheVariants.UninitThis}
 use Rattle.type_frames.specs.declared.stack_effect.OperandConstraint.TheVariants.{Fits}
-use Rattle.type_frames.specs.Frames.{same}
-use Rattle.type_frames.specs.Environment.{Environment}
-use Rattle.type_frames.specs.Descriptors.{types_of, name_of}
+use Rattle.type_frames.specs.{Frames.same, Environment.Environment, Descriptors.types_of, Descriptors.name_of, Typing.IsTyped}
 use Rattle.type_frames.specs.StackEffect.{sides, needs_of, object_of, place_of}
-use Rattle.type_frames.specs.Typing.{IsTyped}
 use Rattle.type_frames.specs.TypedState.{kind_at, IsInstance, RefersTo, HasType, is_class_with}
 use Rattle.type_frames.proofs.AssignLaws.{object_below, interface_root}
 use Rattle.check_sound.proofs.Tree.{IsSpot, typed_read, typed_write, typed_known}
 use Rattle.check_sound.proofs.Operands.{Operands, rest_of, popping-fits, on_object-typed}
 use Rattle.check_sound.proofs.Ready.{Ends, Row, Ready, here, rest, operands, on, names_form, form_kind, form_found}
-use Rattle.check_sound.proofs.Ends.{fault_typed}
-use Rattle.check_sound.proofs.Thrown.{builtin_is, null_pointer_thrown}
 use Rattle.check_sound.proofs.Instances.{takes_every, Below, instance_below}
-use Rattle.check_sound.proofs.CallEffects.{push}
 use Rattle.check_sound.proofs.DeclaredValues.{text_of_field, declared_result, argument_stored, popping-declared}
 use Rattle.check_sound.proofs.SelectLaws.{any_some, all_member, found, direct}
 

@@ -1,19 +1,12 @@
 -- What has a type keeps it where there are more objects.
 use Rattle.std.proofs.Common.{◌≡◌, ℕ, ◌<◌, List, [], ◌∷◌, true, refl, sym, ap, subst, arith}
-use Rattle.jvm_model.specs.declared.values.Value.{Value}
+use Rattle.jvm_model.specs.declared.values.{Value.Value, Kind.Kind, Head.Head}
 use Rattle.jvm_model.specs.declared.values.Value.TheVariants as value
-use Rattle.jvm_model.specs.declared.values.Kind.{Kind}
-use Rattle.jvm_model.specs.declared.values.Head.{Head}
 use Rattle.jvm_model.specs.declared.program.Program.{Program}
-use Rattle.jvm_model.specs.World.{World, size}
-use Rattle.jvm_model.specs.Builtin.{throwable_class}
-use Rattle.jvm_model.specs.Classes.{is_below}
-use Rattle.jvm_model.specs.Kinds.{class_of}
+use Rattle.jvm_model.specs.{World.World, World.size, Builtin.throwable_class, Classes.is_below, Kinds.class_of}
 use Rattle.type_frames.specs.declared.vtype.VType.{VType}
 use Rattle.type_frames.specs.declared.vtype.VType.TheVariants.{Top, Int, Long, Null, Object, UninitThis, Uninit}
-use Rattle.type_frames.specs.Environment.{Environment, made_at}
-use Rattle.type_frames.specs.Descriptors.{types_of}
-use Rattle.type_frames.specs.StackEffect.{is_that}
+use Rattle.type_frames.specs.{Environment.Environment, Environment.made_at, Descriptors.types_of, StackEffect.is_that}
 use Rattle.type_frames.specs.TypedState.{kind_at, IsInRange, IsInstance, RefersTo, is_class_with, HasType, HaveTypes, HaveStackTypes, IsReferenceOf, IsDeclared, IsThrowable}
 use Rattle.check_sound.proofs.Tree.{Over, Alike}
 

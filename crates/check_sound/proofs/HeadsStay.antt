@@ -4,10 +4,8 @@ use Rattle.jvm_model.specs.declared.values.Location.TheVariants as place
 use Rattle.jvm_model.specs.declared.program.Program.{Program}
 use Rattle.jvm_model.specs.World.{World, size, at, put, make_object, object_at}
 use Rattle.jvm_model.specs.Access.{Access, done, read, write, make, spend, run}
-use Rattle.jvm_model.specs.State.{State}
-use Rattle.jvm_model.specs.Step.{step}
-use Rattle.type_frames.specs.Typing.{IsTyped}
-use Rattle.type_frames.specs.TypedState.{TypedWorld, TypedState}
+use Rattle.jvm_model.specs.{State.State, Step.step}
+use Rattle.type_frames.specs.{Typing.IsTyped, TypedState.TypedWorld, TypedState.TypedState}
 use Rattle.check_sound.proofs.Tree.{Tree, typed_done, typed_read, typed_write, typed_mark, typed_make, typed_spend, typed_known, Over, Alike}
 use Rattle.check_sound.proofs.Grow.{over_itself, alike_over, alike_back}
 use Rattle.check_sound.proofs.WorldKept.{whole, spot_over, fits_alike, put_alike, mark_over, make_over, world_put, world_mark, world_make}

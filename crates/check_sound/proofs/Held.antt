@@ -1,20 +1,13 @@
 -- Values with their types and their references in range: one, the locals of a frame, and operands.
 use Rattle.std.proofs.Common.{◌≡◌, ℕ, ℤ, List, [], ◌∷◌, map, Bool, true, false, cond, refl, sym, ap, subst}
 use Rattle.std.proofs.lemmas.Bool.{and_parts, eqb-true}
-use Rattle.jvm_model.specs.declared.values.Value.{Value}
+use Rattle.jvm_model.specs.declared.values.{Value.Value, Kind.Kind}
 use Rattle.jvm_model.specs.declared.values.Value.TheVariants as value
-use Rattle.jvm_model.specs.declared.values.Kind.{Kind}
 use Rattle.jvm_model.specs.declared.program.Program.{Program}
-use Rattle.jvm_model.specs.World.{World}
-use Rattle.jvm_model.specs.Linked.{Linked}
-use Rattle.jvm_model.specs.Rows.{constant_kind}
+use Rattle.jvm_model.specs.{World.World, Linked.Linked, Rows.constant_kind}
 use Rattle.type_frames.specs.declared.vtype.VType.{VType}
 use Rattle.type_frames.specs.declared.vtype.VType.TheVariants.{Top, Int, Long, Null, Object, UninitThis, Uninit}
-use Rattle.type_frames.specs.Frames.{same}
-use Rattle.type_frames.specs.Environment.{Environment}
-use Rattle.type_frames.specs.Descriptors.{kind_name}
-use Rattle.type_frames.specs.Assign.{assignable}
-use Rattle.type_frames.specs.Rules.{fit_all, turned_one}
+use Rattle.type_frames.specs.{Frames.same, Environment.Environment, Descriptors.kind_name, Assign.assignable, Rules.fit_all, Rules.turned_one}
 use Rattle.type_frames.specs.TypedState.{kind_at, IsInRange, IsInstance, RefersTo, HasType, HaveTypes, HasOnTop, HaveStackTypes}
 use Rattle.type_frames.proofs.AssignLaws.{assignable_trans}
 use Rattle.et_base.proofs.Texts.{units_true}

@@ -2,21 +2,17 @@
 use Rattle.std.proofs.Common.{◌≡◌, ℕ, zero, suc, ◌<◌, ◌≤◌, List, [], ◌∷◌, length, get_or, drop, Bool, true, false, not, ◌&&◌, ◌||◌, nat_eq, Option, Some, None, refl, sym, ◌∙◌, ap, subst, arith, inl, inr}
 use Rattle.std.specs.Str.{bytes_eq}
 use Rattle.std.proofs.lemmas.Bool.{cases_lt, or_cases, or_left, or_right, eqb-true}
-use Rattle.jvm_model.specs.declared.values.Kind.{Kind}
+use Rattle.jvm_model.specs.declared.values.{Kind.Kind, Base.Base}
 use Rattle.jvm_model.specs.declared.values.Kind.TheVariants as kind
-use Rattle.jvm_model.specs.declared.values.Base.{Base}
-use Rattle.jvm_model.specs.declared.program.Program.{Program}
+use Rattle.jvm_model.specs.declared.program.{Program.Program, ClassRec.ClassRec}
 use Rattle.jvm_model.specs.Builtin.{object_class}
 use Rattle.jvm_model.specs.Classes.{class_at, is_below, is_interface, member, no_class, upwards}
-use Rattle.jvm_model.specs.declared.program.ClassRec.{ClassRec}
 use Rattle.jvm_model.specs.Linked.{Linked, IsClass, IsKind, is_interface_at}
 use Rattle.jvm_model.proofs.Upwards.{below_same, upwards_root, upwards_step}
 use Rattle.et_base.specs.Names.{is_class_name, is_class_entry_name, starts_array, is_field_descriptor}
 use Rattle.type_frames.specs.declared.vtype.VType.TheVariants.{Object}
-use Rattle.type_frames.specs.Descriptors.{name_of, kind_name}
+use Rattle.type_frames.specs.{Descriptors.name_of, Descriptors.kind_name, TypedState.IsInstance, StackEffect.is_that}
 use Rattle.type_frames.specs.Assign.{class_named, takes_any, extends, class_fits, element_fits, is_array, object_fits}
-use Rattle.type_frames.specs.TypedState.{IsInstance}
-use Rattle.type_frames.specs.StackEffect.{is_that}
 use Rattle.et_base.proofs.Texts.{units_true}
 use Rattle.type_frames.proofs.AssignLaws.{class_name_plain, first_named, interface_takes, assignable_itself}
 

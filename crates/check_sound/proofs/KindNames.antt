@@ -4,17 +4,15 @@ use Rattle.std.specs.Prelude.{flat_map}
 use Rattle.std.proofs.lemmas.Bool.{cases_Bool, and_parts, or_cases, or_left, or_right, eqb-true, eq-eqb, ltb-true}
 use Rattle.std.proofs.lemmas.List.{length-append}
 use Rattle.std.proofs.Math.Seq.{take-append_seam}
-use Rattle.jvm_model.specs.declared.values.Base.{Base}
+use Rattle.jvm_model.specs.declared.values.{Base.Base, Kind.Kind}
 use Rattle.jvm_model.specs.declared.values.Base.TheVariants as base
-use Rattle.jvm_model.specs.declared.values.Kind.{Kind}
 use Rattle.jvm_model.specs.declared.values.Kind.TheVariants as kind
 use Rattle.jvm_model.specs.declared.program.Program.{Program}
 use Rattle.jvm_model.specs.Builtin.{object_class}
 use Rattle.jvm_model.specs.Classes.{is_below, implements, upwards, own_interfaces, member}
 use Rattle.jvm_model.specs.Kinds.{class_fits, base_fits, is_object, kind_fits}
 use Rattle.jvm_model.specs.Linked.{Linked, IsClass, IsKind, IsBase, is_interface_at}
-use Rattle.jvm_model.proofs.Upwards.{below_same}
-use Rattle.jvm_model.proofs.Interfaces.{member-flat_map}
+use Rattle.jvm_model.proofs.{Upwards.below_same, Interfaces.member-flat_map}
 use Rattle.type_frames.specs.Descriptors.{class_name, name_of, kind_name, base_text}
 use Rattle.type_frames.specs.Assign.{takes_any, element_fits, object_fits}
 use Rattle.type_frames.specs.Assign as named

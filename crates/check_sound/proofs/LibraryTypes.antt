@@ -4,39 +4,28 @@ use Rattle.std.specs.Prelude.{flat_map, codes}
 use Rattle.std.specs.List.{list_all}
 use Rattle.std.proofs.lemmas.Bool.{cases_lt, and_parts, or_cases, or_left, or_right, eqb-true, ltb-true}
 use Rattle.std.proofs.lemmas.List.{reverse-append}
-use Rattle.jvm_model.specs.declared.values.Kind.{Kind}
+use Rattle.jvm_model.specs.declared.values.{Kind.Kind, Value.Value}
 use Rattle.jvm_model.specs.declared.values.Kind.TheVariants as kind
-use Rattle.jvm_model.specs.declared.values.Value.{Value}
 use Rattle.jvm_model.specs.declared.values.Value.TheVariants as value
 use Rattle.jvm_model.specs.declared.values.Location.TheVariants as place
 use Rattle.jvm_model.specs.declared.library.Native.{Native}
 use Rattle.jvm_model.specs.declared.library.Native.TheVariants as native
-use Rattle.jvm_model.specs.declared.program.Program.{Program}
-use Rattle.jvm_model.specs.declared.program.ClassRec.{ClassRec}
-use Rattle.jvm_model.specs.declared.program.FieldRec.{FieldRec}
-use Rattle.jvm_model.specs.declared.program.MethodRec.{MethodRec}
-use Rattle.jvm_model.specs.World.{World, size}
+use Rattle.jvm_model.specs.declared.program.{Program.Program, ClassRec.ClassRec, FieldRec.FieldRec, MethodRec.MethodRec}
+use Rattle.jvm_model.specs.{World.World, World.size, Descriptors.parameters, Descriptors.return_type, Rows.constant_kind}
 use Rattle.jvm_model.specs.Builtin.{object_class, string_class, builder_class, stream_class, throwable_class, message_field, builtin_count}
 use Rattle.jvm_model.specs.Library.{builtin_defs, builtin_classes, builtin_fields, builtin_methods}
 use Rattle.jvm_model.specs.Classes.{no_class, no_method, class_at, field_at, method_at, is_below, is_static, is_interface, member, upwards, plain_fields, layout_in, layout}
-use Rattle.jvm_model.specs.Descriptors.{parameters, return_type}
 use Rattle.jvm_model.specs.Linked.{Linked, IsClass, IsKind}
 use Rattle.jvm_model.specs.Natives.{NativeGroup, of_object, of_string, of_builder, of_system, of_stream, of_files, of_env, of_throwable, native_group}
-use Rattle.jvm_model.specs.Rows.{constant_kind}
 use Rattle.jvm_model.proofs.BuiltinRules.{builtin_class, builtin_field, class_keeps, method_keeps}
 use Rattle.jvm_model.proofs.Upwards.{below_same}
-use Rattle.type_frames.specs.declared.vtype.VType.{VType}
-use Rattle.type_frames.specs.declared.vtype.VType.TheVariants.{Int, Long, Object}
-use Rattle.type_frames.specs.Frames.{same}
+use Rattle.type_frames.specs.declared.vtype.{VType.VType, VType.TheVariants.Int, VType.TheVariants.Long, VType.TheVariants.Object}
+use Rattle.type_frames.specs.{Frames.same, Assign.assignable}
 use Rattle.type_frames.specs.Descriptors.{types_of, name_of, kind_name}
-use Rattle.type_frames.specs.Assign.{assignable}
 use Rattle.type_frames.proofs.AssignLaws.{assignable_trans}
 use Rattle.type_frames.specs.TypedState.{kind_at, IsInstance, RefersTo, IsDeclared}
-use Rattle.check_sound.proofs.Tree.{IsSpot}
-use Rattle.check_sound.proofs.Held.{same_is}
-use Rattle.check_sound.proofs.Arrive.{counted_at, all_at_index}
+use Rattle.check_sound.proofs.{Tree.IsSpot, Held.same_is, Arrive.counted_at, Arrive.all_at_index, Ready.Takes, Ready.operand_types}
 use Rattle.check_sound.proofs.Instances.{takes_every, instance_below, instance_itself, below_is}
-use Rattle.check_sound.proofs.Ready.{Takes, operand_types}
 use Rattle.check_sound.proofs.Thrown.{under_object, builtin_is, above}
 
 abbrev pub object_name : List ℕ

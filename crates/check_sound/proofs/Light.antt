@@ -6,18 +6,13 @@ use Rattle.std.specs.Prelude.{flat_map, is_some}
 use Rattle.std.proofs.lemmas.Bool.{and_parts, and_from, leb-true, ltb-true, not-true}
 use Rattle.std.proofs.lemmas.List.{length-append, length-map}
 use Rattle.jvm_model.specs.declared.library.Native.{Native}
-use Rattle.jvm_model.specs.declared.program.Program.{Program}
-use Rattle.jvm_model.specs.declared.program.ClassRec.{ClassRec}
+use Rattle.jvm_model.specs.declared.program.{Program.Program, ClassRec.ClassRec}
 use Rattle.jvm_model.specs.Builtin.{string_class, null_pointer_exception, builtin_count}
-use Rattle.jvm_model.specs.Library.{builtin_defs, builtin_classes}
+use Rattle.jvm_model.specs.{Library.builtin_defs, Library.builtin_classes, Linked.Linked}
 use Rattle.jvm_model.specs.declared.values.Kind.TheVariants as kind
 use Rattle.jvm_model.specs.Classes.{no_class, class_at, method_at, field_at, is_static, is_interface, is_trivial, declares_start, default_interfaces, own_interfaces, first_mentions, lineage_in, class_bound, is_default_method, upwards, upwards_in, plain_fields, layout_in, layout, blank, instance_head, fields_of, default_of}
-use Rattle.jvm_model.specs.Linked.{Linked}
-use Rattle.jvm_model.proofs.BuiltinRules.{builtin_class, class_keeps}
-use Rattle.jvm_model.proofs.Upwards.{upwards_step, upwards_root}
-use Rattle.check_sound.proofs.Thrown.{builtin_is}
-use Rattle.check_sound.proofs.LibraryTypes.{native_home}
-use Rattle.check_sound.proofs.Paced.{IsLight, cells}
+use Rattle.jvm_model.proofs.{BuiltinRules.builtin_class, BuiltinRules.class_keeps, Upwards.upwards_step, Upwards.upwards_root}
+use Rattle.check_sound.proofs.{Thrown.builtin_is, LibraryTypes.native_home, Paced.IsLight, Paced.cells}
 
 counted : (a b : ℕ) → a ≡ b → suc (a + (0 + 0)) ≡ suc b
 counted a b e = omega arith

@@ -3,38 +3,25 @@ use Rattle.std.proofs.Common.{◌≡◌, ℕ, zero, suc, ◌+◌, ◌<◌, List,
 use Rattle.std.specs.Prelude.{slice_index_or}
 use Rattle.std.proofs.lemmas.Bool.{and_parts, cases_Bool, eqb-true, ltb-true, lt-ltb}
 use Rattle.jvm_model.specs.Builtin.{null_pointer_exception, string_class, stream_class}
-use Rattle.jvm_model.specs.Classes.{method_at}
-use Rattle.jvm_model.specs.Linked.{Linked, IsLiteral}
+use Rattle.jvm_model.specs.{Classes.method_at, Linked.Linked, Linked.IsLiteral, Rows.goes_on, World.World, Entries.Entries, Entries.with_stack}
 use Rattle.jvm_model.specs.declared.values.Kind.TheVariants as kind
-use Rattle.jvm_model.specs.declared.instr.Sort.{Sort}
-use Rattle.type_frames.specs.Descriptors.{name_of}
-use Rattle.jvm_model.specs.Rows.{goes_on}
-use Rattle.type_frames.specs.declared.stack_effect.OperandConstraint.{OperandConstraint}
-use Rattle.type_frames.specs.Environment.{Environment}
-use Rattle.type_frames.specs.Frames.{same, top_of}
+use Rattle.jvm_model.specs.declared.instr.{Sort.Sort, Instr.Instr}
+use Rattle.type_frames.specs.{Descriptors.name_of, Environment.Environment, Frames.same, Frames.top_of, Typing.IsTyped}
+use Rattle.type_frames.specs.declared.stack_effect.{OperandConstraint.OperandConstraint, Reading.Reading}
 use Rattle.type_frames.specs.Rules.{meets, is_ref, cut_long, set_one, is_read, all_read}
-use Rattle.type_frames.specs.declared.stack_effect.Reading.{Reading}
 use Rattle.type_frames.specs.TypedState.{IsInRange, IsInstance, RefersTo, HasType, HaveTypes}
-use Rattle.check_sound.proofs.Wide.{wide_before}
-use Rattle.check_sound.proofs.Instances.{instance_itself}
-use Rattle.check_sound.proofs.Grow.{Ranged}
-use Rattle.check_sound.proofs.Ends.{fault_typed}
-use Rattle.check_sound.proofs.Thrown.{builtin_is, null_pointer_thrown}
+use Rattle.check_sound.proofs.{Wide.wide_before, Instances.instance_itself, Grow.Ranged, Ends.fault_typed, Thrown.builtin_is, Thrown.null_pointer_thrown}
 use Rattle.jvm_model.specs.declared.values.Value.{Value}
 use Rattle.jvm_model.specs.declared.values.Value.TheVariants as value
-use Rattle.jvm_model.specs.declared.instr.Instr.{Instr}
 use Rattle.jvm_model.specs.declared.instr.Instr.TheVariants as form
 use Rattle.jvm_model.specs.declared.instr.Sort.TheVariants as sort
 use Rattle.jvm_model.specs.declared.program.Program.{Program}
-use Rattle.jvm_model.specs.World.{World}
-use Rattle.jvm_model.specs.Entries.{Entries, with_stack}
 use Rattle.jvm_model.specs.Step.{group_of, moves}
 use Rattle.jvm_model.specs.RowsMoves.{row_moves, is_long, loaded, stored}
 use Rattle.type_frames.specs.declared.stack_effect.OperandConstraint.TheVariants.{Fits, One, Half, Ref}
 use Rattle.type_frames.specs.declared.vtype.VType.{VType}
 use Rattle.type_frames.specs.declared.vtype.VType.TheVariants.{Top, Int, Long, Null, Object, UninitThis, Uninit}
 use Rattle.type_frames.specs.StackEffect.{sides, two, long_need, setting, reading}
-use Rattle.type_frames.specs.Typing.{IsTyped}
 use Rattle.check_sound.proofs.Tree.{typed_done}
 use Rattle.check_sound.proofs.Held.{Is, is_fits, Held, Locals, IsShort, on_top, int_on, long_on, long_top}
 use Rattle.check_sound.proofs.Operands.{Operands, rest_of, popping-seen, popping-long-seen, popping-typed, popping-fits, popping-long, on_reference-typed, choose-typed, IsNullable}

@@ -3,27 +3,20 @@ use Rattle.std.proofs.Common.{◌≡◌, ℕ, ℤ, ◌-◌, ◌<◌, List, [], �
 use Rattle.std.specs.Prelude.{codes}
 use Rattle.std.specs.Fmt.{signed_decimal}
 use Rattle.std.proofs.lemmas.Bool.{eqb-true}
-use Rattle.et_base.specs.Numbers.{add64}
-use Rattle.et_base.specs.Quotes.{utf8_of}
-use Rattle.jvm_model.specs.declared.values.Value.{Value}
+use Rattle.et_base.specs.{Numbers.add64, Quotes.utf8_of}
+use Rattle.jvm_model.specs.declared.values.{Value.Value, Kind.Kind}
 use Rattle.jvm_model.specs.declared.values.Value.TheVariants.{Int, Long, Null, Lit, Obj}
-use Rattle.jvm_model.specs.declared.values.Kind.{Kind}
 use Rattle.jvm_model.specs.declared.values.Kind.TheVariants as kind
 use Rattle.jvm_model.specs.declared.values.Location.TheVariants as place
 use Rattle.jvm_model.specs.declared.library.Native.{Native}
 use Rattle.jvm_model.specs.declared.library.Native.TheVariants as native
-use Rattle.jvm_model.specs.declared.outcome.Own.{Own}
-use Rattle.jvm_model.specs.declared.outcome.Next.TheVariants.{Go, Fault}
+use Rattle.jvm_model.specs.declared.outcome.{Own.Own, Next.TheVariants.Go, Next.TheVariants.Fault}
 use Rattle.jvm_model.specs.declared.program.Program.{Program}
 use Rattle.jvm_model.specs.World.{World, size, make_object}
-use Rattle.jvm_model.specs.Access.{Access, bind}
+use Rattle.jvm_model.specs.{Access.Access, Access.bind, Entries.Entries, Entries.with_stack, Kinds.class_of, State.State, Step.after_native}
 use Rattle.jvm_model.specs.Builtin.{string_class, builder_class, throwable_class, message_field, null_pointer_exception, string_index_exception}
 use Rattle.jvm_model.specs.Classes.{blank, instance_head, method_at}
-use Rattle.jvm_model.specs.Entries.{Entries, with_stack}
-use Rattle.jvm_model.specs.Kinds.{class_of}
 use Rattle.jvm_model.specs.Rows.{Answer, answer, popping, on_int, on_long, on_object, on_text, constant_kind}
-use Rattle.jvm_model.specs.State.{State}
-use Rattle.jvm_model.specs.Step.{after_native}
 use Rattle.jvm_model.specs.Working.{Working, operands, with_operands, makes_text, answers_text, answers_found, prints, char_of, boolean_text}
 use Rattle.jvm_model.specs.NativesObject.{native_object, sets_message, makes_message, keeps_string, keeps_object, native_throwable}
 use Rattle.jvm_model.specs.NativesString.{hash_of, text_index, answers_part, compares, string_equals, joined, native_string, appends, appends_string, native_builder}
@@ -32,18 +25,13 @@ use Rattle.jvm_model.specs.Natives.{NativeGroup, of_object, of_string, of_builde
 use Rattle.jvm_model.proofs.Locations.{size_make}
 use Rattle.type_frames.specs.declared.vtype.VType.{VType}
 use Rattle.type_frames.specs.declared.vtype.VType.TheVariants as vtype
-use Rattle.type_frames.specs.Descriptors.{name_of}
-use Rattle.type_frames.specs.Typing.{IsTyped}
+use Rattle.type_frames.specs.{Descriptors.name_of, Typing.IsTyped}
 use Rattle.type_frames.specs.TypedState.{kind_at, IsInRange, IsInstance, RefersTo, IsThrowable}
 use Rattle.check_sound.proofs.Tree.{Tree, typed_done, typed_read, typed_write, typed_make, typed_spend, typed_known}
-use Rattle.check_sound.proofs.TreeRuns.{tree_bind}
-use Rattle.check_sound.proofs.Grow.{Ranged}
-use Rattle.check_sound.proofs.WorldKept.{spot_over}
+use Rattle.check_sound.proofs.{TreeRuns.tree_bind, Grow.Ranged, WorldKept.spot_over, Onward.grows_itself, Onward.grows_make, Blank.blank_new}
 use Rattle.check_sound.proofs.Operands.{on_object-typed, on_reference-typed, head-typed, on_text-typed, choose-typed, refers_nullable}
 use Rattle.check_sound.proofs.Ready.{TypedEntries, Grows, IsThrown, HasPlain, Takes, Gives, gone_on, NativeCall}
-use Rattle.check_sound.proofs.Onward.{grows_itself, grows_make}
 use Rattle.check_sound.proofs.Thrown.{builtin_is, null_pointer_thrown, string_index_thrown}
-use Rattle.check_sound.proofs.Blank.{blank_new}
 use Rattle.check_sound.proofs.Ends.{TurnsTo, Step, Tested, tested_over, new_kind, throws-typed}
 use Rattle.check_sound.proofs.LibraryTypes.{object_name, string_name, builder_name, result_of, takes_of, native_takes, native_gives, string_named, builder_named, string_instance, no_builder, no_throwable, message_spot, message_set, message_got}
 

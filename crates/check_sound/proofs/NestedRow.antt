@@ -1,47 +1,28 @@
 -- The row of multianewarray: arrays of arrays, from the outermost in.
 use Rattle.std.proofs.Common.{◌≡◌, ℕ, ℤ, zero, suc, ◌+◌, ◌<◌, ◌≤◌, List, [], ◌∷◌, length, replicate, Bool, true, false, pos, negsuc, refl, sym, ◌∙◌, ap, subst, arith}
-use Rattle.jvm_model.specs.declared.values.Value.{Value}
+use Rattle.jvm_model.specs.declared.values.{Value.Value, Kind.Kind, Base.Base, Head.Head}
 use Rattle.jvm_model.specs.declared.values.Value.TheVariants as value
-use Rattle.jvm_model.specs.declared.values.Kind.{Kind}
 use Rattle.jvm_model.specs.declared.values.Kind.TheVariants as kind
-use Rattle.jvm_model.specs.declared.values.Base.{Base}
-use Rattle.jvm_model.specs.declared.values.Head.{Head}
 use Rattle.jvm_model.specs.declared.values.Location.TheVariants as place
 use Rattle.jvm_model.specs.declared.instr.Instr.{Instr}
 use Rattle.jvm_model.specs.declared.instr.Instr.TheVariants as form
 use Rattle.jvm_model.specs.declared.program.Program.{Program}
 use Rattle.jvm_model.specs.World.{World, size, make_object}
-use Rattle.jvm_model.specs.World.{Object as Made}
-use Rattle.jvm_model.specs.Access.{Access}
-use Rattle.jvm_model.specs.Builtin.{negative_size_exception}
-use Rattle.jvm_model.specs.Classes.{blank}
-use Rattle.jvm_model.specs.Entries.{Entries}
-use Rattle.jvm_model.specs.Kinds.{element_kind}
+use Rattle.jvm_model.specs.{World.Object as Made, Access.Access, Builtin.negative_size_exception, Classes.blank, Entries.Entries, Kinds.element_kind}
 use Rattle.jvm_model.specs.Linked.{IsKind, IsArray, dims_of}
-use Rattle.jvm_model.specs.Rows.{Answer}
+use Rattle.jvm_model.specs.{Rows.Answer, Step.group_of, Step.create as of_create}
 use Rattle.jvm_model.specs.RowsCreate.{array_head, children, nest, nested, sized, row_create}
-use Rattle.jvm_model.specs.Step.{group_of, create as of_create}
 use Rattle.jvm_model.proofs.Locations.{at_make_new, size_make}
 use Rattle.type_frames.specs.declared.stack_effect.OperandConstraint.TheVariants.{Fits}
-use Rattle.type_frames.specs.declared.vtype.VType.{VType}
-use Rattle.type_frames.specs.declared.vtype.VType.TheVariants.{Int}
-use Rattle.type_frames.specs.Descriptors.{kind_name}
-use Rattle.type_frames.specs.StackEffect.{sides}
-use Rattle.type_frames.specs.Typing.{IsTyped}
+use Rattle.type_frames.specs.declared.vtype.{VType.VType, VType.TheVariants.Int}
+use Rattle.type_frames.specs.{Descriptors.kind_name, StackEffect.sides, Typing.IsTyped}
 use Rattle.type_frames.specs.TypedState.{kind_at, IsInstance, IsReferenceOf, IsDeclared, element_text}
 use Rattle.check_sound.proofs.Tree.{head_at, Tree, typed_done, typed_write, typed_make, typed_spend, Over}
-use Rattle.check_sound.proofs.TreeRuns.{tree_bind}
-use Rattle.check_sound.proofs.Grow.{kind_over}
+use Rattle.check_sound.proofs.{TreeRuns.tree_bind, Grow.kind_over, Onward.grows_make, Onward.ready_grows, Ends.fault_typed, Thrown.negative_size_thrown}
 use Rattle.check_sound.proofs.Held.{Held, on_top, locals_over, held_over}
 use Rattle.check_sound.proofs.Operands.{Operands, rest_of, popping-fits, on_int-typed, choose-typed}
 use Rattle.check_sound.proofs.Ready.{Grows, Ends, Row, Ready, here, rest, operands, on, is_form, names_form}
-use Rattle.check_sound.proofs.Onward.{grows_make, ready_grows}
-use Rattle.check_sound.proofs.Ends.{fault_typed}
-use Rattle.check_sound.proofs.Thrown.{negative_size_thrown}
-use Rattle.check_sound.proofs.Blank.{blank_new}
-use Rattle.check_sound.proofs.KindNames.{kind_itself}
-use Rattle.check_sound.proofs.ArrayKinds.{References, of_arrays}
-use Rattle.check_sound.proofs.CreateRows.{new, new_array-typed}
+use Rattle.check_sound.proofs.{Blank.blank_new, KindNames.kind_itself, ArrayKinds.References, ArrayKinds.of_arrays, CreateRows.new, CreateRows.new_array-typed}
 
 grows_then : {u v w : World} → Grows u v → Grows v w → Grows u w
 grows_then {u = u} {v = v} {w = w} g h = record {

@@ -1,30 +1,22 @@
 -- What is typed of entries stays so in a world that goes on.
 use Rattle.std.proofs.Common.{◌≡◌, ℕ, ◌<◌, List, [], ◌∷◌, ◌++◌, length, drop, false, nat_eq, nat_le, get_or, Option, Some, None, refl, sym, ◌∙◌, ap, subst, arith, inl, inr}
-use Rattle.std.specs.List.{AllByRecursion}
+use Rattle.std.specs.{List.AllByRecursion, List.IsDistinct}
 use Rattle.std.proofs.lemmas.Map.Keys.{IsDistinct-cons}
 use Rattle.std.specs.Prelude.{flat_map}
-use Rattle.std.specs.List.{IsDistinct}
 use Rattle.std.proofs.lemmas.Bool.{cases_Bool, eqb-true, leb-false}
-use Rattle.jvm_model.specs.declared.values.Value.{Value}
-use Rattle.jvm_model.specs.declared.values.InitState.TheVariants.{Idle, Running}
+use Rattle.jvm_model.specs.declared.values.{Value.Value, InitState.TheVariants.Idle, InitState.TheVariants.Running}
 use Rattle.jvm_model.specs.declared.values.Location.TheVariants as place
-use Rattle.jvm_model.specs.declared.state.EntryKind.{EntryKind}
-use Rattle.jvm_model.specs.declared.state.EntryKind.TheVariants.{Absent, InMethod, InClass}
+use Rattle.jvm_model.specs.declared.state.{EntryKind.EntryKind, EntryKind.TheVariants.Absent, EntryKind.TheVariants.InMethod, EntryKind.TheVariants.InClass}
 use Rattle.jvm_model.specs.declared.instr.Instr.{Instr}
 use Rattle.jvm_model.specs.declared.program.Program.{Program}
 use Rattle.jvm_model.specs.World.{Object, World, at, put, make_object, same}
 use Rattle.jvm_model.specs.Classes.{method_at, is_trivial}
 use Rattle.jvm_model.specs.Entries.{Entry, Entries, entry_limit, class_entry, with_entry, is_full, all_entries}
 use Rattle.jvm_model.proofs.Locations.{same_false, at_put_other, at_put_same}
-use Rattle.type_frames.specs.Environment.{environment_of}
-use Rattle.type_frames.specs.StackEffect.{sides}
-use Rattle.type_frames.specs.Typing.{IsTyped}
+use Rattle.type_frames.specs.{Environment.environment_of, StackEffect.sides, Typing.IsTyped}
 use Rattle.type_frames.specs.TypedState.{Stands, Goes, Waits, Initialises, IsTop, IsBelow, AllBelow, class_begun, values_of}
-use Rattle.check_sound.proofs.Tree.{Over, Alike}
+use Rattle.check_sound.proofs.{Tree.Over, Tree.Alike, Held.locals_over, Held.held_over, WorldKept.mark_over, WorldKept.make_over, TreeRuns.state_same}
 use Rattle.check_sound.proofs.Grow.{over_itself, alike_over, range_over, ranged_over, types_over, stack_over}
-use Rattle.check_sound.proofs.Held.{locals_over, held_over}
-use Rattle.check_sound.proofs.WorldKept.{mark_over, make_over}
-use Rattle.check_sound.proofs.TreeRuns.{state_same}
 use Rattle.check_sound.proofs.Ready.{TypedEntries, stub, AllRanged, Rest, IsEntry, opened, closed, Grows, Ready}
 
 pub grows_itself : (w : World) → Grows w w

@@ -1,25 +1,19 @@
 -- Operands of which the topmost meet some needs, and one lemma for each combinator of the rows.
 use Rattle.std.proofs.Common.{◌≡◌, ℕ, ℤ, suc, ◌<◌, ◌≤◌, List, [], ◌∷◌, length, drop, Bool, true, false, ◌&&◌, cond, refl, sym, ap, subst, arith}
 use Rattle.std.proofs.lemmas.Bool.{and_parts}
-use Rattle.jvm_model.specs.declared.values.Value.{Value}
+use Rattle.jvm_model.specs.declared.values.{Value.Value, Kind.Kind, Head.Head}
 use Rattle.jvm_model.specs.declared.values.Value.TheVariants as value
-use Rattle.jvm_model.specs.declared.values.Kind.{Kind}
-use Rattle.jvm_model.specs.declared.values.Head.{Head}
 use Rattle.jvm_model.specs.declared.values.Location.TheVariants as place
 use Rattle.jvm_model.specs.declared.outcome.Next.TheVariants.{Fault}
 use Rattle.jvm_model.specs.declared.program.Program.{Program}
-use Rattle.jvm_model.specs.World.{World, size}
-use Rattle.jvm_model.specs.Access.{Access, read}
-use Rattle.jvm_model.specs.Builtin.{null_pointer_exception}
-use Rattle.jvm_model.specs.Classes.{literal_at}
+use Rattle.jvm_model.specs.{World.World, World.size, Access.Access, Access.read, Builtin.null_pointer_exception, Classes.literal_at}
 use Rattle.jvm_model.specs.Linked.{Linked, IsKind}
 use Rattle.jvm_model.specs.Rows.{Answer, answer, popping, on_int, on_long, on_object, on_reference, with_kind, on_text, constant_kind}
 use Rattle.type_frames.specs.declared.vtype.VType.{VType}
 use Rattle.type_frames.specs.declared.vtype.VType.TheVariants.{Top, Int, Long, Null, Object, UninitThis, Uninit}
 use Rattle.type_frames.specs.declared.stack_effect.OperandConstraint.{OperandConstraint}
 use Rattle.type_frames.specs.declared.stack_effect.OperandConstraint.TheVariants.{Fits, One, Half, Ref, Raw, Small, Array, Never}
-use Rattle.type_frames.specs.Environment.{Environment}
-use Rattle.type_frames.specs.Rules.{meets, meet_all}
+use Rattle.type_frames.specs.{Environment.Environment, Rules.meets, Rules.meet_all}
 use Rattle.type_frames.specs.TypedState.{kind_at, IsInstance, RefersTo, HaveStackTypes}
 use Rattle.check_sound.proofs.Tree.{head_at, Tree, typed_done, typed_read}
 use Rattle.check_sound.proofs.Held.{Is, Held, IsShort, is_fits}

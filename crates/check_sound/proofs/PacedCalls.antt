@@ -2,26 +2,18 @@
 -- receiver's class is private or not static, and a class with a built-in method has no state to read.
 use Rattle.std.proofs.Common.{◌≡◌, ◌⊎◌, ℕ, ◌+◌, ◌≤◌, List, [], ◌∷◌, length, filter, Bool, true, false, not, cond, nat_le, Option, Some, None, refl, sym, ◌∙◌, arith, inl, inr}
 use Rattle.std.specs.Prelude.{flat_map}
-use Rattle.std.specs.List.{list_any}
-use Rattle.std.specs.Str.{bytes_eq}
+use Rattle.std.specs.{List.list_any, Str.bytes_eq}
 use Rattle.std.proofs.lemmas.Bool.{and_parts, not-true}
-use Rattle.jvm_model.specs.declared.values.Value.{Value}
-use Rattle.jvm_model.specs.declared.values.Kind.{Kind}
+use Rattle.jvm_model.specs.declared.values.{Value.Value, Kind.Kind}
 use Rattle.jvm_model.specs.declared.instr.Instr.{Instr}
 use Rattle.jvm_model.specs.declared.instr.Instr.TheVariants as form
 use Rattle.jvm_model.specs.declared.library.Native.{Native}
-use Rattle.jvm_model.specs.declared.program.Body.{Body}
-use Rattle.jvm_model.specs.declared.program.Program.{Program}
-use Rattle.jvm_model.specs.Access.{Access}
+use Rattle.jvm_model.specs.declared.program.{Body.Body, Program.Program}
+use Rattle.jvm_model.specs.{Access.Access, Entries.Entries, Entries.is_full, Kinds.class_of, Linked.Linked, Rows.Answer, Classes.implements}
 use Rattle.jvm_model.specs.Builtin.{class_change_error, abstract_method_error, stack_overflow_error}
 use Rattle.jvm_model.specs.Classes.{class_at, method_at, is_private, is_static, member, upwards, init_name}
-use Rattle.jvm_model.specs.Entries.{Entries, is_full}
-use Rattle.jvm_model.specs.Kinds.{class_of}
-use Rattle.jvm_model.specs.Linked.{Linked}
-use Rattle.jvm_model.specs.Rows.{Answer}
 use Rattle.jvm_model.specs.RowsCalls.{enters_body, enters_native, calls, calls_selected, argument_count, on_receiver, receiver, call_special, row_calls}
 use Rattle.jvm_model.specs.Selection.{Selected, chosen, failing, is_like, is_open_like, declared_in, all_interfaces, candidates, kept_of, redeclares, has_code, one_with_code, kept_method, or_kept, select, select_virtual, select_interface, select_special, named_class, special_start, special_path}
-use Rattle.jvm_model.specs.Classes.{implements}
 use Rattle.jvm_model.proofs.Interfaces.{member_first}
 use Rattle.check_sound.proofs.SelectLaws.{found, filtered}
 use Rattle.check_sound.proofs.Paced.{Limits, either, paced_done, paced_spend, IsLight, LeavesFor, PacedRow, on_reference-paced, with_kind-paced}

@@ -1,23 +1,17 @@
 -- Rows that make objects touch no more than they pay for: each array of a multianewarray touches its head, its cells, and once
 -- more each cell that gets an array.
 use Rattle.std.proofs.Common.{◌≡◌, ℕ, ℤ, zero, suc, pos, negsuc, min, ◌+◌, ◌-◌, ◌*◌, ◌^◌, ◌<◌, ◌≤◌, List, [], ◌∷◌, length, Bool, true, false, cond, nat_eq, suc-mul, refl, sym, ap, subst, arith, inl, inr}
-use Rattle.std.proofs.lemmas.Bool.{cases_lt, eqb-true}
-use Rattle.std.proofs.lemmas.List.{length-replicate}
-use Rattle.jvm_model.specs.declared.values.Value.{Value}
+use Rattle.std.proofs.lemmas.{Bool.cases_lt, Bool.eqb-true, List.length-replicate}
+use Rattle.jvm_model.specs.declared.values.{Value.Value, Kind.Kind}
 use Rattle.jvm_model.specs.declared.values.Value.TheVariants as value
 use Rattle.jvm_model.specs.declared.values.Base.TheVariants as base
-use Rattle.jvm_model.specs.declared.values.Kind.{Kind}
 use Rattle.jvm_model.specs.declared.values.Kind.TheVariants as kind
 use Rattle.jvm_model.specs.declared.values.Location.TheVariants as place
 use Rattle.jvm_model.specs.declared.instr.Instr.{Instr}
 use Rattle.jvm_model.specs.declared.instr.Instr.TheVariants as form
 use Rattle.jvm_model.specs.declared.program.Program.{Program}
-use Rattle.jvm_model.specs.Access.{Access, write}
-use Rattle.jvm_model.specs.Builtin.{instantiation_error, negative_size_exception}
-use Rattle.jvm_model.specs.Classes.{element_default, blank}
-use Rattle.jvm_model.specs.Entries.{Entries}
-use Rattle.jvm_model.specs.Kinds.{element_kind}
-use Rattle.jvm_model.specs.Linked.{Linked, dims_of}
+use Rattle.jvm_model.specs.{Access.Access, Access.write, Builtin.instantiation_error, Builtin.negative_size_exception, Classes.element_default, Classes.blank}
+use Rattle.jvm_model.specs.{Entries.Entries, Kinds.element_kind, Linked.Linked, Linked.dims_of}
 use Rattle.jvm_model.specs.Rows.{Answer, faults, goes_on, popping, on_int, using}
 use Rattle.jvm_model.specs.RowsCreate.{new_object, is_bare, array_head, new_array, children, nest, nest_sum, nest_cost, nested, sized, row_create}
 use Rattle.check_sound.specs.PaceLaw.{sizes_taken, sizes_sum, array_sum}

@@ -1,33 +1,25 @@
 -- The driver, a step that throws by itself and a built-in method touch at most four locations for each unit.
 use Rattle.std.proofs.Common.{ℕ, suc, ◌+◌, ◌≤◌, List, [], ◌∷◌, Bool, true, false, cond, Option, Some, None, arith}
-use Rattle.jvm_model.specs.declared.values.Value.{Value}
+use Rattle.jvm_model.specs.declared.values.{Value.Value, InitState.InitState}
 use Rattle.jvm_model.specs.declared.values.Value.TheVariants as value
-use Rattle.jvm_model.specs.declared.values.InitState.{InitState}
 use Rattle.jvm_model.specs.declared.values.InitState.TheVariants.{Idle, Running, Done, Erroneous}
 use Rattle.jvm_model.specs.declared.values.Location.TheVariants as place
 use Rattle.jvm_model.specs.declared.library.Native.{Native}
 use Rattle.jvm_model.specs.declared.outcome.Next.TheVariants.{Go, Fault, Raise, Enter, Leave, Over}
 use Rattle.jvm_model.specs.declared.state.Stage.{Stage}
 use Rattle.jvm_model.specs.declared.state.Stage.TheVariants.{First, Made, Built, SetUp, Called, Last}
-use Rattle.jvm_model.specs.declared.program.Program.{Program}
-use Rattle.jvm_model.specs.declared.program.Body.{Body}
+use Rattle.jvm_model.specs.declared.program.{Program.Program, Body.Body}
 use Rattle.jvm_model.specs.Access.{Access, done, read, write, bind}
 use Rattle.jvm_model.specs.Builtin.{abstract_method_error, no_class_error, stack_overflow_error}
 use Rattle.jvm_model.specs.Classes.{class_at, method_at, is_static, is_trivial, upwards, init_name}
 use Rattle.jvm_model.specs.Driver.{set_up_name, tear_down_name, plain_method_in, plain_method_of, driven, drives, once_driven, makes, drive_first, drive_init, drive_method, drive_set_up, judged_message, judged_value, judge, drive_tear_down, drive_at, drive}
 use Rattle.jvm_model.specs.Entries.{is_full, with_entry, class_entry}
-use Rattle.jvm_model.specs.Kinds.{class_of}
-use Rattle.jvm_model.specs.Linked.{Linked}
-use Rattle.jvm_model.specs.Natives.{native_group, row_native}
+use Rattle.jvm_model.specs.{Kinds.class_of, Linked.Linked, Natives.native_group, Natives.row_native, Step.after_native, Throwing.throws, Working.Working}
 use Rattle.jvm_model.specs.Rows.{Answer, answer, stuck_row, ready, begun, refused, begun_at, begin}
 use Rattle.jvm_model.specs.State.{State, Turn, stuck_turn, test_at}
-use Rattle.jvm_model.specs.Step.{after_native}
-use Rattle.jvm_model.specs.Throwing.{throws}
-use Rattle.jvm_model.specs.Working.{Working}
 use Rattle.check_sound.specs.PaceLaw.{first_class}
 use Rattle.check_sound.proofs.Paced.{Limits, Paced, paced_done, paced_read, paced_write, paced_make, paced_spend, IsLight, Pays, paced_bind}
-use Rattle.check_sound.proofs.Light.{instance_cells, light}
-use Rattle.check_sound.proofs.PacedNatives.{allowance, native-paced}
+use Rattle.check_sound.proofs.{Light.instance_cells, Light.light, PacedNatives.allowance, PacedNatives.native-paced}
 
 -- a step, or a part of one, that ends with no more touches than four for each unit
 abbrev pub PacedStep : Limits → ℕ → ℕ → Access Turn → Type 0

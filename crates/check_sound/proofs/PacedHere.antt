@@ -4,19 +4,16 @@ use Rattle.std.proofs.Common.{◌≡◌, ℕ, suc, ◌-◌, ◌^◌, ◌<◌, Li
 use Rattle.jvm_model.specs.declared.values.Kind.TheVariants as kind
 use Rattle.jvm_model.specs.declared.instr.Instr.{Instr}
 use Rattle.jvm_model.specs.declared.instr.Instr.TheVariants as form
-use Rattle.jvm_model.specs.declared.program.Body.{Body}
-use Rattle.jvm_model.specs.declared.program.Placed.{Placed}
-use Rattle.jvm_model.specs.declared.program.Program.{Program}
+use Rattle.jvm_model.specs.declared.program.{Body.Body, Placed.Placed, Program.Program}
 use Rattle.jvm_model.specs.Classes.{method_at, form_at, Found, place_after, found_in, found_of}
 use Rattle.jvm_model.specs.Entries.{Entries}
 use Rattle.jvm_model.specs.Linked.{Linked, NamesForm, NamesBody, IsForm, IsBody}
 use Rattle.jvm_model.specs.Step.{Group, moves, arith as of_arith, branches, statics, fields, create, arrays, casts, calls, returns, throw, group_of, row_of, row, row_or_none, row_here}
 use Rattle.check_sound.specs.PaceLaw.{array_sum, sum_of, sum_here}
-use Rattle.check_sound.proofs.Arrive.{has_number}
+use Rattle.check_sound.proofs.{Arrive.has_number, PacedCalls.calls-row}
 use Rattle.check_sound.proofs.Paced.{Limits, paced_done, CutRow}
 use Rattle.check_sound.proofs.PacedRows.{none, NamesAllowed, moves-paced, arith-paced, branches-paced, statics-paced, fields-paced, arrays-paced, casts-paced, returns-paced, throw-paced}
 use Rattle.check_sound.proofs.PacedCreate.{HasDims, cut, create-paced}
-use Rattle.check_sound.proofs.PacedCalls.{calls-row}
 
 abbrev form_of : Option Found → Option Instr
 form_of o = elim o [ None ↦ None | Some x ↦ Some x.form ]

@@ -3,22 +3,15 @@
 use Rattle.std.proofs.Common.{◌≡◌, ℕ, zero, suc, ◌+◌, ◌*◌, ◌≤◌, List, [], ◌∷◌, ◌++◌, length, get_or, map, filter, Bool, true, false, not, ◌&&◌, cond, nat_eq, Option, Some, None, IfSome, refl, sym, subst, arith, inl, inr}
 use Rattle.std.specs.Prelude.{IsSome}
 use Rattle.std.proofs.lemmas.Bool.{cases_lt, or_right}
-use Rattle.jvm_model.specs.declared.values.Value.{Value}
-use Rattle.jvm_model.specs.declared.values.InitState.{InitState}
+use Rattle.jvm_model.specs.declared.values.{Value.Value, InitState.InitState}
 use Rattle.jvm_model.specs.declared.values.InitState.TheVariants.{Idle, Running, Done, Erroneous}
-use Rattle.jvm_model.specs.declared.program.Body.{Body}
-use Rattle.jvm_model.specs.declared.program.Program.{Program}
-use Rattle.jvm_model.specs.declared.program.ClassRec.{ClassRec}
-use Rattle.jvm_model.specs.declared.state.EntryKind.{EntryKind}
-use Rattle.jvm_model.specs.declared.state.EntryKind.TheVariants.{Absent, InMethod, InClass}
-use Rattle.jvm_model.specs.Access.{Access}
+use Rattle.jvm_model.specs.declared.program.{Body.Body, Program.Program, ClassRec.ClassRec}
+use Rattle.jvm_model.specs.declared.state.{EntryKind.EntryKind, EntryKind.TheVariants.Absent, EntryKind.TheVariants.InMethod, EntryKind.TheVariants.InClass}
+use Rattle.jvm_model.specs.{Access.Access, Kinds.class_of, Linked.Linked, Linked.IsInitialiser, Rows.Answer}
 use Rattle.jvm_model.specs.Builtin.{error_class, initializer_error, no_class_error, stack_overflow_error}
 use Rattle.jvm_model.specs.Classes.{no_class, class_at, method_at, member, is_interface, is_below, is_trivial, default_interfaces, layout}
 use Rattle.jvm_model.specs.Entries.{Entries, is_full, popped_entry}
 use Rattle.jvm_model.specs.Initialise.{Part, superclass_part, parts_of, starts_body, starts, looked_at, looks, left_at, finishing, row_finish, fails, fails_anew, was_entered, row_fail}
-use Rattle.jvm_model.specs.Kinds.{class_of}
-use Rattle.jvm_model.specs.Linked.{Linked, IsInitialiser}
-use Rattle.jvm_model.specs.Rows.{Answer}
 use Rattle.jvm_model.proofs.Interfaces.{member_first}
 use Rattle.check_sound.proofs.Paced.{Limits, either, paced_done, paced_read, paced_write, paced_make, paced_spend, PaysBy, PacedRow, on_object-paced}
 use Rattle.check_sound.proofs.Light.{instance_cells, light, null_light}

@@ -9,11 +9,8 @@ use Rattle.jvm_model.specs.declared.library.Native.{Native}
 use Rattle.jvm_model.specs.declared.library.Native.TheVariants as native
 use Rattle.jvm_model.specs.declared.outcome.Next.TheVariants.{Go}
 use Rattle.jvm_model.specs.declared.program.Program.{Program}
-use Rattle.jvm_model.specs.Access.{Access, done}
-use Rattle.jvm_model.specs.Builtin.{string_class, string_index_exception}
+use Rattle.jvm_model.specs.{Access.Access, Access.done, Builtin.string_class, Builtin.string_index_exception, Kinds.class_of, Linked.Linked}
 use Rattle.jvm_model.specs.Classes.{blank, instance_head, literal_at}
-use Rattle.jvm_model.specs.Kinds.{class_of}
-use Rattle.jvm_model.specs.Linked.{Linked}
 use Rattle.jvm_model.specs.Rows.{Answer, answer, popping, on_int, on_long, on_object, on_reference, on_text, constant_kind}
 use Rattle.jvm_model.specs.Working.{Working, operands, with_operands, makes_text, answers_text, answers_found, prints, char_of, boolean_text}
 use Rattle.jvm_model.specs.NativesObject.{native_object, sets_message, makes_message, keeps_string, keeps_object, native_throwable}

@@ -7,32 +7,23 @@ use Rattle.jvm_model.specs.declared.library.Native.{Native}
 use Rattle.jvm_model.specs.declared.outcome.Next.TheVariants.{Go, Fault, Raise, Enter, Leave, Over}
 use Rattle.jvm_model.specs.declared.instr.Instr.{Instr}
 use Rattle.jvm_model.specs.declared.instr.Instr.TheVariants as form
-use Rattle.jvm_model.specs.declared.state.Stage.{Stage}
+use Rattle.jvm_model.specs.declared.state.{Stage.Stage, EntryKind.EntryKind}
 use Rattle.jvm_model.specs.declared.state.Stage.TheVariants.{First, Made, Built, SetUp, Called, Last}
-use Rattle.jvm_model.specs.declared.state.EntryKind.{EntryKind}
 use Rattle.jvm_model.specs.declared.state.EntryKind.TheVariants.{Absent, InMethod, InClass}
-use Rattle.jvm_model.specs.declared.program.Program.{Program}
-use Rattle.jvm_model.specs.declared.program.MethodRec.{MethodRec}
-use Rattle.jvm_model.specs.World.{World}
+use Rattle.jvm_model.specs.declared.program.{Program.Program, MethodRec.MethodRec}
+use Rattle.jvm_model.specs.{World.World, Entries.Entries, Initialise.row_finish, Initialise.row_fail, Library.builtin_defs, Library.builtin_methods}
 use Rattle.jvm_model.specs.Access.{Access, bind, run}
 use Rattle.jvm_model.specs.Classes.{method_at, field_at, form_at, is_private, is_static}
-use Rattle.jvm_model.specs.Entries.{Entries}
-use Rattle.jvm_model.specs.Initialise.{row_finish, row_fail}
-use Rattle.jvm_model.specs.Library.{builtin_defs, builtin_methods}
-use Rattle.jvm_model.specs.Linked.{Linked}
+use Rattle.jvm_model.specs.{Linked.Linked, Raising.row_raise}
 use Rattle.jvm_model.specs.Natives.{NativeGroup, of_object, native_group}
-use Rattle.jvm_model.specs.Raising.{row_raise}
 use Rattle.jvm_model.specs.Rows.{Answer, answer, stuck_row}
 use Rattle.jvm_model.specs.State.{State, Turn, with_entries}
 use Rattle.jvm_model.specs.Step.{after_row, entered, row_here, acts, step, cost, touch}
 use Rattle.jvm_model.proofs.BuiltinRules.{method_keeps}
 use Rattle.check_sound.specs.PaceLaw.{sum_here, IsRunning, IsPriced, PutsHere, Writes, IsSameStatic, GetsHere, used_of, first_class, MetByEntry, MetBy, StateHere, Meets}
-use Rattle.check_sound.proofs.LibraryTypes.{is_in_table}
+use Rattle.check_sound.proofs.{LibraryTypes.is_in_table, PacedRows.NamesAllowed, PacedRows.raise-paced, PacedCreate.cut, PacedNatives.allowance}
 use Rattle.check_sound.proofs.Paced.{Limits, Paced, paced_done, paced_spend, Bounded, LeavesFor, Cut, CutRow, paced_map, paced_bind, paced_touches, paced_writes, paced_touched, paced_statics}
-use Rattle.check_sound.proofs.PacedRows.{NamesAllowed, raise-paced}
-use Rattle.check_sound.proofs.PacedCreate.{cut}
 use Rattle.check_sound.proofs.PacedInit.{EntryAllowed, finish-paced, fail-paced}
-use Rattle.check_sound.proofs.PacedNatives.{allowance}
 use Rattle.check_sound.proofs.PacedDriver.{PacedStep, StageAllowed, throws-paced, native-step-paced, drive-paced}
 use Rattle.check_sound.proofs.PacedHere.{here-paced}
 

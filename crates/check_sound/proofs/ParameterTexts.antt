@@ -3,10 +3,8 @@ use Rattle.std.proofs.Common.{◌≡◌, ℕ, zero, suc, ◌+◌, ◌<◌, List,
 use Rattle.std.proofs.lemmas.Bool.{eqb-true, cases_Bool, not-true, not-false}
 use Rattle.std.proofs.lemmas.List.Quantifiers.{position-Some}
 use Rattle.et_base.specs.Names.{is_base, after_class, after_element, after_type, argument, arguments, after_close, closed, is_method_descriptor, argument_units, is_class_name, is_return, units_of_type}
-use Rattle.jvm_model.specs.Classes.{member}
-use Rattle.jvm_model.specs.Linked.{first_or}
+use Rattle.jvm_model.specs.{Classes.member, Linked.first_or, Scanning.type_length}
 use Rattle.jvm_model.specs.Descriptors.{at_type, types_in, parameters}
-use Rattle.jvm_model.specs.Scanning.{type_length}
 use Rattle.jvm_model.proofs.DescriptorLemmas.{splits}
 
 abbrev pub first_units : List ℕ

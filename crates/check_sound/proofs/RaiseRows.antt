@@ -5,38 +5,23 @@ use Rattle.std.specs.List.{list_any, IsDistinct}
 use Rattle.std.proofs.lemmas.Bool.{and_parts, or_left, or_right, eq-eqb}
 use Rattle.std.proofs.lemmas.List.Elements.{All-nil}
 use Rattle.std.proofs.lemmas.Option.{same_Some}
-use Rattle.jvm_model.specs.declared.values.Value.{Value}
+use Rattle.jvm_model.specs.declared.values.{Value.Value, Kind.Kind}
 use Rattle.jvm_model.specs.declared.values.Value.TheVariants as value
-use Rattle.jvm_model.specs.declared.values.Kind.{Kind}
 use Rattle.jvm_model.specs.declared.values.Kind.TheVariants as kind
-use Rattle.jvm_model.specs.declared.state.EntryKind.{EntryKind}
-use Rattle.jvm_model.specs.declared.state.EntryKind.TheVariants.{Absent, InMethod, InClass}
-use Rattle.jvm_model.specs.declared.program.Program.{Program}
-use Rattle.jvm_model.specs.declared.program.Body.{Body}
-use Rattle.jvm_model.specs.declared.program.Placed.{Placed}
-use Rattle.jvm_model.specs.declared.program.Handler.{Handler}
-use Rattle.jvm_model.specs.World.{World, size}
-use Rattle.jvm_model.specs.Builtin.{object_class, throwable_class}
-use Rattle.jvm_model.specs.Classes.{method_at, is_below}
+use Rattle.jvm_model.specs.declared.state.{EntryKind.EntryKind, EntryKind.TheVariants.Absent, EntryKind.TheVariants.InMethod, EntryKind.TheVariants.InClass}
+use Rattle.jvm_model.specs.declared.program.{Program.Program, Body.Body, Placed.Placed, Handler.Handler}
+use Rattle.jvm_model.specs.{World.World, World.size, Builtin.object_class, Builtin.throwable_class, Classes.method_at, Classes.is_below, Kinds.class_of}
 use Rattle.jvm_model.specs.Entries.{Entry, Entries, entries_of, no_entries, entry_limit}
-use Rattle.jvm_model.specs.Kinds.{class_of}
 use Rattle.jvm_model.specs.Linked.{IsClass, IsKind, IsHandler, IsPlace, NamesBody}
 use Rattle.jvm_model.specs.Raising.{catches, handler_in, handlers_of, handler_for, handled, row_raise}
-use Rattle.type_frames.specs.Frames.{Slots}
-use Rattle.type_frames.specs.Descriptors.{name_of}
+use Rattle.type_frames.specs.{Frames.Slots, Descriptors.name_of, StackEffect.object_of, Typing.IsTyped}
 use Rattle.type_frames.specs.Environment.{Environment, environment_of, is_target}
-use Rattle.type_frames.specs.StackEffect.{object_of}
 use Rattle.type_frames.specs.Rules.{covers, caught, thrown, handles, all_handle, fits_at}
-use Rattle.type_frames.specs.Typing.{IsTyped}
 use Rattle.type_frames.specs.TypedState.{kind_at, IsInstance, Stands, Goes, IsTop, IsBelow, class_begun, IsThrowable}
 use Rattle.type_frames.proofs.AssignLaws.{object_below}
-use Rattle.check_sound.proofs.Tree.{Tree, typed_done}
-use Rattle.check_sound.proofs.Grow.{Ranged}
+use Rattle.check_sound.proofs.{Tree.Tree, Tree.typed_done, Grow.Ranged, Operands.head-typed, Instances.below_instance, Thrown.builtin_is}
 use Rattle.check_sound.proofs.Held.{Held, Locals, on_top, nothing_held}
 use Rattle.check_sound.proofs.Arrive.{has_number, kept_at, is_body, arrived_at, placed_at, handler_target, or_second}
-use Rattle.check_sound.proofs.Operands.{head-typed}
-use Rattle.check_sound.proofs.Instances.{below_instance}
-use Rattle.check_sound.proofs.Thrown.{builtin_is}
 use Rattle.check_sound.proofs.Ready.{TypedEntries, stub, Rest, IsEntry, opened, closed, below_same, Quiet}
 
 -- ---- the entry below one

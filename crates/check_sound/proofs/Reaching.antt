@@ -3,49 +3,33 @@ use Rattle.std.proofs.Common.{◌≡◌, ◌⊎◌, ℕ, ◌+◌, ◌-◌, ◌<�
 use Rattle.std.proofs.lemmas.Bool.{cases_Bool, and_parts, leb-true, eqb-true}
 use Rattle.jvm_model.specs.declared.values.Value.{Value}
 use Rattle.jvm_model.specs.declared.values.Value.TheVariants as value
-use Rattle.jvm_model.specs.declared.state.EntryKind.{EntryKind}
-use Rattle.jvm_model.specs.declared.state.EntryKind.TheVariants.{InMethod}
-use Rattle.jvm_model.specs.declared.instr.Instr.{Instr}
+use Rattle.jvm_model.specs.declared.state.{EntryKind.EntryKind, EntryKind.TheVariants.InMethod}
+use Rattle.jvm_model.specs.declared.instr.{Instr.Instr, Sort.Sort}
 use Rattle.jvm_model.specs.declared.instr.Instr.TheVariants as form
-use Rattle.jvm_model.specs.declared.instr.Sort.{Sort}
 use Rattle.jvm_model.specs.declared.instr.Sort.TheVariants as sort
 use Rattle.jvm_model.specs.declared.library.Native.{Native}
 use Rattle.jvm_model.specs.declared.library.Native.TheVariants as native
 use Rattle.jvm_model.specs.declared.outcome.Next.TheVariants.{Enter}
-use Rattle.jvm_model.specs.declared.program.Program.{Program}
-use Rattle.jvm_model.specs.declared.program.Body.{Body}
-use Rattle.jvm_model.specs.World.{World}
-use Rattle.jvm_model.specs.Access.{run}
+use Rattle.jvm_model.specs.declared.program.{Program.Program, Body.Body}
+use Rattle.jvm_model.specs.{World.World, Access.run, Descriptors.return_type, Rows.Answer, Rows.answer, Step.row_here, Step.turn}
 use Rattle.jvm_model.specs.Classes.{method_at, field_at, form_at}
-use Rattle.jvm_model.specs.Descriptors.{return_type}
 use Rattle.jvm_model.specs.Entries.{Entry, Entries, popped_entry, entries_of}
 use Rattle.jvm_model.specs.Reached.{Reaches, begins, steps}
-use Rattle.jvm_model.specs.Rows.{Answer, answer}
 use Rattle.jvm_model.specs.State.{State, Turn, next}
-use Rattle.jvm_model.specs.Step.{row_here, turn}
-use Rattle.type_frames.specs.declared.vtype.VType.{VType}
-use Rattle.type_frames.specs.declared.vtype.VType.TheVariants.{Top, Int, Long, Object}
-use Rattle.type_frames.specs.declared.stack_effect.StackEffect.{StackEffect}
-use Rattle.type_frames.specs.declared.stack_effect.OperandConstraint.TheVariants.{One}
+use Rattle.type_frames.specs.declared.vtype.{VType.VType, VType.TheVariants.Top, VType.TheVariants.Int, VType.TheVariants.Long, VType.TheVariants.Object}
+use Rattle.type_frames.specs.declared.stack_effect.{StackEffect.StackEffect, OperandConstraint.TheVariants.One}
 use Rattle.std.specs.Prelude.{slice_index_or}
-use Rattle.std.proofs.lemmas.List.{length-append}
-use Rattle.std.proofs.lemmas.Option.{same_Some}
-use Rattle.type_frames.specs.Frames.{Slots, same}
-use Rattle.type_frames.specs.Environment.{Environment}
-use Rattle.type_frames.specs.Descriptors.{types_of, class_name}
+use Rattle.std.proofs.lemmas.{List.length-append, Option.same_Some}
+use Rattle.type_frames.specs.{Frames.Slots, Frames.same, Environment.Environment, Descriptors.types_of, Descriptors.class_name, Typing.IsTyped}
 use Rattle.type_frames.specs.StackEffect.{sides, two, long_need, const_type}
-use Rattle.type_frames.specs.Typing.{IsTyped}
 use Rattle.type_frames.specs.TypedState.{TypedWorld, TypedState, IsBelow}
 use Rattle.type_frames.proofs.Started.{started_law}
 use Rattle.check_sound.specs.StepLaw.{StaysTyped}
 use Rattle.check_sound.specs.ReachLaw.{most_operands, HasStackLimits, puts, native_puts}
-use Rattle.check_sound.proofs.TreeRuns.{alike_itself, tree_leaves}
+use Rattle.check_sound.proofs.{TreeRuns.alike_itself, TreeRuns.tree_leaves, CallEffects.values_few, CallEffects.on_stack_length, RaiseRows.beneath}
 use Rattle.check_sound.proofs.Ready.{TypedEntries, stub, Rest, Takes, NativeCall, Enters, Ends, Ready, ready, here, sides_at, names_form}
-use Rattle.check_sound.proofs.CallEffects.{values_few, on_stack_length}
 use Rattle.check_sound.proofs.ReturnRows.{SortOf, sort_of, back_room}
-use Rattle.check_sound.proofs.RaiseRows.{beneath}
-use Rattle.check_sound.proofs.ParameterTexts.{IsText}
-use Rattle.check_sound.proofs.DeclaredValues.{text_of_field}
+use Rattle.check_sound.proofs.{ParameterTexts.IsText, DeclaredValues.text_of_field}
 use Rattle.check_sound.proofs.LibraryTypes.{takes_of, result_of, native_takes, native_gives}
 use Rattle.check_sound.proofs.WholeStep.{Groups, here-typed, stays_typed}
 

@@ -5,47 +5,31 @@ use Rattle.std.specs.Prelude.{flat_map, reverse}
 use Rattle.std.specs.List.{list_any, list_all, IsDistinct}
 use Rattle.std.proofs.lemmas.Bool.{and_parts, leb-true, or_cases, eqb-true}
 use Rattle.std.proofs.lemmas.List.Elements.{All-nil, All-cons}
-use Rattle.jvm_model.specs.declared.values.Value.{Value}
+use Rattle.jvm_model.specs.declared.values.{Value.Value, InitState.TheVariants.Running}
 use Rattle.jvm_model.specs.declared.values.Value.TheVariants as value
-use Rattle.jvm_model.specs.declared.values.InitState.TheVariants.{Running}
 use Rattle.jvm_model.specs.declared.values.Location.TheVariants as place
-use Rattle.jvm_model.specs.declared.state.EntryKind.{EntryKind}
-use Rattle.jvm_model.specs.declared.state.EntryKind.TheVariants.{Absent, InMethod, InClass}
+use Rattle.jvm_model.specs.declared.state.{EntryKind.EntryKind, EntryKind.TheVariants.Absent, EntryKind.TheVariants.InMethod, EntryKind.TheVariants.InClass}
 use Rattle.jvm_model.specs.declared.library.Native.{Native}
 use Rattle.jvm_model.specs.declared.outcome.Next.{Next}
 use Rattle.jvm_model.specs.declared.outcome.Next.TheVariants.{Go, Fault, Raise, Enter, Leave}
 use Rattle.jvm_model.specs.declared.outcome.Next.TheVariants as next
 use Rattle.jvm_model.specs.declared.instr.Instr.{Instr}
-use Rattle.jvm_model.specs.declared.program.Program.{Program}
-use Rattle.jvm_model.specs.declared.program.Body.{Body}
-use Rattle.jvm_model.specs.declared.program.Placed.{Placed}
-use Rattle.jvm_model.specs.World.{World, at}
-use Rattle.jvm_model.specs.Access.{Access}
-use Rattle.jvm_model.specs.Builtin.{throwable_class}
-use Rattle.jvm_model.specs.declared.program.MethodRec.{MethodRec}
+use Rattle.jvm_model.specs.declared.program.{Program.Program, Body.Body, Placed.Placed, MethodRec.MethodRec}
+use Rattle.jvm_model.specs.{World.World, World.at, Access.Access, Builtin.throwable_class, Descriptors.parameters, Descriptors.return_type}
 use Rattle.jvm_model.specs.Classes.{method_at, is_below, is_static, form_at, next_place}
-use Rattle.jvm_model.specs.Descriptors.{parameters, return_type}
 use Rattle.jvm_model.specs.Entries.{Entry, Entries, all_entries, entry_limit, no_entries, with_stack, with_place}
 use Rattle.jvm_model.specs.Linked.{IsPlace, IsForm, NamesForm, NamesBody, IsFormKind, IsBodyKind, IsFormFound}
 use Rattle.jvm_model.specs.Rows.{Answer, answer, stuck_row, goes_on, goes_to}
 use Rattle.jvm_model.proofs.Ranges.{all_there}
-use Rattle.type_frames.specs.declared.vtype.VType.{VType}
-use Rattle.type_frames.specs.declared.vtype.VType.TheVariants.{Int, Long, Object}
-use Rattle.type_frames.specs.declared.vtype.Frame.{Frame}
+use Rattle.type_frames.specs.declared.vtype.{VType.VType, VType.TheVariants.Int, VType.TheVariants.Long, VType.TheVariants.Object, Frame.Frame}
 use Rattle.type_frames.specs.declared.stack_effect.StackEffect.{StackEffect}
-use Rattle.type_frames.specs.Frames.{Slots}
-use Rattle.type_frames.specs.Given.{given_frames}
-use Rattle.type_frames.specs.Descriptors.{types_of, name_of}
+use Rattle.type_frames.specs.{Frames.Slots, Given.given_frames, Descriptors.types_of, Descriptors.name_of, StackEffect.sides, Typing.before, Typing.IsTyped}
 use Rattle.type_frames.specs.Environment.{Environment, environment_of, is_target, leads}
-use Rattle.type_frames.specs.StackEffect.{sides}
 use Rattle.type_frames.specs.Rules.{after, fits_at, all_read, can_set}
-use Rattle.type_frames.specs.Typing.{before, IsTyped}
 use Rattle.type_frames.specs.TypedState.{IsInRange, RefersTo, Stands, Goes, Waits, IsPushedBy, IsTop, IsBelow, AllBelow, called_by, class_begun, values_of, IsThrowable}
 use Rattle.check_sound.proofs.Tree.{Tree, typed_done, Over}
-use Rattle.check_sound.proofs.Grow.{Ranged}
-use Rattle.check_sound.proofs.Held.{Locals, Held}
+use Rattle.check_sound.proofs.{Grow.Ranged, Held.Locals, Held.Held, Operands.Operands}
 use Rattle.check_sound.proofs.Arrive.{Kept, has_number, kept_at, is_body, form_here, arrived_at, arrived_next, placed_at, leads_target}
-use Rattle.check_sound.proofs.Operands.{Operands}
 
 -- ---- entries
 

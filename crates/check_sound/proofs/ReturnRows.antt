@@ -1,39 +1,24 @@
 -- The rows of returns: the entry is popped, and a value goes to the frame below.
 use Rattle.std.proofs.Common.{◌≡◌, ℕ, ◌+◌, ◌-◌, ◌≤◌, List, [], ◌∷◌, ◌++◌, length, drop, Bool, true, ◌&&◌, nat_le, Option, Some, None, IfSome, slice_get, refl, sym, ◌∙◌, ap, subst, arith}
-use Rattle.std.proofs.lemmas.Bool.{and_parts, leb-true}
-use Rattle.std.proofs.lemmas.List.{length-drop}
-use Rattle.std.proofs.lemmas.Option.{same_Some}
-use Rattle.check_sound.proofs.Grow.{Ranged}
+use Rattle.std.proofs.lemmas.{Bool.and_parts, Bool.leb-true, List.length-drop, Option.same_Some}
+use Rattle.check_sound.proofs.{Grow.Ranged, Tree.typed_done}
 use Rattle.jvm_model.specs.declared.values.Value.{Value}
 use Rattle.jvm_model.specs.declared.values.Value.TheVariants as value
-use Rattle.jvm_model.specs.declared.program.Body.{Body}
-use Rattle.jvm_model.specs.declared.state.EntryKind.{EntryKind}
-use Rattle.jvm_model.specs.declared.state.EntryKind.TheVariants.{Absent, InMethod, InClass}
-use Rattle.jvm_model.specs.declared.instr.Instr.{Instr}
+use Rattle.jvm_model.specs.declared.program.{Body.Body, Program.Program, Placed.Placed}
+use Rattle.jvm_model.specs.declared.state.{EntryKind.EntryKind, EntryKind.TheVariants.Absent, EntryKind.TheVariants.InMethod, EntryKind.TheVariants.InClass}
+use Rattle.jvm_model.specs.declared.instr.{Instr.Instr, Sort.Sort}
 use Rattle.jvm_model.specs.declared.instr.Instr.TheVariants as form
-use Rattle.jvm_model.specs.declared.instr.Sort.{Sort}
 use Rattle.jvm_model.specs.declared.instr.Sort.TheVariants as sort
-use Rattle.jvm_model.specs.declared.program.Program.{Program}
-use Rattle.jvm_model.specs.declared.program.Placed.{Placed}
-use Rattle.jvm_model.specs.World.{World}
-use Rattle.jvm_model.specs.Classes.{method_at, next_place}
-use Rattle.jvm_model.specs.Descriptors.{return_type}
+use Rattle.jvm_model.specs.{World.World, Classes.method_at, Classes.next_place, Descriptors.return_type, Narrow.narrowed, Rows.goes_on}
 use Rattle.jvm_model.specs.Entries.{Entry, Entries, entries_of}
 use Rattle.jvm_model.specs.Linked.{IsClass, IsMethod, NamesForm, NamesBody}
-use Rattle.jvm_model.specs.Narrow.{narrowed}
-use Rattle.jvm_model.specs.Rows.{goes_on}
 use Rattle.jvm_model.specs.RowsReturn.{handed_on, hands_on, row_return}
 use Rattle.jvm_model.specs.Step.{group_of, returns}
 use Rattle.jvm_model.proofs.Ranges.{all_there}
-use Rattle.type_frames.specs.declared.vtype.VType.{VType}
-use Rattle.type_frames.specs.declared.vtype.VType.TheVariants.{Int, Long, Object}
-use Rattle.type_frames.specs.Descriptors.{types_of}
-use Rattle.type_frames.specs.Environment.{Environment, environment_of}
+use Rattle.type_frames.specs.declared.vtype.{VType.VType, VType.TheVariants.Int, VType.TheVariants.Long, VType.TheVariants.Object}
+use Rattle.type_frames.specs.{Descriptors.types_of, Environment.Environment, Environment.environment_of, Rules.turned, Typing.IsTyped}
 use Rattle.type_frames.specs.StackEffect.{sides, on_stack, result_types, return_typed}
-use Rattle.type_frames.specs.Rules.{turned}
-use Rattle.type_frames.specs.Typing.{IsTyped}
 use Rattle.type_frames.specs.TypedState.{IsInRange, Waits, IsTop, IsBelow, called_by}
-use Rattle.check_sound.proofs.Tree.{typed_done}
 use Rattle.check_sound.proofs.Held.{Is, Locals, Held}
 use Rattle.check_sound.proofs.Operands.{Operands, popping-fits, popping-long}
 use Rattle.check_sound.proofs.Arrive.{has_number, kept_at, arrived_next}

@@ -7,24 +7,18 @@ use Rattle.std.specs.Str.{bytes_eq}
 use Rattle.std.proofs.lemmas.Bool.{cases_lt, and_parts, or_cases, or_left, or_right, eqb-true, eq-eqb, not-true}
 use Rattle.jvm_model.specs.declared.values.Kind.{Kind}
 use Rattle.jvm_model.specs.declared.values.Kind.TheVariants as kind
-use Rattle.jvm_model.specs.declared.program.Program.{Program}
-use Rattle.jvm_model.specs.declared.program.ClassRec.{ClassRec}
-use Rattle.jvm_model.specs.Builtin.{object_class, builtin_count}
-use Rattle.jvm_model.specs.Library.{builtin_defs, builtin_classes}
+use Rattle.jvm_model.specs.declared.program.{Program.Program, ClassRec.ClassRec}
+use Rattle.jvm_model.specs.{Builtin.object_class, Builtin.builtin_count, Library.builtin_defs, Library.builtin_classes, Kinds.class_of}
 use Rattle.jvm_model.specs.Classes.{class_at, method_at, no_class, member, is_static, is_private, is_interface, is_below, upwards, class_bound, lineage_in, own_interfaces, implements, init_name}
-use Rattle.jvm_model.specs.Kinds.{class_of}
 use Rattle.jvm_model.specs.Lookup.{is_method, find_method, find_declared, find_in_object, find_in_interfaces, interface_methods, superinterfaces, pedigree_in, one_or_first, or_else}
 use Rattle.jvm_model.specs.Selection.{Selected, chosen, failing, is_like, is_open_like, declared_in, all_interfaces, candidates, kept_of, has_code, one_with_code, kept_method, or_kept, select, select_virtual, select_interface, named_class, above_or, special_start, special_path, select_special}
 use Rattle.jvm_model.specs.Linked.{Linked, IsClass, IsMethod, IsKind, IsPlainMethod, IsFound, IsFoundIn, is_interface_at}
 use Rattle.std.proofs.lemmas.List.Folds.{list_any-append}
 use Rattle.jvm_model.proofs.Interfaces.{member_first, none_listed, member-flat_map, member-first_mentions, reached}
-use Rattle.jvm_model.proofs.Options.{or_else_cases}
-use Rattle.jvm_model.proofs.BuiltinRules.{class_keeps}
+use Rattle.jvm_model.proofs.{Options.or_else_cases, BuiltinRules.class_keeps}
 use Rattle.jvm_model.proofs.Upwards.{superclass_is, member_class, upwards_step, below_same}
 use Rattle.type_frames.specs.declared.vtype.VType.TheVariants.{Object}
-use Rattle.type_frames.specs.Descriptors.{name_of, kind_name}
-use Rattle.type_frames.specs.Assign.{assignable}
-use Rattle.type_frames.specs.TypedState.{IsInstance}
+use Rattle.type_frames.specs.{Descriptors.name_of, Descriptors.kind_name, Assign.assignable, TypedState.IsInstance}
 use Rattle.et_base.proofs.Texts.{units_true}
 use Rattle.type_frames.proofs.AssignLaws.{assignable_trans}
 use Rattle.check_sound.proofs.Ready.{IsThrown}

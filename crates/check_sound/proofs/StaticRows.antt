@@ -2,19 +2,12 @@
 use Rattle.std.proofs.Common.{ℕ, List, [], ◌∷◌, refl, sym, subst, append-nil}
 use Rattle.jvm_model.specs.declared.instr.Instr.TheVariants as form
 use Rattle.jvm_model.specs.declared.program.Program.{Program}
-use Rattle.jvm_model.specs.World.{World}
-use Rattle.jvm_model.specs.Entries.{Entries}
-use Rattle.jvm_model.specs.Classes.{field_at}
+use Rattle.jvm_model.specs.{World.World, Entries.Entries, Classes.field_at}
 use Rattle.jvm_model.specs.RowsStatics.{row_statics, read_static, write_static}
 use Rattle.type_frames.specs.declared.stack_effect.OperandConstraint.{OperandConstraint}
-use Rattle.type_frames.specs.Descriptors.{types_of}
-use Rattle.type_frames.specs.StackEffect.{sides, needs_of}
-use Rattle.type_frames.specs.Typing.{IsTyped}
-use Rattle.check_sound.proofs.Tree.{typed_read, typed_write}
-use Rattle.check_sound.proofs.Operands.{Operands, rest_of}
+use Rattle.type_frames.specs.{Descriptors.types_of, StackEffect.sides, StackEffect.needs_of, Typing.IsTyped}
+use Rattle.check_sound.proofs.{Tree.typed_read, Tree.typed_write, Operands.Operands, Operands.rest_of, Ends.using-typed, CallEffects.push}
 use Rattle.check_sound.proofs.Ready.{Ends, Row, Ready, here, rest, operands, on, names_form}
-use Rattle.check_sound.proofs.Ends.{using-typed}
-use Rattle.check_sound.proofs.CallEffects.{push}
 use Rattle.check_sound.proofs.DeclaredValues.{text_of_field, declared_result, argument_stored, popping-declared}
 
 module _ (p : Program) (ty : IsTyped p) {w : World} {s : Entries} where

@@ -2,12 +2,10 @@
 use Rattle.std.proofs.Common.{◌≡◌, ℕ, ◌<◌, List, [], ◌∷◌, length, get_or, true, nat_eq, Some, refl, sym, ◌∙◌, ap, subst, arith}
 use Rattle.std.specs.Prelude.{codes}
 use Rattle.std.proofs.lemmas.Bool.{or_right}
-use Rattle.jvm_model.specs.declared.program.Program.{Program}
-use Rattle.jvm_model.specs.declared.program.ClassRec.{ClassRec}
+use Rattle.jvm_model.specs.declared.program.{Program.Program, ClassRec.ClassRec}
 use Rattle.jvm_model.specs.Builtin.{object_class, throwable_class, builtin_count}
-use Rattle.jvm_model.specs.Library.{builtin_defs, builtin_classes}
+use Rattle.jvm_model.specs.{Library.builtin_defs, Library.builtin_classes, Linked.Linked}
 use Rattle.jvm_model.specs.Classes.{no_class, class_at, is_below, upwards, member}
-use Rattle.jvm_model.specs.Linked.{Linked}
 use Rattle.jvm_model.proofs.BuiltinRules.{enough_classes, builtin_class}
 use Rattle.jvm_model.proofs.Upwards.{upwards_step, upwards_root, below_same}
 use Rattle.type_frames.specs.Descriptors.{name_of}

@@ -1,19 +1,14 @@
 -- Typed programs of accesses over a world that stands for the heads of the objects and the states of the classes: of the
 -- rest of a world only its types are known.
 use Rattle.std.specs.Prelude.{◌≡◌, ℕ, ◌<◌, ◌≤◌, length, get_or, true, nat_eq}
-use Rattle.jvm_model.specs.declared.values.Value.TheVariants.{Null}
-use Rattle.jvm_model.specs.declared.values.Base.{Base}
+use Rattle.jvm_model.specs.declared.values.{Value.TheVariants.Null, Base.Base, Head.Head, InitState.InitState, Location.Location}
 use Rattle.jvm_model.specs.declared.values.Kind.TheVariants as kind
-use Rattle.jvm_model.specs.declared.values.Head.{Head}
-use Rattle.jvm_model.specs.declared.values.InitState.{InitState}
-use Rattle.jvm_model.specs.declared.values.Location.{Location}
 use Rattle.jvm_model.specs.declared.values.Location.TheVariants as place
 use Rattle.jvm_model.specs.declared.program.Program.{Program}
 use Rattle.jvm_model.specs.World.{Object, World, Content, size, at, look, object_at, put, make_object}
 use Rattle.jvm_model.specs.Access.{Access, done, read, write, make, spend, Ran}
 use Rattle.jvm_model.specs.Classes.{field_at, member, layout}
-use Rattle.jvm_model.specs.Linked.{IsField, IsKind}
-use Rattle.jvm_model.specs.View.{keys}
+use Rattle.jvm_model.specs.{Linked.IsField, Linked.IsKind, View.keys}
 use Rattle.type_frames.specs.TypedState.{kind_at, IsDeclared, element_text, TypedWorld}
 
 abbrev pub head_at : World → ℕ → Head

@@ -1,18 +1,14 @@
 -- A typed program of accesses over a typed world meets only what is there, and leaves a typed world and a good answer.
 use Rattle.std.proofs.Common.{◌≡◌, ℕ, suc, ◌<◌, true, get_or, nat_eq, refl, sym, ◌∙◌, ap, subst, inl, inr, arith, Some}
 use Rattle.std.proofs.lemmas.Bool.{and_from, cases_Bool}
-use Rattle.jvm_model.specs.declared.values.Head.{Head}
-use Rattle.jvm_model.specs.declared.values.InitState.{InitState}
+use Rattle.jvm_model.specs.declared.values.{Head.Head, InitState.InitState, Value.TheVariants.Null}
 use Rattle.jvm_model.specs.declared.values.Location.TheVariants as place
 use Rattle.jvm_model.specs.declared.program.Program.{Program}
-use Rattle.jvm_model.specs.declared.values.Value.TheVariants.{Null}
 use Rattle.jvm_model.specs.World.{World, Object, size, at, put, make_object, has, same, look}
-use Rattle.jvm_model.specs.Classes.{field_at}
+use Rattle.jvm_model.specs.{Classes.field_at, View.IsSafe, Linked.IsKind}
 use Rattle.jvm_model.specs.Access.{Access, done, read, write, make, spend, bind, run}
-use Rattle.jvm_model.specs.View.{IsSafe}
 use Rattle.jvm_model.proofs.Bridges.{exists_has}
 use Rattle.jvm_model.proofs.Locations.{same_true, same_false, at_put_same, at_put_other, at_make_new, at_make_other, size_put, size_make, is_of_cases}
-use Rattle.jvm_model.specs.Linked.{IsKind}
 use Rattle.type_frames.specs.TypedState.{TypedWorld, element_text, kind_at}
 use Rattle.check_sound.proofs.Tree.{IsNew, Tree, typed_done, typed_read, typed_write, typed_mark, typed_make, typed_spend, typed_known, Alike, Leaves}
 use Rattle.check_sound.proofs.Grow.{alike_over, alike_back, declared_over}

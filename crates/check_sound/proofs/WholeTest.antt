@@ -1,48 +1,31 @@
 -- A whole test of checked code, and the world in which the first one begins.
 use Rattle.std.proofs.Common.{◌≡◌, ℕ, zero, suc, ◌-◌, ◌<◌, ◌≤◌, List, [], ◌∷◌, ◌++◌, length, take, get_or, Bool, true, false, ◌&&◌, ◌||◌, cond, nat_eq, nat_le, Option, Some, None, refl, sym, ◌∙◌, ap, subst, arith, inl, inr, length-append, All}
 use Rattle.std.specs.Prelude.{codes}
-use Rattle.std.specs.List.{list_any}
-use Rattle.std.specs.Str.{bytes_eq}
+use Rattle.std.specs.{List.list_any, Str.bytes_eq}
 use Rattle.std.proofs.lemmas.Bool.{and_parts, or_cases, or_right, eqb-true, leb-true}
 use Rattle.std.proofs.lemmas.List.{length-map}
-use Rattle.std.proofs.Math.ListN.{get_or-map}
-use Rattle.std.proofs.lemmas.List.Elements.{All-nil, All-cons}
-use Rattle.jvm_model.specs.declared.values.Touch.{Touch}
-use Rattle.check_sound.proofs.Blank.{null_at, not_float}
-use Rattle.check_sound.proofs.Instances.{takes_all, instance_itself}
-use Rattle.check_sound.proofs.Thrown.{object_named, builtin_is}
-use Rattle.check_sound.proofs.LibraryTypes.{string_named}
-use Rattle.std.proofs.Math.Seq.{take-append_seam}
-use Rattle.jvm_model.specs.declared.values.Value.{Value}
+use Rattle.std.proofs.{Math.ListN.get_or-map, lemmas.List.Elements.All-nil, lemmas.List.Elements.All-cons, Math.Seq.take-append_seam}
+use Rattle.jvm_model.specs.declared.values.{Touch.Touch, Value.Value, InitState.TheVariants.Idle}
+use Rattle.check_sound.proofs.{Blank.null_at, Blank.not_float, Instances.takes_all, Instances.instance_itself, Thrown.object_named, Thrown.builtin_is}
+use Rattle.check_sound.proofs.{LibraryTypes.string_named, Tree.Tree, Tree.typed_done, Ends.Local, Ends.TurnsTo}
 use Rattle.jvm_model.specs.declared.values.Value.TheVariants as value
 use Rattle.jvm_model.specs.declared.values.Kind.TheVariants as kind
-use Rattle.jvm_model.specs.declared.values.InitState.TheVariants.{Idle}
-use Rattle.jvm_model.specs.declared.program.Program.{Program}
-use Rattle.jvm_model.specs.declared.program.ClassRec.{ClassRec}
-use Rattle.jvm_model.specs.declared.program.FieldRec.{FieldRec}
-use Rattle.jvm_model.specs.World.{World}
-use Rattle.jvm_model.specs.Access.{run}
+use Rattle.jvm_model.specs.declared.program.{Program.Program, ClassRec.ClassRec, FieldRec.FieldRec}
+use Rattle.jvm_model.specs.{World.World, Access.run, Rows.constant_kind, Step.step, View.IsSafe, Library.builtin_defs, Library.builtin_classes}
 use Rattle.jvm_model.specs.Builtin.{object_class, string_class, stream_class}
 use Rattle.jvm_model.specs.Classes.{no_class, no_field, field_at, is_interface}
 use Rattle.jvm_model.specs.Linked.{IsClass, first_or, opens, takes, class_descriptor, is_interface_at}
-use Rattle.jvm_model.specs.Rows.{constant_kind}
 use Rattle.jvm_model.specs.State.{State, Turn, next, ended, stuck_turn, started, test_at}
-use Rattle.jvm_model.specs.Step.{step}
 use Rattle.jvm_model.specs.Suite.{End, finished, stuck, out_of_steps, after_step, whole, tree, opening, Given, given_at, one_test, with_first, runs_on}
-use Rattle.jvm_model.specs.View.{IsSafe}
 use Rattle.jvm_model.proofs.BuiltinRules.{builtin_class}
-use Rattle.jvm_model.specs.Library.{builtin_defs, builtin_classes}
-use Rattle.type_frames.specs.declared.vtype.VType.{VType}
-use Rattle.type_frames.specs.declared.vtype.VType.TheVariants.{Object}
+use Rattle.type_frames.specs.declared.vtype.{VType.VType, VType.TheVariants.Object}
 use Rattle.type_frames.specs.Descriptors.{types_of, class_name, is_float, name_of}
 use Rattle.type_frames.specs.Typing.{IsTyped}
 use Rattle.type_frames.specs.TypedState.{TypedWorld, IsInstance, IsReferenceOf, IsDeclared}
 use Rattle.type_frames.proofs.Started.{started_law}
 use Rattle.et_base.proofs.Texts.{units_true}
 use Rattle.check_sound.specs.TestLaw.{IsEnd}
-use Rattle.check_sound.proofs.Tree.{Tree, typed_done}
 use Rattle.check_sound.proofs.TreeRuns.{alike_itself, tree_safe, tree_leaves}
-use Rattle.check_sound.proofs.Ends.{Local, TurnsTo}
 use Rattle.check_sound.proofs.WholeStep.{Groups, bind_over, step-typed, local_of}
 
 -- what a test gives is of its run

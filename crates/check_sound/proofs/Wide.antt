@@ -2,16 +2,9 @@
 use Rattle.std.proofs.Common.{◌≡◌, ℕ, zero, suc, ◌+◌, ◌-◌, ◌≤◌, List, [], ◌∷◌, length, map, replicate, slice_get, slice_set, Bool, true, false, cond, Option, Some, None, refl, sym, ◌∙◌, ap, subst, arith, length-append}
 use Rattle.std.specs.Prelude.{slice_index_or}
 use Rattle.std.proofs.lemmas.List.{length-replicate}
-use Rattle.jvm_model.specs.declared.program.Program.{Program}
-use Rattle.jvm_model.specs.declared.program.MethodRec.{MethodRec}
-use Rattle.jvm_model.specs.declared.program.Body.{Body}
-use Rattle.jvm_model.specs.declared.program.FrameRec.{FrameRec}
-use Rattle.jvm_model.specs.declared.program.Placed.{Placed}
-use Rattle.type_frames.specs.declared.vtype.VType.{VType}
-use Rattle.type_frames.specs.declared.vtype.VType.TheVariants.{Top, Long}
-use Rattle.type_frames.specs.declared.vtype.Frame.{Frame}
-use Rattle.type_frames.specs.declared.stack_effect.LocalUpdate.{LocalUpdate}
-use Rattle.type_frames.specs.declared.stack_effect.Substitution.{Substitution}
+use Rattle.jvm_model.specs.declared.program.{Program.Program, MethodRec.MethodRec, Body.Body, FrameRec.FrameRec, Placed.Placed}
+use Rattle.type_frames.specs.declared.vtype.{VType.VType, VType.TheVariants.Top, VType.TheVariants.Long, Frame.Frame}
+use Rattle.type_frames.specs.declared.stack_effect.{LocalUpdate.LocalUpdate, Substitution.Substitution}
 use Rattle.type_frames.specs.declared.stack_effect.Substitution.TheVariants.{Keep, All}
 use Rattle.type_frames.specs.Frames.{Slots, slots_of, padded, spread, same, index_of}
 use Rattle.type_frames.specs.Given.{entry_types, all_types, joined, locals_after, is_place, frame_at, frame_then, frames_from, body_frames, given_frames}

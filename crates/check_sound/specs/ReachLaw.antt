@@ -1,23 +1,15 @@
 -- What the states have that a test comes to: they are typed, and there is room for what a step puts on the operands.
 use Rattle.std.specs.Prelude.{◌≡◌, ℕ, ◌+◌, ◌<◌, ◌≤◌, length, Some, None, IfSome}
 use Rattle.jvm_model.specs.declared.state.EntryKind.TheVariants.{Absent, InMethod}
-use Rattle.jvm_model.specs.declared.instr.Instr.{Instr}
+use Rattle.jvm_model.specs.declared.instr.{Instr.Instr, Sort.Sort}
 use Rattle.jvm_model.specs.declared.instr.Instr.TheVariants as form
-use Rattle.jvm_model.specs.declared.instr.Sort.{Sort}
 use Rattle.jvm_model.specs.declared.library.Native.{Native}
 use Rattle.jvm_model.specs.declared.library.Native.TheVariants as native
 use Rattle.jvm_model.specs.declared.outcome.Next.TheVariants.{Enter}
 use Rattle.jvm_model.specs.declared.program.Program.{Program}
-use Rattle.jvm_model.specs.World.{World}
-use Rattle.jvm_model.specs.Access.{run}
-use Rattle.jvm_model.specs.Classes.{method_at, form_at}
+use Rattle.jvm_model.specs.{World.World, Access.run, Classes.method_at, Classes.form_at, Reached.Reaches, Rows.answer, State.State, Step.row_here}
 use Rattle.jvm_model.specs.Entries.{Entries, no_entries, popped_entry}
-use Rattle.jvm_model.specs.Reached.{Reaches}
-use Rattle.jvm_model.specs.Rows.{answer}
-use Rattle.jvm_model.specs.State.{State}
-use Rattle.jvm_model.specs.Step.{row_here}
-use Rattle.type_frames.specs.Typing.{IsTyped}
-use Rattle.type_frames.specs.TypedState.{TypedWorld, TypedState}
+use Rattle.type_frames.specs.{Typing.IsTyped, TypedState.TypedWorld, TypedState.TypedState}
 
 -- the most operands of a frame: the operand stack of a method has at most 65,535 places (JVMS 4.7.3)
 abbrev pub most_operands : ℕ

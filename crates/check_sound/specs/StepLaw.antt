@@ -2,12 +2,9 @@
 use Rattle.std.specs.Prelude.{◌≡◌, ℕ, ◌<◌}
 use Rattle.jvm_model.specs.declared.program.Program.{Program}
 use Rattle.jvm_model.specs.World.{World, size, object_at}
-use Rattle.jvm_model.specs.Access.{run}
+use Rattle.jvm_model.specs.{Access.run, Step.step, View.IsSafe, View.IsTurn}
 use Rattle.jvm_model.specs.State.{State, Turn, next, ended, stuck_turn}
-use Rattle.jvm_model.specs.Step.{step}
-use Rattle.jvm_model.specs.View.{IsSafe, IsTurn}
-use Rattle.type_frames.specs.Typing.{IsTyped}
-use Rattle.type_frames.specs.TypedState.{TypedWorld, TypedState}
+use Rattle.type_frames.specs.{Typing.IsTyped, TypedState.TypedWorld, TypedState.TypedState}
 
 -- The next state is typed in this world; where the test ended, the world is typed. There is always one of the two.
 abbrev pub StaysTyped : Program → World → Turn → Type 0

@@ -1,12 +1,9 @@
 -- A whole test of checked code never gets stuck, and leaves a typed world.
 use Rattle.std.specs.Prelude.{◌≡◌, ℕ, ◌<◌, ◌≤◌, List, length, Some, All}
 use Rattle.jvm_model.specs.declared.program.Program.{Program}
-use Rattle.jvm_model.specs.World.{World}
-use Rattle.jvm_model.specs.Access.{run}
+use Rattle.jvm_model.specs.{World.World, Access.run, View.IsSafe}
 use Rattle.jvm_model.specs.Suite.{End, finished, stuck, out_of_steps, tree, opening, Given, one_test, runs_on}
-use Rattle.jvm_model.specs.View.{IsSafe}
-use Rattle.type_frames.specs.Typing.{IsTyped}
-use Rattle.type_frames.specs.TypedState.{TypedWorld}
+use Rattle.type_frames.specs.{Typing.IsTyped, TypedState.TypedWorld}
 
 -- the test ended, or its steps were used up
 abbrev pub IsEnd : End → Type 0

@@ -4,12 +4,8 @@ use Rattle.jvm_model.specs.declared.values.InitState.{InitState}
 use Rattle.jvm_model.specs.declared.values.InitState.TheVariants.{Idle, Running, Done, Erroneous}
 use Rattle.jvm_model.specs.declared.values.Location.TheVariants as place
 use Rattle.jvm_model.specs.declared.values.Touch.{Touch}
-use Rattle.jvm_model.specs.declared.program.Body.{Body}
-use Rattle.jvm_model.specs.declared.program.Program.{Program}
-use Rattle.jvm_model.specs.World.{World, at}
-use Rattle.jvm_model.specs.Access.{Access, spend}
-use Rattle.jvm_model.specs.Classes.{class_at, method_at}
-use Rattle.jvm_model.specs.Entries.{Entries, is_full}
+use Rattle.jvm_model.specs.declared.program.{Body.Body, Program.Program}
+use Rattle.jvm_model.specs.{World.World, World.at, Access.Access, Access.spend, Classes.class_at, Classes.method_at, Entries.Entries, Entries.is_full}
 use Rattle.jvm_model.specs.Initialise.{Part, looks, looked_at, starts, starts_body}
 use Rattle.jvm_model.specs.Rows.{Answer}
 use Rattle.jvm_model.specs.View.{Counted, over, counted, touched, IsSafe, IsRow}

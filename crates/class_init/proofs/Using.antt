@@ -6,9 +6,7 @@ use Rattle.jvm_model.specs.declared.values.Touch.{Touch}
 use Rattle.jvm_model.specs.declared.outcome.Next.{Next}
 use Rattle.jvm_model.specs.declared.outcome.Next.TheVariants as next
 use Rattle.jvm_model.specs.declared.program.Program.{Program}
-use Rattle.jvm_model.specs.World.{World}
-use Rattle.jvm_model.specs.Access.{spend}
-use Rattle.jvm_model.specs.Entries.{Entries}
+use Rattle.jvm_model.specs.{World.World, Access.spend, Entries.Entries}
 use Rattle.jvm_model.specs.Rows.{answer, ready, begun, refused, begin, once, using}
 use Rattle.jvm_model.specs.View.{over, ended, counted, counts_one, and_then, touched, paid, IsSafe, IsRow, Any}
 use Rattle.jvm_model.proofs.Binds.{counted_bind, touched_bind, safe_begins}
@@ -16,8 +14,7 @@ use Rattle.jvm_model.proofs.Uses.{used_ready, used_begun, used_refused, used_saf
 use Rattle.vm_mem.specs.Trace.{Trace}
 use Rattle.vm_mem.specs.Refines.{Row, IsReady, Refines, Traces, Makes}
 use Rattle.class_init.specs.Uses.{IsUsable, RefinesUse, TracesUse}
-use Rattle.class_init.specs.declared.uses.Use.{Use}
-use Rattle.class_init.specs.declared.uses.Use.TheVariants.{Ready, Begun, Fault, Over}
+use Rattle.class_init.specs.declared.uses.{Use.Use, Use.TheVariants.Ready, Use.TheVariants.Begun, Use.TheVariants.Fault, Use.TheVariants.Over}
 
 module _ (t u : Row Entries) (p : Program) (c : ℕ) (s : Entries) (w : World) (left : ℕ) (e : t p s ≡ using p c s (u p s)) where
   use_safe : IsSafe IsRow (t p s) w → IsSafe Any (begin p c s) w

@@ -2,13 +2,11 @@
 use Rattle.std.specs.Prelude.{◌≡◌, ◌≢◌, ℕ, List, Bool, true, false, Result, IfOk}
 use Rattle.jvm_model.specs.declared.program.Program.{Program}
 use Rattle.jvm_model.specs.declared.values.Touch.{Touch}
-use Rattle.jvm_model.specs.World.{World}
-use Rattle.jvm_model.specs.Entries.{Entries}
+use Rattle.jvm_model.specs.{World.World, Entries.Entries}
 use Rattle.jvm_model.specs.Rows.{Used, ready, begun, refused, begin}
 use Rattle.jvm_model.specs.View.{Counted, over, ended, counted, paid, touched, IsSafe, Any}
 use Rattle.vm_mem.specs.Trace.{Trace}
-use Rattle.class_init.specs.declared.uses.Use.{Use}
-use Rattle.class_init.specs.declared.uses.Use.TheVariants.{Ready, Begun, Fault, Over}
+use Rattle.class_init.specs.declared.uses.{Use.Use, Use.TheVariants.Ready, Use.TheVariants.Begun, Use.TheVariants.Fault, Use.TheVariants.Over}
 
 -- whether the answer has counted the 1 of the step
 abbrev pub counts_step : Use → Bool

@@ -1,23 +1,15 @@
 -- The program that is assembled of class files, whatever bodies its methods have: which records stand where.
 use Rattle.std.proofs.Common.{◌≡◌, ◌⊎◌, ℕ, zero, suc, ◌+◌, ◌<◌, List, [], ◌∷◌, ◌++◌, length, get_or, slice_get, ◌-◌, refl, sym, ◌∙◌, ap, inl, inr, arith, Some}
-use Rattle.std.proofs.lemmas.Bool.{cases_lt}
+use Rattle.std.proofs.lemmas.{Bool.cases_lt, Option.slice_get_within, Option.get_or_from_slice_get}
 use Rattle.std.proofs.lemmas.List.{length-append, take_at, get_or-append-add}
-use Rattle.std.proofs.lemmas.Option.{slice_get_within, get_or_from_slice_get}
-use Rattle.class_reader.specs.declared.parts.ClassParts.{ClassParts}
-use Rattle.class_reader.specs.declared.parts.MemberPart.{MemberPart}
-use Rattle.class_reader.specs.declared.parts.CodePart.{CodePart}
-use Rattle.jvm_model.specs.declared.program.Program.{Program}
-use Rattle.jvm_model.specs.declared.program.Body.{Body}
-use Rattle.jvm_model.specs.declared.program.TestEntry.{TestEntry}
-use Rattle.jvm_model.specs.declared.program.FieldRec.{FieldRec}
-use Rattle.jvm_model.specs.declared.program.MethodRec.{MethodRec}
+use Rattle.class_reader.specs.declared.parts.{ClassParts.ClassParts, MemberPart.MemberPart, CodePart.CodePart}
+use Rattle.jvm_model.specs.declared.program.{Program.Program, Body.Body, TestEntry.TestEntry, FieldRec.FieldRec, MethodRec.MethodRec}
 use Rattle.jvm_model.specs.Builtin.{builtin_count}
 use Rattle.jvm_model.specs.Library.{builtin_classes, builtin_fields, builtin_methods}
 use Rattle.jvm_model.specs.Classes.{no_class, no_field, no_method, class_at, field_at, method_at}
 use Rattle.jvm_model.specs.Linked.{IsClass, IsField, IsMethod, HoldsBuiltins}
 use Rattle.jvm_model.proofs.BuiltinRules.{lengths}
-use Rattle.class_link.specs.ClassNames.{all_names}
-use Rattle.class_link.specs.Literals.{literals}
+use Rattle.class_link.specs.{ClassNames.all_names, Literals.literals}
 use Rattle.class_link.specs.Assembly.{class_rec, class_recs, field_rec, field_recs, method_rec, method_recs, assembled}
 use Rattle.class_link.proofs.Blocks.{at_place, before, GivenMember, member_at, member_cases}
 

@@ -1,21 +1,13 @@
 -- The records of a program put together, with the numbers of the built-in ones, and bodies put in one after another.
 use Rattle.std.proofs.Common.{◌≡◌, ◌++◌, ℕ, List, [], length, sym, ap, ◌∙◌, ◌+◌, ◌∷◌, map, Option, option_map, refl, arith, append_assoc, length-append}
-use Rattle.class_reader.specs.declared.parts.ClassParts.{ClassParts}
-use Rattle.jvm_model.specs.declared.program.Program.{Program}
-use Rattle.jvm_model.specs.declared.program.ClassRec.{ClassRec}
+use Rattle.class_reader.specs.declared.parts.{ClassParts.ClassParts, CodePart.CodePart, MemberPart.MemberPart}
+use Rattle.jvm_model.specs.declared.program.{Program.Program, ClassRec.ClassRec, Body.Body, MethodRec.MethodRec, TestEntry.TestEntry}
 use Rattle.jvm_model.specs.Library.{builtin_classes, builtin_fields, builtin_methods}
-use Rattle.class_link.specs.ClassNames.{all_names}
-use Rattle.class_link.specs.Literals.{literals}
+use Rattle.class_link.specs.{ClassNames.all_names, Literals.literals, Filling.filled, Filling.with_body}
 use Rattle.jvm_model.proofs.BuiltinRules.{lengths}
 use Rattle.class_link.specs.Assembly.{assembled, skeleton, class_recs, field_recs, method_recs, bare_body, method_rec, bodies_of}
 use Rattle.std.proofs.lemmas.List.{length-map, append-nil}
 use Rattle.class_pool.specs.declared.pool.Entry.{Entry}
-use Rattle.class_reader.specs.declared.parts.CodePart.{CodePart}
-use Rattle.class_reader.specs.declared.parts.MemberPart.{MemberPart}
-use Rattle.jvm_model.specs.declared.program.Body.{Body}
-use Rattle.jvm_model.specs.declared.program.MethodRec.{MethodRec}
-use Rattle.jvm_model.specs.declared.program.TestEntry.{TestEntry}
-use Rattle.class_link.specs.Filling.{filled, with_body}
 
 numbered : (names : List (List ℕ)) (cs : List ClassParts) → class_recs names 2 102 cs ≡ class_recs names (length builtin_fields) (length builtin_methods) cs
 numbered names cs = ap (λ (f : ℕ). class_recs names f 102 cs) (sym lengths.1) ∙ ap (λ (m : ℕ). class_recs names (length builtin_fields) m cs) (sym lengths.2)

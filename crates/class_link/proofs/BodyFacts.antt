@@ -2,38 +2,29 @@
 use Rattle.std.proofs.Common.{◌≡◌, ℕ, ◌+◌, ◌%◌, ◌^◌, ◌<◌, ◌≤◌, ℤ, pos, ◌+ℤ◌, ◌≤ℤ◌, Bool, true, false, cond, eqb, leb, ◌||◌, List, [], ◌∷◌, length, map, drop, get_or, Option, Some, None, refl, sym, ap, subst, ◌∙◌, arith, inl, inr}
 use Rattle.std.specs.Prelude.{IfSome, option_map}
 use Rattle.std.specs.Int.{w32, cast_unsigned}
-use Rattle.std.proofs.lemmas.Bool.Decides.{nat_tests}
+use Rattle.std.proofs.{lemmas.Bool.Decides.nat_tests, lemmas.List.Elements.All-map, lemmas.List.Elements.All-weaker}
 use Rattle.std.proofs.lemmas.List.{length-map}
-use Rattle.std.proofs.lemmas.List.Elements.{All-map, All-weaker}
 use Rattle.class_pool.specs.declared.pool.Entry.{Entry}
 use Rattle.class_pool.specs.declared.pool.Entry.TheVariants as entry
 use Rattle.class_pool.specs.Pool.{entry_of}
 use Rattle.code_decode.specs.declared.instructions.RawOp.{RawOp}
-use Rattle.code_decode.specs.Targets.{has_start}
-use Rattle.code_decode.specs.Judging.{class_name, dimensions}
+use Rattle.code_decode.specs.{Targets.has_start, Judging.class_name, Judging.dimensions}
 use Rattle.code_decode.proofs.ArgFacts as args
 use Rattle.code_decode.proofs.ArgFacts.{OnePlace, TableFacts, LookupFacts, IndexCount, MakesArrays, KeysRise, in_turn, table_end}
 use Rattle.code_decode.proofs.CodeFacts.{OpFacts, Ascend, CodeFacts}
-use Rattle.class_reader.specs.declared.parts.CodePart.{CodePart}
-use Rattle.class_reader.specs.declared.parts.RawHandler.{RawHandler}
+use Rattle.class_reader.specs.declared.parts.{CodePart.CodePart, RawHandler.RawHandler}
 use Rattle.class_reader.proofs.PartFacts.{HandlerFacts, PartFacts}
 use Rattle.et_base.specs.Names.{starts_array}
-use Rattle.jvm_model.specs.declared.values.Value.{Value}
-use Rattle.jvm_model.specs.declared.values.Value.TheVariants.{Obj}
-use Rattle.jvm_model.specs.declared.values.Base.{Base}
-use Rattle.jvm_model.specs.declared.values.Kind.{Kind}
+use Rattle.jvm_model.specs.declared.values.{Value.Value, Value.TheVariants.Obj, Base.Base, Kind.Kind}
 use Rattle.jvm_model.specs.declared.values.Kind.TheVariants as kind
 use Rattle.jvm_model.specs.declared.instr.Instr.TheVariants as form
-use Rattle.jvm_model.specs.declared.program.Program.{Program}
-use Rattle.jvm_model.specs.declared.program.Body.{Body}
-use Rattle.jvm_model.specs.declared.program.Placed.{Placed}
+use Rattle.jvm_model.specs.declared.program.{Program.Program, Body.Body, Placed.Placed}
 use Rattle.jvm_model.specs.Linked.{IsForm, IsPlace, IsHandler, IsBody, KeysAscend, Ascends, place_listed, dims_of}
 use Rattle.code_forms.specs.declared.references.Target.TheVariants as target
 use Rattle.class_link.specs.ClassNames.{text_at, class_number, base_of, array_kind, kind_of}
 use Rattle.class_link.specs.References.{LinkEnvironment, target_of}
-use Rattle.code_forms.specs.Operands.{number_in, index_in}
+use Rattle.code_forms.specs.{Operands.number_in, Operands.index_in, Forms.form_of}
 use Rattle.code_forms.specs.Forms as forms
-use Rattle.code_forms.specs.Forms.{form_of}
 use Rattle.class_link.specs.Bodies.{placed, handler_rec, linked_body}
 use Rattle.code_forms.proofs.FormCases.{form_case, field_case, method_case, type_case}
 use Rattle.code_forms.proofs.FormFacts.{IsConstant, IsTarget, MakesNested, plain_form}

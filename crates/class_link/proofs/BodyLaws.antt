@@ -4,11 +4,8 @@ use Rattle.std.proofs.Math.ListN.{get_or-map}
 use Rattle.class_pool.specs.declared.pool.Entry.{Entry}
 use Rattle.class_pool.specs.Pool.{entry_of}
 use Rattle.code_decode.specs.declared.instructions.RawOp.{RawOp}
-use Rattle.class_reader.specs.declared.parts.CodePart.{CodePart}
-use Rattle.class_reader.specs.declared.parts.RawHandler.{RawHandler}
-use Rattle.jvm_model.specs.declared.program.Placed.{Placed}
-use Rattle.jvm_model.specs.declared.program.Handler.{Handler}
-use Rattle.jvm_model.specs.declared.program.FrameRec.{FrameRec}
+use Rattle.class_reader.specs.declared.parts.{CodePart.CodePart, RawHandler.RawHandler}
+use Rattle.jvm_model.specs.declared.program.{Placed.Placed, Handler.Handler, FrameRec.FrameRec}
 use Rattle.code_forms.specs.declared.references.Target.{Target}
 use Rattle.class_link.specs.References.{LinkEnvironment, target_of}
 use Rattle.code_forms.specs.Operands.{index_in}

@@ -1,40 +1,30 @@
 -- What has to differ in a linked program differs: classes, members, string constants, files.
 use Rattle.std.proofs.Common.{◌≡◌, ℕ, ◌+◌, ◌<◌, List, [], ◌∷◌, ◌++◌, length, map, get_or, slice_get, Bool, true, false, cond, refl, sym, ◌∙◌, ap, subst, inl, inr, arith, append_assoc, Option, Some, None}
 use Rattle.std.specs.Prelude.{flat_map}
-use Rattle.std.specs.List.{list_any}
+use Rattle.std.specs.{List.list_any, Str.bytes_eq}
 use Rattle.std.proofs.lemmas.Bool.{cases_Bool, cases_lt, cases_order, and_parts, and_from, ltb-true, eq-eqb, cond-true, cond-false, cond_both}
 use Rattle.std.proofs.lemmas.List.{append-nil, length_push, get_or_push, get_or_append_left}
 use Rattle.std.proofs.lemmas.Option.{slice_get_within, get_or_from_slice_get}
 use Rattle.class_pool.specs.declared.pool.Entry.{Entry}
 use Rattle.class_pool.specs.Pool.{entry_of, text_of}
 use Rattle.class_pool.proofs.EntryFacts.{NamesText, units_are}
-use Rattle.class_reader.specs.declared.parts.ClassParts.{ClassParts}
-use Rattle.class_reader.specs.declared.parts.MemberPart.{MemberPart}
-use Rattle.class_reader.specs.declared.parts.CodePart.{CodePart}
+use Rattle.class_reader.specs.declared.parts.{ClassParts.ClassParts, MemberPart.MemberPart, CodePart.CodePart}
 use Rattle.class_reader.proofs.MemberFacts.{FieldFacts, MethodFacts, Differ}
 use Rattle.et_base.specs.Names.{is_unqualified, is_method_name, is_field_descriptor, is_method_descriptor}
-use Rattle.jvm_model.specs.declared.program.Program.{Program}
-use Rattle.jvm_model.specs.declared.program.FieldRec.{FieldRec}
-use Rattle.jvm_model.specs.declared.program.MethodRec.{MethodRec}
-use Rattle.jvm_model.specs.declared.program.Body.{Body}
-use Rattle.jvm_model.specs.declared.program.TestEntry.{TestEntry}
+use Rattle.jvm_model.specs.declared.program.{Program.Program, FieldRec.FieldRec, MethodRec.MethodRec, Body.Body, TestEntry.TestEntry}
 use Rattle.jvm_model.specs.Builtin.{builtin_count}
-use Rattle.std.specs.Str.{bytes_eq}
 use Rattle.jvm_model.specs.Library.{builtin_classes, builtin_fields, builtin_methods}
 use Rattle.jvm_model.specs.Classes.{class_at, field_at, method_at, no_field, no_method}
 use Rattle.jvm_model.specs.Linked.{IsClass, IsField, IsMethod, IsDistinct}
 use Rattle.jvm_model.proofs.Ranges.{all_there}
 use Rattle.class_link.specs.ClassNames.{text_at, own_name, all_names}
 use Rattle.class_link.specs.Literals.{strings_of, noted, literals}
-use Rattle.class_link.specs.Assembly.{member_recs, assembled}
-use Rattle.class_link.specs.Faults.{duplicate, duplicate_fault}
-use Rattle.class_link.specs.Link.{AreDifferent}
+use Rattle.class_link.specs.{Assembly.member_recs, Assembly.assembled, Faults.duplicate, Faults.duplicate_fault, Link.AreDifferent}
 use Rattle.class_link.proofs.Blocks.{before, GivenMember, all_members, member_cases}
 use Rattle.class_link.proofs.Assembled.{own_fields, own_methods, make_field, make_method}
 use Rattle.et_base.proofs.Texts.{units_same}
-use Rattle.class_link.proofs.Numbered.{names_length, name_of_class}
+use Rattle.class_link.proofs.{Numbered.names_length, Numbered.name_of_class, Listed.AllKnown, Listed.text_is}
 use Rattle.class_link.proofs.Tables.{all_from_at, none_at, all_differ, all_differ_at, is_once, fields_once, methods_once, Tag, same_tag, field_tag, method_tag, fields_differ, methods_differ, builtins_differ}
-use Rattle.class_link.proofs.Listed.{AllKnown, text_is}
 
 -- ---- entries that differ
 

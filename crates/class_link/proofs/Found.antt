@@ -5,20 +5,15 @@ use Rattle.std.specs.Prelude.{find, flat_map}
 use Rattle.std.proofs.lemmas.Bool.{cases_Bool, cases_lt, and_parts, cond-true, cond-false, not-true, ltb-true}
 use Rattle.std.proofs.lemmas.List.{get_or_past}
 use Rattle.std.proofs.lemmas.List.Elements.{All-nil, All-head, All-tail, All-filter, filter_passes, All-cons, All-append, All-weaker}
-use Rattle.jvm_model.specs.declared.program.Program.{Program}
-use Rattle.jvm_model.specs.declared.program.ClassRec.{ClassRec}
-use Rattle.std.specs.Str.{bytes_eq}
-use Rattle.jvm_model.specs.Builtin.{object_class, builtin_count}
+use Rattle.jvm_model.specs.declared.program.{Program.Program, ClassRec.ClassRec}
+use Rattle.std.specs.{Str.bytes_eq, List.list_all}
+use Rattle.jvm_model.specs.{Builtin.object_class, Builtin.builtin_count, Selection.kept_of, Selection.has_code, Library.builtin_defs, Library.builtin_classes}
 use Rattle.jvm_model.specs.Classes.{class_at, field_at, method_at, no_class, is_private, is_static, is_interface, upwards, first_mentions, init_name, class_bound, upwards_in}
-use Rattle.jvm_model.specs.Selection.{kept_of, has_code}
 use Rattle.jvm_model.specs.Lookup.{is_field, is_method, field_path, find_field, superinterfaces, interface_methods, one_or_first, find_in_interfaces, or_else, find_declared, find_in_object, find_method}
 use Rattle.jvm_model.specs.Linked.{IsClass, IsField, IsMethod, NamesClass, IsFound, IsFoundField, IsGiven, HoldsBuiltins, is_interface_at, IsClassKind}
-use Rattle.jvm_model.proofs.Options.{or_else_cases}
+use Rattle.jvm_model.proofs.{Options.or_else_cases, BuiltinRules.class_keeps}
 use Rattle.et_base.proofs.Texts.{units_true}
 use Rattle.class_link.proofs.Numbered.{all_flat, all_mentions}
-use Rattle.std.specs.List.{list_all}
-use Rattle.jvm_model.specs.Library.{builtin_defs, builtin_classes}
-use Rattle.jvm_model.proofs.BuiltinRules.{class_keeps}
 
 -- what is found passes the test, and is so if each item is
 pub found : (Q : ℕ → Type 0) (test : ℕ → Bool) (xs : List ℕ) (n : ℕ) → All Q xs → find test xs ≡ Some n → Q n × (test n ≡ true)

@@ -3,41 +3,24 @@ use Rattle.std.proofs.Common.{◌≡◌, ℕ, ◌+◌, ◌≤◌, List, [], leng
 use Rattle.std.specs.Prelude.{option_map}
 use Rattle.std.specs.List.{list_all}
 use Rattle.std.proofs.lemmas.List.Elements.{All-nil}
-use Rattle.class_reader.specs.declared.parts.ClassParts.{ClassParts}
-use Rattle.class_reader.specs.declared.parts.MemberPart.{MemberPart}
-use Rattle.class_reader.specs.declared.parts.CodePart.{CodePart}
+use Rattle.class_reader.specs.declared.parts.{ClassParts.ClassParts, MemberPart.MemberPart, CodePart.CodePart}
 use Rattle.class_reader.specs.ClassGrammar as grammar
-use Rattle.class_reader.proofs.ClassFacts.{class_facts}
-use Rattle.class_reader.proofs.MemberFacts.{MethodFacts}
-use Rattle.class_reader.proofs.PartFacts.{PartFacts}
-use Rattle.jvm_model.specs.declared.program.Program.{Program}
-use Rattle.jvm_model.specs.declared.program.MethodRec.{MethodRec}
-use Rattle.jvm_model.specs.declared.program.Body.{Body}
-use Rattle.jvm_model.specs.declared.program.TestEntry.{TestEntry}
-use Rattle.jvm_model.specs.Builtin.{builtin_count}
-use Rattle.jvm_model.specs.Library.{builtin_defs, builtin_methods}
-use Rattle.jvm_model.specs.Classes.{method_at, is_static}
-use Rattle.jvm_model.specs.Lookup.{find_method}
+use Rattle.class_reader.proofs.{ClassFacts.class_facts, MemberFacts.MethodFacts, PartFacts.PartFacts}
+use Rattle.jvm_model.specs.declared.program.{Program.Program, MethodRec.MethodRec, Body.Body, TestEntry.TestEntry}
+use Rattle.jvm_model.specs.{Builtin.builtin_count, Library.builtin_defs, Library.builtin_methods, Classes.method_at, Classes.is_static, Lookup.find_method}
 use Rattle.jvm_model.specs.Linked.{IsMethod, NamesBody, IsBodyKind, IsBody, IsFormFound, is_interface_at, Linked}
-use Rattle.jvm_model.proofs.BuiltinRules.{method_keeps}
-use Rattle.jvm_model.proofs.Ranges.{all_there}
+use Rattle.jvm_model.proofs.{BuiltinRules.method_keeps, Ranges.all_there}
 use Rattle.class_link.specs.declared.fault.LinkFault.{LinkFault}
 use Rattle.class_link.specs.declared.lines.TestLines.{TestLines}
-use Rattle.class_link.specs.Assembly.{assembled, skeleton}
-use Rattle.class_link.specs.Bodies.{linked_body}
+use Rattle.class_link.specs.{Assembly.assembled, Assembly.skeleton, Bodies.linked_body}
 use Rattle.class_link.specs.Faults.{first_some, duplicate_fault, supertypes_fault, all_references_fault}
 use Rattle.member_lookup.specs.Ancestors.{IsFirstCycle}
 use Rattle.et_base.specs.Answers.{◌>>=◌}
 use Rattle.class_link.specs.Link.{setting, unless, cycle_fault, tests_of, program_of, link_by, Links, AreLines, AreDifferent}
 use Rattle.class_link.proofs.Assembled.{holds_builtins, class_count, method_cases}
 use Rattle.class_link.proofs.Records.{class_numbers, field_class, method_class}
-use Rattle.class_link.proofs.Listed.{AllKnown, is_listed}
-use Rattle.class_link.proofs.Distinct.{is_distinct}
-use Rattle.class_link.proofs.Openings.{has_openings}
-use Rattle.class_link.proofs.SkeletonFacts.{ancestor_same}
-use Rattle.class_link.proofs.ClassKinds.{class_kinds}
-use Rattle.class_link.proofs.SuiteTests.{IsGood, all_good}
-use Rattle.class_link.proofs.Found.{static_owner}
+use Rattle.class_link.proofs.{Listed.AllKnown, Listed.is_listed, Distinct.is_distinct, Openings.has_openings, SkeletonFacts.ancestor_same}
+use Rattle.class_link.proofs.{ClassKinds.class_kinds, SuiteTests.IsGood, SuiteTests.all_good, Found.static_owner}
 use Rattle.class_link.proofs.LinkedCode.{names_body, body_kind, body_found, body_is}
 
 -- what is known of the code of each class file

@@ -3,9 +3,7 @@ use Rattle.std.proofs.Common.{◌≡◌, ℕ, List, [], length, Option, Some, No
 use Rattle.std.proofs.lemmas.Bool.{cases_lt}
 use Rattle.class_reader.specs.declared.parts.ClassParts.{ClassParts}
 use Rattle.jvm_model.specs.declared.program.Program.{Program}
-use Rattle.jvm_model.specs.Builtin.{builtin_count}
-use Rattle.jvm_model.specs.Classes.{class_at}
-use Rattle.jvm_model.specs.Linked.{IsClass}
+use Rattle.jvm_model.specs.{Builtin.builtin_count, Classes.class_at, Linked.IsClass}
 use Rattle.member_lookup.specs.Ancestors.{IsFirstCycle}
 use Rattle.member_lookup.proofs.Ancestry.{is_direct, nothing_above, place_of}
 use Rattle.member_lookup.proofs.FirstCycle.{AreThere, cycle_found, cycle_once}
@@ -16,8 +14,7 @@ use Rattle.class_link.specs.Assembly.{skeleton, bare_body}
 use Rattle.class_link.specs.Faults.{first_some, duplicate_fault, supertypes_fault, all_references_fault}
 use Rattle.et_base.specs.Answers.{◌>>=◌}
 use Rattle.class_link.specs.Link.{setting, unless, cycle_fault, tests_of, program_of, link_by, LinksBy, Links, LinksOnce}
-use Rattle.class_link.proofs.Assembled.{holds_builtins}
-use Rattle.class_link.proofs.Records.{class_numbers}
+use Rattle.class_link.proofs.{Assembled.holds_builtins, Records.class_numbers}
 
 -- ---- the first cycle is there
 

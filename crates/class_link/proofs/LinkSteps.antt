@@ -2,17 +2,12 @@
 use Rattle.std.proofs.Common.{◌≡◌, ◌⊎◌, ℕ, ◌+◌, ◌<◌, ◌≤◌, ◌^◌, List, [], length, take, Option, Some, None, Result, Ok, Err, refl, sym, ap, subst, ◌∙◌, arith, inl, inr}
 use Rattle.std.specs.Result.{IsErrAnd}
 use Rattle.class_reader.specs.declared.parts.ClassParts.{ClassParts}
-use Rattle.jvm_model.specs.declared.program.Program.{Program}
-use Rattle.jvm_model.specs.declared.program.TestEntry.{TestEntry}
-use Rattle.jvm_model.specs.Builtin.{builtin_count}
-use Rattle.jvm_model.specs.Library.{builtin_classes}
+use Rattle.jvm_model.specs.declared.program.{Program.Program, TestEntry.TestEntry}
+use Rattle.jvm_model.specs.{Builtin.builtin_count, Library.builtin_classes}
 use Rattle.class_link.specs.declared.fault.LinkFault.{LinkFault}
 use Rattle.class_link.specs.declared.fault.LinkFault.TheVariants as fault
-use Rattle.class_link.specs.declared.lines.TestLine.{TestLine}
-use Rattle.class_link.specs.declared.lines.TestLines.{TestLines}
-use Rattle.class_link.specs.Answers.{Fails}
-use Rattle.class_link.specs.Assembly.{skeleton, bare_body}
-use Rattle.class_link.specs.References.{LinkEnvironment}
+use Rattle.class_link.specs.declared.lines.{TestLine.TestLine, TestLines.TestLines}
+use Rattle.class_link.specs.{Answers.Fails, Assembly.skeleton, Assembly.bare_body, References.LinkEnvironment}
 use Rattle.class_link.specs.Faults.{first_some, duplicate_fault, supertypes_fault, all_references_fault}
 use Rattle.member_lookup.specs.Ancestors.{IsFirstCycle}
 use Rattle.et_base.specs.Answers.{◌>>=◌}

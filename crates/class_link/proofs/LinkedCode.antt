@@ -2,9 +2,8 @@
 -- those that the look-up finds.
 use Rattle.std.proofs.Common.{◌≡◌, ℕ, ◌+◌, ◌<◌, List, [], length, get_or, slice_get, Bool, true, false, nat_eq, nat_le, cond, refl, sym, ◌∙◌, ap, subst, inl, inr, arith, Option, Some, None, IfSome, All}
 use Rattle.std.specs.Prelude.{option_map, unwrap_or, drop}
-use Rattle.std.proofs.lemmas.Bool.{eq-eqb, cond_both}
+use Rattle.std.proofs.lemmas.{Bool.eq-eqb, Bool.cond_both, Option.slice_get-get_or}
 use Rattle.std.proofs.lemmas.List.Elements.{All-map}
-use Rattle.std.proofs.lemmas.Option.{slice_get-get_or}
 use Rattle.class_pool.specs.declared.pool.Entry.{Entry}
 use Rattle.class_pool.specs.declared.pool.Entry.TheVariants as entry
 use Rattle.class_pool.specs.Pool.{entry_of, class_name_of}
@@ -12,42 +11,26 @@ use Rattle.class_pool.proofs.EntryFacts.{NamesClass}
 use Rattle.code_decode.specs.declared.instructions.RawOp.{RawOp}
 use Rattle.code_decode.specs.Judging.{dimensions}
 use Rattle.code_decode.proofs.CodeFacts.{OpFacts}
-use Rattle.class_reader.specs.declared.parts.ClassParts.{ClassParts}
-use Rattle.class_reader.specs.declared.parts.MemberPart.{MemberPart}
-use Rattle.class_reader.specs.declared.parts.CodePart.{CodePart}
-use Rattle.class_reader.specs.declared.parts.RawHandler.{RawHandler}
+use Rattle.class_reader.specs.declared.parts.{ClassParts.ClassParts, MemberPart.MemberPart, CodePart.CodePart, RawHandler.RawHandler}
 use Rattle.class_reader.proofs.PartFacts.{HandlerFacts, PartFacts}
 use Rattle.et_base.specs.Names.{starts_array}
 use Rattle.jvm_model.specs.declared.values.Kind.{Kind}
 use Rattle.jvm_model.specs.declared.values.Kind.TheVariants as kind
-use Rattle.jvm_model.specs.declared.program.Program.{Program}
-use Rattle.jvm_model.specs.declared.program.Body.{Body}
-use Rattle.jvm_model.specs.declared.program.Placed.{Placed}
-use Rattle.jvm_model.specs.declared.program.Handler.{Handler}
-use Rattle.jvm_model.specs.declared.program.TestEntry.{TestEntry}
-use Rattle.jvm_model.specs.Builtin.{builtin_count, throwable_class}
+use Rattle.jvm_model.specs.declared.program.{Program.Program, Body.Body, Placed.Placed, Handler.Handler, TestEntry.TestEntry}
+use Rattle.jvm_model.specs.{Builtin.builtin_count, Builtin.throwable_class, Selection.named_class, Lookup.find_method}
 use Rattle.jvm_model.specs.Classes.{method_at, is_static, is_below}
-use Rattle.jvm_model.specs.Selection.{named_class}
-use Rattle.jvm_model.specs.Lookup.{find_method}
 use Rattle.jvm_model.specs.Linked.{IsClass, NamesForm, NamesBody, IsFormKind, IsBodyKind, IsFormFound, IsBody, is_interface_at}
 use Rattle.code_forms.specs.declared.references.Use.TheVariants as used
 use Rattle.code_forms.specs.declared.references.Target.{Target}
 use Rattle.code_forms.specs.declared.references.Target.TheVariants as target
 use Rattle.jvm_model.proofs.Ranges.{all_there}
 use Rattle.class_link.specs.ClassNames.{text_at, name_at, all_names, class_number, number_or_first, base_of, kind_of}
-use Rattle.class_link.specs.Assembly.{skeleton}
-use Rattle.class_link.specs.References.{LinkEnvironment, target_of}
-use Rattle.code_forms.specs.Operands.{index_in}
-use Rattle.code_forms.specs.Uses.{fits}
-use Rattle.code_forms.specs.Forms.{form_of}
+use Rattle.class_link.specs.{Assembly.skeleton, References.LinkEnvironment, References.target_of, Faults.all_references_fault, Faults.references_fault}
+use Rattle.code_forms.specs.{Operands.index_in, Uses.fits, Forms.form_of}
 use Rattle.class_link.specs.Bodies.{placed, caught, handler_rec, linked_body}
-use Rattle.class_link.specs.Faults.{all_references_fault, references_fault}
 use Rattle.class_link.specs.Link.{setting, program_of}
-use Rattle.class_link.proofs.Assembled.{class_count}
-use Rattle.class_link.proofs.Numbered.{if_some, number_class}
-use Rattle.class_link.proofs.SkeletonFacts.{below_same, fits_same}
-use Rattle.class_link.proofs.TargetFacts.{target_is}
-use Rattle.class_link.proofs.BodyFacts.{makes_nested, is_body}
+use Rattle.class_link.proofs.{Assembled.class_count, Numbered.if_some, Numbered.number_class, SkeletonFacts.below_same, SkeletonFacts.fits_same}
+use Rattle.class_link.proofs.{TargetFacts.target_is, BodyFacts.makes_nested, BodyFacts.is_body}
 use Rattle.class_link.proofs.Referenced.{use_fits, op_used, handler_used, no_fault}
 use Rattle.code_forms.proofs.FormFacts.{IsTarget, IsRight, FitsUse, OwnsStatics, form_right}
 use Rattle.code_forms.proofs.ShapeFacts.{calls_by_sort}

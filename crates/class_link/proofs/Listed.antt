@@ -1,42 +1,30 @@
 -- Members are listed once, by their own classes, and names are in their forms.
 use Rattle.std.proofs.Common.{◌≡◌, ℕ, zero, suc, ◌+◌, ◌*◌, ◌/◌, ◌%◌, ◌<◌, ◌≤◌, List, [], length, get_or, slice_get, Bool, true, false, cond, nat_eq, nat_lt, nat_le, refl, sym, ◌∙◌, ap, subst, inl, inr, arith, Option, Some, None, IfSome, All}
 use Rattle.std.specs.Prelude.{is_some, is_none, option_map, unwrap_or, bit_and, ◌&&◌, ◌||◌, ◌==◌, if◌then◌else◌}
-use Rattle.std.specs.List.{range_with_len}
+use Rattle.std.specs.{List.range_with_len, Str.bytes_eq}
 use Rattle.std.proofs.lemmas.Bool.{and_parts, cases_order, or_cases, ltb-true, le-leb, eqb-true, eqb-false, ne_eqb, eq-eqb}
-use Rattle.std.proofs.lemmas.List.{get_or_append_left}
+use Rattle.std.proofs.lemmas.{List.get_or_append_left, Option.slice_get_within}
 use Rattle.std.proofs.lemmas.Nat.Bits.{and_pow}
-use Rattle.std.proofs.lemmas.Option.{slice_get_within}
 use Rattle.class_pool.specs.declared.pool.Entry.{Entry}
 use Rattle.class_pool.proofs.EntryFacts.{NamesText, units_are}
-use Rattle.class_reader.specs.declared.parts.ClassParts.{ClassParts}
-use Rattle.class_reader.specs.declared.parts.CodePart.{CodePart}
-use Rattle.class_reader.specs.declared.parts.MemberPart.{MemberPart}
+use Rattle.class_reader.specs.declared.parts.{ClassParts.ClassParts, CodePart.CodePart, MemberPart.MemberPart}
 use Rattle.class_reader.proofs.ClassFacts.{ClassFacts, own_name_is}
 use Rattle.class_reader.specs.Names.{own_units}
 use Rattle.class_reader.proofs.MemberFacts.{FieldFacts, MethodFacts, HasRoom}
 use Rattle.et_base.specs.Names.{is_class_name, is_unqualified, is_method_name, is_field_descriptor, is_method_descriptor, argument_units}
-use Rattle.jvm_model.specs.declared.program.Program.{Program}
-use Rattle.jvm_model.specs.declared.program.ClassRec.{ClassRec}
-use Rattle.jvm_model.specs.declared.program.FieldRec.{FieldRec}
-use Rattle.jvm_model.specs.declared.program.MethodRec.{MethodRec}
-use Rattle.jvm_model.specs.declared.program.Body.{Body}
-use Rattle.jvm_model.specs.declared.program.TestEntry.{TestEntry}
-use Rattle.jvm_model.specs.Builtin.{builtin_count, object_class}
-use Rattle.std.specs.Str.{bytes_eq}
+use Rattle.jvm_model.specs.declared.program.{Program.Program, ClassRec.ClassRec, FieldRec.FieldRec, MethodRec.MethodRec, Body.Body, TestEntry.TestEntry}
+use Rattle.jvm_model.specs.{Builtin.builtin_count, Builtin.object_class, Driver.no_arguments}
 use Rattle.jvm_model.specs.Library.{builtin_classes, builtin_fields, builtin_methods}
 use Rattle.jvm_model.specs.Classes.{class_at, field_at, method_at, no_class, no_field, no_method, is_static, clinit_name}
-use Rattle.jvm_model.specs.Driver.{no_arguments}
 use Rattle.jvm_model.specs.Linked.{IsClass, IsField, IsMethod, count, has_room, IsInitialiser, IsListed}
 use Rattle.jvm_model.proofs.BuiltinRules.{all_at, lengths, builtin_class, builtin_method, builtin_class_name, builtin_field_forms, builtin_method_forms, builtin_method_room}
 use Rattle.jvm_model.proofs.Ranges.{all_there}
-use Rattle.class_link.specs.ClassNames.{text_at, own_name}
-use Rattle.class_link.specs.Literals.{literals}
+use Rattle.class_link.specs.{ClassNames.text_at, ClassNames.own_name, Literals.literals}
 use Rattle.class_link.specs.Assembly.{initialiser_from, member_recs, method_rec, assembled}
 use Rattle.class_link.proofs.Blocks.{before, all_members, member_at, member_cases, all_numbers}
 use Rattle.class_link.proofs.Assembled.{own_fields, own_methods, make_field, make_method, holds_builtins, class_given, method_given, class_cases, field_cases, method_cases}
 use Rattle.et_base.proofs.Texts.{units_true}
-use Rattle.class_link.proofs.Numbered.{if_some}
-use Rattle.class_link.proofs.Records.{initialiser_is}
+use Rattle.class_link.proofs.{Numbered.if_some, Records.initialiser_is}
 use Rattle.class_link.proofs.Tables.{all_from, all_from_at, owns_members, fields_owned, methods_owned, is_once, fields_once, methods_once, is_under, classes_under, top}
 
 -- ---- a number stands once in a range

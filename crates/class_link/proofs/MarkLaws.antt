@@ -9,16 +9,12 @@ use Rattle.class_pool.specs.Pool.{entry_of}
 use Rattle.class_reader.specs.declared.parts.ClassParts.{ClassParts}
 use Rattle.jvm_model.specs.declared.program.Program.{Program}
 use Rattle.class_link.specs.declared.fault.LinkFault.{LinkFault}
-use Rattle.code_forms.specs.declared.references.Use.{Use}
-use Rattle.code_forms.specs.declared.references.Target.{Target}
+use Rattle.code_forms.specs.declared.references.{Use.Use, Target.Target}
 use Rattle.class_link.specs.References.{LinkEnvironment, target_of, missing_for, uses}
-use Rattle.class_link.specs.Bodies.{targets, target_in}
+use Rattle.class_link.specs.{Bodies.targets, Bodies.target_in, Answers.Fails, Link.unless}
 use Rattle.class_link.specs.Faults.{entry_fault, first_some, indices, missing_or, references_fault, target_fault, uses_at}
-use Rattle.class_link.specs.Answers.{Fails}
-use Rattle.class_link.specs.Link.{unless}
-use Rattle.class_link.proofs.FaultLaws.{next_first, fails_first}
+use Rattle.class_link.proofs.{FaultLaws.next_first, FaultLaws.fails_first, BodyLaws.target_in-targets}
 use Rattle.class_link.specs.Marks.{all_noted, fits_target, mark_at, mark_fault, mark_of, marked_with, noted, target_fault_by}
-use Rattle.class_link.proofs.BodyLaws.{target_in-targets}
 
 -- a mark after several uses
 abbrev after : (Use → Bool) → Option Bool → List Use → Option Bool

@@ -1,15 +1,11 @@
 -- Which classes a pool names, in rising order.
 use Rattle.std.proofs.Common.{◌≡◌, ◌≢◌, ◌⊎◌, ℕ, ◌+◌, ◌-◌, ◌<◌, ◌≤◌, Bool, true, false, ◌||◌, cond, List, [], ◌∷◌, ◌++◌, length, nat_eq, slice_index_or, slice_set, Option, Some, None, refl, sym, ap, ◌∙◌, subst, inl, inr, arith}
-use Rattle.std.proofs.Math.Bool.{or-true, or-false}
+use Rattle.std.proofs.{Math.Bool.or-true, Math.Bool.or-false, lemmas.List.Elements.filter-append, lemmas.List.Folds.list_any-append}
 use Rattle.std.proofs.lemmas.Bool.{cases_Bool, eqb-true, eqb-false, ne_eqb}
 use Rattle.std.specs.Prelude.{filter}
-use Rattle.std.specs.Option.{option_to_list}
-use Rattle.std.specs.List.{range_with_len}
+use Rattle.std.specs.{Option.option_to_list, List.range_with_len}
 use Rattle.std.proofs.lemmas.List.{append-nil, get_or-set_same, get_or-set_other, length-set}
-use Rattle.std.proofs.lemmas.List.Elements.{filter-append}
-use Rattle.std.proofs.lemmas.List.Folds.{list_any-append}
-use Rattle.jvm_model.specs.Builtin.{builtin_count}
-use Rattle.jvm_model.specs.Classes.{member}
+use Rattle.jvm_model.specs.{Builtin.builtin_count, Classes.member}
 use Rattle.et_base.proofs.Ranges.{range_more}
 use Rattle.class_link.specs.Marks.{Lists}
 

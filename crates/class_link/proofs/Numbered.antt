@@ -5,17 +5,12 @@ use Rattle.std.proofs.lemmas.List.{length-map, map-append, get_or-map}
 use Rattle.std.proofs.lemmas.List.Elements.{All-nil, All-cons, All-head, All-tail, All-append, All-filter}
 use Rattle.et_base.proofs.Texts.{units_true}
 use Rattle.std.proofs.lemmas.List.Quantifiers.{position-Some}
-use Rattle.class_reader.specs.declared.parts.ClassParts.{ClassParts}
-use Rattle.class_reader.specs.declared.parts.CodePart.{CodePart}
-use Rattle.jvm_model.specs.declared.program.Program.{Program}
-use Rattle.jvm_model.specs.declared.program.Body.{Body}
-use Rattle.jvm_model.specs.declared.program.ClassRec.{ClassRec}
-use Rattle.jvm_model.specs.declared.program.TestEntry.{TestEntry}
+use Rattle.class_reader.specs.declared.parts.{ClassParts.ClassParts, CodePart.CodePart}
+use Rattle.jvm_model.specs.declared.program.{Program.Program, Body.Body, ClassRec.ClassRec, TestEntry.TestEntry}
 use Rattle.std.specs.Str.{bytes_eq}
-use Rattle.jvm_model.specs.Builtin.{builtin_count}
+use Rattle.jvm_model.specs.{Builtin.builtin_count, Linked.IsClass}
 use Rattle.jvm_model.specs.Library.{builtin_classes, builtin_fields, builtin_methods}
 use Rattle.jvm_model.specs.Classes.{class_at, no_class, first_mentions}
-use Rattle.jvm_model.specs.Linked.{IsClass}
 use Rattle.class_link.specs.ClassNames.{own_name, all_names, class_number, number_or_first}
 use Rattle.class_link.specs.Assembly.{class_recs, assembled}
 use Rattle.class_link.proofs.Assembled.{class_count}

@@ -4,16 +4,9 @@ use Rattle.std.specs.Prelude.{flat_map}
 use Rattle.std.proofs.lemmas.Bool.{cases_Bool, cond-true, cond-false}
 use Rattle.std.proofs.lemmas.List.Elements.{All-map, All-filter}
 use Rattle.class_pool.specs.declared.pool.Entry.{Entry}
-use Rattle.class_reader.specs.declared.parts.ClassParts.{ClassParts}
-use Rattle.class_reader.specs.declared.parts.MemberPart.{MemberPart}
-use Rattle.class_reader.specs.declared.parts.CodePart.{CodePart}
-use Rattle.jvm_model.specs.declared.program.Program.{Program}
-use Rattle.jvm_model.specs.declared.program.FieldRec.{FieldRec}
-use Rattle.jvm_model.specs.declared.program.MethodRec.{MethodRec}
-use Rattle.jvm_model.specs.declared.program.Body.{Body}
-use Rattle.jvm_model.specs.declared.program.TestEntry.{TestEntry}
-use Rattle.jvm_model.specs.Builtin.{builtin_count}
-use Rattle.jvm_model.specs.Library.{builtin_fields, builtin_methods}
+use Rattle.class_reader.specs.declared.parts.{ClassParts.ClassParts, MemberPart.MemberPart, CodePart.CodePart}
+use Rattle.jvm_model.specs.declared.program.{Program.Program, FieldRec.FieldRec, MethodRec.MethodRec, Body.Body, TestEntry.TestEntry}
+use Rattle.jvm_model.specs.{Builtin.builtin_count, Library.builtin_fields, Library.builtin_methods}
 use Rattle.jvm_model.specs.Classes.{class_at, field_at, method_at, no_field, no_method, member}
 use Rattle.jvm_model.specs.Linked.{IsClass, IsField, IsMethod, NamesClass}
 use Rattle.jvm_model.proofs.BuiltinRules.{builtin_names, builtin_field_class, builtin_method_class}

@@ -5,16 +5,10 @@ use Rattle.std.specs.Prelude.{is_some, option_map}
 use Rattle.std.proofs.Math.ListN.{get_or-map}
 use Rattle.std.proofs.lemmas.List.{map-append}
 use Rattle.class_pool.specs.declared.pool.Entry.{Entry}
-use Rattle.class_reader.specs.declared.parts.ClassParts.{ClassParts}
-use Rattle.class_reader.specs.declared.parts.MemberPart.{MemberPart}
-use Rattle.class_reader.specs.declared.parts.CodePart.{CodePart}
-use Rattle.jvm_model.specs.declared.program.Program.{Program}
-use Rattle.jvm_model.specs.declared.program.Body.{Body}
-use Rattle.jvm_model.specs.declared.program.TestEntry.{TestEntry}
-use Rattle.jvm_model.specs.Builtin.{builtin_count, throwable_class}
-use Rattle.jvm_model.specs.Library.{builtin_methods}
+use Rattle.class_reader.specs.declared.parts.{ClassParts.ClassParts, MemberPart.MemberPart, CodePart.CodePart}
+use Rattle.jvm_model.specs.declared.program.{Program.Program, Body.Body, TestEntry.TestEntry}
+use Rattle.jvm_model.specs.{Builtin.builtin_count, Builtin.throwable_class, Library.builtin_methods, Lookup.find_field, Lookup.find_method}
 use Rattle.jvm_model.specs.Classes.{class_at, method_at, no_method, is_below, is_static}
-use Rattle.jvm_model.specs.Lookup.{find_field, find_method}
 use Rattle.jvm_model.specs.Driver.{plain_method_in}
 use Rattle.jvm_model.specs.Linked.{IsAncestor, direct, further, test_method}
 use Rattle.class_link.specs.ClassNames.{text_at}
@@ -23,9 +17,8 @@ use Rattle.member_lookup.proofs.Alike as alike
 use Rattle.member_lookup.proofs.Alike.{Outline, outline}
 use Rattle.jvm_model.specs.declared.values.Kind.{Kind}
 use Rattle.jvm_model.specs.declared.values.Kind.TheVariants as kind
-use Rattle.code_forms.specs.declared.references.Use.{Use}
+use Rattle.code_forms.specs.declared.references.{Use.Use, Target.Target}
 use Rattle.code_forms.specs.declared.references.Use.TheVariants as used
-use Rattle.code_forms.specs.declared.references.Target.{Target}
 use Rattle.code_forms.specs.declared.references.Target.TheVariants as target
 use Rattle.code_forms.specs.Uses.{method_fits, type_fits, fits}
 

@@ -5,30 +5,20 @@ use Rattle.std.specs.List.{list_all}
 use Rattle.std.proofs.lemmas.Bool.{and_parts, or_cases, not-true, leb-true, cond_both}
 use Rattle.std.proofs.lemmas.List.{length_push}
 use Rattle.std.proofs.lemmas.List.Elements.{All-push}
-use Rattle.class_reader.specs.declared.parts.ClassParts.{ClassParts}
-use Rattle.class_reader.specs.declared.parts.CodePart.{CodePart}
-use Rattle.jvm_model.specs.declared.program.Program.{Program}
-use Rattle.jvm_model.specs.declared.program.ClassRec.{ClassRec}
-use Rattle.jvm_model.specs.declared.program.Body.{Body}
-use Rattle.jvm_model.specs.declared.program.TestEntry.{TestEntry}
-use Rattle.jvm_model.specs.Builtin.{builtin_count}
-use Rattle.jvm_model.specs.Suite.{suite_limit}
+use Rattle.class_reader.specs.declared.parts.{ClassParts.ClassParts, CodePart.CodePart}
+use Rattle.jvm_model.specs.declared.program.{Program.Program, ClassRec.ClassRec, Body.Body, TestEntry.TestEntry}
+use Rattle.jvm_model.specs.{Builtin.builtin_count, Suite.suite_limit, RowsCreate.is_bare, Driver.no_arguments, Driver.plain_method_in}
 use Rattle.jvm_model.specs.Classes.{class_at, method_at, is_static, is_abstract, is_interface, init_name, upwards}
-use Rattle.jvm_model.specs.RowsCreate.{is_bare}
-use Rattle.jvm_model.specs.Driver.{no_arguments, plain_method_in}
 use Rattle.jvm_model.specs.Linked.{IsMethod, is_word, test_method, IsTest}
 use Rattle.class_link.specs.declared.fault.LinkFault.{LinkFault}
 use Rattle.class_link.specs.declared.fault.LinkFault.TheVariants as fault
 use Rattle.class_link.specs.declared.lines.TestLine.{TestLine}
-use Rattle.class_link.specs.ClassNames.{all_names, class_number}
-use Rattle.class_link.specs.Assembly.{assembled, skeleton}
+use Rattle.class_link.specs.{ClassNames.all_names, ClassNames.class_number, Assembly.assembled, Assembly.skeleton}
 use Rattle.class_link.specs.Faults.{holds_tests, is_test_method, entry_with, test_in, test_entry}
 use Rattle.class_link.specs.Link.{setting, tests_of, is_test_name}
 use Rattle.member_lookup.proofs.Alike.{Outline, outline}
-use Rattle.class_link.proofs.Numbered.{number_is}
-use Rattle.class_link.proofs.Records.{class_numbers}
+use Rattle.class_link.proofs.{Numbered.number_is, Records.class_numbers, Found.declared_named}
 use Rattle.class_link.proofs.SkeletonFacts.{class_same, outline_same, test_method_same, plain_method_same}
-use Rattle.class_link.proofs.Found.{declared_named}
 
 module _ (body : ClassParts → CodePart → Body) (cs : List ClassParts) (tests : List TestEntry) (files : List (List ℕ × List ℕ)) (budget : ℕ) (within : (0 < budget) × (budget ≤ suite_limit)) where
   abbrev p : Program

@@ -1,16 +1,12 @@
 -- What the tables of the built-in classes, fields and methods keep, entry by entry: tests that are computed.
 use Rattle.std.proofs.Common.{◌≡◌, ℕ, zero, suc, ◌+◌, ◌<◌, List, [], ◌∷◌, length, get_or, Bool, true, false, not, ◌&&◌, ◌||◌, nat_eq, nat_lt, refl, subst, arith, None, map}
 use Rattle.std.specs.Prelude.{is_some, is_none}
-use Rattle.std.specs.List.{list_all, list_any}
+use Rattle.std.specs.{List.list_all, List.list_any, Str.bytes_eq}
 use Rattle.std.proofs.lemmas.Bool.{and_parts, not-true, or_parts}
-use Rattle.jvm_model.specs.declared.program.ClassRec.{ClassRec}
-use Rattle.jvm_model.specs.declared.program.FieldRec.{FieldRec}
-use Rattle.jvm_model.specs.declared.program.MethodRec.{MethodRec}
-use Rattle.std.specs.Str.{bytes_eq}
-use Rattle.jvm_model.specs.Builtin.{builtin_count}
+use Rattle.jvm_model.specs.declared.program.{ClassRec.ClassRec, FieldRec.FieldRec, MethodRec.MethodRec}
+use Rattle.jvm_model.specs.{Builtin.builtin_count, Linked.count}
 use Rattle.jvm_model.specs.Library.{builtin_defs, builtin_classes, builtin_fields, builtin_methods}
 use Rattle.jvm_model.specs.Classes.{no_class, no_field, no_method, is_static, default_of}
-use Rattle.jvm_model.specs.Linked.{count}
 use Rattle.jvm_model.proofs.Builtins.{builtin_methods_differ}
 use Rattle.class_link.specs.Literals.{noted}
 

@@ -8,17 +8,12 @@ use Rattle.class_pool.specs.declared.pool.Entry.{Entry}
 use Rattle.class_pool.specs.declared.pool.Entry.TheVariants as entry
 use Rattle.class_pool.specs.Pool.{entry_of}
 use Rattle.code_decode.specs.Judging.{dimensions}
-use Rattle.class_reader.specs.declared.parts.ClassParts.{ClassParts}
-use Rattle.class_reader.specs.declared.parts.CodePart.{CodePart}
+use Rattle.class_reader.specs.declared.parts.{ClassParts.ClassParts, CodePart.CodePart}
 use Rattle.et_base.specs.Names.{starts_array}
-use Rattle.jvm_model.specs.declared.values.Base.{Base}
+use Rattle.jvm_model.specs.declared.values.{Base.Base, Kind.Kind, Value.TheVariants.Int, Value.TheVariants.Long, Value.TheVariants.Lit}
 use Rattle.jvm_model.specs.declared.values.Base.TheVariants as base
-use Rattle.jvm_model.specs.declared.values.Kind.{Kind}
 use Rattle.jvm_model.specs.declared.values.Kind.TheVariants as kind
-use Rattle.jvm_model.specs.declared.values.Value.TheVariants.{Int, Long, Lit}
-use Rattle.jvm_model.specs.declared.program.Program.{Program}
-use Rattle.jvm_model.specs.declared.program.Body.{Body}
-use Rattle.jvm_model.specs.declared.program.TestEntry.{TestEntry}
+use Rattle.jvm_model.specs.declared.program.{Program.Program, Body.Body, TestEntry.TestEntry}
 use Rattle.jvm_model.specs.Selection.{named_class}
 use Rattle.jvm_model.specs.Lookup.{find_field, find_method, lacks_method}
 use Rattle.jvm_model.specs.Linked.{IsClass, IsLiteral, IsBase, IsKind}
@@ -26,16 +21,10 @@ use Rattle.code_forms.specs.declared.references.Target.{Target}
 use Rattle.code_forms.specs.declared.references.Target.TheVariants as target
 use Rattle.code_forms.proofs.FormFacts.{IsTarget}
 use Rattle.class_link.specs.ClassNames.{text_at, name_at, all_names, class_number, within_type, base_of, kind_of}
-use Rattle.class_link.specs.Literals.{literals, literal_number}
-use Rattle.class_link.specs.Assembly.{assembled, skeleton}
+use Rattle.class_link.specs.{Literals.literals, Literals.literal_number, Assembly.assembled, Assembly.skeleton, Link.setting}
 use Rattle.class_link.specs.References.{pair_of, field_target, method_target, target_of}
-use Rattle.class_link.specs.Link.{setting}
-use Rattle.class_link.proofs.Assembled.{class_count}
-use Rattle.class_link.proofs.Numbered.{number_is}
-use Rattle.class_link.proofs.Records.{class_numbers}
-use Rattle.class_link.proofs.Pools.{literal_within}
-use Rattle.class_link.proofs.SkeletonFacts.{find_field_same, find_method_same}
-use Rattle.class_link.proofs.Found.{field_again, method_again}
+use Rattle.class_link.proofs.{Assembled.class_count, Numbered.number_is, Records.class_numbers, Pools.literal_within}
+use Rattle.class_link.proofs.{SkeletonFacts.find_field_same, SkeletonFacts.find_method_same, Found.field_again, Found.method_again}
 
 -- what an optional value is made to
 mapped : {A B : Type 0} (Q : B → Type 0) (f : A → B) (o : Option A) (y : B) → option_map f o ≡ Some y → ((x : A) → o ≡ Some x → Q (f x)) → Q y

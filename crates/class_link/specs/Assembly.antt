@@ -1,28 +1,16 @@
 -- The records of a program, whatever the bodies of its methods are: built-in classes, fields and methods first, then those
 -- of the class files in the suite's order.
 use Rattle.std.specs.Prelude.{ℕ, ◌+◌, List, [], ◌∷◌, ◌++◌, length, map, flat_map, option_map, option_and_then, Option, Some, None, is_some, Bool, false, ◌&&◌, cond, ◌-◌, filter}
-use Rattle.std.specs.List.{range_with_len}
+use Rattle.std.specs.{List.range_with_len, Str.bytes_eq, Option.option_to_list}
 use Rattle.class_pool.specs.declared.pool.Entry.{Entry}
 use Rattle.class_pool.specs.declared.pool.Entry.TheVariants as entry
 use Rattle.class_pool.specs.Pool.{entry_of}
-use Rattle.class_reader.specs.declared.parts.ClassParts.{ClassParts}
-use Rattle.class_reader.specs.declared.parts.MemberPart.{MemberPart}
-use Rattle.class_reader.specs.declared.parts.CodePart.{CodePart}
-use Rattle.jvm_model.specs.declared.values.Value.{Value}
-use Rattle.jvm_model.specs.declared.values.Value.TheVariants.{Int, Long, Lit}
-use Rattle.jvm_model.specs.declared.program.Program.{Program}
-use Rattle.jvm_model.specs.declared.program.ClassRec.{ClassRec}
-use Rattle.jvm_model.specs.declared.program.FieldRec.{FieldRec}
-use Rattle.jvm_model.specs.declared.program.MethodRec.{MethodRec}
-use Rattle.jvm_model.specs.declared.program.Body.{Body}
-use Rattle.jvm_model.specs.declared.program.TestEntry.{TestEntry}
-use Rattle.std.specs.Str.{bytes_eq}
-use Rattle.jvm_model.specs.Builtin.{builtin_count}
+use Rattle.class_reader.specs.declared.parts.{ClassParts.ClassParts, MemberPart.MemberPart, CodePart.CodePart}
+use Rattle.jvm_model.specs.declared.values.{Value.Value, Value.TheVariants.Int, Value.TheVariants.Long, Value.TheVariants.Lit}
+use Rattle.jvm_model.specs.declared.program.{Program.Program, ClassRec.ClassRec, FieldRec.FieldRec, MethodRec.MethodRec, Body.Body, TestEntry.TestEntry}
+use Rattle.jvm_model.specs.{Builtin.builtin_count, Driver.no_arguments, Narrow.narrowed}
 use Rattle.jvm_model.specs.Library.{builtin_classes, builtin_fields, builtin_methods}
 use Rattle.jvm_model.specs.Classes.{is_static, clinit_name, default_of, member}
-use Rattle.jvm_model.specs.Driver.{no_arguments}
-use Rattle.jvm_model.specs.Narrow.{narrowed}
-use Rattle.std.specs.Option.{option_to_list}
 use Rattle.class_link.specs.ClassNames.{text_at, name_at, own_name, all_names, class_number, number_or_first, needed_class}
 use Rattle.class_link.specs.Literals.{literals, literal_number}
 

@@ -3,22 +3,12 @@ use Rattle.std.specs.Prelude.{ℕ, zero, suc, List, [], length, map, Option, Som
 use Rattle.class_pool.specs.declared.pool.Entry.{Entry}
 use Rattle.class_pool.specs.Pool.{entry_of}
 use Rattle.code_decode.specs.declared.instructions.RawOp.{RawOp}
-use Rattle.class_reader.specs.declared.parts.CodePart.{CodePart}
-use Rattle.class_reader.specs.declared.parts.RawHandler.{RawHandler}
-use Rattle.class_reader.specs.declared.parts.MapPart.{MapPart}
-use Rattle.class_reader.specs.declared.parts.MapFrame.{MapFrame}
-use Rattle.class_reader.specs.declared.parts.MapType.{MapType}
-use Rattle.jvm_model.specs.declared.program.Body.{Body}
-use Rattle.jvm_model.specs.declared.program.Placed.{Placed}
-use Rattle.jvm_model.specs.declared.program.Handler.{Handler}
-use Rattle.jvm_model.specs.declared.program.FrameRec.{FrameRec}
-use Rattle.jvm_model.specs.declared.program.TypeRec.{TypeRec}
+use Rattle.class_reader.specs.declared.parts.{CodePart.CodePart, RawHandler.RawHandler, MapPart.MapPart, MapFrame.MapFrame, MapType.MapType}
+use Rattle.jvm_model.specs.declared.program.{Body.Body, Placed.Placed, Handler.Handler, FrameRec.FrameRec, TypeRec.TypeRec}
 use Rattle.jvm_model.specs.declared.program.TypeRec.TheVariants.{Plain, Object, Uninit}
 use Rattle.code_forms.specs.declared.references.Target.{Target}
-use Rattle.class_link.specs.ClassNames.{name_at, number_or_first}
-use Rattle.class_link.specs.References.{LinkEnvironment, target_of}
-use Rattle.code_forms.specs.Operands.{index_in}
-use Rattle.code_forms.specs.Forms.{form_of}
+use Rattle.class_link.specs.{ClassNames.name_at, ClassNames.number_or_first, References.LinkEnvironment, References.target_of}
+use Rattle.code_forms.specs.{Operands.index_in, Forms.form_of}
 
 -- what the entries of a pool stand for, from index 1 on, and the one of an index
 abbrev pub targets : LinkEnvironment → List (Option Entry) → List (Option Target)

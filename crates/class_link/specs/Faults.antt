@@ -5,20 +5,15 @@ use Rattle.class_pool.specs.declared.pool.Entry.{Entry}
 use Rattle.class_pool.specs.Pool.{entry_of, is_class}
 use Rattle.class_reader.specs.declared.parts.ClassParts.{ClassParts}
 use Rattle.et_base.specs.Names.{starts_array}
-use Rattle.jvm_model.specs.declared.program.Program.{Program}
-use Rattle.jvm_model.specs.declared.program.TestEntry.{TestEntry}
+use Rattle.jvm_model.specs.declared.program.{Program.Program, TestEntry.TestEntry}
 use Rattle.std.specs.Str.{bytes_eq}
 use Rattle.jvm_model.specs.Builtin.{builtin_count, object_class, throwable_class}
-use Rattle.jvm_model.specs.Library.{builtin_classes}
+use Rattle.jvm_model.specs.{Library.builtin_classes, RowsCreate.is_bare, Driver.plain_method_in, Linked.is_interface_at, Linked.test_method}
 use Rattle.jvm_model.specs.Classes.{class_at, method_at, is_static, is_interface, is_below, member, init_name}
-use Rattle.jvm_model.specs.RowsCreate.{is_bare}
-use Rattle.jvm_model.specs.Driver.{plain_method_in}
-use Rattle.jvm_model.specs.Linked.{is_interface_at, test_method}
 use Rattle.class_link.specs.declared.fault.LinkFault.{LinkFault}
 use Rattle.class_link.specs.declared.fault.LinkFault.TheVariants as fault
 use Rattle.class_link.specs.declared.lines.TestLine.{TestLine}
-use Rattle.code_forms.specs.declared.references.Use.{Use}
-use Rattle.code_forms.specs.declared.references.Target.{Target}
+use Rattle.code_forms.specs.declared.references.{Use.Use, Target.Target}
 use Rattle.class_link.specs.ClassNames.{name_at, own_name, class_number, number_or_first, missing}
 use Rattle.class_link.specs.References.{LinkEnvironment, target_of, missing_for, uses}
 use Rattle.code_forms.specs.Uses.{fits}

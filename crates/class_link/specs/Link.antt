@@ -3,19 +3,12 @@ use Rattle.std.specs.Prelude.{◌≡◌, ℕ, zero, suc, ◌+◌, ◌<◌, ◌�
 use Rattle.std.specs.List.{list_all}
 use Rattle.et_base.specs.Answers.{◌>>=◌}
 use Rattle.class_reader.specs.declared.parts.ClassParts.{ClassParts}
-use Rattle.jvm_model.specs.declared.program.Program.{Program}
-use Rattle.jvm_model.specs.declared.program.TestEntry.{TestEntry}
-use Rattle.jvm_model.specs.Builtin.{builtin_count}
-use Rattle.jvm_model.specs.Linked.{is_word}
-use Rattle.jvm_model.specs.Suite.{suite_limit}
+use Rattle.jvm_model.specs.declared.program.{Program.Program, TestEntry.TestEntry}
+use Rattle.jvm_model.specs.{Builtin.builtin_count, Linked.is_word, Suite.suite_limit}
 use Rattle.class_link.specs.declared.fault.LinkFault.{LinkFault}
 use Rattle.class_link.specs.declared.fault.LinkFault.TheVariants as fault
-use Rattle.class_link.specs.declared.lines.TestLine.{TestLine}
-use Rattle.class_link.specs.declared.lines.TestLines.{TestLines}
-use Rattle.class_link.specs.ClassNames.{own_name, all_names}
-use Rattle.class_link.specs.Literals.{literals}
-use Rattle.class_link.specs.Assembly.{assembled, skeleton}
-use Rattle.class_link.specs.References.{LinkEnvironment}
+use Rattle.class_link.specs.declared.lines.{TestLine.TestLine, TestLines.TestLines}
+use Rattle.class_link.specs.{ClassNames.own_name, ClassNames.all_names, Literals.literals, Assembly.assembled, Assembly.skeleton, References.LinkEnvironment}
 use Rattle.class_link.specs.Bodies.{linked_body}
 use Rattle.class_link.specs.Faults.{first_some, duplicate_fault, supertypes_fault, all_references_fault, test_entry}
 use Rattle.member_lookup.specs.Ancestors.{IsFirstCycle}

@@ -1,11 +1,9 @@
 -- String constants: one for each content, numbered from 1 in the order of first mention, by class in the suite's order and
 -- by pool index (this project's).
 use Rattle.std.specs.Prelude.{ℕ, suc, List, [], ◌∷◌, ◌++◌, flat_map, position, unwrap_or, Option, Some, cond}
-use Rattle.std.specs.List.{list_any}
-use Rattle.class_pool.specs.declared.pool.Entry.{Entry}
-use Rattle.class_pool.specs.declared.pool.Entry.TheVariants.{Str}
+use Rattle.std.specs.{List.list_any, Str.bytes_eq}
+use Rattle.class_pool.specs.declared.pool.{Entry.Entry, Entry.TheVariants.Str}
 use Rattle.class_reader.specs.declared.parts.ClassParts.{ClassParts}
-use Rattle.std.specs.Str.{bytes_eq}
 use Rattle.class_link.specs.ClassNames.{text_at}
 
 abbrev pub string_in : List (Option Entry) → Option Entry → List (List ℕ)

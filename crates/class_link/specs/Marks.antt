@@ -8,14 +8,10 @@ use Rattle.jvm_model.specs.declared.program.Program.{Program}
 use Rattle.jvm_model.specs.Classes.{member}
 use Rattle.class_link.specs.declared.fault.LinkFault.{LinkFault}
 use Rattle.class_link.specs.declared.fault.LinkFault.TheVariants as fault
-use Rattle.code_forms.specs.declared.references.Use.{Use}
-use Rattle.code_forms.specs.declared.references.Target.{Target}
+use Rattle.code_forms.specs.declared.references.{Use.Use, Target.Target}
 use Rattle.class_link.specs.declared.uses.User.{User}
-use Rattle.class_link.specs.ClassNames.{own_name}
-use Rattle.class_link.specs.References.{LinkEnvironment, missing_for}
+use Rattle.class_link.specs.{ClassNames.own_name, References.LinkEnvironment, References.missing_for, Bodies.target_in, Faults.missing_or, Faults.wrong_unless}
 use Rattle.code_forms.specs.Uses.{fits}
-use Rattle.class_link.specs.Bodies.{target_in}
-use Rattle.class_link.specs.Faults.{missing_or, wrong_unless}
 
 -- the table says of each index below its size whether it is among these
 pub record Lists (table : List Bool) (count : ℕ) (indices : List ℕ) : Type 0 where

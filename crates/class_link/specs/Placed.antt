@@ -1,9 +1,6 @@
 -- Texts, and an ordered map with the place of each.
 use Rattle.std.specs.Prelude.{◌≡◌, ◌<◌, ℕ, List, length, position, Option}
-use Rattle.std.specs.Ordering.{nat_cmp}
-use Rattle.std.specs.Cmp.Lexicographic.{slice_cmp}
-use Rattle.std.specs.BTreeMap.{BTreeMap, get_by}
-use Rattle.std.specs.Str.{bytes_eq}
+use Rattle.std.specs.{Ordering.nat_cmp, Cmp.Lexicographic.slice_cmp, BTreeMap.BTreeMap, BTreeMap.get_by, Str.bytes_eq}
 use Rattle.std.specs.declared.vec.Vec.{Vec}
 use Rattle.std.specs.declared.alloc.Global.{Global}
 

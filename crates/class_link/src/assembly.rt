@@ -1,16 +1,11 @@
 //! The records of a program, put together.
 
 ghost use Rattle.std.specs.Prelude.{◌≡◌, ◌≤◌, List, length, IfOk};
-ghost use Rattle.class_reader.specs.declared.parts.ClassParts.{ClassParts};
-ghost use Rattle.class_reader.specs.declared.parts.CodePart.{CodePart};
+ghost use Rattle.class_reader.specs.declared.parts.{ClassParts.ClassParts, CodePart.CodePart};
 ghost use Rattle.jvm_model.specs.declared.program.Body.{Body};
 ghost use Rattle.jvm_model.specs.Library.{builtin_classes, builtin_fields, builtin_methods};
-ghost use Rattle.class_link.specs.Answers.{Gives, nothing};
-ghost use Rattle.class_link.specs.ClassNames.{all_names};
-ghost use Rattle.class_link.specs.Literals.{literals};
+ghost use Rattle.class_link.specs.{Answers.Gives, Answers.nothing, ClassNames.all_names, Literals.literals, Faults.duplicate_fault, Link.setting, Link.unless};
 ghost use Rattle.class_link.specs.Assembly.{assembled, skeleton, bodies_of};
-ghost use Rattle.class_link.specs.Faults.{duplicate_fault};
-ghost use Rattle.class_link.specs.Link.{setting, unless};
 ghost use Rattle.class_link.specs.Filling.{filled, with_body};
 
 use crate::class_records::push_classes;

@@ -1,10 +1,8 @@
 //! The classes that a pool names.
 
 ghost use Rattle.std.specs.Prelude.{◌≡◌, ℕ, List, ◌++◌, length, IfOk};
-ghost use Rattle.std.specs.List.{flat_map};
-ghost use Rattle.std.specs.Option.{option_to_list};
-ghost use Rattle.class_link.specs.Assembly.{mentioned_by, mentions};
-ghost use Rattle.class_link.specs.Marks.{Lists};
+ghost use Rattle.std.specs.{List.flat_map, Option.option_to_list};
+ghost use Rattle.class_link.specs.{Assembly.mentioned_by, Assembly.mentions, Marks.Lists};
 
 use crate::entries::text_at;
 use crate::names::{ClassNames, needed_class};

@@ -1,16 +1,12 @@
 //! Classes by their names: the built-in ones first, then those of the class files.
 
 ghost use Rattle.std.specs.Prelude.{◌≡◌, ◌≤◌, ◌<◌, ◌+◌, [], ◌∷◌, ◌++◌, length, map, Some, None, cond, IfOk, OnOk, option_copied};
-ghost use Rattle.std.specs.List.{list_any};
+ghost use Rattle.std.specs.{List.list_any, Str.bytes_eq};
 ghost use Rattle.et_base.specs.Names.{starts_array};
-ghost use Rattle.std.specs.Str.{bytes_eq};
 ghost use Rattle.jvm_model.specs.Library.{builtin_classes};
 ghost use Rattle.class_link.specs.declared.fault.LinkFault.TheVariants.{Duplicate};
-ghost use Rattle.class_link.specs.Answers.{Gives, nothing};
+ghost use Rattle.class_link.specs.{Answers.Gives, Answers.nothing, Faults.duplicate, Faults.duplicate_fault, Link.unless, Literals.noted};
 ghost use Rattle.class_link.specs.ClassNames.{all_names, own_name, class_number, number_or_first, within_type, element_class, needed_class, missing, base_of, array_kind, kind_of};
-ghost use Rattle.class_link.specs.Faults.{duplicate, duplicate_fault};
-ghost use Rattle.class_link.specs.Link.{unless};
-ghost use Rattle.class_link.specs.Literals.{noted};
 
 use crate::entries::name_at;
 use crate::fault::LinkFault;

@@ -2,12 +2,10 @@
 
 ghost use Rattle.std.specs.Prelude.{◌≡◌, ◌≤◌, IfOk, length, map};
 ghost use Rattle.jvm_model.specs.Builtin.{builtin_count};
-ghost use Rattle.class_link.specs.Answers.{Gives, nothing};
+ghost use Rattle.class_link.specs.{Answers.Gives, Answers.nothing, Link.unless, Marks.mark_fault};
 ghost use Rattle.class_link.specs.Bodies as bodies;
 ghost use Rattle.class_link.specs.Faults.{all_references_fault, first_some, indices, references_fault};
-ghost use Rattle.class_link.specs.Link.{unless};
 ghost use Rattle.class_link.specs.Marks as marking;
-ghost use Rattle.class_link.specs.Marks.{mark_fault};
 
 use crate::fault::LinkFault;
 use crate::link_environment::LinkEnvironment;

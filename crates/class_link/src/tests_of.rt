@@ -1,8 +1,7 @@
 //! The tests of a suite's lines.
 
 ghost use Rattle.std.specs.Prelude.{◌≡◌, ◌≤◌, [], is_some, length};
-ghost use Rattle.jvm_model.specs.RowsCreate.{is_bare};
-ghost use Rattle.jvm_model.specs.Driver.{no_arguments, plain_method_in};
+ghost use Rattle.jvm_model.specs.{RowsCreate.is_bare, Driver.no_arguments, Driver.plain_method_in};
 ghost use Rattle.jvm_model.specs.Lookup as lookup;
 ghost use Rattle.jvm_model.specs.Linked as linked;
 ghost use Rattle.class_link.specs.Answers.{Gives};

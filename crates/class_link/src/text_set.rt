@@ -1,8 +1,7 @@
 //! Texts that differ, for a fast look-up of their places.
 
 ghost use Rattle.std.specs.Prelude.{◌≡◌, ◌<◌, ◌+◌, ℕ, List, [], ◌∷◌, ◌++◌, length, position, not, cond, IfSome, IfOk, OnOk};
-ghost use Rattle.std.specs.List.{list_any};
-ghost use Rattle.std.specs.Str.{bytes_eq};
+ghost use Rattle.std.specs.{List.list_any, Str.bytes_eq};
 
 use et_base::{Items, NoMemory, Units};
 use std::alloc::Global;

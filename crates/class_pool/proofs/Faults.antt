@@ -3,8 +3,7 @@ use Rattle.std.proofs.Common.{◌≡◌, ℕ, zero, suc, Bool, true, false, cond
 use Rattle.std.specs.Int.{Width, byte_len, from_be_bytes}
 use Rattle.class_pool.specs.declared.fault.Fault.{Fault}
 use Rattle.et_base.specs.Answers.{◌>>=◌}
-use Rattle.class_pool.specs.Reading.{number_or, run_or}
-use Rattle.class_pool.specs.Loops.{counted}
+use Rattle.class_pool.specs.{Reading.number_or, Reading.run_or, Loops.counted}
 
 -- each fault of a reader is of this sort
 abbrev pub Refuses : {A : Type 0} → (Fault → Type 0) → (List ℕ → Result A Fault) → Type 0

@@ -8,8 +8,7 @@ use mir.ValLaws.{of_z_fits}
 use Rattle.std.proofs.lemmas.Bool.{cases_lt, ltb-false, le-ltb, eqb-true}
 use Rattle.std.proofs.lemmas.List.{take_at, drop_at, take-append-drop, length-append, length-take, get_or-drop, get_or-take, get_or_past, append-nil}
 use Rattle.std.proofs.lemmas.Nat.{be_bytes_2, be_bytes_4, be_bytes_8, from_be_bytes-to_be_bytes_2, from_be_bytes-to_be_bytes_4, from_be_bytes-to_be_bytes_8}
-use Rattle.class_pool.specs.declared.fault.Fault.{Fault}
-use Rattle.class_pool.specs.declared.fault.Fault.TheVariants.{Truncated}
+use Rattle.class_pool.specs.declared.fault.{Fault.Fault, Fault.TheVariants.Truncated}
 use Rattle.et_base.specs.Answers.{◌>>=◌, tested}
 use Rattle.class_pool.specs.Reading.{number_or, number_at, run_or, run_at}
 use Rattle.class_pool.specs.Loops.{counted, folded}

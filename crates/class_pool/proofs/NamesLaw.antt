@@ -1,9 +1,8 @@
 -- Argument types one after the other, as a loop takes them.
 use Rattle.std.proofs.lemmas.Bool.{lt-ltb}
-use Rattle.std.specs.List.{list_all}
+use Rattle.std.specs.{List.list_all, Option.option_and_then}
 use Rattle.et_base.proofs.Cases.{by_test}
 use Rattle.std.proofs.Common.{Bool, true, false, cond, eqb, ltb, ◌&&◌, ◌||◌, [], ◌∷◌, ◌≡◌, ℕ, suc, ◌-◌, ◌+◌, ◌≤◌, ◌<◌, List, Option, Some, None, sym, ap, ◌∙◌, arith, length, refl}
-use Rattle.std.specs.Option.{option_and_then}
 use Rattle.et_base.specs.Names.{is_plain, is_unqualified, parts_of, is_class_name, argument, after_close, closed, arguments, grown}
 
 one_more : (n i so_far : ℕ) (us : List ℕ) (total : Option (ℕ × List ℕ)) → i < n → arguments (n - i) so_far us ≡ total

@@ -5,12 +5,9 @@ use Rattle.class_pool.specs.declared.fault.Fault.{Fault}
 use Rattle.class_pool.specs.declared.pool.Entry.{Entry}
 use Rattle.class_pool.specs.declared.offsets.PoolFault.{PoolFault}
 use Rattle.class_pool.specs.declared.offsets.PoolFault.TheVariants.{Truncated, BadTag, BadIndex, BadUtf, BadDescriptor, NoMemory}
-use Rattle.class_pool.specs.Pool.{pool_at}
-use Rattle.class_pool.specs.Grammar.{IsBytes}
-use Rattle.class_pool.specs.PoolGrammar.{PoolText}
+use Rattle.class_pool.specs.{Pool.pool_at, Grammar.IsBytes, PoolGrammar.PoolText}
 use Rattle.class_pool.specs.Offsets.{place, by_offset, read_from, SpelledFrom, PoolGives}
-use Rattle.class_pool.proofs.Laws.{IsBytes-drop}
-use Rattle.class_pool.proofs.PoolLaw.{reads_pool}
+use Rattle.class_pool.proofs.{Laws.IsBytes-drop, PoolLaw.reads_pool}
 
 abbrev pub Slots : Type 0
 Slots = List (Option Entry)

@@ -7,8 +7,7 @@ use Rattle.class_pool.specs.declared.pool.Entry.TheVariants.{Class, Field, Metho
 use Rattle.et_base.specs.Names.{is_class_entry_name}
 use Rattle.class_pool.specs.Pool.{entry_of, is_wide, is_second, NamesEntry, is_class, in_text, is_field_pair, is_method_pair, wants_at, wrong_index, wrong_name}
 use Rattle.class_pool.specs.PoolGrammar.{EntryFits, Laid, IsPool}
-use Rattle.class_pool.proofs.PoolSteps.{is_second-push}
-use Rattle.class_pool.proofs.WriteLaw.{SlotFits, slots_fit}
+use Rattle.class_pool.proofs.{PoolSteps.is_second-push, WriteLaw.SlotFits, WriteLaw.slots_fit}
 
 -- what holds of each slot holds of the entry that an index names
 pub entry_all : (P : Option Entry → Type 0) (slots : List (Option Entry)) (i : ℕ) (entry : Entry) → All P slots → entry_of slots i ≡ Some entry → P (Some entry)

@@ -4,14 +4,11 @@ use Rattle.std.specs.Int.{w8, w16, w32, w64, to_be_bytes, cast_unsigned}
 use Rattle.std.proofs.lemmas.Bool.{eqb-true, ltb-true, lt-ltb, and_parts}
 use Rattle.std.proofs.lemmas.List.{append-nil}
 use Rattle.std.proofs.lemmas.List.Elements.{All-nil, All-head, All-tail, All-cons}
-use Rattle.et_base.specs.Utf.{utf, IsUnits}
-use Rattle.et_base.specs.UtfReading.{units_read}
+use Rattle.et_base.specs.{Utf.utf, Utf.IsUnits, UtfReading.units_read, Answers.◌>>=◌}
 use Rattle.et_base.proofs.UtfLaws.{units_read-utf, spells_from_read, utf_bytes, IsByte}
-use Rattle.class_pool.specs.declared.fault.Fault.{Fault}
-use Rattle.class_pool.specs.declared.fault.Fault.TheVariants.{BadTag, BadIndex, BadDescriptor}
+use Rattle.class_pool.specs.declared.fault.{Fault.Fault, Fault.TheVariants.BadTag, Fault.TheVariants.BadIndex, Fault.TheVariants.BadDescriptor}
 use Rattle.class_pool.specs.declared.pool.Entry.{Entry}
 use Rattle.class_pool.specs.declared.pool.Entry.TheVariants.{Utf8, Integer, Float, Long, Double, Class, Str, Field, Method, InterfaceMethod, NameAndType, MethodHandle, MethodType, InvokeDynamic}
-use Rattle.et_base.specs.Answers.{◌>>=◌}
 use Rattle.class_pool.specs.Reading.{number_at, run_at}
 use Rattle.class_pool.specs.Pool.{units_or, text_at, single_at, twin_at, handle_at, twins_at, singles_at, numbers_at, body_at, entry_at, slot_by, slot_at, is_second, is_wide, slot_len, slots_at, wrong_index, wrong_name, found_at, pass, no_place, indices_pass, names_pass, pool_at}
 use Rattle.class_pool.specs.Grammar.{IsBytes, Nothing, Then, Mapped, Never, Number, Signed, Run, Counted, Joined}

@@ -1,8 +1,7 @@
 -- Each pool that meets the conditions is spelled by what is written, and what is spelled meets them.
 use Rattle.std.proofs.Common.{ℕ, ◌+◌, List, [], ◌∷◌, ◌++◌, length, Option, Some, None, refl, arith, All}
 use Rattle.std.specs.List.{flat_map, AllByRecursion}
-use Rattle.std.proofs.lemmas.List.Elements.{All-from_recursion}
-use Rattle.std.proofs.lemmas.List.Concat.{flat_map-cons}
+use Rattle.std.proofs.{lemmas.List.Elements.All-from_recursion, lemmas.List.Concat.flat_map-cons}
 use Rattle.class_pool.specs.declared.pool.Entry.{Entry}
 use Rattle.class_pool.specs.Grammar.{Joined}
 use Rattle.class_pool.specs.PoolGrammar.{SlotText, EntryFits, PoolText, slot_bytes, Laid, IsPool, pool_spelling}

@@ -6,8 +6,7 @@ use Rattle.class_pool.specs.declared.fault.Fault.TheVariants as faults
 use Rattle.class_pool.specs.declared.pool.Entry.{Entry}
 use Rattle.class_pool.specs.declared.offsets.PoolFault.{PoolFault}
 use Rattle.class_pool.specs.declared.offsets.PoolFault.TheVariants.{Truncated, BadTag, BadIndex, BadUtf, BadDescriptor, NoMemory}
-use Rattle.class_pool.specs.Pool.{pool_at}
-use Rattle.class_pool.specs.PoolGrammar.{PoolText}
+use Rattle.class_pool.specs.{Pool.pool_at, PoolGrammar.PoolText}
 
 -- the faults that a pool can have
 abbrev pub IsPoolFault : Fault → Type 0

@@ -2,9 +2,7 @@
 use Rattle.std.specs.Prelude.{ℕ, List, length, take, drop, Option, Some, None, Result, Ok, Err, nat_lt, if◌then◌else◌}
 use Rattle.std.specs.Int.{Width, byte_len, from_be_bytes}
 use Rattle.et_base.specs.Answers as answers
-use Rattle.class_pool.specs.declared.fault.Fault.{Fault}
-use Rattle.class_pool.specs.declared.fault.Fault.TheVariants.{Truncated}
-use Rattle.class_pool.specs.declared.fault.ReadError.{ReadError}
+use Rattle.class_pool.specs.declared.fault.{Fault.Fault, Fault.TheVariants.Truncated, ReadError.ReadError}
 use Rattle.class_pool.specs.declared.fault.ReadError.TheVariants as errors
 
 -- the fault that an error names; none for want of memory

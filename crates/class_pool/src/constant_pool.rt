@@ -1,9 +1,8 @@
 //! The constant pool as a type that keeps the conditions of its grammar.
 
 ghost use Rattle.std.specs.Prelude.{◌≡◌, ◌↔◌, List, Option, IsSome, option_copied};
-ghost use Rattle.class_pool.specs.Reading.{Gives};
+ghost use Rattle.class_pool.specs.{Reading.Gives, PoolGrammar.IsPool};
 ghost use Rattle.class_pool.specs.Pool.{entry_of, NamesEntry, pool_at};
-ghost use Rattle.class_pool.specs.PoolGrammar.{IsPool};
 
 use crate::fault::ReadError;
 use crate::fields::u16_at;

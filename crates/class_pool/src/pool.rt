@@ -1,8 +1,7 @@
 //! The entries of a constant pool, as they are read (JVMS 4.4).
 
 ghost use Rattle.std.specs.Prelude.{◌≡◌, ◌-◌, ◌^◌, ◌<◌, length};
-ghost use Rattle.et_base.specs.Utf.{group, utf};
-ghost use Rattle.et_base.specs.UtfReading.{units_read};
+ghost use Rattle.et_base.specs.{Utf.group, Utf.utf, UtfReading.units_read};
 ghost use Rattle.class_pool.specs.Reading.{Gives};
 ghost use Rattle.class_pool.specs.Pool.{units_or, text_at, handle_at, twins_at, singles_at, numbers_at, body_at, entry_at, is_wide, slot_by, slots_at, slot_len};
 

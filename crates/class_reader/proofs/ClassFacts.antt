@@ -1,18 +1,14 @@
 -- What is known of a class file that some bytes spell.
 use Rattle.std.proofs.Common.{◌≡◌, ◌<◌, ◌≤◌, ◌^◌, ℕ, true, false, not, List, [], ◌∷◌, length, Option, Some, None, refl, sym, ap, subst, ◌∙◌, All}
 use Rattle.std.proofs.lemmas.Bool.{leb-true, not-true, and_parts}
-use Rattle.class_pool.specs.declared.pool.Entry.{Entry}
-use Rattle.class_pool.specs.declared.pool.Entry.TheVariants.{Utf8, Class}
+use Rattle.class_pool.specs.declared.pool.{Entry.Entry, Entry.TheVariants.Utf8, Entry.TheVariants.Class}
 use Rattle.class_pool.specs.Pool.{entry_of, is_class, class_name_of}
 use Rattle.class_pool.specs.PoolGrammar.{IsPool}
-use Rattle.class_pool.proofs.WriteLaw.{pool_kept}
-use Rattle.class_pool.proofs.GrammarFacts.{counted_all, counted_length}
+use Rattle.class_pool.proofs.{WriteLaw.pool_kept, GrammarFacts.counted_all, GrammarFacts.counted_length}
 use Rattle.class_pool.proofs.EntryFacts.{NamesText, NamesClass, EntryFacts, class_from, plain_name, units_are, entry_facts}
 use Rattle.et_base.specs.Names.{is_class_name, starts_array}
-use Rattle.class_reader.specs.declared.parts.MemberPart.{MemberPart}
-use Rattle.class_reader.specs.declared.parts.ClassParts.{ClassParts}
-use Rattle.class_reader.specs.Indices.{Index}
-use Rattle.class_reader.specs.Names.{begins_array, is_own_class}
+use Rattle.class_reader.specs.declared.parts.{MemberPart.MemberPart, ClassParts.ClassParts}
+use Rattle.class_reader.specs.{Indices.Index, Names.begins_array, Names.is_own_class}
 use Rattle.class_reader.specs.ClassGrammar.{HeadText, InterfacesText, MembersText, parts_of, BodyText, class_bytes, IsClass}
 use Rattle.class_reader.proofs.AttributeFacts.{index_facts}
 use Rattle.class_reader.proofs.MemberFacts.{FieldFacts, MethodFacts, MembersFacts, fields_facts, methods_facts}

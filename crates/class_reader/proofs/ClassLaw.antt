@@ -1,37 +1,25 @@
 -- The class file: what is read is spelled so, and what is spelled so is read.
 use Rattle.std.proofs.Common.{◌≡◌, ℕ, ◌+◌, Bool, not, eqb, ltb, leb, ◌&&◌, List, [], ◌++◌, length, Option, Some, None, is_some, Result, Ok, Err, refl, sym, ap, subst, ◌∙◌, append_assoc}
 use Rattle.std.specs.Int.{w16, w32}
-use Rattle.std.proofs.lemmas.Bool.{eqb-true}
-use Rattle.std.proofs.lemmas.List.{append-nil, nil_from_length}
+use Rattle.std.proofs.lemmas.{Bool.eqb-true, List.append-nil, List.nil_from_length}
 use Rattle.class_pool.specs.declared.fault.Fault.{Fault}
 use Rattle.class_pool.specs.declared.fault.Fault.TheVariants.{Truncated, BadMagic, BadVersion, BadLength, Repeated, CodeKind, Trailing}
 use Rattle.class_pool.specs.declared.pool.Entry.{Entry}
 use Rattle.et_base.specs.Answers.{◌>>=◌, tested}
-use Rattle.class_pool.specs.Reading.{number_at, run_at}
-use Rattle.class_pool.specs.Loops.{counted, folded}
+use Rattle.class_pool.specs.{Reading.number_at, Reading.run_at, Loops.counted, Loops.folded, PoolGrammar.PoolText}
 use Rattle.class_pool.specs.Pool.{entry_of, is_text, is_class, pool_at}
 use Rattle.class_pool.specs.Grammar.{IsBytes, Nothing, Then, Mapped, Tested, Run, Sized}
-use Rattle.class_pool.specs.PoolGrammar.{PoolText}
 use Rattle.class_pool.proofs.Laws.{bind_ok, ok_is, tested_ok, Reads, reads_nothing, reads_then, tested_then, reads_mapped, reads_if, reads_run, reads_16, reads_32, reads_counted, reads_folded, reads_sized}
 use Rattle.class_pool.proofs.PoolLaw.{reads_pool}
-use Rattle.class_reader.proofs.HandlerLaw.{reads_handlers}
-use Rattle.class_reader.proofs.MapLaw.{reads_map}
-use Rattle.class_reader.proofs.IndexLaw.{reads_index, reads_form}
+use Rattle.class_reader.proofs.{HandlerLaw.reads_handlers, MapLaw.reads_map, IndexLaw.reads_index, IndexLaw.reads_form}
 use Rattle.code_decode.specs.declared.decoding.Code.{Code}
-use Rattle.code_decode.specs.CodeGrammar.{CodeText}
-use Rattle.code_decode.specs.Decoding.{code_at}
+use Rattle.code_decode.specs.{CodeGrammar.CodeText, Decoding.code_at}
 use Rattle.code_decode.proofs.WholeLaw.{code_takes, code_again}
-use Rattle.class_reader.specs.declared.parts.CodePart.{CodePart}
-use Rattle.class_reader.specs.declared.parts.MemberPart.{MemberPart}
-use Rattle.class_reader.specs.declared.parts.ClassParts.{ClassParts}
-use Rattle.class_reader.specs.Handlers.{handlers_at, HandlersText}
-use Rattle.class_reader.specs.Maps.{map_at}
-use Rattle.class_reader.specs.MapGrammar.{MapText}
+use Rattle.class_reader.specs.declared.parts.{CodePart.CodePart, MemberPart.MemberPart, ClassParts.ClassParts}
+use Rattle.class_reader.specs.{Handlers.handlers_at, Handlers.HandlersText, Maps.map_at, MapGrammar.MapText, Indices.index_at, Indices.form_at, Indices.Index}
 use Rattle.class_reader.specs.Names.{is_code, is_constant_value, is_stack_map, is_own_class, is_field_name, is_field_type, is_method_name, is_method_type, fits_constant, is_repeated, fits_flags}
 use Rattle.class_reader.specs.Class.{other_at, once_at, attribute_at, attributes_at, skipped_at, all_skipped_at, constant_at, run_code_at, part_at, code_attribute_at, field_at, fields_at, method_at, methods_at, head_at, interfaces_at, members_at, body_at, class_at}
-use Rattle.class_reader.specs.Indices.{index_at, form_at}
 use Rattle.class_reader.specs.ClassGrammar.{OtherText, OnceText, AttributeText, AttributesText, SkippedText, AllSkippedText, ConstantText, RunText, Beside, part_of, PartText, field_of, FieldText, FieldsText, method_of, MethodText, MethodsText, HeadText, InterfacesText, pair_of, MembersText, parts_of, BodyText, class_bytes}
-use Rattle.class_reader.specs.Indices.{Index}
 
 -- ---- attributes
 

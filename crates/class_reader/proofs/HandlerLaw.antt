@@ -4,9 +4,7 @@ use Rattle.std.specs.Int.{w16}
 use Rattle.class_pool.specs.declared.fault.Fault.TheVariants.{BadIndex, BadTarget}
 use Rattle.class_pool.specs.declared.pool.Entry.{Entry}
 use Rattle.et_base.specs.Answers.{◌>>=◌, tested}
-use Rattle.class_pool.specs.Reading.{number_at}
-use Rattle.class_pool.specs.Loops.{counted}
-use Rattle.class_pool.specs.Grammar.{Nothing, Mapped}
+use Rattle.class_pool.specs.{Reading.number_at, Loops.counted, Grammar.Nothing, Grammar.Mapped}
 use Rattle.class_pool.proofs.Laws.{Reads, reads_nothing, reads_then, tested_then, reads_mapped, reads_16, reads_counted}
 use Rattle.code_decode.specs.declared.decoding.Code.{Code}
 use Rattle.class_reader.specs.Handlers.{begins_at, ends_at, is_caught, range_at, catch_at, handler_of, handler_at, handlers_at, RangeText, CatchText, HandlerText, HandlersText}

@@ -4,9 +4,7 @@ use Rattle.std.specs.Int.{w16}
 use Rattle.class_pool.specs.declared.fault.Fault.TheVariants.{BadIndex, BadDescriptor}
 use Rattle.class_pool.specs.declared.pool.Entry.{Entry}
 use Rattle.et_base.specs.Answers.{◌>>=◌, tested}
-use Rattle.class_pool.specs.Reading.{number_at}
-use Rattle.class_pool.specs.Pool.{entry_of, is_text}
-use Rattle.class_pool.specs.Grammar.{Nothing}
+use Rattle.class_pool.specs.{Reading.number_at, Pool.entry_of, Pool.is_text, Grammar.Nothing}
 use Rattle.class_pool.proofs.Laws.{Reads, reads_nothing, reads_then, tested_then, reads_16}
 use Rattle.class_reader.specs.Indices.{index_at, form_at, Index, Form}
 

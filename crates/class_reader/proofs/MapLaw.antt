@@ -6,13 +6,10 @@ use Rattle.std.proofs.lemmas.List.{append-nil, length-append, take_at}
 use Rattle.class_pool.specs.declared.fault.Fault.TheVariants.{Truncated, BadLength}
 use Rattle.class_pool.specs.declared.pool.Entry.{Entry}
 use Rattle.et_base.specs.Answers.{◌>>=◌, tested}
-use Rattle.class_pool.specs.Reading.{number_at, run_at}
-use Rattle.class_pool.specs.Loops.{counted}
+use Rattle.class_pool.specs.{Reading.number_at, Reading.run_at, Loops.counted}
 use Rattle.class_pool.specs.Grammar.{IsBytes, Nothing, Mapped, Never, Joined}
 use Rattle.class_pool.proofs.Laws.{bind_ok, ok_is, tested_ok, picked, Taken, Reads, reads_nothing, reads_then, tested_then, reads_mapped, reads_if, reads_never, reads_run, reads_8, reads_16, reads_32, reads_counted}
-use Rattle.class_reader.specs.declared.parts.MapType.{MapType}
-use Rattle.class_reader.specs.declared.parts.MapFrame.{MapFrame}
-use Rattle.class_reader.specs.declared.parts.MapPart.{MapPart}
+use Rattle.class_reader.specs.declared.parts.{MapType.MapType, MapFrame.MapFrame, MapPart.MapPart}
 use Rattle.class_reader.specs.Indices.{index_at, Short, Index}
 use Rattle.class_reader.specs.Maps.{type_of, frame_of, is_object, tagged_at, type_at, given_at, types_at, is_frame_tag, tells_delta, stack_given, frame_at, is_bad_length, has_bad_tag, within, kept_at, frames_at, map_at}
 use Rattle.class_reader.specs.MapGrammar.{TaggedText, TypeText, GivenText, TypesText, FrameText, FramesText, MapText}

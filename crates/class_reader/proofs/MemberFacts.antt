@@ -1,23 +1,18 @@
 -- What is known of a class file's fields and methods.
-use Rattle.std.proofs.Math.Bool.{or-true}
+use Rattle.std.proofs.{Math.Bool.or-true, lemmas.List.Elements.All-from_recursion, lemmas.List.Elements.All-weaker, lemmas.Slice.Eq.bytes_eq-Decides}
 use Rattle.std.proofs.Common.{◌≡◌, ◌<◌, ◌≤◌, ◌^◌, ◌+◌, ℕ, zero, suc, Bool, true, false, not, cond, ◌&&◌, ◌||◌, List, [], ◌∷◌, ◌++◌, length, take, get_or, Option, Some, None, is_some, refl, sym, ap, subst, ◌∙◌, arith, inl, inr, All}
 use Rattle.std.specs.Prelude.{IfSome}
 use Rattle.std.specs.List.{AllByRecursion}
 use Rattle.std.proofs.lemmas.Bool.{cases_lt, leb-true, not-true}
 use Rattle.std.proofs.lemmas.List.{get_or-take, length-take}
-use Rattle.std.proofs.lemmas.List.Elements.{All-from_recursion, All-weaker}
-use Rattle.std.proofs.lemmas.Slice.Eq.{bytes_eq-Decides}
-use Rattle.class_pool.specs.declared.pool.Entry.{Entry}
-use Rattle.class_pool.specs.declared.pool.Entry.TheVariants.{Utf8}
+use Rattle.class_pool.specs.declared.pool.{Entry.Entry, Entry.TheVariants.Utf8}
 use Rattle.class_pool.specs.Pool.{entry_of, is_text, text_of}
-use Rattle.class_pool.specs.Grammar.{Sized}
-use Rattle.class_pool.specs.PoolGrammar.{IsPool}
+use Rattle.class_pool.specs.{Grammar.Sized, PoolGrammar.IsPool}
 use Rattle.class_pool.proofs.GrammarFacts.{Behind, behind_at, counted_behind, counted_length}
 use Rattle.class_pool.proofs.EntryFacts.{NamesText, text_from}
 use Rattle.et_base.specs.Names.{is_unqualified, is_field_descriptor, is_method_descriptor, argument_units}
 use Rattle.et_base.specs.Names as names
-use Rattle.class_reader.specs.declared.parts.MemberPart.{MemberPart}
-use Rattle.class_reader.specs.declared.parts.CodePart.{CodePart}
+use Rattle.class_reader.specs.declared.parts.{MemberPart.MemberPart, CodePart.CodePart}
 use Rattle.class_reader.specs.Names.{is_field_name, is_field_type, is_method_name, is_method_type, own_units, has_room, fits_constant, same_text, is_repeated, has_code, fits_flags, is_code, is_constant_value}
 use Rattle.class_reader.specs.ClassGrammar.{ConstantText, PartText, field_of, FieldText, FieldsText, method_of, MethodText, MethodsText}
 use Rattle.class_reader.proofs.AttributeFacts.{attributes_keep, index_facts, form_facts}

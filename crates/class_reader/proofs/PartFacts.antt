@@ -5,20 +5,12 @@ use Rattle.std.specs.List.{AllByRecursion}
 use Rattle.std.proofs.lemmas.Bool.{eqb-true, ltb-true, and_parts, or_cases}
 use Rattle.std.proofs.lemmas.List.Elements.{All-from_recursion}
 use Rattle.class_pool.specs.declared.pool.Entry.{Entry}
-use Rattle.class_pool.specs.Pool.{entry_of, is_class}
-use Rattle.class_pool.specs.Grammar.{IsBytes, Sized}
-use Rattle.class_pool.specs.PoolGrammar.{IsPool}
-use Rattle.class_pool.proofs.Laws.{chosen}
-use Rattle.class_pool.proofs.GrammarFacts.{counted_all, counted_length}
-use Rattle.class_pool.proofs.EntryFacts.{NamesClass, class_from}
+use Rattle.class_pool.specs.{Pool.entry_of, Pool.is_class, Grammar.IsBytes, Grammar.Sized, PoolGrammar.IsPool}
+use Rattle.class_pool.proofs.{Laws.chosen, GrammarFacts.counted_all, GrammarFacts.counted_length, EntryFacts.NamesClass, EntryFacts.class_from}
 use Rattle.code_decode.specs.declared.decoding.Code.{Code}
 use Rattle.code_decode.specs.Targets.{has_start}
 use Rattle.code_decode.proofs.CodeFacts.{CodeFacts, code_facts}
-use Rattle.class_reader.specs.declared.parts.CodePart.{CodePart}
-use Rattle.class_reader.specs.declared.parts.RawHandler.{RawHandler}
-use Rattle.class_reader.specs.declared.parts.MapType.{MapType}
-use Rattle.class_reader.specs.declared.parts.MapFrame.{MapFrame}
-use Rattle.class_reader.specs.declared.parts.MapPart.{MapPart}
+use Rattle.class_reader.specs.declared.parts.{CodePart.CodePart, RawHandler.RawHandler, MapType.MapType, MapFrame.MapFrame, MapPart.MapPart}
 use Rattle.class_reader.specs.Handlers.{begins_at, ends_at, is_caught, handler_of, RangeText, CatchText, HandlerText, HandlersText}
 use Rattle.class_reader.specs.Maps.{type_of, frame_of, is_object, is_frame_tag, tells_delta, stack_given, frame_at, has_bad_tag}
 use Rattle.class_reader.specs.MapGrammar.{TaggedText, TypeText, GivenText, TypesText, FrameText, FramesText, MapText}

@@ -5,16 +5,11 @@ use Rattle.class_pool.specs.declared.fault.Fault.{Fault}
 use Rattle.class_pool.specs.declared.fault.Fault.TheVariants.{BadMagic, BadVersion, BadLength, Repeated, CodeKind, Trailing}
 use Rattle.class_pool.specs.declared.pool.Entry.{Entry}
 use Rattle.et_base.specs.Answers.{◌>>=◌, tested}
-use Rattle.class_pool.specs.Reading.{number_at, run_at}
-use Rattle.class_pool.specs.Loops.{counted, folded}
+use Rattle.class_pool.specs.{Reading.number_at, Reading.run_at, Loops.counted, Loops.folded}
 use Rattle.class_pool.specs.Pool.{entry_of, is_text, is_class, pool_at}
-use Rattle.class_reader.specs.declared.parts.CodePart.{CodePart}
-use Rattle.class_reader.specs.declared.parts.MemberPart.{MemberPart}
-use Rattle.class_reader.specs.declared.parts.ClassParts.{ClassParts}
+use Rattle.class_reader.specs.declared.parts.{CodePart.CodePart, MemberPart.MemberPart, ClassParts.ClassParts}
 use Rattle.code_decode.specs.Decoding.{code_at}
-use Rattle.class_reader.specs.Indices.{index_at, form_at}
-use Rattle.class_reader.specs.Handlers.{handlers_at}
-use Rattle.class_reader.specs.Maps.{map_at}
+use Rattle.class_reader.specs.{Indices.index_at, Indices.form_at, Handlers.handlers_at, Maps.map_at}
 use Rattle.class_reader.specs.Names.{is_code, is_constant_value, is_stack_map, is_own_class, is_field_name, is_field_type, is_method_name, is_method_type, fits_constant, is_repeated, fits_flags}
 
 -- ---- attributes (JVMS 4.7)

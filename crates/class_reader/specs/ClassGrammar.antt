@@ -7,14 +7,9 @@ use Rattle.class_pool.specs.Grammar.{Nothing, Then, Mapped, Tested, Number, Run,
 use Rattle.class_pool.specs.PoolGrammar.{PoolText}
 use Rattle.code_decode.specs.declared.decoding.Code.{Code}
 use Rattle.code_decode.specs.CodeGrammar.{CodeText}
-use Rattle.class_reader.specs.declared.parts.CodePart.{CodePart}
-use Rattle.class_reader.specs.declared.parts.RawHandler.{RawHandler}
-use Rattle.class_reader.specs.declared.parts.MapPart.{MapPart}
-use Rattle.class_reader.specs.declared.parts.MemberPart.{MemberPart}
-use Rattle.class_reader.specs.declared.parts.ClassParts.{ClassParts}
+use Rattle.class_reader.specs.declared.parts.{CodePart.CodePart, RawHandler.RawHandler, MapPart.MapPart, MemberPart.MemberPart, ClassParts.ClassParts}
 use Rattle.class_reader.specs.Indices.{Short, Index, Form}
-use Rattle.class_reader.specs.Handlers.{HandlersText}
-use Rattle.class_reader.specs.MapGrammar.{MapText}
+use Rattle.class_reader.specs.{Handlers.HandlersText, MapGrammar.MapText}
 use Rattle.class_reader.specs.Names.{is_code, is_constant_value, is_stack_map, is_own_class, is_field_name, is_field_type, is_method_name, is_method_type, fits_constant, is_repeated, fits_flags}
 
 -- ---- attributes (JVMS 4.7)

@@ -1,16 +1,11 @@
 -- Stack maps (JVMS 4.7.4): how they are read, and the first fault.
 use Rattle.std.specs.Prelude.{ℕ, zero, suc, ◌-◌, ◌%◌, List, [], ◌∷◌, ◌++◌, length, take, Option, Result, Ok, Err, Bool, true, false, not, nat_lt, ◌==◌, ◌&&◌, ◌||◌, if◌then◌else◌}
 use Rattle.std.specs.Int.{w8, w16, w32}
-use Rattle.class_pool.specs.declared.fault.Fault.{Fault}
-use Rattle.class_pool.specs.declared.fault.Fault.TheVariants.{BadLength}
+use Rattle.class_pool.specs.declared.fault.{Fault.Fault, Fault.TheVariants.BadLength}
 use Rattle.class_pool.specs.declared.pool.Entry.{Entry}
 use Rattle.et_base.specs.Answers.{◌>>=◌, tested}
-use Rattle.class_pool.specs.Reading.{number_at, run_at}
-use Rattle.class_pool.specs.Loops.{counted}
-use Rattle.class_pool.specs.Pool.{is_class}
-use Rattle.class_reader.specs.declared.parts.MapType.{MapType}
-use Rattle.class_reader.specs.declared.parts.MapFrame.{MapFrame}
-use Rattle.class_reader.specs.declared.parts.MapPart.{MapPart}
+use Rattle.class_pool.specs.{Reading.number_at, Reading.run_at, Loops.counted, Pool.is_class}
+use Rattle.class_reader.specs.declared.parts.{MapType.MapType, MapFrame.MapFrame, MapPart.MapPart}
 use Rattle.class_reader.specs.Indices.{index_at}
 
 abbrev pub type_of : ℕ → ℕ → MapType

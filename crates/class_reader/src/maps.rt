@@ -1,8 +1,7 @@
 //! Stack maps (JVMS 4.7.4).
 
 ghost use Rattle.std.specs.Prelude.{◌≡◌, ◌==◌, ◌-◌, ◌%◌, [], take, length, IfOk, IfErr, List, Option};
-ghost use Rattle.class_pool.specs.Pool.{entry_of};
-ghost use Rattle.class_pool.specs.Reading.{Gives};
+ghost use Rattle.class_pool.specs.{Pool.entry_of, Reading.Gives};
 ghost use Rattle.class_reader.specs.Indices.{index_at};
 ghost use Rattle.class_reader.specs.Maps.{is_object, tagged_at, type_at, given_at, types_at, is_frame_tag, tells_delta, stack_given, frame_at, is_bad_length, has_bad_tag, kept_at, frames_at, map_at};
 

@@ -1,8 +1,7 @@
 //! Fields and methods (JVMS 4.5 and 4.6).
 
 ghost use Rattle.std.specs.Prelude.{◌≡◌, ◌+◌, ◌<◌, length, [], ◌∷◌, ◌++◌, IfOk};
-ghost use Rattle.class_pool.specs.Reading.{Gives};
-ghost use Rattle.class_pool.specs.Loops.{counted};
+ghost use Rattle.class_pool.specs.{Reading.Gives, Loops.counted};
 ghost use Rattle.class_reader.specs.Texts.{IsSeen};
 ghost use Rattle.class_reader.specs.Class.{field_at, fields_at, method_at, methods_at};
 

@@ -1,8 +1,7 @@
 //! Parts read one after the other.
 
 ghost use Rattle.std.specs.Prelude.{[]};
-ghost use Rattle.class_pool.specs.Reading.{Gives};
-ghost use Rattle.class_pool.specs.Loops.{counted};
+ghost use Rattle.class_pool.specs.{Reading.Gives, Loops.counted};
 
 use class_pool::ReadError;
 use et_base::Items;

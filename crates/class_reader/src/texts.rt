@@ -1,15 +1,12 @@
 //! A pool with what tests say of its texts, each text looked at once.
 
 ghost use Rattle.std.specs.Prelude.{◌≡◌, ℕ, ◌<◌, ◌^◌, ◌||◌, true, not, length, map, List, IfOk, IfErr, OnOk, if◌then◌else◌};
-ghost use Rattle.std.specs.Option.{option_or};
-ghost use Rattle.std.specs.Str.{bytes_eq};
-ghost use Rattle.class_pool.specs.Pool.{entry_of, is_text};
+ghost use Rattle.std.specs.{Option.option_or, Str.bytes_eq};
+ghost use Rattle.class_pool.specs.{Pool.entry_of, Pool.is_text, Reading.Gives};
 ghost use Rattle.et_base.specs.Answers.{nothing, tested};
-ghost use Rattle.class_pool.specs.Reading.{Gives};
 ghost use Rattle.class_pool.specs.declared.fault.Fault.TheVariants.{Repeated};
 ghost use Rattle.class_reader.specs.Texts.{first_of, mark_with, mark_of, key_of};
-ghost use Rattle.class_reader.specs.Names.{is_text_of, is_repeated};
-ghost use Rattle.class_reader.specs.Lookups.{noted, noted_first};
+ghost use Rattle.class_reader.specs.{Names.is_text_of, Names.is_repeated, Lookups.noted, Lookups.noted_first};
 
 use crate::parts::MemberPart;
 use class_pool::fault::wants;

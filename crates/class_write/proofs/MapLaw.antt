@@ -2,23 +2,17 @@
 use Rattle.std.proofs.Common.{◌≡◌, ℕ, zero, suc, ◌-◌, ◌%◌, Bool, true, false, cond, eqb, ltb, ◌||◌, List, [], ◌∷◌, ◌++◌, length, sym, ap, subst, ◌∙◌, append_assoc, arith}
 use Rattle.std.specs.List.{flat_map}
 use Rattle.std.specs.Int.{w8, w32, to_be_bytes}
-use Rattle.std.proofs.lemmas.Bool.{eqb-true}
+use Rattle.std.proofs.lemmas.{Bool.eqb-true, List.append-nil}
 use Rattle.std.proofs.lemmas.Bool.Decides.{nat_tests}
-use Rattle.std.proofs.lemmas.List.{append-nil}
 use Rattle.class_pool.specs.Grammar.{Nothing, Mapped, Never}
 use Rattle.class_pool.specs.Pool.{entry_of}
 use Rattle.et_base.proofs.Cases.{by_test}
 use Rattle.code_decode.specs.declared.decoding.Code.{Code}
-use Rattle.class_reader.specs.declared.parts.RawHandler.{RawHandler}
-use Rattle.class_reader.specs.declared.parts.MapType.{MapType}
-use Rattle.class_reader.specs.declared.parts.MapFrame.{MapFrame}
-use Rattle.class_reader.specs.declared.parts.MapPart.{MapPart}
-use Rattle.class_reader.specs.Indices.{Short, Index}
-use Rattle.class_reader.specs.Names.{fits_constant}
+use Rattle.class_reader.specs.declared.parts.{RawHandler.RawHandler, MapType.MapType, MapFrame.MapFrame, MapPart.MapPart}
+use Rattle.class_reader.specs.{Indices.Short, Indices.Index, Names.fits_constant, ClassGrammar.ConstantText}
 use Rattle.class_reader.specs.Maps.{type_of, is_object, tells_delta, stack_given}
 use Rattle.class_reader.specs.MapGrammar.{TaggedText, TypeText, GivenText, TypesText, FrameText, FramesText, MapText}
 use Rattle.class_reader.specs.Handlers.{RangeText, CatchText, HandlerText, HandlersText}
-use Rattle.class_reader.specs.ClassGrammar.{ConstantText}
 use Rattle.class_write.specs.Spelling.{short_bytes, listed_bytes, sized_bytes, type_bytes, types_bytes, frame_bytes, map_bytes, handler_bytes}
 use Rattle.class_write.proofs.PartLaw.{Slots, index_same, joined_same, listed_same}
 

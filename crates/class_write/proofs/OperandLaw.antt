@@ -1,8 +1,7 @@
 -- The operands of instructions, item by item.
 use Rattle.std.proofs.Common.{◌≡◌, ℕ, zero, suc, ◌+◌, ◌-◌, ◌*◌, ◌/◌, ◌<◌, ◌≤◌, List, [], ◌∷◌, ◌++◌, length, take, drop, replicate, get_or, refl, sym, ap, ◌∙◌, append_assoc, arith}
 use Rattle.std.specs.Prelude.{ℤ}
-use Rattle.std.specs.List.{flat_map}
-use Rattle.std.specs.Int.{w32, to_be_bytes}
+use Rattle.std.specs.{List.flat_map, Int.w32, Int.to_be_bytes}
 use Rattle.code_decode.specs.Switches.{padding}
 use Rattle.code_decode.specs.Spelling.{signed_bytes, offset_bytes, pair_bytes, two_bytes, table_bytes, lookup_bytes}
 

@@ -2,16 +2,13 @@
 use Rattle.std.proofs.Common.{◌≡◌, ℕ, zero, suc, ◌+◌, ◌^◌, ◌<◌, ◌≤◌, ◌⊎◌, Bool, true, false, cond, List, [], ◌∷◌, ◌++◌, length, Option, Some, None, refl, sym, ap, subst, ◌∙◌, arith, inl, inr}
 use Rattle.std.specs.Prelude.{slice_index_or, unwrap_or}
 use Rattle.std.specs.List.{flat_map}
-use Rattle.std.proofs.lemmas.List.{append-nil, length-append}
-use Rattle.std.proofs.lemmas.Option.{same_Some}
-use Rattle.class_pool.specs.declared.pool.Entry.{Entry}
-use Rattle.class_pool.specs.declared.pool.Entry.TheVariants.{Utf8}
+use Rattle.std.proofs.lemmas.{List.append-nil, List.length-append, Option.same_Some}
+use Rattle.class_pool.specs.declared.pool.{Entry.Entry, Entry.TheVariants.Utf8}
 use Rattle.class_pool.specs.Pool.{entry_of, is_text}
 use Rattle.class_pool.specs.Grammar.{Then, Joined, Counted, Chain}
 use Rattle.et_base.proofs.Cases.{by_test}
 use Rattle.class_reader.specs.Indices.{Short, Index, Form}
-use Rattle.class_reader.specs.Names.{is_text_of}
-use Rattle.class_reader.specs.Texts.{first_from}
+use Rattle.class_reader.specs.{Names.is_text_of, Texts.first_from}
 use Rattle.class_reader.specs.ClassGrammar.{OnceText, AttributeText, AttributesText}
 use Rattle.class_write.specs.Spelling.{short_bytes, listed_bytes, sized_bytes, attribute_bytes, index_of}
 

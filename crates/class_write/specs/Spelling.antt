@@ -6,16 +6,10 @@ use Rattle.class_pool.specs.declared.pool.Entry.{Entry}
 use Rattle.class_pool.specs.PoolGrammar.{pool_spelling}
 use Rattle.code_decode.specs.declared.decoding.Code.{Code}
 use Rattle.code_decode.specs.Spelling.{code_spelling}
-use Rattle.class_reader.specs.declared.parts.RawHandler.{RawHandler}
-use Rattle.class_reader.specs.declared.parts.MapType.{MapType}
-use Rattle.class_reader.specs.declared.parts.MapFrame.{MapFrame}
-use Rattle.class_reader.specs.declared.parts.MapPart.{MapPart}
-use Rattle.class_reader.specs.declared.parts.CodePart.{CodePart}
-use Rattle.class_reader.specs.declared.parts.MemberPart.{MemberPart}
-use Rattle.class_reader.specs.declared.parts.ClassParts.{ClassParts}
+use Rattle.class_reader.specs.declared.parts.{RawHandler.RawHandler, MapType.MapType, MapFrame.MapFrame, MapPart.MapPart, CodePart.CodePart}
+use Rattle.class_reader.specs.declared.parts.{MemberPart.MemberPart, ClassParts.ClassParts}
 use Rattle.class_write.specs.declared.names.Names.{Names}
-use Rattle.class_reader.specs.Texts.{first_from}
-use Rattle.class_reader.specs.Maps.{tells_delta}
+use Rattle.class_reader.specs.{Texts.first_from, Maps.tells_delta}
 
 -- ---- parts that many places have
 

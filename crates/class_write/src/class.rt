@@ -1,8 +1,7 @@
 //! Class files (JVMS 4.1).
 
 ghost use Rattle.std.specs.Prelude.{◌≡◌, ◌++◌, Ok, OnOk, IfOk};
-ghost use Rattle.class_reader.specs.ClassGrammar.{class_bytes};
-ghost use Rattle.class_reader.specs.Faults.{class_of};
+ghost use Rattle.class_reader.specs.{ClassGrammar.class_bytes, Faults.class_of};
 ghost use Rattle.class_write.specs.Spelling.{short_bytes, listed_bytes, field_bytes, method_bytes, head_bytes, members_bytes, body_bytes, class_spelling};
 
 use crate::attributes::{put_code_part, put_constant};

@@ -1,8 +1,7 @@
 //! The operands of instructions (JVMS 6.5).
 
 ghost use Rattle.std.specs.Prelude.{◌≡◌, ℤ, List, ◌++◌, replicate, OnOk};
-ghost use Rattle.std.specs.List.{flat_map};
-ghost use Rattle.std.specs.Int.{w32};
+ghost use Rattle.std.specs.{List.flat_map, Int.w32};
 ghost use Rattle.code_decode.specs.Switches.{padding};
 ghost use Rattle.code_decode.specs.Spelling.{offset_bytes, pair_bytes, one_bytes, two_bytes, table_bytes, lookup_bytes, args_bytes, wide_args_bytes};
 ghost use Rattle.class_write.specs.Forms.{form_bytes};

@@ -5,10 +5,8 @@ use Rattle.std.specs.Int.{Width, w8, w16, w32, byte_len, cast_signed}
 use lib.Signed.{le_z_yes, lt_z_yes}
 use borrow.Author.Gap.{read_sfits}
 use Rattle.std.proofs.lemmas.Bool.{eq-eqb, ltb-true, leb-true, and_parts}
-use Rattle.std.proofs.lemmas.Bool.Decides.{nat_tests}
-use Rattle.std.proofs.lemmas.Int.{ints}
-use Rattle.std.proofs.lemmas.List.{length-append}
-use Rattle.std.proofs.lemmas.List.FromFn.{length-enumerate_from, get_or-enumerate_from}
+use Rattle.std.proofs.{lemmas.Bool.Decides.nat_tests, lemmas.List.FromFn.length-enumerate_from, lemmas.List.FromFn.get_or-enumerate_from}
+use Rattle.std.proofs.lemmas.{Int.ints, List.length-append}
 use Rattle.std.proofs.lemmas.List.Elements.{All-nil, All-push}
 use Rattle.class_pool.specs.declared.pool.Entry.{Entry}
 use Rattle.class_pool.specs.Pool.{entry_of}
@@ -17,9 +15,8 @@ use Rattle.class_pool.proofs.GrammarFacts.{chain_counts}
 use Rattle.code_decode.specs.declared.instructions.RawOp.{RawOp}
 use Rattle.code_decode.specs.declared.judging.Fit.{Fit}
 use Rattle.code_decode.specs.declared.judging.Fit.TheVariants as fit
-use Rattle.code_decode.specs.declared.opcodes.Shape.{Shape}
+use Rattle.code_decode.specs.declared.opcodes.{Shape.Shape, Named.TheVariants.Nested, Named.TheVariants.Interface}
 use Rattle.code_decode.specs.declared.opcodes.Shape.TheVariants as shape
-use Rattle.code_decode.specs.declared.opcodes.Named.TheVariants.{Nested, Interface}
 use Rattle.code_decode.specs.Judging.{constant_fit, named_fit, kind_fit, class_name, dimensions, interface_units, counts_units}
 use Rattle.code_decode.specs.Switches.{span, keys_rise}
 use Rattle.code_decode.specs.Targets.{has_start, is_start, is_place, leads}

@@ -3,19 +3,16 @@ use Rattle.std.proofs.Common.{ℕ, ◌*◌, ◌^◌, Bool, true, false, cond, eq
 use Rattle.std.specs.Prelude.{ℤ, pos, int_le}
 use Rattle.std.specs.Int.{Width, w8, w16, w32, byte_len, cast_signed}
 use Rattle.class_pool.specs.declared.pool.Entry.{Entry}
-use Rattle.class_pool.specs.Pool.{entry_of}
+use Rattle.class_pool.specs.{Pool.entry_of, Reading.number_or, Reading.run_or, Loops.folded}
 use Rattle.et_base.specs.Answers.{◌>>=◌, tested}
-use Rattle.class_pool.specs.Reading.{number_or, run_or}
-use Rattle.class_pool.specs.Loops.{folded}
 use Rattle.class_pool.specs.Grammar.{Nothing, Never, Tested, Run, Counted}
 use Rattle.class_pool.proofs.Laws.{IsWide, wide8, wide16, wide32}
 use Rattle.code_decode.proofs.Readers.{Takes, takes_nothing, takes_then, takes_mapped, takes_if, takes_never, takes_tested, takes_judged, takes_word, takes_run, takes_counted, takes_folded}
 use Rattle.code_decode.specs.declared.place.Spot.{Spot}
 use Rattle.code_decode.specs.declared.judging.Fit.{Fit}
 use Rattle.code_decode.specs.declared.judging.Fit.TheVariants as fit
-use Rattle.code_decode.specs.declared.opcodes.Shape.{Shape}
+use Rattle.code_decode.specs.declared.opcodes.{Shape.Shape, Named.TheVariants.Nested, Named.TheVariants.Interface}
 use Rattle.code_decode.specs.declared.opcodes.Shape.TheVariants as shape
-use Rattle.code_decode.specs.declared.opcodes.Named.TheVariants.{Nested, Interface}
 use Rattle.code_decode.specs.Place.{cut, wrong, foreign, target}
 use Rattle.code_decode.specs.Opcodes.{shape_of, takes_local}
 use Rattle.code_decode.specs.Judging.{constant_fit, named_fit, kind_fit, class_name, dimensions, interface_units, counts_units}

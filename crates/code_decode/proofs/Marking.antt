@@ -1,9 +1,7 @@
 -- Marks of the places where instructions start.
-use Rattle.std.proofs.Math.Bool.{or-true, or-false}
+use Rattle.std.proofs.{Math.Bool.or-true, Math.Bool.or-false, Math.ListN.length-set, lemmas.Bool.Decides.nat_tests}
 use Rattle.std.proofs.Common.{◌≡◌, ◌≢◌, ℕ, ◌<◌, ◌≤◌, Bool, true, false, cond, eqb, eq-eqb, ltb, ◌&&◌, ◌||◌, List, [], ◌∷◌, ◌++◌, length, get_or, set, refl, sym, ap, ◌∙◌, arith, inl, inr, get_or-set_other, get_or-set_same}
-use Rattle.std.proofs.Math.ListN.{length-set}
 use Rattle.std.proofs.lemmas.Bool.{cases_lt, le-ltb, lt-ltb, eqb-true}
-use Rattle.std.proofs.lemmas.Bool.Decides.{nat_tests}
 use Rattle.code_decode.specs.declared.instructions.RawOp.{RawOp}
 use Rattle.std.specs.Prelude.{ℤ, pos, negsuc}
 use Rattle.code_decode.specs.Targets.{Marks, has_start, is_start, is_marked, targets_fit}

@@ -11,9 +11,7 @@ use Rattle.code_decode.specs.declared.place.Spot.{Spot}
 use Rattle.code_decode.specs.declared.judging.Fit.{Fit}
 use Rattle.code_decode.specs.declared.judging.Fit.TheVariants as fit
 use Rattle.code_decode.specs.Place.{cut, wrong, foreign}
-use Rattle.code_decode.specs.Operands.{judged}
-use Rattle.code_decode.specs.Decoding.{IsOfCode}
-use Rattle.code_decode.specs.CodeGrammar.{Word, is_right}
+use Rattle.code_decode.specs.{Operands.judged, Decoding.IsOfCode, CodeGrammar.Word, CodeGrammar.is_right}
 
 -- ---- faults
 

@@ -4,9 +4,7 @@ use Rattle.std.specs.Prelude.{ℤ, not, ◌&&◌, ◌||◌}
 use Rattle.std.specs.List.{list_all, enumerate_from, range_with_len}
 use Rattle.std.proofs.lemmas.List.{drop_more}
 use Rattle.std.proofs.lemmas.List.FromFn.{get_or-map-range_with_len}
-use Rattle.class_pool.specs.declared.fault.Fault.{Fault}
-use Rattle.class_pool.specs.declared.fault.Fault.TheVariants.{BadTarget}
-use Rattle.class_pool.specs.declared.fault.ReadError.{ReadError}
+use Rattle.class_pool.specs.declared.fault.{Fault.Fault, Fault.TheVariants.BadTarget, ReadError.ReadError}
 use Rattle.class_pool.specs.declared.fault.ReadError.TheVariants as errors
 use Rattle.et_base.specs.Answers.{◌>>=◌, Fails, tested}
 use Rattle.class_pool.specs.Reading.{named}

@@ -3,15 +3,11 @@ use Rattle.std.proofs.Common.{◌≡◌, ℕ, zero, suc, ◌+◌, ◌-◌, ◌<�
 use Rattle.std.specs.Prelude.{ℤ}
 use Rattle.std.specs.List.{AllByRecursion}
 use Rattle.std.proofs.lemmas.List.{append-nil, length-append}
-use Rattle.class_pool.specs.declared.fault.Fault.{Fault}
-use Rattle.class_pool.specs.declared.fault.Fault.TheVariants.{BadTarget}
+use Rattle.class_pool.specs.declared.fault.{Fault.Fault, Fault.TheVariants.BadTarget, ReadError.ReadError}
 use Rattle.class_pool.specs.declared.pool.Entry.{Entry}
-use Rattle.class_pool.specs.declared.fault.ReadError.{ReadError}
 use Rattle.class_pool.specs.declared.fault.ReadError.TheVariants as errors
 use Rattle.et_base.specs.Answers.{◌>>=◌, Fails, tested}
-use Rattle.class_pool.specs.Reading.{named}
-use Rattle.class_pool.specs.Loops.{to_end}
-use Rattle.class_pool.specs.Grammar.{IsBytes}
+use Rattle.class_pool.specs.{Reading.named, Loops.to_end, Grammar.IsBytes}
 use Rattle.class_pool.proofs.Laws.{bind_ok, ok_is, tested_ok, wide8}
 use Rattle.code_decode.specs.declared.place.Spot.{Spot}
 use Rattle.code_decode.specs.declared.instructions.RawOp.{RawOp}

@@ -9,15 +9,11 @@ use Rattle.code_decode.specs.declared.instructions.RawOp.{RawOp}
 use Rattle.code_decode.specs.declared.decoding.Code.{Code}
 use Rattle.code_decode.specs.declared.judging.Fit.{Fit}
 use Rattle.code_decode.specs.declared.judging.Fit.TheVariants as fit
-use Rattle.code_decode.specs.declared.opcodes.Shape.{Shape}
+use Rattle.code_decode.specs.declared.opcodes.{Shape.Shape, Named.TheVariants.Nested, Named.TheVariants.Interface}
 use Rattle.code_decode.specs.declared.opcodes.Shape.TheVariants as shape
-use Rattle.code_decode.specs.declared.opcodes.Named.TheVariants.{Nested, Interface}
-use Rattle.code_decode.specs.Place.{target}
-use Rattle.code_decode.specs.Opcodes.{shape_of, takes_local}
+use Rattle.code_decode.specs.{Place.target, Opcodes.shape_of, Opcodes.takes_local, Instructions.op, Targets.is_start, Targets.leads_to}
 use Rattle.code_decode.specs.Judging.{constant_fit, named_fit, kind_fit, class_name, dimensions, interface_units, counts_units}
 use Rattle.code_decode.specs.Switches.{padding, span, keys_rise}
-use Rattle.code_decode.specs.Instructions.{op}
-use Rattle.code_decode.specs.Targets.{is_start, leads_to}
 
 -- a number of this width
 abbrev pub Word : Width → List ℕ → ℕ → Type 0

@@ -1,16 +1,13 @@
 -- A whole code: how it is taken, the first fault, and what an answer says of that.
 use Rattle.std.specs.Prelude.{◌≡◌, ℕ, List, length, Option, Result, Ok, Err}
-use Rattle.class_pool.specs.declared.fault.Fault.{Fault}
+use Rattle.class_pool.specs.declared.fault.{Fault.Fault, ReadError.ReadError}
 use Rattle.class_pool.specs.declared.fault.Fault.TheVariants as faults
-use Rattle.class_pool.specs.declared.fault.ReadError.{ReadError}
 use Rattle.class_pool.specs.declared.fault.ReadError.TheVariants as errors
 use Rattle.class_pool.specs.declared.pool.Entry.{Entry}
 use Rattle.et_base.specs.Answers.{◌>>=◌}
-use Rattle.code_decode.specs.declared.decoding.Code.{Code}
-use Rattle.code_decode.specs.declared.decoding.CodeFault.{CodeFault}
+use Rattle.code_decode.specs.declared.decoding.{Code.Code, CodeFault.CodeFault}
 use Rattle.code_decode.specs.declared.decoding.CodeFault.TheVariants as code
-use Rattle.code_decode.specs.Instructions.{ops_at}
-use Rattle.code_decode.specs.Targets.{is_start, targets_fit}
+use Rattle.code_decode.specs.{Instructions.ops_at, Targets.is_start, Targets.targets_fit}
 
 -- all instructions, and then the places that they lead to
 unfoldable pub code_at : ℕ → List (Option Entry) → List ℕ → Result Code Fault

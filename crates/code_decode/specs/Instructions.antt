@@ -4,18 +4,14 @@ use Rattle.std.specs.Int.{w8, w16, w32}
 use Rattle.class_pool.specs.declared.fault.Fault.{Fault}
 use Rattle.class_pool.specs.declared.pool.Entry.{Entry}
 use Rattle.et_base.specs.Answers.{◌>>=◌}
-use Rattle.class_pool.specs.Reading.{number_or}
-use Rattle.class_pool.specs.Loops.{to_end}
-use Rattle.class_pool.specs.Pool.{entry_of}
+use Rattle.class_pool.specs.{Reading.number_or, Loops.to_end, Pool.entry_of}
 use Rattle.code_decode.specs.declared.place.Spot.{Spot}
 use Rattle.code_decode.specs.declared.instructions.RawOp.{RawOp}
 use Rattle.code_decode.specs.declared.opcodes.Shape.{Shape}
 use Rattle.code_decode.specs.declared.opcodes.Shape.TheVariants as shape
-use Rattle.code_decode.specs.Place.{cut, foreign}
-use Rattle.code_decode.specs.Opcodes.{shape_of, takes_local}
+use Rattle.code_decode.specs.{Place.cut, Place.foreign, Opcodes.shape_of, Opcodes.takes_local, Switches.table_at, Switches.lookup_at}
 use Rattle.code_decode.specs.Judging.{constant_fit, named_fit, kind_fit}
 use Rattle.code_decode.specs.Operands.{signed_at, local_at, branch_at, increment_at, fitting_at, interface_at, dimensions_at}
-use Rattle.code_decode.specs.Switches.{table_at, lookup_at}
 
 abbrev pub op : ℕ → ℕ → Bool → List ℤ → RawOp
 op pc opcode wide args = record { pc = pc; opcode = opcode; wide = wide; args = args }

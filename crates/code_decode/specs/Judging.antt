@@ -4,11 +4,8 @@ use Rattle.class_pool.specs.declared.pool.Entry.{Entry}
 use Rattle.class_pool.specs.declared.pool.Entry.TheVariants.{Integer, Long, Class, Str, Field, Method, InterfaceMethod, NameAndType}
 use Rattle.class_pool.specs.Pool.{entry_of, text_of, class_name_of}
 use Rattle.et_base.specs.Names.{argument_units}
-use Rattle.code_decode.specs.declared.judging.Fit.{Fit}
-use Rattle.code_decode.specs.declared.judging.Fit.TheVariants.{Right, Wrong, Foreign}
-use Rattle.code_decode.specs.declared.opcodes.Constant.{Constant}
-use Rattle.code_decode.specs.declared.opcodes.Constant.TheVariants.{Single, Double}
-use Rattle.code_decode.specs.declared.opcodes.Named.{Named}
+use Rattle.code_decode.specs.declared.judging.{Fit.Fit, Fit.TheVariants.Right, Fit.TheVariants.Wrong, Fit.TheVariants.Foreign}
+use Rattle.code_decode.specs.declared.opcodes.{Constant.Constant, Constant.TheVariants.Single, Constant.TheVariants.Double, Named.Named}
 use Rattle.code_decode.specs.declared.opcodes.Named.TheVariants as named
 
 -- the units of the text that an entry is

@@ -1,8 +1,7 @@
 -- The form of each opcode's operands (JVMS 6.5).
 use Rattle.std.specs.Prelude.{ℕ, Bool, ◌&&◌, ◌||◌, ◌==◌, nat_le, Option, Some, None, if◌then◌else◌}
-use Rattle.code_decode.specs.declared.opcodes.Shape.{Shape}
+use Rattle.code_decode.specs.declared.opcodes.{Shape.Shape, Constant.TheVariants.Single, Constant.TheVariants.Double}
 use Rattle.code_decode.specs.declared.opcodes.Shape.TheVariants.{Plain, Byte, Short, Local, Increment, Near, Far, Entry, Interface, Kind, Dimensions, Branch, FarBranch, Table, Lookup}
-use Rattle.code_decode.specs.declared.opcodes.Constant.TheVariants.{Single, Double}
 use Rattle.code_decode.specs.declared.opcodes.Named.TheVariants.{Field, Virtual, Direct, Made, Element, Tested}
 
 abbrev pub is_within : ℕ → ℕ → ℕ → Bool

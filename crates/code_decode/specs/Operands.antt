@@ -4,8 +4,7 @@ use Rattle.std.specs.Int.{Width, w8, w16, cast_signed}
 use Rattle.class_pool.specs.declared.fault.Fault.{Fault}
 use Rattle.class_pool.specs.declared.pool.Entry.{Entry}
 use Rattle.et_base.specs.Answers.{◌>>=◌, tested}
-use Rattle.class_pool.specs.Reading.{number_or}
-use Rattle.class_pool.specs.Pool.{entry_of}
+use Rattle.class_pool.specs.{Reading.number_or, Pool.entry_of}
 use Rattle.code_decode.specs.declared.place.Spot.{Spot}
 use Rattle.code_decode.specs.declared.judging.Fit.{Fit}
 use Rattle.code_decode.specs.declared.judging.Fit.TheVariants as fit

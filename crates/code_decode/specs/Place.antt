@@ -1,7 +1,6 @@
 -- Where an instruction stands, the faults that are named there, and where it leads.
 use Rattle.std.specs.Prelude.{ℕ, ℤ, pos, negsuc, ◌+ℤ◌, nat_lt, if◌then◌else◌}
-use Rattle.class_pool.specs.declared.fault.Fault.{Fault}
-use Rattle.class_pool.specs.declared.fault.Fault.TheVariants.{CutCode, Unsupported, BadOperand}
+use Rattle.class_pool.specs.declared.fault.{Fault.Fault, Fault.TheVariants.CutCode, Fault.TheVariants.Unsupported, Fault.TheVariants.BadOperand}
 use Rattle.code_decode.specs.declared.place.Spot.{Spot}
 
 -- the instruction isn't wholly inside the code

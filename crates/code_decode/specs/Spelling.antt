@@ -6,8 +6,7 @@ use Rattle.code_decode.specs.declared.instructions.RawOp.{RawOp}
 use Rattle.code_decode.specs.declared.decoding.Code.{Code}
 use Rattle.code_decode.specs.declared.opcodes.Shape.{Shape}
 use Rattle.code_decode.specs.declared.opcodes.Shape.TheVariants as shape
-use Rattle.code_decode.specs.Opcodes.{shape_of, takes_local}
-use Rattle.code_decode.specs.Switches.{padding}
+use Rattle.code_decode.specs.{Opcodes.shape_of, Opcodes.takes_local, Switches.padding}
 
 -- a number that isn't negative
 abbrev pub number_bytes : Width → ℤ → List ℕ

@@ -1,8 +1,7 @@
 -- The places in a code that its instructions lead to.
 use Rattle.std.specs.Prelude.{◌≡◌, ℕ, ℤ, pos, negsuc, ◌%◌, List, [], ◌∷◌, length, Option, Some, Result, Ok, Bool, true, false, not, nat_lt, ◌==◌, ◌&&◌, ◌||◌, slice_index_or}
 use Rattle.std.specs.List.{list_all, enumerate_from}
-use Rattle.class_pool.specs.declared.fault.Fault.{Fault}
-use Rattle.class_pool.specs.declared.fault.Fault.TheVariants.{BadTarget}
+use Rattle.class_pool.specs.declared.fault.{Fault.Fault, Fault.TheVariants.BadTarget}
 use Rattle.et_base.specs.Answers.{◌>>=◌, tested}
 use Rattle.code_decode.specs.declared.instructions.RawOp.{RawOp}
 use Rattle.code_decode.specs.declared.opcodes.Shape.{Shape}

@@ -2,12 +2,10 @@
 use Rattle.std.proofs.Common.{◌≡◌, ◌≢◌, ◌⊎◌, ℕ, suc, ◌+◌, ◌-◌, ◌%◌, ◌≤◌, pos, ◌-ℤ◌, Bool, true, false, eqb, leb, ◌&&◌, ◌||◌, Option, Some, None, refl, arith, inl, inr}
 use Rattle.std.proofs.lemmas.Bool.{eqb-true, leb-true, leb-false, and_parts, or_cases, eqb-false, cond_both}
 use Rattle.code_decode.specs.declared.instructions.RawOp.{RawOp}
-use Rattle.jvm_model.specs.declared.values.Value.TheVariants.{Int, Long, Null}
+use Rattle.jvm_model.specs.declared.values.{Value.TheVariants.Int, Value.TheVariants.Long, Value.TheVariants.Null, Value.Value, Kind.Kind}
 use Rattle.jvm_model.specs.declared.instr.Instr.{Instr}
 use Rattle.jvm_model.specs.declared.instr.Instr.TheVariants as form
 use Rattle.jvm_model.specs.declared.instr.Sort.TheVariants as sort
-use Rattle.jvm_model.specs.declared.values.Value.{Value}
-use Rattle.jvm_model.specs.declared.values.Kind.{Kind}
 use Rattle.jvm_model.specs.Selection.{named_class}
 use Rattle.code_forms.specs.declared.references.Target.{Target}
 use Rattle.code_forms.specs.declared.references.Target.TheVariants as target

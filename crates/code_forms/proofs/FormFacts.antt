@@ -6,22 +6,17 @@ use Rattle.class_pool.specs.declared.pool.Entry.TheVariants as entry
 use Rattle.std.proofs.lemmas.Bool.{eqb-true, leb-true, not-true, and_parts, or_cases, eqb-false, cases_lt, cond_both}
 use Rattle.std.proofs.lemmas.Bool.Decides.{nat_tests}
 use Rattle.code_decode.specs.declared.instructions.RawOp.{RawOp}
-use Rattle.jvm_model.specs.declared.values.Value.{Value}
+use Rattle.jvm_model.specs.declared.values.{Value.Value, Base.Base, Kind.Kind}
 use Rattle.jvm_model.specs.declared.values.Value.TheVariants.{Int, Long, Null, Lit, Obj}
-use Rattle.jvm_model.specs.declared.values.Base.{Base}
 use Rattle.jvm_model.specs.declared.values.Base.TheVariants as base
-use Rattle.jvm_model.specs.declared.values.Kind.{Kind}
 use Rattle.jvm_model.specs.declared.values.Kind.TheVariants as kind
 use Rattle.jvm_model.specs.declared.instr.Instr.{Instr}
 use Rattle.jvm_model.specs.declared.instr.Instr.TheVariants as form
-use Rattle.jvm_model.specs.declared.program.Program.{Program}
-use Rattle.jvm_model.specs.declared.program.Body.{Body}
-use Rattle.jvm_model.specs.Classes.{method_at, is_static}
-use Rattle.jvm_model.specs.Selection.{named_class}
+use Rattle.jvm_model.specs.declared.program.{Program.Program, Body.Body}
+use Rattle.jvm_model.specs.{Classes.method_at, Classes.is_static, Selection.named_class}
 use Rattle.jvm_model.specs.Linked.{IsClass, IsField, IsMethod, IsLiteral, IsBase, IsKind, IsArray, NamesForm, IsFormKind, IsFormFound, IsForm, IsFoundIn, IsFoundField, IsPlainField, IsStaticMethod, IsPlainMethod, IsStaticCall, IsSpecialCall, is_interface_at, dims_of}
-use Rattle.code_forms.specs.declared.references.Use.{Use}
+use Rattle.code_forms.specs.declared.references.{Use.Use, Target.Target}
 use Rattle.code_forms.specs.declared.references.Use.TheVariants as used
-use Rattle.code_forms.specs.declared.references.Target.{Target}
 use Rattle.code_forms.specs.declared.references.Target.TheVariants as target
 use Rattle.code_forms.specs.Operands.{number_in}
 use Rattle.code_forms.specs.Uses.{use_of, fits_sort, method_fits, field_fits, fits}

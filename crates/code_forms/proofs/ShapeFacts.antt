@@ -12,8 +12,7 @@ use Rattle.code_decode.specs.declared.judging.Fit.TheVariants as fit
 use Rattle.code_decode.specs.declared.opcodes.Shape.{Shape}
 use Rattle.code_decode.specs.declared.opcodes.Shape.TheVariants as shape
 use Rattle.code_decode.specs.declared.opcodes.Named.TheVariants as named
-use Rattle.code_decode.specs.Judging.{named_fit}
-use Rattle.code_decode.specs.Opcodes.{shape_of, takes_local}
+use Rattle.code_decode.specs.{Judging.named_fit, Opcodes.shape_of, Opcodes.takes_local}
 use Rattle.code_decode.proofs.ArgFacts.{OneNumber, IndexCount, CallsInterface, ArgFacts}
 use Rattle.code_decode.proofs.CodeFacts.{PlainFacts, OpFacts}
 use Rattle.code_forms.specs.Operands.{number_in, index_in}

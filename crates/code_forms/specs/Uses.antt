@@ -5,13 +5,10 @@ use Rattle.class_pool.specs.declared.pool.Entry.TheVariants as entry
 use Rattle.jvm_model.specs.declared.values.Kind.{Kind}
 use Rattle.jvm_model.specs.declared.values.Kind.TheVariants as kind
 use Rattle.jvm_model.specs.declared.program.Program.{Program}
-use Rattle.jvm_model.specs.Builtin.{throwable_class}
+use Rattle.jvm_model.specs.{Builtin.throwable_class, Selection.named_class, Linked.is_interface_at}
 use Rattle.jvm_model.specs.Classes.{class_at, field_at, method_at, is_static, is_below, member}
-use Rattle.jvm_model.specs.Selection.{named_class}
-use Rattle.jvm_model.specs.Linked.{is_interface_at}
-use Rattle.code_forms.specs.declared.references.Use.{Use}
+use Rattle.code_forms.specs.declared.references.{Use.Use, Target.Target}
 use Rattle.code_forms.specs.declared.references.Use.TheVariants as used
-use Rattle.code_forms.specs.declared.references.Target.{Target}
 use Rattle.code_forms.specs.declared.references.Target.TheVariants as target
 
 -- how an instruction uses the entry that it names (JVMS 6.5)

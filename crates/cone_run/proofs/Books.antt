@@ -6,9 +6,8 @@ use Rattle.std.proofs.lemmas.Bool.{cases_eq}
 use Rattle.jvm_model.specs.declared.program.Program.{Program}
 use Rattle.order_law.specs.declared.edges.Edge.{Edge}
 use Rattle.test_run.specs.Running.{Posted}
-use Rattle.cone_run.specs.Cones.{IsCone, cone_units}
+use Rattle.cone_run.specs.{Cones.IsCone, Cones.cone_units, Runs.IsPieceOf}
 use Rattle.cone_run.specs.Books.{IsBook, IsPosted, AreLeft, posted_units}
-use Rattle.cone_run.specs.Runs.{IsPieceOf}
 use Rattle.cone_run.proofs.ConeLists.{cone_piece}
 
 -- pieces that aren't there have no units

@@ -1,7 +1,6 @@
 -- The tests of a cone: none is above its test, and all are tests of the program.
 use Rattle.std.proofs.Common.{◌≡◌, ℕ, suc, ◌+◌, ◌<◌, ◌≤◌, List, [], ◌∷◌, ◌++◌, length, refl, sym, ap, inl, inr, arith}
-use Rattle.order_law.specs.declared.edges.Edge.{Edge}
-use Rattle.order_law.specs.declared.edges.EdgeKind.TheVariants.{Raw}
+use Rattle.order_law.specs.declared.edges.{Edge.Edge, EdgeKind.TheVariants.Raw}
 use Rattle.order_law.specs.Conflicts.{Member, Closure, selected, source}
 use Rattle.order_law.specs.Plan.{Ascending}
 use Rattle.dep_graph.specs.Graphs.{GoUp}

@@ -3,16 +3,11 @@ use Rattle.std.proofs.Common.{◌≡◌, ℕ, ◌<◌, ◌≤◌, List, [], ◌�
 use Rattle.jvm_model.specs.declared.program.Program.{Program}
 use Rattle.jvm_model.specs.declared.values.Location.{Location}
 use Rattle.jvm_model.specs.Suite.{Given, opening, runs, first_over, last_outcome, last_in, outcome_in, seq}
-use Rattle.order_law.specs.declared.edges.Edge.{Edge}
-use Rattle.order_law.specs.declared.edges.EdgeKind.{EdgeKind}
-use Rattle.order_law.specs.declared.edges.EdgeKind.TheVariants.{Raw, Waw, War}
+use Rattle.order_law.specs.declared.edges.{Edge.Edge, EdgeKind.EdgeKind, EdgeKind.TheVariants.Raw, EdgeKind.TheVariants.Waw, EdgeKind.TheVariants.War}
 use Rattle.order_law.specs.Conflicts.{Tests, Conflict, Member, HasEdge, InOrder, source}
 use Rattle.order_law.specs.Histories.{AreSequential, IsTestNumber, writes_of, exposed_of, touches_of}
-use Rattle.order_law.specs.OwnRecord.{edges_of, owner}
-use Rattle.order_law.specs.Plan.{Ascending}
-use Rattle.order_law.proofs.Members.{before_up}
-use Rattle.order_law.proofs.Posts.{ascending_distinct}
-use Rattle.order_law.proofs.OwnRecord.{own_law, is_record}
+use Rattle.order_law.specs.{OwnRecord.edges_of, OwnRecord.owner, Plan.Ascending}
+use Rattle.order_law.proofs.{Members.before_up, Posts.ascending_distinct, OwnRecord.own_law, OwnRecord.is_record}
 use Rattle.dep_graph.specs.Graphs.{GoUp}
 use Rattle.cone_run.specs.ConeLaw.{ConeLaw, OwnConeLaw}
 use Rattle.cone_run.proofs.Closures.{cone_low, cone_positive, cone_own, last_is}

@@ -1,16 +1,11 @@
 -- The tests of a cone are tests of the program, and few.
 use Rattle.std.proofs.Common.{◌≡◌, ℕ, zero, suc, ◌+◌, ◌<◌, ◌≤◌, List, [], ◌∷◌, ◌++◌, length, take, drop, get_or, filter, All, Bool, true, not, nat_eq, Some, refl, sym, ◌∙◌, ap, subst, inl, inr, arith}
-use Rattle.std.proofs.Math.Seq.{split_at}
-use Rattle.std.proofs.lemmas.Bool.{cases_Bool, ne_eqb}
-use Rattle.std.proofs.lemmas.List.{get_or_read}
-use Rattle.std.proofs.lemmas.List.Elements.{All-filter}
-use Rattle.std.proofs.lemmas.List.Filters.{length-filter_both}
+use Rattle.std.proofs.{Math.Seq.split_at, lemmas.List.Elements.All-filter, lemmas.List.Filters.length-filter_both}
+use Rattle.std.proofs.lemmas.{Bool.cases_Bool, Bool.ne_eqb, List.get_or_read}
 use Rattle.jvm_model.specs.declared.program.Program.{Program}
 use Rattle.order_law.specs.declared.edges.Edge.{Edge}
 use Rattle.jvm_model.specs.Suite.{last_outcome}
-use Rattle.order_law.specs.Conflicts.{Member}
-use Rattle.order_law.specs.Pairing.{no_more, one_more}
-use Rattle.order_law.specs.Plan.{Ascending}
+use Rattle.order_law.specs.{Conflicts.Member, Pairing.no_more, Pairing.one_more, Plan.Ascending}
 use Rattle.order_law.proofs.Posts.{below_mid}
 use Rattle.type_frames.specs.Typing.{IsTyped}
 use Rattle.dep_graph.specs.Graphs.{GoUp}

@@ -1,21 +1,16 @@
 -- The marks of one test more.
 use Rattle.std.proofs.Common.{◌≡◌, ℕ, suc, ◌+◌, ◌<◌, ◌≤◌, List, [], ◌∷◌, ◌++◌, length, sum_by, nat_eq, Bool, true, false, Option, Some, refl, sym, ◌∙◌, subst, inl, inr, arith}
-use Rattle.std.proofs.lemmas.Bool.{cases_eq, eqb-true}
-use Rattle.std.proofs.lemmas.List.{nil_from_length}
+use Rattle.std.proofs.lemmas.{Bool.cases_eq, Bool.eqb-true, List.nil_from_length}
 use Rattle.jvm_model.specs.declared.outcome.Outcome.{Outcome}
 use Rattle.jvm_model.specs.declared.program.Program.{Program}
 use Rattle.jvm_model.specs.Suite.{last_outcome}
-use Rattle.order_law.specs.declared.edges.Edge.{Edge}
-use Rattle.order_law.specs.declared.edges.EdgeKind.TheVariants.{Raw}
-use Rattle.order_law.specs.Conflicts.{Member, HasEdge}
-use Rattle.order_law.specs.Pairing.{no_more, one_more}
-use Rattle.order_law.specs.Plan.{Ascending}
+use Rattle.order_law.specs.declared.edges.{Edge.Edge, EdgeKind.TheVariants.Raw}
+use Rattle.order_law.specs.{Conflicts.Member, Conflicts.HasEdge, Pairing.no_more, Pairing.one_more, Plan.Ascending}
 use Rattle.order_law.proofs.Members.{member_left, member_right, member_either}
 use Rattle.dep_graph.specs.Graphs.{GoUp, AreWriters}
 use Rattle.test_run.specs.declared.run_fault.RunFault.{RunFault}
 use Rattle.test_run.specs.declared.run_fault.RunFault.TheVariants as fault
-use Rattle.cone_run.specs.declared.marks.Effect.TheVariants.{Over}
-use Rattle.cone_run.specs.declared.marks.Mark.{Mark}
+use Rattle.cone_run.specs.declared.marks.{Effect.TheVariants.Over, Mark.Mark}
 use Rattle.cone_run.specs.Cones.{IsCone, GivesCone, IsConeFault, cone_units}
 use Rattle.cone_run.specs.Marks.{AreMarks, AreUnits, HasWriter, InRecordOrder, IsBefore, IsEffect, IsMark, Marks, without}
 use Rattle.cone_run.specs.Runs.{IsListFault}

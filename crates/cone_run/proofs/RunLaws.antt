@@ -3,11 +3,9 @@ use Rattle.std.proofs.Common.{◌≡◌, ℕ, suc, ◌+◌, ◌-◌, ◌*◌, �
 use Rattle.std.proofs.Math.Seq.{split_at}
 use Rattle.std.proofs.lemmas.List.{take_more}
 use Rattle.jvm_model.specs.declared.program.Program.{Program}
-use Rattle.jvm_model.specs.State.{no_test, test_at}
+use Rattle.jvm_model.specs.{State.no_test, State.test_at, World.World}
 use Rattle.jvm_model.specs.Suite.{Given, opening, one_test, runs, first_over_on, first_over, outcome_in, units_of, world_after, suite_limit}
-use Rattle.jvm_model.specs.World.{World}
-use Rattle.jvm_model.proofs.Budgets.{one_test_units}
-use Rattle.jvm_model.proofs.Runs.{last_outcome_is}
+use Rattle.jvm_model.proofs.{Budgets.one_test_units, Runs.last_outcome_is}
 use Rattle.type_frames.specs.Typing.{IsTyped}
 use Rattle.vm_mem.specs.Kept.{Kept}
 use Rattle.test_run.specs.declared.run_fault.RunFault.{RunFault}

@@ -4,9 +4,7 @@ use Rattle.jvm_model.specs.declared.program.Program.{Program}
 use Rattle.jvm_model.specs.Linked.{Linked}
 use Rattle.jvm_model.specs.Suite.{is_detected, first_over, last_outcome, seq}
 use Rattle.order_law.specs.declared.edges.Edge.{Edge}
-use Rattle.order_law.specs.Conflicts.{Lawful}
-use Rattle.order_law.specs.Histories.{IsTestNumber}
-use Rattle.order_law.specs.OwnRecord.{edges_of}
+use Rattle.order_law.specs.{Conflicts.Lawful, Histories.IsTestNumber, OwnRecord.edges_of}
 use Rattle.dep_graph.specs.Graphs.{GoUp}
 use Rattle.cone_run.specs.Cones.{IsCone}
 

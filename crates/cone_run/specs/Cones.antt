@@ -2,12 +2,10 @@
 use Rattle.std.specs.Prelude.{◌≡◌, ℕ, ◌+◌, ◌<◌, List, [], ◌∷◌, length, All, Some, None}
 use Rattle.jvm_model.specs.declared.outcome.Outcome.{Outcome}
 use Rattle.jvm_model.specs.declared.program.Program.{Program}
-use Rattle.jvm_model.specs.State.{test_at}
+use Rattle.jvm_model.specs.{State.test_at, World.World}
 use Rattle.jvm_model.specs.Suite.{opening, one_test, first_over, last_outcome}
-use Rattle.jvm_model.specs.World.{World}
 use Rattle.order_law.specs.declared.edges.Edge.{Edge}
-use Rattle.order_law.specs.Pairing.{PairedList}
-use Rattle.order_law.specs.Plan.{Ascending}
+use Rattle.order_law.specs.{Pairing.PairedList, Plan.Ascending}
 use Rattle.type_frames.specs.Typing.{IsTyped}
 use Rattle.dep_graph.specs.Graphs.{GoUp}
 use Rattle.selection_close.specs.Closed.{IsClosure}

@@ -3,9 +3,7 @@ use Rattle.std.specs.Prelude.{ℕ, List, [], ◌∷◌, ◌++◌, codes}
 use Rattle.std.specs.List.{flat_map}
 use Rattle.dep_record.specs.DepsText.{test_name}
 use Rattle.jvm_model.specs.declared.program.Names.{Names}
-use Rattle.cone_run.specs.declared.marks.Effect.{Effect}
-use Rattle.cone_run.specs.declared.marks.Effect.TheVariants.{Same, Changed, Over}
-use Rattle.cone_run.specs.declared.marks.Mark.{Mark}
+use Rattle.cone_run.specs.declared.marks.{Effect.Effect, Effect.TheVariants.Same, Effect.TheVariants.Changed, Effect.TheVariants.Over, Mark.Mark}
 
 abbrev pub effect_word : Effect → List ℕ
 effect_word Same = codes "same"

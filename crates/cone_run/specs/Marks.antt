@@ -3,13 +3,10 @@ use Rattle.std.specs.Prelude.{◌≡◌, ◌⊎◌, ℕ, zero, suc, ◌+◌, ◌
 use Rattle.jvm_model.specs.declared.outcome.Outcome.{Outcome}
 use Rattle.jvm_model.specs.declared.program.Program.{Program}
 use Rattle.jvm_model.specs.Suite.{last_outcome}
-use Rattle.order_law.specs.declared.edges.Edge.{Edge}
-use Rattle.order_law.specs.declared.edges.EdgeKind.TheVariants.{Raw}
+use Rattle.order_law.specs.declared.edges.{Edge.Edge, EdgeKind.TheVariants.Raw}
 use Rattle.order_law.specs.Conflicts.{Member, HasEdge}
 use Rattle.dep_graph.specs.Graphs.{AreWriters}
-use Rattle.cone_run.specs.declared.marks.Effect.{Effect}
-use Rattle.cone_run.specs.declared.marks.Effect.TheVariants.{Same, Changed, Over}
-use Rattle.cone_run.specs.declared.marks.Mark.{Mark}
+use Rattle.cone_run.specs.declared.marks.{Effect.Effect, Effect.TheVariants.Same, Effect.TheVariants.Changed, Effect.TheVariants.Over, Mark.Mark}
 use Rattle.cone_run.specs.Cones.{IsCone, cone_units}
 
 -- a list without a test

@@ -2,13 +2,11 @@
 
 ghost use Rattle.std.specs.Prelude.{◌≡◌, ◌+◌, ◌<◌, ◌≤◌, ◌^◌, All, length, get_or, slice_set, sum_by, vec_len, None, IfOk, IfErr, IfSome};
 ghost use Rattle.jvm_model.specs.Suite.{opening};
-ghost use Rattle.order_law.specs.Conflicts.{Member};
-ghost use Rattle.order_law.specs.Plan.{Ascending};
+ghost use Rattle.order_law.specs.{Conflicts.Member, Plan.Ascending};
 ghost use Rattle.dep_graph.specs.Graphs.{GoUp};
 ghost use Rattle.test_run.specs.Running.{IsTest};
-ghost use Rattle.cone_run.specs.Books.{posted_units};
+ghost use Rattle.cone_run.specs.{Books.posted_units, Runs.IsListFault};
 ghost use Rattle.cone_run.specs.Cones.{AreCones, AreConesOf, IsCone, IsConeFault, IsConeOf, IsConeSuite, cone_units};
-ghost use Rattle.cone_run.specs.Runs.{IsListFault};
 
 use crate::book::{Book, BookName};
 use crate::jobs::ConeJobs;

@@ -4,8 +4,7 @@ ghost use Rattle.std.specs.Prelude.{◌≡◌, ◌+◌, ◌<◌, ◌≤◌, ◌�
 ghost use Rattle.jvm_model.specs.Suite.{last_outcome};
 ghost use Rattle.type_frames.specs.Typing.{IsTyped};
 ghost use Rattle.test_run.specs.Running.{IsTest};
-ghost use Rattle.cone_run.specs.Cones.{cone_units};
-ghost use Rattle.cone_run.specs.Marks.{HasSameReport, IsEffect};
+ghost use Rattle.cone_run.specs.{Cones.cone_units, Marks.HasSameReport, Marks.IsEffect};
 
 use crate::marks::Effect;
 use crate::runs::run_alone;

@@ -1,7 +1,6 @@
 -- One more edge at the end of a record.
 use Rattle.std.proofs.Common.{◌≡◌, ◌⊎◌, ℕ, zero, suc, ◌<◌, ◌≤◌, List, [], ◌∷◌, ◌++◌, take, drop, refl, sym, subst, inl, inr, arith}
-use Rattle.order_law.specs.declared.edges.Edge.{Edge}
-use Rattle.order_law.specs.declared.edges.EdgeKind.{EdgeKind}
+use Rattle.order_law.specs.declared.edges.{Edge.Edge, EdgeKind.EdgeKind}
 use Rattle.order_law.specs.Conflicts.{HasEdge, Before, edge, chain}
 use Rattle.order_law.proofs.Members.{edge_left, edge_right, edge_either, before_up}
 

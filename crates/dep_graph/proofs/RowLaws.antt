@@ -3,8 +3,7 @@ use Rattle.std.proofs.Common.{◌≡◌, ℕ, zero, suc, ◌+◌, ◌/◌, ◌%�
 use Rattle.std.proofs.lemmas.Bool.{and_parts, and_from, or_cases, or_left, or_right, eqb-true, eq-eqb, true≢false}
 use Rattle.std.proofs.lemmas.List.{take_more, get_or_past}
 use Rattle.std.proofs.Math.Seq.{drop-cons}
-use Rattle.order_law.specs.declared.edges.Edge.{Edge}
-use Rattle.order_law.specs.declared.edges.EdgeKind.{EdgeKind}
+use Rattle.order_law.specs.declared.edges.{Edge.Edge, EdgeKind.EdgeKind}
 use Rattle.order_law.specs.Conflicts.{HasEdge, Before, edge, chain}
 use Rattle.dep_graph.specs.declared.sets.TestSet.{TestSet}
 use Rattle.dep_graph.specs.Graphs.{AreOrdered, AreRows, nothing, has_row}

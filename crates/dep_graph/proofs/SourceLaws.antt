@@ -1,13 +1,9 @@
 -- The lists of raw writers after one more edge.
 use Rattle.std.proofs.Common.{◌≡◌, ℕ, ◌+◌, ◌<◌, List, [], ◌∷◌, ◌++◌, length, take, drop, get_or, set, refl, sym, ◌∙◌, ap, subst, inl, inr}
-use Rattle.std.proofs.lemmas.Bool.{cases_eq}
-use Rattle.std.proofs.lemmas.List.{get_or-set_same, get_or-set_other}
+use Rattle.std.proofs.lemmas.{Bool.cases_eq, List.get_or-set_same, List.get_or-set_other}
 use Rattle.std.proofs.Math.ListN.{length-set}
-use Rattle.order_law.specs.declared.edges.Edge.{Edge}
-use Rattle.order_law.specs.declared.edges.EdgeKind.{EdgeKind}
-use Rattle.order_law.specs.declared.edges.EdgeKind.TheVariants.{Raw}
-use Rattle.order_law.specs.Conflicts.{Member, HasEdge}
-use Rattle.order_law.specs.Plan.{Ascending}
+use Rattle.order_law.specs.declared.edges.{Edge.Edge, EdgeKind.EdgeKind, EdgeKind.TheVariants.Raw}
+use Rattle.order_law.specs.{Conflicts.Member, Conflicts.HasEdge, Plan.Ascending}
 use Rattle.order_law.proofs.Members.{member_left, member_right, member_either, edge_left, edge_right, edge_either}
 use Rattle.dep_graph.specs.Graphs.{AreOrdered, AreWriters, AreSources}
 use Rattle.dep_graph.proofs.RowLaws.{next_edge, one_more}

@@ -1,16 +1,13 @@
 -- The conflicts of a text, one by one.
 use Rattle.std.proofs.Common.{◌≡◌, ℕ, ◌+◌, ◌-◌, Bool, true, false, cond, eqb, List, [], ◌∷◌, ◌++◌, length, slice_get, Option, Some, None, Result, Ok, Err, refl, sym, ap, ◌∙◌, arith}
 use Rattle.std.specs.Prelude.{codes}
-use Rattle.std.specs.List.{onto_first}
-use Rattle.std.specs.Str.{bytes_eq}
-use Rattle.std.proofs.lemmas.Bool.{ne_eqb}
-use Rattle.std.proofs.lemmas.List.{append_assoc, append-nil}
+use Rattle.std.specs.{List.onto_first, Str.bytes_eq}
+use Rattle.std.proofs.lemmas.{Bool.ne_eqb, List.append_assoc, List.append-nil}
 use Rattle.et_base.specs.Answers.{Fails}
 use Rattle.order_law.specs.declared.edges.Edge.{Edge}
 use Rattle.dep_record.specs.Fields.{cut, next_edge}
 use Rattle.dep_record.specs.RecordReading.{◌>>=◌, pieces, is_over, last_of, next_step, edges_from, names}
-use Rattle.dep_record.specs.declared.refusal.RecordRefusal.{RecordRefusal}
-use Rattle.dep_record.specs.declared.refusal.RecordRefusal.TheVariants.{RecordFault, NoMemory}
+use Rattle.dep_record.specs.declared.refusal.{RecordRefusal.RecordRefusal, RecordRefusal.TheVariants.RecordFault, RecordRefusal.TheVariants.NoMemory}
 use Rattle.dep_record.proofs.CutLaws.{pieces_by, pieces_are}
 
 over_by : (b : ℕ) (bs : List ℕ) (hit : Bool) (parts : Option (List ℕ × List ℕ)) → is_over (cond hit ([] ∷ pieces_by 10 bs parts) (onto_first b (pieces_by 10 bs parts))) ≡ false

@@ -1,22 +1,18 @@
 -- The text of a record is read as that record.
 use Rattle.std.proofs.Common.{◌≡◌, ℕ, ◌+◌, ◌<◌, ◌≤◌, ◌^◌, Bool, true, false, cond, eqb, nat_le, List, [], ◌∷◌, ◌++◌, length, map, Option, Some, None, Result, Ok, refl, sym, ap, ◌∙◌, arith}
 use Rattle.std.specs.Prelude.{codes}
-use Rattle.std.specs.List.{list_all}
-use Rattle.std.specs.Str.{bytes_eq}
+use Rattle.std.specs.{List.list_all, Str.bytes_eq}
 use Rattle.std.proofs.lemmas.Bool.{and_parts, and_from, leb-true, eqb-true}
 use Rattle.std.proofs.lemmas.List.{append_assoc}
 use Rattle.std.proofs.lemmas.List.Folds.{list_all-append}
-use Rattle.order_law.specs.declared.edges.Edge.{Edge}
-use Rattle.order_law.specs.declared.edges.EdgeKind.{EdgeKind}
-use Rattle.order_law.specs.declared.edges.EdgeKind.TheVariants.{Raw, Waw, War}
+use Rattle.order_law.specs.declared.edges.{Edge.Edge, EdgeKind.EdgeKind, EdgeKind.TheVariants.Raw, EdgeKind.TheVariants.Waw, EdgeKind.TheVariants.War}
 use Rattle.order_law.specs.declared.records.More.{More}
 use Rattle.order_law.specs.RecordForm.{is_edge, edge_before, edges_ascend, is_record_form, is_reach, is_reach_form}
 use Rattle.dep_record.specs.RecordText.{Said, text_of, header_line, digest_line, tests_line, suite_line, classes_line, class_line, units_line, reach_line, kind_word, edge_fields, edge_line, end_line, numbered, file_lines, is_newer, lines_of, is_hash, more_hashes, has_hashes}
 use Rattle.dep_record.specs.Fields.{header_of, hash_after, number_after, class_of, units_of, reach_of, follows}
 use Rattle.dep_record.specs.RecordReading.{◌>>=◌, pieces, line_by, lines_by, edges_from, older_in, classes_in, newer_in, said_in}
-use Rattle.dep_record.proofs.CutLaws.{has_none}
+use Rattle.dep_record.proofs.{CutLaws.has_none, SaidLaws.ascend_from}
 use Rattle.dep_record.proofs.GivenFields.{hash_from, first_piece, header_given, hash_after_given, number_after_given, class_given, units_given, reach_given, next_edge_given, header_clear, hash_line_clear, number_line_clear, class_clear, units_clear, reach_clear, edge_clear}
-use Rattle.dep_record.proofs.SaidLaws.{ascend_from}
 use Rattle.dep_record.proofs.FoundLaws.{later_lines, two_parts, four_parts}
 
 abbrev clear : List ℕ → Bool

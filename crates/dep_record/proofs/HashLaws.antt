@@ -1,16 +1,13 @@
 -- What a sum holds after one more file.
 use Rattle.std.proofs.Common.{◌≡◌, ℕ, zero, suc, ◌+◌, ◌*◌, ◌<◌, true, nat_lt, List, [], ◌∷◌, ◌++◌, length, map, take, get_or, slice_index, flat_map, refl, sym, ap, ◌∙◌, arith}
-use Rattle.std.specs.Int.{byte_at, bytes_high_first}
-use Rattle.std.specs.List.{list_all}
+use Rattle.std.specs.{Int.byte_at, Int.bytes_high_first, List.list_all}
 use Rattle.std.proofs.lemmas.Bool.{and_from, lt-ltb, eq-eqb}
 use Rattle.std.proofs.lemmas.Grind.{flat_map-append}
 use Rattle.std.proofs.lemmas.List.{take_more, map-append, append_assoc, append-nil, length-append}
 use Rattle.std.proofs.lemmas.List.Folds.{list_all-append}
 use Rattle.sha2.specs.Sha256.{sha256, digest_bytes, final_hash, initial_hash_256}
 use Rattle.order_law.specs.declared.records.Prints.{Prints}
-use Rattle.dep_record.specs.Hashes.{sized, prints_of}
-use Rattle.dep_record.specs.Laws.{HashesLaw}
-use Rattle.dep_record.specs.RecordText.{is_hash}
+use Rattle.dep_record.specs.{Hashes.sized, Hashes.prints_of, Laws.HashesLaw, RecordText.is_hash}
 
 abbrev all_sized : List (List ℕ) → List ℕ
 all_sized files = flat_map sized files

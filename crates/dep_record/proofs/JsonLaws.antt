@@ -1,15 +1,11 @@
 -- No number of the report is a float, and its conflicts are made one by one.
 use Rattle.std.proofs.Common.{◌≡◌, ℕ, ◌+◌, ◌<◌, false, List, [], ◌∷◌, ◌++◌, length, map, drop, get_or, refl, ap, ◌∙◌}
-use Rattle.std.proofs.lemmas.Bool.{or_from}
-use Rattle.std.proofs.lemmas.List.{at_drop_more}
-use Rattle.std.proofs.lemmas.Str.{IsUtf8-from_is_utf8, is_utf8-from_IsUtf8}
-use Rattle.serde_json.specs.Data.{Data}
-use Rattle.serde_json.specs.View.{items_of}
+use Rattle.std.proofs.lemmas.{Bool.or_from, List.at_drop_more, Str.IsUtf8-from_is_utf8, Str.is_utf8-from_IsUtf8}
+use Rattle.serde_json.specs.{Data.Data, View.items_of}
 use Rattle.serde_json.specs.Written.{has_float, items_have_float, compact_text}
 use Rattle.jvm_model.specs.declared.program.Names.{Names}
 use Rattle.order_law.specs.declared.edges.Edge.{Edge}
-use Rattle.order_law.specs.declared.records.Place.{Place}
-use Rattle.order_law.specs.declared.records.Shown.{Shown}
+use Rattle.order_law.specs.declared.records.{Place.Place, Shown.Shown}
 use Rattle.dep_record.specs.DepsJson.{text_data, place_data, edge_data, all_edges, report_data, deps_data, deps_json}
 
 pub ruleset utf8_tests = (IsUtf8-from_is_utf8, is_utf8-from_IsUtf8)

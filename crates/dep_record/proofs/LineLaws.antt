@@ -4,8 +4,7 @@ use Rattle.std.proofs.lemmas.List.{append_assoc, append-nil}
 use Rattle.et_base.specs.Answers.{Fails}
 use Rattle.dep_record.specs.Fields.{cut}
 use Rattle.dep_record.specs.RecordReading.{◌>>=◌, pieces, next_line, line_by, lines_by, names}
-use Rattle.dep_record.specs.declared.refusal.RecordRefusal.{RecordRefusal}
-use Rattle.dep_record.specs.declared.refusal.RecordRefusal.TheVariants.{RecordFault, NoMemory}
+use Rattle.dep_record.specs.declared.refusal.{RecordRefusal.RecordRefusal, RecordRefusal.TheVariants.RecordFault, RecordRefusal.TheVariants.NoMemory}
 use Rattle.dep_record.proofs.CutLaws.{pieces_by, pieces_are}
 
 -- a line by the first cut

@@ -1,9 +1,6 @@
 -- Reading digits one by one, with a limit, gives their value where it is within the limit.
 use Rattle.std.proofs.Common.{◌≡◌, ℕ, ◌+◌, ◌-◌, ◌*◌, ◌<◌, ◌≤◌, Bool, true, false, cond, ◌&&◌, nat_le, List, [], ◌∷◌, Option, Some, None, refl, arith}
-use Rattle.std.specs.Option.{option_and_then}
-use Rattle.std.specs.Char.{is_ascii_digit, digit_value}
-use Rattle.std.specs.Str.{all_ascii_digits}
-use Rattle.std.specs.Str.Parse.{digits_value_after}
+use Rattle.std.specs.{Option.option_and_then, Char.is_ascii_digit, Char.digit_value, Str.all_ascii_digits, Str.Parse.digits_value_after}
 use Rattle.std.proofs.lemmas.Bool.{le-leb, leb-true, leb-false, ltb-false}
 use Rattle.dep_record.specs.Fields.{with_digit, digits_up_to}
 

@@ -4,10 +4,8 @@ use Rattle.std.specs.Prelude.{IfOk}
 use Rattle.order_law.specs.declared.records.Record.{Record}
 use Rattle.dep_record.specs.RecordText.{said, record_text, has_hashes}
 use Rattle.dep_record.specs.RecordReading.{Gives, said_in}
-use Rattle.dep_record.specs.declared.refusal.RecordRefusal.{RecordRefusal}
-use Rattle.dep_record.specs.declared.refusal.RecordRefusal.TheVariants.{RecordFault, NoMemory}
-use Rattle.dep_record.proofs.FoundLaws.{found_text}
-use Rattle.dep_record.proofs.GivenLaws.{given_text}
+use Rattle.dep_record.specs.declared.refusal.{RecordRefusal.RecordRefusal, RecordRefusal.TheVariants.RecordFault, RecordRefusal.TheVariants.NoMemory}
+use Rattle.dep_record.proofs.{FoundLaws.found_text, GivenLaws.given_text}
 
 pub found_gives : (result : Result Record RecordRefusal) (text : List ℕ) → Gives said result (said_in text) → IfOk result (λ r. record_text r ≡ text)
 found_gives (Ok r) text h = found_text text (said r) h

@@ -2,14 +2,11 @@
 use Rattle.std.specs.Prelude.{ℕ, List, [], ◌∷◌, ◌++◌, map, codes, if◌then◌else◌}
 use Rattle.std.specs.Str.{is_utf8}
 use Rattle.serde_json.specs.Data.{Data, Items, number, unsigned, string, array, object, member, no_members}
-use Rattle.serde_json.specs.View.{items_of}
-use Rattle.serde_json.specs.Written.{compact_text}
+use Rattle.serde_json.specs.{View.items_of, Written.compact_text}
 use Rattle.jvm_model.specs.declared.program.Names.{Names}
 use Rattle.order_law.specs.declared.edges.Edge.{Edge}
-use Rattle.order_law.specs.declared.records.Place.{Place}
-use Rattle.order_law.specs.declared.records.Shown.{Shown}
-use Rattle.dep_record.specs.RecordText.{kind_word}
-use Rattle.dep_record.specs.DepsText.{test_name}
+use Rattle.order_law.specs.declared.records.{Place.Place, Shown.Shown}
+use Rattle.dep_record.specs.{RecordText.kind_word, DepsText.test_name}
 
 -- a text; names and locations are ASCII, and bytes that are no UTF-8 would be an empty one
 abbrev pub text_data : List ℕ → Data

@@ -3,8 +3,7 @@ use Rattle.std.specs.Prelude.{ℕ, ◌-◌, List, [], ◌∷◌, ◌++◌, map, 
 use Rattle.std.specs.List.{flat_map}
 use Rattle.jvm_model.specs.declared.program.Names.{Names}
 use Rattle.order_law.specs.declared.edges.Edge.{Edge}
-use Rattle.order_law.specs.declared.records.Place.{Place}
-use Rattle.order_law.specs.declared.records.Shown.{Shown}
+use Rattle.order_law.specs.declared.records.{Place.Place, Shown.Shown}
 use Rattle.dep_record.specs.RecordText.{text_of, kind_word, end_line}
 
 -- the name of the t-th test

@@ -1,7 +1,6 @@
 -- SHA-256 sums of a suite, and their texts (this project's).
 use Rattle.std.specs.Prelude.{ℕ, List, ◌++◌, length, map, codes}
-use Rattle.std.specs.List.{flat_map}
-use Rattle.std.specs.Int.{w64, to_be_bytes}
+use Rattle.std.specs.{List.flat_map, Int.w64, Int.to_be_bytes}
 use Rattle.sha2.specs.Sha256.{sha256}
 use Rattle.order_law.specs.declared.records.Prints.{Prints}
 

@@ -3,9 +3,8 @@ use Rattle.std.specs.Prelude.{◌≡◌, ℕ, List, true, Ok}
 use Rattle.std.specs.List.{list_all}
 use Rattle.order_law.specs.declared.records.Prints.{Prints}
 use Rattle.order_law.specs.RecordForm.{is_record_form, is_reach_form}
-use Rattle.dep_record.specs.Hashes.{prints_of}
+use Rattle.dep_record.specs.{Hashes.prints_of, RecordReading.said_in}
 use Rattle.dep_record.specs.RecordText.{Said, text_of, lines_of, is_hash, has_hashes}
-use Rattle.dep_record.specs.RecordReading.{said_in}
 
 -- the text of what is read is what was read
 abbrev pub FoundLaw : Type 0

@@ -1,17 +1,14 @@
 -- Reading a record's text line by line, each line by the good ones before it (this project's). What is found goes with what is left; else the
 -- number of the first faulty line is given. A line that no line feed ends is faulty, and one that is missing has the number after the last.
 use Rattle.std.specs.Prelude.{ℕ, zero, suc, ◌+◌, ◌-◌, ◌==◌, Bool, true, false, List, [], ◌∷◌, length, slice_get, codes, Option, Some, None, Result, Ok, Err, if◌then◌else◌}
-use Rattle.std.specs.Option.{ok_or}
-use Rattle.std.specs.List.{slice_split}
-use Rattle.std.specs.Str.{bytes_eq}
+use Rattle.std.specs.{Option.ok_or, List.slice_split, Str.bytes_eq}
 use Rattle.et_base.specs.Answers as answers
 pub use Rattle.et_base.specs.Answers.{◌>>=◌}
 use Rattle.et_base.specs.Answers.{tested}
 use Rattle.order_law.specs.declared.edges.Edge.{Edge}
 use Rattle.dep_record.specs.RecordText.{Said}
 use Rattle.dep_record.specs.Fields.{header_of, hash_after, number_after, class_of, units_of, reach_of, next_edge}
-use Rattle.dep_record.specs.declared.refusal.RecordRefusal.{RecordRefusal}
-use Rattle.dep_record.specs.declared.refusal.RecordRefusal.TheVariants.{RecordFault, NoMemory}
+use Rattle.dep_record.specs.declared.refusal.{RecordRefusal.RecordRefusal, RecordRefusal.TheVariants.RecordFault, RecordRefusal.TheVariants.NoMemory}
 
 -- what stands before, between and after line feeds, 10: the lines, and at last what no line feed ends
 abbrev pub pieces : List ℕ → List (List ℕ)

@@ -2,12 +2,8 @@
 use Rattle.std.specs.Prelude.{ℕ, ◌+◌, Bool, true, false, List, [], ◌∷◌, ◌++◌, length, map, nat_eq, nat_lt, ◌&&◌, codes, decimal, Option, Some, None}
 use Rattle.std.specs.List.{flat_map, list_all}
 use Rattle.hex.specs.Hex.{encode_lower}
-use Rattle.order_law.specs.declared.edges.Edge.{Edge}
-use Rattle.order_law.specs.declared.edges.EdgeKind.{EdgeKind}
-use Rattle.order_law.specs.declared.edges.EdgeKind.TheVariants.{Raw, Waw, War}
-use Rattle.order_law.specs.declared.records.Reach.{Reach}
-use Rattle.order_law.specs.declared.records.More.{More}
-use Rattle.order_law.specs.declared.records.Record.{Record}
+use Rattle.order_law.specs.declared.edges.{Edge.Edge, EdgeKind.EdgeKind, EdgeKind.TheVariants.Raw, EdgeKind.TheVariants.Waw, EdgeKind.TheVariants.War}
+use Rattle.order_law.specs.declared.records.{Reach.Reach, More.More, Record.Record}
 
 -- a line with its line feed, and lines as a text
 abbrev pub ended : List ℕ → List ℕ

@@ -1,8 +1,7 @@
 //! Cutting bytes at a separator.
 
 ghost use Rattle.std.specs.Prelude.{◌≡◌, ◌<◌, ◌==◌, length, position, option_map, IfSome};
-ghost use Rattle.std.specs.Str.{bytes_eq};
-ghost use Rattle.std.specs.Option.{option_copied};
+ghost use Rattle.std.specs.{Str.bytes_eq, Option.option_copied};
 ghost use Rattle.dep_record.specs.Fields as field;
 
 /// Where the first separator stands, if there is one.

@@ -2,8 +2,7 @@
 
 ghost use Rattle.std.specs.Prelude.{◌≡◌, ◌++◌, ℕ, List, codes, map, IfOk};
 ghost use Rattle.std.specs.List.{flat_map};
-ghost use Rattle.sha2.specs.Sha256.{sha256};
-ghost use Rattle.sha2.specs.Hashers.{Holds256};
+ghost use Rattle.sha2.specs.{Sha256.sha256, Hashers.Holds256};
 ghost use Rattle.dep_record.specs.Hashes as sums;
 
 use et_base::{Items, NoMemory};

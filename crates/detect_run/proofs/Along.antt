@@ -3,16 +3,10 @@
 use Rattle.std.proofs.Common.{◌≡◌, ℕ, zero, suc, ◌+◌, ◌<◌, ◌≤◌, List, length, Some, refl, sym, ◌∙◌, ap, subst, inl, inr, arith}
 use Rattle.std.proofs.lemmas.Bool.{cases_eq}
 use Rattle.jvm_model.specs.declared.program.Program.{Program}
-use Rattle.jvm_model.specs.State.{test_at}
-use Rattle.jvm_model.specs.World.{size}
+use Rattle.jvm_model.specs.{State.test_at, World.size}
 use Rattle.jvm_model.specs.Suite.{Given, tree, opening, runs, all_tests}
-use Rattle.type_frames.specs.Typing.{IsTyped}
-use Rattle.type_frames.specs.TypedState.{TypedWorld}
-use Rattle.check_sound.proofs.AllGroups.{groups}
-use Rattle.check_sound.proofs.Grow.{over_itself}
-use Rattle.check_sound.proofs.Tree.{Over}
-use Rattle.check_sound.proofs.WholeStep.{over_then}
-use Rattle.check_sound.proofs.WholeTest.{opening_typed, left_typed}
+use Rattle.type_frames.specs.{Typing.IsTyped, TypedState.TypedWorld}
+use Rattle.check_sound.proofs.{AllGroups.groups, Grow.over_itself, Tree.Over, WholeStep.over_then, WholeTest.opening_typed, WholeTest.left_typed}
 use Rattle.order_law.specs.Histories.{touches_of}
 use Rattle.access_tags.specs.Ran.{size_in, size_after}
 use Rattle.detect_run.proofs.HeadsStay.{test_over}

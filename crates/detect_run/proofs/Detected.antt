@@ -1,7 +1,6 @@
 -- What a memory with tags finds after a run of the whole suite is the program's own record.
 use Rattle.std.proofs.Common.{◌≡◌, ℕ, ◌+◌, List, [], ◌∷◌, map, length, slice_get, sum, Some, None, refl, sym, ◌∙◌, ap, subst, arith}
-use Rattle.std.proofs.lemmas.List.Recursion.{is_sum_by}
-use Rattle.std.proofs.lemmas.List.Sums.{sum-map}
+use Rattle.std.proofs.{lemmas.List.Recursion.is_sum_by, lemmas.List.Sums.sum-map}
 use Rattle.std.proofs.lemmas.Option.{slice_get_within}
 use Rattle.jvm_model.specs.declared.outcome.Outcome.{Outcome}
 use Rattle.jvm_model.specs.declared.values.Touch.{Touch}
@@ -11,13 +10,9 @@ use Rattle.jvm_model.specs.World.{World}
 use Rattle.jvm_model.proofs.Detection.{detected_from}
 use Rattle.type_frames.specs.Typing.{IsTyped}
 use Rattle.order_law.specs.declared.edges.Edge.{Edge}
-use Rattle.order_law.specs.declared.records.Reach.{Reach}
-use Rattle.order_law.specs.declared.records.Shown.{Shown}
-use Rattle.order_law.specs.Histories.{Touches, touches_of}
+use Rattle.order_law.specs.declared.records.{Reach.Reach, Shown.Shown}
+use Rattle.order_law.specs.{Histories.Touches, Histories.touches_of, Pairing.PairedList, Reach.IsReachIn, Reach.IsReachOf, Walk.IsShownIn, Walk.IsShownOf}
 use Rattle.order_law.specs.OwnRecord.{edges_in, edges_of, owner}
-use Rattle.order_law.specs.Pairing.{PairedList}
-use Rattle.order_law.specs.Reach.{IsReachIn, IsReachOf}
-use Rattle.order_law.specs.Walk.{IsShownIn, IsShownOf}
 use Rattle.vm_mem.specs.Trace.{Trace, empty_trace}
 use Rattle.test_run.specs.Lists.{RanList}
 use Rattle.access_tags.specs.Ran.{trace_to, touched_by, owner_by, HaveWalks, kinds_in}

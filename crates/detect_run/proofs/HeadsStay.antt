@@ -1,19 +1,13 @@
 -- A whole test of a typed program takes no object away, and changes the head of none that stands.
 use Rattle.std.proofs.Common.{ℕ, zero, suc, ◌<◌, ◌≤◌, length}
 use Rattle.jvm_model.specs.declared.program.Program.{Program}
-use Rattle.jvm_model.specs.World.{World}
-use Rattle.jvm_model.specs.Access.{run}
+use Rattle.jvm_model.specs.{World.World, Access.run, Step.step}
 use Rattle.jvm_model.specs.State.{State, Turn, next, ended, stuck_turn, started}
-use Rattle.jvm_model.specs.Step.{step}
 use Rattle.jvm_model.specs.Suite.{End, after_step, whole, tree}
-use Rattle.type_frames.specs.Typing.{IsTyped}
-use Rattle.type_frames.specs.TypedState.{TypedWorld}
+use Rattle.type_frames.specs.{Typing.IsTyped, TypedState.TypedWorld}
 use Rattle.type_frames.proofs.Started.{started_law}
-use Rattle.check_sound.proofs.AllGroups.{groups}
+use Rattle.check_sound.proofs.{AllGroups.groups, TreeRuns.alike_itself, HeadsStay.tree_over, Ends.Local, Ends.TurnsTo}
 use Rattle.check_sound.proofs.Tree.{Tree, typed_done, Over}
-use Rattle.check_sound.proofs.TreeRuns.{alike_itself}
-use Rattle.check_sound.proofs.HeadsStay.{tree_over}
-use Rattle.check_sound.proofs.Ends.{Local, TurnsTo}
 use Rattle.check_sound.proofs.WholeStep.{bind_over, step-typed, local_of}
 
 module _ (p : Program) (ty : IsTyped p) where

@@ -3,14 +3,11 @@ use Rattle.std.proofs.Common.{◌≡◌, ℕ, zero, suc, ◌+◌, ◌-◌, ◌<�
 use Rattle.std.specs.List.{range_with_len}
 use Rattle.jvm_model.specs.declared.values.Touch.{Touch}
 use Rattle.jvm_model.specs.declared.program.Program.{Program}
-use Rattle.jvm_model.specs.State.{test_at}
-use Rattle.jvm_model.specs.World.{World}
-use Rattle.jvm_model.specs.Access.{Ran}
+use Rattle.jvm_model.specs.{State.test_at, World.World, Access.Ran}
 use Rattle.jvm_model.specs.Suite.{End, opening, Given, one_test, runs, runs_on, all_tests, world_after, seq, given_by_test, outcome_in}
 use Rattle.jvm_model.proofs.Runs.{split}
-use Rattle.order_law.specs.Conflicts.{down}
+use Rattle.order_law.specs.{Conflicts.down, Reach.units_in}
 use Rattle.order_law.specs.Histories.{ran, after_history, touches_of}
-use Rattle.order_law.specs.Reach.{units_in}
 use Rattle.order_law.proofs.FrameLaw.{ran_as}
 use Rattle.vm_mem.specs.Trace.{Trace}
 use Rattle.test_run.specs.Lists.{trace_after}

@@ -2,26 +2,20 @@
 use Rattle.std.proofs.Common.{◌≡◌, ℕ, zero, suc, ◌+◌, ◌-◌, ◌^◌, ◌<◌, ◌≤◌, Bool, true, nat_eq, nat_le, nat_lt, List, [], ◌∷◌, map, length, slice_get, Option, Some, None, refl, sym, ◌∙◌, ap, inl, inr, arith}
 use Rattle.std.specs.List.{list_all}
 use Rattle.std.proofs.lemmas.Bool.{and_from, and_parts, eq-eqb, le-leb, leb-true, lt-ltb}
-use Rattle.std.proofs.lemmas.List.{length-map}
+use Rattle.std.proofs.lemmas.{List.length-map, Option.slice_get_within}
 use Rattle.std.proofs.lemmas.List.FromFn.{length-range_with_len}
-use Rattle.std.proofs.lemmas.Option.{slice_get_within}
 use Rattle.jvm_model.specs.declared.program.Program.{Program}
-use Rattle.jvm_model.specs.Builtin.{builtin_count}
-use Rattle.jvm_model.specs.State.{test_at}
+use Rattle.jvm_model.specs.{Builtin.builtin_count, State.test_at}
 use Rattle.jvm_model.specs.Suite.{Given, runs, all_tests, seq, is_detected, suite_limit, within_limit, units_of}
 use Rattle.type_frames.specs.Typing.{IsTyped}
 use Rattle.check_sound.proofs.PacedTest.{given_paced}
 use Rattle.order_law.specs.declared.edges.Edge.{Edge}
-use Rattle.order_law.specs.declared.records.More.{More}
-use Rattle.order_law.specs.declared.records.Reach.{Reach}
-use Rattle.order_law.specs.Conflicts.{Member}
-use Rattle.order_law.specs.Histories.{touches_of}
-use Rattle.order_law.specs.OwnRecord.{edges_of, owner}
+use Rattle.order_law.specs.declared.records.{More.More, Reach.Reach}
+use Rattle.order_law.specs.{Conflicts.Member, Histories.touches_of, OwnRecord.edges_of, OwnRecord.owner}
 use Rattle.order_law.specs.Reach.{units_in, IsReachOf, kinds_of}
 use Rattle.order_law.specs.RecordForm.{are_units, is_edge, is_place_text, is_record_form, is_reach, is_reach_form}
 use Rattle.order_law.proofs.OwnForm.{units_law, ordered_law, counted_law, reach_law}
-use Rattle.detect_run.proofs.Along.{test_gives}
-use Rattle.detect_run.proofs.InOrder.{of_run}
+use Rattle.detect_run.proofs.{Along.test_gives, InOrder.of_run}
 
 -- the whole suite's run, whose units keep to the limit
 pub record HasRun (p : Program) : Type 0 where

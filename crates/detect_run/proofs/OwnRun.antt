@@ -3,30 +3,23 @@
 use Rattle.std.proofs.Common.{◌≡◌, ◌⊎◌, ℕ, zero, suc, ◌+◌, ◌-◌, ◌<◌, ◌≤◌, true, not, List, [], ◌∷◌, map, length, Some, refl, sym, ◌∙◌, ap, subst, inl, inr, arith}
 use Rattle.std.specs.List.{range_with_len}
 use Rattle.std.proofs.lemmas.Bool.{and_parts}
-use Rattle.jvm_model.specs.declared.values.Head.{Head}
-use Rattle.jvm_model.specs.declared.values.Kind.{Kind}
-use Rattle.jvm_model.specs.declared.values.Location.{Location}
+use Rattle.jvm_model.specs.declared.values.{Head.Head, Kind.Kind, Location.Location, Touch.Touch}
 use Rattle.jvm_model.specs.declared.values.Location.TheVariants as place
-use Rattle.jvm_model.specs.declared.values.Touch.{Touch}
 use Rattle.jvm_model.specs.declared.program.Program.{Program}
 use Rattle.jvm_model.specs.State.{test_at}
 use Rattle.jvm_model.specs.World.{World, size, same, place_of}
 use Rattle.jvm_model.specs.Suite.{Given, runs, all_tests}
-use Rattle.order_law.specs.declared.edges.EdgeKind.{EdgeKind}
-use Rattle.order_law.specs.declared.edges.EdgeKind.TheVariants.{Raw, Waw, War}
+use Rattle.order_law.specs.declared.edges.{EdgeKind.EdgeKind, EdgeKind.TheVariants.Raw, EdgeKind.TheVariants.Waw, EdgeKind.TheVariants.War}
 use Rattle.order_law.specs.declared.records.Reach.{Reach as ReachOf}
-use Rattle.order_law.specs.Conflicts.{Tests, Member}
+use Rattle.order_law.specs.{Conflicts.Tests, Conflicts.Member, Walk.Walk}
 use Rattle.order_law.specs.Histories.{Touches, touches_of, writes_in, exposed_in, IsTestNumber}
 use Rattle.order_law.specs.OwnRecord.{conflicts, first_places, places_in, conflict_places_in, made_by, owner, owner_in}
 use Rattle.order_law.specs.Reach.{ReachesIn, own, touched, mentioned, IsReachIn, kinds_of, inner_class}
-use Rattle.order_law.specs.Walk.{Walk}
-use Rattle.order_law.proofs.OwnRecord.{filter_both, touched as touched_place}
-use Rattle.order_law.proofs.WalksThere.{walk_law}
+use Rattle.order_law.proofs.{OwnRecord.filter_both, OwnRecord.touched as touched_place, WalksThere.walk_law}
 use Rattle.type_frames.specs.Typing.{IsTyped}
 use Rattle.access_tags.specs.Ran.{size_in, made_in, owner_by, HaveWalks, kinds_in}
 use Rattle.detect_run.proofs.Along.{test_gives, over_at, size_at, stands_after}
-use Rattle.detect_run.proofs.InOrder.{world_at, of_run}
-use Rattle.detect_run.proofs.Sizes.{stands_at}
+use Rattle.detect_run.proofs.{InOrder.world_at, InOrder.of_run, Sizes.stands_at}
 
 -- members of lists
 first_from : (ls : List Location) (L : Location) → Member L (first_places ls) → Member L ls

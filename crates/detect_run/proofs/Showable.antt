@@ -1,16 +1,11 @@
 -- Of each edge of a program's own record something can be shown.
 use Rattle.std.proofs.Common.{◌≡◌, ℕ, zero, suc, List, [], ◌∷◌, map, take, refl, arith, inl, inr, Option, Some, None}
 use Rattle.jvm_model.specs.declared.program.Program.{Program}
-use Rattle.jvm_model.specs.declared.values.Location.{Location}
-use Rattle.jvm_model.specs.declared.values.Touch.{Touch}
-use Rattle.jvm_model.specs.Texts.{location_text}
-use Rattle.jvm_model.specs.World.{place_of}
+use Rattle.jvm_model.specs.declared.values.{Location.Location, Touch.Touch}
+use Rattle.jvm_model.specs.{Texts.location_text, World.place_of}
 use Rattle.order_law.specs.declared.edges.Edge.{Edge}
-use Rattle.order_law.specs.declared.records.Place.{Place}
-use Rattle.order_law.specs.declared.records.Shown.{Shown}
-use Rattle.order_law.specs.Conflicts.{Member}
-use Rattle.order_law.specs.Histories.{Touches}
-use Rattle.order_law.specs.OwnRecord.{conflict_places_in, edges_in}
+use Rattle.order_law.specs.declared.records.{Place.Place, Shown.Shown}
+use Rattle.order_law.specs.{Conflicts.Member, Histories.Touches, OwnRecord.conflict_places_in, OwnRecord.edges_in}
 use Rattle.order_law.specs.Pairing.{PairedList, no_more, one_more}
 use Rattle.order_law.specs.Walk.{IsPlaceIn, IsShownIn, IsWalkText, Walk, read_text}
 use Rattle.order_law.proofs.OwnForm.{counted_law}

@@ -1,10 +1,8 @@
 -- How many objects a run makes, by its touches; and that the objects that it touches stand.
 use Rattle.std.proofs.Common.{◌≡◌, ℕ, suc, ◌<◌, ◌≤◌, List, [], ◌∷◌, ◌++◌, true, nat_lt, Option, Some, None, refl, sym, ◌∙◌, ap, inl, inr, arith}
 use Rattle.std.proofs.lemmas.Bool.{and_parts, ltb-true}
-use Rattle.jvm_model.specs.declared.values.Value.{Value}
-use Rattle.jvm_model.specs.declared.values.Location.{Location}
+use Rattle.jvm_model.specs.declared.values.{Value.Value, Location.Location, Touch.Touch}
 use Rattle.jvm_model.specs.declared.values.Location.TheVariants as place
-use Rattle.jvm_model.specs.declared.values.Touch.{Touch}
 use Rattle.jvm_model.specs.World.{Object, World, size, at, put, make_object, has, place_of}
 use Rattle.jvm_model.specs.Access.{Access, done, read, write, make, spend, run, made, fields_made, elems_made, text_made}
 use Rattle.jvm_model.proofs.Locations.{size_put, size_make}

@@ -5,17 +5,13 @@ use Rattle.std.proofs.lemmas.Bool.{cases_Bool}
 use Rattle.jvm_model.specs.declared.outcome.Outcome.{Outcome}
 use Rattle.jvm_model.specs.declared.program.Program.{Program}
 use Rattle.jvm_model.specs.declared.values.Touch.{Touch}
-use Rattle.jvm_model.specs.State.{test_at}
-use Rattle.jvm_model.specs.World.{World}
+use Rattle.jvm_model.specs.{State.test_at, World.World}
 use Rattle.jvm_model.specs.Suite.{Given, SuiteFault, over_budget, over_suite, fault_of, fault_on, suite_fault, suite_limit, opening, all_tests, one_test}
 use Rattle.et_base.proofs.Ranges.{range_more}
 use Rattle.jvm_model.proofs.Budgets.{one_test_units}
 use Rattle.vm_mem.specs.Trace.{Trace}
-use Rattle.test_run.specs.Lists.{RanList, RanNext}
-use Rattle.test_run.specs.Outcomes.{touches_of}
-use Rattle.test_run.specs.Running.{least}
-use Rattle.test_run.proofs.After.{own_budget}
-use Rattle.test_run.proofs.Lists.{ran_first, ran_more}
+use Rattle.test_run.specs.{Lists.RanList, Lists.RanNext, Outcomes.touches_of, Running.least}
+use Rattle.test_run.proofs.{After.own_budget, Lists.ran_first, Lists.ran_more}
 use Rattle.detect_run.specs.declared.fault.DetectFault.{DetectFault}
 use Rattle.detect_run.specs.declared.fault.DetectFault.TheVariants as fault
 use Rattle.detect_run.specs.SuiteRun.{IsSuiteFault, IsOneRefused, RanOne, Along, over_of, tests_to, tests_after}

@@ -4,12 +4,8 @@ use Rattle.jvm_model.specs.declared.program.Program.{Program}
 use Rattle.jvm_model.specs.declared.values.Touch.{Touch}
 use Rattle.jvm_model.specs.Suite.{all_tests, is_detected, seq}
 use Rattle.jvm_model.specs.World.{World}
-use Rattle.order_law.specs.declared.records.Prints.{Prints}
-use Rattle.order_law.specs.declared.records.Record.{Record}
-use Rattle.order_law.specs.Conflicts.{down}
-use Rattle.order_law.specs.Histories.{after_history, touches_of}
-use Rattle.order_law.specs.Pairing.{PairedList}
-use Rattle.order_law.specs.Reach.{IsRecordOf, units_in}
+use Rattle.order_law.specs.declared.records.{Prints.Prints, Record.Record}
+use Rattle.order_law.specs.{Conflicts.down, Histories.after_history, Histories.touches_of, Pairing.PairedList, Reach.IsRecordOf, Reach.units_in}
 use Rattle.order_law.specs.Walk.{IsShownOf}
 use Rattle.dep_graph.specs.declared.detected.Detected.{Detected}
 use Rattle.vm_mem.specs.Trace.{Trace}

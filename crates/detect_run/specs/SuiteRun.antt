@@ -4,13 +4,10 @@ use Rattle.std.specs.List.{range_with_len}
 use Rattle.jvm_model.specs.declared.outcome.Outcome.{Outcome}
 use Rattle.jvm_model.specs.declared.program.Program.{Program}
 use Rattle.jvm_model.specs.declared.values.Touch.{Touch}
-use Rattle.jvm_model.specs.State.{test_at}
+use Rattle.jvm_model.specs.{State.test_at, World.World}
 use Rattle.jvm_model.specs.Suite.{one_test, suite_fault, fault_on, over_budget, over_suite}
-use Rattle.jvm_model.specs.World.{World}
 use Rattle.vm_mem.specs.Trace.{Trace}
-use Rattle.test_run.specs.Lists.{RanList}
-use Rattle.test_run.specs.Outcomes.{given_in, TracesOne}
-use Rattle.test_run.specs.Running.{least}
+use Rattle.test_run.specs.{Lists.RanList, Outcomes.given_in, Outcomes.TracesOne, Running.least}
 use Rattle.detect_run.specs.declared.fault.DetectFault.{DetectFault}
 use Rattle.detect_run.specs.declared.fault.DetectFault.TheVariants as fault
 

@@ -4,9 +4,7 @@ ghost use Rattle.std.specs.Prelude.{◌≡◌, ◌+◌, ◌-◌, [], length, sum
 ghost use Rattle.std.specs.List.{list_all};
 ghost use Rattle.jvm_model.specs.Builtin.{builtin_count};
 ghost use Rattle.jvm_model.specs.Suite as suite;
-ghost use Rattle.order_law.specs.OwnRecord.{edges_of};
-ghost use Rattle.order_law.specs.Reach.{IsRecordOf};
-ghost use Rattle.order_law.specs.RecordForm.{is_place_text};
+ghost use Rattle.order_law.specs.{OwnRecord.edges_of, Reach.IsRecordOf, RecordForm.is_place_text};
 ghost use Rattle.vm_mem.specs.Trace.{empty_trace};
 ghost use Rattle.detect_run.specs.Detection.{IsDetectedRecord, IsDetection, IsOwnRun};
 ghost use Rattle.detect_run.specs.SuiteRun.{IsSuiteFault};

@@ -2,8 +2,7 @@
 
 ghost use Rattle.std.specs.Prelude.{◌≡◌, ◌+◌, ◌++◌, ◌∷◌, [], None, false, IfOk, IfErr, OnOk};
 ghost use Rattle.jvm_model.specs.Suite as suite;
-ghost use Rattle.test_run.specs.Lists.{RanList};
-ghost use Rattle.test_run.specs.Running.{IsTest};
+ghost use Rattle.test_run.specs.{Lists.RanList, Running.IsTest};
 ghost use Rattle.detect_run.specs.SuiteRun.{IsSuiteFault, IsOneRefused, RanOne, over_of};
 
 use crate::fault::DetectFault;

@@ -1,8 +1,7 @@
 -- What the program answers to the words of its command line (this project's).
 use Rattle.std.specs.Prelude.{ℕ, List, [], ◌∷◌, codes, Option, Some, None, if◌then◌else◌}
 use Rattle.std.specs.Str.{bytes_eq}
-use Rattle.outside.specs.Depot.{DepotView, OfHeld}
-use Rattle.outside.specs.Sink.{SinkView}
+use Rattle.outside.specs.{Depot.DepotView, Depot.OfHeld, Sink.SinkView}
 use Rattle.electrictest.specs.declared.status.Status.{Status}
 use Rattle.electrictest.specs.Commands.{Taken, Ends, Served, called}
 use Rattle.electrictest.specs.Words.{threaded}

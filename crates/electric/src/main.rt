@@ -23,8 +23,7 @@ ghost use Rattle.std.specs.Prelude.{◌≡◌, ◌⊎◌, ◌<◌, [], None, IfS
 ghost use Rattle.std.specs.Process.{exit_status};
 ghost use Rattle.outside.specs.Counts.{Rose};
 ghost use Rattle.electrictest.specs.declared.status.Status.TheVariants as ends;
-ghost use Rattle.electrictest.specs.Commands.{Writes};
-ghost use Rattle.electrictest.specs.Codes.{code_of};
+ghost use Rattle.electrictest.specs.{Commands.Writes, Codes.code_of};
 ghost use Rattle.electric.specs.Answers.{Answers, word_text, words_text};
 ghost use Rattle.electric.specs.Gathered.{HandedOn};
 

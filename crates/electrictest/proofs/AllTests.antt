@@ -3,12 +3,9 @@ use Rattle.std.proofs.Common.{◌≡◌, ℕ, zero, suc, ◌+◌, ◌<◌, ◌�
 use Rattle.std.specs.List.{range_with_len}
 use Rattle.std.proofs.lemmas.Bool.{cases_eq}
 use Rattle.jvm_model.specs.Suite.{all_tests}
-use Rattle.order_law.specs.Conflicts.{Member, selected}
-use Rattle.order_law.specs.OwnRecord.{edges_of}
-use Rattle.order_law.specs.Plan.{Ascending}
+use Rattle.order_law.specs.{Conflicts.Member, Conflicts.selected, OwnRecord.edges_of, Plan.Ascending}
 use Rattle.suite_load.specs.declared.loaded.Loaded.{Loaded}
-use Rattle.electrictest.specs.PoolRuns.{IsChosen, IsOfSuite}
-use Rattle.electrictest.specs.Records.{Beginning}
+use Rattle.electrictest.specs.{PoolRuns.IsChosen, PoolRuns.IsOfSuite, Records.Beginning}
 use Rattle.electrictest.proofs.PoolLaws.{own_of}
 
 -- an ascending list of exactly the numbers of a range

@@ -2,23 +2,18 @@
 use Rattle.std.proofs.Common.{◌≡◌, ◌∙◌, ℕ, List, refl, sym, subst, Option, Some, Result, Ok, Err, IfSome, IsOk}
 use Rattle.std.proofs.lemmas.Bool.{false≢true}
 use Rattle.order_law.proofs.OrderFaults.{law_of_faults}
-use Rattle.outside.specs.Depot.{Files, FailedAt}
-use Rattle.outside.specs.Sink.{SinkView, HasRoom}
+use Rattle.outside.specs.{Depot.Files, Depot.FailedAt, Sink.SinkView, Sink.HasRoom}
 use Rattle.suite_load.specs.declared.loaded.Loaded.{Loaded}
-use Rattle.electrictest.specs.declared.status.Status.{Status}
+use Rattle.electrictest.specs.declared.status.{Status.Status, InputFault.InputFault}
 use Rattle.electrictest.specs.declared.status.Status.TheVariants as ends
-use Rattle.electrictest.specs.declared.status.InputFault.{InputFault}
 use Rattle.electrictest.specs.declared.words.Command.TheVariants as command
 use Rattle.electrictest.specs.Commands.{Asked, PartReplied, Served, called}
 use Rattle.electrictest.specs.Complete.{AcceptsSuite, IsAccepted, of_depot, of_generated, IsCompleted, Complete, QuietlyComplete, quiet_depot, quiet_sink}
 use Rattle.electrictest.specs.Loads.{Begins, LoadsAny, LoadsFor, begun_by}
-use Rattle.electrictest.specs.Orders.{IsUnlawful}
-use Rattle.electrictest.specs.Records.{Beginning}
+use Rattle.electrictest.specs.{Orders.IsUnlawful, Records.Beginning}
 use Rattle.electrictest.specs.Replies.{IsRefusedInput, unloaded, unbegun, unlawful}
 use Rattle.electrictest.specs.Words.{Ask, Asking, is_eager, suite_named, suite_word, unformed}
-use Rattle.electrictest.proofs.GeneratedLaws.{never_failed}
-use Rattle.electrictest.proofs.OwnRecordLaws.{any_once, loaded_once}
-use Rattle.electrictest.proofs.QuietLaws.{sink_quiet}
+use Rattle.electrictest.proofs.{GeneratedLaws.never_failed, OwnRecordLaws.any_once, OwnRecordLaws.loaded_once, QuietLaws.sink_quiet}
 
 -- ---- a suite of the depot
 

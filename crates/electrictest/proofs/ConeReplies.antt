@@ -11,22 +11,14 @@ use Rattle.outside.specs.Depot.{Files, Told, DepotView, OfHeld}
 use Rattle.selection_close.specs.Closed.{IsAscendingOf}
 use Rattle.suite_load.specs.declared.loaded.Loaded.{Loaded}
 use Rattle.worker_pool.proofs.Tests.{member_at}
-use Rattle.electrictest.specs.declared.status.Status.{Status}
+use Rattle.electrictest.specs.declared.status.{Status.Status, OverFault.OverFault}
 use Rattle.electrictest.specs.declared.status.Status.TheVariants as ends
-use Rattle.electrictest.specs.declared.status.OverFault.{OverFault}
 use Rattle.electrictest.specs.declared.words.Command.{Command}
-use Rattle.electrictest.specs.Causes.{AsksSuch, runs_tests}
+use Rattle.electrictest.specs.{Causes.AsksSuch, Causes.runs_tests, Loads.begun_by, PoolRuns.IsOfSuite, Records.Beginning, Replies.ReportsBy, Replies.OversBy}
 use Rattle.electrictest.specs.Commands.{ReportEnds, ReportsOver, RefusedOver}
 use Rattle.electrictest.specs.ConeRuns.{AreCounted, ConesRefused, IsOverCone, OfBegun}
-use Rattle.electrictest.specs.Loads.{begun_by}
-use Rattle.electrictest.specs.PoolRuns.{IsOfSuite}
-use Rattle.electrictest.specs.Records.{Beginning}
-use Rattle.electrictest.specs.Replies.{ReportsBy, OversBy}
-use Rattle.electrictest.specs.Tests.{list_status}
-use Rattle.electrictest.specs.Words.{Ask}
-use Rattle.electrictest.proofs.AskedFor.{reports_as, overs_as}
-use Rattle.electrictest.proofs.ChosenLaws.{few_tests}
-use Rattle.electrictest.proofs.OrderLists.{member_all}
+use Rattle.electrictest.specs.{Tests.list_status, Words.Ask}
+use Rattle.electrictest.proofs.{AskedFor.reports_as, AskedFor.overs_as, ChosenLaws.few_tests, OrderLists.member_all}
 
 -- ---- the selected tests, each once and in suite order
 

@@ -2,29 +2,20 @@
 use Rattle.std.proofs.Common.{if◌then◌else◌, false, ◌≡◌, ℕ, List, length, nat_le, Bool, true, Option, Some, None, Result, Ok, Err, refl, sym, ap, ◌∙◌, subst}
 use Rattle.std.specs.List.{list_all}
 use Rattle.std.proofs.lemmas.Bool.{and_from, le-leb}
-use Rattle.order_law.specs.declared.records.More.{More}
-use Rattle.order_law.specs.declared.records.Record.{Record}
+use Rattle.order_law.specs.declared.records.{More.More, Record.Record}
 use Rattle.order_law.specs.Reach.{IsRecordOf}
-use Rattle.outside.specs.Depot.{Files, content}
-use Rattle.outside.specs.Sink.{SinkView}
-use Rattle.dep_record.specs.Laws.{AreHashes}
-use Rattle.dep_record.specs.RecordReading.{said_in}
+use Rattle.outside.specs.{Depot.Files, Depot.content, Sink.SinkView}
+use Rattle.dep_record.specs.{Laws.AreHashes, RecordReading.said_in}
 use Rattle.dep_record.specs.RecordText.{said, record_text, is_hash, more_hashes, has_hashes}
-use Rattle.dep_record.proofs.GivenLaws.{given_text}
-use Rattle.dep_record.proofs.HashLaws.{hashes_law}
+use Rattle.dep_record.proofs.{GivenLaws.given_text, HashLaws.hashes_law}
 use Rattle.suite_load.specs.declared.loaded.Loaded.{Loaded}
 use Rattle.electrictest.specs.declared.status.Status.{Status}
-use Rattle.electrictest.specs.Commands.{Asked, Served}
+use Rattle.electrictest.specs.{Commands.Asked, Commands.Served, OwnLists.DetectedOrderAnswer, OwnPools.DetectedAnswer}
 use Rattle.electrictest.specs.Loads.{LoadsNamed, LoadsAny, quieted, prepared}
-use Rattle.electrictest.specs.OwnLists.{DetectedOrderAnswer}
-use Rattle.electrictest.specs.OwnPools.{DetectedAnswer}
 use Rattle.electrictest.specs.OwnRecords.{AsksOwnRecord, HoldsSaying, HoldsText}
 use Rattle.electrictest.specs.Records.{record_bytes, record_limit, within_limit}
 use Rattle.electrictest.specs.Words.{Ask, is_eager, suite_word, word_at}
-use Rattle.electrictest.proofs.LoadedFacts.{loaded_from}
-use Rattle.electrictest.proofs.OwnAnswers.{own_answer}
-use Rattle.electrictest.proofs.OwnOrderLaws.{own_order_answer}
-use Rattle.electrictest.proofs.RecordSizes.{record_short}
+use Rattle.electrictest.proofs.{LoadedFacts.loaded_from, OwnAnswers.own_answer, OwnOrderLaws.own_order_answer, RecordSizes.record_short}
 
 -- ---- a suite that is loaded has sums
 

@@ -7,8 +7,7 @@ use Rattle.electrictest.specs.declared.status.Status.{Status}
 use Rattle.electrictest.specs.EagerForms.{AsksEager, EagerAnswer}
 use Rattle.electrictest.specs.Loads.{LoadsFor, LoadsAny, quieted}
 use Rattle.electrictest.specs.Words.{Ask, is_eager, IsOverSuite, suite_word, word_at}
-use Rattle.electrictest.proofs.AskedFor.{suite_of_words}
-use Rattle.electrictest.proofs.LoadedFacts.{loaded_from, loaded_typed}
+use Rattle.electrictest.proofs.{AskedFor.suite_of_words, LoadedFacts.loaded_from, LoadedFacts.loaded_typed}
 
 loads_quieted : (files : Files) (a : Ask) (l : Loaded) → IsOverSuite a.command → AsksEager files a l → LoadsFor files a (Ok (quieted l))
 loads_quieted files a l over asks =

@@ -1,39 +1,27 @@
 -- With the record that `detect` wrote of the suite's earlier state, each test that an impact doesn't name has the lines that it had.
 use Rattle.std.proofs.Common.{◌≡◌, ℕ, zero, suc, ◌+◌, ◌<◌, ◌≤◌, List, [], ◌∷◌, length, map, slice_get, filter, Bool, true, false, cond, ◌==◌, refl, sym, ap, ◌∙◌, subst, inl, inr, arith, Option, Some, None, option_map, unwrap_or, IsSome, Result, Ok, Err}
-use Rattle.std.specs.List.{range_with_len}
-use Rattle.std.specs.Str.{bytes_eq}
+use Rattle.std.specs.{List.range_with_len, Str.bytes_eq}
 use Rattle.std.proofs.lemmas.Bool.{cases_eq, eq-eqb, false≢true}
-use Rattle.std.proofs.lemmas.Slice.Eq.{bytes_eq-Decides}
+use Rattle.std.proofs.{lemmas.Slice.Eq.bytes_eq-Decides, lemmas.List.FromFn.length-map-range_with_len}
 use Rattle.std.proofs.lemmas.List.{length-map}
-use Rattle.std.proofs.lemmas.List.FromFn.{length-map-range_with_len}
 use Rattle.sha2.specs.Sha256.{sha256}
-use Rattle.jvm_model.specs.declared.program.Names.{Names}
-use Rattle.jvm_model.specs.declared.program.Program.{Program}
-use Rattle.jvm_model.specs.Texts.{outcome_lines}
-use Rattle.jvm_model.specs.Suite.{is_detected, seq}
-use Rattle.order_law.specs.declared.records.More.{More}
-use Rattle.order_law.specs.declared.records.Prints.{Prints}
-use Rattle.order_law.specs.declared.records.Record.{Record}
-use Rattle.order_law.specs.Conflicts.{Member}
-use Rattle.order_law.specs.Histories.{IsTestNumber}
+use Rattle.jvm_model.specs.declared.program.{Names.Names, Program.Program}
+use Rattle.jvm_model.specs.{Texts.outcome_lines, Suite.is_detected, Suite.seq}
+use Rattle.order_law.specs.declared.records.{More.More, Prints.Prints, Record.Record}
+use Rattle.order_law.specs.{Conflicts.Member, Histories.IsTestNumber}
 use Rattle.order_law.specs.Reach.{IsMoreOf, IsRecordOf, units_in}
-use Rattle.outside.specs.Depot.{Files}
-use Rattle.outside.specs.Sink.{SinkView}
-use Rattle.dep_record.specs.Laws.{AreHashes}
-use Rattle.dep_record.specs.RecordText.{said, record_text}
+use Rattle.outside.specs.{Depot.Files, Sink.SinkView}
+use Rattle.dep_record.specs.{Laws.AreHashes, RecordText.said, RecordText.record_text}
 use Rattle.suite_load.specs.declared.suite_text.SuiteText.{SuiteText}
 use Rattle.suite_load.specs.declared.loaded.Loaded.{Loaded}
 use Rattle.suite_load.specs.declared.load_fault.LoadFault.{LoadFault}
 use Rattle.suite_load.specs.Loading.{bytes_of, lines_of, names_in}
-use Rattle.suite_load.proofs.GoodLines.{IsGood}
-use Rattle.suite_load.proofs.LinkedCounts.{tests_linked}
+use Rattle.suite_load.proofs.{GoodLines.IsGood, LinkedCounts.tests_linked}
 use Rattle.impact_pick.specs.Pick.{changed, is_picked, picked}
 use Rattle.impact_pick.specs.ImpactText.{impact_text}
 use Rattle.impact_pick.proofs.ImpactLaw.{impact_law}
-use Rattle.electrictest.specs.declared.status.Status.{Status}
+use Rattle.electrictest.specs.declared.status.{Status.Status, InputFault.InputFault, OverFault.OverFault}
 use Rattle.electrictest.specs.declared.status.Status.TheVariants as ends
-use Rattle.electrictest.specs.declared.status.InputFault.{InputFault}
-use Rattle.electrictest.specs.declared.status.OverFault.{OverFault}
 use Rattle.electrictest.specs.declared.words.Command.TheVariants as command
 use Rattle.electrictest.specs.Commands.{Asked, Served, Whole}
 use Rattle.electrictest.specs.EarlierRecords.{AsksEarlier, WroteImpact, EarlierAnswer, KeptLines, lines_in}

@@ -1,15 +1,13 @@
 -- What the words of a generated suite are answered.
 use Rattle.std.proofs.Common.{◌≡◌, ◌∙◌, ℕ, List, Bool, true, false, sym, ap, subst, inl, inr, Result, Ok, Err, IfOk, IfErr}
 use Rattle.std.proofs.lemmas.Bool.{false≢true}
-use Rattle.outside.specs.Depot.{DepotView}
-use Rattle.outside.specs.Sink.{SinkView}
+use Rattle.outside.specs.{Depot.DepotView, Sink.SinkView}
 use Rattle.electrictest.specs.declared.reports.Report.{Report}
 use Rattle.electrictest.specs.declared.status.Status.{Status}
 use Rattle.electrictest.specs.declared.status.Status.TheVariants as ends
 use Rattle.electrictest.specs.Commands.{Refused, Writes, report_status}
-use Rattle.electrictest.specs.Generated.{Sums}
+use Rattle.electrictest.specs.{Generated.Sums, Words.Ask, Words.OfGenerated}
 use Rattle.electrictest.specs.GeneratedAnswers.{GeneratedAnswer, GeneratedEnds, Summed}
-use Rattle.electrictest.specs.Words.{Ask, OfGenerated}
 
 module _ (k workers begun now : ℕ) (result : Status) (old new : SinkView) where
   ends_as : (s : Status) → result ≡ s → GeneratedEnds k workers begun now s old new → GeneratedEnds k workers begun now result old new

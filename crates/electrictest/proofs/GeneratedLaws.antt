@@ -2,9 +2,8 @@
 use Rattle.std.proofs.Common.{◌≡◌, ◌↔◌, ℕ, ◌+◌, ◌≤◌, List, ◌∷◌, ◌++◌, length, codes, count_by, sum, Bool, refl, sym, ap, ◌∙◌, subst, arith, inl, inr, All, Some, Result, Ok, Err}
 use Rattle.std.specs.List.{list_all, range_with_len}
 use Rattle.std.proofs.lemmas.List.FromFn.{length-map-range_with_len, length-range_with_len}
-use Rattle.generated_law.specs.GeneratedLaw.{LoadLaw}
+use Rattle.generated_law.specs.{GeneratedLaw.LoadLaw, GeneratedRun.RunLaw, GeneratedRun.outcome_of}
 use Rattle.generated_law.specs.GeneratedRecord.{ChainLaw, IsGeneratedRecord, RecordLaw}
-use Rattle.generated_law.specs.GeneratedRun.{RunLaw, outcome_of}
 use Rattle.generated_law.specs.GeneratedSuite.{gen_program, gen_test, generated_program, generated_suite, suite_files, suite_name}
 use Rattle.jvm_model.specs.declared.program.Program.{Program}
 use Rattle.jvm_model.specs.Linked.{Linked}
@@ -13,10 +12,7 @@ use Rattle.jvm_model.specs.Texts.{count_line, is_error, is_failed, is_passed}
 use Rattle.jvm_model.proofs.Detection.{no_fault_where_detected}
 use Rattle.order_law.specs.declared.records.Record.{Record}
 use Rattle.order_law.specs.declared.edges.Edge.{Edge}
-use Rattle.order_law.specs.Conflicts.{Member}
-use Rattle.order_law.specs.OwnRecord.{edges_of}
-use Rattle.order_law.specs.Plan.{AreListedChainsOf}
-use Rattle.order_law.specs.Reach.{IsRecordOf, units_in as units_given}
+use Rattle.order_law.specs.{Conflicts.Member, OwnRecord.edges_of, Plan.AreListedChainsOf, Reach.IsRecordOf, Reach.units_in as units_given}
 use Rattle.order_law.proofs.OwnRecord.{range_within}
 use Rattle.outside.specs.Depot.{Told, DepotView, FailedAt, OfHeld}
 use Rattle.dep_record.specs.RecordText.{said}
@@ -27,30 +23,19 @@ use Rattle.suite_gen.specs.Generated.{group_count}
 use Rattle.suite_load.specs.declared.load_fault.LoadFault.{LoadFault}
 use Rattle.suite_load.specs.declared.load_fault.LoadFault.TheVariants as fault
 use Rattle.suite_load.specs.declared.loaded.Loaded.{Loaded}
-use Rattle.suite_load.specs.LoadAnswers.{LoadAnswers, IsProper}
-use Rattle.suite_load.specs.Loading.{Loads}
+use Rattle.suite_load.specs.{LoadAnswers.LoadAnswers, LoadAnswers.IsProper, Loading.Loads}
 use Rattle.suite_load.proofs.LoadOnce.{loads_once}
 use Rattle.electrictest.specs.declared.recorded.Request.{Request}
 use Rattle.test_run.specs.declared.tallies.Tally.{Tally}
 use Rattle.electrictest.specs.declared.status.Status.{Status}
 use Rattle.electrictest.specs.declared.status.Status.TheVariants as ends
 use Rattle.electrictest.specs.declared.words.Command.TheVariants as command
-use Rattle.electrictest.specs.Commands.{ReportEnds, Reported}
+use Rattle.electrictest.specs.{Commands.ReportEnds, Commands.Reported, Loads.IsSuite, Loads.status_of, Records.Beginning, Records.beginning}
 use Rattle.electrictest.specs.Generated.{IsSummary, IsSummed, IsWholeRequest, Sums, conflict_line, own_tests, own_units, summary_by, summary_text, whole_suite, worker_line}
-use Rattle.electrictest.specs.Loads.{IsSuite, status_of}
 use Rattle.electrictest.specs.PoolRuns.{AreOwn, IsChosen, IsOfSuite, LawOfOwnRuns, PoolRefused, outcomes}
-use Rattle.electrictest.specs.Records.{Beginning, beginning}
-use Rattle.electrictest.specs.Replies.{Unreported}
-use Rattle.electrictest.specs.Running.{RunRefused}
-use Rattle.electrictest.specs.Selections.{IsTestOf}
-use Rattle.electrictest.specs.Tallies.{IsTallyOf}
-use Rattle.electrictest.specs.TestNames.{units_in}
-use Rattle.electrictest.specs.Words.{Ask}
-use Rattle.electrictest.proofs.AllTests.{closed_all, in_range}
-use Rattle.electrictest.proofs.AskedFor.{reports_as}
+use Rattle.electrictest.specs.{Replies.Unreported, Running.RunRefused, Selections.IsTestOf, Tallies.IsTallyOf, TestNames.units_in, Words.Ask}
+use Rattle.electrictest.proofs.{AllTests.closed_all, AllTests.in_range, AskedFor.reports_as, PlanLaws.tests_have, PoolLaws.own_runs, PoolLaws.pool_ran}
 use Rattle.electrictest.proofs.GeneratedRuns.{all_pass, given_is, none_other, passed_many, passes, units_all}
-use Rattle.electrictest.proofs.PlanLaws.{tests_have}
-use Rattle.electrictest.proofs.PoolLaws.{own_runs, pool_ran}
 use Rattle.electrictest.proofs.PoolReplies.{is_of_suite}
 
 -- ---- loading

@@ -4,15 +4,11 @@ use Rattle.std.specs.List.{list_all}
 use Rattle.std.proofs.lemmas.List.Sums.{sum_by-cons}
 use Rattle.std.proofs.lemmas.Option.{same_Some}
 use Rattle.generated_law.specs.GeneratedRun.{outcome_of, passed_with}
-use Rattle.jvm_model.specs.declared.outcome.Outcome.{Outcome}
-use Rattle.jvm_model.specs.declared.outcome.Verdict.{Verdict}
-use Rattle.jvm_model.specs.declared.outcome.Verdict.TheVariants.{Passed}
-use Rattle.jvm_model.specs.Suite.{seq}
-use Rattle.jvm_model.specs.Texts.{is_passed}
+use Rattle.jvm_model.specs.declared.outcome.{Outcome.Outcome, Verdict.Verdict, Verdict.TheVariants.Passed}
+use Rattle.jvm_model.specs.{Suite.seq, Texts.is_passed}
 use Rattle.order_law.specs.Conflicts.{Member}
 use Rattle.suite_load.specs.declared.loaded.Loaded.{Loaded}
-use Rattle.electrictest.specs.PoolRuns.{AreOwn, outcomes}
-use Rattle.electrictest.specs.TestNames.{units_in}
+use Rattle.electrictest.specs.{PoolRuns.AreOwn, PoolRuns.outcomes, TestNames.units_in}
 
 -- ---- verdicts
 

@@ -1,17 +1,11 @@
 -- An impact answers what is asked.
 use Rattle.std.proofs.Common.{◌≡◌, ℕ, List, true, refl, arith, Option, Some, None, Ok, IfSome}
-use Rattle.order_law.specs.declared.records.More.{More}
-use Rattle.order_law.specs.declared.records.Record.{Record}
+use Rattle.order_law.specs.declared.records.{More.More, Record.Record}
 use Rattle.outside.specs.Depot.{Files, Told, OfHeld}
 use Rattle.suite_load.specs.declared.loaded.Loaded.{Loaded}
-use Rattle.impact_pick.specs.Form.{fits_prints}
-use Rattle.impact_pick.specs.ImpactText.{impact_text}
+use Rattle.impact_pick.specs.{Form.fits_prints, ImpactText.impact_text}
 use Rattle.electrictest.specs.declared.words.Command.TheVariants as command
-use Rattle.electrictest.specs.Commands.{Reported, ReportsOver}
-use Rattle.electrictest.specs.Impacts.{IsImpacted}
-use Rattle.electrictest.specs.Loads.{Begins, begun_by}
-use Rattle.electrictest.specs.Records.{nameless}
-use Rattle.electrictest.specs.Words.{Ask}
+use Rattle.electrictest.specs.{Commands.Reported, Commands.ReportsOver, Impacts.IsImpacted, Loads.Begins, Loads.begun_by, Records.nameless, Words.Ask}
 use Rattle.electrictest.proofs.AskedFor.{reports_as}
 
 -- by what version 2 of the record adds, which is there

@@ -11,9 +11,7 @@ use Rattle.suite_load.specs.declared.loaded.Loaded.{Loaded}
 use Rattle.test_run.specs.declared.run_fault.RunFault.{RunFault}
 use Rattle.test_run.specs.declared.run_fault.RunFault.TheVariants as fault
 use Rattle.test_run.specs.Lists.{RanList, IsListRefused}
-use Rattle.electrictest.specs.Running.{RanInOrder, ListRefused}
-use Rattle.electrictest.specs.TestNames.{units_in}
-use Rattle.electrictest.specs.Tests.{list_status}
+use Rattle.electrictest.specs.{Running.RanInOrder, Running.ListRefused, TestNames.units_in, Tests.list_status}
 
 units_same : (xs : List Given) → units_of xs ≡ units_in (map (λ x. x.outcome) xs)
 units_same [] = refl

@@ -5,8 +5,7 @@ use Rattle.outside.proofs.CountLemmas.{rose_later}
 use Rattle.suite_load.specs.declared.load_fault.LoadFault.{LoadFault}
 use Rattle.suite_load.specs.declared.load_fault.LoadFault.TheVariants as fault
 use Rattle.suite_load.specs.declared.loaded.Loaded.{Loaded}
-use Rattle.suite_load.specs.Loading.{Loads, IsRead}
-use Rattle.suite_load.specs.LoadAnswers.{LoadAnswers, IsProper}
+use Rattle.suite_load.specs.{Loading.Loads, Loading.IsRead, LoadAnswers.LoadAnswers, LoadAnswers.IsProper}
 use Rattle.jvm_model.specs.Builtin.{builtin_count}
 use Rattle.quiet_init.specs.Quiet.{quiet}
 use Rattle.quiet_init.proofs.Parts.{class_count}
@@ -15,13 +14,11 @@ use Rattle.electrictest.specs.declared.status.Status.{Status}
 use Rattle.electrictest.specs.declared.status.Status.TheVariants as ends
 use Rattle.electrictest.specs.declared.status.InputFault.TheVariants as input
 use Rattle.electrictest.specs.declared.words.WordsFault.TheVariants as faults
-use Rattle.electrictest.specs.Causes.{AsksAny}
+use Rattle.electrictest.specs.{Causes.AsksAny, Replies.Unreported, Replies.unloaded}
 use Rattle.electrictest.specs.Words.{Ask, Asking, ask, is_eager, word_at, refusal_of, suite_word, IsOverSuite}
 use Rattle.electrictest.specs.Loads.{IsSuite, LoadsFor, LoadsAny, answered, quieted, prepared, status_of, of_suite}
-use Rattle.electrictest.specs.Replies.{Unreported, unloaded}
 use Rattle.electrictest.specs.Commands.{ReportEnds, ReportsOver, RefusedOver, Reported}
-use Rattle.electrictest.proofs.AskedFor.{any_files, suite_of_words}
-use Rattle.electrictest.proofs.Held.{carried}
+use Rattle.electrictest.proofs.{AskedFor.any_files, AskedFor.suite_of_words, Held.carried}
 
 -- ---- loading
 

@@ -8,11 +8,8 @@ use Rattle.suite_load.specs.declared.loaded.Loaded.{Loaded}
 use Rattle.test_run.specs.Running.{IsTest}
 use Rattle.electrictest.specs.declared.status.Status.{Status}
 use Rattle.electrictest.specs.declared.status.Status.TheVariants as ends
-use Rattle.electrictest.specs.Loads.{IsSuite}
-use Rattle.electrictest.specs.Orders.{order_report, Reports}
-use Rattle.electrictest.specs.Records.{Beginning}
+use Rattle.electrictest.specs.{Loads.IsSuite, Orders.order_report, Orders.Reports, Records.Beginning, TestNames.units_in}
 use Rattle.electrictest.specs.Running.{RanInOrder, ListRefused, OrderRefused}
-use Rattle.electrictest.specs.TestNames.{units_in}
 use Rattle.schedule_plan.proofs.Totals.{few}
 use Rattle.electrictest.proofs.OrderLists.{member_all}
 

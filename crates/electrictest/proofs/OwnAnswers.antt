@@ -1,18 +1,14 @@
 -- What the words of a run are answered with the suite's own record.
 use Rattle.std.proofs.Common.{◌≡◌, ℕ, ◌+◌, List, Bool, Some, Result, Ok, Err, sym, ap, ◌∙◌, subst}
-use Rattle.outside.specs.Depot.{Files}
-use Rattle.outside.specs.Sink.{SinkView}
+use Rattle.outside.specs.{Depot.Files, Sink.SinkView}
 use Rattle.suite_load.specs.declared.loaded.Loaded.{Loaded}
-use Rattle.electrictest.specs.declared.status.Status.{Status}
+use Rattle.electrictest.specs.declared.status.{Status.Status, InputFault.InputFault, OverFault.OverFault}
 use Rattle.electrictest.specs.declared.status.Status.TheVariants as ends
-use Rattle.electrictest.specs.declared.status.InputFault.{InputFault}
-use Rattle.electrictest.specs.declared.status.OverFault.{OverFault}
 use Rattle.electrictest.specs.Commands.{Asked, Served, Whole}
 use Rattle.electrictest.specs.Loads.{Begins, begun_by, fits_for, named_by}
 use Rattle.electrictest.specs.OwnPools.{AsksOwnRun, WroteOwn, OwnAnswer}
-use Rattle.electrictest.specs.OwnRecords.{HoldsSaying}
+use Rattle.electrictest.specs.{OwnRecords.HoldsSaying, Records.Beginning}
 use Rattle.electrictest.specs.PoolRuns.{IsPoolRun, IsPoolOver, IsPoolReport, IsOverPool, IsOfSuite, LawOfOwnRuns}
-use Rattle.electrictest.specs.Records.{Beginning}
 use Rattle.electrictest.specs.Replies.{IsRefusedInput, unloaded, unbegun, unlawful, ReportsBy, OversBy}
 use Rattle.electrictest.specs.Words.{Ask, Asking, is_eager, suite_word}
 use Rattle.electrictest.proofs.OwnRecordLaws.{any_once, own_start, begun_by_own, begins_once, starts_once, own_ends}

@@ -4,35 +4,26 @@ use Rattle.jvm_model.specs.declared.outcome.Outcome.{Outcome}
 use Rattle.jvm_model.specs.declared.program.Program.{Program}
 use Rattle.jvm_model.specs.Linked.{Linked}
 use Rattle.jvm_model.specs.Suite.{first_over, is_detected, last_outcome, seq}
-use Rattle.order_law.specs.declared.edges.Edge.{Edge}
-use Rattle.order_law.specs.declared.edges.EdgeKind.TheVariants.{Raw}
-use Rattle.order_law.specs.Conflicts.{HasEdge, Member}
-use Rattle.order_law.specs.Histories.{IsTestNumber, touches_of}
-use Rattle.order_law.specs.OwnRecord.{edges_of, owner}
+use Rattle.order_law.specs.declared.edges.{Edge.Edge, EdgeKind.TheVariants.Raw}
+use Rattle.order_law.specs.{Conflicts.HasEdge, Conflicts.Member, Histories.IsTestNumber, Histories.touches_of, OwnRecord.edges_of, OwnRecord.owner}
 use Rattle.order_law.specs.Pairing.{no_more, one_more}
 use Rattle.order_law.proofs.OwnRecord.{is_record}
 use Rattle.test_run.specs.Running.{Posted}
 use Rattle.cone_run.specs.declared.marks.Mark.{Mark}
 use Rattle.cone_run.specs.Cones.{AreConesOf, IsCone, IsFirstOver}
-use Rattle.cone_run.specs.ConesText.{outcomes}
-use Rattle.cone_run.specs.Marks.{HasWriter, IsMark}
+use Rattle.cone_run.specs.{ConesText.outcomes, Marks.HasWriter, Marks.IsMark}
 use Rattle.cone_run.proofs.ConeLaw.{own_cone_law}
-use Rattle.outside.specs.Depot.{Files}
-use Rattle.outside.specs.Sink.{SinkView}
+use Rattle.outside.specs.{Depot.Files, Sink.SinkView}
 use Rattle.suite_load.specs.declared.loaded.Loaded.{Loaded}
-use Rattle.electrictest.specs.declared.status.Status.{Status}
+use Rattle.electrictest.specs.declared.status.{Status.Status, InputFault.InputFault, OverFault.OverFault}
 use Rattle.electrictest.specs.declared.status.Status.TheVariants as ends
-use Rattle.electrictest.specs.declared.status.InputFault.{InputFault}
-use Rattle.electrictest.specs.declared.status.OverFault.{OverFault}
 use Rattle.electrictest.specs.declared.words.Command.{Command}
 use Rattle.electrictest.specs.declared.words.Command.TheVariants as command
 use Rattle.electrictest.specs.Commands.{Asked, Served, Whole}
 use Rattle.electrictest.specs.ConeRuns.{IsConeReport, IsOverCone, OfBegun}
 use Rattle.electrictest.specs.Loads.{Begins, begun_by, fits_for, named_by}
-use Rattle.electrictest.specs.Manifests.{IsManifest}
+use Rattle.electrictest.specs.{Manifests.IsManifest, OwnRecords.AsksOwnRecord, OwnRecords.HoldsSaying, PoolRuns.IsOfSuite}
 use Rattle.electrictest.specs.OwnCones.{AsksOwn, HoldsRecord, IsOwnConeReport, IsOwnManifest, IsOwnMark, OwnConesAnswer, OwnManifestAnswer, WroteBy}
-use Rattle.electrictest.specs.OwnRecords.{AsksOwnRecord, HoldsSaying}
-use Rattle.electrictest.specs.PoolRuns.{IsOfSuite}
 use Rattle.electrictest.specs.Records.{Beginning, record_fits}
 use Rattle.electrictest.specs.Replies.{IsRefusedInput, unloaded, unbegun, unlawful, ReportsBy, OversBy}
 use Rattle.electrictest.specs.Words.{Ask, Asking, is_eager, suite_word}

@@ -6,24 +6,17 @@ use Rattle.jvm_model.specs.declared.program.Program.{Program}
 use Rattle.jvm_model.specs.Suite.{Given, seq, runs, first_over}
 use Rattle.jvm_model.proofs.FirstOver.{first_over_none}
 use Rattle.order_law.specs.declared.edges.Edge.{Edge}
-use Rattle.order_law.specs.Conflicts.{Lawful}
-use Rattle.order_law.specs.Histories.{AreSequential}
-use Rattle.order_law.proofs.OrderFaults.{law_of_faults}
-use Rattle.order_law.proofs.OwnRecord.{own_law}
-use Rattle.outside.specs.Depot.{Files}
-use Rattle.outside.specs.Sink.{SinkView}
+use Rattle.order_law.specs.{Conflicts.Lawful, Histories.AreSequential}
+use Rattle.order_law.proofs.{OrderFaults.law_of_faults, OwnRecord.own_law}
+use Rattle.outside.specs.{Depot.Files, Sink.SinkView}
 use Rattle.suite_load.specs.declared.loaded.Loaded.{Loaded}
-use Rattle.electrictest.specs.declared.status.Status.{Status}
+use Rattle.electrictest.specs.declared.status.{Status.Status, InputFault.InputFault, OverFault.OverFault}
 use Rattle.electrictest.specs.declared.status.Status.TheVariants as ends
-use Rattle.electrictest.specs.declared.status.InputFault.{InputFault}
-use Rattle.electrictest.specs.declared.status.OverFault.{OverFault}
 use Rattle.electrictest.specs.Commands.{Asked, Served, Whole}
 use Rattle.electrictest.specs.Loads.{Begins, begun_by, fits_for, named_by}
 use Rattle.electrictest.specs.Orders.{IsOrderReport, IsOrdered, IsOrderedOver, IsOverOrder, IsUnlawful, OwnOrders}
 use Rattle.electrictest.specs.OwnLists.{AsksOwnOrder, WroteOrder, OwnOrderAnswer}
-use Rattle.electrictest.specs.OwnRecords.{HoldsSaying}
-use Rattle.electrictest.specs.PoolRuns.{IsOfSuite}
-use Rattle.electrictest.specs.Records.{Beginning}
+use Rattle.electrictest.specs.{OwnRecords.HoldsSaying, PoolRuns.IsOfSuite, Records.Beginning}
 use Rattle.electrictest.specs.Replies.{IsRefusedInput, unloaded, unbegun, unlawful, ReportsBy, OversBy}
 use Rattle.electrictest.specs.Words.{Ask, Asking, is_eager, suite_word}
 use Rattle.electrictest.proofs.OwnRecordLaws.{any_once, own_start, begun_by_own, begins_once, starts_once, own_ends}

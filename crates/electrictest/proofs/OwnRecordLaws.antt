@@ -2,21 +2,16 @@
 use Rattle.std.proofs.Common.{◌≡◌, ℕ, ◌+◌, List, length, Bool, true, false, ◌==◌, Option, Some, None, option_map, unwrap_or, Result, Ok, Err, refl, sym, ap, ◌∙◌}
 use Rattle.std.specs.Str.{bytes_eq}
 use Rattle.std.proofs.lemmas.Bool.{eq-eqb}
-use Rattle.std.proofs.lemmas.Slice.Eq.{bytes_eq-Decides}
-use Rattle.std.proofs.lemmas.List.FromFn.{length-map-range_with_len}
+use Rattle.std.proofs.{lemmas.Slice.Eq.bytes_eq-Decides, lemmas.List.FromFn.length-map-range_with_len}
 use Rattle.jvm_model.specs.Suite.{seq}
-use Rattle.order_law.specs.declared.records.More.{More}
-use Rattle.order_law.specs.declared.records.Record.{Record}
+use Rattle.order_law.specs.declared.records.{More.More, Record.Record}
 use Rattle.order_law.specs.Reach.{IsRecordOf, units_in}
-use Rattle.outside.specs.Depot.{Files}
-use Rattle.outside.specs.Sink.{SinkView}
+use Rattle.outside.specs.{Depot.Files, Sink.SinkView}
 use Rattle.dep_record.specs.RecordText.{Said, said}
 use Rattle.suite_load.specs.declared.loaded.Loaded.{Loaded}
 use Rattle.suite_load.proofs.LoadOnce.{loads_once}
-use Rattle.electrictest.specs.declared.status.Status.{Status}
+use Rattle.electrictest.specs.declared.status.{Status.Status, InputFault.InputFault, OverFault.OverFault}
 use Rattle.electrictest.specs.declared.status.Status.TheVariants as ends
-use Rattle.electrictest.specs.declared.status.InputFault.{InputFault}
-use Rattle.electrictest.specs.declared.status.OverFault.{OverFault}
 use Rattle.electrictest.specs.Commands.{Asked, Served, Whole}
 use Rattle.electrictest.specs.Loads.{LoadsFor, LoadsNamed, LoadsAny, answered, prepared, Begins, begun_by, fits_for, named_by}
 use Rattle.electrictest.specs.OwnRecords.{AsksOwnRecord, HoldsSaying, OwnEndsBy}

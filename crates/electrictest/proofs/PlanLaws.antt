@@ -3,11 +3,9 @@ use Rattle.std.proofs.Common.{◌≡◌, ℕ, ◌+◌, ◌*◌, ◌^◌, ◌<◌
 use Rattle.std.specs.List.{list_all}
 use Rattle.std.proofs.lemmas.Bool.{and_parts, leb-true}
 use Rattle.std.proofs.lemmas.List.Sums.{sum_by-cons}
-use Rattle.order_law.specs.declared.edges.Edge.{Edge}
-use Rattle.order_law.specs.declared.edges.EdgeKind.TheVariants.{Raw}
+use Rattle.order_law.specs.declared.edges.{Edge.Edge, EdgeKind.TheVariants.Raw}
 use Rattle.order_law.specs.Conflicts.{Member, Closure, selected, source}
-use Rattle.order_law.specs.Plan.{AreListedChainsOf}
-use Rattle.order_law.specs.RecordForm.{is_record_form}
+use Rattle.order_law.specs.{Plan.AreListedChainsOf, RecordForm.is_record_form}
 use Rattle.dep_graph.specs.Graphs.{GoUp}
 use Rattle.selection_close.specs.Closed.{IsClosure}
 use Rattle.outside.specs.Depot.{Told}
@@ -15,10 +13,7 @@ use Rattle.suite_load.specs.declared.loaded.Loaded.{Loaded}
 use Rattle.schedule_plan.specs.Plans.{HasUnits, HaveUnits}
 use Rattle.schedule_plan.proofs.Places.{place_of}
 use Rattle.electrictest.specs.declared.status.Status.TheVariants as ends
-use Rattle.electrictest.specs.Words.{Ask}
-use Rattle.electrictest.specs.Selections.{IsTestOf}
-use Rattle.electrictest.specs.Loads.{IsSuite}
-use Rattle.electrictest.specs.Commands.{RefusedOver}
+use Rattle.electrictest.specs.{Words.Ask, Selections.IsTestOf, Loads.IsSuite, Commands.RefusedOver}
 
 pub plus_none : (ns : List ℕ) → map (λ n. n + 0) ns ≡ ns
 plus_none [] = refl

@@ -3,26 +3,19 @@ use Rattle.std.proofs.Common.{◌≡◌, ℕ, List, [], ◌∷◌, ◌++◌, len
 use Rattle.jvm_model.specs.declared.outcome.Outcome.{Outcome}
 use Rattle.jvm_model.specs.declared.program.Program.{Program}
 use Rattle.jvm_model.specs.Suite.{seq}
-use Rattle.order_law.specs.declared.edges.Edge.{Edge}
-use Rattle.order_law.specs.declared.edges.EdgeKind.TheVariants.{Raw}
+use Rattle.order_law.specs.declared.edges.{Edge.Edge, EdgeKind.TheVariants.Raw}
 use Rattle.order_law.specs.Conflicts.{Member, Closure, selected, source, ClosedUnderRaw}
 use Rattle.order_law.specs.Histories.{RecordOf, IsTestNumber, touches_of}
 use Rattle.order_law.specs.OwnRecord.{edges_of, owner}
 use Rattle.order_law.specs.Plan.{Event, claim, post, Legal, PostsSequential, Posted, chain_at}
-use Rattle.order_law.proofs.OwnRecord.{is_record}
-use Rattle.order_law.proofs.Plans.{law_of_interleavings}
+use Rattle.order_law.proofs.{OwnRecord.is_record, Plans.law_of_interleavings, Posts.legal_once, Posts.posted_where}
 use Rattle.order_law.specs.Plan as law
-use Rattle.order_law.proofs.Posts.{legal_once, posted_where}
 use Rattle.run_core.specs.Run.{Gave, Run, history, IsLegal, IsComplete}
 use Rattle.worker_pool.specs.Plans.{units_of}
 use Rattle.test_run.specs.declared.tallies.Tally.{Tally}
-use Rattle.electrictest.specs.Logs.{log_text}
-use Rattle.electrictest.specs.Tallies.{IsTallyOf, report_text}
-use Rattle.electrictest.proofs.TallyLaws.{report_is}
-use Rattle.electrictest.proofs.UnitLaws.{units_of_posts}
-use Rattle.electrictest.proofs.WholeThenPart.{part_gives}
+use Rattle.electrictest.specs.{Logs.log_text, Tallies.IsTallyOf, Tallies.report_text, Records.Beginning}
+use Rattle.electrictest.proofs.{TallyLaws.report_is, UnitLaws.units_of_posts, WholeThenPart.part_gives}
 use Rattle.suite_load.specs.declared.loaded.Loaded.{Loaded}
-use Rattle.electrictest.specs.Records.{Beginning}
 use Rattle.electrictest.specs.PoolRuns.{AreGiven, AreOwn, IsChosen, IsOfSuite, IsPoolRan, IsPoolReport, OwnRuns}
 
 -- ---- the closure

@@ -7,16 +7,11 @@ use Rattle.electrictest.specs.declared.status.Status.{Status}
 use Rattle.electrictest.specs.declared.status.Status.TheVariants as ends
 use Rattle.electrictest.specs.declared.words.Command.TheVariants as command
 use Rattle.electrictest.specs.declared.recorded.Request.{Request}
-use Rattle.electrictest.specs.Words.{Ask}
-use Rattle.electrictest.specs.Selections.{IsTestOf}
-use Rattle.electrictest.specs.Records.{Beginning, beginning}
-use Rattle.electrictest.specs.Loads.{IsSuite, begun_by}
+use Rattle.electrictest.specs.{Words.Ask, Selections.IsTestOf, Records.Beginning, Records.beginning, Loads.IsSuite, Loads.begun_by}
 use Rattle.electrictest.specs.Causes.{AsksSuch, runs_tests}
 use Rattle.electrictest.specs.Commands.{ReportEnds, ReportsOver, RefusedOver}
 use Rattle.electrictest.specs.PoolRuns.{IsOfSuite, IsPoolOver, IsPoolRun, PoolReports, PoolRefused}
-use Rattle.electrictest.proofs.AskedFor.{reports_as, overs_as}
-use Rattle.electrictest.proofs.ChosenLaws.{units_are_tests}
-use Rattle.electrictest.proofs.PlanLaws.{tests_have}
+use Rattle.electrictest.proofs.{AskedFor.reports_as, AskedFor.overs_as, ChosenLaws.units_are_tests, PlanLaws.tests_have}
 
 -- with units for each test of the suite, what is begun with tests of its names is of the suite
 pub is_of_suite : (l : Loaded) (ts : List ℕ) (b : Request) → IsSuite l → Linked l.checked → b.tests ≡ ts → All (IsTestOf l.names) ts → length b.record.units ≡ length l.checked.tests → IsOfSuite l (beginning b)

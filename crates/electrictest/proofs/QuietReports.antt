@@ -4,9 +4,7 @@ use Rattle.outside.specs.Depot.{Told}
 use Rattle.quiet_init.specs.QuietText.{quiet_text}
 use Rattle.suite_load.specs.declared.loaded.Loaded.{Loaded}
 use Rattle.electrictest.specs.declared.words.Command.TheVariants as command
-use Rattle.electrictest.specs.Commands.{ReportsOver}
-use Rattle.electrictest.specs.QuietLists.{IsQuietList}
-use Rattle.electrictest.specs.Words.{Ask}
+use Rattle.electrictest.specs.{Commands.ReportsOver, QuietLists.IsQuietList, Words.Ask}
 use Rattle.electrictest.proofs.AskedFor.{reports_as}
 
 pub quiet_reports : (told : Told) (a : Ask) (l : Loaded) (text : List ℕ) (steps : ℕ) → a.command ≡ Ok command.Quiet → text ≡ quiet_text l.checked → ReportsOver told a l true text steps steps

@@ -2,17 +2,11 @@
 use Rattle.std.proofs.Common.{◌≡◌, ℕ, zero, suc, ◌+◌, ◌-◌, ◌*◌, ◌^◌, ◌<◌, ◌≤◌, ◌&&◌, Bool, true, false, nat_le, List, [], ◌∷◌, ◌++◌, length, map, refl, sym, ap, ◌∙◌, subst, inl, inr, arith, Option, Some, None, codes, decimal}
 use Rattle.std.specs.List.{list_all}
 use Rattle.std.proofs.lemmas.Bool.{and_parts, or_cases, leb-true, ltb-true, eqb-true, cases_eq}
-use Rattle.std.proofs.lemmas.Fmt.{length-decimal-le}
-use Rattle.std.proofs.lemmas.Grind.{flat_map-append}
-use Rattle.std.proofs.lemmas.List.{length-append, length-map}
+use Rattle.std.proofs.lemmas.{Fmt.length-decimal-le, Grind.flat_map-append, List.length-append, List.length-map}
 use Rattle.hex.specs.Hex.{encode_lower, lower_digits}
 use Rattle.hex.proofs.HexLemmas.{length-encode_with}
-use Rattle.order_law.specs.declared.edges.Edge.{Edge}
-use Rattle.order_law.specs.declared.edges.EdgeKind.{EdgeKind}
-use Rattle.order_law.specs.declared.edges.EdgeKind.TheVariants.{Raw, Waw, War}
-use Rattle.order_law.specs.declared.records.More.{More}
-use Rattle.order_law.specs.declared.records.Reach.{Reach}
-use Rattle.order_law.specs.declared.records.Record.{Record}
+use Rattle.order_law.specs.declared.edges.{Edge.Edge, EdgeKind.EdgeKind, EdgeKind.TheVariants.Raw, EdgeKind.TheVariants.Waw, EdgeKind.TheVariants.War}
+use Rattle.order_law.specs.declared.records.{More.More, Reach.Reach, Record.Record}
 use Rattle.order_law.specs.RecordForm.{is_edge, edge_before, edges_ascend, kind_number, is_record_form, is_reach, is_reach_form, numbers_ascend}
 use Rattle.dep_record.specs.RecordText.{ended, text_of, worded, header_line, digest_line, tests_line, class_line, units_line, reach_line, state_word, more_numbers, numbers_text, kind_word, edge_line, end_line, said, is_hash, more_hashes, has_hashes, numbered, file_lines, suite_lines, reach_lines, is_newer, head_lines, lines_of, record_text}
 

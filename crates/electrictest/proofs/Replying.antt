@@ -5,9 +5,8 @@ use Rattle.outside.specs.Sink.{SinkView}
 use Rattle.electrictest.specs.declared.reports.Report.{Report}
 use Rattle.electrictest.specs.declared.status.Status.{Status}
 use Rattle.electrictest.specs.declared.status.Status.TheVariants as ends
-use Rattle.electrictest.specs.Words.{Ask}
+use Rattle.electrictest.specs.{Words.Ask, Causes.MayReport}
 use Rattle.electrictest.specs.Replies.{fault_line, Unreported, IsAnswer}
-use Rattle.electrictest.specs.Causes.{MayReport}
 use Rattle.electrictest.specs.Commands.{ReportEnds, Reported, Whole, Writes, Refused, Taken, Counted, DepotFailed, Asked, called, Answering, Replied, Served, Ends, report_status}
 
 -- a text that answers what is asked was written as a whole, or the sink took a part of it

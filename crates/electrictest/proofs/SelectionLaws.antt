@@ -1,8 +1,7 @@
 -- Names in a word, one after another.
 use Rattle.std.proofs.Common.{◌≡◌, ℕ, ◌+◌, ◌<◌, ◌≤◌, List, [], ◌∷◌, ◌++◌, length, get_or, drop, cond, nat_lt, Bool, true, false, refl, sym, ap, ◌∙◌, arith, append_assoc, position, Option, Some, None, Result, Ok, Err}
-use Rattle.std.proofs.lemmas.Bool.Decides.{nat_tests}
+use Rattle.std.proofs.{lemmas.Bool.Decides.nat_tests, lemmas.List.Sums.position_or_len_is}
 use Rattle.std.proofs.lemmas.List.{append-nil, drop_more, drop_all}
-use Rattle.std.proofs.lemmas.List.Sums.{position_or_len_is}
 use Rattle.et_base.specs.Answers.{Fails}
 use Rattle.jvm_model.specs.declared.program.Names.{Names}
 use Rattle.electrictest.specs.declared.status.InputFault.{InputFault}

@@ -10,9 +10,7 @@ use Rattle.run_core.specs.Run.{Gave}
 use Rattle.test_run.specs.declared.tallies.Tally.{Tally}
 use Rattle.test_run.specs.Tallies.{IsCount, IsFew, IsTally, tally_with}
 use Rattle.test_run.proofs.TallyLaws.{few_of, few_counted, tally_next}
-use Rattle.electrictest.specs.PoolRuns.{AreGiven, outcomes}
-use Rattle.electrictest.specs.Tallies.{IsTallyOf, report_text}
-use Rattle.electrictest.specs.Wholes.{numbered, report}
+use Rattle.electrictest.specs.{PoolRuns.AreGiven, PoolRuns.outcomes, Tallies.IsTallyOf, Tallies.report_text, Wholes.numbered, Wholes.report}
 
 -- ---- of the tests of a list
 

@@ -7,12 +7,10 @@ use Rattle.order_law.specs.Conflicts.{Member, Distinct}
 use Rattle.order_law.specs.Plan as law
 use Rattle.order_law.specs.Plan.{claim, post, Posted, PostsOnce, Ascending}
 use Rattle.order_law.proofs.Posts.{posts_more, ascending_distinct}
-use Rattle.run_core.specs.declared.events.Event.{Event}
-use Rattle.run_core.specs.declared.events.Event.TheVariants.{Claim, Post}
+use Rattle.run_core.specs.declared.events.{Event.Event, Event.TheVariants.Claim, Event.TheVariants.Post}
 use Rattle.run_core.specs.Run.{Gave, told, history_of}
 use Rattle.worker_pool.specs.Plans.{units_and, units_of}
-use Rattle.electrictest.specs.TestNames.{units_in}
-use Rattle.electrictest.specs.PoolRuns.{AreGiven, outcomes}
+use Rattle.electrictest.specs.{TestNames.units_in, PoolRuns.AreGiven, PoolRuns.outcomes}
 
 -- ---- the units of a test, and of all posts
 

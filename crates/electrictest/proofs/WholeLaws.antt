@@ -3,11 +3,7 @@ use Rattle.std.proofs.Common.{◌≡◌, ℕ, List, Bool, refl, Ok}
 use Rattle.outside.specs.Depot.{Told}
 use Rattle.suite_load.specs.declared.loaded.Loaded.{Loaded}
 use Rattle.electrictest.specs.declared.words.Command.TheVariants as command
-use Rattle.electrictest.specs.Commands.{ReportsOver}
-use Rattle.electrictest.specs.Running.{WholeReports}
-use Rattle.electrictest.specs.TestNames.{units_in}
-use Rattle.electrictest.specs.Wholes.{IsReport}
-use Rattle.electrictest.specs.Words.{Ask}
+use Rattle.electrictest.specs.{Commands.ReportsOver, Running.WholeReports, TestNames.units_in, Wholes.IsReport, Words.Ask}
 use Rattle.electrictest.proofs.AskedFor.{reports_as}
 
 pub whole_reports : (told : Told) (a : Ask) (l : Loaded) (passed : Bool) (text : List ℕ) (begun now : ℕ) → a.command ≡ Ok command.Whole → WholeReports l passed text begun now → ReportsOver told a l passed text begun now

@@ -14,10 +14,7 @@ use Rattle.detect_run.specs.declared.fault.DetectFault.TheVariants as fault
 use Rattle.detect_run.specs.SuiteRun.{IsSuiteFault}
 use Rattle.suite_load.specs.declared.loaded.Loaded.{Loaded}
 use Rattle.electrictest.specs.declared.status.Status.{Status}
-use Rattle.electrictest.specs.Running.{Ran, RunRefused}
-use Rattle.electrictest.specs.TestNames.{units_in}
-use Rattle.electrictest.specs.Tests.{passed_units}
-use Rattle.electrictest.specs.Wholes.{outcomes_of}
+use Rattle.electrictest.specs.{Running.Ran, Running.RunRefused, TestNames.units_in, Tests.passed_units, Wholes.outcomes_of}
 
 units_alike : (xs : List Given) → units_in (map (λ (x : Given). x.outcome) xs) ≡ units_of xs
 units_alike [] = refl

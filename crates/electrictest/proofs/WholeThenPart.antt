@@ -2,13 +2,10 @@
 use Rattle.std.proofs.Common.{◌≡◌, ◌⊎◌, ℕ, ◌<◌, List, [], ◌∷◌, ◌++◌, append_assoc, append-nil, reverse, true, Some, None, refl, sym, ap, ◌∙◌, subst, arith, inl, inr}
 use Rattle.std.proofs.lemmas.List.{reverse-append, reverse-reverse}
 use Rattle.jvm_model.specs.declared.program.Program.{Program}
-use Rattle.jvm_model.specs.Linked.{Linked}
+use Rattle.jvm_model.specs.{Linked.Linked, State.test_at, World.World}
 use Rattle.jvm_model.specs.Suite.{outcome_in, last_outcome, one_test, is_detected}
-use Rattle.jvm_model.specs.State.{test_at}
-use Rattle.jvm_model.specs.World.{World}
 use Rattle.jvm_model.proofs.Runs.{last_outcome_is}
-use Rattle.order_law.specs.declared.edges.Edge.{Edge}
-use Rattle.order_law.specs.declared.edges.EdgeKind.TheVariants.{Raw}
+use Rattle.order_law.specs.declared.edges.{Edge.Edge, EdgeKind.TheVariants.Raw}
 use Rattle.order_law.specs.Conflicts.{Member, Distinct, edge, Fits, History, ClosedUnderRaw, itself, forth, back}
 use Rattle.order_law.specs.Histories.{RecordOf, IsTestNumber}
 use Rattle.order_law.specs.Plan.{Ascending, AreChainsOf, IsWholeThenPart, chain_at, whole_chains}

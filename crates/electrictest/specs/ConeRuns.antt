@@ -1,8 +1,7 @@
 -- What each selected test gives alone after what it needs, by a loaded suite and what it begins with (this project's).
 use Rattle.std.specs.Prelude.{◌≡◌, ℕ, ◌+◌, List, [], sum_by, Bool, Ok}
 use Rattle.std.specs.List.{list_all}
-use Rattle.jvm_model.specs.State.{test_at}
-use Rattle.jvm_model.specs.Texts.{is_passed}
+use Rattle.jvm_model.specs.{State.test_at, Texts.is_passed}
 use Rattle.order_law.specs.Conflicts.{Member}
 use Rattle.test_run.specs.Running.{Posted}
 use Rattle.cone_run.specs.Cones.{AreConesOf, IsFirstOver, cone_units}
@@ -10,15 +9,10 @@ use Rattle.cone_run.specs.ConesText.{cones_text, outcomes}
 use Rattle.outside.specs.Depot.{Files}
 use Rattle.selection_close.specs.Closed.{IsAscendingOf}
 use Rattle.suite_load.specs.declared.loaded.Loaded.{Loaded}
-use Rattle.electrictest.specs.declared.status.Status.{Status}
+use Rattle.electrictest.specs.declared.status.{Status.Status, OverFault.OverFault}
 use Rattle.electrictest.specs.declared.status.Status.TheVariants as ends
-use Rattle.electrictest.specs.declared.status.OverFault.{OverFault}
 use Rattle.electrictest.specs.declared.status.OverFault.TheVariants as over
-use Rattle.electrictest.specs.Loads.{Begins}
-use Rattle.electrictest.specs.PoolRuns.{IsOfSuite}
-use Rattle.electrictest.specs.Records.{Beginning}
-use Rattle.electrictest.specs.TestNames.{test_name}
-use Rattle.electrictest.specs.Words.{Ask}
+use Rattle.electrictest.specs.{Loads.Begins, PoolRuns.IsOfSuite, Records.Beginning, TestNames.test_name, Words.Ask}
 
 -- The report on the selected tests, each once and in suite order: a piece for each, of a run of exactly its cone.
 pub record IsConeReport (l : Loaded) (b : Beginning) (passed : Bool) (text : List ℕ) (units : ℕ) : Type 0 where

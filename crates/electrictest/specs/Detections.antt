@@ -2,14 +2,11 @@
 use Rattle.std.specs.Prelude.{◌≡◌, ℕ, ◌+◌, List, length, sum, Bool, true, false, Ok}
 use Rattle.jvm_model.specs.declared.program.Names.{Names}
 use Rattle.dep_graph.specs.declared.detected.Detected.{Detected}
-use Rattle.dep_record.specs.RecordText.{record_text}
-use Rattle.dep_record.specs.DepsText.{deps_text}
-use Rattle.dep_record.specs.DepsJson.{deps_json}
+use Rattle.dep_record.specs.{RecordText.record_text, DepsText.deps_text, DepsJson.deps_json}
 use Rattle.detect_run.specs.Detection.{IsDetection}
 use Rattle.outside.specs.Depot.{Files}
 use Rattle.suite_load.specs.declared.loaded.Loaded.{Loaded}
-use Rattle.electrictest.specs.Words.{Ask}
-use Rattle.electrictest.specs.Loads.{LoadsFor}
+use Rattle.electrictest.specs.{Words.Ask, Loads.LoadsFor}
 
 -- the text of its record, and that of its dependences, as JSON or not
 abbrev pub recorded : Names → Detected → List ℕ

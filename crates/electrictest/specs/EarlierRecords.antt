@@ -1,22 +1,16 @@
 -- What an impact says of tests that it doesn't name, by the record of the suite's earlier state (this project's).
 use Rattle.std.specs.Prelude.{◌≡◌, ℕ, List, Bool, true, Option, Some, option_map, Ok, IsSome}
 use Rattle.sha2.specs.Sha256.{sha256}
-use Rattle.jvm_model.specs.Suite.{seq, is_detected}
-use Rattle.jvm_model.specs.Texts.{outcome_lines}
-use Rattle.order_law.specs.Conflicts.{Member}
-use Rattle.order_law.specs.Histories.{IsTestNumber}
+use Rattle.jvm_model.specs.{Suite.seq, Suite.is_detected, Texts.outcome_lines}
+use Rattle.order_law.specs.{Conflicts.Member, Histories.IsTestNumber}
 use Rattle.class_pool.specs.Grammar.{IsBytes}
-use Rattle.outside.specs.Depot.{Files, content}
-use Rattle.outside.specs.Sink.{SinkView}
+use Rattle.outside.specs.{Depot.Files, Depot.content, Sink.SinkView}
 use Rattle.suite_load.specs.declared.loaded.Loaded.{Loaded}
 use Rattle.suite_load.specs.Loading.{bytes_of}
 use Rattle.impact_pick.specs.ImpactText.{text_on}
 use Rattle.electrictest.specs.declared.status.Status.{Status}
 use Rattle.electrictest.specs.declared.words.Command.TheVariants as command
-use Rattle.electrictest.specs.Commands.{Asked, Whole}
-use Rattle.electrictest.specs.Detections.{IsFound, recorded}
-use Rattle.electrictest.specs.Loads.{LoadsFor}
-use Rattle.electrictest.specs.OwnRecords.{OwnEndsBy}
+use Rattle.electrictest.specs.{Commands.Asked, Commands.Whole, Detections.IsFound, Detections.recorded, Loads.LoadsFor, OwnRecords.OwnEndsBy}
 use Rattle.electrictest.specs.Words.{Ask, word_at}
 
 -- each file is one of bytes

@@ -4,9 +4,7 @@ use Rattle.order_law.specs.declared.records.More.{More}
 use Rattle.outside.specs.Depot.{Files}
 use Rattle.suite_load.specs.declared.loaded.Loaded.{Loaded}
 use Rattle.impact_pick.specs.ImpactText.{impact_text}
-use Rattle.electrictest.specs.Words.{Ask}
-use Rattle.electrictest.specs.Records.{Beginning}
-use Rattle.electrictest.specs.Loads.{Begins}
+use Rattle.electrictest.specs.{Words.Ask, Records.Beginning, Loads.Begins}
 
 -- the text by what version 2 of the record adds; no test is run
 pub record IsImpacted (files : Files) (a : Ask) (passed : Bool) (text : List ℕ) (units : ℕ) : Type 0 where

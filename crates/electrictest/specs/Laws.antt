@@ -3,11 +3,9 @@ use Rattle.std.specs.Prelude.{◌≡◌, ◌<◌, ◌≤◌, ◌-◌, ◌^◌, �
 use Rattle.jvm_model.specs.declared.program.Program.{Program}
 use Rattle.jvm_model.specs.Suite.{is_detected, suite_fault}
 use Rattle.order_law.specs.declared.records.Record.{Record}
-use Rattle.outside.specs.Depot.{DepotView, FailedAt}
-use Rattle.outside.specs.Sink.{SinkView, HasRoom}
+use Rattle.outside.specs.{Depot.DepotView, Depot.FailedAt, Sink.SinkView, Sink.HasRoom}
 use Rattle.dep_record.specs.RecordText.{said, has_hashes, record_text}
-use Rattle.electrictest.specs.Commands.{Cut}
-use Rattle.electrictest.specs.Records.{record_limit}
+use Rattle.electrictest.specs.{Commands.Cut, Records.record_limit}
 
 -- a suite's own run ends within its limits exactly where it has no fault
 abbrev pub DetectedExactly : Type 0

@@ -8,14 +8,12 @@ use Rattle.suite_load.specs.declared.load_fault.LoadFault.TheVariants as fault
 use Rattle.suite_load.specs.declared.loaded.Loaded.{Loaded}
 use Rattle.suite_load.specs.Loading.{Loads, IsRead}
 use Rattle.quiet_init.specs.Quiet.{quiet}
-use Rattle.electrictest.specs.declared.status.Status.{Status}
+use Rattle.electrictest.specs.declared.status.{Status.Status, InputFault.InputFault}
 use Rattle.electrictest.specs.declared.status.Status.TheVariants as ends
-use Rattle.electrictest.specs.declared.status.InputFault.{InputFault}
 use Rattle.electrictest.specs.declared.status.InputFault.TheVariants as input
 use Rattle.electrictest.specs.declared.words.Command.TheVariants as command
-use Rattle.electrictest.specs.Causes.{AsksAny}
+use Rattle.electrictest.specs.{Causes.AsksAny, Selections.ordered, Selections.selected}
 use Rattle.electrictest.specs.Words.{Asking, Ask, is_eager, suite_word, word_at}
-use Rattle.electrictest.specs.Selections.{ordered, selected}
 use Rattle.electrictest.specs.Records.{Beginning, begun, record_fits, earlier_fits}
 
 -- how a fault of loading is answered

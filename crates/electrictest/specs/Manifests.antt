@@ -6,9 +6,7 @@ use Rattle.cone_run.specs.Marks.{AreMarks, AreUnits, HasWriter}
 use Rattle.outside.specs.Depot.{Files}
 use Rattle.suite_load.specs.declared.loaded.Loaded.{Loaded}
 use Rattle.electrictest.specs.declared.status.OverFault.{OverFault}
-use Rattle.electrictest.specs.ConeRuns.{IsOverCone, OfBegun}
-use Rattle.electrictest.specs.Records.{Beginning}
-use Rattle.electrictest.specs.Words.{Ask}
+use Rattle.electrictest.specs.{ConeRuns.IsOverCone, ConeRuns.OfBegun, Records.Beginning, Words.Ask}
 
 -- The manifest of the record: the mark of each raw edge, in its order; whatever the marks are, it is done.
 pub record IsManifest (l : Loaded) (b : Beginning) (passed : Bool) (text : List ℕ) (units : ℕ) : Type 0 where

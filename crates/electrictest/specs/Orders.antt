@@ -3,24 +3,16 @@ use Rattle.std.specs.Prelude.{◌≡◌, ℕ, ◌+◌, nat_eq, List, [], ◌∷�
 use Rattle.std.specs.List.{list_all, range_with_len}
 use Rattle.jvm_model.specs.declared.outcome.Outcome.{Outcome}
 use Rattle.jvm_model.specs.declared.program.Names.{Names}
-use Rattle.jvm_model.specs.State.{test_at}
+use Rattle.jvm_model.specs.{State.test_at, Texts.is_passed, Texts.report_on}
 use Rattle.jvm_model.specs.Suite.{Given, runs, first_over, is_detected}
-use Rattle.jvm_model.specs.Texts.{is_passed, report_on}
-use Rattle.order_law.specs.Conflicts.{Lawful}
-use Rattle.order_law.specs.Histories.{AreSequential}
+use Rattle.order_law.specs.{Conflicts.Lawful, Histories.AreSequential, OwnRecord.edges_of}
 use Rattle.order_law.specs.OrderFault.{OrderFault, IsOrderFault, twice, missing_writer, inverted}
-use Rattle.order_law.specs.OwnRecord.{edges_of}
 use Rattle.outside.specs.Depot.{Files}
 use Rattle.suite_load.specs.declared.loaded.Loaded.{Loaded}
-use Rattle.electrictest.specs.declared.status.InputFault.{InputFault}
+use Rattle.electrictest.specs.declared.status.{InputFault.InputFault, OverFault.OverFault}
 use Rattle.electrictest.specs.declared.status.InputFault.TheVariants as input
-use Rattle.electrictest.specs.declared.status.OverFault.{OverFault}
 use Rattle.electrictest.specs.declared.status.OverFault.TheVariants as over
-use Rattle.electrictest.specs.Words.{Ask}
-use Rattle.electrictest.specs.Records.{Beginning}
-use Rattle.electrictest.specs.Loads.{Begins}
-use Rattle.electrictest.specs.PoolRuns.{IsOfSuite}
-use Rattle.electrictest.specs.TestNames.{test_name, units_in}
+use Rattle.electrictest.specs.{Words.Ask, Records.Beginning, Loads.Begins, PoolRuns.IsOfSuite, TestNames.test_name, TestNames.units_in}
 
 -- the tests of a list with their outcomes
 abbrev pub paired : List ℕ → List Outcome → List (ℕ × Outcome)

@@ -5,25 +5,16 @@ use Rattle.jvm_model.specs.declared.program.Program.{Program}
 use Rattle.jvm_model.specs.Suite.{last_outcome, seq}
 use Rattle.order_law.specs.declared.edges.Edge.{Edge}
 use Rattle.order_law.specs.declared.records.Record.{Record}
-use Rattle.order_law.specs.Conflicts.{Member}
-use Rattle.order_law.specs.OwnRecord.{edges_of}
+use Rattle.order_law.specs.{Conflicts.Member, OwnRecord.edges_of}
 use Rattle.cone_run.specs.declared.marks.Mark.{Mark}
-use Rattle.cone_run.specs.Cones.{IsCone}
-use Rattle.cone_run.specs.ConesText.{outcomes}
-use Rattle.cone_run.specs.Marks.{IsEffect, without}
-use Rattle.outside.specs.Depot.{Files}
-use Rattle.outside.specs.Sink.{SinkView}
+use Rattle.cone_run.specs.{Cones.IsCone, ConesText.outcomes, Marks.IsEffect, Marks.without}
+use Rattle.outside.specs.{Depot.Files, Sink.SinkView}
 use Rattle.suite_load.specs.declared.loaded.Loaded.{Loaded}
 use Rattle.electrictest.specs.declared.status.Status.{Status}
 use Rattle.electrictest.specs.declared.words.Command.{Command}
 use Rattle.electrictest.specs.declared.words.Command.TheVariants as command
-use Rattle.electrictest.specs.Commands.{Asked, Whole}
-use Rattle.electrictest.specs.ConeRuns.{IsConeReport}
-use Rattle.electrictest.specs.Loads.{named_by}
-use Rattle.electrictest.specs.Manifests.{IsManifest}
+use Rattle.electrictest.specs.{Commands.Asked, Commands.Whole, ConeRuns.IsConeReport, Loads.named_by, Manifests.IsManifest, Records.Beginning, Words.Ask}
 use Rattle.electrictest.specs.OwnRecords.{AsksOwnRecord, HoldsSaying, HoldsText, OwnEndsBy}
-use Rattle.electrictest.specs.Records.{Beginning}
-use Rattle.electrictest.specs.Words.{Ask}
 
 -- Each selected test has at the end of its cone the outcome that it has when the whole suite is run in order on one heap:
 -- verdict, output and units.

@@ -2,22 +2,15 @@
 use Rattle.std.specs.Prelude.{◌≡◌, ℕ, ◌+◌, List, map, Bool, Some, Ok}
 use Rattle.std.specs.List.{list_all}
 use Rattle.jvm_model.specs.declared.outcome.Outcome.{Outcome}
-use Rattle.jvm_model.specs.Suite.{seq}
-use Rattle.jvm_model.specs.Texts.{is_passed}
+use Rattle.jvm_model.specs.{Suite.seq, Texts.is_passed}
 use Rattle.order_law.specs.declared.records.Record.{Record}
-use Rattle.order_law.specs.Conflicts.{Lawful}
-use Rattle.order_law.specs.OwnRecord.{edges_of}
-use Rattle.outside.specs.Depot.{Files}
-use Rattle.outside.specs.Sink.{SinkView}
+use Rattle.order_law.specs.{Conflicts.Lawful, OwnRecord.edges_of}
+use Rattle.outside.specs.{Depot.Files, Sink.SinkView}
 use Rattle.suite_load.specs.declared.loaded.Loaded.{Loaded}
 use Rattle.electrictest.specs.declared.status.Status.{Status}
 use Rattle.electrictest.specs.declared.words.Command.TheVariants as command
-use Rattle.electrictest.specs.Commands.{Asked, Whole}
-use Rattle.electrictest.specs.Orders.{order_report}
+use Rattle.electrictest.specs.{Commands.Asked, Commands.Whole, Orders.order_report, Selections.ordered, TestNames.units_in, Words.Ask, Words.word_at}
 use Rattle.electrictest.specs.OwnRecords.{AsksOwnRecord, HoldsSaying, HoldsText, OwnEndsBy}
-use Rattle.electrictest.specs.Selections.{ordered}
-use Rattle.electrictest.specs.TestNames.{units_in}
-use Rattle.electrictest.specs.Words.{Ask, word_at}
 
 -- the words ask for an order of these tests, by the suite's own record, and it is lawful by that
 pub record AsksOwnOrder (Holds : Files → List ℕ → Record → Type 0) (files : Files) (a : Ask) (l : Loaded) (tests : List ℕ) : Type 0 where

@@ -2,16 +2,12 @@
 use Rattle.std.specs.Prelude.{◌≡◌, ℕ, ◌+◌, List, Bool, Ok}
 use Rattle.order_law.specs.declared.records.Record.{Record}
 use Rattle.order_law.specs.OwnRecord.{edges_of}
-use Rattle.outside.specs.Depot.{Files}
-use Rattle.outside.specs.Sink.{SinkView}
+use Rattle.outside.specs.{Depot.Files, Sink.SinkView}
 use Rattle.suite_load.specs.declared.loaded.Loaded.{Loaded}
 use Rattle.electrictest.specs.declared.status.Status.{Status}
 use Rattle.electrictest.specs.declared.words.Command.TheVariants as command
-use Rattle.electrictest.specs.Commands.{Asked, Whole}
+use Rattle.electrictest.specs.{Commands.Asked, Commands.Whole, PoolRuns.IsPoolReport, PoolRuns.AreOwn, Records.Beginning, Selections.selected}
 use Rattle.electrictest.specs.OwnRecords.{AsksOwnRecord, HoldsSaying, HoldsText, OwnEndsBy}
-use Rattle.electrictest.specs.PoolRuns.{IsPoolReport, AreOwn}
-use Rattle.electrictest.specs.Records.{Beginning}
-use Rattle.electrictest.specs.Selections.{selected}
 use Rattle.electrictest.specs.Words.{Ask, word_at}
 
 -- the words ask for a run of these tests, by the suite's own record

@@ -1,16 +1,12 @@
 -- What a plan gives, by what it begins with (this project's).
 use Rattle.std.specs.Prelude.{◌≡◌, ℕ, List, Bool, true, Ok}
-use Rattle.order_law.specs.Conflicts.{Member}
-use Rattle.order_law.specs.Plan.{AreListedChainsOf}
+use Rattle.order_law.specs.{Conflicts.Member, Plan.AreListedChainsOf}
 use Rattle.outside.specs.Depot.{Files}
 use Rattle.selection_close.specs.Closed.{IsClosure}
 use Rattle.schedule_plan.specs.Plans.{IsPlanOf, chain_units}
 use Rattle.schedule_plan.specs.declared.shares.Share.{Share}
 use Rattle.suite_load.specs.declared.loaded.Loaded.{Loaded}
-use Rattle.electrictest.specs.Words.{Ask}
-use Rattle.electrictest.specs.Records.{Beginning}
-use Rattle.electrictest.specs.Loads.{Begins}
-use Rattle.electrictest.specs.PlanTexts.{plan_text}
+use Rattle.electrictest.specs.{Words.Ask, Records.Beginning, Loads.Begins, PlanTexts.plan_text}
 
 -- the chains of the selection's closure, and the plan of them by the record's units
 pub record IsPlanReport (b : Beginning) (workers : ℕ) (text : List ℕ) : Type 0 where

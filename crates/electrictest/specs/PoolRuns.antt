@@ -2,28 +2,18 @@
 use Rattle.std.specs.Prelude.{◌≡◌, ℕ, ◌+◌, List, [], ◌∷◌, ◌++◌, length, map, Bool, true, cond, Some, Ok}
 use Rattle.std.specs.List.{list_all}
 use Rattle.jvm_model.specs.declared.outcome.Outcome.{Outcome}
-use Rattle.jvm_model.specs.Linked.{Linked}
-use Rattle.jvm_model.specs.State.{test_at}
-use Rattle.jvm_model.specs.Suite.{seq, is_detected}
-use Rattle.jvm_model.specs.Texts.{is_passed, report_on}
-use Rattle.order_law.specs.Conflicts.{Member}
-use Rattle.order_law.specs.Histories.{IsTestNumber}
-use Rattle.order_law.specs.OwnRecord.{edges_of}
+use Rattle.jvm_model.specs.{Linked.Linked, State.test_at, Suite.seq, Suite.is_detected, Texts.is_passed, Texts.report_on}
+use Rattle.order_law.specs.{Conflicts.Member, Histories.IsTestNumber, OwnRecord.edges_of}
 use Rattle.order_law.specs.Plan.{Event, Legal, IsComplete, IsWholeThenPart, AreListedChainsOf}
 use Rattle.run_core.specs.Run.{Gave}
 use Rattle.worker_pool.specs.Plans.{GivesNone}
 use Rattle.outside.specs.Depot.{Files}
 use Rattle.selection_close.specs.Closed.{IsClosure, IsAscendingOf}
 use Rattle.suite_load.specs.declared.loaded.Loaded.{Loaded}
-use Rattle.electrictest.specs.declared.status.Status.{Status}
+use Rattle.electrictest.specs.declared.status.{Status.Status, OverFault.OverFault}
 use Rattle.electrictest.specs.declared.status.Status.TheVariants as ends
-use Rattle.electrictest.specs.declared.status.OverFault.{OverFault}
 use Rattle.electrictest.specs.declared.status.OverFault.TheVariants as over
-use Rattle.electrictest.specs.Loads.{Begins}
-use Rattle.electrictest.specs.Logs.{log_text}
-use Rattle.electrictest.specs.Records.{Beginning}
-use Rattle.electrictest.specs.TestNames.{test_name, units_in}
-use Rattle.electrictest.specs.Words.{Ask}
+use Rattle.electrictest.specs.{Loads.Begins, Logs.log_text, Records.Beginning, TestNames.test_name, TestNames.units_in, Words.Ask}
 
 -- the tests of a list, each with the outcome that a history has of it
 abbrev pub AreGiven : List Event → List ℕ → List (ℕ × Outcome) → Type 0

@@ -7,15 +7,12 @@ pub use Rattle.et_base.specs.Answers.{nothing}
 use Rattle.outside.specs.Depot.{Files, content}
 use Rattle.outside.specs.declared.depot.DepotRefusal.{DepotRefusal}
 use Rattle.outside.specs.declared.depot.DepotRefusal.TheVariants as refused
-use Rattle.order_law.specs.declared.records.More.{More}
-use Rattle.order_law.specs.declared.records.Record.{Record}
-use Rattle.dep_record.specs.RecordText.{Said, said}
-use Rattle.dep_record.specs.RecordReading.{said_in}
+use Rattle.order_law.specs.declared.records.{More.More, Record.Record}
+use Rattle.dep_record.specs.{RecordText.Said, RecordText.said, RecordReading.said_in}
 use Rattle.suite_load.specs.declared.loaded.Loaded.{Loaded}
 use Rattle.electrictest.specs.declared.recorded.Request.{Request}
-use Rattle.electrictest.specs.declared.status.Status.{Status}
+use Rattle.electrictest.specs.declared.status.{Status.Status, InputFault.InputFault}
 use Rattle.electrictest.specs.declared.status.Status.TheVariants as ends
-use Rattle.electrictest.specs.declared.status.InputFault.{InputFault}
 use Rattle.electrictest.specs.declared.status.InputFault.TheVariants as input
 
 -- the most bytes of a record: 512 MiB

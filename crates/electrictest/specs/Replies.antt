@@ -4,25 +4,17 @@ use Rattle.hex.specs.Hex.{encode_lower}
 use Rattle.et_base.specs.Quotes.{quoted_bytes}
 use Rattle.outside.specs.Depot.{Files}
 use Rattle.suite_load.specs.declared.loaded.Loaded.{Loaded}
-use Rattle.electrictest.specs.declared.status.Status.{Status}
+use Rattle.electrictest.specs.declared.status.{Status.Status, InputFault.InputFault, OverFault.OverFault}
 use Rattle.electrictest.specs.declared.status.Status.TheVariants as ends
-use Rattle.electrictest.specs.declared.status.InputFault.{InputFault}
 use Rattle.electrictest.specs.declared.status.InputFault.TheVariants as input
-use Rattle.electrictest.specs.declared.status.OverFault.{OverFault}
 use Rattle.electrictest.specs.declared.status.OverFault.TheVariants as over
 use Rattle.electrictest.specs.declared.words.Command.TheVariants as command
 use Rattle.electrictest.specs.FaultTexts.{why_text, class_text, link_text, check_text}
 use Rattle.electrictest.specs.Words.{Asking, Ask, unformed}
-use Rattle.electrictest.specs.Records.{Beginning}
+use Rattle.electrictest.specs.{Records.Beginning, Wholes.IsReport, Wholes.IsOver, PoolRuns.IsPoolRun, PoolRuns.IsPoolOver, Plans.IsPlanned, Impacts.IsImpacted}
 use Rattle.electrictest.specs.Loads.{LoadsFor, Begins, IsReadFor}
-use Rattle.electrictest.specs.Wholes.{IsReport, IsOver}
 use Rattle.electrictest.specs.Orders.{IsUnlawful, IsOrdered, IsOrderedOver}
-use Rattle.electrictest.specs.PoolRuns.{IsPoolRun, IsPoolOver}
-use Rattle.electrictest.specs.Plans.{IsPlanned}
-use Rattle.electrictest.specs.Impacts.{IsImpacted}
-use Rattle.electrictest.specs.ConeRuns.{IsConed, IsConedOver}
-use Rattle.electrictest.specs.Manifests.{IsManifested, IsManifestedOver}
-use Rattle.electrictest.specs.Generated.{IsSummary}
+use Rattle.electrictest.specs.{ConeRuns.IsConed, ConeRuns.IsConedOver, Manifests.IsManifested, Manifests.IsManifestedOver, Generated.IsSummary}
 use Rattle.electrictest.specs.QuietLists.{IsQuietList}
 use Rattle.electrictest.specs.Detections.{IsDetected, recorded, dependences}
 

@@ -1,7 +1,6 @@
 -- The tests that a word names (this project's).
 use Rattle.std.specs.Prelude.{ℕ, ◌+◌, ◌<◌, ◌≤◌, ◌==◌, List, [], ◌∷◌, length, codes, position, Option, Some, None, Result, Ok, Err, if◌then◌else◌}
-use Rattle.std.specs.List.{slice_split, range_with_len}
-use Rattle.std.specs.Str.{bytes_eq}
+use Rattle.std.specs.{List.slice_split, List.range_with_len, Str.bytes_eq}
 pub use Rattle.et_base.specs.Answers.{◌>>=◌}
 use Rattle.jvm_model.specs.declared.program.Names.{Names}
 use Rattle.electrictest.specs.declared.status.InputFault.{InputFault}

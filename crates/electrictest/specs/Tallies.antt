@@ -4,8 +4,7 @@ use Rattle.jvm_model.specs.declared.outcome.Outcome.{Outcome}
 use Rattle.jvm_model.specs.declared.program.Names.{Names}
 use Rattle.jvm_model.specs.Texts.{head_line, count_line}
 use Rattle.order_law.specs.Plan.{Event}
-use Rattle.test_run.specs.declared.tallies.Counts.{Counts}
-use Rattle.test_run.specs.declared.tallies.Tally.{Tally}
+use Rattle.test_run.specs.declared.tallies.{Counts.Counts, Tally.Tally}
 use Rattle.test_run.specs.Tallies.{IsTally}
 use Rattle.electrictest.specs.PoolRuns.{AreGiven}
 

@@ -6,9 +6,8 @@ use Rattle.dep_record.specs.Fields.{number_up_to}
 use Rattle.electrictest.specs.declared.status.Status.{Status}
 use Rattle.electrictest.specs.declared.status.Status.TheVariants as ends
 use Rattle.electrictest.specs.declared.status.InputFault.TheVariants as input
-use Rattle.electrictest.specs.declared.words.Command.{Command}
+use Rattle.electrictest.specs.declared.words.{Command.Command, WordsFault.WordsFault}
 use Rattle.electrictest.specs.declared.words.Command.TheVariants as command
-use Rattle.electrictest.specs.declared.words.WordsFault.{WordsFault}
 use Rattle.electrictest.specs.declared.words.WordsFault.TheVariants as fault
 
 -- what words ask for, or why they ask for nothing

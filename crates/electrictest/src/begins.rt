@@ -4,9 +4,7 @@ ghost use Rattle.std.specs.Prelude.{◌≡◌, ◌≤◌, All, Ok, IfOk, IfErr, 
 ghost use Rattle.outside.specs.Depot.{OfHeld, TellsOn};
 ghost use Rattle.electrictest.specs.Commands.{IsNameRefusal, ReportEnds, RefusedOver};
 ghost use Rattle.electrictest.specs.Loads.{IsSuite, NamesTests, begun_by, named_by};
-ghost use Rattle.electrictest.specs.PoolRuns.{IsOfSuite};
-ghost use Rattle.electrictest.specs.Records.{Gives, beginning};
-ghost use Rattle.electrictest.specs.Selections.{IsTestOf};
+ghost use Rattle.electrictest.specs.{PoolRuns.IsOfSuite, Records.Gives, Records.beginning, Selections.IsTestOf};
 ghost use Rattle.schedule_plan.specs.Plans.{HasUnits};
 ghost use Rattle.test_run.specs.Running.{IsTest};
 

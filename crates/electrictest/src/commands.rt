@@ -2,14 +2,9 @@
 
 ghost use Rattle.std.specs.Prelude.{◌≡◌, ◌≤◌, None, IfOk, IfErr};
 ghost use Rattle.outside.specs.Depot.{OfHeld, TellsOn};
-ghost use Rattle.electrictest.specs.Causes.{MayReport};
+ghost use Rattle.electrictest.specs.{Causes.MayReport, Complete.Complete, EagerForms.EagerAnswer, EarlierRecords.EarlierAnswer, Loads.IsSuite};
 ghost use Rattle.electrictest.specs.Commands.{called, ReportEnds, Reported, ReportsOver, RefusedOver, Writes, Refused, Taken, Served, Ends};
-ghost use Rattle.electrictest.specs.Complete.{Complete};
-ghost use Rattle.electrictest.specs.EagerForms.{EagerAnswer};
-ghost use Rattle.electrictest.specs.EarlierRecords.{EarlierAnswer};
-ghost use Rattle.electrictest.specs.Loads.{IsSuite};
-ghost use Rattle.electrictest.specs.OwnCones.{OwnManifestAnswer};
-ghost use Rattle.electrictest.specs.OwnLists.{DetectedOrderAnswer, OwnOrderAnswer};
+ghost use Rattle.electrictest.specs.{OwnCones.OwnManifestAnswer, OwnLists.DetectedOrderAnswer, OwnLists.OwnOrderAnswer};
 ghost use Rattle.electrictest.specs.Words.{plain, refusal_of, IsServed};
 ghost use Rattle.electrictest.specs.Commands as command;
 ghost use Rattle.electrictest.specs.Replies as reply;

@@ -3,13 +3,10 @@
 ghost use Rattle.std.specs.Prelude.{◌≡◌, ◌+◌, Ok, sum, IfOk, IfErr};
 ghost use Rattle.detect_run.specs.Detection.{IsDetectedRecord, IsDetection};
 ghost use Rattle.outside.specs.Depot.{Told, DepotView};
-ghost use Rattle.electrictest.specs.Causes.{MayReport};
+ghost use Rattle.electrictest.specs.{Causes.MayReport, Loads.IsSuite, Running.RunRefused, Words.Ask};
 ghost use Rattle.electrictest.specs.Commands.{ReportEnds, ReportsOver, RefusedOver};
 ghost use Rattle.electrictest.specs.declared.words.Command.TheVariants as command;
 ghost use Rattle.electrictest.specs.Detections as detection;
-ghost use Rattle.electrictest.specs.Loads.{IsSuite};
-ghost use Rattle.electrictest.specs.Running.{RunRefused};
-ghost use Rattle.electrictest.specs.Words.{Ask};
 
 use crate::reports::Report;
 use crate::running::passed_units;

@@ -1,12 +1,8 @@
 //! Generated suites, run on workers.
 
 ghost use Rattle.std.specs.Prelude.{◌≡◌, ◌+◌, ◌<◌, ◌≤◌, ◌^◌, ◌++◌, All, codes, count_by, length, sum, OnOk, IfOk, IfErr};
-ghost use Rattle.electrictest.specs.Generated.{IsWholeRequest, Sums};
+ghost use Rattle.electrictest.specs.{Generated.IsWholeRequest, Generated.Sums, Loads.IsSuite, Pools.IsPooled, Records.beginning, Running.RunRefused};
 ghost use Rattle.electrictest.specs.Generated as generated;
-ghost use Rattle.electrictest.specs.Loads.{IsSuite};
-ghost use Rattle.electrictest.specs.Pools.{IsPooled};
-ghost use Rattle.electrictest.specs.Records.{beginning};
-ghost use Rattle.electrictest.specs.Running.{RunRefused};
 ghost use Rattle.electrictest.specs.Selections.{IsTestOf};
 ghost use Rattle.electrictest.specs.declared.status.Status.TheVariants as ends;
 ghost use Rattle.generated_law.specs.GeneratedRecord.{is_raw, is_waw, is_war};

@@ -1,9 +1,7 @@
 //! Laws on what the top call's contract speaks of.
 
-ghost use Rattle.electrictest.specs.Complete.{QuietlyComplete};
+ghost use Rattle.electrictest.specs.{Complete.QuietlyComplete, Orders.OwnOrders, PoolRuns.OwnRuns};
 ghost use Rattle.electrictest.specs.Laws.{DetectedExactly, QuietDepots, QuietSinks, RecordsFit};
-ghost use Rattle.electrictest.specs.Orders.{OwnOrders};
-ghost use Rattle.electrictest.specs.PoolRuns.{OwnRuns};
 
 /// A suite is detected exactly where its own run has no fault: in order on one heap each test keeps within its budget, and all
 /// of them within the suite's limit.

@@ -2,11 +2,8 @@
 
 ghost use Rattle.std.specs.Prelude.{◌≡◌, ◌≤◌, IfOk, IfErr, Ok};
 ghost use Rattle.outside.specs.Depot.{OfHeld, TellsOn};
-ghost use Rattle.electrictest.specs.Causes.{AsksAny};
-ghost use Rattle.electrictest.specs.Commands.{ReportEnds};
-ghost use Rattle.electrictest.specs.Loads.{LoadsFor, IsSuite};
+ghost use Rattle.electrictest.specs.{Causes.AsksAny, Commands.ReportEnds, Loads.LoadsFor, Loads.IsSuite, Replies.Unreported};
 ghost use Rattle.electrictest.specs.Loads as loads;
-ghost use Rattle.electrictest.specs.Replies.{Unreported};
 ghost use Rattle.electrictest.specs.Words as asked_for;
 
 use crate::asks::Ask;

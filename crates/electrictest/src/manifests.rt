@@ -3,13 +3,9 @@
 ghost use Rattle.std.specs.Prelude.{◌≡◌, ◌≤◌, Ok, length, IfOk, IfErr};
 ghost use Rattle.outside.specs.Depot.{TellsOn};
 ghost use Rattle.cone_run.specs.Marks.{HasWriter};
-ghost use Rattle.electrictest.specs.Causes.{MayReport};
+ghost use Rattle.electrictest.specs.{Causes.MayReport, ConeRuns.AreCounted, ConeRuns.ConesRefused, Loads.IsSuite, Manifests.IsManifest, Records.beginning};
 ghost use Rattle.electrictest.specs.Commands.{ReportEnds, ReportsOver, RefusedOver};
-ghost use Rattle.electrictest.specs.ConeRuns.{AreCounted, ConesRefused};
 ghost use Rattle.electrictest.specs.declared.words.Command.TheVariants as command;
-ghost use Rattle.electrictest.specs.Loads.{IsSuite};
-ghost use Rattle.electrictest.specs.Manifests.{IsManifest};
-ghost use Rattle.electrictest.specs.Records.{beginning};
 
 use crate::asks::Ask;
 use crate::begins::begin;

@@ -5,13 +5,10 @@ ghost use Rattle.outside.specs.Depot.{TellsOn};
 ghost use Rattle.order_law.specs.Conflicts.{Lawful};
 ghost use Rattle.selection_close.specs.Faults.{fault_of};
 ghost use Rattle.test_run.specs.Running.{IsTest};
-ghost use Rattle.electrictest.specs.Causes.{MayReport};
+ghost use Rattle.electrictest.specs.{Causes.MayReport, Loads.IsSuite, Records.beginning, Running.OrderRefused};
 ghost use Rattle.electrictest.specs.Commands.{ReportEnds, ReportsOver, RefusedOver};
 ghost use Rattle.electrictest.specs.declared.words.Command.TheVariants as command;
-ghost use Rattle.electrictest.specs.Loads.{IsSuite};
 ghost use Rattle.electrictest.specs.Orders as order;
-ghost use Rattle.electrictest.specs.Records.{beginning};
-ghost use Rattle.electrictest.specs.Running.{OrderRefused};
 
 use crate::asks::Ask;
 use crate::begins::begin;

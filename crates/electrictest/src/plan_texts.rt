@@ -1,8 +1,7 @@
 //! The text of a plan.
 
 ghost use Rattle.std.specs.Prelude.{◌≡◌, ℕ, ◌<◌, ◌^◌, ◌++◌, ◌+◌, map, length, sum, IfOk, OnOk};
-ghost use Rattle.order_law.specs.Conflicts.{Distinct};
-ghost use Rattle.order_law.specs.Plan.{chain_at};
+ghost use Rattle.order_law.specs.{Conflicts.Distinct, Plan.chain_at};
 ghost use Rattle.dep_record.specs.RecordText.{numbers_text, more_numbers};
 ghost use Rattle.schedule_plan.specs.Plans.{HasUnits, HaveUnits, units_of};
 ghost use Rattle.electrictest.specs.PlanTexts as lines;

@@ -3,12 +3,9 @@
 ghost use Rattle.std.specs.Prelude.{◌≡◌, ◌<◌, ◌≤◌, ℕ, Ok, IfOk, IfErr};
 ghost use Rattle.outside.specs.Depot.{TellsOn};
 ghost use Rattle.schedule_plan.specs.Plans.{HasUnits};
-ghost use Rattle.electrictest.specs.Causes.{MayReport};
+ghost use Rattle.electrictest.specs.{Causes.MayReport, Loads.IsSuite, Plans.IsPlanReport, Records.beginning};
 ghost use Rattle.electrictest.specs.Commands.{ReportEnds, ReportsOver, RefusedOver};
 ghost use Rattle.electrictest.specs.declared.words.Command.TheVariants as command;
-ghost use Rattle.electrictest.specs.Loads.{IsSuite};
-ghost use Rattle.electrictest.specs.Plans.{IsPlanReport};
-ghost use Rattle.electrictest.specs.Records.{beginning};
 
 use crate::asks::Ask;
 use crate::begins::begin;

@@ -1,8 +1,7 @@
 //! The tally of a selection that workers ran.
 
 ghost use Rattle.std.specs.Prelude.{ℕ, ◌≤◌, length, IfOk};
-ghost use Rattle.order_law.specs.Conflicts.{Member};
-ghost use Rattle.order_law.specs.Plan.{Posted};
+ghost use Rattle.order_law.specs.{Conflicts.Member, Plan.Posted};
 ghost use Rattle.run_core.specs.Run.{history};
 ghost use Rattle.electrictest.specs.Tallies.{IsTallyOf};
 

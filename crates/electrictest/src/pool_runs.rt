@@ -4,19 +4,14 @@ ghost use Rattle.std.specs.Prelude.{◌≡◌, ◌+◌, ◌<◌, ◌≤◌, ◌+
 ghost use Rattle.outside.specs.Depot.{TellsOn};
 ghost use Rattle.schedule_plan.specs.Plans.{HasUnits, HaveUnits, IsPlanOf, chain_units};
 ghost use Rattle.run_core.specs.Run.{history};
-ghost use Rattle.worker_pool.specs.Faults.{IsPlanFault};
-ghost use Rattle.worker_pool.specs.Plans.{units_of};
+ghost use Rattle.worker_pool.specs.{Faults.IsPlanFault, Plans.units_of};
 ghost use Rattle.jvm_model.specs.State.{test_at};
-ghost use Rattle.electrictest.specs.Causes.{MayReport};
+ghost use Rattle.electrictest.specs.{Causes.MayReport, Loads.IsSuite, Logs.log_text, Pools.IsPooled, Records.beginning};
 ghost use Rattle.electrictest.specs.Commands.{ReportEnds, ReportsOver, RefusedOver};
 ghost use Rattle.electrictest.specs.declared.words.Command.TheVariants as command;
 ghost use Rattle.electrictest.specs.declared.status.OverFault.TheVariants as over_fault;
 ghost use Rattle.electrictest.specs.declared.status.Status.TheVariants as ends;
-ghost use Rattle.electrictest.specs.Loads.{IsSuite};
-ghost use Rattle.electrictest.specs.Logs.{log_text};
 ghost use Rattle.electrictest.specs.PoolRuns.{IsChosen, IsPoolReport, PoolReports, PoolRefused};
-ghost use Rattle.electrictest.specs.Pools.{IsPooled};
-ghost use Rattle.electrictest.specs.Records.{beginning};
 ghost use Rattle.electrictest.specs.TestNames as names_of;
 
 use crate::asks::Ask;

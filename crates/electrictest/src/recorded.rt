@@ -2,8 +2,7 @@
 
 ghost use Rattle.std.specs.Prelude.{◌≡◌, ◌≤◌, [], length, true, Ok, IfOk, IfErr, IfSome, IsSome};
 ghost use Rattle.outside.specs.Depot.{OfHeld, TellsOn};
-ghost use Rattle.dep_record.specs.RecordReading.{said_in};
-ghost use Rattle.dep_record.specs.RecordText.{said};
+ghost use Rattle.dep_record.specs.{RecordReading.said_in, RecordText.said};
 ghost use Rattle.impact_pick.specs.Form.{fits_prints};
 ghost use Rattle.electrictest.specs.Commands.{Fails, IsRecordRefusal};
 ghost use Rattle.electrictest.specs.Records.{Gives, nothing, says};

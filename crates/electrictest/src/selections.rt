@@ -1,11 +1,8 @@
 //! The tests that a word names.
 
 ghost use Rattle.std.specs.Prelude.{◌≡◌, ◌<◌, ◌≤◌, All, length, position, IfOk, IfErr, IfSome};
-ghost use Rattle.std.specs.List.{range_with_len};
-ghost use Rattle.std.specs.Str.{bytes_eq};
-ghost use Rattle.electrictest.specs.Records.{Gives};
-ghost use Rattle.electrictest.specs.Commands.{IsNameRefusal};
-ghost use Rattle.electrictest.specs.Selections.{IsTestOf};
+ghost use Rattle.std.specs.{List.range_with_len, Str.bytes_eq};
+ghost use Rattle.electrictest.specs.{Records.Gives, Commands.IsNameRefusal, Selections.IsTestOf};
 ghost use Rattle.electrictest.specs.Selections as selection;
 
 use crate::status::{InputFault, Status};

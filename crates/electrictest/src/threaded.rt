@@ -2,15 +2,10 @@
 
 ghost use Rattle.std.specs.Prelude.{◌≡◌, ◌≤◌, None, IfOk, IfErr};
 ghost use Rattle.outside.specs.Depot.{OfHeld, TellsOn};
-ghost use Rattle.electrictest.specs.Causes.{MayReport};
+ghost use Rattle.electrictest.specs.{Causes.MayReport, Complete.Complete, EagerForms.EagerAnswer, EarlierRecords.EarlierAnswer};
 ghost use Rattle.electrictest.specs.Commands.{called, ReportEnds, Reported, ReportsOver, RefusedOver, Taken, Served, Ends};
-ghost use Rattle.electrictest.specs.Complete.{Complete};
-ghost use Rattle.electrictest.specs.EagerForms.{EagerAnswer};
-ghost use Rattle.electrictest.specs.EarlierRecords.{EarlierAnswer};
-ghost use Rattle.electrictest.specs.GeneratedAnswers.{GeneratedAnswer, Summed};
-ghost use Rattle.electrictest.specs.Loads.{IsSuite};
-ghost use Rattle.electrictest.specs.OwnCones.{OwnConesAnswer, OwnManifestAnswer};
-ghost use Rattle.electrictest.specs.OwnLists.{DetectedOrderAnswer, OwnOrderAnswer};
+ghost use Rattle.electrictest.specs.{GeneratedAnswers.GeneratedAnswer, GeneratedAnswers.Summed, Loads.IsSuite};
+ghost use Rattle.electrictest.specs.{OwnCones.OwnConesAnswer, OwnCones.OwnManifestAnswer, OwnLists.DetectedOrderAnswer, OwnLists.OwnOrderAnswer};
 ghost use Rattle.electrictest.specs.OwnPools.{DetectedAnswer, OwnAnswer};
 ghost use Rattle.electrictest.specs.Replies as reply;
 ghost use Rattle.electrictest.specs.Words.{threaded, refusal_of, IsOverSuite, OfGenerated};

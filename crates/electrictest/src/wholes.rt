@@ -2,11 +2,9 @@
 
 ghost use Rattle.std.specs.Prelude.{◌≡◌, Ok, IfOk, IfErr};
 ghost use Rattle.outside.specs.Depot.{Told, DepotView};
-ghost use Rattle.electrictest.specs.Causes.{MayReport};
+ghost use Rattle.electrictest.specs.{Causes.MayReport, Running.RunRefused, Running.WholeReports, Words.Ask};
 ghost use Rattle.electrictest.specs.Commands.{ReportEnds, ReportsOver, RefusedOver};
 ghost use Rattle.electrictest.specs.declared.words.Command.TheVariants as command;
-ghost use Rattle.electrictest.specs.Running.{RunRefused, WholeReports};
-ghost use Rattle.electrictest.specs.Words.{Ask};
 
 use crate::reports::{Report, report_on};
 use crate::running::run_all;

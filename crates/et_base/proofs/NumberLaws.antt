@@ -3,8 +3,7 @@ use Rattle.std.proofs.Common.{◌≡◌, ℕ, zero, suc, ◌/◌, ◌%◌, ◌^�
 use Rattle.std.specs.Int.{Width, w8, w16, w32, w64, int_wrap, int_shl, int_wrapping_div, cast_unsigned, cast_signed, int_rem_euclid}
 use Rattle.std.specs.Int.RustNames.{FitsSigned, int_div, unsigned_abs}
 use Rattle.std.specs.Prelude.{ℤ, pos, negsuc, ◌*ℤ◌, neg_ℤ}
-use Rattle.std.proofs.Math.Nat.{mod-eq_of_lt, div-le_self}
-use Rattle.std.proofs.Math.Pow.{pow-lt}
+use Rattle.std.proofs.{Math.Nat.mod-eq_of_lt, Math.Nat.div-le_self, Math.Pow.pow-lt}
 use mir.Val.{bits}
 use Rattle.std.proofs.lemmas.Int.{wraps, wrapping_mul-bits, int_wrap-mul_right, to_z-of_z, ints}
 

@@ -1,7 +1,6 @@
 -- Names and descriptors, as lists of code units (JVMS 4.2 and 4.3).
 use Rattle.std.specs.Prelude.{ℕ, zero, suc, ◌+◌, List, [], ◌∷◌, length, take, drop, Option, Some, None, Bool, true, false, not, nat_lt, nat_le, position, option_map, option_and_then, is_some, ◌==◌, ◌&&◌, ◌||◌, if◌then◌else◌}
-use Rattle.std.specs.List.{list_all}
-use Rattle.std.specs.Str.{bytes_eq}
+use Rattle.std.specs.{List.list_all, Str.bytes_eq}
 
 -- ---- names
 

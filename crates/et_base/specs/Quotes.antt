@@ -1,9 +1,6 @@
 -- How names and texts stand in this project's reports: in ASCII, with an escape for every other code unit or byte.
 use Rattle.std.specs.Prelude.{ℕ, ◌/◌, ◌%◌, List, [], ◌∷◌, ◌++◌, Bool, false, nat_le, ◌&&◌, ◌||◌, ◌==◌, if◌then◌else◌, codes, map, unwrap_or}
-use Rattle.std.specs.List.{flat_map}
-use Rattle.std.specs.Fmt.{digit_glyph}
-use Rattle.std.specs.Str.{encode_utf8_all}
-use Rattle.std.specs.Char.Utf16.{utf16_chars}
+use Rattle.std.specs.{List.flat_map, Fmt.digit_glyph, Str.encode_utf8_all, Char.Utf16.utf16_chars}
 
 -- a digit below 16, in lower case
 abbrev pub hex_digit : ℕ → ℕ

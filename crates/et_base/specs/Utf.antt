@@ -1,8 +1,7 @@
 -- Modified UTF-8 (JVMS 4.4.7): each code unit of 16 bits is a group of one to three bytes, the shortest that has room for it, and 0 has two.
 use Rattle.std.specs.Prelude.{◌≡◌, ℕ, ◌+◌, ◌/◌, ◌%◌, ◌^◌, ◌<◌, List, [], ◌∷◌, ◌++◌, length, Bool, nat_lt, nat_le, ◌&&◌, if◌then◌else◌, All}
 use Rattle.std.specs.List.{flat_map}
-use Rattle.et_base.specs.declared.utf.UtfFault.{UtfFault}
-use Rattle.et_base.specs.declared.utf.UtfFault.TheVariants.{BadUtf, NoMemory}
+use Rattle.et_base.specs.declared.utf.{UtfFault.UtfFault, UtfFault.TheVariants.BadUtf, UtfFault.TheVariants.NoMemory}
 
 abbrev pub IsUnit : ℕ → Type 0
 IsUnit u = u < 2 ^ 16

@@ -1,10 +1,7 @@
 //! A growable list that contracts see as the list of its items.
 
 ghost use Rattle.std.specs.Prelude.{◌≡◌, ◌<◌, ◌^◌, List, [], ◌∷◌, ◌++◌, length, OnOk, OnErr, IfOk, IsTrue, ◌↔◌, option_copied, slice_get};
-ghost use Rattle.std.specs.Str.{bytes_eq};
-ghost use Rattle.std.specs.Slice.{IsItemAt};
-ghost use Rattle.std.specs.Slice.Iter.{iter_rest, iter_steps};
-ghost use Rattle.std.specs.Iterator.Runs.{EveryRun, ItemsMapTo};
+ghost use Rattle.std.specs.{Str.bytes_eq, Slice.IsItemAt, Slice.Iter.iter_rest, Slice.Iter.iter_steps, Iterator.Runs.EveryRun, Iterator.Runs.ItemsMapTo};
 ghost use Rattle.std.specs.Iterator.Adapters.{IterYieldsInOrder};
 
 use crate::NoMemory;

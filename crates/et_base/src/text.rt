@@ -3,8 +3,7 @@
 //! Each `push_` function appends to a text; after a refusal part of it may stand there.
 
 ghost use Rattle.std.specs.Prelude.{◌≡◌, ◌++◌, ◌<◌, OnOk, IfOk};
-ghost use Rattle.std.specs.List.{flat_map};
-ghost use Rattle.std.specs.Fmt.{decimal, signed_decimal};
+ghost use Rattle.std.specs.{List.flat_map, Fmt.decimal, Fmt.signed_decimal};
 ghost use Rattle.et_base.specs.Quotes as quotes;
 
 use crate::{NoMemory, Text, Units};

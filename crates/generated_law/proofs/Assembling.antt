@@ -1,20 +1,14 @@
 -- The class of k tests is linked to the generated program's records, names and literals.
 use Rattle.std.proofs.Common.{◌≡◌, ℕ, zero, suc, ◌+◌, ◌*◌, ◌<◌, ◌≤◌, true, false, ◌&&◌, cond, pos, unwrap_or, List, [], ◌∷◌, ◌++◌, length, map, flat_map, decimal, Some, None, refl, ap, ◌∙◌, arith, append-nil}
 use Rattle.std.specs.Prelude.{codes}
-use Rattle.std.specs.List.{AllByRecursion, range_with_len}
-use Rattle.std.specs.Str.{bytes_eq}
+use Rattle.std.specs.{List.AllByRecursion, List.range_with_len, Str.bytes_eq}
 use Rattle.std.proofs.lemmas.List.FromFn.{length-map-range_with_len}
 use Rattle.class_pool.specs.Pool.{text_of}
-use Rattle.class_reader.specs.declared.parts.ClassParts.{ClassParts}
-use Rattle.class_reader.specs.declared.parts.CodePart.{CodePart}
+use Rattle.class_reader.specs.declared.parts.{ClassParts.ClassParts, CodePart.CodePart}
 use Rattle.jvm_model.specs.declared.values.Value.TheVariants as value
-use Rattle.jvm_model.specs.declared.program.Program.{Program}
-use Rattle.jvm_model.specs.declared.program.ClassRec.{ClassRec}
-use Rattle.jvm_model.specs.declared.program.Body.{Body}
-use Rattle.jvm_model.specs.declared.program.TestEntry.{TestEntry}
+use Rattle.jvm_model.specs.declared.program.{Program.Program, ClassRec.ClassRec, Body.Body, TestEntry.TestEntry}
 use Rattle.jvm_model.specs.Library.{builtin_defs, builtin_classes, builtin_fields, builtin_methods}
-use Rattle.jvm_model.specs.Classes.{is_static, clinit_name}
-use Rattle.jvm_model.specs.Driver.{no_arguments}
+use Rattle.jvm_model.specs.{Classes.is_static, Classes.clinit_name, Driver.no_arguments}
 use Rattle.jvm_model.proofs.BuiltinRules.{lengths}
 use Rattle.class_link.specs.ClassNames.{text_at, all_names, class_number, number_or_first, needed_class}
 use Rattle.class_link.specs.Literals.{string_in, strings_of, noted, literals}

@@ -1,18 +1,14 @@
 -- The class of k tests is read from its bytes.
 use Rattle.std.proofs.Common.{◌≡◌, ℕ, zero, suc, ◌+◌, ◌<◌, ◌≤◌, Bool, true, false, not, ◌&&◌, ◌||◌, List, [], ◌∷◌, ◌++◌, length, map, decimal, Option, Some, None, refl, sym, ap, subst, ◌∙◌, arith}
 use Rattle.std.specs.Prelude.{codes}
-use Rattle.std.specs.Int.{w32, to_be_bytes}
-use Rattle.std.specs.List.{flat_map, range_with_len}
-use Rattle.std.proofs.lemmas.Bool.{and_from}
-use Rattle.std.proofs.lemmas.Bool.Decides.{nat_tests}
-use Rattle.std.proofs.lemmas.List.{append-nil}
-use Rattle.std.proofs.lemmas.List.FromFn.{length-map-range_with_len, map-range_with_len_more}
+use Rattle.std.specs.{Int.w32, Int.to_be_bytes, List.flat_map, List.range_with_len}
+use Rattle.std.proofs.lemmas.{Bool.and_from, List.append-nil}
+use Rattle.std.proofs.{lemmas.Bool.Decides.nat_tests, lemmas.List.FromFn.length-map-range_with_len, lemmas.List.FromFn.map-range_with_len_more}
 use Rattle.et_base.specs.Names.{is_unpointed, is_method_name, after_element, after_type, argument, arguments, argument_units}
-use Rattle.class_pool.specs.declared.pool.Entry.{Entry}
-use Rattle.class_pool.specs.declared.pool.Entry.TheVariants.{Utf8}
+use Rattle.class_pool.specs.declared.pool.{Entry.Entry, Entry.TheVariants.Utf8}
 use Rattle.class_pool.specs.Pool.{entry_of, is_text, is_class}
 use Rattle.class_pool.specs.Grammar.{Then, Joined, Counted}
-use Rattle.class_pool.specs.PoolGrammar.{pool_spelling}
+use Rattle.class_pool.specs.{PoolGrammar.pool_spelling, Grammar.Sized}
 use Rattle.class_pool.proofs.WriteLaw.{pool_written}
 use Rattle.class_reader.specs.declared.parts.MemberPart.{MemberPart}
 use Rattle.class_reader.specs.Indices.{Short, Index, Form}
@@ -21,14 +17,12 @@ use Rattle.class_reader.specs.Names as forms
 use Rattle.class_reader.specs.Faults.{with_offsets}
 use Rattle.class_reader.specs.ClassGrammar.{OnceText, AttributesText, PartText, FieldText, FieldsText, MethodText, MethodsText, HeadText, MembersText, BodyText, class_bytes}
 use Rattle.class_reader.proofs.ClassLaw.{class_again}
-use Rattle.class_pool.specs.Grammar.{Sized}
 use Rattle.class_write.specs.declared.names.Names.{Names}
 use Rattle.class_write.specs.Spelling.{short_bytes, listed_bytes, sized_bytes, names_of, part_bytes, field_bytes, method_bytes, head_bytes, members_bytes, body_bytes, class_spelling}
 use Rattle.suite_gen.specs.Generated.{group_count, field_name, test_name, slots, code_of, field_of, method_of, generated_class}
 use Rattle.generated_law.specs.GeneratedLaw.{ClassLaw}
-use Rattle.generated_law.proofs.Decimals.{decimal_passes, names_differ}
+use Rattle.generated_law.proofs.{Decimals.decimal_passes, Decimals.names_differ, TestCode.code_text}
 use Rattle.generated_law.proofs.Pool.{Slots, Holds, holds, pool_is, letter_named, number_typed}
-use Rattle.generated_law.proofs.TestCode.{code_text}
 
 -- ---- indices
 

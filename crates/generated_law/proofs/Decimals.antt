@@ -1,13 +1,8 @@
 -- Numbers in decimal, and names that end in one.
 use Rattle.std.proofs.Common.{◌≡◌, ℕ, ◌<◌, ◌≤◌, Bool, true, false, not, List, [], ◌∷◌, drop, decimal, get_or, All, refl, ap, arith}
-use Rattle.std.specs.List.{list_all}
-use Rattle.std.specs.Str.{bytes_eq}
-use Rattle.std.specs.Str.Parse.{AllDigits}
-use Rattle.std.proofs.lemmas.Bool.{and_from, not-true}
-use Rattle.std.proofs.lemmas.Fmt.{decimal_is_IsNumeral, decimal_injective}
-use Rattle.std.proofs.lemmas.List.Sums.{AllPass-from_list_all}
-use Rattle.std.proofs.lemmas.Slice.Eq.{bytes_eq-Decides}
-use Rattle.std.proofs.lemmas.Str.Parse.{digit_from_value}
+use Rattle.std.specs.{List.list_all, Str.bytes_eq, Str.Parse.AllDigits}
+use Rattle.std.proofs.lemmas.{Bool.and_from, Bool.not-true, Fmt.decimal_is_IsNumeral, Fmt.decimal_injective}
+use Rattle.std.proofs.{lemmas.List.Sums.AllPass-from_list_all, lemmas.Slice.Eq.bytes_eq-Decides, lemmas.Str.Parse.digit_from_value}
 
 -- a test that each digit passes
 abbrev pub TakesDigits : (ℕ → Bool) → Type 0

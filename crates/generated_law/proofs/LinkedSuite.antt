@@ -3,8 +3,7 @@ use Rattle.std.proofs.Common.{◌≡◌, inl, inr, ℕ, zero, suc, ◌+◌, ◌%
 use Rattle.std.specs.Prelude.{codes, option_and_then}
 use Rattle.std.specs.List.{range_with_len}
 use Rattle.std.proofs.Math.Nat.{mod-eq_of_lt}
-use Rattle.std.proofs.lemmas.Bool.{eqb-true}
-use Rattle.std.proofs.lemmas.List.{append_assoc, length-append}
+use Rattle.std.proofs.lemmas.{Bool.eqb-true, List.append_assoc, List.length-append}
 use Rattle.et_base.specs.Answers.{◌>>=◌}
 use Rattle.et_base.proofs.Cases.{by_test}
 use Rattle.class_pool.specs.Pool.{entry_of}
@@ -12,11 +11,7 @@ use Rattle.jvm_model.specs.declared.values.Kind.TheVariants as kind
 use Rattle.jvm_model.specs.declared.values.Value.TheVariants as value
 use Rattle.jvm_model.specs.declared.instr.Instr.TheVariants as form
 use Rattle.jvm_model.specs.declared.instr.Op.TheVariants as operation
-use Rattle.jvm_model.specs.declared.program.Program.{Program}
-use Rattle.jvm_model.specs.declared.program.ClassRec.{ClassRec}
-use Rattle.jvm_model.specs.declared.program.MethodRec.{MethodRec}
-use Rattle.jvm_model.specs.declared.program.Body.{Body}
-use Rattle.jvm_model.specs.declared.program.TestEntry.{TestEntry}
+use Rattle.jvm_model.specs.declared.program.{Program.Program, ClassRec.ClassRec, MethodRec.MethodRec, Body.Body, TestEntry.TestEntry}
 use Rattle.jvm_model.specs.Library.{builtin_defs, builtin_classes, builtin_fields, builtin_methods}
 use Rattle.jvm_model.specs.Classes.{class_at, is_static, is_abstract, is_interface, member, init_name}
 use Rattle.jvm_model.specs.Driver.{plain_method_in}
@@ -29,9 +24,7 @@ use Rattle.code_forms.specs.Forms.{form_of, constants, numbers, branches, member
 use Rattle.class_link.specs.declared.fault.LinkFault.{LinkFault}
 use Rattle.class_link.specs.declared.fault.LinkFault.TheVariants as fault
 use Rattle.class_link.specs.ClassNames.{name_at, missing, needed_class}
-use Rattle.class_link.specs.References.{target_of}
-use Rattle.class_link.specs.Bodies.{linked_body}
-use Rattle.class_link.specs.Assembly.{assembled, skeleton}
+use Rattle.class_link.specs.{References.target_of, Bodies.linked_body, Assembly.assembled, Assembly.skeleton}
 use Rattle.class_link.specs.Faults.{first_some, duplicate_fault, missing_or, wrong_unless, supertype_fits, supertype_fault, supertypes_fault, all_references_fault, holds_tests, is_test_method, test_in, test_entry, entry_with}
 use Rattle.class_link.specs.Link.{setting, unless, tests_of, program_of, link_by}
 use Rattle.suite_load.specs.Loading.{line_of, lines_of}

@@ -3,9 +3,7 @@ use Rattle.std.proofs.Common.{◌≡◌, None, Ok, sym, ap, subst}
 use Rattle.suite_load.specs.Loading.{◌>>=◌, sums_in, typed_answer, loaded_of, checked_of, ReadGives}
 use Rattle.generated_law.specs.GeneratedSuite.{suite_name, suite_files, said_suite, generated_program, generated_suite}
 use Rattle.generated_law.specs.GeneratedLaw.{LoadLaw}
-use Rattle.generated_law.proofs.FilesRead.{read_law}
-use Rattle.generated_law.proofs.LinkedSuite.{link_law}
-use Rattle.generated_law.proofs.Typed.{typed_law}
+use Rattle.generated_law.proofs.{FilesRead.read_law, LinkedSuite.link_law, Typed.typed_law}
 
 pub load_law : LoadLaw
 unfolding generated_suite checked_of

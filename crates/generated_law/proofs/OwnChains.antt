@@ -1,24 +1,18 @@
 -- The chains of the generated suite are its groups.
 use Rattle.std.proofs.Common.{◌≡◌, ℕ, zero, suc, ◌+◌, ◌-◌, ◌*◌, ◌%◌, ◌<◌, ◌≤◌, ◌↔◌, inl, inr, true, false, List, [], ◌∷◌, length, get_or, refl, sym, ap, subst, ◌∙◌, arith}
-use Rattle.std.proofs.lemmas.Bool.{both_ways, cases_lt}
-use Rattle.std.proofs.lemmas.List.{get_or_past}
+use Rattle.std.proofs.lemmas.{Bool.both_ways, Bool.cases_lt, List.get_or_past}
 use Rattle.et_base.proofs.Cases.{by_test}
 use Rattle.jvm_model.specs.declared.values.Location.{Location}
 use Rattle.jvm_model.specs.declared.program.Program.{Program}
 use Rattle.jvm_model.specs.World.{same}
 use Rattle.jvm_model.proofs.Locations.{same_true}
-use Rattle.order_law.specs.declared.edges.Edge.{Edge}
-use Rattle.order_law.specs.declared.edges.EdgeKind.{EdgeKind}
-use Rattle.order_law.specs.declared.edges.EdgeKind.TheVariants.{Raw, Waw, War}
+use Rattle.order_law.specs.declared.edges.{Edge.Edge, EdgeKind.EdgeKind, EdgeKind.TheVariants.Raw, EdgeKind.TheVariants.Waw, EdgeKind.TheVariants.War}
 use Rattle.order_law.specs.Conflicts.{Member, Conflict, HasEdge, Before, edge, chain, Joined, itself, forth, back}
-use Rattle.order_law.specs.Exposed.{written, exposed}
+use Rattle.order_law.specs.{Exposed.written, Exposed.exposed, OwnRecord.edges_in, Plan.chain_at, Plan.AreListedChainsOf}
 use Rattle.order_law.specs.Histories.{Touches, writes_in, exposed_in}
-use Rattle.order_law.specs.OwnRecord.{edges_in}
-use Rattle.order_law.specs.Plan.{chain_at, AreListedChainsOf}
 use Rattle.order_law.proofs.OwnRecord.{is_record}
 use Rattle.suite_gen.specs.Generated.{group_of, group_count}
-use Rattle.generated_law.specs.GeneratedSuite.{field_number}
-use Rattle.generated_law.specs.GeneratedRecord.{static_of, touches_at}
+use Rattle.generated_law.specs.{GeneratedSuite.field_number, GeneratedRecord.static_of, GeneratedRecord.touches_at}
 use Rattle.generated_law.proofs.OwnEdges.{written_elsewhere, exposed_elsewhere, odd_writes, writes_as, writes_own, reads_own}
 
 -- ---- numbers that rise

@@ -3,42 +3,31 @@ use Rattle.std.proofs.Common.{◌≡◌, ℕ, zero, suc, ◌+◌, ◌-◌, ◌*�
 use Rattle.std.specs.Prelude.{codes}
 use Rattle.std.specs.List.{list_all, list_any, range_with_len}
 use Rattle.std.proofs.lemmas.Bool.{and_from, le-leb, eqb-true, eq-eqb, ne_eqb, both_ways}
-use Rattle.std.proofs.lemmas.Fmt.{length-decimal-le}
-use Rattle.std.proofs.lemmas.List.{length-append}
+use Rattle.std.proofs.lemmas.{Fmt.length-decimal-le, List.length-append}
 use Rattle.std.proofs.lemmas.List.FromFn.{length-map-range_with_len, get_or-map-range_with_len}
 use Rattle.et_base.proofs.Cases.{by_test}
 use Rattle.jvm_model.specs.declared.values.Value.TheVariants as value
 use Rattle.jvm_model.specs.declared.values.Touch.{Touch}
 use Rattle.jvm_model.specs.declared.values.Location.TheVariants as place
 use Rattle.jvm_model.specs.declared.library.Native.TheVariants as native
-use Rattle.jvm_model.specs.declared.outcome.Outcome.{Outcome}
-use Rattle.jvm_model.specs.declared.program.Program.{Program}
-use Rattle.jvm_model.specs.declared.program.ClassRec.{ClassRec}
-use Rattle.jvm_model.specs.declared.program.FieldRec.{FieldRec}
-use Rattle.jvm_model.specs.declared.program.MethodRec.{MethodRec}
-use Rattle.jvm_model.specs.declared.program.TestEntry.{TestEntry}
+use Rattle.jvm_model.specs.declared.outcome.{Outcome.Outcome, Verdict.TheVariants.Passed}
+use Rattle.jvm_model.specs.declared.program.{Program.Program, ClassRec.ClassRec, FieldRec.FieldRec, MethodRec.MethodRec, TestEntry.TestEntry}
 use Rattle.jvm_model.specs.Library.{builtin_defs, builtin_classes, builtin_methods}
 use Rattle.jvm_model.specs.Classes.{no_class, no_method, class_at, method_at, is_interface, is_static, class_bound, upwards, lineage_in, first_mentions, own_interfaces, is_default_method, default_interfaces, declares_start, is_trivial}
 use Rattle.jvm_model.specs.World.{World, at, put}
 use Rattle.jvm_model.specs.Access.{Ran, run}
 use Rattle.jvm_model.specs.State.{no_test, test_at, started}
-use Rattle.jvm_model.specs.declared.outcome.Verdict.TheVariants.{Passed}
 use Rattle.jvm_model.specs.Suite.{opening, finished, End, whole, tree, Given, given_at, one_test, with_first, runs_on, runs, all_tests, outcome_in, given_by_test, seq, units_of, within_limit, suite_limit, is_detected}
-use Rattle.jvm_model.proofs.BuiltinRules.{builtin_class, builtin_method}
-use Rattle.jvm_model.proofs.Locations.{at_put_same}
-use Rattle.order_law.specs.Conflicts.{Member, down}
-use Rattle.order_law.specs.Histories.{after_history, touches_of}
-use Rattle.order_law.specs.OwnRecord.{owner}
-use Rattle.order_law.specs.Reach.{units_in}
+use Rattle.jvm_model.proofs.{BuiltinRules.builtin_class, BuiltinRules.builtin_method, Locations.at_put_same}
+use Rattle.order_law.specs.{Conflicts.Member, Conflicts.down, Histories.after_history, Histories.touches_of, OwnRecord.owner, Reach.units_in}
 use Rattle.suite_gen.specs.Generated.{group_of}
 use Rattle.generated_law.specs.GeneratedSuite.{field_number, method_number, print_number, gen_program, setting_body, printing_body, adding_body, gen_body, gen_test, generated_program}
 use Rattle.generated_law.specs.GeneratedRun.{value_before, line_of, passed_with, outcome_of, RunLaw}
 use Rattle.generated_law.specs.GeneratedRecord.{touch_of, touches_at, is_raw, is_waw, is_war, RecordLaw, ChainLaw}
 use Rattle.generated_law.proofs.Members.{class_is, field_is, method_is, holds_builtins, object_is, object_above, object_interfaces, two_up}
-use Rattle.generated_law.proofs.TestSteps.{Prints}
+use Rattle.generated_law.proofs.{TestSteps.Prints, OwnChains.count_chains}
 use Rattle.generated_law.proofs.TestRuns.{CallsOn, setting_run, printing_run, adding_run}
 use Rattle.generated_law.proofs.OwnEdges.{raw_count, waw_count, war_count}
-use Rattle.generated_law.proofs.OwnChains.{count_chains}
 
 -- ---- classes that are used without a step
 

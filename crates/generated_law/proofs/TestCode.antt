@@ -1,19 +1,14 @@
 -- The code of the tests is read as it is written.
 use Rattle.std.proofs.Common.{◌≡◌, ℕ, zero, suc, ◌<◌, ◌≤◌, Bool, true, false, cond, pos, List, [], ◌∷◌, ◌++◌, unwrap_or, Some, None, refl, sym, ap, ◌∙◌, arith}
 use Rattle.std.specs.Int.{w16, w32, byte_at, to_be_bytes, cast_signed}
-use Rattle.std.proofs.lemmas.Bool.{lt-ltb, and_from}
-use Rattle.std.proofs.lemmas.Int.{to_z-of_z}
-use Rattle.std.proofs.lemmas.List.{length-append}
+use Rattle.std.proofs.lemmas.{Bool.lt-ltb, Bool.and_from, Int.to_z-of_z, List.length-append}
 use Rattle.class_pool.specs.declared.pool.Entry.TheVariants.{Utf8, Class}
 use Rattle.class_pool.specs.Pool.{entry_of, text_of, class_name_of}
 use Rattle.class_pool.specs.Grammar.{IsBytes, Sized}
 use Rattle.code_decode.specs.declared.decoding.Code.{Code}
 use Rattle.code_decode.specs.declared.opcodes.Named.TheVariants as named
 use Rattle.code_decode.specs.CodeGrammar.{is_right, OpText, CodeText}
-use Rattle.code_decode.specs.Instructions.{op}
-use Rattle.code_decode.specs.Judging.{array_fit, named_fit}
-use Rattle.code_decode.specs.Opcodes.{shape_of}
-use Rattle.code_decode.specs.Spelling.{code_spelling}
+use Rattle.code_decode.specs.{Instructions.op, Judging.array_fit, Judging.named_fit, Opcodes.shape_of, Spelling.code_spelling}
 use Rattle.class_reader.specs.ClassGrammar.{part_of, PartText}
 use Rattle.class_write.specs.declared.names.Names.{Names}
 use Rattle.class_write.specs.Spelling.{short_bytes, sized_bytes, run_bytes, part_bytes}

@@ -10,11 +10,8 @@ use Rattle.jvm_model.specs.declared.values.Location.TheVariants as place
 use Rattle.jvm_model.specs.declared.instr.Instr.{Instr}
 use Rattle.jvm_model.specs.declared.instr.Instr.TheVariants as form
 use Rattle.jvm_model.specs.declared.instr.Op.TheVariants as op
-use Rattle.jvm_model.specs.declared.outcome.Own.{Own}
-use Rattle.jvm_model.specs.declared.outcome.Verdict.TheVariants.{Passed}
-use Rattle.jvm_model.specs.declared.program.Program.{Program}
-use Rattle.jvm_model.specs.declared.program.Body.{Body}
-use Rattle.jvm_model.specs.declared.program.Placed.{Placed}
+use Rattle.jvm_model.specs.declared.outcome.{Own.Own, Verdict.TheVariants.Passed}
+use Rattle.jvm_model.specs.declared.program.{Program.Program, Body.Body, Placed.Placed}
 use Rattle.jvm_model.specs.World.{World, at, put, has}
 use Rattle.jvm_model.specs.Access.{Access, Ran, done, write, spend, bind, run, read_of, write_of}
 use Rattle.jvm_model.specs.Classes.{field_at, method_at, found_of, form_at, next_place, is_static, is_trivial}

@@ -10,25 +10,16 @@ use Rattle.jvm_model.specs.declared.instr.Instr.{Instr}
 use Rattle.jvm_model.specs.declared.instr.Instr.TheVariants as form
 use Rattle.jvm_model.specs.declared.instr.Op.TheVariants as op
 use Rattle.jvm_model.specs.declared.library.Native.TheVariants as native
-use Rattle.jvm_model.specs.declared.outcome.Own.{Own}
-use Rattle.jvm_model.specs.declared.outcome.Verdict.TheVariants.{Passed}
-use Rattle.jvm_model.specs.declared.state.EntryKind.TheVariants.{InMethod}
-use Rattle.jvm_model.specs.declared.state.Stage.TheVariants.{Last}
-use Rattle.jvm_model.specs.declared.program.Program.{Program}
-use Rattle.jvm_model.specs.declared.program.Placed.{Placed}
+use Rattle.jvm_model.specs.declared.outcome.{Own.Own, Verdict.TheVariants.Passed}
+use Rattle.jvm_model.specs.declared.state.{EntryKind.TheVariants.InMethod, Stage.TheVariants.Last}
+use Rattle.jvm_model.specs.declared.program.{Program.Program, Placed.Placed}
 use Rattle.jvm_model.specs.Access.{Access, done, read, write, spend, bind}
 use Rattle.jvm_model.specs.Classes.{field_at, method_at, form_at, next_place, is_static, is_trivial}
-use Rattle.jvm_model.specs.Descriptors.{parameters}
+use Rattle.jvm_model.specs.{Descriptors.parameters, Entries.Entries, Entries.no_entries, Narrow.narrow, Narrow.narrowed, Natives.row_native}
 use Rattle.jvm_model.specs.Driver.{driven, drives, drive_first, drive, judge, once_driven, makes}
-use Rattle.jvm_model.specs.Entries.{Entries, no_entries}
-use Rattle.jvm_model.specs.Narrow.{narrow, narrowed}
-use Rattle.jvm_model.specs.Natives.{row_native}
-use Rattle.jvm_model.specs.NativesOutside.{native_env}
+use Rattle.jvm_model.specs.{NativesOutside.native_env, RowsArith.row_arith, RowsMoves.row_moves, RowsReturn.hands_on, RowsReturn.row_return}
 use Rattle.jvm_model.specs.Rows.{Answer, ready, begun_at, begin, once, using}
-use Rattle.jvm_model.specs.RowsArith.{row_arith}
 use Rattle.jvm_model.specs.RowsCalls.{calls, argument_count, row_calls, enters_native}
-use Rattle.jvm_model.specs.RowsMoves.{row_moves}
-use Rattle.jvm_model.specs.RowsReturn.{hands_on, row_return}
 use Rattle.jvm_model.specs.RowsStatics.{read_static, write_static, row_statics}
 use Rattle.jvm_model.specs.State.{State, next, ended, test_at, started}
 use Rattle.jvm_model.specs.Step.{row, row_or_none, row_here, after_row, entered, step}

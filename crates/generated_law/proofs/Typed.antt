@@ -3,20 +3,14 @@ use Rattle.std.proofs.Common.{◌≡◌, ℕ, zero, suc, ◌+◌, ◌≤◌, Boo
 use Rattle.std.specs.Prelude.{codes}
 use Rattle.std.specs.List.{range_with_len}
 use Rattle.std.proofs.Math.Seq.{drop-append_seam}
-use Rattle.jvm_model.specs.declared.program.Program.{Program}
-use Rattle.jvm_model.specs.declared.program.ClassRec.{ClassRec}
-use Rattle.jvm_model.specs.declared.program.FieldRec.{FieldRec}
-use Rattle.jvm_model.specs.declared.program.MethodRec.{MethodRec}
-use Rattle.jvm_model.specs.declared.program.Body.{Body}
+use Rattle.jvm_model.specs.declared.program.{Program.Program, ClassRec.ClassRec, FieldRec.FieldRec, MethodRec.MethodRec, Body.Body}
 use Rattle.jvm_model.specs.Library.{builtin_defs, builtin_classes, builtin_methods}
 use Rattle.jvm_model.specs.Classes.{no_method, field_at, method_at}
 use Rattle.jvm_model.specs.Descriptors.{parameters, return_type}
 use Rattle.jvm_model.proofs.BuiltinRules.{lengths, builtin_method}
-use Rattle.type_frames.specs.Frames.{index_of}
+use Rattle.type_frames.specs.{Frames.index_of, StackEffect.sides, Rules.broken}
 use Rattle.type_frames.specs.Given.{entry_types, body_frames, given_frames}
 use Rattle.type_frames.specs.Environment.{environment_of, given_at, is_target}
-use Rattle.type_frames.specs.StackEffect.{sides}
-use Rattle.type_frames.specs.Rules.{broken}
 use Rattle.type_frames.specs.Typing.{incoming, breach_at, unsupported_field, unsupported_method, or_later, fields_fault, members_fault, code_fault, body_fault, method_fault, methods_fault, class_fault, classes_fault, check_fault}
 use Rattle.suite_gen.specs.Generated.{group_of, group_count}
 use Rattle.generated_law.specs.GeneratedSuite.{field_number, method_number, print_number, gen_class, gen_field, gen_method, gen_program, setting_body, printing_body, adding_body, gen_body, gen_test, generated_program}

@@ -5,19 +5,15 @@ use Rattle.std.specs.List.{AllByRecursion, list_all, range_with_len}
 use Rattle.std.proofs.Math.Nat.{mod-eq_of_lt}
 use Rattle.std.proofs.lemmas.Bool.{and_from, eqb-true}
 use Rattle.et_base.proofs.Cases.{by_test}
-use Rattle.class_pool.specs.declared.pool.Entry.{Entry}
-use Rattle.class_pool.specs.declared.pool.Entry.TheVariants.{Method}
+use Rattle.class_pool.specs.declared.pool.{Entry.Entry, Entry.TheVariants.Method}
 use Rattle.class_pool.specs.Pool.{entry_of, text_of, class_name_of}
-use Rattle.class_reader.specs.declared.parts.ClassParts.{ClassParts}
-use Rattle.class_reader.specs.declared.parts.MemberPart.{MemberPart}
+use Rattle.class_reader.specs.declared.parts.{ClassParts.ClassParts, MemberPart.MemberPart}
 use Rattle.jvm_model.specs.declared.values.Kind.TheVariants as kind
 use Rattle.jvm_model.specs.declared.program.FieldRec.{FieldRec}
 use Rattle.jvm_model.specs.Library.{builtin_defs, builtin_classes, builtin_methods}
-use Rattle.jvm_model.specs.Classes.{is_static}
-use Rattle.jvm_model.specs.Lookup.{find_field, find_method}
-use Rattle.code_forms.specs.declared.references.Use.{Use}
+use Rattle.jvm_model.specs.{Classes.is_static, Lookup.find_field, Lookup.find_method}
+use Rattle.code_forms.specs.declared.references.{Use.Use, Target.Target}
 use Rattle.code_forms.specs.declared.references.Use.TheVariants as used
-use Rattle.code_forms.specs.declared.references.Target.{Target}
 use Rattle.code_forms.specs.declared.references.Target.TheVariants as target
 use Rattle.code_forms.specs.Uses.{use_of, fits}
 use Rattle.class_link.specs.ClassNames.{text_at, name_at, needed_class, missing, kind_of}

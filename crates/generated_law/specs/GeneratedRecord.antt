@@ -1,20 +1,13 @@
 -- What the tests of a generated suite touch, and its own record (this project's).
 use Rattle.std.specs.Prelude.{◌≡◌, ◌↔◌, ◌≤◌, ℕ, ◌+◌, ◌-◌, ◌/◌, ◌%◌, List, [], ◌∷◌, length, count_by, map, Bool, true, false, None, ◌==◌, if◌then◌else◌}
 use Rattle.std.specs.List.{range_with_len}
-use Rattle.jvm_model.specs.declared.values.Location.{Location}
+use Rattle.jvm_model.specs.declared.values.{Location.Location, Touch.Touch}
 use Rattle.jvm_model.specs.declared.values.Location.TheVariants as place
-use Rattle.jvm_model.specs.declared.values.Touch.{Touch}
-use Rattle.order_law.specs.declared.edges.Edge.{Edge}
-use Rattle.order_law.specs.declared.edges.EdgeKind.TheVariants.{Raw, Waw, War}
-use Rattle.order_law.specs.declared.records.Prints.{Prints}
-use Rattle.order_law.specs.declared.records.Record.{Record}
-use Rattle.order_law.specs.Conflicts.{Member}
-use Rattle.order_law.specs.OwnRecord.{edges_of}
-use Rattle.order_law.specs.Plan.{AreListedChainsOf}
-use Rattle.order_law.specs.Reach.{IsRecordOf}
+use Rattle.order_law.specs.declared.edges.{Edge.Edge, EdgeKind.TheVariants.Raw, EdgeKind.TheVariants.Waw, EdgeKind.TheVariants.War}
+use Rattle.order_law.specs.declared.records.{Prints.Prints, Record.Record}
+use Rattle.order_law.specs.{Conflicts.Member, OwnRecord.edges_of, Plan.AreListedChainsOf, Reach.IsRecordOf}
 use Rattle.suite_gen.specs.Generated.{group_of, group_count}
-use Rattle.generated_law.specs.GeneratedSuite.{field_number, generated_program}
-use Rattle.generated_law.specs.GeneratedRun.{outcome_of}
+use Rattle.generated_law.specs.{GeneratedSuite.field_number, GeneratedSuite.generated_program, GeneratedRun.outcome_of}
 
 -- the static of a group
 abbrev pub static_of : ℕ → Location

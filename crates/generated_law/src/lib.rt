@@ -16,8 +16,7 @@
 #![tactic(auto)]
 
 ghost use Rattle.generated_law.specs.GeneratedLaw.{TextLaw, ClassLaw, ReadLaw, LinkLaw, TypedLaw, LoadLaw};
-ghost use Rattle.generated_law.specs.GeneratedRecord.{RecordLaw, ChainLaw};
-ghost use Rattle.generated_law.specs.GeneratedRun.{RunLaw};
+ghost use Rattle.generated_law.specs.{GeneratedRecord.RecordLaw, GeneratedRecord.ChainLaw, GeneratedRun.RunLaw};
 
 /// The text of each generated suite of at most 1,024 tests is read: a class file and the tests t1, t2, .. of the class Gen.
 pub fn text_law()

@@ -4,40 +4,25 @@ use Rattle.std.specs.List.{list_any, list_all}
 use Rattle.std.proofs.lemmas.Bool.{and_parts, or_left, or_right, eqb-true, not-true}
 use Rattle.std.proofs.Math.ListN.{get_or-map}
 use Rattle.et_base.proofs.Cases.{implied}
-use Rattle.jvm_model.specs.declared.values.Value.{Value}
-use Rattle.jvm_model.specs.declared.values.Value.TheVariants.{Lit}
-use Rattle.jvm_model.specs.declared.values.Location.{Location}
+use Rattle.jvm_model.specs.declared.values.{Value.Value, Value.TheVariants.Lit, Location.Location}
 use Rattle.jvm_model.specs.declared.values.Location.TheVariants as place
 use Rattle.jvm_model.specs.declared.instr.Instr.{Instr}
 use Rattle.jvm_model.specs.declared.instr.Instr.TheVariants as form
-use Rattle.jvm_model.specs.declared.program.Program.{Program}
-use Rattle.jvm_model.specs.declared.program.ClassRec.{ClassRec}
-use Rattle.jvm_model.specs.declared.program.FieldRec.{FieldRec}
-use Rattle.jvm_model.specs.declared.program.MethodRec.{MethodRec}
-use Rattle.jvm_model.specs.declared.program.Body.{Body}
-use Rattle.jvm_model.specs.declared.program.Placed.{Placed}
+use Rattle.jvm_model.specs.declared.program.{Program.Program, ClassRec.ClassRec, FieldRec.FieldRec, MethodRec.MethodRec, Body.Body, Placed.Placed}
 use Rattle.jvm_model.specs.World.{World, at, same}
-use Rattle.jvm_model.specs.Builtin.{out_field, system_class}
+use Rattle.jvm_model.specs.{Builtin.out_field, Builtin.system_class, Linked.Linked, State.test_at}
 use Rattle.jvm_model.specs.Library.{builtin_classes, builtin_fields, builtin_defs}
 use Rattle.jvm_model.specs.Classes.{class_at, method_at, no_field, no_method, found_in, found_of, place_after, Found, form_at}
-use Rattle.jvm_model.specs.Linked.{Linked}
-use Rattle.jvm_model.specs.State.{test_at}
 use Rattle.jvm_model.specs.Suite.{opening, Given, one_test}
 use Rattle.jvm_model.proofs.BuiltinRules.{builtin_class, builtin_field}
 use Rattle.check_sound.specs.PaceLaw.{IsPut}
 use Rattle.check_sound.proofs.PacedTest.{test_statics}
-use Rattle.order_law.specs.Conflicts.{Member}
-use Rattle.order_law.specs.Exposed.{exposed}
-use Rattle.order_law.specs.Histories.{after_history, touches_of}
-use Rattle.order_law.specs.OwnRecord.{places_in}
+use Rattle.order_law.specs.{Conflicts.Member, Exposed.exposed, Histories.after_history, Histories.touches_of, OwnRecord.places_in}
 use Rattle.order_law.specs.Reach.{puts_out, body_puts_out, puts_out_somewhere, is_settled_in, is_settled}
 use Rattle.order_law.specs.Pairing.{PairedList, no_more, one_more, PairedValue, literals, PairedLocation, statics, inits, heads, at_field, at_elem, texts, files, props, PairedContent}
 use Rattle.order_law.specs.Numbers.{Numbers, Tested, with_places}
-use Rattle.order_law.specs.Matched.{Matched, PairedTest}
-use Rattle.order_law.specs.Outcomes.{PairedOutcome}
-use Rattle.order_law.specs.FrameLaw.{PairsObjects}
-use Rattle.order_law.proofs.FrameLaw.{frame_law}
-use Rattle.order_law.proofs.OwnRecord.{first_in, touched}
+use Rattle.order_law.specs.{Matched.Matched, Matched.PairedTest, Outcomes.PairedOutcome, FrameLaw.PairsObjects}
+use Rattle.order_law.proofs.{FrameLaw.frame_law, OwnRecord.first_in, OwnRecord.touched}
 
 abbrev pub out : Location
 out = place.Static out_field

@@ -2,29 +2,17 @@
 use Rattle.std.proofs.Common.{◌≡◌, ℕ, zero, suc, ◌<◌, ◌≤◌, length, get_or, map, List, [], ◌∷◌, true, false, refl, sym, ◌∙◌, ap, subst, inl, inr, arith, Some, None}
 use Rattle.std.specs.Str.{bytes_eq}
 use Rattle.std.proofs.Math.ListN.{get_or-map}
-use Rattle.jvm_model.specs.declared.values.Value.{Value}
-use Rattle.jvm_model.specs.declared.values.InitState.TheVariants.{Idle}
-use Rattle.jvm_model.specs.declared.values.Location.{Location}
-use Rattle.jvm_model.specs.declared.values.Touch.{Touch}
-use Rattle.jvm_model.specs.declared.program.Program.{Program}
-use Rattle.jvm_model.specs.declared.program.FieldRec.{FieldRec}
-use Rattle.jvm_model.specs.declared.program.ClassRec.{ClassRec}
+use Rattle.jvm_model.specs.declared.values.{Value.Value, InitState.TheVariants.Idle, Location.Location, Touch.Touch}
+use Rattle.jvm_model.specs.declared.program.{Program.Program, FieldRec.FieldRec, ClassRec.ClassRec}
 use Rattle.jvm_model.specs.World.{World, size, at, look}
-use Rattle.jvm_model.specs.Classes.{field_at, no_field}
-use Rattle.jvm_model.specs.Linked.{Linked}
-use Rattle.jvm_model.specs.State.{test_at}
+use Rattle.jvm_model.specs.{Classes.field_at, Classes.no_field, Linked.Linked, State.test_at}
 use Rattle.jvm_model.specs.Suite.{opening, Given, one_test, is_detected}
-use Rattle.order_law.specs.Conflicts.{down}
-use Rattle.order_law.specs.Exposed.{exposed}
+use Rattle.order_law.specs.{Conflicts.down, Exposed.exposed, Matched.Matched, Outcomes.PairedOutcome, Reach.is_settled, Reach.puts_out_somewhere}
 use Rattle.order_law.specs.Histories.{after_history, given_after, touches_of, IsTestNumber}
 use Rattle.order_law.specs.Pairing.{PairedValue, PairedLocation, statics, inits, heads, at_field, at_elem, texts, files, props, PairedContent}
 use Rattle.order_law.specs.Numbers.{Numbers, Tested, with_places}
-use Rattle.order_law.specs.Matched.{Matched}
-use Rattle.order_law.specs.Outcomes.{PairedOutcome}
-use Rattle.order_law.specs.Reach.{is_settled, puts_out_somewhere}
-use Rattle.order_law.proofs.FrameLaw.{ran_as}
+use Rattle.order_law.proofs.{FrameLaw.ran_as, PlainRows.constant-paired}
 use Rattle.order_law.proofs.Histories.{InSuite, in_suite, world_as}
-use Rattle.order_law.proofs.PlainRows.{constant-paired}
 use Rattle.impact_pick.specs.Carried.{IsCarried, GivesSame, CarriedLaw}
 use Rattle.impact_pick.proofs.Worlds.{AlikeWorlds, itself, itself_is, stays_alike}
 use Rattle.impact_pick.proofs.Alone.{out_stays, settled_reads, settled_puts, gives_alone}

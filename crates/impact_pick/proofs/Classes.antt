@@ -3,19 +3,11 @@ use Rattle.std.proofs.Common.{◌≡◌, ℕ, suc, ◌+◌, ◌<◌, List, [], �
 use Rattle.std.specs.Prelude.{option_map, is_none}
 use Rattle.std.specs.List.{list_all}
 use Rattle.std.proofs.lemmas.Bool.{and_parts, ltb-true}
-use Rattle.class_reader.specs.declared.parts.ClassParts.{ClassParts}
-use Rattle.class_reader.specs.declared.parts.MemberPart.{MemberPart}
-use Rattle.class_reader.specs.declared.parts.CodePart.{CodePart}
-use Rattle.jvm_model.specs.declared.program.Program.{Program}
-use Rattle.jvm_model.specs.declared.program.ClassRec.{ClassRec}
-use Rattle.jvm_model.specs.declared.program.FieldRec.{FieldRec}
-use Rattle.jvm_model.specs.declared.program.MethodRec.{MethodRec}
-use Rattle.jvm_model.specs.declared.program.Body.{Body}
-use Rattle.jvm_model.specs.declared.program.TestEntry.{TestEntry}
-use Rattle.jvm_model.specs.Builtin.{builtin_count}
+use Rattle.class_reader.specs.declared.parts.{ClassParts.ClassParts, MemberPart.MemberPart, CodePart.CodePart}
+use Rattle.jvm_model.specs.declared.program.{Program.Program, ClassRec.ClassRec, FieldRec.FieldRec, MethodRec.MethodRec, Body.Body, TestEntry.TestEntry}
+use Rattle.jvm_model.specs.{Builtin.builtin_count, Linked.IsDistinct}
 use Rattle.jvm_model.specs.Library.{builtin_classes, builtin_methods, builtin_defs}
 use Rattle.jvm_model.specs.Classes.{class_at, field_at, method_at, literal_at, no_class, no_method}
-use Rattle.jvm_model.specs.Linked.{IsDistinct}
 use Rattle.jvm_model.proofs.BuiltinRules.{lengths, all_at, enough_fields, enough_methods, builtin_class, builtin_field, builtin_method}
 use Rattle.class_link.specs.ClassNames.{name_at, all_names, number_or_first}
 use Rattle.class_link.specs.Literals.{literals}

@@ -1,17 +1,14 @@
 -- A string constant of a kept class is paired with that of its text.
 use Rattle.std.proofs.Common.{◌≡◌, ℕ, zero, suc, ◌<◌, List, [], ◌∷◌, ◌++◌, length, get_or, slice_get, Bool, true, false, cond, nat_lt, refl, sym, ◌∙◌, ap, inl, inr, arith, Option, Some}
 use Rattle.std.specs.Prelude.{flat_map, position, unwrap_or}
-use Rattle.std.specs.List.{list_any, position_or_len}
-use Rattle.std.specs.Str.{bytes_eq}
+use Rattle.std.specs.{List.list_any, List.position_or_len, Str.bytes_eq}
 use Rattle.std.proofs.lemmas.Bool.{cases_Bool, or_cases, or_left, or_right, lt-ltb}
-use Rattle.std.proofs.lemmas.List.Folds.{list_any-append}
-use Rattle.std.proofs.lemmas.List.Sums.{position_or_len_is}
+use Rattle.std.proofs.{lemmas.List.Folds.list_any-append, lemmas.List.Sums.position_or_len_is}
 use Rattle.et_base.proofs.Texts.{units_true, units_same}
 use Rattle.class_pool.specs.declared.pool.Entry.TheVariants as entry
 use Rattle.class_pool.specs.Pool.{entry_of}
 use Rattle.class_reader.specs.declared.parts.ClassParts.{ClassParts}
-use Rattle.class_link.specs.ClassNames.{text_at}
-use Rattle.class_link.specs.Assembly.{assembled, skeleton}
+use Rattle.class_link.specs.{ClassNames.text_at, Assembly.assembled, Assembly.skeleton}
 use Rattle.class_link.specs.Literals.{string_in, strings_of, noted, literals, literal_number}
 use Rattle.class_link.proofs.Pools.{standing}
 use Rattle.impact_pick.proofs.ByNames.{LiteralPair, constants}

@@ -2,9 +2,7 @@
 use Rattle.std.proofs.Common.{◌≡◌, ℕ, ◌≤◌, List, [], ◌∷◌, length, true, ◌&&◌, nat_eq, nat_le, refl, subst, arith, Option, Some}
 use Rattle.std.specs.List.{list_all}
 use Rattle.std.proofs.lemmas.Bool.{and_parts, and_from, eqb-true, leb-true}
-use Rattle.order_law.specs.declared.records.More.{More}
-use Rattle.order_law.specs.declared.records.Reach.{Reach}
-use Rattle.order_law.specs.declared.records.Record.{Record}
+use Rattle.order_law.specs.declared.records.{More.More, Reach.Reach, Record.Record}
 use Rattle.order_law.specs.RecordForm.{are_units, is_record_form, numbers_ascend, is_reach, is_reach_form}
 use Rattle.impact_pick.specs.Form.{are_within}
 

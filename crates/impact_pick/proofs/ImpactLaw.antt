@@ -1,51 +1,30 @@
 -- From class files and the record to report lines.
 use Rattle.std.proofs.Common.{◌≡◌, ℕ, zero, suc, ◌+◌, ◌-◌, ◌<◌, ◌≤◌, List, [], ◌∷◌, length, get_or, slice_get, filter, Bool, true, false, ◌||◌, cond, nat_eq, refl, sym, ◌∙◌, ap, subst, inl, inr, arith, Option, Some, None, Result, Ok, All, IsSome}
-use Rattle.std.specs.List.{range_with_len}
-use Rattle.std.specs.Str.{bytes_eq}
+use Rattle.std.specs.{List.range_with_len, Str.bytes_eq}
 use Rattle.std.proofs.lemmas.Bool.{or_cases, or_right, eqb-true}
 use Rattle.std.proofs.lemmas.Option.{slice_get_within, slice_get-get_or, get_or_from_slice_get}
 use Rattle.et_base.proofs.Texts.{units_true}
-use Rattle.class_reader.specs.declared.parts.ClassParts.{ClassParts}
-use Rattle.class_reader.specs.declared.parts.CodePart.{CodePart}
+use Rattle.class_reader.specs.declared.parts.{ClassParts.ClassParts, CodePart.CodePart}
 use Rattle.class_reader.specs.ClassGrammar as grammar
-use Rattle.jvm_model.specs.declared.program.Program.{Program}
-use Rattle.jvm_model.specs.declared.program.ClassRec.{ClassRec}
-use Rattle.jvm_model.specs.declared.program.TestEntry.{TestEntry}
-use Rattle.jvm_model.specs.declared.program.Body.{Body}
-use Rattle.jvm_model.specs.Builtin.{builtin_count}
-use Rattle.jvm_model.specs.Classes.{class_at, member}
+use Rattle.jvm_model.specs.declared.program.{Program.Program, ClassRec.ClassRec, TestEntry.TestEntry, Body.Body}
+use Rattle.jvm_model.specs.{Builtin.builtin_count, Classes.class_at, Classes.member, State.test_at, State.no_test, Suite.is_detected}
 use Rattle.jvm_model.specs.Linked.{Linked, IsDistinct, IsClass}
-use Rattle.jvm_model.specs.State.{test_at, no_test}
-use Rattle.jvm_model.specs.Suite.{is_detected}
 use Rattle.class_link.specs.declared.fault.LinkFault.{LinkFault}
 use Rattle.class_link.specs.declared.lines.TestLines.{TestLines}
-use Rattle.class_link.specs.ClassNames.{all_names}
+use Rattle.class_link.specs.{ClassNames.all_names, Bodies.linked_body}
 use Rattle.class_link.specs.Assembly.{mentions, given_classes, assembled, skeleton, bare_body}
-use Rattle.class_link.specs.Bodies.{linked_body}
 use Rattle.class_link.specs.Faults.{first_some, duplicate_fault, supertypes_fault, all_references_fault}
 use Rattle.class_link.specs.Link.{setting, unless, cycle_fault, tests_of, program_of, link_by, Links, AreLines}
-use Rattle.class_link.proofs.Assembled.{class_count, class_given}
-use Rattle.class_link.proofs.Blocks.{at_place}
-use Rattle.class_link.proofs.Distinct.{is_distinct}
-use Rattle.class_link.proofs.Listed.{AllKnown}
+use Rattle.class_link.proofs.{Assembled.class_count, Assembled.class_given, Blocks.at_place, Distinct.is_distinct, Listed.AllKnown}
 use Rattle.class_link.proofs.LinkLaw.{bound, unless_none, known_from, coded_from, links_linked}
-use Rattle.order_law.specs.Conflicts.{Member}
-use Rattle.order_law.specs.declared.records.Prints.{Prints}
-use Rattle.order_law.specs.declared.records.Record.{Record}
-use Rattle.order_law.specs.declared.records.More.{More}
-use Rattle.order_law.specs.Histories.{IsTestNumber}
-use Rattle.order_law.specs.Matched.{MatchedCode, Matched}
-use Rattle.order_law.specs.Numbers.{Numbers}
-use Rattle.order_law.specs.Reach.{IsRecordOf}
+use Rattle.order_law.specs.{Conflicts.Member, Histories.IsTestNumber, Matched.MatchedCode, Matched.Matched, Numbers.Numbers, Reach.IsRecordOf}
+use Rattle.order_law.specs.declared.records.{Prints.Prints, Record.Record, More.More}
 use Rattle.order_law.proofs.Members.{true_member}
-use Rattle.impact_pick.specs.Carried.{PairedEntry, IsCarried}
-use Rattle.impact_pick.specs.Pick.{is_changed, is_picked}
+use Rattle.impact_pick.specs.{Carried.PairedEntry, Carried.IsCarried, Pick.is_changed, Pick.is_picked}
 use Rattle.impact_pick.specs.Unpicked.{is_kept, lines_of, KeptClasses}
 use Rattle.impact_pick.proofs.Unpicked.{not_false, kept_law, unpicked_law}
 use Rattle.impact_pick.specs.ImpactLaw.{HasSums, SumsTell, ImpactLaw}
-use Rattle.impact_pick.proofs.Names.{AreKept}
-use Rattle.impact_pick.proofs.Records.{n}
-use Rattle.impact_pick.proofs.Starts.{skeletons_match, matched}
+use Rattle.impact_pick.proofs.{Names.AreKept, Records.n, Starts.skeletons_match, Starts.matched}
 use Rattle.impact_pick.proofs.Resolved.{supers_there, pools_name, code_there}
 use Rattle.impact_pick.proofs.Lines.{line_test, tests_long, line_carried}
 

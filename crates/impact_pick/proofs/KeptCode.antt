@@ -6,21 +6,15 @@ use Rattle.class_pool.specs.declared.pool.Entry.{Entry}
 use Rattle.class_pool.specs.declared.pool.Entry.TheVariants as entry
 use Rattle.class_pool.specs.Pool.{entry_of}
 use Rattle.code_decode.specs.declared.instructions.RawOp.{RawOp}
-use Rattle.class_reader.specs.declared.parts.ClassParts.{ClassParts}
-use Rattle.class_reader.specs.declared.parts.CodePart.{CodePart}
-use Rattle.class_reader.specs.declared.parts.RawHandler.{RawHandler}
-use Rattle.jvm_model.specs.declared.values.Kind.{Kind}
-use Rattle.jvm_model.specs.declared.values.Value.TheVariants.{Lit, Obj}
+use Rattle.class_reader.specs.declared.parts.{ClassParts.ClassParts, CodePart.CodePart, RawHandler.RawHandler}
+use Rattle.jvm_model.specs.declared.values.{Kind.Kind, Value.TheVariants.Lit, Value.TheVariants.Obj}
 use Rattle.jvm_model.specs.declared.instr.Instr.{Instr}
 use Rattle.jvm_model.specs.declared.instr.Instr.TheVariants as form
-use Rattle.jvm_model.specs.Builtin.{builtin_count}
-use Rattle.jvm_model.specs.Linked.{IsDistinct}
+use Rattle.jvm_model.specs.{Builtin.builtin_count, Linked.IsDistinct, Selection.named_class}
 use Rattle.jvm_model.specs.Lookup.{find_field, find_method, lacks_method}
-use Rattle.jvm_model.specs.Selection.{named_class}
 use Rattle.code_forms.specs.declared.references.Target.{Target}
 use Rattle.code_forms.specs.declared.references.Target.TheVariants as target
-use Rattle.code_forms.specs.Operands.{index_in, number_in}
-use Rattle.code_forms.specs.Uses.{use_of}
+use Rattle.code_forms.specs.{Operands.index_in, Operands.number_in, Uses.use_of}
 use Rattle.code_forms.specs.Forms.{constant_form, branches, field_form, method_form, members, array_of, number_array, type_form, types, form_of}
 use Rattle.code_forms.proofs.FormCases.{is_plain, IsTyped, loads_plain, stores_plain, moves_plain, numbers_plain, conversions_plain}
 use Rattle.class_link.specs.declared.link_environment.LinkEnvironment.{LinkEnvironment}
@@ -33,14 +27,10 @@ use Rattle.order_law.specs.Numbers.{Numbers, Tested}
 use Rattle.order_law.specs.Forms.{const_int, const_long, const_literal, PairedInstr}
 use Rattle.order_law.specs.Forms as same
 use Rattle.order_law.specs.Matched.{PairedPlaced, PairedHandler, PairedBody, MatchedCode}
-use Rattle.order_law.proofs.Programs.{named-paired}
-use Rattle.order_law.proofs.Same.{is_free, free_alone}
+use Rattle.order_law.proofs.{Programs.named-paired, Same.is_free, Same.free_alone}
 use Rattle.impact_pick.specs.ByName.{same_class, by_name}
-use Rattle.impact_pick.proofs.ByNames.{class_from, literal_from}
+use Rattle.impact_pick.proofs.{ByNames.class_from, ByNames.literal_from, FormPairs.cond_two, FormPairs.form_pair, Records.n, Constants.literal_alike}
 use Rattle.impact_pick.proofs.Names.{AreKept, IsKept, number_alike}
-use Rattle.impact_pick.proofs.FormPairs.{cond_two, form_pair}
-use Rattle.impact_pick.proofs.Records.{n}
-use Rattle.impact_pick.proofs.Constants.{literal_alike}
 use Rattle.impact_pick.proofs.Targets.{NamesClasses, set, PairedTarget, constant_targets, type_targets, field_targets, method_targets, target_alike}
 
 -- ---- forms without numbers of the program

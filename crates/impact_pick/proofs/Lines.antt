@@ -1,8 +1,7 @@
 -- A test line that gives a test of a kept class gives the same one in both lists.
 use Rattle.std.proofs.Common.{◌≡◌, ℕ, zero, suc, ◌+◌, List, [], ◌∷◌, ◌++◌, length, slice_get, Bool, true, cond, refl, sym, ◌∙◌, ap, subst, inr, arith, Option, Some, None, Result, Ok, Err}
 use Rattle.std.specs.Prelude.{option_and_then}
-use Rattle.std.proofs.lemmas.Bool.{cond_both}
-use Rattle.std.proofs.lemmas.List.{length_push}
+use Rattle.std.proofs.lemmas.{Bool.cond_both, List.length_push}
 use Rattle.class_reader.specs.declared.parts.ClassParts.{ClassParts}
 use Rattle.jvm_model.specs.declared.program.TestEntry.{TestEntry}
 use Rattle.jvm_model.specs.Linked.{IsDistinct, test_method}
@@ -10,20 +9,12 @@ use Rattle.class_link.specs.declared.fault.LinkFault.{LinkFault}
 use Rattle.class_link.specs.declared.fault.LinkFault.TheVariants as fault
 use Rattle.class_link.specs.declared.lines.TestLine.{TestLine}
 use Rattle.class_link.specs.declared.link_environment.LinkEnvironment.{LinkEnvironment}
-use Rattle.class_link.specs.ClassNames.{all_names, class_number}
-use Rattle.class_link.specs.Assembly.{skeleton}
+use Rattle.class_link.specs.{ClassNames.all_names, ClassNames.class_number, Assembly.skeleton, Link.setting, Link.tests_of}
 use Rattle.class_link.specs.Faults.{holds_tests, is_test_method, entry_with, test_in, test_entry}
-use Rattle.class_link.specs.Link.{setting, tests_of}
 use Rattle.class_link.proofs.Blocks.{left_place, right_place}
-use Rattle.order_law.specs.Numbers.{Numbers}
-use Rattle.order_law.specs.Matched.{MatchedCode}
-use Rattle.impact_pick.specs.Carried.{PairedEntry}
-use Rattle.impact_pick.specs.ByName.{same_class, by_name}
-use Rattle.impact_pick.proofs.ByNames.{class_from}
-use Rattle.impact_pick.proofs.Lookups.{test_found}
-use Rattle.impact_pick.proofs.Names.{AreKept, number_alike}
-use Rattle.impact_pick.proofs.Records.{n}
-use Rattle.impact_pick.proofs.Targets.{partner}
+use Rattle.order_law.specs.{Numbers.Numbers, Matched.MatchedCode}
+use Rattle.impact_pick.specs.{Carried.PairedEntry, ByName.same_class, ByName.by_name}
+use Rattle.impact_pick.proofs.{ByNames.class_from, Lookups.test_found, Names.AreKept, Names.number_alike, Records.n, Targets.partner}
 
 -- ---- tests of lines
 

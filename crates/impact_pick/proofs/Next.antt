@@ -1,13 +1,10 @@
 -- One class file or one test more.
 use Rattle.std.proofs.Common.{◌≡◌, ℕ, suc, ◌+◌, ◌-◌, List, [], ◌∷◌, ◌++◌, get_or, filter, Bool, true, false, not, ◌&&◌, ◌||◌, cond, refl, sym, ◌∙◌, ap, arith}
 use Rattle.std.specs.List.{list_any, range_with_len}
-use Rattle.std.proofs.lemmas.List.Elements.{filter-append}
-use Rattle.std.proofs.lemmas.List.Folds.{list_any-append}
+use Rattle.std.proofs.{lemmas.List.Elements.filter-append, lemmas.List.Folds.list_any-append}
 use Rattle.et_base.proofs.Ranges.{range_suc}
 use Rattle.jvm_model.specs.declared.program.Program.{Program}
-use Rattle.order_law.specs.declared.records.Prints.{Prints}
-use Rattle.order_law.specs.declared.records.More.{More}
-use Rattle.order_law.specs.declared.records.Reach.{Reach}
+use Rattle.order_law.specs.declared.records.{Prints.Prints, More.More, Reach.Reach}
 use Rattle.order_law.specs.Reach.{puts_out_somewhere}
 use Rattle.impact_pick.specs.Pick.{is_changed, is_hit, is_open, is_after_hit, is_picked, reach_at, no_reach}
 

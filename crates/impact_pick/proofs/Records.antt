@@ -3,15 +3,11 @@ use Rattle.std.proofs.Common.{◌≡◌, ℕ, zero, suc, ◌+◌, ◌<◌, List,
 use Rattle.std.specs.List.{list_all, range_with_len}
 use Rattle.std.proofs.lemmas.Bool.{ltb-true}
 use Rattle.class_pool.specs.declared.pool.Entry.{Entry}
-use Rattle.class_reader.specs.declared.parts.ClassParts.{ClassParts}
-use Rattle.class_reader.specs.declared.parts.MemberPart.{MemberPart}
-use Rattle.jvm_model.specs.declared.program.Program.{Program}
-use Rattle.jvm_model.specs.declared.program.FieldRec.{FieldRec}
-use Rattle.jvm_model.specs.declared.program.MethodRec.{MethodRec}
-use Rattle.jvm_model.specs.Builtin.{builtin_count}
+use Rattle.class_reader.specs.declared.parts.{ClassParts.ClassParts, MemberPart.MemberPart}
+use Rattle.jvm_model.specs.declared.program.{Program.Program, FieldRec.FieldRec, MethodRec.MethodRec}
+use Rattle.jvm_model.specs.{Builtin.builtin_count, Linked.IsDistinct, Linked.HoldsBuiltins}
 use Rattle.jvm_model.specs.Library.{builtin_fields, builtin_methods, builtin_defs}
 use Rattle.jvm_model.specs.Classes.{field_at, method_at, no_field, no_method}
-use Rattle.jvm_model.specs.Linked.{IsDistinct, HoldsBuiltins}
 use Rattle.jvm_model.proofs.BuiltinRules.{lengths, all_at, enough_fields, enough_methods, builtin_field, builtin_method}
 use Rattle.class_link.specs.Literals.{literals}
 use Rattle.class_link.specs.Assembly.{is_initialiser, initialiser_from, field_rec, method_rec, assembled, skeleton, bare_body}

@@ -2,8 +2,7 @@
 use Rattle.std.proofs.Common.{◌≡◌, ℕ, ◌+◌, ◌-◌, ◌<◌, ◌≤◌, ◌^◌, ℤ, pos, List, [], ◌∷◌, slice_get, get_or, Bool, true, false, not, ◌&&◌, ◌||◌, cond, leb, nat_eq, nat_le, refl, sym, ◌∙◌, ap, subst, inl, inr, arith, Option, Some, None}
 use Rattle.std.specs.Prelude.{option_and_then, option_map, unwrap_or, is_some, is_none, drop}
 use Rattle.std.proofs.lemmas.Bool.{and_parts, or_left, or_right, not-true, cond-true, eq-eqb, le-leb, agree_below, agree_below_at}
-use Rattle.std.proofs.lemmas.Bool.Decides.{nat_tests}
-use Rattle.std.proofs.lemmas.List.Folds.{list_any_at}
+use Rattle.std.proofs.{lemmas.Bool.Decides.nat_tests, lemmas.List.Folds.list_any_at}
 use Rattle.std.proofs.lemmas.Option.{slice_get_within, get_or_from_slice_get}
 use Rattle.et_base.specs.Names.{starts_array}
 use Rattle.class_pool.specs.declared.pool.Entry.{Entry}
@@ -11,50 +10,34 @@ use Rattle.class_pool.specs.declared.pool.Entry.TheVariants as entry
 use Rattle.class_pool.specs.Pool.{entry_of, class_name_of}
 use Rattle.class_pool.proofs.EntryFacts.{NamesClass}
 use Rattle.code_decode.specs.declared.instructions.RawOp.{RawOp}
-use Rattle.code_decode.specs.declared.opcodes.Shape.{Shape}
+use Rattle.code_decode.specs.declared.opcodes.{Shape.Shape, Named.Named}
 use Rattle.code_decode.specs.declared.opcodes.Shape.TheVariants as shape
-use Rattle.code_decode.specs.declared.opcodes.Named.{Named}
 use Rattle.code_decode.specs.declared.opcodes.Named.TheVariants as named
 use Rattle.code_decode.specs.declared.judging.Fit.TheVariants as fit
 use Rattle.dep_record.proofs.FieldLaws.{some_mapped}
-use Rattle.code_decode.specs.Judging.{named_fit, dimensions}
-use Rattle.code_decode.specs.Opcodes.{shape_of}
+use Rattle.code_decode.specs.{Judging.named_fit, Judging.dimensions, Opcodes.shape_of}
 use Rattle.code_decode.proofs.ArgFacts.{OneNumber, IndexCount, CallsInterface, MakesArrays}
 use Rattle.code_decode.proofs.CodeFacts.{PlainFacts, OpFacts}
-use Rattle.class_reader.specs.declared.parts.ClassParts.{ClassParts}
-use Rattle.class_reader.specs.declared.parts.MemberPart.{MemberPart}
-use Rattle.class_reader.specs.declared.parts.CodePart.{CodePart}
-use Rattle.class_reader.specs.declared.parts.RawHandler.{RawHandler}
+use Rattle.class_reader.specs.declared.parts.{ClassParts.ClassParts, MemberPart.MemberPart, CodePart.CodePart, RawHandler.RawHandler}
 use Rattle.class_reader.proofs.PartFacts.{HandlerFacts, PartFacts}
 use Rattle.jvm_model.specs.declared.values.Kind.{Kind}
 use Rattle.jvm_model.specs.declared.values.Kind.TheVariants as kind
-use Rattle.jvm_model.specs.Builtin.{builtin_count}
-use Rattle.jvm_model.specs.Classes.{member}
-use Rattle.jvm_model.specs.Linked.{IsDistinct}
+use Rattle.jvm_model.specs.{Builtin.builtin_count, Classes.member, Linked.IsDistinct}
 use Rattle.jvm_model.proofs.Ranges.{all_there}
-use Rattle.code_forms.specs.declared.references.Use.{Use}
+use Rattle.code_forms.specs.declared.references.{Use.Use, Target.Target}
 use Rattle.code_forms.specs.declared.references.Use.TheVariants as used
-use Rattle.code_forms.specs.declared.references.Target.{Target}
 use Rattle.code_forms.specs.declared.references.Target.TheVariants as target
-use Rattle.code_forms.specs.Operands.{index_in}
-use Rattle.code_forms.specs.Uses.{use_of, fits}
+use Rattle.code_forms.specs.{Operands.index_in, Uses.use_of, Uses.fits}
 use Rattle.code_forms.proofs.FormCases.{is_untyped, IsTyped}
 use Rattle.code_forms.proofs.ShapeFacts.{not_wide, args_of, first_index}
 use Rattle.class_link.specs.ClassNames.{text_at, name_at, all_names, class_number, needed_class, missing, base_of, kind_of, element_class}
-use Rattle.class_link.specs.Assembly.{skeleton}
-use Rattle.class_link.specs.References.{target_of}
+use Rattle.class_link.specs.{Assembly.skeleton, References.target_of, Link.setting}
 use Rattle.class_link.specs.Faults.{first_some, indices, supertype_fits, missing_or, wrong_unless, supertype_fault, supertypes_fault, references_fault, all_references_fault}
-use Rattle.class_link.specs.Link.{setting}
-use Rattle.class_link.proofs.Pools.{first_none}
+use Rattle.class_link.proofs.{Pools.first_none, Listed.AllKnown, LinkLaw.AllCoded, LinkedCode.class_kind}
 use Rattle.class_link.proofs.ClassKinds.{index_listed, not_missing, not_wrong}
-use Rattle.class_link.proofs.Listed.{AllKnown}
-use Rattle.class_link.proofs.LinkLaw.{AllCoded}
-use Rattle.class_link.proofs.LinkedCode.{class_kind}
 use Rattle.class_link.proofs.Referenced.{use_fits, op_used, handler_used, no_fault}
 use Rattle.order_law.specs.Matched.{MatchedCode}
-use Rattle.impact_pick.proofs.Names.{AreKept}
-use Rattle.impact_pick.proofs.Records.{n}
-use Rattle.impact_pick.proofs.Targets.{NamesClasses}
+use Rattle.impact_pick.proofs.{Names.AreKept, Records.n, Targets.NamesClasses}
 use Rattle.impact_pick.proofs.KeptCode.{HasKept, IsResolved, IsCode}
 use Rattle.impact_pick.proofs.Starts.{NamesNumber, HasSupers, has_kept}
 

@@ -4,31 +4,19 @@ use Rattle.std.specs.Prelude.{unwrap_or}
 use Rattle.class_pool.specs.declared.pool.Entry.{Entry}
 use Rattle.class_pool.specs.declared.pool.Entry.TheVariants as entry
 use Rattle.class_pool.specs.Pool.{entry_of, class_name_of}
-use Rattle.class_reader.specs.declared.parts.ClassParts.{ClassParts}
-use Rattle.class_reader.specs.declared.parts.MemberPart.{MemberPart}
-use Rattle.class_reader.specs.declared.parts.CodePart.{CodePart}
-use Rattle.jvm_model.specs.declared.program.Program.{Program}
-use Rattle.jvm_model.specs.declared.program.ClassRec.{ClassRec}
-use Rattle.jvm_model.specs.declared.program.FieldRec.{FieldRec}
-use Rattle.jvm_model.specs.declared.program.Body.{Body}
-use Rattle.jvm_model.specs.declared.program.TestEntry.{TestEntry}
+use Rattle.class_reader.specs.declared.parts.{ClassParts.ClassParts, MemberPart.MemberPart, CodePart.CodePart}
+use Rattle.jvm_model.specs.declared.program.{Program.Program, ClassRec.ClassRec, FieldRec.FieldRec, Body.Body, TestEntry.TestEntry}
 use Rattle.jvm_model.specs.declared.values.Value.TheVariants.{Int, Long, Null}
-use Rattle.jvm_model.specs.Builtin.{builtin_count}
+use Rattle.jvm_model.specs.{Builtin.builtin_count, Linked.IsDistinct, Narrow.narrow, Narrow.narrowed}
 use Rattle.jvm_model.specs.Library.{builtin_classes, builtin_fields, builtin_defs}
 use Rattle.jvm_model.specs.Classes.{class_at, field_at, no_class, no_field, is_static, default_of, member}
-use Rattle.jvm_model.specs.Linked.{IsDistinct}
-use Rattle.jvm_model.specs.Narrow.{narrow, narrowed}
 use Rattle.jvm_model.proofs.BuiltinRules.{builtin_class, builtin_field}
 use Rattle.class_link.specs.ClassNames.{text_at, name_at, all_names, class_number, needed_class}
-use Rattle.class_link.specs.Literals.{literals}
+use Rattle.class_link.specs.{Literals.literals, Bodies.linked_body}
 use Rattle.class_link.specs.Assembly.{constant_opening, static_opening, opening, assembled, skeleton, initialiser_from}
-use Rattle.class_link.specs.Bodies.{linked_body}
-use Rattle.class_link.proofs.Blocks.{at_place}
-use Rattle.class_link.proofs.Assembled.{holds_builtins, class_given}
-use Rattle.order_law.specs.Pairing.{PairedOption}
-use Rattle.order_law.specs.Numbers.{Numbers, Tested}
+use Rattle.class_link.proofs.{Blocks.at_place, Assembled.holds_builtins, Assembled.class_given}
+use Rattle.order_law.specs.{Pairing.PairedOption, Numbers.Numbers, Numbers.Tested, Matched.MatchedCode, Matched.Matched}
 use Rattle.order_law.specs.Forms.{PairedConstant, const_int, const_long, const_null, const_literal}
-use Rattle.order_law.specs.Matched.{MatchedCode, Matched}
 use Rattle.impact_pick.specs.ByName.{same_class, by_name}
 use Rattle.impact_pick.proofs.ByNames.{class_is, literal_from, stream}
 use Rattle.impact_pick.proofs.Names.{AreKept, entry_kept, kept_file}

@@ -4,37 +4,24 @@ use Rattle.std.specs.Prelude.{option_map, unwrap_or}
 use Rattle.class_pool.specs.declared.pool.Entry.{Entry}
 use Rattle.class_pool.specs.declared.pool.Entry.TheVariants as entry
 use Rattle.class_pool.specs.Pool.{entry_of, class_name_of}
-use Rattle.class_reader.specs.declared.parts.ClassParts.{ClassParts}
-use Rattle.class_reader.specs.declared.parts.MemberPart.{MemberPart}
-use Rattle.class_reader.specs.declared.parts.CodePart.{CodePart}
-use Rattle.jvm_model.specs.declared.values.Kind.{Kind}
-use Rattle.jvm_model.specs.declared.values.Value.{Value}
-use Rattle.jvm_model.specs.declared.values.Value.TheVariants.{Int, Long, Lit}
-use Rattle.jvm_model.specs.Builtin.{builtin_count}
-use Rattle.jvm_model.specs.Linked.{IsDistinct}
+use Rattle.class_reader.specs.declared.parts.{ClassParts.ClassParts, MemberPart.MemberPart, CodePart.CodePart}
+use Rattle.jvm_model.specs.declared.values.{Kind.Kind, Value.Value, Value.TheVariants.Int, Value.TheVariants.Long, Value.TheVariants.Lit}
+use Rattle.jvm_model.specs.{Builtin.builtin_count, Linked.IsDistinct, Selection.named_class}
 use Rattle.jvm_model.specs.Lookup.{find_field, find_method, lacks_method}
-use Rattle.jvm_model.specs.Selection.{named_class}
 use Rattle.dep_record.proofs.FieldLaws.{none_chosen, some_mapped}
 use Rattle.code_forms.specs.declared.references.Target.{Target}
 use Rattle.code_forms.specs.declared.references.Target.TheVariants as target
 use Rattle.class_link.specs.declared.link_environment.LinkEnvironment.{LinkEnvironment}
 use Rattle.class_link.specs.ClassNames.{text_at, name_at, all_names, needed_class, kind_of}
-use Rattle.class_link.specs.Literals.{literals, literal_number}
-use Rattle.class_link.specs.Assembly.{skeleton, bare_body}
+use Rattle.class_link.specs.{Literals.literals, Literals.literal_number, Assembly.skeleton, Assembly.bare_body}
 use Rattle.class_link.specs.References.{pair_of, field_target, method_target, target_of}
 use Rattle.order_law.specs.Pairing.{no_more, PairedOption, both_none, both_some, PairedKind}
-use Rattle.order_law.specs.Numbers.{Numbers, Tested}
+use Rattle.order_law.specs.{Numbers.Numbers, Numbers.Tested, Matched.PairedBody, Matched.MatchedCode}
 use Rattle.order_law.specs.Forms.{PairedConstant, const_int, const_long, const_literal}
-use Rattle.order_law.specs.Matched.{PairedBody, MatchedCode}
 use Rattle.order_law.proofs.Programs.{named-paired}
 use Rattle.impact_pick.specs.ByName.{same_class, by_name}
-use Rattle.impact_pick.proofs.ByNames.{method_once, literal_from}
-use Rattle.impact_pick.proofs.Lookups.{field_found, method_found}
-use Rattle.impact_pick.proofs.Names.{AreKept, entry_kept}
-use Rattle.impact_pick.proofs.KeptKinds.{KeepsNamed, kind_alike}
-use Rattle.impact_pick.proofs.Records.{n}
-use Rattle.impact_pick.proofs.Classes.{AreHeaded, matched_code}
-use Rattle.impact_pick.proofs.Constants.{literal_alike}
+use Rattle.impact_pick.proofs.{ByNames.method_once, ByNames.literal_from, Lookups.field_found, Lookups.method_found, Names.AreKept, Names.entry_kept}
+use Rattle.impact_pick.proofs.{KeptKinds.KeepsNamed, KeptKinds.kind_alike, Records.n, Classes.AreHeaded, Classes.matched_code, Constants.literal_alike}
 
 -- what an entry's references name is a Class entry
 pub record NamesClasses (slots : List (Option Entry)) : Type 0 where

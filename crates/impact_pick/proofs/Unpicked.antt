@@ -3,27 +3,16 @@ use Rattle.std.proofs.Common.{◌≡◌, ℕ, zero, suc, ◌+◌, ◌-◌, ◌<�
 use Rattle.std.specs.Prelude.{option_map, IsSome, is_some, codes, decimal, ◌++◌}
 use Rattle.std.specs.List.{list_any, range_with_len}
 use Rattle.std.proofs.lemmas.Bool.{cases_Bool, cases_lt, and_parts, and_from, or_cases, or_parts, not-true, not_from_false, leb-true, le-leb}
-use Rattle.std.proofs.lemmas.Map.Keys.{any_passes_from_place}
+use Rattle.std.proofs.{lemmas.Map.Keys.any_passes_from_place, Math.ListN.get_or-map}
 use Rattle.std.proofs.lemmas.Option.{slice_get-get_or}
-use Rattle.std.proofs.Math.ListN.{get_or-map}
 use Rattle.et_base.specs.Quotes.{name_of}
-use Rattle.jvm_model.specs.declared.outcome.Cause.{Cause}
-use Rattle.jvm_model.specs.declared.outcome.Outcome.{Outcome}
-use Rattle.jvm_model.specs.declared.outcome.Verdict.{Verdict}
-use Rattle.jvm_model.specs.declared.program.ClassRec.{ClassRec}
-use Rattle.jvm_model.specs.declared.program.Program.{Program}
-use Rattle.jvm_model.specs.Builtin.{builtin_count}
-use Rattle.jvm_model.specs.Classes.{class_at, no_class}
+use Rattle.jvm_model.specs.declared.outcome.{Cause.Cause, Outcome.Outcome, Verdict.Verdict}
+use Rattle.jvm_model.specs.declared.program.{ClassRec.ClassRec, Program.Program}
+use Rattle.jvm_model.specs.{Builtin.builtin_count, Classes.class_at, Classes.no_class, State.test_at, State.no_test}
 use Rattle.jvm_model.specs.Linked.{Linked, IsGiven, IsTest}
-use Rattle.jvm_model.specs.State.{test_at, no_test}
 use Rattle.jvm_model.specs.Texts.{cause_text, message_text, verdict_text, out_line, outcome_lines}
-use Rattle.order_law.specs.Conflicts.{Member}
-use Rattle.order_law.specs.declared.records.Prints.{Prints}
-use Rattle.order_law.specs.declared.records.Reach.{Reach}
-use Rattle.order_law.specs.declared.records.More.{More}
-use Rattle.order_law.specs.Histories.{IsTestNumber}
-use Rattle.order_law.specs.Matched.{Matched}
-use Rattle.order_law.specs.Numbers.{Numbers}
+use Rattle.order_law.specs.{Conflicts.Member, Histories.IsTestNumber, Matched.Matched, Numbers.Numbers}
+use Rattle.order_law.specs.declared.records.{Prints.Prints, Reach.Reach, More.More}
 use Rattle.order_law.specs.Outcomes.{PairedCause, PairedVerdict, both_passed, both_failed, both_error, PairedOutcome}
 use Rattle.order_law.specs.Reach.{Reaches, own, touched, mentioned, IsMoreOf, is_settled, puts_out_somewhere}
 use Rattle.order_law.proofs.Members.{member_true, true_member}

@@ -1,9 +1,7 @@
 -- The matching of two programs by names, of chosen classes (this project's).
 use Rattle.std.specs.Prelude.{ℕ, length, Bool, ◌&&◌, ◌||◌, nat_eq, nat_lt, nat_le}
 use Rattle.std.specs.Str.{bytes_eq}
-use Rattle.jvm_model.specs.declared.program.Program.{Program}
-use Rattle.jvm_model.specs.declared.program.FieldRec.{FieldRec}
-use Rattle.jvm_model.specs.declared.program.MethodRec.{MethodRec}
+use Rattle.jvm_model.specs.declared.program.{Program.Program, FieldRec.FieldRec, MethodRec.MethodRec}
 use Rattle.jvm_model.specs.Builtin.{builtin_count}
 use Rattle.jvm_model.specs.Classes.{field_at, method_at, literal_at}
 use Rattle.order_law.specs.Numbers.{Numbers}

@@ -1,8 +1,7 @@
 -- What is asked of a record and of sums (this project's).
 use Rattle.std.specs.Prelude.{ℕ, List, length, Bool, false, ◌&&◌, nat_eq, nat_le, Option, Some, None}
 use Rattle.std.specs.List.{list_all}
-use Rattle.order_law.specs.declared.records.More.{More}
-use Rattle.order_law.specs.declared.records.Prints.{Prints}
+use Rattle.order_law.specs.declared.records.{More.More, Prints.Prints}
 
 -- numbers from 1 to n
 abbrev pub are_within : ℕ → List ℕ → Bool

@@ -6,13 +6,9 @@ use Rattle.class_link.specs.declared.lines.TestLines.{TestLines}
 use Rattle.class_link.specs.Link.{Links, AreLines}
 use Rattle.jvm_model.specs.declared.program.Program.{Program}
 use Rattle.jvm_model.specs.Suite.{is_detected}
-use Rattle.order_law.specs.declared.records.Prints.{Prints}
-use Rattle.order_law.specs.declared.records.Record.{Record}
-use Rattle.order_law.specs.declared.records.More.{More}
-use Rattle.order_law.specs.Histories.{IsTestNumber}
-use Rattle.order_law.specs.Reach.{IsRecordOf}
-use Rattle.impact_pick.specs.Pick.{is_picked}
-use Rattle.impact_pick.specs.Unpicked.{lines_of}
+use Rattle.order_law.specs.declared.records.{Prints.Prints, Record.Record, More.More}
+use Rattle.order_law.specs.{Histories.IsTestNumber, Reach.IsRecordOf}
+use Rattle.impact_pick.specs.{Pick.is_picked, Unpicked.lines_of}
 
 -- one sum for each class file
 abbrev pub HasSums : Prints → List ClassParts → Type 0

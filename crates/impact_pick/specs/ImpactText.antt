@@ -1,12 +1,9 @@
 -- The text that names the tests to run again (this project's).
 use Rattle.std.specs.Prelude.{ℕ, List, [], ◌∷◌, ◌++◌, codes}
 use Rattle.std.specs.List.{flat_map}
-use Rattle.dep_record.specs.DepsText.{test_name}
-use Rattle.dep_record.specs.RecordText.{numbers_text}
-use Rattle.jvm_model.specs.declared.program.Names.{Names}
-use Rattle.jvm_model.specs.declared.program.Program.{Program}
-use Rattle.order_law.specs.declared.records.More.{More}
-use Rattle.order_law.specs.declared.records.Prints.{Prints}
+use Rattle.dep_record.specs.{DepsText.test_name, RecordText.numbers_text}
+use Rattle.jvm_model.specs.declared.program.{Names.Names, Program.Program}
+use Rattle.order_law.specs.declared.records.{More.More, Prints.Prints}
 use Rattle.impact_pick.specs.Pick.{changed, picked}
 
 -- class files by their numbers, joined by commas; `-` for none

@@ -2,25 +2,12 @@
 use Rattle.std.specs.Prelude.{◌≡◌, ℕ, ◌-◌, List, length, map, Bool, true, false, not, ◌&&◌, nat_le, Option, Some, option_map, IsSome}
 use Rattle.std.specs.List.{list_any}
 use Rattle.et_base.specs.Quotes.{name_of}
-use Rattle.jvm_model.specs.declared.program.Names.{Names}
-use Rattle.jvm_model.specs.declared.program.Program.{Program}
-use Rattle.jvm_model.specs.Builtin.{builtin_count}
-use Rattle.jvm_model.specs.Classes.{class_at, member}
-use Rattle.jvm_model.specs.Linked.{Linked, IsGiven}
-use Rattle.jvm_model.specs.State.{test_at}
-use Rattle.jvm_model.specs.Suite.{seq, is_detected}
-use Rattle.jvm_model.specs.Texts.{outcome_lines}
-use Rattle.order_law.specs.Conflicts.{Member}
-use Rattle.order_law.specs.declared.records.Prints.{Prints}
-use Rattle.order_law.specs.declared.records.Record.{Record}
-use Rattle.order_law.specs.declared.records.Reach.{Reach}
-use Rattle.order_law.specs.declared.records.More.{More}
-use Rattle.order_law.specs.Histories.{IsTestNumber}
-use Rattle.order_law.specs.Matched.{Matched}
-use Rattle.order_law.specs.Numbers.{Numbers}
-use Rattle.order_law.specs.Reach.{IsRecordOf}
-use Rattle.impact_pick.specs.Carried.{IsCarried}
-use Rattle.impact_pick.specs.Pick.{is_changed, is_picked}
+use Rattle.jvm_model.specs.declared.program.{Names.Names, Program.Program}
+use Rattle.jvm_model.specs.{Builtin.builtin_count, Classes.class_at, Classes.member, Linked.Linked, Linked.IsGiven, State.test_at}
+use Rattle.jvm_model.specs.{Suite.seq, Suite.is_detected, Texts.outcome_lines}
+use Rattle.order_law.specs.{Conflicts.Member, Histories.IsTestNumber, Matched.Matched, Numbers.Numbers, Reach.IsRecordOf}
+use Rattle.order_law.specs.declared.records.{Prints.Prints, Record.Record, Reach.Reach, More.More}
+use Rattle.impact_pick.specs.{Carried.IsCarried, Pick.is_changed, Pick.is_picked}
 
 -- nothing in this reach has changed, and the given class of number c, counted from 0 behind the built-in ones, is in it
 abbrev pub holds_unchanged : More → Prints → ℕ → Reach → Bool

@@ -1,8 +1,6 @@
 //! What the tests that aren't picked have in common before and after class files changed.
 
-ghost use Rattle.impact_pick.specs.Carried.{CarriedLaw};
-ghost use Rattle.impact_pick.specs.ImpactLaw.{ImpactLaw};
-ghost use Rattle.impact_pick.specs.Unpicked.{KeptLaw, UnpickedLaw};
+ghost use Rattle.impact_pick.specs.{Carried.CarriedLaw, ImpactLaw.ImpactLaw, Unpicked.KeptLaw, Unpicked.UnpickedLaw};
 
 /// Tests of two matched programs. A test that is carried over gives the same in both where all tests before it are carried
 /// over too, or where it is settled in the one program and no code of the other puts the static `System.out`.

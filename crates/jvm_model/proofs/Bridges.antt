@@ -1,8 +1,7 @@
 -- The code's view of a program of accesses is its run.
 use Rattle.std.proofs.Common.{◌≡◌, ℕ, List, [], ◌∷◌, ◌++◌, ◌+◌, ◌-◌, true, nat_le, if◌then◌else◌, refl, ap, sym, ◌∙◌, arith, append_assoc, append-nil, inl, inr}
 use Rattle.std.proofs.lemmas.Bool.{cases_Bool, and_from}
-use Rattle.jvm_model.specs.declared.values.Touch.{Touch}
-use Rattle.jvm_model.specs.declared.values.Location.{Location}
+use Rattle.jvm_model.specs.declared.values.{Touch.Touch, Location.Location}
 use Rattle.jvm_model.specs.declared.values.Location.TheVariants as place
 use Rattle.jvm_model.specs.World.{World, at, put, size, make_object, has}
 use Rattle.jvm_model.specs.Access.{Access, done, read, write, make, spend, bind, made, read_of, write_of, Ran, run}

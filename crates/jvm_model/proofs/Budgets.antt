@@ -3,10 +3,8 @@ use Rattle.std.proofs.Common.{◌≡◌, ℕ, zero, suc, ◌+◌, ◌<◌, ◌�
 use Rattle.std.proofs.lemmas.Bool.{cases_Bool, leb-true}
 use Rattle.jvm_model.specs.declared.values.Touch.{Touch}
 use Rattle.jvm_model.specs.declared.program.Program.{Program}
-use Rattle.jvm_model.specs.World.{World}
-use Rattle.jvm_model.specs.Access.{Ran, run}
+use Rattle.jvm_model.specs.{World.World, Access.Ran, Access.run, Step.step}
 use Rattle.jvm_model.specs.State.{State, Turn, next, ended, stuck_turn, started}
-use Rattle.jvm_model.specs.Step.{step}
 use Rattle.jvm_model.specs.Suite.{End, finished, stuck, out_of_steps, after_step, whole, tree, Given, given_at, one_test}
 use Rattle.jvm_model.proofs.Binds.{run_bind}
 

@@ -1,13 +1,9 @@
 -- The built-in classes keep the rules of a linked program: tests over the whole tables, computed.
 use Rattle.std.proofs.Common.{◌≡◌, ℕ, List, [], ◌∷◌, ◌+◌, length, get_or, Bool, true, ◌&&◌, not, nat_eq, nat_lt, refl, Option, Some, None}
-use Rattle.std.specs.List.{list_all, list_any}
-use Rattle.jvm_model.specs.declared.program.Program.{Program}
-use Rattle.jvm_model.specs.declared.program.ClassRec.{ClassRec}
-use Rattle.jvm_model.specs.declared.program.MethodRec.{MethodRec}
-use Rattle.std.specs.Str.{bytes_eq}
-use Rattle.jvm_model.specs.Builtin.{builtin_count}
+use Rattle.std.specs.{List.list_all, List.list_any, Str.bytes_eq}
+use Rattle.jvm_model.specs.declared.program.{Program.Program, ClassRec.ClassRec, MethodRec.MethodRec}
+use Rattle.jvm_model.specs.{Builtin.builtin_count, Classes.no_class, Classes.no_field}
 use Rattle.jvm_model.specs.Library.{builtin_defs, builtin_classes, builtin_fields, builtin_methods}
-use Rattle.jvm_model.specs.Classes.{no_class, no_field}
 use Rattle.et_base.specs.Names.{is_class_name, is_unqualified, is_method_name, is_field_descriptor, is_method_descriptor, after_class, after_element, after_type, argument, arguments, argument_units}
 use Rattle.jvm_model.specs.Linked.{count, has_room, opens}
 

@@ -6,9 +6,7 @@ use Rattle.std.proofs.lemmas.Bool.{or_cases, and_from, eqb-true, lt-ltb, le-leb}
 use Rattle.std.specs.Int.{w8, w16, int_wrap, int_rem_euclid}
 use Rattle.std.proofs.lemmas.Int.{ints, SFits-int_wrap}
 use Rattle.et_base.specs.Numbers.{i2b, i2s, i2c}
-use Rattle.jvm_model.specs.Classes.{member}
-use Rattle.jvm_model.specs.Linked.{fits_int}
-use Rattle.jvm_model.specs.Narrow.{narrow_int}
+use Rattle.jvm_model.specs.{Classes.member, Linked.fits_int, Narrow.narrow_int}
 
 -- what holds of each of these numbers holds of one of them
 pub member_holds : (P : ℕ → Type 0) (xs : List ℕ) (u : ℕ) → AllByRecursion P xs → member u xs ≡ true → P u

@@ -2,36 +2,23 @@
 use Rattle.std.specs.Prelude.{⊤}
 use Rattle.jvm_model.specs.Library.{builtin_classes, builtin_fields, builtin_methods, builtin_defs}
 use Rattle.jvm_model.specs.Classes.{class_bound, own_interfaces, is_below, implements, default_interfaces, is_trivial, layout, blank, form_at, next_place}
-use Rattle.jvm_model.specs.Descriptors.{parameters, return_type}
-use Rattle.jvm_model.specs.Narrow.{narrow}
+use Rattle.jvm_model.specs.{Descriptors.parameters, Descriptors.return_type, Narrow.narrow, Throwing.throws, Raising.row_raise, Raising.handler_for}
 use Rattle.jvm_model.specs.Suite.{opening, tree, one_test, runs, suite_fault, suite_limit}
 use Rattle.jvm_model.specs.Step.{step, row, row_here, row_throw}
-use Rattle.jvm_model.specs.Throwing.{throws}
-use Rattle.jvm_model.specs.Raising.{row_raise, handler_for}
 use Rattle.jvm_model.specs.Initialise.{row_finish, row_fail, parts_of}
-use Rattle.jvm_model.specs.Rows.{begin}
-use Rattle.jvm_model.specs.RowsMoves.{row_moves}
-use Rattle.jvm_model.specs.RowsArith.{row_arith}
-use Rattle.jvm_model.specs.RowsBranches.{row_branches, lookup_target}
+use Rattle.jvm_model.specs.{Rows.begin, RowsMoves.row_moves, RowsArith.row_arith, RowsBranches.row_branches, RowsBranches.lookup_target, RowsFields.row_fields}
 use Rattle.jvm_model.specs.RowsStatics.{row_statics, read_static, write_static}
-use Rattle.jvm_model.specs.RowsFields.{row_fields}
 use Rattle.jvm_model.specs.RowsCreate.{row_create, new_object, nest, children, nest_cost}
 use Rattle.jvm_model.specs.RowsCalls.{row_calls, calls, argument_count}
-use Rattle.jvm_model.specs.RowsReturn.{row_return, hands_on}
+use Rattle.jvm_model.specs.{RowsReturn.row_return, RowsReturn.hands_on, Natives.row_native, NativesObject.native_object, NativesObject.native_throwable}
 use Rattle.jvm_model.specs.Selection.{kept_method, select, select_virtual, select_interface, select_special}
-use Rattle.jvm_model.specs.Natives.{row_native}
-use Rattle.jvm_model.specs.NativesObject.{native_object, native_throwable}
 use Rattle.jvm_model.specs.NativesString.{native_string, native_builder, hash_of}
 use Rattle.jvm_model.specs.NativesOutside.{native_system, native_print, native_files, native_env}
 use Rattle.jvm_model.specs.Driver.{drive, drives, drive_first, drive_init, drive_set_up, drive_method, drive_tear_down, judge}
-use Rattle.std.specs.Fmt.{digits}
+use Rattle.std.specs.{Fmt.digits, Char.Utf16.utf16_chars, Int.int_wrap}
 use Rattle.et_base.specs.Numbers.{add64, add32, l2i, i2c}
-use Rattle.std.specs.Char.Utf16.{utf16_chars}
 use lib.Utf8.{encode}
-use Rattle.std.specs.Int.{int_wrap}
-use Rattle.jvm_model.specs.RowsArrays.{row_arrays}
-use Rattle.jvm_model.specs.RowsCasts.{row_casts}
-use Rattle.jvm_model.specs.Kinds.{kind_fits, class_fits}
+use Rattle.jvm_model.specs.{RowsArrays.row_arrays, RowsCasts.row_casts, Kinds.kind_fits, Kinds.class_fits}
 
 -- what a proof unfolds to compute the runs of a suite that is written out
 unfoldable pub machine_on_literals : ⊤

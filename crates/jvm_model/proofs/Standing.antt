@@ -1,14 +1,10 @@
 -- What is there stays there, over writes and new objects.
 use Rattle.std.proofs.Common.{◌≡◌, ℕ, zero, suc, ◌<◌, List, [], ◌∷◌, ◌++◌, length, get_or, set, true, nat_eq, refl, sym, ◌∙◌, ap, subst, inl, inr, arith, Some}
 use Rattle.std.proofs.lemmas.Bool.{cases_Bool}
-use Rattle.jvm_model.specs.declared.values.Value.{Value}
-use Rattle.jvm_model.specs.declared.values.Value.TheVariants.{Null}
-use Rattle.jvm_model.specs.declared.values.InitState.TheVariants.{Idle}
-use Rattle.jvm_model.specs.declared.values.Location.{Location}
+use Rattle.jvm_model.specs.declared.values.{Value.Value, Value.TheVariants.Null, InitState.TheVariants.Idle, Location.Location}
 use Rattle.jvm_model.specs.declared.values.Location.TheVariants as place
 use Rattle.jvm_model.specs.World.{Content, Object, World, no_object, size, object_at, put_at, keep, put, make_object}
-use Rattle.jvm_model.specs.Classes.{member}
-use Rattle.jvm_model.specs.View.{Exists, keys}
+use Rattle.jvm_model.specs.{Classes.member, View.Exists, View.keys}
 use Rattle.jvm_model.proofs.Locations.{size_put, size_make}
 
 put_at_longer : {A : Type 0} (d : A) (xs : List A) (i j : ℕ) (v : A) → j < length xs → j < length (put_at d xs i v)

@@ -1,17 +1,11 @@
 -- A step by its parts.
 use Rattle.std.proofs.Common.{◌≡◌, ℕ, List, Bool, true, false, ap, ◌∙◌, not, Some, None}
-use Rattle.jvm_model.specs.declared.values.Value.{Value}
-use Rattle.jvm_model.specs.declared.values.Touch.{Touch}
+use Rattle.jvm_model.specs.declared.values.{Value.Value, Touch.Touch}
 use Rattle.jvm_model.specs.declared.state.EntryKind.TheVariants.{Absent, InMethod, InClass}
 use Rattle.jvm_model.specs.declared.program.Program.{Program}
-use Rattle.jvm_model.specs.World.{World}
+use Rattle.jvm_model.specs.{World.World, Entries.Entries, Initialise.row_finish, Initialise.row_fail, Raising.row_raise, Working.Working, State.State}
 use Rattle.jvm_model.specs.Access.{Access, spend, bind}
-use Rattle.jvm_model.specs.Entries.{Entries}
-use Rattle.jvm_model.specs.Initialise.{row_finish, row_fail}
-use Rattle.jvm_model.specs.Raising.{row_raise}
 use Rattle.jvm_model.specs.Rows.{Answer, answer, stuck_row}
-use Rattle.jvm_model.specs.Working.{Working}
-use Rattle.jvm_model.specs.State.{State}
 use Rattle.jvm_model.specs.Step.{row_here, after_row, after_native, acts, step}
 use Rattle.jvm_model.specs.Driver.{drive}
 use Rattle.jvm_model.specs.View.{over, ended, counted, and_then, touched, IsSafe, IsRow, IsTurn, paid}

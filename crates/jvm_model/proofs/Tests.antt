@@ -4,8 +4,7 @@ use Rattle.std.proofs.lemmas.Bool.{cases_Bool, leb-true}
 use Rattle.jvm_model.specs.declared.values.Touch.{Touch}
 use Rattle.jvm_model.specs.declared.outcome.Verdict.{Verdict}
 use Rattle.jvm_model.specs.declared.program.Program.{Program}
-use Rattle.jvm_model.specs.World.{World}
-use Rattle.jvm_model.specs.Access.{Ran, run}
+use Rattle.jvm_model.specs.{World.World, Access.Ran, Access.run}
 use Rattle.jvm_model.specs.View.{over, ended, counted}
 use Rattle.jvm_model.specs.Suite.{End, finished, stuck, out_of_steps, tree, given_at, one_test}
 use Rattle.jvm_model.proofs.Bridges.{compared, counted_is}

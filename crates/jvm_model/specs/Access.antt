@@ -1,9 +1,7 @@
 -- A step as a program of accesses, and its run on a world.
 use Rattle.std.specs.Prelude.{ℕ, suc, List, [], ◌∷◌, ◌++◌, ◌+◌, Bool, true, false, ◌&&◌, Option, Some, None}
-use Rattle.jvm_model.specs.declared.values.Value.{Value}
+use Rattle.jvm_model.specs.declared.values.{Value.Value, Touch.Touch, Location.Location}
 use Rattle.jvm_model.specs.declared.values.Value.TheVariants.{Int, Long, Null, Lit, Obj}
-use Rattle.jvm_model.specs.declared.values.Touch.{Touch}
-use Rattle.jvm_model.specs.declared.values.Location.{Location}
 use Rattle.jvm_model.specs.declared.values.Location.TheVariants as place
 use Rattle.jvm_model.specs.World.{Object, World, Content, at, put, has, size, make_object}
 

@@ -1,9 +1,7 @@
 -- The list of entries: method frames (JVMS 2.6) and initialisation entries (this project's), the top one's parts open.
 use Rattle.std.specs.Prelude.{ℕ, List, [], ◌∷◌, ◌++◌, length, replicate, take, drop, reverse, ◌-◌, ◌+◌, Bool, false, nat_le}
-use Rattle.jvm_model.specs.declared.values.Value.{Value}
-use Rattle.jvm_model.specs.declared.values.Value.TheVariants.{Long, Null}
-use Rattle.jvm_model.specs.declared.state.EntryKind.{EntryKind}
-use Rattle.jvm_model.specs.declared.state.EntryKind.TheVariants.{Absent, InMethod, InClass}
+use Rattle.jvm_model.specs.declared.values.{Value.Value, Value.TheVariants.Long, Value.TheVariants.Null}
+use Rattle.jvm_model.specs.declared.state.{EntryKind.EntryKind, EntryKind.TheVariants.Absent, EntryKind.TheVariants.InMethod, EntryKind.TheVariants.InClass}
 use Rattle.jvm_model.specs.declared.program.Body.{Body}
 
 -- An entry: the number of its method or class, and of a frame its place in the code, its operands with the top first, and

@@ -1,16 +1,10 @@
 -- The built-in classes: what they are named, which fields and methods they have, and their records in a program.
 use Rattle.std.specs.Prelude.{ℕ, List, [], ◌∷◌, ◌++◌, length, ◌+◌, codes, map, Option, Some, None, true, false}
-use Rattle.std.specs.List.{range_with_len}
+use Rattle.std.specs.{List.range_with_len, Str.bytes_eq}
 use Rattle.jvm_model.specs.declared.values.Value.TheVariants.{Null, Lit}
-use Rattle.jvm_model.specs.declared.library.ClassDef.{ClassDef}
-use Rattle.jvm_model.specs.declared.library.FieldDef.{FieldDef}
-use Rattle.jvm_model.specs.declared.library.MethodDef.{MethodDef}
-use Rattle.jvm_model.specs.declared.library.Native.{Native}
+use Rattle.jvm_model.specs.declared.library.{ClassDef.ClassDef, FieldDef.FieldDef, MethodDef.MethodDef, Native.Native}
 use Rattle.jvm_model.specs.declared.library.Native.TheVariants as native
-use Rattle.jvm_model.specs.declared.program.ClassRec.{ClassRec}
-use Rattle.jvm_model.specs.declared.program.FieldRec.{FieldRec}
-use Rattle.jvm_model.specs.declared.program.MethodRec.{MethodRec}
-use Rattle.std.specs.Str.{bytes_eq}
+use Rattle.jvm_model.specs.declared.program.{ClassRec.ClassRec, FieldRec.FieldRec, MethodRec.MethodRec}
 
 -- a method of an instance, and a static one
 abbrev pub plain : List ℕ → List ℕ → Native → MethodDef

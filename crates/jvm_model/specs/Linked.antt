@@ -1,30 +1,19 @@
 -- What a linked program is: each rule that loading keeps, by name.
 use Rattle.std.specs.Prelude.{◌≡◌, ◌⊎◌, ℕ, ℤ, pos, negsuc, suc, int_le, int_lt, ◌+◌, ◌<◌, ◌≤◌, ◌<ℤ◌, ◌≤ℤ◌, ◌+ℤ◌, ◌^◌, List, [], ◌∷◌, ◌++◌, length, take, get_or, All, Bool, true, false, ◌&&◌, ◌||◌, cond, nat_eq, nat_le, Option, Some, None, codes, IfSome, IsSome}
-use Rattle.std.specs.List.{list_all, list_any}
-use Rattle.jvm_model.specs.declared.values.Value.{Value}
+use Rattle.std.specs.{List.list_all, List.list_any, Str.bytes_eq}
+use Rattle.jvm_model.specs.declared.values.{Value.Value, Base.Base, Kind.Kind}
 use Rattle.jvm_model.specs.declared.values.Value.TheVariants.{Int, Long, Null, Lit, Obj}
-use Rattle.jvm_model.specs.declared.values.Base.{Base}
 use Rattle.jvm_model.specs.declared.values.Base.TheVariants as base
-use Rattle.jvm_model.specs.declared.values.Kind.{Kind}
 use Rattle.jvm_model.specs.declared.values.Kind.TheVariants as kind
 use Rattle.jvm_model.specs.declared.instr.Instr.{Instr}
 use Rattle.jvm_model.specs.declared.instr.Instr.TheVariants as form
-use Rattle.jvm_model.specs.declared.program.Program.{Program}
-use Rattle.jvm_model.specs.declared.program.ClassRec.{ClassRec}
-use Rattle.jvm_model.specs.declared.program.Body.{Body}
-use Rattle.jvm_model.specs.declared.program.Placed.{Placed}
-use Rattle.jvm_model.specs.declared.program.Handler.{Handler}
-use Rattle.jvm_model.specs.declared.program.TestEntry.{TestEntry}
-use Rattle.std.specs.Str.{bytes_eq}
+use Rattle.jvm_model.specs.declared.program.{Program.Program, ClassRec.ClassRec, Body.Body, Placed.Placed, Handler.Handler, TestEntry.TestEntry}
 use Rattle.jvm_model.specs.Library.{builtin_classes, builtin_fields, builtin_methods}
 use Rattle.jvm_model.specs.Builtin.{builtin_count, object_class, throwable_class}
 use Rattle.jvm_model.specs.Classes.{class_at, field_at, method_at, is_static, is_interface, is_below, upwards, member, clinit_name, init_name, default_of}
-use Rattle.jvm_model.specs.Selection.{named_class}
-use Rattle.jvm_model.specs.RowsCreate.{is_bare}
+use Rattle.jvm_model.specs.{Selection.named_class, RowsCreate.is_bare, Driver.no_arguments, Driver.plain_method_in, Suite.suite_limit}
 use Rattle.jvm_model.specs.Lookup.{find_field, find_method, find_declared, lacks_method}
-use Rattle.jvm_model.specs.Driver.{no_arguments, plain_method_in}
 use Rattle.et_base.specs.Names.{is_unqualified, is_class_name, is_method_name, is_field_descriptor, is_method_descriptor, argument_units}
-use Rattle.jvm_model.specs.Suite.{suite_limit}
 
 -- the first unit of a descriptor
 abbrev pub first_or : ℕ → List ℕ → ℕ

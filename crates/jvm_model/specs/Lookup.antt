@@ -4,9 +4,8 @@ use Rattle.jvm_model.specs.declared.values.Kind.{Kind}
 use Rattle.jvm_model.specs.declared.values.Kind.TheVariants as kind
 use Rattle.jvm_model.specs.declared.program.Program.{Program}
 use Rattle.std.specs.Str.{bytes_eq}
-use Rattle.jvm_model.specs.Builtin.{object_class}
+use Rattle.jvm_model.specs.{Builtin.object_class, Selection.kept_of, Selection.has_code}
 use Rattle.jvm_model.specs.Classes.{class_at, field_at, method_at, is_private, is_static, is_interface, class_bound, upwards, first_mentions, init_name}
-use Rattle.jvm_model.specs.Selection.{kept_of, has_code}
 
 -- the field n has this name and descriptor
 abbrev pub is_field : Program → List ℕ → List ℕ → ℕ → Bool

@@ -2,8 +2,7 @@
 -- lowest bit, the others the low bits as i2b, i2c and i2s do.
 use Rattle.std.specs.Prelude.{ℕ, ℤ, List, [], ◌∷◌, cond, nat_eq, pos}
 use Rattle.std.specs.Int.{int_rem_euclid}
-use Rattle.jvm_model.specs.declared.values.Value.{Value}
-use Rattle.jvm_model.specs.declared.values.Value.TheVariants.{Int}
+use Rattle.jvm_model.specs.declared.values.{Value.Value, Value.TheVariants.Int}
 use Rattle.et_base.specs.Numbers.{i2b, i2c, i2s}
 
 -- by the first unit of the type's descriptor: Z, B, C, S

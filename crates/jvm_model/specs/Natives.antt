@@ -2,10 +2,7 @@
 use Rattle.jvm_model.specs.declared.library.Native.{Native}
 use Rattle.jvm_model.specs.declared.library.Native.TheVariants as native
 use Rattle.jvm_model.specs.declared.program.Program.{Program}
-use Rattle.jvm_model.specs.Access.{Access}
-use Rattle.jvm_model.specs.Rows.{Answer}
-use Rattle.jvm_model.specs.Working.{Working}
-use Rattle.jvm_model.specs.NativesObject.{native_object, native_throwable}
+use Rattle.jvm_model.specs.{Access.Access, Rows.Answer, Working.Working, NativesObject.native_object, NativesObject.native_throwable}
 use Rattle.jvm_model.specs.NativesString.{native_string, native_builder}
 use Rattle.jvm_model.specs.NativesOutside.{native_system, native_print, native_files, native_env}
 

@@ -8,10 +8,8 @@ use Rattle.jvm_model.specs.declared.library.Native.{Native}
 use Rattle.jvm_model.specs.declared.library.Native.TheVariants as native
 use Rattle.jvm_model.specs.declared.program.Program.{Program}
 use Rattle.jvm_model.specs.Access.{Access, read, write, spend}
-use Rattle.jvm_model.specs.Builtin.{message_field, string_class}
-use Rattle.jvm_model.specs.Kinds.{class_of}
+use Rattle.jvm_model.specs.{Builtin.message_field, Builtin.string_class, Kinds.class_of, RowsBranches.same_reference}
 use Rattle.jvm_model.specs.Rows.{Answer, none_here, popping, on_int, on_long, on_object, with_kind}
-use Rattle.jvm_model.specs.RowsBranches.{same_reference}
 use Rattle.jvm_model.specs.Working.{Working, operands, with_operands, answers, makes_text, char_of, boolean_text, truth}
 
 -- equals is the same reference; hashCode is 0 (this project's)

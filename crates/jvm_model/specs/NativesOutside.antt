@@ -1,9 +1,7 @@
 -- The built-in methods of System, PrintStream, electric.Files and electric.Env.
 use Rattle.std.specs.Prelude.{ℕ, pos, List, [], ◌∷◌, ◌++◌, length, ◌+◌, ◌*◌, ◌/◌, ◌%◌, ◌^◌, is_some, codes, Option, Some, None}
-use Rattle.std.specs.Int.{w32, cast_signed}
-use Rattle.std.specs.Fmt.{signed_decimal}
-use Rattle.et_base.specs.Numbers.{add64}
-use Rattle.et_base.specs.Quotes.{utf8_of}
+use Rattle.std.specs.{Int.w32, Int.cast_signed, Fmt.signed_decimal}
+use Rattle.et_base.specs.{Numbers.add64, Quotes.utf8_of}
 use Rattle.jvm_model.specs.declared.values.Value.{Value}
 use Rattle.jvm_model.specs.declared.values.Value.TheVariants.{Int, Long, Null, Lit, Obj}
 use Rattle.jvm_model.specs.declared.values.Location.TheVariants as place

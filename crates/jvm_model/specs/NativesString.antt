@@ -1,7 +1,6 @@
 -- The built-in methods of String and StringBuilder.
 use Rattle.std.specs.Prelude.{ℕ, ℤ, pos, negsuc, List, [], ◌∷◌, ◌++◌, length, get_or, take, drop, ◌+◌, ◌-◌, ◌*◌, false, ◌&&◌, cond, nat_eq, nat_lt, nat_le, codes}
-use Rattle.std.specs.Int.{w32, int_wrap}
-use Rattle.std.specs.Fmt.{signed_decimal}
+use Rattle.std.specs.{Int.w32, Int.int_wrap, Fmt.signed_decimal, Str.bytes_eq}
 use Rattle.et_base.specs.Numbers.{l2i}
 use Rattle.jvm_model.specs.declared.values.Value.{Value}
 use Rattle.jvm_model.specs.declared.values.Value.TheVariants.{Int, Long, Null, Lit, Obj}
@@ -9,10 +8,8 @@ use Rattle.jvm_model.specs.declared.values.Location.TheVariants as place
 use Rattle.jvm_model.specs.declared.library.Native.{Native}
 use Rattle.jvm_model.specs.declared.library.Native.TheVariants as native
 use Rattle.jvm_model.specs.declared.program.Program.{Program}
-use Rattle.std.specs.Str.{bytes_eq}
 use Rattle.jvm_model.specs.Access.{Access, read, write, spend}
-use Rattle.jvm_model.specs.Builtin.{string_class, string_index_exception}
-use Rattle.jvm_model.specs.Kinds.{class_of}
+use Rattle.jvm_model.specs.{Builtin.string_class, Builtin.string_index_exception, Kinds.class_of}
 use Rattle.jvm_model.specs.Rows.{Answer, none_here, faults, popping, on_int, on_long, on_object, on_reference, on_text, with_kind}
 use Rattle.jvm_model.specs.Working.{Working, operands, with_operands, answers, answers_text, char_of, boolean_text, truth}
 

@@ -3,13 +3,9 @@ use Rattle.std.specs.Prelude.{ℕ, List, [], ◌∷◌, Bool, true, cond, ◌&&�
 use Rattle.jvm_model.specs.declared.values.Value.{Value}
 use Rattle.jvm_model.specs.declared.values.Location.TheVariants as place
 use Rattle.jvm_model.specs.declared.outcome.Next.TheVariants.{Raise}
-use Rattle.jvm_model.specs.declared.program.Body.{Body}
-use Rattle.jvm_model.specs.declared.program.Handler.{Handler}
-use Rattle.jvm_model.specs.declared.program.Program.{Program}
+use Rattle.jvm_model.specs.declared.program.{Body.Body, Handler.Handler, Program.Program}
 use Rattle.jvm_model.specs.Access.{Access, done, read}
-use Rattle.jvm_model.specs.Classes.{method_at, is_below}
-use Rattle.jvm_model.specs.Entries.{Entries, popped_entry}
-use Rattle.jvm_model.specs.Kinds.{class_of}
+use Rattle.jvm_model.specs.{Classes.method_at, Classes.is_below, Entries.Entries, Entries.popped_entry, Kinds.class_of}
 use Rattle.jvm_model.specs.Rows.{Answer, answer, on_object, goes_to}
 
 abbrev pub catches : Program → Option ℕ → ℕ → Bool

@@ -1,14 +1,10 @@
 -- The states that the steps of a test come to, and what a step throws by itself.
 use Rattle.std.specs.Prelude.{◌≡◌, ℕ, nat_eq, Bool, false, cond, Option, Some, None}
-use Rattle.jvm_model.specs.declared.values.Value.{Value}
-use Rattle.jvm_model.specs.declared.values.Value.TheVariants.{Obj}
+use Rattle.jvm_model.specs.declared.values.{Value.Value, Value.TheVariants.Obj}
 use Rattle.jvm_model.specs.declared.program.Program.{Program}
 use Rattle.jvm_model.specs.World.{World, size, object_at}
-use Rattle.jvm_model.specs.Access.{run}
-use Rattle.jvm_model.specs.Builtin.{stack_overflow_error}
-use Rattle.jvm_model.specs.Kinds.{class_of}
+use Rattle.jvm_model.specs.{Access.run, Builtin.stack_overflow_error, Kinds.class_of, Step.step, Step.turn}
 use Rattle.jvm_model.specs.State.{State, Turn, next, ended, stuck_turn, started}
-use Rattle.jvm_model.specs.Step.{step, turn}
 
 -- test t, begun in the world w, comes to the state s in the world v
 pub data Reaches (p : Program) (t : ℕ) (w : World) : State → World → Type 0 where

@@ -1,12 +1,10 @@
 -- The combinators of which the rows of the table of steps are made.
 use Rattle.std.specs.Prelude.{ℕ, ℤ, List, [], ◌∷◌, cond, nat_eq}
-use Rattle.jvm_model.specs.declared.values.Value.{Value}
+use Rattle.jvm_model.specs.declared.values.{Value.Value, InitState.InitState}
 use Rattle.jvm_model.specs.declared.values.Value.TheVariants.{Int, Long, Null, Lit, Obj}
-use Rattle.jvm_model.specs.declared.values.InitState.{InitState}
 use Rattle.jvm_model.specs.declared.values.InitState.TheVariants.{Idle, Running, Done, Erroneous}
 use Rattle.jvm_model.specs.declared.values.Location.TheVariants as place
-use Rattle.jvm_model.specs.declared.outcome.Next.{Next}
-use Rattle.jvm_model.specs.declared.outcome.Next.TheVariants.{Go, Fault}
+use Rattle.jvm_model.specs.declared.outcome.{Next.Next, Next.TheVariants.Go, Next.TheVariants.Fault}
 use Rattle.jvm_model.specs.declared.program.Program.{Program}
 use Rattle.jvm_model.specs.Access.{Access, done, read, write, bind}
 use Rattle.jvm_model.specs.Classes.{is_trivial, next_place, literal_at}

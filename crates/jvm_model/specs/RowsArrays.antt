@@ -1,23 +1,17 @@
 -- Array loads and stores and arraylength (JVMS 6.5). The array's head is read first, for its length.
 use Rattle.std.specs.Prelude.{ℕ, ℤ, pos, negsuc, ◌∷◌, List, Bool, true, false, cond, nat_lt}
-use Rattle.jvm_model.specs.declared.values.Value.{Value}
+use Rattle.jvm_model.specs.declared.values.{Value.Value, Base.Base, Kind.Kind, Head.Head}
 use Rattle.jvm_model.specs.declared.values.Value.TheVariants.{Int, Long, Null, Lit, Obj}
-use Rattle.jvm_model.specs.declared.values.Base.{Base}
 use Rattle.jvm_model.specs.declared.values.Base.TheVariants as base
-use Rattle.jvm_model.specs.declared.values.Kind.{Kind}
 use Rattle.jvm_model.specs.declared.values.Kind.TheVariants as kind
-use Rattle.jvm_model.specs.declared.values.Head.{Head}
 use Rattle.jvm_model.specs.declared.values.Location.TheVariants as place
-use Rattle.jvm_model.specs.declared.instr.Cell.{Cell}
+use Rattle.jvm_model.specs.declared.instr.{Cell.Cell, Instr.Instr}
 use Rattle.jvm_model.specs.declared.instr.Cell.TheVariants as cell
-use Rattle.jvm_model.specs.declared.instr.Instr.{Instr}
 use Rattle.jvm_model.specs.declared.instr.Instr.TheVariants as form
 use Rattle.jvm_model.specs.declared.program.Program.{Program}
 use Rattle.jvm_model.specs.Access.{Access, read, write}
-use Rattle.jvm_model.specs.Builtin.{array_index_exception, array_store_exception}
-use Rattle.jvm_model.specs.Entries.{Entries, with_stack}
-use Rattle.jvm_model.specs.Kinds.{element_kind, kind_fits}
-use Rattle.jvm_model.specs.Narrow.{narrow}
+use Rattle.jvm_model.specs.{Builtin.array_index_exception, Builtin.array_store_exception, Entries.Entries, Entries.with_stack}
+use Rattle.jvm_model.specs.{Kinds.element_kind, Kinds.kind_fits, Narrow.narrow}
 use Rattle.et_base.specs.Numbers.{l2i}
 use Rattle.jvm_model.specs.Rows.{Answer, none_here, faults, goes_on, popping, on_int, on_object, with_kind}
 

@@ -3,13 +3,11 @@ use Rattle.std.specs.Prelude.{ℕ, ℤ, List, [], ◌∷◌, length, Bool, true,
 use Rattle.std.specs.Ordering.{int_eq}
 use Rattle.jvm_model.specs.declared.values.Value.{Value}
 use Rattle.jvm_model.specs.declared.values.Value.TheVariants.{Int, Long, Null, Lit, Obj}
-use Rattle.jvm_model.specs.declared.instr.IfTest.{IfTest}
+use Rattle.jvm_model.specs.declared.instr.{IfTest.IfTest, Instr.Instr}
 use Rattle.jvm_model.specs.declared.instr.IfTest.TheVariants as test
-use Rattle.jvm_model.specs.declared.instr.Instr.{Instr}
 use Rattle.jvm_model.specs.declared.instr.Instr.TheVariants as form
 use Rattle.jvm_model.specs.declared.program.Program.{Program}
-use Rattle.jvm_model.specs.Access.{Access}
-use Rattle.jvm_model.specs.Entries.{Entries}
+use Rattle.jvm_model.specs.{Access.Access, Entries.Entries}
 use Rattle.jvm_model.specs.Rows.{Answer, none_here, goes_on, goes_to, popping, on_int}
 
 -- whether a test holds of two ints, the upper operand second

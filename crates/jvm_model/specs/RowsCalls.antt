@@ -1,19 +1,14 @@
 -- The four invoke forms (JVMS 6.5).
 use Rattle.std.specs.Prelude.{ℕ, length, ◌+◌, cond, nat_le, slice_get, Option, Some, None}
-use Rattle.jvm_model.specs.declared.values.Value.{Value}
-use Rattle.jvm_model.specs.declared.values.Kind.{Kind}
+use Rattle.jvm_model.specs.declared.values.{Value.Value, Kind.Kind}
 use Rattle.jvm_model.specs.declared.instr.Instr.{Instr}
 use Rattle.jvm_model.specs.declared.instr.Instr.TheVariants as form
 use Rattle.jvm_model.specs.declared.outcome.Next.TheVariants.{Enter}
 use Rattle.jvm_model.specs.declared.library.Native.{Native}
-use Rattle.jvm_model.specs.declared.program.Body.{Body}
-use Rattle.jvm_model.specs.declared.program.Program.{Program}
+use Rattle.jvm_model.specs.declared.program.{Body.Body, Program.Program}
 use Rattle.jvm_model.specs.Access.{Access, done, spend}
-use Rattle.jvm_model.specs.Builtin.{abstract_method_error, stack_overflow_error}
-use Rattle.jvm_model.specs.Classes.{method_at}
-use Rattle.jvm_model.specs.Descriptors.{parameters}
+use Rattle.jvm_model.specs.{Builtin.abstract_method_error, Builtin.stack_overflow_error, Classes.method_at, Descriptors.parameters, Kinds.class_of}
 use Rattle.jvm_model.specs.Entries.{Entries, is_full, called, frame_cost}
-use Rattle.jvm_model.specs.Kinds.{class_of}
 use Rattle.jvm_model.specs.Rows.{Answer, answer, none_here, faults, using, on_reference, with_kind}
 use Rattle.jvm_model.specs.Selection.{Selected, chosen, failing, select_virtual, select_interface, select_special, named_class}
 

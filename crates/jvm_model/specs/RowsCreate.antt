@@ -1,18 +1,13 @@
 -- new, newarray, anewarray and multianewarray (JVMS 6.5). Making an object writes its head and all its cells.
 use Rattle.std.specs.Prelude.{ℕ, zero, suc, ℤ, pos, negsuc, List, [], ◌∷◌, length, ◌+◌, ◌*◌, ◌-◌, ◌^◌, min, Bool, true, false, ◌||◌, cond}
-use Rattle.jvm_model.specs.declared.values.Value.{Value}
-use Rattle.jvm_model.specs.declared.values.Value.TheVariants.{Obj}
-use Rattle.jvm_model.specs.declared.values.Kind.{Kind}
+use Rattle.jvm_model.specs.declared.values.{Value.Value, Value.TheVariants.Obj, Kind.Kind, Head.Head}
 use Rattle.jvm_model.specs.declared.values.Location.TheVariants as place
-use Rattle.jvm_model.specs.declared.values.Head.{Head}
 use Rattle.jvm_model.specs.declared.instr.Instr.{Instr}
 use Rattle.jvm_model.specs.declared.instr.Instr.TheVariants as form
 use Rattle.jvm_model.specs.declared.program.Program.{Program}
 use Rattle.jvm_model.specs.Access.{Access, done, write, make, spend, bind}
-use Rattle.jvm_model.specs.Builtin.{instantiation_error, negative_size_exception}
+use Rattle.jvm_model.specs.{Builtin.instantiation_error, Builtin.negative_size_exception, Entries.Entries, Entries.with_stack, Kinds.element_kind}
 use Rattle.jvm_model.specs.Classes.{class_at, is_interface, is_abstract, layout, blank, instance_head}
-use Rattle.jvm_model.specs.Entries.{Entries, with_stack}
-use Rattle.jvm_model.specs.Kinds.{element_kind}
 use Rattle.jvm_model.specs.Rows.{Answer, none_here, faults, goes_on, popping, on_int, using}
 
 -- what comes once the class may be used

@@ -5,9 +5,7 @@ use Rattle.jvm_model.specs.declared.instr.Instr.{Instr}
 use Rattle.jvm_model.specs.declared.instr.Instr.TheVariants as form
 use Rattle.jvm_model.specs.declared.program.Program.{Program}
 use Rattle.jvm_model.specs.Access.{Access, read, write}
-use Rattle.jvm_model.specs.Classes.{field_at}
-use Rattle.jvm_model.specs.Entries.{Entries, with_stack}
-use Rattle.jvm_model.specs.Narrow.{narrowed}
+use Rattle.jvm_model.specs.{Classes.field_at, Entries.Entries, Entries.with_stack, Narrow.narrowed}
 use Rattle.jvm_model.specs.Rows.{Answer, none_here, goes_on, popping, on_object}
 
 unfoldable pub row_fields : Program → Instr → Entries → Access (Answer Entries)

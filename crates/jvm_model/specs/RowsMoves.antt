@@ -5,8 +5,7 @@ use Rattle.jvm_model.specs.declared.values.Value.TheVariants.{Int, Long, Null, L
 use Rattle.jvm_model.specs.declared.instr.Instr.{Instr}
 use Rattle.jvm_model.specs.declared.instr.Instr.TheVariants as form
 use Rattle.jvm_model.specs.declared.program.Program.{Program}
-use Rattle.jvm_model.specs.Access.{Access}
-use Rattle.jvm_model.specs.Entries.{Entries, with_stack}
+use Rattle.jvm_model.specs.{Access.Access, Entries.Entries, Entries.with_stack}
 use Rattle.jvm_model.specs.Rows.{Answer, none_here, goes_on, popping, on_reference}
 
 -- whether a value takes two slots

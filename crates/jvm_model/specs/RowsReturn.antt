@@ -4,14 +4,9 @@ use Rattle.jvm_model.specs.declared.values.Value.{Value}
 use Rattle.jvm_model.specs.declared.instr.Instr.{Instr}
 use Rattle.jvm_model.specs.declared.instr.Instr.TheVariants as form
 use Rattle.jvm_model.specs.declared.outcome.Next.TheVariants.{Go, Leave}
-use Rattle.jvm_model.specs.declared.state.EntryKind.{EntryKind}
-use Rattle.jvm_model.specs.declared.state.EntryKind.TheVariants.{Absent, InMethod, InClass}
+use Rattle.jvm_model.specs.declared.state.{EntryKind.EntryKind, EntryKind.TheVariants.Absent, EntryKind.TheVariants.InMethod, EntryKind.TheVariants.InClass}
 use Rattle.jvm_model.specs.declared.program.Program.{Program}
-use Rattle.jvm_model.specs.Access.{Access, done}
-use Rattle.jvm_model.specs.Classes.{method_at}
-use Rattle.jvm_model.specs.Descriptors.{return_type}
-use Rattle.jvm_model.specs.Narrow.{narrowed}
-use Rattle.jvm_model.specs.Entries.{Entries, popped_entry}
+use Rattle.jvm_model.specs.{Access.Access, Access.done, Classes.method_at, Descriptors.return_type, Narrow.narrowed, Entries.Entries, Entries.popped_entry}
 use Rattle.jvm_model.specs.Rows.{Answer, answer, none_here, goes_on, popping}
 
 abbrev pub handed_on : EntryKind → Program → List Value → Entries → Access (Answer Entries)

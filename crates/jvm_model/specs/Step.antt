@@ -1,36 +1,19 @@
 -- The step of the machine: one case for each row of the table of steps.
 use Rattle.std.specs.Prelude.{ℕ, List, Option, Some, None}
-use Rattle.jvm_model.specs.declared.values.Value.{Value}
+use Rattle.jvm_model.specs.declared.values.{Value.Value, Touch.Touch}
 use Rattle.jvm_model.specs.declared.instr.Instr.{Instr}
 use Rattle.jvm_model.specs.declared.instr.Instr.TheVariants as form
 use Rattle.jvm_model.specs.declared.library.Native.{Native}
 use Rattle.jvm_model.specs.declared.outcome.Next.TheVariants.{Go, Fault, Raise, Enter, Leave, Over}
-use Rattle.jvm_model.specs.declared.state.EntryKind.{EntryKind}
-use Rattle.jvm_model.specs.declared.state.EntryKind.TheVariants.{Absent, InMethod, InClass}
+use Rattle.jvm_model.specs.declared.state.{EntryKind.EntryKind, EntryKind.TheVariants.Absent, EntryKind.TheVariants.InMethod, EntryKind.TheVariants.InClass}
 use Rattle.jvm_model.specs.declared.program.Program.{Program}
-use Rattle.jvm_model.specs.declared.values.Touch.{Touch}
-use Rattle.jvm_model.specs.World.{World}
+use Rattle.jvm_model.specs.{World.World, Classes.method_at, Classes.form_at, Entries.Entries, RowsMoves.row_moves, RowsArith.row_arith}
 use Rattle.jvm_model.specs.Access.{Access, done, spend, bind, run}
-use Rattle.jvm_model.specs.Classes.{method_at, form_at}
-use Rattle.jvm_model.specs.Entries.{Entries}
 use Rattle.jvm_model.specs.Rows.{Answer, answer, stuck_row, popping, on_object, none_here}
-use Rattle.jvm_model.specs.RowsMoves.{row_moves}
-use Rattle.jvm_model.specs.RowsArith.{row_arith}
-use Rattle.jvm_model.specs.RowsBranches.{row_branches}
-use Rattle.jvm_model.specs.RowsStatics.{row_statics}
-use Rattle.jvm_model.specs.RowsFields.{row_fields}
-use Rattle.jvm_model.specs.RowsCreate.{row_create}
-use Rattle.jvm_model.specs.RowsArrays.{row_arrays}
-use Rattle.jvm_model.specs.RowsCasts.{row_casts}
-use Rattle.jvm_model.specs.RowsCalls.{row_calls}
-use Rattle.jvm_model.specs.RowsReturn.{row_return}
-use Rattle.jvm_model.specs.Working.{Working}
-use Rattle.jvm_model.specs.Natives.{row_native}
-use Rattle.jvm_model.specs.Initialise.{row_finish, row_fail}
-use Rattle.jvm_model.specs.Raising.{row_raise}
+use Rattle.jvm_model.specs.{RowsBranches.row_branches, RowsStatics.row_statics, RowsFields.row_fields, RowsCreate.row_create, RowsArrays.row_arrays}
+use Rattle.jvm_model.specs.{RowsCasts.row_casts, RowsCalls.row_calls, RowsReturn.row_return, Working.Working, Natives.row_native}
+use Rattle.jvm_model.specs.{Initialise.row_finish, Initialise.row_fail, Raising.row_raise, Throwing.throws, Driver.drive}
 use Rattle.jvm_model.specs.State.{State, Turn, next, stuck_turn, raise, with_entries}
-use Rattle.jvm_model.specs.Throwing.{throws}
-use Rattle.jvm_model.specs.Driver.{drive}
 
 -- the groups of forms
 pub data Group : Type 0 where

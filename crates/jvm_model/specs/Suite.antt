@@ -1,15 +1,12 @@
 -- One test, and lists of tests on one heap.
 use Rattle.std.specs.Prelude.{ℕ, zero, suc, ◌+◌, ◌-◌, List, [], ◌∷◌, map, length, slice_get, Bool, true, false, cond, nat_le, min, Option, Some, None}
 use Rattle.std.specs.List.{range_with_len}
-use Rattle.jvm_model.specs.declared.values.InitState.TheVariants.{Idle}
-use Rattle.jvm_model.specs.declared.values.Touch.{Touch}
-use Rattle.jvm_model.specs.declared.outcome.Outcome.{Outcome}
-use Rattle.jvm_model.specs.declared.outcome.Verdict.{Verdict}
+use Rattle.jvm_model.specs.declared.values.{InitState.TheVariants.Idle, Touch.Touch}
+use Rattle.jvm_model.specs.declared.outcome.{Outcome.Outcome, Verdict.Verdict}
 use Rattle.jvm_model.specs.declared.program.Program.{Program}
-use Rattle.jvm_model.specs.World.{World}
+use Rattle.jvm_model.specs.{World.World, Step.step}
 use Rattle.jvm_model.specs.Access.{Access, done, bind, run}
 use Rattle.jvm_model.specs.State.{State, Turn, next, ended, stuck_turn, test_at, started}
-use Rattle.jvm_model.specs.Step.{step}
 
 -- the world before the first test: no objects, the statics' opening values, no class initialised, the suite's files
 unfoldable pub opening : Program → World

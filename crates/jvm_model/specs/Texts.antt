@@ -3,12 +3,9 @@ use Rattle.std.specs.Prelude.{ℕ, List, [], ◌∷◌, ◌++◌, ◌+◌, ◌-�
 use Rattle.et_base.specs.Quotes.{quoted_units, quoted_bytes, name_of}
 use Rattle.jvm_model.specs.declared.values.Location.{Location}
 use Rattle.jvm_model.specs.declared.values.Location.TheVariants as place
-use Rattle.jvm_model.specs.declared.outcome.Cause.{Cause}
-use Rattle.jvm_model.specs.declared.outcome.Outcome.{Outcome}
-use Rattle.jvm_model.specs.declared.outcome.Verdict.{Verdict}
+use Rattle.jvm_model.specs.declared.outcome.{Cause.Cause, Outcome.Outcome, Verdict.Verdict}
 use Rattle.jvm_model.specs.declared.outcome.Verdict.TheVariants.{Passed, Failed, Error}
-use Rattle.jvm_model.specs.declared.program.Names.{Names}
-use Rattle.jvm_model.specs.declared.program.Program.{Program}
+use Rattle.jvm_model.specs.declared.program.{Names.Names, Program.Program}
 use Rattle.jvm_model.specs.Classes.{class_at, field_at}
 
 abbrev pub message_text : Option (List ℕ) → List ℕ

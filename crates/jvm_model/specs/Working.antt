@@ -1,17 +1,13 @@
 -- What built-in methods work on, and the combinators of their rows.
 use Rattle.std.specs.Prelude.{ℕ, ℤ, pos, negsuc, List, ◌∷◌, ◌++◌, length, ◌+◌, Bool, cond, codes, Option, Some, None}
-use Rattle.jvm_model.specs.declared.values.Value.{Value}
-use Rattle.jvm_model.specs.declared.values.Value.TheVariants.{Int, Null, Obj}
+use Rattle.jvm_model.specs.declared.values.{Value.Value, Value.TheVariants.Int, Value.TheVariants.Null, Value.TheVariants.Obj}
 use Rattle.jvm_model.specs.declared.values.Location.TheVariants as place
-use Rattle.jvm_model.specs.declared.outcome.Own.{Own}
-use Rattle.jvm_model.specs.declared.outcome.Next.TheVariants.{Go}
+use Rattle.jvm_model.specs.declared.outcome.{Own.Own, Next.TheVariants.Go}
 use Rattle.jvm_model.specs.declared.program.Program.{Program}
 use Rattle.jvm_model.specs.Access.{Access, done, write, make, spend}
-use Rattle.jvm_model.specs.Builtin.{string_class}
+use Rattle.jvm_model.specs.{Builtin.string_class, Narrow.narrow_int, Rows.Answer, Rows.answer}
 use Rattle.jvm_model.specs.Classes.{blank, instance_head, next_place}
 use Rattle.jvm_model.specs.Entries.{Entries, with_stack, with_place}
-use Rattle.jvm_model.specs.Narrow.{narrow_int}
-use Rattle.jvm_model.specs.Rows.{Answer, answer}
 use Rattle.std.specs.Ordering.{int_eq}
 
 -- the entries, and what the test has of its own

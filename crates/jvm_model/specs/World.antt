@@ -1,13 +1,8 @@
 -- The world: objects, statics, class states, files and properties, and what is at each location of it.
 use Rattle.std.specs.Prelude.{ℕ, zero, suc, List, [], ◌∷◌, ◌++◌, length, get_or, set, Bool, true, false, ◌&&◌, cond, nat_eq, nat_lt, Option, Some, None}
 use Rattle.std.specs.Str.{bytes_eq}
-use Rattle.jvm_model.specs.declared.values.Value.{Value}
-use Rattle.jvm_model.specs.declared.values.Value.TheVariants.{Null}
+use Rattle.jvm_model.specs.declared.values.{Value.Value, Value.TheVariants.Null, Head.Head, InitState.InitState, InitState.TheVariants.Idle, Location.Location}
 use Rattle.jvm_model.specs.declared.values.Kind.TheVariants as kind
-use Rattle.jvm_model.specs.declared.values.Head.{Head}
-use Rattle.jvm_model.specs.declared.values.InitState.{InitState}
-use Rattle.jvm_model.specs.declared.values.InitState.TheVariants.{Idle}
-use Rattle.jvm_model.specs.declared.values.Location.{Location}
 use Rattle.jvm_model.specs.declared.values.Location.TheVariants as place
 
 -- An object: its head, its fields by their numbers in the order of the layout, the elements of an array, and the

@@ -4,9 +4,7 @@ ghost use Rattle.std.specs.Prelude.{◌≡◌, ◌++◌, IfOk, OnOk, ◌<◌, �
 ghost use Rattle.jvm_model.specs.Classes as classes;
 ghost use Rattle.jvm_model.specs.Classes.{layout_in, plain_fields, class_at, field_at, method_at, no_class, no_field, no_method, literal_at, member, upwards_in};
 ghost use Rattle.jvm_model.specs.Kinds as kinds;
-ghost use Rattle.jvm_model.specs.Selection.{has_code};
-ghost use Rattle.jvm_model.specs.Access.{given_by};
-ghost use Rattle.jvm_model.specs.Rows.{constant_kind};
+ghost use Rattle.jvm_model.specs.{Selection.has_code, Access.given_by, Rows.constant_kind};
 
 use crate::builtin::{OBJECT, PRINT_STREAM, STRING};
 use crate::program::{ClassRec, FieldRec, MethodRec, Program};

@@ -1,18 +1,13 @@
 -- Two programs of the same classes and fields whose methods differ in their bodies alone: members are found alike in both.
 use Rattle.std.proofs.Common.{◌≡◌, ℕ, zero, suc, List, [], ◌∷◌, ◌++◌, filter, Bool, not, ◌&&◌, cond, refl, ◌∙◌, ap, Option, Some, None}
 use Rattle.std.specs.Prelude.{flat_map, find, is_some}
-use Rattle.std.specs.List.{list_any}
+use Rattle.std.specs.{List.list_any, Str.bytes_eq}
 use Rattle.std.proofs.Math.Path.{fun_ext}
-use Rattle.jvm_model.specs.declared.program.Program.{Program}
-use Rattle.jvm_model.specs.declared.program.MethodRec.{MethodRec}
-use Rattle.jvm_model.specs.declared.program.TestEntry.{TestEntry}
+use Rattle.jvm_model.specs.declared.program.{Program.Program, MethodRec.MethodRec, TestEntry.TestEntry}
 use Rattle.jvm_model.specs.declared.library.Native.{Native}
-use Rattle.std.specs.Str.{bytes_eq}
-use Rattle.jvm_model.specs.Builtin.{object_class}
+use Rattle.jvm_model.specs.{Builtin.object_class, Driver.no_arguments, Driver.plain_method_in, Linked.test_method}
 use Rattle.jvm_model.specs.Classes.{class_at, method_at, is_private, is_static, member, class_bound, upwards_in, upwards, is_below, lineage_in, own_interfaces, first_mentions}
 use Rattle.jvm_model.specs.Lookup.{is_field, field_path_in, field_path, find_field, pedigree_in, superinterfaces, interface_methods, find_in_interfaces, one_or_first, find_declared, find_in_object, find_method}
-use Rattle.jvm_model.specs.Driver.{no_arguments, plain_method_in}
-use Rattle.jvm_model.specs.Linked.{test_method}
 
 -- a method but for its body: whether it has one
 pub record Outline : Type 0 where

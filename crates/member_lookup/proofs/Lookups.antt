@@ -1,26 +1,18 @@
 -- What looking up fields and methods finds, where each class is visited once.
 use Rattle.std.proofs.Common.{◌≡◌, ℕ, zero, suc, ◌+◌, ◌-◌, ◌<◌, List, [], ◌∷◌, ◌++◌, append-nil, add-one, length, get_or, take, drop, filter, find, flat_map, Bool, true, false, not, ◌||◌, ◌&&◌, cond, nat_eq, refl, sym, ◌∙◌, ap, arith, lit<, is_some, slice_get, Option, Some, None}
-use Rattle.std.specs.List.{list_any}
-use Rattle.std.specs.Option.{option_or}
-use Rattle.std.proofs.Math.Path.{fun_ext}
-use Rattle.std.proofs.Math.Bool.{or-false, or_comm}
-use Rattle.std.proofs.lemmas.List.Concat.{flat_map-append}
+use Rattle.std.specs.{List.list_any, Option.option_or, Option.option_to_list}
+use Rattle.std.proofs.{Math.Path.fun_ext, Math.Bool.or-false, Math.Bool.or_comm, lemmas.List.Concat.flat_map-append, lemmas.List.Folds.find-append}
 use Rattle.std.proofs.lemmas.List.Elements.{filter_agree, filter_more, filter-append}
-use Rattle.std.proofs.lemmas.List.Folds.{find-append}
 use Rattle.std.proofs.lemmas.List.{take-append-drop}
 use Rattle.std.proofs.Math.Seq.{drop-cons}
-use Rattle.indexmap.specs.IndexMap.{IndexMap, keys}
-use Rattle.indexmap.specs.IndexSet.{insert_all}
+use Rattle.indexmap.specs.{IndexMap.IndexMap, IndexMap.keys, IndexSet.insert_all}
 use Rattle.jvm_model.specs.declared.program.Program.{Program}
 use Rattle.jvm_model.specs.Classes.{class_at, method_at, class_bound, member, first_mentions, lineage_in, own_interfaces, upwards_in, upwards}
 use Rattle.jvm_model.specs.Selection.{kept_of, has_code, redeclares}
 use Rattle.jvm_model.specs.Lookup.{is_field, is_method, field_path_in, field_path, find_field, pedigree_in, superinterfaces, interface_methods, one_or_first, find_in_interfaces, find_declared}
-use Rattle.std.specs.Option.{option_to_list}
-use Rattle.jvm_model.proofs.Interfaces.{member-first_mentions}
-use Rattle.jvm_model.proofs.Upwards.{chain}
+use Rattle.jvm_model.proofs.{Interfaces.member-first_mentions, Upwards.chain}
 use Rattle.member_lookup.specs.Walks.{IsWalked, Visits, above_class, is_kept, is_open, nexts, walk}
-use Rattle.member_lookup.proofs.Ancestry.{any_append}
-use Rattle.member_lookup.proofs.Walking.{insert_append, visits_all}
+use Rattle.member_lookup.proofs.{Ancestry.any_append, Walking.insert_append, Walking.visits_all}
 use Rattle.member_lookup.proofs.MentionFacts.{find_mentions, flat_mentions, filter_mentions, filter_both, filter_flat, first_is, any_flat}
 
 -- ---- the paths of look-ups are walks

@@ -1,11 +1,8 @@
 -- Lists without later mentions, and what looks the same in them.
 use Rattle.std.proofs.Common.{◌≡◌, ℕ, List, [], ◌∷◌, ◌++◌, append-nil, append_assoc, filter, find, flat_map, Bool, true, false, not, ◌||◌, ◌&&◌, cond, if◌then◌else◌, nat_eq, refl, sym, ◌∙◌, ap, subst, Option, Some, None}
-use Rattle.std.specs.List.{list_any}
-use Rattle.std.proofs.Math.Bool.{and_comm}
-use Rattle.std.specs.Option.{option_or}
+use Rattle.std.specs.{List.list_any, Option.option_or}
+use Rattle.std.proofs.{Math.Bool.and_comm, lemmas.List.Elements.filter-append, lemmas.List.Elements.filter_agree, lemmas.List.Folds.find-append}
 use Rattle.std.proofs.lemmas.Bool.{eqb-true, eq-eqb}
-use Rattle.std.proofs.lemmas.List.Elements.{filter-append, filter_agree}
-use Rattle.std.proofs.lemmas.List.Folds.{find-append}
 use Rattle.indexmap.specs.IndexSet.{insert_all}
 use Rattle.jvm_model.specs.Classes.{member, first_mentions}
 use Rattle.member_lookup.proofs.Ancestry.{any_append, member_kept, member_there}

@@ -4,8 +4,7 @@ use Rattle.indexmap.specs.IndexMap.{IndexMap, get, keys}
 use Rattle.indexmap.specs.IndexSet.{insert_all}
 use Rattle.jvm_model.specs.declared.program.Program.{Program}
 use Rattle.jvm_model.specs.Classes.{class_at, method_at, class_bound, is_private, is_static, member}
-use Rattle.jvm_model.specs.Lookup.{is_method}
-use Rattle.jvm_model.specs.Selection.{has_code}
+use Rattle.jvm_model.specs.{Lookup.is_method, Selection.has_code}
 use Rattle.std.specs.Option.{option_to_list}
 
 -- the classes just above one: its direct superinterfaces and, where asked, its superclass behind them

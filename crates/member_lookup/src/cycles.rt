@@ -2,11 +2,8 @@
 
 ghost use Rattle.std.specs.Prelude.{◌≡◌, ◌+◌, ◌^◌, ◌≤◌, ◌<◌, ◌↔◌, [], IsTrue, IfOk, OnOk, length, take, nat_eq};
 ghost use Rattle.indexmap.specs.IndexSet.{insert_all};
-ghost use Rattle.jvm_model.specs.Builtin.{builtin_count};
-ghost use Rattle.jvm_model.specs.Library.{builtin_classes};
-ghost use Rattle.jvm_model.specs.Linked.{IsAncestor};
-ghost use Rattle.member_lookup.specs.Ancestors.{AreAncestors, directs};
-ghost use Rattle.member_lookup.specs.Ancestors.{IsFirstCycle};
+ghost use Rattle.jvm_model.specs.{Builtin.builtin_count, Library.builtin_classes, Linked.IsAncestor};
+ghost use Rattle.member_lookup.specs.{Ancestors.AreAncestors, Ancestors.directs, Ancestors.IsFirstCycle};
 
 use et_base::NoMemory;
 use indexmap::IndexSet;

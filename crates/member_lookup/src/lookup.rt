@@ -2,15 +2,12 @@
 //! once.
 
 ghost use Rattle.std.specs.Prelude.{◌≡◌, ◌∷◌, ◌&&◌, [], IfOk, OnOk, cond, false, filter, find, flat_map, nat_eq, not};
-ghost use Rattle.indexmap.specs.IndexSet.{insert_all};
-ghost use Rattle.indexmap.specs.IndexMap.{keys};
+ghost use Rattle.indexmap.specs.{IndexSet.insert_all, IndexMap.keys};
 ghost use Rattle.std.specs.Str.{bytes_eq};
-ghost use Rattle.jvm_model.specs.Builtin.{object_class};
+ghost use Rattle.jvm_model.specs.{Builtin.object_class, Selection.has_code, Lookup.one_or_first};
 ghost use Rattle.jvm_model.specs.Classes as classes;
 ghost use Rattle.jvm_model.specs.Classes.{class_at, class_bound, first_mentions, member, method_at, upwards};
 ghost use Rattle.jvm_model.specs.Lookup.{field_path, find_declared, find_field, find_in_interfaces, find_in_object, find_method, is_field, is_method, superinterfaces};
-ghost use Rattle.jvm_model.specs.Selection.{has_code};
-ghost use Rattle.jvm_model.specs.Lookup.{one_or_first};
 ghost use Rattle.member_lookup.specs.Walks.{IsWalked, Visits, above_class, is_kept, is_open, walk};
 
 use crate::walk::{Visited, visit, visit_all};

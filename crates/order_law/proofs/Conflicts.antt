@@ -2,8 +2,7 @@
 use Rattle.std.proofs.Common.{◌≡◌, ◌⊎◌, ℕ, zero, suc, ◌<◌, ◌≤◌, true, false, cond, List, [], ◌∷◌, refl, sym, ◌∙◌, ap, subst, inl, inr, arith, Option, Some, None}
 use Rattle.std.proofs.lemmas.Bool.{cases_eq, cases_Bool, cases_order, cases_lt}
 use Rattle.jvm_model.specs.declared.values.Location.{Location}
-use Rattle.order_law.specs.declared.edges.Edge.{Edge}
-use Rattle.order_law.specs.declared.edges.EdgeKind.TheVariants.{Raw, Waw, War}
+use Rattle.order_law.specs.declared.edges.{Edge.Edge, EdgeKind.TheVariants.Raw, EdgeKind.TheVariants.Waw, EdgeKind.TheVariants.War}
 use Rattle.order_law.specs.Conflicts.{Tests, Member, NoneBetween, IsRecord, Before, edge, chain, Fits, History, down, last}
 
 pub last_at_true : (W : Tests) (t : ℕ) (D : List ℕ) (L : Location) → W t L ≡ true → last W (t ∷ D) L ≡ Some t

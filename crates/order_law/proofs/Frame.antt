@@ -1,8 +1,7 @@
 -- The frame law for one program of accesses and its partner.
 use Rattle.std.proofs.Common.{◌≡◌, ℕ, ◌+◌, ◌≤◌, true, false, List, ◌∷◌, refl, sym, ◌∙◌, ap, subst, inl, inr, arith}
 use Rattle.std.proofs.lemmas.Bool.{and_parts, and_from, lt-ltb, ltb-true, cases_eq, or_left, or_right, or_cases}
-use Rattle.jvm_model.specs.declared.values.Location.{Location}
-use Rattle.jvm_model.specs.declared.values.Touch.{Touch}
+use Rattle.jvm_model.specs.declared.values.{Location.Location, Touch.Touch}
 use Rattle.jvm_model.specs.World.{Object, World, size, at, put, make_object, has, same}
 use Rattle.jvm_model.specs.Access.{Access, done, read, write, make, spend, write_of, run}
 use Rattle.jvm_model.proofs.Locations.{same_refl, size_put, size_make, IsOf, is_of_cases}

@@ -1,25 +1,20 @@
 -- The frame law for two programs.
 use Rattle.std.proofs.Common.{◌≡◌, ℕ, List, Bool, true, false, nat_le, refl, sym, ◌∙◌, ap, subst, inl, inr, arith, Some, None}
 use Rattle.std.proofs.lemmas.Bool.{cases_Bool}
-use Rattle.jvm_model.specs.declared.values.Location.{Location}
-use Rattle.jvm_model.specs.declared.values.Touch.{Touch}
+use Rattle.jvm_model.specs.declared.values.{Location.Location, Touch.Touch}
 use Rattle.jvm_model.specs.declared.outcome.Verdict.{Verdict}
 use Rattle.jvm_model.specs.declared.program.Program.{Program}
 use Rattle.jvm_model.specs.World.{World, no_object, part, size, at}
-use Rattle.jvm_model.specs.Access.{Ran, run}
-use Rattle.jvm_model.specs.State.{test_at}
+use Rattle.jvm_model.specs.{Access.Ran, Access.run, State.test_at}
 use Rattle.jvm_model.specs.Suite.{End, finished, stuck, out_of_steps, tree, Given, given_at, one_test}
 use Rattle.jvm_model.proofs.Locations.{at_past}
-use Rattle.order_law.specs.Exposed.{exposed}
+use Rattle.order_law.specs.{Exposed.exposed, Matched.Matched, Matched.PairedTest}
 use Rattle.order_law.specs.Pairing.{Matching, OneToOne, PairedLocation, PairedContent, statics, inits, heads, at_field, at_elem, texts, files, props}
 use Rattle.order_law.specs.Frame.{Agree, Forward, Alike}
 use Rattle.order_law.specs.Numbers.{Numbers, Tested, with_places}
-use Rattle.order_law.specs.Matched.{Matched, PairedTest}
 use Rattle.order_law.specs.Outcomes.{PairedVerdict, PairedEnd, both_stuck, both_out, both_finished}
 use Rattle.order_law.specs.FrameLaw.{PairsObjects, AlsoMade, SameTest, FrameLaw}
-use Rattle.order_law.proofs.Frame.{frame}
-use Rattle.order_law.proofs.Grow.{content-more, nothing_there}
-use Rattle.order_law.proofs.Steps.{tree-paired}
+use Rattle.order_law.proofs.{Frame.frame, Grow.content-more, Grow.nothing_there, Steps.tree-paired}
 
 -- what a run gives that ended so
 abbrev pub given_of : Verdict → List ℕ → Ran End → Given

@@ -1,11 +1,8 @@
 -- What a run doesn't write it leaves as it was.
 use Rattle.std.proofs.Common.{◌≡◌, ◌⊎◌, ℕ, zero, suc, ◌+◌, Bool, true, false, cond, ◌||◌, List, [], ◌∷◌, ◌++◌, get_or, refl, sym, ◌∙◌, subst, inl, inr, arith, nat_eq, Option, Some, None}
 use Rattle.std.proofs.lemmas.Bool.{cases_Bool, or_cases, or_parts, eqb-true}
-use Rattle.jvm_model.specs.declared.values.Value.{Value}
-use Rattle.jvm_model.specs.declared.values.Value.TheVariants.{Null}
-use Rattle.jvm_model.specs.declared.values.Location.{Location}
+use Rattle.jvm_model.specs.declared.values.{Value.Value, Value.TheVariants.Null, Location.Location, Touch.Touch}
 use Rattle.jvm_model.specs.declared.values.Location.TheVariants as place
-use Rattle.jvm_model.specs.declared.values.Touch.{Touch}
 use Rattle.jvm_model.specs.World.{Object, World, no_object, size, at, put, make_object, look, part, same, text_or_empty}
 use Rattle.jvm_model.specs.Access.{Access, done, read, write, make, spend, fields_made, elems_made, text_made, made, run}
 use Rattle.jvm_model.proofs.Locations.{same_true, same_refl, same_false, at_put_other, at_make_other, at_make_new, IsOf, is_of_cases, at_past}

@@ -3,8 +3,7 @@ use Rattle.std.proofs.Common.{◌≡◌, ◌⊎◌, ℕ, ◌<◌, true, nat_eq, 
 use Rattle.std.proofs.lemmas.Bool.{eq-eqb, eqb-true, or_cases, or_left, or_right}
 use Rattle.std.proofs.lemmas.List.{reverse-append}
 use Rattle.jvm_model.specs.Classes.{member}
-use Rattle.order_law.specs.declared.edges.Edge.{Edge}
-use Rattle.order_law.specs.declared.edges.EdgeKind.{EdgeKind}
+use Rattle.order_law.specs.declared.edges.{Edge.Edge, EdgeKind.EdgeKind}
 use Rattle.order_law.specs.Conflicts.{Member, HasEdge, Before, edge, chain, Joined, itself, forth, back}
 
 -- two lists put together

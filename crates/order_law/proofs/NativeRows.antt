@@ -2,17 +2,13 @@
 use Rattle.std.proofs.Common.{◌≡◌, ℕ, ℤ, ◌+◌, ◌-◌, true, false, List, [], ◌∷◌, ◌++◌, length, take, drop, nat_lt, nat_eq, refl, ap, subst, arith, pos, negsuc, Option, Some, None}
 use Rattle.std.specs.Prelude.{codes}
 use Rattle.std.specs.Fmt.{signed_decimal}
-use Rattle.et_base.specs.Numbers.{add64}
-use Rattle.et_base.specs.Quotes.{utf8_of}
-use Rattle.jvm_model.specs.declared.values.Value.{Value}
-use Rattle.jvm_model.specs.declared.values.Value.TheVariants.{Long}
+use Rattle.et_base.specs.{Numbers.add64, Quotes.utf8_of}
+use Rattle.jvm_model.specs.declared.values.{Value.Value, Value.TheVariants.Long}
 use Rattle.jvm_model.specs.declared.values.Location.TheVariants as place
 use Rattle.jvm_model.specs.declared.outcome.Own.{Own}
 use Rattle.jvm_model.specs.declared.library.Native.{Native}
 use Rattle.jvm_model.specs.declared.library.Native.TheVariants as native
-use Rattle.jvm_model.specs.Access.{Access, read}
-use Rattle.jvm_model.specs.Builtin.{string_class, string_index_exception}
-use Rattle.jvm_model.specs.Rows.{Answer, faults}
+use Rattle.jvm_model.specs.{Access.Access, Access.read, Builtin.string_class, Builtin.string_index_exception, Rows.Answer, Rows.faults}
 use Rattle.jvm_model.specs.Working.{Working, with_operands, answers, makes_text, answers_text, answers_found, prints, char_of, boolean_text}
 use Rattle.jvm_model.specs.NativesObject.{native_object, sets_message, makes_message, keeps_string, keeps_object, native_throwable}
 use Rattle.jvm_model.specs.NativesString.{text_index, answers_part, compares, string_equals, joined, native_string, appends, appends_string, native_builder}
@@ -20,13 +16,10 @@ use Rattle.jvm_model.specs.NativesOutside.{one_text, two_texts, stepped, upper_i
 use Rattle.jvm_model.specs.Natives.{NativeGroup, of_object, of_string, of_builder, of_system, of_stream, of_files, of_env, of_throwable, native_group, native_of_group, row_native}
 use Rattle.order_law.specs.Pairing.{PairedList, one_more, PairedValue, ints, longs, nulls, literals, objects, at_field, texts, files, props, both_done, both_read, both_write, both_make, both_spend}
 use Rattle.order_law.specs.Numbers.{with_places}
-use Rattle.order_law.proofs.Twins.{Twins}
-use Rattle.order_law.proofs.Lists.{test-paired}
+use Rattle.order_law.proofs.{Twins.Twins, Lists.test-paired, PlainRows.same_reference-paired, ObjectRows.truth-paired}
 use Rattle.order_law.proofs.Programs.{next_place-paired, blank-paired, instance-paired, class_of-paired}
 use Rattle.order_law.proofs.States.{PairedWorking, go, answered, stack-paired, place-paired}
 use Rattle.order_law.proofs.Combinators.{V, Answers, choose-paired, stuck_row-paired, faults-paired, popping-paired, on_int-paired, on_long-paired, on_object-paired, on_reference-paired, with_kind-paired, on_text-paired}
-use Rattle.order_law.proofs.PlainRows.{same_reference-paired}
-use Rattle.order_law.proofs.ObjectRows.{truth-paired}
 
 module _ (tw : Twins) where
   abbrev pub W : Working → Working → Type 0

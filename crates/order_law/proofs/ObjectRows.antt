@@ -1,40 +1,26 @@
 -- Rows with touches in pairs: statics, fields, new objects, arrays, casts, calls.
 use Rattle.std.proofs.Common.{◌≡◌, ℕ, ℤ, zero, suc, ◌+◌, Bool, true, false, cond, List, [], ◌∷◌, length, nat_lt, nat_le, slice_get, refl, ap, subst, arith, pos, negsuc, Option, Some, None}
 use Rattle.et_base.specs.Numbers.{l2i}
-use Rattle.jvm_model.specs.declared.values.Value.{Value}
-use Rattle.jvm_model.specs.declared.values.Value.TheVariants.{Int}
-use Rattle.jvm_model.specs.declared.values.Kind.{Kind}
-use Rattle.jvm_model.specs.declared.values.Head.{Head}
-use Rattle.jvm_model.specs.declared.instr.Cell.{Cell}
-use Rattle.jvm_model.specs.declared.instr.Instr.{Instr}
+use Rattle.jvm_model.specs.declared.values.{Value.Value, Value.TheVariants.Int, Kind.Kind, Head.Head}
+use Rattle.jvm_model.specs.declared.instr.{Cell.Cell, Instr.Instr}
 use Rattle.jvm_model.specs.declared.library.Native.{Native}
 use Rattle.jvm_model.specs.declared.program.Body.{Body}
-use Rattle.jvm_model.specs.Access.{Access}
+use Rattle.jvm_model.specs.{Access.Access, Classes.method_at, Classes.is_abstract, Descriptors.parameters, Entries.Entries, Entries.with_stack}
 use Rattle.jvm_model.specs.Builtin.{instantiation_error, negative_size_exception, array_index_exception, array_store_exception, class_cast_exception, abstract_method_error, stack_overflow_error}
-use Rattle.jvm_model.specs.Classes.{method_at, is_abstract}
-use Rattle.jvm_model.specs.Descriptors.{parameters}
-use Rattle.jvm_model.specs.Entries.{Entries, with_stack}
-use Rattle.jvm_model.specs.Kinds.{element_kind, kind_fits}
-use Rattle.jvm_model.specs.Narrow.{narrow}
-use Rattle.jvm_model.specs.Rows.{Answer, faults}
+use Rattle.jvm_model.specs.{Kinds.element_kind, Kinds.kind_fits, Narrow.narrow, Rows.Answer, Rows.faults, RowsFields.row_fields, Selection.Selected}
 use Rattle.jvm_model.specs.RowsStatics.{read_static, write_static, row_statics}
-use Rattle.jvm_model.specs.RowsFields.{row_fields}
 use Rattle.jvm_model.specs.RowsCreate.{new_object, is_bare, array_head, new_array, children, nest, nest_cost, nested, sized, row_create}
 use Rattle.jvm_model.specs.RowsArrays.{on_array, in_range, element_letter, holds_references, checked, stored_in, loaded_from, row_arrays}
 use Rattle.jvm_model.specs.RowsCasts.{cast_to, cast, tested_for, tested, row_casts}
-use Rattle.jvm_model.specs.Selection.{Selected}
 use Rattle.jvm_model.specs.RowsCalls.{enters_body, enters_native, calls, calls_selected, argument_count, on_receiver, receiver, row_calls}
 use Rattle.order_law.specs.Pairing.{PairedList, one_more, PairedOption, both_none, both_some, ints, longs, nulls, literals, objects, statics, heads, at_field, at_elem, booleans, bytes, chars, shorts, int_bases, long_bases, class_bases, PairedKind, class_kinds, array_kinds, PairedHead, Paired, both_done, both_read, both_write, both_make, both_spend}
-use Rattle.order_law.specs.Numbers.{Tested, with_places}
-use Rattle.order_law.specs.Forms.{PairedInstr}
+use Rattle.order_law.specs.{Numbers.Tested, Numbers.with_places, Forms.PairedInstr, Matched.PairedBody, Matched.MatchedStarts}
 use Rattle.order_law.specs.Forms as same
-use Rattle.order_law.specs.Matched.{PairedBody, MatchedStarts}
-use Rattle.order_law.proofs.Twins.{Twins}
+use Rattle.order_law.proofs.{Twins.Twins, PlainRows.narrowed-paired}
 use Rattle.order_law.proofs.Lists.{either, length-paired, get-list}
 use Rattle.order_law.proofs.Programs.{interface-paired, layout-paired, blank-paired, instance-paired, element-paired, fits-paired, class_of-paired, named-paired, PairedSelected, both_chosen, both_failing, virtual-paired, interface_call-paired, special-paired}
 use Rattle.order_law.proofs.States.{entering, stack-paired, full-paired, cost-paired, called-paired}
 use Rattle.order_law.proofs.Combinators.{V, E, Frames, Rows, bind-paired, choose-paired, spend-paired, stuck_row-paired, faults-paired, goes_on-paired, popping-paired, on_int-paired, on_object-paired, on_reference-paired, with_kind-paired, using-paired}
-use Rattle.order_law.proofs.PlainRows.{narrowed-paired}
 
 module _ (tw : Twins) where
   abbrev KindsOf : Kind → Kind → Type 0

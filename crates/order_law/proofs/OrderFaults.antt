@@ -3,9 +3,7 @@ use Rattle.std.proofs.Common.{◌≡◌, ◌⊎◌, ℕ, zero, suc, ◌+◌, ◌
 use Rattle.std.proofs.lemmas.Bool.{cases_Bool, cases_eq, cases_order, eq-eqb, eqb-true, and_parts, and_from, or_cases, or_left, or_right, not-true, not_from_false, true≢false}
 use Rattle.std.proofs.lemmas.Option.{slice_get-get_or, same_Some, slice_get_within, get_or_from_slice_get}
 use Rattle.jvm_model.specs.Classes.{member}
-use Rattle.order_law.specs.declared.edges.Edge.{Edge}
-use Rattle.order_law.specs.declared.edges.EdgeKind.{EdgeKind}
-use Rattle.order_law.specs.declared.edges.EdgeKind.TheVariants.{Raw, Waw, War}
+use Rattle.order_law.specs.declared.edges.{Edge.Edge, EdgeKind.EdgeKind, EdgeKind.TheVariants.Raw, EdgeKind.TheVariants.Waw, EdgeKind.TheVariants.War}
 use Rattle.order_law.specs.Conflicts.{Member, HasEdge, Before, edge, chain, Distinct, InOrder, Lawful}
 use Rattle.order_law.specs.OrderFault.{OrderFault, twice, missing_writer, inverted, IsTwice, HasWriters, IsMissing, IsInPlace, IsInverted, IsOrderFault, is_twice, is_missing, is_inverted, LawOfFaults}
 use Rattle.order_law.proofs.Members.{member_true, true_member}

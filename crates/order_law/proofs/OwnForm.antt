@@ -4,26 +4,18 @@ use Rattle.std.specs.List.{range_with_len, list_all}
 use Rattle.std.proofs.lemmas.Bool.{cases_Bool, and_from, and_parts, or_left, or_right, eq-eqb, lt-ltb, le-leb, leb-true}
 use Rattle.std.proofs.lemmas.List.{length-map}
 use Rattle.std.proofs.lemmas.List.FromFn.{length-range_with_len}
-use Rattle.jvm_model.specs.declared.values.Location.{Location}
-use Rattle.jvm_model.specs.declared.values.Touch.{Touch}
+use Rattle.jvm_model.specs.declared.values.{Location.Location, Touch.Touch, Kind.Kind}
 use Rattle.jvm_model.specs.declared.program.Program.{Program}
-use Rattle.jvm_model.specs.World.{same}
+use Rattle.jvm_model.specs.{World.same, Builtin.builtin_count, State.test_at, Linked.IsGiven}
 use Rattle.jvm_model.specs.Suite.{Given, runs, all_tests, seq, is_detected, suite_limit, within_limit, units_of, outcome_in, given_by_test}
-use Rattle.jvm_model.specs.declared.values.Kind.{Kind}
-use Rattle.jvm_model.specs.Builtin.{builtin_count}
-use Rattle.jvm_model.specs.State.{test_at}
-use Rattle.jvm_model.specs.Linked.{IsGiven}
-use Rattle.order_law.specs.declared.edges.Edge.{Edge}
-use Rattle.order_law.specs.declared.edges.EdgeKind.{EdgeKind}
-use Rattle.order_law.specs.declared.edges.EdgeKind.TheVariants.{Raw, Waw, War}
+use Rattle.order_law.specs.declared.edges.{Edge.Edge, EdgeKind.EdgeKind, EdgeKind.TheVariants.Raw, EdgeKind.TheVariants.Waw, EdgeKind.TheVariants.War}
 use Rattle.order_law.specs.Conflicts.{Member}
 use Rattle.order_law.specs.Histories.{Touches, writes_in, exposed_in}
 use Rattle.order_law.specs.OwnRecord.{conflicts, first_places, places_in, conflict_places_in, edge_of, edges_between_in, edges_in}
 use Rattle.order_law.specs.RecordForm.{kind_number, edge_before, edges_ascend, numbers_ascend}
 use Rattle.order_law.specs.Reach.{units_in, ReachesIn, own, touched, mentioned}
 use Rattle.order_law.specs.OwnForm.{UnitsLaw, IsCounted, OrderedLaw, CountedLaw, ReachLaw}
-use Rattle.order_law.proofs.Members.{member_either, member_flat_map}
-use Rattle.order_law.proofs.OwnRecord.{range_within}
+use Rattle.order_law.proofs.{Members.member_either, Members.member_flat_map, OwnRecord.range_within}
 
 -- units
 few_units : (xs : List Given) (i : ℕ) → units_in (outcome_in (slice_get xs i)) ≤ units_of xs

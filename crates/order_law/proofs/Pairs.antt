@@ -2,11 +2,8 @@
 use Rattle.std.proofs.Common.{◌≡◌, ◌≢◌, ℕ, zero, suc, Bool, true, false, cond, List, [], ◌∷◌, ◌++◌, get_or, refl, sym, ◌∙◌, ap, subst, inl, inr, nat_eq, Option, Some, None}
 use Rattle.std.proofs.lemmas.Bool.{cases_eq, cases_Bool, false_from_ne_true, eq-eqb, ne_eqb}
 use Rattle.std.proofs.lemmas.Option.{same_Some}
-use Rattle.jvm_model.specs.declared.values.Value.{Value}
-use Rattle.jvm_model.specs.declared.values.Value.TheVariants.{Null}
-use Rattle.jvm_model.specs.declared.values.Location.{Location}
+use Rattle.jvm_model.specs.declared.values.{Value.Value, Value.TheVariants.Null, Location.Location, Touch.Touch}
 use Rattle.jvm_model.specs.declared.values.Location.TheVariants as place
-use Rattle.jvm_model.specs.declared.values.Touch.{Touch}
 use Rattle.jvm_model.specs.World.{Object, Content, World, size, at, put, make_object, has, place_of, part, look, same, text_or_empty}
 use Rattle.jvm_model.specs.Access.{given, given_by, write_of, fields_made, elems_made, text_made, made}
 use Rattle.jvm_model.proofs.Locations.{same_true, same_refl, same_false, at_put_same, at_put_other, at_make_other, at_make_new, IsOf, is_of_cases}

@@ -1,21 +1,16 @@
 -- The text of a location is in the form of a record's.
 use Rattle.std.proofs.Common.{◌≡◌, ℕ, zero, suc, ◌+◌, ◌/◌, ◌%◌, ◌^◌, ◌<◌, ◌≤◌, Bool, true, false, ◌&&◌, ◌||◌, ◌==◌, if◌then◌else◌, nat_lt, nat_le, cond, List, [], ◌∷◌, ◌++◌, take, length, codes, decimal, refl, ◌∙◌, ap, arith, inl, inr}
-use Rattle.std.specs.List.{list_all, flat_map}
-use Rattle.std.specs.Fmt.{digit_glyph}
-use Rattle.std.specs.Str.Parse.{AllDigits}
+use Rattle.std.specs.{List.list_all, List.flat_map, Fmt.digit_glyph, Str.Parse.AllDigits}
 use Rattle.std.proofs.lemmas.Bool.{cases_Bool, and_from, and_parts, or_cases, le-leb, leb-true, leb-false, ltb-true, ltb-false, eqb-true}
-use Rattle.std.proofs.lemmas.Fmt.{decimal_is_IsNumeral}
-use Rattle.std.proofs.lemmas.Str.Parse.{digit_from_value}
-use Rattle.std.proofs.lemmas.List.{length-append, length-take-le}
-use Rattle.std.proofs.lemmas.List.Folds.{list_all-append}
+use Rattle.std.proofs.lemmas.{Fmt.decimal_is_IsNumeral, List.length-append, List.length-take-le}
+use Rattle.std.proofs.{lemmas.Str.Parse.digit_from_value, lemmas.List.Folds.list_all-append}
 use Rattle.jvm_model.specs.declared.program.Program.{Program}
 use Rattle.jvm_model.specs.declared.values.Location.{Location}
 use Rattle.jvm_model.specs.declared.values.Location.TheVariants as place
 use Rattle.jvm_model.specs.Classes.{class_at, field_at}
 use Rattle.jvm_model.specs.Texts.{object_text, class_text, field_text, location_text}
 use Rattle.et_base.specs.Quotes.{hex_digit, unit_escape, name_unit, name_of, quoted_unit, quoted_units, is_plain}
-use Rattle.order_law.specs.OwnRecord.{cut}
-use Rattle.order_law.specs.RecordForm.{is_place_text}
+use Rattle.order_law.specs.{OwnRecord.cut, RecordForm.is_place_text}
 use Rattle.order_law.specs.OwnForm.{are_code_units, HasCodeUnits, IsNumbered, IsShown, PlaceLaw}
 
 abbrev printable : ℕ → Bool

@@ -2,23 +2,15 @@
 use Rattle.std.proofs.Common.{◌≡◌, ℕ, ℤ, Bool, true, false, List, [], ◌∷◌, nat_lt, refl, ap, subst, arith, pos, Option, Some, None}
 use Rattle.std.specs.Ordering.{int_eq}
 use Rattle.jvm_model.specs.declared.values.Value.{Value}
-use Rattle.jvm_model.specs.declared.instr.Op.{Op}
-use Rattle.jvm_model.specs.declared.instr.Conv.{Conv}
+use Rattle.jvm_model.specs.declared.instr.{Op.Op, Conv.Conv, Instr.Instr}
 use Rattle.jvm_model.specs.declared.instr.Conv.TheVariants as conv
-use Rattle.jvm_model.specs.declared.instr.Instr.{Instr}
-use Rattle.jvm_model.specs.declared.state.EntryKind.{EntryKind}
-use Rattle.jvm_model.specs.declared.state.EntryKind.TheVariants.{Absent, InMethod, InClass}
-use Rattle.jvm_model.specs.Access.{Access}
-use Rattle.jvm_model.specs.Builtin.{arithmetic_exception}
-use Rattle.jvm_model.specs.Descriptors.{return_type}
-use Rattle.jvm_model.specs.Narrow.{narrow, narrowed}
-use Rattle.jvm_model.specs.Entries.{Entries, popped_entry}
-use Rattle.jvm_model.specs.Rows.{Answer}
+use Rattle.jvm_model.specs.declared.state.{EntryKind.EntryKind, EntryKind.TheVariants.Absent, EntryKind.TheVariants.InMethod, EntryKind.TheVariants.InClass}
+use Rattle.jvm_model.specs.{Access.Access, Builtin.arithmetic_exception, Descriptors.return_type, Narrow.narrow, Narrow.narrowed}
+use Rattle.jvm_model.specs.{Entries.Entries, Entries.popped_entry, Rows.Answer, Step.row_throw}
 use Rattle.jvm_model.specs.RowsMoves.{is_long, loaded, with_local, stored, two_under_long, two_under_two, row_moves}
 use Rattle.jvm_model.specs.RowsArith.{divides, shifts, unless_zero, two_ints, two_longs, long_by_int, converted, increased, row_arith}
 use Rattle.jvm_model.specs.RowsBranches.{same_reference, is_null, flag_is, goes_if, row_branches}
 use Rattle.jvm_model.specs.RowsReturn.{handed_on, hands_on, row_return}
-use Rattle.jvm_model.specs.Step.{row_throw}
 use Rattle.order_law.specs.Pairing.{PairedList, no_more, one_more, PairedOption, both_none, both_some, PairedValue, ints, longs, nulls, literals, objects, both_done}
 use Rattle.order_law.specs.Numbers.{Numbers, with_places}
 use Rattle.order_law.specs.Forms.{PairedConstant, const_int, const_long, const_null, const_literal, PairedInstr}

@@ -3,14 +3,10 @@ use Rattle.std.proofs.Common.{◌≡◌, ℕ, ◌<◌, Bool, true, false, cond, 
 use Rattle.std.proofs.lemmas.Bool.{eqb-true}
 use Rattle.jvm_model.specs.declared.outcome.Outcome.{Outcome}
 use Rattle.jvm_model.specs.declared.program.Program.{Program}
-use Rattle.jvm_model.specs.World.{World}
-use Rattle.jvm_model.specs.State.{test_at}
+use Rattle.jvm_model.specs.{World.World, State.test_at, Linked.Linked}
 use Rattle.jvm_model.specs.Suite.{Given, opening, one_test, runs_on, runs, outcome_in, last_outcome, world_after, seq, is_detected}
-use Rattle.jvm_model.specs.Linked.{Linked}
 use Rattle.jvm_model.proofs.Runs.{with_last, runs_more, last_outcome_is}
-use Rattle.order_law.specs.declared.edges.Edge.{Edge}
-use Rattle.order_law.specs.declared.edges.EdgeKind.{EdgeKind}
-use Rattle.order_law.specs.declared.edges.EdgeKind.TheVariants.{Raw, Waw, War}
+use Rattle.order_law.specs.declared.edges.{Edge.Edge, EdgeKind.EdgeKind, EdgeKind.TheVariants.Raw, EdgeKind.TheVariants.Waw, EdgeKind.TheVariants.War}
 use Rattle.order_law.specs.Conflicts.{Member, HasEdge, Before, edge, Fits, History, ClosedUnderRaw, itself, forth, back}
 use Rattle.order_law.specs.Histories.{after_history, RecordOf, IsTestNumber}
 use Rattle.order_law.specs.Plan.{NextOf, PostsSequential, chain_at, Ascending, AreChainsOf, Event, claim, post, claims, posts, Posted, list_of, Legal, LawOfInterleavings}

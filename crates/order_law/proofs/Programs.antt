@@ -1,16 +1,9 @@
 -- What two matched programs say of paired classes, fields and methods.
 use Rattle.std.proofs.Common.{◌≡◌, ℕ, zero, suc, Bool, true, false, ◌&&◌, not, cond, List, [], ◌∷◌, flat_map, refl, ap, subst, pos, nat_eq, nat_lt, nat_le, Option, Some, None, arith}
 use Rattle.std.specs.Prelude.{find}
-use Rattle.std.specs.List.{list_any, list_all}
-use Rattle.jvm_model.specs.declared.values.Value.{Value}
-use Rattle.jvm_model.specs.declared.values.Base.{Base}
-use Rattle.jvm_model.specs.declared.values.Kind.{Kind}
-use Rattle.jvm_model.specs.declared.values.Head.{Head}
-use Rattle.jvm_model.specs.declared.program.Program.{Program}
-use Rattle.jvm_model.specs.declared.program.Body.{Body}
-use Rattle.jvm_model.specs.declared.program.Placed.{Placed}
-use Rattle.jvm_model.specs.declared.program.Handler.{Handler}
-use Rattle.std.specs.Str.{bytes_eq}
+use Rattle.std.specs.{List.list_any, List.list_all, Str.bytes_eq}
+use Rattle.jvm_model.specs.declared.values.{Value.Value, Base.Base, Kind.Kind, Head.Head}
+use Rattle.jvm_model.specs.declared.program.{Program.Program, Body.Body, Placed.Placed, Handler.Handler}
 use Rattle.jvm_model.specs.Builtin.{object_class, abstract_method_error, class_change_error}
 use Rattle.jvm_model.specs.Classes.{class_at, field_at, method_at, is_private, is_static, is_interface, class_bound, upwards_in, upwards, member, lineage_in, own_interfaces, is_below, implements, clinit_name, init_name, is_default_method, default_interfaces, declares_start, is_trivial, default_of, layout_in, layout, element_default, fields_of, elems_of, blank, instance_head, Found, place_after, found_in, found_of, form_at, next_place}
 use Rattle.jvm_model.specs.Kinds.{class_of, element_kind, class_fits, base_fits, is_object, kind_fits}

@@ -1,23 +1,17 @@
 -- Steps and whole tests in pairs: raising, initialisation, the driver.
 use Rattle.std.proofs.Common.{◌≡◌, ℕ, zero, suc, ◌+◌, Bool, true, false, not, cond, List, [], length, refl, ap, subst, arith, Option, Some, None}
-use Rattle.jvm_model.specs.declared.values.Value.{Value}
-use Rattle.jvm_model.specs.declared.values.InitState.{InitState}
+use Rattle.jvm_model.specs.declared.values.{Value.Value, InitState.InitState}
 use Rattle.jvm_model.specs.declared.values.InitState.TheVariants.{Idle, Running, Done, Erroneous}
 use Rattle.jvm_model.specs.declared.instr.Instr.{Instr}
 use Rattle.jvm_model.specs.declared.library.Native.{Native}
 use Rattle.jvm_model.specs.declared.outcome.Own.{Own}
-use Rattle.jvm_model.specs.declared.state.EntryKind.{EntryKind}
-use Rattle.jvm_model.specs.declared.state.EntryKind.TheVariants.{Absent, InMethod, InClass}
+use Rattle.jvm_model.specs.declared.state.{EntryKind.EntryKind, EntryKind.TheVariants.Absent, EntryKind.TheVariants.InMethod, EntryKind.TheVariants.InClass}
 use Rattle.jvm_model.specs.declared.state.Stage.{Stage}
 use Rattle.jvm_model.specs.declared.program.Body.{Body}
 use Rattle.std.specs.Str.{bytes_eq}
-use Rattle.jvm_model.specs.Access.{Access, bind}
+use Rattle.jvm_model.specs.{Access.Access, Access.bind, Entries.Entries, Rows.Answer, Rows.Used, Working.Working, Raising.handled, Raising.row_raise}
 use Rattle.jvm_model.specs.Builtin.{error_class, initializer_error, no_class_error, stack_overflow_error, abstract_method_error, assertion_error}
 use Rattle.jvm_model.specs.Classes.{literal_at, is_static, is_trivial, init_name}
-use Rattle.jvm_model.specs.Entries.{Entries}
-use Rattle.jvm_model.specs.Rows.{Answer, Used}
-use Rattle.jvm_model.specs.Working.{Working}
-use Rattle.jvm_model.specs.Raising.{handled, row_raise}
 use Rattle.jvm_model.specs.Initialise.{Part, superclass_part, parts_of, with_entered, starts_body, starts, looked_at, looks, left_at, finished, finishing, row_finish, fails, fails_anew, was_entered, row_fail}
 use Rattle.jvm_model.specs.Throwing.{throws}
 use Rattle.jvm_model.specs.State.{State, Turn, test_at, started, or_first, thrown_at, raised_in, raise, with_entries}
@@ -25,20 +19,17 @@ use Rattle.jvm_model.specs.Driver.{no_arguments, set_up_name, tear_down_name, pl
 use Rattle.jvm_model.specs.Step.{Group, moves, arith as arith_group, branches, statics as statics_group, fields, create, arrays, casts, calls, returns, throw, group_of, row_of, row, after_native, entered, after_row, row_or_none, row_here, acts, step}
 use Rattle.jvm_model.specs.Suite.{End, after_step, whole, tree}
 use Rattle.order_law.specs.Pairing.{PairedList, no_more, one_more, PairedOption, both_none, both_some, PairedValue, ints, longs, nulls, literals, objects, inits, heads, at_field, texts, Paired, both_done, both_read, both_write, both_make, both_spend}
-use Rattle.order_law.specs.Numbers.{Tested, with_places}
-use Rattle.order_law.specs.Forms.{PairedInstr}
+use Rattle.order_law.specs.{Numbers.Tested, Numbers.with_places, Forms.PairedInstr}
 use Rattle.order_law.specs.Forms as same
 use Rattle.order_law.specs.Matched.{PairedBody, PairedTest, MatchedStarts}
 use Rattle.order_law.specs.Outcomes.{both_passed, both_failed, both_error, PairedEnd, both_stuck, both_out, both_finished}
-use Rattle.order_law.proofs.Pairs.{list-append}
-use Rattle.order_law.proofs.Twins.{Twins}
+use Rattle.order_law.proofs.{Pairs.list-append, Twins.Twins, NativeRows.native-paired, NativeRows.W}
 use Rattle.order_law.proofs.Lists.{both, length-paired, filter-paired, map-paired, cond-list}
 use Rattle.order_law.proofs.Programs.{pick-option, interface-paired, trivial-paired, defaults-paired, below-paired, upwards-paired, layout-paired, blank-paired, instance-paired, class_of-paired, handler-paired, form_at-paired}
 use Rattle.order_law.proofs.States.{PairedNext, go, fault, raised, leave, over, PairedAnswer, answered, entering, no_rows, PairedUsed, both_ready, both_begun, both_refused, PairedStage, both_first, both_made, both_built, both_set_up, both_called, both_last, PairedState, PairedTurn, both_next, both_ended, no_turns, full-paired, entry-paired, nothing-paired, popped-paired, class_entry-paired, frame-paired, cost-paired, frame_top, class_top}
 use Rattle.order_law.proofs.Combinators.{V, E, Frames, Rows, bind-paired, choose-paired, spend-paired, stuck_row-paired, faults-paired, goes_to-paired, on_object-paired, begin-paired}
 use Rattle.order_law.proofs.PlainRows.{moves-paired, arith-paired, branches-paired, return-paired, throw-paired}
 use Rattle.order_law.proofs.ObjectRows.{statics-paired, fields-paired, create-paired, arrays-paired, casts-paired, calls_rows-paired}
-use Rattle.order_law.proofs.NativeRows.{native-paired, W}
 
 module _ (tw : Twins) where
   abbrev C : ℕ → ℕ → Type 0

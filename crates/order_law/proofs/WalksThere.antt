@@ -2,29 +2,19 @@
 -- of a new object or was given by a read, and a read gives it from a static or from a cell of an object that it had.
 use Rattle.std.proofs.Common.{◌≡◌, ◌⊎◌, ℕ, zero, suc, ◌≤◌, List, [], ◌∷◌, ◌++◌, true, cond, nat_eq, get_or, refl, sym, ◌∙◌, ap, subst, inl, inr, arith, Option, Some, None}
 use Rattle.std.proofs.lemmas.Bool.{cases_Bool, eqb-true, eq-eqb, and_parts}
-use Rattle.std.proofs.lemmas.List.{append_assoc}
-use Rattle.std.proofs.lemmas.Option.{same_Some}
-use Rattle.jvm_model.specs.declared.values.Value.{Value}
+use Rattle.std.proofs.lemmas.{List.append_assoc, Option.same_Some}
+use Rattle.jvm_model.specs.declared.values.{Value.Value, Location.Location, Touch.Touch}
 use Rattle.jvm_model.specs.declared.values.Value.TheVariants.{Int, Long, Null, Lit, Obj}
-use Rattle.jvm_model.specs.declared.values.Location.{Location}
 use Rattle.jvm_model.specs.declared.values.Location.TheVariants as place
-use Rattle.jvm_model.specs.declared.values.Touch.{Touch}
 use Rattle.jvm_model.specs.World.{Object, World, Content, size, at, put, make_object, has, same, place_of, part, look, no_object}
 use Rattle.jvm_model.specs.Access.{Access, read_of, write_of, given, given_by, made, fields_made, elems_made, text_made, run}
 use Rattle.jvm_model.specs.declared.program.Program.{Program}
-use Rattle.jvm_model.specs.State.{test_at}
-use Rattle.jvm_model.specs.Suite.{tree, Given}
-use Rattle.jvm_model.specs.Linked.{Linked}
+use Rattle.jvm_model.specs.{State.test_at, Suite.tree, Suite.Given, Linked.Linked}
 use Rattle.jvm_model.proofs.Locations.{same_true, same_false, at_put_same, at_put_other, size_put, size_make, IsOf, is_of_cases, at_make_new, at_make_other, at_past}
 use Rattle.order_law.specs.Pairing.{Matching, OneToOne, PairedList, no_more, one_more, PairedValue, ints, longs, nulls, literals, objects, PairedLocation, statics, inits, heads, at_field, at_elem, texts, files, props, PairedContent, PairedCell, PairedObject, Paired, both_done, both_read, both_write, both_make, both_spend}
-use Rattle.order_law.specs.Numbers.{same_numbers, with_places}
+use Rattle.order_law.specs.{Numbers.same_numbers, Numbers.with_places, Conflicts.Member, Matched.PairedTest}
 use Rattle.order_law.specs.Walk.{gives, is_given, first_giving, Walk, from_static, through, WalkLaw}
-use Rattle.order_law.specs.Conflicts.{Member}
-use Rattle.order_law.specs.Matched.{PairedTest}
-use Rattle.order_law.proofs.Same.{self_kind, self_matched}
-use Rattle.order_law.proofs.Steps.{tree-paired}
-use Rattle.order_law.proofs.FrameLaw.{ran_as}
-use Rattle.order_law.proofs.Walks.{walk_one}
+use Rattle.order_law.proofs.{Same.self_kind, Same.self_matched, Steps.tree-paired, FrameLaw.ran_as, Walks.walk_one}
 
 -- the first read that gives an object, in longer lists
 first_at : (ts : List Touch) (x : Touch) (us : List Touch) (o : ℕ) → first_giving ts o ≡ None → gives x o ≡ true → first_giving (ts ++ (x ∷ us)) o ≡ Some x

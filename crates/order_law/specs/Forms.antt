@@ -1,17 +1,10 @@
 -- Instructions of two programs that are the same but for their numbers.
 use Rattle.std.specs.Prelude.{◌≡◌, ℕ, ℤ, List, Bool, true, Option}
-use Rattle.jvm_model.specs.declared.values.Value.{Value}
-use Rattle.jvm_model.specs.declared.values.Value.TheVariants.{Int, Long, Null, Lit}
+use Rattle.jvm_model.specs.declared.values.{Value.Value, Value.TheVariants.Int, Value.TheVariants.Long, Value.TheVariants.Null, Value.TheVariants.Lit}
 use Rattle.jvm_model.specs.declared.values.Kind.{Kind}
-use Rattle.jvm_model.specs.declared.instr.Sort.{Sort}
-use Rattle.jvm_model.specs.declared.instr.Cell.{Cell}
-use Rattle.jvm_model.specs.declared.instr.Op.{Op}
-use Rattle.jvm_model.specs.declared.instr.Conv.{Conv}
-use Rattle.jvm_model.specs.declared.instr.IfTest.{IfTest}
-use Rattle.jvm_model.specs.declared.instr.Instr.{Instr}
+use Rattle.jvm_model.specs.declared.instr.{Sort.Sort, Cell.Cell, Op.Op, Conv.Conv, IfTest.IfTest, Instr.Instr}
 use Rattle.jvm_model.specs.declared.instr.Instr.TheVariants as form
-use Rattle.order_law.specs.Pairing.{PairedKind}
-use Rattle.order_law.specs.Numbers.{Numbers, Tested}
+use Rattle.order_law.specs.{Pairing.PairedKind, Numbers.Numbers, Numbers.Tested}
 
 -- a constant is no object
 pub data PairedConstant (n : Numbers) : Value → Value → Type 0 where

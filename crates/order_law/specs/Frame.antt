@@ -1,7 +1,6 @@
 -- What the frame law says of two runs.
 use Rattle.std.specs.Prelude.{◌≡◌, ◌⊎◌, ℕ, ◌+◌, ◌<◌, ◌≤◌, List, true}
-use Rattle.jvm_model.specs.declared.values.Location.{Location}
-use Rattle.jvm_model.specs.declared.values.Touch.{Touch}
+use Rattle.jvm_model.specs.declared.values.{Location.Location, Touch.Touch}
 use Rattle.jvm_model.specs.World.{World, size, at}
 use Rattle.jvm_model.specs.Access.{Ran}
 use Rattle.order_law.specs.Exposed.{written, exposed}

@@ -3,14 +3,10 @@ use Rattle.std.specs.Prelude.{◌≡◌, ◌⊎◌, ℕ, ◌+◌, ◌<◌, ◌�
 use Rattle.jvm_model.specs.declared.values.Location.{Location}
 use Rattle.jvm_model.specs.declared.program.Program.{Program}
 use Rattle.jvm_model.specs.World.{World, size, at}
-use Rattle.jvm_model.specs.State.{test_at}
-use Rattle.jvm_model.specs.Suite.{Given, one_test}
-use Rattle.order_law.specs.Exposed.{written}
+use Rattle.jvm_model.specs.{State.test_at, Suite.Given, Suite.one_test}
+use Rattle.order_law.specs.{Exposed.written, Frame.Agree, Matched.Matched, Matched.PairedTest, Outcomes.PairedOutcome}
 use Rattle.order_law.specs.Pairing.{Matching, OneToOne, PairedList, PairedLocation, PairedContent, PairedTouch}
-use Rattle.order_law.specs.Frame.{Agree}
 use Rattle.order_law.specs.Numbers.{Numbers, Tested, with_places}
-use Rattle.order_law.specs.Matched.{Matched, PairedTest}
-use Rattle.order_law.specs.Outcomes.{PairedOutcome}
 
 -- a pairing of the objects of two worlds
 pub record PairsObjects (π : ℕ → ℕ → Bool) (w v : World) : Type 0 where

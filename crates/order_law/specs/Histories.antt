@@ -2,11 +2,8 @@
 use Rattle.std.specs.Prelude.{◌≡◌, ℕ, ◌<◌, ◌≤◌, List, [], ◌∷◌, length, true, Option, Some}
 use Rattle.jvm_model.specs.declared.program.Program.{Program}
 use Rattle.jvm_model.specs.declared.values.Touch.{Touch}
-use Rattle.jvm_model.specs.World.{World}
-use Rattle.jvm_model.specs.Access.{Ran, run}
-use Rattle.jvm_model.specs.State.{test_at}
+use Rattle.jvm_model.specs.{World.World, Access.Ran, Access.run, State.test_at, Linked.Linked}
 use Rattle.jvm_model.specs.Suite.{End, tree, opening, Given, one_test, runs, seq, is_detected}
-use Rattle.jvm_model.specs.Linked.{Linked}
 use Rattle.order_law.specs.declared.edges.Edge.{Edge}
 use Rattle.order_law.specs.Exposed.{written, exposed}
 use Rattle.order_law.specs.Conflicts.{Tests, Member, IsRecord, Lawful, down}

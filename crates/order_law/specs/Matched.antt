@@ -1,18 +1,11 @@
 -- When two programs match: their paired classes, fields, methods and string constants are the same but for numbers.
 use Rattle.std.specs.Prelude.{◌≡◌, ℕ, ◌<◌, true}
-use Rattle.jvm_model.specs.declared.program.Program.{Program}
-use Rattle.jvm_model.specs.declared.program.ClassRec.{ClassRec}
-use Rattle.jvm_model.specs.declared.program.FieldRec.{FieldRec}
-use Rattle.jvm_model.specs.declared.program.MethodRec.{MethodRec}
-use Rattle.jvm_model.specs.declared.program.Body.{Body}
-use Rattle.jvm_model.specs.declared.program.Placed.{Placed}
-use Rattle.jvm_model.specs.declared.program.Handler.{Handler}
-use Rattle.jvm_model.specs.declared.program.TestEntry.{TestEntry}
+use Rattle.jvm_model.specs.declared.program.{Program.Program, ClassRec.ClassRec, FieldRec.FieldRec, MethodRec.MethodRec, Body.Body, Placed.Placed}
+use Rattle.jvm_model.specs.declared.program.{Handler.Handler, TestEntry.TestEntry}
 use Rattle.jvm_model.specs.Builtin.{builtin_count, message_field}
 use Rattle.jvm_model.specs.Classes.{class_at, field_at, method_at, literal_at}
 use Rattle.order_law.specs.Pairing.{OneToOne, PairedList, PairedOption}
-use Rattle.order_law.specs.Numbers.{Numbers, Tested}
-use Rattle.order_law.specs.Forms.{PairedConstant, PairedInstr}
+use Rattle.order_law.specs.{Numbers.Numbers, Numbers.Tested, Forms.PairedConstant, Forms.PairedInstr}
 
 pub record PairedPlaced (n : Numbers) (x y : Placed) : Type 0 where
   pub pc : x.pc ≡ y.pc

@@ -1,7 +1,6 @@
 -- The first reason why a list of tests isn't lawful by the edges of a record (this project's order of reasons).
 use Rattle.std.specs.Prelude.{◌≡◌, ◌⊎◌, ℕ, ◌<◌, List, take, slice_get, Some}
-use Rattle.order_law.specs.declared.edges.Edge.{Edge}
-use Rattle.order_law.specs.declared.edges.EdgeKind.TheVariants.{Raw}
+use Rattle.order_law.specs.declared.edges.{Edge.Edge, EdgeKind.TheVariants.Raw}
 use Rattle.order_law.specs.Conflicts.{Member, HasEdge, Before, Distinct, Lawful}
 
 pub data OrderFault : Type 0 where

@@ -1,8 +1,6 @@
 -- Outcomes of two programs that are the same but for the number of a throwable's class.
 use Rattle.std.specs.Prelude.{◌≡◌, ℕ, List, true}
-use Rattle.jvm_model.specs.declared.outcome.Cause.{Cause}
-use Rattle.jvm_model.specs.declared.outcome.Verdict.{Verdict}
-use Rattle.jvm_model.specs.declared.outcome.Verdict.TheVariants.{Passed, Failed, Error}
+use Rattle.jvm_model.specs.declared.outcome.{Cause.Cause, Verdict.Verdict, Verdict.TheVariants.Passed, Verdict.TheVariants.Failed, Verdict.TheVariants.Error}
 use Rattle.jvm_model.specs.declared.outcome.Outcome.{Outcome}
 use Rattle.jvm_model.specs.Suite.{End, finished, stuck, out_of_steps}
 use Rattle.order_law.specs.Numbers.{Numbers}

@@ -1,15 +1,10 @@
 -- The logical relation of two runs. A matching says which numbers of the two sides correspond.
 use Rattle.std.specs.Prelude.{◌≡◌, ℕ, ℤ, List, [], ◌∷◌, Option, Some, None}
-use Rattle.jvm_model.specs.declared.values.Value.{Value}
+use Rattle.jvm_model.specs.declared.values.{Value.Value, Base.Base, Kind.Kind, Head.Head, Location.Location, Touch.Touch}
 use Rattle.jvm_model.specs.declared.values.Value.TheVariants.{Int, Long, Null, Lit, Obj}
-use Rattle.jvm_model.specs.declared.values.Base.{Base}
 use Rattle.jvm_model.specs.declared.values.Base.TheVariants as base
-use Rattle.jvm_model.specs.declared.values.Kind.{Kind}
 use Rattle.jvm_model.specs.declared.values.Kind.TheVariants as kind
-use Rattle.jvm_model.specs.declared.values.Head.{Head}
-use Rattle.jvm_model.specs.declared.values.Location.{Location}
 use Rattle.jvm_model.specs.declared.values.Location.TheVariants as place
-use Rattle.jvm_model.specs.declared.values.Touch.{Touch}
 use Rattle.jvm_model.specs.World.{Object, Content}
 use Rattle.jvm_model.specs.Access.{Access, done, read, write, make, spend}
 

@@ -7,9 +7,7 @@ use Rattle.jvm_model.specs.Suite.{last_outcome, seq, is_detected}
 use Rattle.jvm_model.specs.Linked.{Linked}
 use Rattle.order_law.specs.declared.edges.Edge.{Edge}
 use Rattle.order_law.specs.Conflicts.{Member, Distinct, Joined, ClosedUnderRaw}
-use Rattle.order_law.specs.RecordForm.{are_chains}
-use Rattle.order_law.specs.Histories.{RecordOf, IsTestNumber}
-use Rattle.order_law.specs.OwnRecord.{edges_of}
+use Rattle.order_law.specs.{RecordForm.are_chains, Histories.RecordOf, Histories.IsTestNumber, OwnRecord.edges_of}
 
 abbrev pub chain_at : List (List ℕ) → ℕ → List ℕ
 chain_at C i = get_or C i []

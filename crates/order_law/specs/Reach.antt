@@ -8,22 +8,12 @@ use Rattle.jvm_model.specs.declared.values.Location.TheVariants as place
 use Rattle.jvm_model.specs.declared.instr.Instr.{Instr}
 use Rattle.jvm_model.specs.declared.instr.Instr.TheVariants as form
 use Rattle.jvm_model.specs.declared.outcome.Outcome.{Outcome}
-use Rattle.jvm_model.specs.declared.program.Body.{Body}
-use Rattle.jvm_model.specs.declared.program.Program.{Program}
-use Rattle.jvm_model.specs.World.{at, same}
-use Rattle.jvm_model.specs.Builtin.{builtin_count, out_field}
-use Rattle.jvm_model.specs.Classes.{class_at}
-use Rattle.jvm_model.specs.State.{test_at}
-use Rattle.jvm_model.specs.Suite.{all_tests, seq}
+use Rattle.jvm_model.specs.declared.program.{Body.Body, Program.Program}
+use Rattle.jvm_model.specs.{World.at, World.same, Builtin.builtin_count, Builtin.out_field, Classes.class_at, State.test_at, Suite.all_tests, Suite.seq}
 use Rattle.jvm_model.specs.Linked.{IsGiven}
-use Rattle.order_law.specs.declared.records.Reach.{Reach}
-use Rattle.order_law.specs.declared.records.More.{More}
-use Rattle.order_law.specs.declared.records.Record.{Record}
-use Rattle.order_law.specs.declared.records.Prints.{Prints}
-use Rattle.order_law.specs.Conflicts.{Member, down}
+use Rattle.order_law.specs.declared.records.{Reach.Reach, More.More, Record.Record, Prints.Prints}
+use Rattle.order_law.specs.{Conflicts.Member, Conflicts.down, OwnRecord.places_in, OwnRecord.edges_of, RecordForm.numbers_ascend}
 use Rattle.order_law.specs.Histories.{ran_after, Touches, exposed_in, touches_of}
-use Rattle.order_law.specs.OwnRecord.{places_in, edges_of}
-use Rattle.order_law.specs.RecordForm.{numbers_ascend}
 
 -- the class of a kind, or the innermost element class of an array
 abbrev pub inner_class : Kind → Option ℕ

@@ -2,11 +2,8 @@
 use Rattle.std.specs.Prelude.{ℕ, ◌^◌, List, [], ◌∷◌, ◌++◌, length, Bool, true, not, ◌&&◌, ◌||◌, nat_eq, nat_lt, nat_le, Option, Some, None}
 use Rattle.std.specs.List.{list_all}
 use Rattle.jvm_model.specs.Classes.{member}
-use Rattle.order_law.specs.declared.edges.Edge.{Edge}
-use Rattle.order_law.specs.declared.edges.EdgeKind.{EdgeKind}
-use Rattle.order_law.specs.declared.edges.EdgeKind.TheVariants.{Raw, Waw, War}
-use Rattle.order_law.specs.declared.records.Reach.{Reach}
-use Rattle.order_law.specs.declared.records.More.{More}
+use Rattle.order_law.specs.declared.edges.{Edge.Edge, EdgeKind.EdgeKind, EdgeKind.TheVariants.Raw, EdgeKind.TheVariants.Waw, EdgeKind.TheVariants.War}
+use Rattle.order_law.specs.declared.records.{Reach.Reach, More.More}
 
 -- at most 1,024 tests, each with at most 2 ^ 26 units
 abbrev pub are_units : List ℕ → Bool

@@ -13,13 +13,9 @@
 //! `proofs/RecordExamples` and `proofs/ListExamples` refuse wrong definitions.
 #![tactic(auto)]
 
-ghost use Rattle.order_law.specs.FrameLaw.{FrameLaw};
-ghost use Rattle.order_law.specs.Histories.{LawOfOrder};
+ghost use Rattle.order_law.specs.{FrameLaw.FrameLaw, Histories.LawOfOrder, OwnRecord.OwnLaw, OwnRecord.EdgesLaw, OrderFault.LawOfFaults, Walk.WalkLaw};
 ghost use Rattle.order_law.specs.Plan.{LawOfInterleavings, OwnInterleavings, LawOfHistories, ChainsApart, FormsApart};
-ghost use Rattle.order_law.specs.OwnRecord.{OwnLaw, EdgesLaw};
-ghost use Rattle.order_law.specs.OrderFault.{LawOfFaults};
 ghost use Rattle.order_law.specs.OwnForm.{UnitsLaw, OrderedLaw, CountedLaw, ReachLaw, PlaceLaw};
-ghost use Rattle.order_law.specs.Walk.{WalkLaw};
 
 mod edges;
 mod locations;

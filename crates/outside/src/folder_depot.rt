@@ -1,9 +1,8 @@
 //! A real folder as a depot.
 
 ghost use Rattle.std.specs.Prelude.{◌≡◌, ◌<◌, ◌≤◌, ◌++◌, ◌∷◌, [], length, IfOk, IfSome, IsErrOf, string_bytes};
-ghost use Rattle.outside.specs.Counts.{Rose, raised};
+ghost use Rattle.outside.specs.{Counts.Rose, Counts.raised, FolderDepot.Keeps};
 ghost use Rattle.outside.specs.Depot.{has_bytes, is_absent, is_longer};
-ghost use Rattle.outside.specs.FolderDepot.{Keeps};
 
 use crate::counts::raise;
 use crate::heard::Heard;

@@ -1,8 +1,7 @@
 //! A depot in memory that fails at chosen calls.
 
 ghost use Rattle.std.specs.Prelude.{◌≡◌, ◌<◌, ◌≤◌, ◌↔◌, [], length, IfOk, IsOk, IsSomeAnd, IsErrOf, Contains};
-ghost use Rattle.outside.specs.Counts.{Rose, raised};
-ghost use Rattle.outside.specs.Depot.{content, files_of};
+ghost use Rattle.outside.specs.{Counts.Rose, Counts.raised, Depot.content, Depot.files_of};
 
 use crate::counts::{is_listed, raise};
 use crate::files::read_file;

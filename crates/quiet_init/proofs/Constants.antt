@@ -2,9 +2,7 @@
 use Rattle.std.proofs.Common.{◌≡◌, ◌⊎◌, ℕ, zero, suc, ◌<◌, ◌≤◌, List, [], ◌∷◌, ◌++◌, length, get_or, drop, replicate, codes, Bool, true, false, not, ◌&&◌, ◌||◌, cond, nat_eq, nat_le, Option, Some, None, refl, sym, ◌∙◌, ap, subst, inl, inr, arith}
 use Rattle.std.specs.Str.{bytes_eq}
 use Rattle.std.proofs.lemmas.Bool.{and_parts, and_from, or_cases, or_left, or_right, eqb-true, eq-eqb, le-leb}
-use Rattle.std.proofs.lemmas.List.Folds.{list_any_at}
-use Rattle.std.proofs.lemmas.List.Quantifiers.{position-Some}
-use Rattle.std.proofs.lemmas.Iterator.Adapters.{position_from-zero}
+use Rattle.std.proofs.{lemmas.List.Folds.list_any_at, lemmas.List.Quantifiers.position-Some, lemmas.Iterator.Adapters.position_from-zero}
 use Rattle.et_base.specs.Names.{is_field_descriptor}
 use Rattle.et_base.proofs.Texts.{units_true, units_same}
 use Rattle.class_pool.specs.NamesGrammar.{IsElement}
@@ -12,23 +10,18 @@ use Rattle.class_pool.proofs.NamesSpelled.{field_taken}
 use Rattle.jvm_model.specs.declared.values.Value.{Value}
 use Rattle.jvm_model.specs.declared.values.Value.TheVariants as value
 use Rattle.jvm_model.specs.declared.values.Kind.TheVariants as kind
-use Rattle.jvm_model.specs.declared.program.ClassRec.{ClassRec}
-use Rattle.jvm_model.specs.declared.program.Program.{Program}
-use Rattle.jvm_model.specs.World.{World, size}
+use Rattle.jvm_model.specs.declared.program.{ClassRec.ClassRec, Program.Program}
+use Rattle.jvm_model.specs.{World.World, World.size, Library.builtin_defs, Library.builtin_classes, Rows.constant_kind}
 use Rattle.jvm_model.specs.Builtin.{object_class, string_class, stream_class}
-use Rattle.jvm_model.specs.Library.{builtin_defs, builtin_classes}
 use Rattle.jvm_model.specs.Classes.{no_class, class_at, is_below, is_interface, member, upwards}
-use Rattle.jvm_model.specs.Rows.{constant_kind}
 use Rattle.jvm_model.specs.Linked.{Linked, IsClass, is_interface_at, class_descriptor, takes, opens}
 use Rattle.jvm_model.proofs.BuiltinRules.{builtin_class}
-use Rattle.type_frames.specs.declared.vtype.VType.{VType}
-use Rattle.type_frames.specs.declared.vtype.VType.TheVariants.{Object, Long, Top, Int}
+use Rattle.type_frames.specs.declared.vtype.{VType.VType, VType.TheVariants.Object, VType.TheVariants.Long, VType.TheVariants.Top, VType.TheVariants.Int}
 use Rattle.type_frames.specs.Assign.{class_named, takes_any, extends, class_fits, element_fits, is_array, object_fits}
 use Rattle.type_frames.specs.Descriptors.{types_of, class_name, name_of}
 use Rattle.type_frames.specs.TypedState.{IsInstance, IsReferenceOf, IsDeclared}
 use Rattle.type_frames.proofs.AssignLaws.{first_named}
-use Rattle.check_sound.proofs.Instances.{plain_name}
-use Rattle.check_sound.proofs.KindNames.{class_within}
+use Rattle.check_sound.proofs.{Instances.plain_name, KindNames.class_within}
 use Rattle.check_sound.proofs.Thrown.{builtin_is, object_named, under_object}
 
 -- ---- texts

@@ -3,15 +3,11 @@ use Rattle.std.proofs.Common.{◌≡◌, ℕ, ◌<◌, List, length, get_or, map
 use Rattle.std.specs.List.{range_with_len}
 use Rattle.std.proofs.lemmas.Bool.{lt-ltb}
 use Rattle.std.proofs.lemmas.List.FromFn.{get_or-map-range_with_len, length-map-range_with_len, fill_by_all}
-use Rattle.jvm_model.specs.declared.program.ClassRec.{ClassRec}
-use Rattle.jvm_model.specs.declared.program.FieldRec.{FieldRec}
-use Rattle.jvm_model.specs.declared.program.Program.{Program}
+use Rattle.jvm_model.specs.declared.program.{ClassRec.ClassRec, FieldRec.FieldRec, Program.Program}
 use Rattle.jvm_model.specs.declared.values.Location.TheVariants as place
-use Rattle.jvm_model.specs.declared.values.Value.{Value}
-use Rattle.jvm_model.specs.declared.values.Value.TheVariants.{Null}
-use Rattle.jvm_model.specs.World.{World, at}
+use Rattle.jvm_model.specs.declared.values.{Value.Value, Value.TheVariants.Null}
+use Rattle.jvm_model.specs.{World.World, World.at, Linked.Linked}
 use Rattle.jvm_model.specs.Classes.{no_field, class_at, field_at}
-use Rattle.jvm_model.specs.Linked.{Linked}
 use Rattle.quiet_init.specs.Leaving.{AreLeft, AreFlags, AreOpenings, unstarted, opened_with}
 use Rattle.quiet_init.specs.Quiet.{is_quiet, left_by, quiet_class, quiet_field, quiet}
 use Rattle.quiet_init.proofs.Lists.{quiet_listed, as_many}

@@ -3,8 +3,7 @@
 use Rattle.std.proofs.Common.{◌≡◌, ◌⊎◌, ℕ, zero, suc, ◌≤◌, List, [], ◌∷◌, ◌++◌, length, map, filter, Bool, true, false, not, ◌&&◌, cond, Option, Some, None, is_some, refl, sym, ◌∙◌, ap, subst, inl, inr, arith}
 use Rattle.std.specs.List.{list_all}
 use Rattle.std.proofs.lemmas.Bool.{and_parts, cases_Bool}
-use Rattle.jvm_model.specs.declared.program.Body.{Body}
-use Rattle.jvm_model.specs.declared.program.Program.{Program}
+use Rattle.jvm_model.specs.declared.program.{Body.Body, Program.Program}
 use Rattle.jvm_model.specs.Classes.{class_at, method_at, is_interface, is_trivial, default_interfaces, upwards, class_bound, declares_start}
 use Rattle.jvm_model.specs.Entries.{entries_of, frame_of}
 use Rattle.jvm_model.specs.Initialise.{Part, superclass_part, parts_of}

@@ -4,10 +4,7 @@ use Rattle.jvm_model.specs.declared.program.Program.{Program}
 use Rattle.jvm_model.specs.Classes.{is_trivial}
 use Rattle.type_frames.specs.Typing.{IsTyped}
 use Rattle.quiet_init.specs.Quiet.{quiet}
-use Rattle.quiet_init.proofs.Going.{Hushed}
-use Rattle.quiet_init.proofs.Hushes.{hushes}
-use Rattle.quiet_init.proofs.Sounds.{sound}
-use Rattle.quiet_init.proofs.Walk.{left_law}
+use Rattle.quiet_init.proofs.{Going.Hushed, Hushes.hushes, Sounds.sound, Walk.left_law}
 
 pub hushed_classes : (p : Program) → IsTyped p → (c : ℕ) → is_trivial p c ≡ false → is_trivial (quiet p) c ≡ true → Hushed p c
 hushed_classes p ty c n e = hushes p (sound p ty.linked (λ d m b q i h. (left_law p d ty q).rows m b i h)) c n e

@@ -2,15 +2,11 @@
 -- looks at, so the two functions are one path apart.
 use Rattle.std.proofs.Common.{◌≡◌, ℕ, zero, suc, List, [], ◌∷◌, ◌++◌, not, ◌&&◌, cond, filter, flat_map, Option, Some, None, refl, ◌∙◌, ap}
 use Rattle.std.specs.Prelude.{find}
-use Rattle.std.specs.List.{list_any}
-use Rattle.std.specs.Str.{bytes_eq}
+use Rattle.std.specs.{List.list_any, Str.bytes_eq}
 use Rattle.jvm_model.specs.declared.program.Program.{Program}
-use Rattle.jvm_model.specs.Builtin.{object_class}
+use Rattle.jvm_model.specs.{Builtin.object_class, Driver.no_arguments, Driver.plain_method_in, Linked.test_method, Selection.kept_of, Selection.has_code}
 use Rattle.jvm_model.specs.Classes.{class_at, method_at, is_private, is_static, is_interface, class_bound, upwards, first_mentions, init_name, is_below, member}
 use Rattle.jvm_model.specs.Lookup.{is_method, pedigree_in, superinterfaces, interface_methods, one_or_first, find_in_interfaces, or_else, find_declared, find_in_object, find_method, field_path_in, field_path, find_field}
-use Rattle.jvm_model.specs.Driver.{no_arguments, plain_method_in}
-use Rattle.jvm_model.specs.Linked.{test_method}
-use Rattle.jvm_model.specs.Selection.{kept_of, has_code}
 use Rattle.quiet_init.specs.Quiet.{quiet}
 use Rattle.quiet_init.proofs.Parts.{flags_kept, above_kept, interfaces_kept, methods_kept, fields_kept, field_names_kept, descriptors_kept, upwards_kept, own_interfaces_kept}
 

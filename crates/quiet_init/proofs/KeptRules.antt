@@ -4,31 +4,21 @@ use Rattle.std.proofs.Common.{◌≡◌, ℕ, zero, suc, ◌+◌, ◌<◌, List,
 use Rattle.std.specs.Prelude.{flat_map, slice_get, slice_index_or, unwrap_or}
 use Rattle.std.specs.List.{list_all, position_from, range_with_len}
 use Rattle.std.specs.Str.{bytes_eq}
-use Rattle.jvm_model.specs.declared.instr.Cell.{Cell}
+use Rattle.jvm_model.specs.declared.instr.{Cell.Cell, Instr.Instr}
 use Rattle.jvm_model.specs.declared.instr.Cell.TheVariants as cell
-use Rattle.jvm_model.specs.declared.instr.Instr.{Instr}
 use Rattle.jvm_model.specs.declared.instr.Instr.TheVariants as form
-use Rattle.jvm_model.specs.declared.program.Body.{Body}
-use Rattle.jvm_model.specs.declared.program.Handler.{Handler}
-use Rattle.jvm_model.specs.declared.program.MethodRec.{MethodRec}
-use Rattle.jvm_model.specs.declared.program.Placed.{Placed}
-use Rattle.jvm_model.specs.declared.program.Program.{Program}
-use Rattle.jvm_model.specs.declared.values.Base.{Base}
+use Rattle.jvm_model.specs.declared.program.{Body.Body, Handler.Handler, MethodRec.MethodRec, Placed.Placed, Program.Program}
+use Rattle.jvm_model.specs.declared.values.{Base.Base, Kind.Kind, Value.Value}
 use Rattle.jvm_model.specs.declared.values.Base.TheVariants as base
-use Rattle.jvm_model.specs.declared.values.Kind.{Kind}
 use Rattle.jvm_model.specs.declared.values.Kind.TheVariants as kind
-use Rattle.jvm_model.specs.declared.values.Value.{Value}
 use Rattle.jvm_model.specs.declared.values.Value.TheVariants as value
 use Rattle.jvm_model.specs.Builtin.{object_class, string_class, throwable_class}
 use Rattle.jvm_model.specs.Classes.{no_class, class_at, field_at, method_at, is_interface, is_static, init_name}
 use Rattle.jvm_model.specs.Descriptors.{parameters, return_type}
-use Rattle.type_frames.specs.declared.stack_effect.OperandConstraint.{OperandConstraint}
+use Rattle.type_frames.specs.declared.stack_effect.{OperandConstraint.OperandConstraint, Reading.Reading, StackEffect.StackEffect}
 use Rattle.type_frames.specs.declared.stack_effect.OperandConstraint.TheVariants.{Fits, One, Half, Ref, Raw, Small, Array, Never}
-use Rattle.type_frames.specs.declared.stack_effect.Reading.{Reading}
-use Rattle.type_frames.specs.declared.stack_effect.StackEffect.{StackEffect}
 use Rattle.type_frames.specs.declared.stack_effect.Substitution.TheVariants as turn
-use Rattle.type_frames.specs.declared.vtype.Frame.{Frame}
-use Rattle.type_frames.specs.declared.vtype.VType.{VType}
+use Rattle.type_frames.specs.declared.vtype.{Frame.Frame, VType.VType}
 use Rattle.type_frames.specs.declared.vtype.VType.TheVariants.{Top, Int, Long, Null, Object, UninitThis, Uninit}
 use Rattle.type_frames.specs.Assign.{class_named, takes_any, extends, class_fits, element_fits, is_array, object_fits, assignable}
 use Rattle.type_frames.specs.Descriptors.{class_name, types_of, base_text, kind_name}

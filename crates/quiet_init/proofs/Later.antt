@@ -2,10 +2,8 @@
 use Rattle.std.proofs.Common.{◌≡◌, ℕ, zero, suc, ◌+◌, ◌≤◌, true, refl, sym, ◌∙◌, ap, subst, arith}
 use Rattle.std.proofs.lemmas.Bool.{and_parts}
 use Rattle.jvm_model.specs.declared.program.Program.{Program}
-use Rattle.jvm_model.specs.World.{World}
-use Rattle.jvm_model.specs.Access.{Ran, run}
+use Rattle.jvm_model.specs.{World.World, Access.Ran, Access.run, Step.step, Step.turn}
 use Rattle.jvm_model.specs.State.{State, Turn, next}
-use Rattle.jvm_model.specs.Step.{step, turn}
 use Rattle.jvm_model.specs.Suite.{End, after_step, whole}
 use Rattle.jvm_model.proofs.Binds.{run_bind}
 use Rattle.quiet_init.specs.StillLaw.{Leads, there, one_more}

@@ -3,32 +3,23 @@ use Rattle.std.proofs.Common.{◌≡◌, ◌≢◌, ℕ, suc, ◌+◌, ◌<◌, 
 use Rattle.std.proofs.lemmas.Bool.{and_parts, or_cases, eqb-true, eq-eqb, cases_Bool, cases_lt, lt-ltb, le-ltb, ltb-true}
 use Rattle.std.proofs.lemmas.List.{get_or_past}
 use Rattle.std.proofs.Math.ListN.{get_or-map, length-map}
-use Rattle.jvm_model.specs.declared.values.InitState.TheVariants.{Idle, Running}
+use Rattle.jvm_model.specs.declared.values.{InitState.TheVariants.Idle, InitState.TheVariants.Running, Value.Value, Value.TheVariants.Null}
 use Rattle.jvm_model.specs.declared.values.Location.TheVariants as place
-use Rattle.jvm_model.specs.declared.values.Value.{Value}
-use Rattle.jvm_model.specs.declared.values.Value.TheVariants.{Null}
 use Rattle.jvm_model.specs.declared.outcome.Next.{Next}
 use Rattle.jvm_model.specs.declared.outcome.Next.TheVariants.{Go, Fault, Raise, Enter, Leave, Over}
 use Rattle.jvm_model.specs.declared.instr.Instr.{Instr}
 use Rattle.jvm_model.specs.declared.instr.Instr.TheVariants as form
-use Rattle.jvm_model.specs.declared.program.Body.{Body}
-use Rattle.jvm_model.specs.declared.program.ClassRec.{ClassRec}
-use Rattle.jvm_model.specs.declared.program.FieldRec.{FieldRec}
-use Rattle.jvm_model.specs.declared.program.Placed.{Placed}
-use Rattle.jvm_model.specs.declared.program.Program.{Program}
+use Rattle.jvm_model.specs.declared.program.{Body.Body, ClassRec.ClassRec, FieldRec.FieldRec, Placed.Placed, Program.Program}
 use Rattle.jvm_model.specs.World.{World, at, put}
 use Rattle.jvm_model.specs.Access.{Access, done, write, read_of, Ran, run}
 use Rattle.jvm_model.specs.Classes.{no_field, class_at, field_at, method_at, is_trivial, next_place}
 use Rattle.jvm_model.specs.Entries.{Entry, Entries, no_entries, with_entry, entries_of, popped_entry, with_stack, with_place}
 use Rattle.jvm_model.specs.Linked.{IsMethod, NamesForm, NamesBody, NamesEntries}
-use Rattle.jvm_model.specs.Narrow.{narrowed}
+use Rattle.jvm_model.specs.{Narrow.narrowed, Step.row, Suite.opening}
 use Rattle.jvm_model.specs.Rows.{Answer, answer, stuck_row, goes_on, popping}
 use Rattle.jvm_model.specs.RowsStatics.{read_static, write_static, row_statics}
-use Rattle.jvm_model.specs.Step.{row}
 use Rattle.jvm_model.specs.View.{IsSafe, IsRow, counted, ended, paid, counts_one, outcome}
-use Rattle.jvm_model.proofs.Ranges.{length_put_at}
-use Rattle.jvm_model.specs.Suite.{opening}
-use Rattle.jvm_model.proofs.Locations.{at_put_same}
+use Rattle.jvm_model.proofs.{Ranges.length_put_at, Locations.at_put_same}
 use Rattle.type_frames.specs.Typing.{IsTyped}
 use Rattle.check_sound.specs.ReachLaw.{most_operands, puts}
 use Rattle.check_sound.proofs.InitRows.{nontrivial_class}
@@ -37,14 +28,9 @@ use Rattle.vm_arith.specs.Pure.{HasRow, TouchesNothing, growth, IsStep}
 use Rattle.vm_arith.proofs.Rows.{has_row}
 use Rattle.quiet_init.specs.Leaving.{IsBegun, IsServed, CanDo, Does, CanDoAll, GoesCalmly, before_end, entered, HasPlaces, Leaves, AreLeft}
 use Rattle.quiet_init.specs.Quiet.{is_calm, is_own, is_still, no_handler, is_still_body, starts_still, is_still_start, is_quiet, goes_with, left_after, begun_world, left_by_start, left_by_body, left_by}
-use Rattle.quiet_init.specs.StillLaw.{HaveRows, HasOwn}
+use Rattle.quiet_init.specs.{StillLaw.HaveRows, StillLaw.HasOwn, Starts.IsStart}
 use Rattle.quiet_init.proofs.Still.{moved, Both, both_go, both_stuck, calm_row, met_rows, Met, met_go, met_stuck, Twin, still_row, used, with_touch, code_alike}
-use Rattle.quiet_init.specs.Starts.{IsStart}
-use Rattle.quiet_init.proofs.Ends.{before_is, left_before}
-use Rattle.quiet_init.proofs.Lists.{below_next}
-use Rattle.quiet_init.proofs.Rooms.{room_of}
-use Rattle.quiet_init.proofs.Trivials.{quiet_loud}
-use Rattle.quiet_init.proofs.Walk.{AllReady, walked}
+use Rattle.quiet_init.proofs.{Ends.before_is, Ends.left_before, Lists.below_next, Rooms.room_of, Trivials.quiet_loud, Walk.AllReady, Walk.walked}
 
 -- ---- one instruction
 

@@ -1,38 +1,27 @@
 -- The program without quiet initialisers has openings by their types.
 use Rattle.std.proofs.Common.{◌≡◌, ◌≢◌, ℕ, suc, ◌+◌, ◌<◌, List, [], ◌∷◌, length, get_or, map, codes, All, Bool, true, false, ◌&&◌, ◌||◌, cond, nat_eq, nat_le, Option, Some, None, IfSome, refl, sym, ◌∙◌, ap, subst, inl, inr, arith}
-use Rattle.std.specs.List.{list_any, range_with_len}
-use Rattle.std.specs.Str.{bytes_eq}
+use Rattle.std.specs.{List.list_any, List.range_with_len, Str.bytes_eq}
 use Rattle.std.proofs.lemmas.Bool.{and_parts, or_cases, eqb-true}
 use Rattle.std.proofs.Math.ListN.{get_or-map}
-use Rattle.jvm_model.specs.declared.values.Value.{Value}
+use Rattle.jvm_model.specs.declared.values.{Value.Value, InitState.TheVariants.Running}
 use Rattle.jvm_model.specs.declared.values.Value.TheVariants as value
-use Rattle.jvm_model.specs.declared.values.InitState.TheVariants.{Running}
 use Rattle.jvm_model.specs.declared.values.Location.TheVariants as place
 use Rattle.jvm_model.specs.declared.instr.Instr.{Instr}
 use Rattle.jvm_model.specs.declared.instr.Instr.TheVariants as form
-use Rattle.jvm_model.specs.declared.program.Body.{Body}
-use Rattle.jvm_model.specs.declared.program.ClassRec.{ClassRec}
-use Rattle.jvm_model.specs.declared.program.FieldRec.{FieldRec}
-use Rattle.jvm_model.specs.declared.program.Placed.{Placed}
-use Rattle.jvm_model.specs.declared.program.Program.{Program}
-use Rattle.jvm_model.specs.World.{World, at}
+use Rattle.jvm_model.specs.declared.program.{Body.Body, ClassRec.ClassRec, FieldRec.FieldRec, Placed.Placed, Program.Program}
+use Rattle.jvm_model.specs.{World.World, World.at, Narrow.narrowed, Step.row, Suite.opening}
 use Rattle.jvm_model.specs.Access.{Access, write, Ran, run}
 use Rattle.jvm_model.specs.Classes.{no_class, no_field, class_at, field_at, method_at, is_static, is_interface, is_trivial, default_of}
 use Rattle.jvm_model.specs.Entries.{Entry, Entries, entries_of, frame_of}
 use Rattle.jvm_model.specs.Linked.{IsField, IsMethod, IsFormKind, IsBodyKind, HasOpenings, class_descriptor, takes, opens}
-use Rattle.jvm_model.specs.Narrow.{narrowed}
 use Rattle.jvm_model.specs.Rows.{Answer, goes_on, popping}
 use Rattle.jvm_model.specs.RowsStatics.{read_static, write_static, row_statics}
-use Rattle.jvm_model.specs.Step.{row}
-use Rattle.jvm_model.specs.Suite.{opening}
 use Rattle.jvm_model.proofs.Locations.{at_put_same, at_put_other}
 use Rattle.type_frames.specs.Typing.{IsTyped}
 use Rattle.check_sound.proofs.InitRows.{nontrivial_class}
 use Rattle.quiet_init.specs.Quiet.{is_calm, is_own, is_still, no_handler, is_still_body, starts_still, is_still_start, is_quiet, goes_with, left_after, begun_world, left_by_start, left_by_body, left_by, quiet_class, quiet}
 use Rattle.quiet_init.proofs.Still.{Both, both_go, both_stuck, calm_row, still_row, used, end_world}
-use Rattle.quiet_init.proofs.Parts.{field_count, field_is}
-use Rattle.quiet_init.proofs.Trivials.{quiet_loud}
-use Rattle.quiet_init.proofs.Walk.{left_law}
+use Rattle.quiet_init.proofs.{Parts.field_count, Parts.field_is, Trivials.quiet_loud, Walk.left_law}
 
 -- ---- what a field of instances opens with stays
 

@@ -3,15 +3,11 @@ use Rattle.std.proofs.Common.{◌≡◌, ℕ, ◌+◌, ◌≤◌, length, Some, 
 use Rattle.std.proofs.lemmas.Option.{same_Some}
 use Rattle.jvm_model.specs.declared.state.EntryKind.{EntryKind}
 use Rattle.jvm_model.specs.declared.instr.Instr.{Instr}
-use Rattle.jvm_model.specs.declared.program.Body.{Body}
-use Rattle.jvm_model.specs.declared.program.Program.{Program}
-use Rattle.jvm_model.specs.World.{World}
-use Rattle.jvm_model.specs.Classes.{method_at}
-use Rattle.jvm_model.specs.Entries.{Entries}
+use Rattle.jvm_model.specs.declared.program.{Body.Body, Program.Program}
+use Rattle.jvm_model.specs.{World.World, Classes.method_at, Entries.Entries}
 use Rattle.type_frames.specs.Typing.{IsTyped}
 use Rattle.check_sound.specs.ReachLaw.{most_operands, puts}
-use Rattle.check_sound.proofs.Reaching.{room}
-use Rattle.check_sound.proofs.Ready.{Ready}
+use Rattle.check_sound.proofs.{Reaching.room, Ready.Ready}
 use Rattle.vm_frames.specs.Stack.{HasRoom, operand_limit}
 
 -- the method's body is the one that the frame has

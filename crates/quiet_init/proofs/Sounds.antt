@@ -5,18 +5,13 @@ use Rattle.std.specs.Prelude.{flat_map}
 use Rattle.std.specs.List.{list_all, list_any}
 use Rattle.std.proofs.lemmas.Bool.{and_parts, cases_lt, ltb-true}
 use Rattle.std.proofs.lemmas.List.{get_or_past}
-use Rattle.jvm_model.specs.declared.program.Body.{Body}
-use Rattle.jvm_model.specs.declared.program.ClassRec.{ClassRec}
-use Rattle.jvm_model.specs.declared.program.Program.{Program}
-use Rattle.jvm_model.specs.Builtin.{builtin_count}
-use Rattle.jvm_model.specs.Library.{builtin_defs, builtin_classes}
+use Rattle.jvm_model.specs.declared.program.{Body.Body, ClassRec.ClassRec, Program.Program}
+use Rattle.jvm_model.specs.{Builtin.builtin_count, Library.builtin_defs, Library.builtin_classes, Entries.entries_of, Entries.frame_of}
 use Rattle.jvm_model.specs.Classes.{no_class, class_at, method_at, is_interface, is_default_method, default_interfaces, own_interfaces, first_mentions, lineage_in, class_bound}
-use Rattle.jvm_model.specs.Entries.{entries_of, frame_of}
 use Rattle.jvm_model.specs.Linked.{Linked, IsMethod, IsBody, is_interface_at}
 use Rattle.jvm_model.proofs.BuiltinRules.{lengths, all_at, builtin_class}
 use Rattle.check_sound.proofs.InitRows.{nontrivial_class}
-use Rattle.quiet_init.specs.Quiet.{is_quiet, begun_world}
-use Rattle.quiet_init.specs.StillLaw.{HaveRows}
+use Rattle.quiet_init.specs.{Quiet.is_quiet, Quiet.begun_world, StillLaw.HaveRows}
 use Rattle.quiet_init.proofs.Hushes.{Listed, Sound}
 
 -- ---- what is on a list of lists

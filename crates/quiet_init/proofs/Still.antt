@@ -2,22 +2,15 @@
 -- world of the opening values, and on the machine.
 use Rattle.std.proofs.Common.{◌≡◌, ◌≢◌, ℕ, ℤ, List, [], ◌∷◌, Bool, true, false, not, ◌||◌, cond, nat_eq, None, refl, sym, ◌∙◌, ap, subst, inl, inr}
 use Rattle.std.proofs.lemmas.Bool.{and_parts, or_cases, eqb-true, cases_Bool}
-use Rattle.jvm_model.specs.declared.values.Value.{Value}
+use Rattle.jvm_model.specs.declared.values.{Value.Value, InitState.InitState, InitState.TheVariants.Running, Touch.Touch}
 use Rattle.jvm_model.specs.declared.values.Value.TheVariants as value
-use Rattle.jvm_model.specs.declared.values.InitState.{InitState}
-use Rattle.jvm_model.specs.declared.values.InitState.TheVariants.{Running}
 use Rattle.jvm_model.specs.declared.values.Location.TheVariants as place
-use Rattle.jvm_model.specs.declared.values.Touch.{Touch}
 use Rattle.jvm_model.specs.declared.outcome.Next.TheVariants.{Go}
-use Rattle.jvm_model.specs.declared.state.EntryKind.{EntryKind}
-use Rattle.jvm_model.specs.declared.state.EntryKind.TheVariants.{Absent, InMethod, InClass}
-use Rattle.jvm_model.specs.declared.instr.Op.{Op}
-use Rattle.jvm_model.specs.declared.instr.Conv.{Conv}
+use Rattle.jvm_model.specs.declared.state.{EntryKind.EntryKind, EntryKind.TheVariants.Absent, EntryKind.TheVariants.InMethod, EntryKind.TheVariants.InClass}
+use Rattle.jvm_model.specs.declared.instr.{Op.Op, Conv.Conv, Instr.Instr}
 use Rattle.jvm_model.specs.declared.instr.Conv.TheVariants as conv
-use Rattle.jvm_model.specs.declared.instr.Instr.{Instr}
 use Rattle.jvm_model.specs.declared.instr.Instr.TheVariants as form
-use Rattle.jvm_model.specs.declared.program.Placed.{Placed}
-use Rattle.jvm_model.specs.declared.program.Program.{Program}
+use Rattle.jvm_model.specs.declared.program.{Placed.Placed, Program.Program}
 use Rattle.jvm_model.specs.World.{World, at, put}
 use Rattle.jvm_model.specs.Access.{Access, done, read, write, bind, read_of, Ran, run}
 use Rattle.jvm_model.specs.Classes.{field_at, is_trivial, next_place}
@@ -27,8 +20,7 @@ use Rattle.jvm_model.specs.RowsMoves.{is_long, two_under_long, two_under_two, ro
 use Rattle.jvm_model.specs.RowsArith.{divides, shifts, unless_zero, two_ints, two_longs, converted, row_arith}
 use Rattle.jvm_model.specs.RowsStatics.{read_static, write_static, row_statics}
 use Rattle.jvm_model.specs.RowsReturn.{handed_on, hands_on, row_return}
-use Rattle.jvm_model.specs.Step.{row}
-use Rattle.jvm_model.specs.Narrow.{narrowed}
+use Rattle.jvm_model.specs.{Step.row, Narrow.narrowed}
 use Rattle.jvm_model.proofs.Locations.{same_false, at_put_same, at_put_other}
 use Rattle.quiet_init.specs.Quiet.{is_calm, is_own, is_end, is_still, goes_with, left_after}
 use Rattle.quiet_init.specs.StillLaw.{HasOwn, OwnAlone, HaveRows}

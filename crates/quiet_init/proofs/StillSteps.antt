@@ -1,31 +1,23 @@
 -- The machine's steps at the code of a quiet initialiser, and the law.
 use Rattle.std.proofs.Common.{◌≡◌, ◌≢◌, ℕ, zero, suc, ◌+◌, ◌<◌, List, [], ◌∷◌, length, get_or, drop, true, false, ◌||◌, Option, Some, None, refl, sym, ◌∙◌, ap, subst, arith}
 use Rattle.std.proofs.lemmas.Bool.{and_parts}
-use Rattle.jvm_model.specs.declared.values.Value.{Value}
-use Rattle.jvm_model.specs.declared.values.InitState.TheVariants.{Running}
+use Rattle.jvm_model.specs.declared.values.{Value.Value, InitState.TheVariants.Running}
 use Rattle.jvm_model.specs.declared.values.Location.TheVariants as place
 use Rattle.jvm_model.specs.declared.outcome.Next.TheVariants.{Go}
-use Rattle.jvm_model.specs.declared.state.EntryKind.{EntryKind}
-use Rattle.jvm_model.specs.declared.state.EntryKind.TheVariants.{InMethod, InClass}
+use Rattle.jvm_model.specs.declared.state.{EntryKind.EntryKind, EntryKind.TheVariants.InMethod, EntryKind.TheVariants.InClass}
 use Rattle.jvm_model.specs.declared.instr.Instr.{Instr}
 use Rattle.jvm_model.specs.declared.instr.Instr.TheVariants as form
-use Rattle.jvm_model.specs.declared.program.Body.{Body}
-use Rattle.jvm_model.specs.declared.program.Placed.{Placed}
-use Rattle.jvm_model.specs.declared.program.Program.{Program}
-use Rattle.jvm_model.specs.World.{World, at}
+use Rattle.jvm_model.specs.declared.program.{Body.Body, Placed.Placed, Program.Program}
+use Rattle.jvm_model.specs.{World.World, World.at, Linked.Ascends, Suite.opening}
 use Rattle.jvm_model.specs.Access.{Access, spend, bind, Ran, run}
 use Rattle.jvm_model.specs.Classes.{method_at, is_trivial, form_at, next_place}
 use Rattle.jvm_model.specs.Entries.{Entry, Entries, entries_of, frame_of}
-use Rattle.jvm_model.specs.Linked.{Ascends}
 use Rattle.jvm_model.specs.Rows.{Answer, answer, stuck_row}
 use Rattle.jvm_model.specs.RowsReturn.{handed_on, hands_on, row_return}
 use Rattle.jvm_model.specs.State.{State, Turn, next, with_entries}
 use Rattle.jvm_model.specs.Step.{row, row_or_none, row_here, after_row, step, turn}
-use Rattle.jvm_model.specs.Suite.{opening}
-use Rattle.jvm_model.proofs.Binds.{run_bind}
-use Rattle.jvm_model.proofs.Locations.{at_put_same}
+use Rattle.jvm_model.proofs.{Binds.run_bind, Locations.at_put_same, Steps.step_runs}
 use Rattle.jvm_model.proofs.Places.{form_at_index, next_place_index, place_beyond_next}
-use Rattle.jvm_model.proofs.Steps.{step_runs}
 use Rattle.quiet_init.specs.Quiet.{is_calm, is_own, is_end, is_still, goes_with, left_after, left_by_start, left_by_body, begun_world, left_by}
 use Rattle.quiet_init.specs.StillLaw.{Leads, there, one_more, HaveRows, HasOwn, StillLaw}
 use Rattle.quiet_init.proofs.Still.{moved, Met, met_go, met_stuck, Twin, still_row, LeftAlike, code_alike}

@@ -1,46 +1,31 @@
 -- The code of a quiet initialiser in the world of the opening values: each instruction has its row, and the world stays typed.
 use Rattle.std.proofs.Common.{◌≡◌, ◌≢◌, ℕ, suc, List, [], ◌∷◌, length, drop, true, false, ◌||◌, Option, Some, None, IfSome, refl, sym, ◌∙◌, ap, subst, arith}
 use Rattle.std.specs.List.{IsDistinct}
-use Rattle.std.proofs.lemmas.Bool.{and_parts}
-use Rattle.std.proofs.lemmas.Option.{same_Some}
+use Rattle.std.proofs.lemmas.{Bool.and_parts, Option.same_Some}
 use Rattle.jvm_model.specs.declared.values.InitState.TheVariants.{Running}
 use Rattle.jvm_model.specs.declared.values.Location.TheVariants as place
 use Rattle.jvm_model.specs.declared.state.EntryKind.TheVariants.{InMethod, InClass}
 use Rattle.jvm_model.specs.declared.instr.Instr.{Instr}
 use Rattle.jvm_model.specs.declared.instr.Instr.TheVariants as form
-use Rattle.jvm_model.specs.declared.program.Body.{Body}
-use Rattle.jvm_model.specs.declared.program.Placed.{Placed}
-use Rattle.jvm_model.specs.declared.program.Program.{Program}
+use Rattle.jvm_model.specs.declared.program.{Body.Body, Placed.Placed, Program.Program}
 use Rattle.jvm_model.specs.World.{World, Object, at, size}
-use Rattle.jvm_model.specs.Access.{run}
+use Rattle.jvm_model.specs.{Access.run, Suite.opening}
 use Rattle.jvm_model.specs.Classes.{class_at, field_at, method_at, is_trivial, form_at, next_place}
 use Rattle.jvm_model.specs.Entries.{Entries, entries_of, frame_of}
 use Rattle.jvm_model.specs.Linked.{Ascends, IsInitialiser, IsBody}
 use Rattle.jvm_model.specs.Rows.{Answer, answer, stuck_row}
 use Rattle.jvm_model.specs.Step.{row, row_or_none, row_here}
-use Rattle.jvm_model.specs.Suite.{opening}
-use Rattle.jvm_model.proofs.Locations.{at_put_same}
-use Rattle.jvm_model.proofs.Places.{form_at_index}
-use Rattle.type_frames.specs.Typing.{IsTyped}
-use Rattle.type_frames.specs.TypedState.{TypedWorld}
-use Rattle.check_sound.proofs.TreeRuns.{alike_itself, tree_leaves}
-use Rattle.check_sound.proofs.WorldKept.{world_mark}
+use Rattle.jvm_model.proofs.{Locations.at_put_same, Places.form_at_index}
+use Rattle.type_frames.specs.{Typing.IsTyped, TypedState.TypedWorld}
+use Rattle.check_sound.proofs.{TreeRuns.alike_itself, TreeRuns.tree_leaves, WorldKept.world_mark, Onward.grows_alike, Onward.entries_grow}
 use Rattle.check_sound.proofs.Ready.{TypedEntries, closed, Ends, Row, Ready, ready}
-use Rattle.check_sound.proofs.Onward.{grows_alike, entries_grow}
-use Rattle.check_sound.proofs.Arguments.{entered_frame}
-use Rattle.check_sound.proofs.DriverRows.{enters_static}
-use Rattle.check_sound.proofs.InitRows.{nontrivial_class}
-use Rattle.check_sound.proofs.WholeStep.{here-typed}
-use Rattle.check_sound.proofs.WholeTest.{opening_typed}
+use Rattle.check_sound.proofs.{Arguments.entered_frame, DriverRows.enters_static, InitRows.nontrivial_class, WholeStep.here-typed, WholeTest.opening_typed}
 use Rattle.check_sound.proofs.AllGroups.{groups}
 use Rattle.quiet_init.specs.Quiet.{is_calm, is_own, is_still, no_handler, is_still_body, starts_still, is_still_start, is_quiet, goes_with, left_after, begun_world, left_by_start, left_by_body, left_by}
-use Rattle.quiet_init.specs.StillLaw.{HaveRows}
+use Rattle.quiet_init.specs.{StillLaw.HaveRows, Opens.LeavesTyped, Opens.LeftLaw}
 use Rattle.quiet_init.proofs.Still.{moved, still_row, end_world, end_row}
 use Rattle.quiet_init.proofs.StillSteps.{drop_first, drop_more, drop_within, left_operands, first_place, starts_at, next_is}
-use Rattle.quiet_init.proofs.Trivials.{quiet_loud}
-use Rattle.quiet_init.proofs.Sounds.{bodies}
-use Rattle.quiet_init.specs.Opens.{LeavesTyped, LeftLaw}
-use Rattle.quiet_init.proofs.Constants.{declared_opens}
+use Rattle.quiet_init.proofs.{Trivials.quiet_loud, Sounds.bodies, Constants.declared_opens}
 
 -- each instruction stands ready at the top of its entries, in a frame of the method
 abbrev pub AllReady : Program → ℕ → List Placed → Entries → World → Type 0

@@ -1,25 +1,14 @@
 -- How what quiet initialisers leave is computed in one memory, instruction by instruction (JVMS 2.9 and 5.5).
 use Rattle.std.specs.Prelude.{◌≡◌, ◌≢◌, ℕ, List, [], ◌∷◌, length, get_or, map, None, Bool, true, false, cond, nat_lt, ◌&&◌}
 use Rattle.std.specs.List.{range_with_len}
-use Rattle.jvm_model.specs.declared.values.InitState.TheVariants.{Running}
+use Rattle.jvm_model.specs.declared.values.{InitState.TheVariants.Running, Value.Value, Value.TheVariants.Null}
 use Rattle.jvm_model.specs.declared.values.Location.TheVariants as place
-use Rattle.jvm_model.specs.declared.values.Value.{Value}
-use Rattle.jvm_model.specs.declared.values.Value.TheVariants.{Null}
 use Rattle.jvm_model.specs.declared.instr.Instr.{Instr}
 use Rattle.jvm_model.specs.declared.instr.Instr.TheVariants as form
-use Rattle.jvm_model.specs.declared.program.Body.{Body}
-use Rattle.jvm_model.specs.declared.program.ClassRec.{ClassRec}
-use Rattle.jvm_model.specs.declared.program.FieldRec.{FieldRec}
-use Rattle.jvm_model.specs.declared.program.Placed.{Placed}
-use Rattle.jvm_model.specs.declared.program.Program.{Program}
-use Rattle.jvm_model.specs.World.{World, at}
-use Rattle.jvm_model.specs.Access.{run}
+use Rattle.jvm_model.specs.declared.program.{Body.Body, ClassRec.ClassRec, FieldRec.FieldRec, Placed.Placed, Program.Program}
+use Rattle.jvm_model.specs.{World.World, World.at, Access.run, Linked.IsField, Rows.stuck_row, Step.row, View.Exists}
 use Rattle.jvm_model.specs.Classes.{no_class, no_field, field_at, is_trivial, next_place}
 use Rattle.jvm_model.specs.Entries.{Entries, entries_of, frame_of}
-use Rattle.jvm_model.specs.Linked.{IsField}
-use Rattle.jvm_model.specs.Rows.{stuck_row}
-use Rattle.jvm_model.specs.Step.{row}
-use Rattle.jvm_model.specs.View.{Exists}
 use Rattle.check_sound.specs.ReachLaw.{puts}
 use Rattle.vm_frames.specs.Stack.{HasRoom}
 use Rattle.quiet_init.specs.Quiet.{is_calm, is_quiet, goes_with, left_by}

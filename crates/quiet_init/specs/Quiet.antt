@@ -6,20 +6,12 @@ use Rattle.jvm_model.specs.declared.values.InitState.TheVariants.{Running}
 use Rattle.jvm_model.specs.declared.values.Location.TheVariants as place
 use Rattle.jvm_model.specs.declared.instr.Instr.{Instr}
 use Rattle.jvm_model.specs.declared.instr.Instr.TheVariants as form
-use Rattle.jvm_model.specs.declared.program.Body.{Body}
-use Rattle.jvm_model.specs.declared.program.ClassRec.{ClassRec}
-use Rattle.jvm_model.specs.declared.program.FieldRec.{FieldRec}
-use Rattle.jvm_model.specs.declared.program.Handler.{Handler}
-use Rattle.jvm_model.specs.declared.program.Placed.{Placed}
-use Rattle.jvm_model.specs.declared.program.Program.{Program}
+use Rattle.jvm_model.specs.declared.program.{Body.Body, ClassRec.ClassRec, FieldRec.FieldRec, Handler.Handler, Placed.Placed, Program.Program}
 use Rattle.jvm_model.specs.World.{World, at, put}
-use Rattle.jvm_model.specs.Access.{run}
+use Rattle.jvm_model.specs.{Access.run, RowsArith.divides, Step.row, Suite.opening}
 use Rattle.jvm_model.specs.Classes.{class_at, field_at, method_at, is_interface, is_trivial, default_interfaces, upwards}
 use Rattle.jvm_model.specs.Entries.{Entries, entries_of, frame_of}
 use Rattle.jvm_model.specs.Rows.{Answer, answer, stuck_row}
-use Rattle.jvm_model.specs.RowsArith.{divides}
-use Rattle.jvm_model.specs.Step.{row}
-use Rattle.jvm_model.specs.Suite.{opening}
 
 -- nop, a constant, a move of operands, and the int and long forms but division and remainder: such an instruction goes on at the
 -- next one, and touches nothing

@@ -1,8 +1,7 @@
 -- The parts of what makes a class quiet, as its test goes through them (JVMS 5.5).
 use Rattle.std.specs.Prelude.{◌≡◌, ℕ, List, get_or, Bool, false, Some, ◌&&◌, ◌||◌}
 use Rattle.std.specs.List.{list_all}
-use Rattle.jvm_model.specs.declared.program.Body.{Body}
-use Rattle.jvm_model.specs.declared.program.Program.{Program}
+use Rattle.jvm_model.specs.declared.program.{Body.Body, Program.Program}
 use Rattle.jvm_model.specs.Classes.{class_at, method_at, is_trivial, default_interfaces}
 use Rattle.quiet_init.specs.Quiet.{is_still_start}
 

@@ -3,16 +3,10 @@ use Rattle.std.specs.Prelude.{◌≡◌, ◌≢◌, ℕ, suc, List, [], ◌∷�
 use Rattle.jvm_model.specs.declared.values.InitState.TheVariants.{Running}
 use Rattle.jvm_model.specs.declared.values.Location.TheVariants as place
 use Rattle.jvm_model.specs.declared.state.EntryKind.TheVariants.{InClass}
-use Rattle.jvm_model.specs.declared.program.Body.{Body}
-use Rattle.jvm_model.specs.declared.program.Placed.{Placed}
-use Rattle.jvm_model.specs.declared.program.Program.{Program}
-use Rattle.jvm_model.specs.World.{World, at}
-use Rattle.jvm_model.specs.Access.{run}
+use Rattle.jvm_model.specs.declared.program.{Body.Body, Placed.Placed, Program.Program}
+use Rattle.jvm_model.specs.{World.World, World.at, Access.run, Linked.IsBody, Rows.stuck_row, State.State, State.next}
 use Rattle.jvm_model.specs.Classes.{class_at, field_at, method_at, is_trivial}
 use Rattle.jvm_model.specs.Entries.{Entry, Entries, entries_of, frame_of}
-use Rattle.jvm_model.specs.Linked.{IsBody}
-use Rattle.jvm_model.specs.Rows.{stuck_row}
-use Rattle.jvm_model.specs.State.{State, next}
 use Rattle.jvm_model.specs.Step.{row, step, turn}
 use Rattle.quiet_init.specs.Quiet.{is_still, goes_with, begun_world, left_by}
 

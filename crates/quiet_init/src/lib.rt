@@ -21,9 +21,7 @@ mod quietness;
 mod starts;
 mod text;
 
-ghost use Rattle.quiet_init.specs.Opens.{LeftLaw};
-ghost use Rattle.quiet_init.specs.StillLaw.{StillLaw};
-ghost use Rattle.quiet_init.specs.TypedAgain.{TypedAgain};
+ghost use Rattle.quiet_init.specs.{Opens.LeftLaw, StillLaw.StillLaw, TypedAgain.TypedAgain};
 
 pub use program::{QuietProgram, quiet};
 pub use quietness::quiet_classes;

@@ -2,8 +2,7 @@
 
 ghost use Rattle.std.specs.Prelude.{◌≡◌, ◌<◌, ◌^◌, [], ◌∷◌, ◌++◌, IfOk, OnOk, cond, false, filter, get_or, length, map};
 ghost use Rattle.std.specs.List.{list_all, range_with_len};
-ghost use Rattle.jvm_model.specs.Classes.{upwards_in};
-ghost use Rattle.jvm_model.specs.Linked.{Linked};
+ghost use Rattle.jvm_model.specs.{Classes.upwards_in, Linked.Linked};
 ghost use Rattle.quiet_init.specs.Quiet as quiet;
 ghost use Rattle.quiet_init.specs.Starts.{AreStill, passes_interface, passes};
 

@@ -1,28 +1,19 @@
 -- A step of the driver in both runs.
 use Rattle.std.proofs.Common.{◌≡◌, ℕ, Bool, true, false, cond, nat_eq, [], None, refl, sym, ap, subst, inl, inr, arith}
 use Rattle.jvm_model.specs.declared.program.Program.{Program}
-use Rattle.jvm_model.specs.declared.state.Stage.{Stage}
-use Rattle.jvm_model.specs.declared.state.Stage.TheVariants.{Last}
-use Rattle.jvm_model.specs.World.{World}
+use Rattle.jvm_model.specs.declared.state.{Stage.Stage, Stage.TheVariants.Last}
+use Rattle.jvm_model.specs.{World.World, Classes.is_static, Classes.method_at, Entries.is_full, Linked.Linked, Rows.begin}
 use Rattle.jvm_model.specs.Access.{Access, bind, run}
-use Rattle.jvm_model.specs.Classes.{is_static, method_at}
 use Rattle.jvm_model.specs.Driver.{drives, once_driven, makes, drive_first, drive_at, drive}
-use Rattle.jvm_model.specs.Entries.{is_full}
-use Rattle.jvm_model.specs.Linked.{Linked}
-use Rattle.jvm_model.specs.Rows.{begin}
 use Rattle.jvm_model.specs.State.{State, Turn, test_at}
-use Rattle.order_law.specs.Numbers.{same_numbers}
-use Rattle.order_law.specs.Pairing.{no_more, both_none}
+use Rattle.order_law.specs.{Numbers.same_numbers, Pairing.no_more, Pairing.both_none}
 use Rattle.order_law.proofs.Combinators.{bind-paired}
 use Rattle.order_law.proofs.States.{PairedStage, both_first, both_made, both_built, both_set_up, both_called, both_last}
 use Rattle.order_law.proofs.Steps.{States, Turns, drives-paired, makes-paired, once_driven-paired, init-paired, set_up-paired, method-paired, tear_down-paired, judge-paired}
 use Rattle.check_sound.proofs.PacedDriver.{PacedStep, StageAllowed, drives-paced, makes-paced, drive-paced}
 use Rattle.quiet_init.specs.Quiet.{quiet}
 use Rattle.quiet_init.proofs.Beside.{IsHushed, Beside}
-use Rattle.quiet_law.proofs.Together.{Equal}
-use Rattle.quiet_law.proofs.Clear.{clear, lock}
-use Rattle.quiet_law.proofs.Matching.{matched}
-use Rattle.quiet_law.proofs.Plain.{twins}
+use Rattle.quiet_law.proofs.{Together.Equal, Clear.clear, Clear.lock, Matching.matched, Plain.twins}
 use Rattle.quiet_law.proofs.Use.{Comes, alike, goes, Starts, alike_start, hushed_start, decide, begin_alike, done_alike, idle_begins}
 
 -- the driver's step is that of its stage

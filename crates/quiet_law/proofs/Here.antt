@@ -2,40 +2,25 @@
 use Rattle.std.proofs.Common.{◌≡◌, ℕ, Bool, true, false, cond, Option, Some, None, refl, sym, ◌∙◌, ap, subst, arith, inl}
 use Rattle.jvm_model.specs.declared.instr.Instr.{Instr}
 use Rattle.jvm_model.specs.declared.program.Program.{Program}
-use Rattle.jvm_model.specs.World.{World}
+use Rattle.jvm_model.specs.{World.World, Builtin.instantiation_error, Classes.form_at, Entries.Entries, Linked.Linked}
 use Rattle.jvm_model.specs.Access.{Access, bind, run}
-use Rattle.jvm_model.specs.Builtin.{instantiation_error}
-use Rattle.jvm_model.specs.Classes.{form_at}
-use Rattle.jvm_model.specs.Entries.{Entries}
-use Rattle.jvm_model.specs.Linked.{Linked}
-use Rattle.jvm_model.specs.RowsCalls.{argument_count, row_calls}
+use Rattle.jvm_model.specs.{RowsCalls.argument_count, RowsCalls.row_calls, RowsStatics.row_statics, State.State}
 use Rattle.jvm_model.specs.RowsCreate.{is_bare, new_object, row_create}
-use Rattle.jvm_model.specs.RowsStatics.{row_statics}
 use Rattle.jvm_model.specs.Rows.{Answer, faults, none_here, using}
-use Rattle.jvm_model.specs.State.{State}
 use Rattle.jvm_model.specs.Step.{group_of, row, row_or_none, row_here, after_row}
 use Rattle.order_law.specs.Pairing.{PairedOption, both_none, both_some}
-use Rattle.order_law.specs.Matched.{MatchedCode}
-use Rattle.order_law.specs.Numbers.{same_numbers}
-use Rattle.order_law.specs.Forms.{PairedInstr}
+use Rattle.order_law.specs.{Matched.MatchedCode, Numbers.same_numbers, Forms.PairedInstr}
 use Rattle.order_law.specs.Forms as same
 use Rattle.order_law.proofs.Programs.{class_of-paired, form_at-paired, named-paired, virtual-paired, interface_call-paired, special-paired}
 use Rattle.order_law.proofs.Combinators.{Frames, faults-paired, stuck_row-paired, popping-paired, on_int-paired, with_kind-paired}
-use Rattle.order_law.proofs.PlainRows.{throw-paired}
+use Rattle.order_law.proofs.{PlainRows.throw-paired, Steps.States}
 use Rattle.order_law.proofs.ObjectRows.{read_static-paired, write_static-paired, new_object-paired, bare-paired, new_array-paired, sized-paired, called-with, count-paired, and_receiver, receiver-paired, on_receiver-paired, selected-paired}
-use Rattle.order_law.proofs.Steps.{States}
-use Rattle.check_sound.proofs.Light.{light}
-use Rattle.check_sound.proofs.Paced.{paced_done, CutRow}
-use Rattle.check_sound.proofs.PacedCalls.{calls-paced}
-use Rattle.check_sound.proofs.PacedCreate.{cut, new-paced}
+use Rattle.check_sound.proofs.{Light.light, Paced.paced_done, Paced.CutRow, PacedCalls.calls-paced, PacedCreate.cut, PacedCreate.new-paced}
 use Rattle.check_sound.proofs.PacedHere.{here-paced}
 use Rattle.check_sound.proofs.PacedRows.{none, one, NamesAllowed, read_static-paced, write_static-paced}
 use Rattle.quiet_init.specs.Quiet.{quiet}
 use Rattle.quiet_init.proofs.Beside.{IsHushed, Beside}
-use Rattle.quiet_law.proofs.Together.{Equal}
-use Rattle.quiet_law.proofs.Clear.{clear}
-use Rattle.quiet_law.proofs.Matching.{matched}
-use Rattle.quiet_law.proofs.Plain.{twins, plain-paired}
+use Rattle.quiet_law.proofs.{Together.Equal, Clear.clear, Matching.matched, Plain.twins, Plain.plain-paired}
 use Rattle.quiet_law.proofs.Use.{Out, rows_out, use_out}
 
 -- the row of the instruction that is found

@@ -2,50 +2,32 @@
 -- there are none.
 use Rattle.std.proofs.Common.{◌≡◌, ℕ, ◌+◌, ◌≤◌, List, [], ◌∷◌, filter, Bool, true, false, not, cond, nat_eq, Option, Some, None, refl, sym, ◌∙◌, ap, subst, inl, inr, arith}
 use Rattle.std.proofs.lemmas.Bool.{eqb-true, eq-eqb}
-use Rattle.jvm_model.specs.declared.values.Value.{Value}
-use Rattle.jvm_model.specs.declared.values.InitState.{InitState}
+use Rattle.jvm_model.specs.declared.values.{Value.Value, InitState.InitState}
 use Rattle.jvm_model.specs.declared.values.InitState.TheVariants.{Idle, Running, Done, Erroneous}
 use Rattle.jvm_model.specs.declared.values.Location.TheVariants as place
 use Rattle.jvm_model.specs.declared.values.Touch.{Touch}
 use Rattle.jvm_model.specs.declared.outcome.Next.TheVariants.{Go}
-use Rattle.jvm_model.specs.declared.program.Body.{Body}
-use Rattle.jvm_model.specs.declared.program.ClassRec.{ClassRec}
-use Rattle.jvm_model.specs.declared.program.Program.{Program}
-use Rattle.jvm_model.specs.declared.state.EntryKind.{EntryKind}
-use Rattle.jvm_model.specs.declared.state.EntryKind.TheVariants.{InClass}
-use Rattle.jvm_model.specs.World.{World, at}
+use Rattle.jvm_model.specs.declared.program.{Body.Body, ClassRec.ClassRec, Program.Program}
+use Rattle.jvm_model.specs.declared.state.{EntryKind.EntryKind, EntryKind.TheVariants.InClass}
+use Rattle.jvm_model.specs.{World.World, World.at, Builtin.no_class_error, Builtin.stack_overflow_error, Linked.Linked, State.State, State.Turn}
 use Rattle.jvm_model.specs.Access.{Access, done, write, spend, bind, read_of, Ran, run}
-use Rattle.jvm_model.specs.Builtin.{no_class_error, stack_overflow_error}
 use Rattle.jvm_model.specs.Classes.{class_at, method_at, is_interface, is_trivial}
 use Rattle.jvm_model.specs.Entries.{Entries, class_entry, frame_of, frame_cost, is_full, with_entry}
 use Rattle.jvm_model.specs.Initialise.{Part, parts_of, with_entered, starts_body, starts, looked_at, looks, finishing, row_finish, row_fail}
-use Rattle.jvm_model.specs.Linked.{Linked}
 use Rattle.jvm_model.specs.Rows.{Answer, answer, none_here, faults}
-use Rattle.jvm_model.specs.State.{State, Turn}
 use Rattle.jvm_model.specs.Step.{after_row}
 use Rattle.order_law.specs.Pairing.{PairedOption, both_none, both_some}
 use Rattle.order_law.specs.Numbers.{Tested, same_numbers}
-use Rattle.order_law.proofs.States.{class_top}
-use Rattle.order_law.proofs.Combinators.{V, stuck_row-paired}
+use Rattle.order_law.proofs.{States.class_top, Combinators.V, Combinators.stuck_row-paired}
 use Rattle.order_law.proofs.Steps.{States, starts-paired, looked-paired, finished-paired, fail-paired}
-use Rattle.check_sound.proofs.Light.{light}
+use Rattle.check_sound.proofs.{Light.light, PacedCreate.cut, PacedRows.none}
 use Rattle.check_sound.proofs.Paced.{either, paced_done, paced_write, paced_spend, PacedRow}
-use Rattle.check_sound.proofs.PacedCreate.{cut}
 use Rattle.check_sound.proofs.PacedInit.{EntryAllowed, finish-paced, fail-paced}
-use Rattle.check_sound.proofs.PacedRows.{none}
 use Rattle.quiet_init.specs.Quiet.{is_quiet, quiet}
-use Rattle.quiet_init.proofs.Beside.{IsHushed, Beside}
-use Rattle.quiet_init.proofs.Going.{Among}
-use Rattle.quiet_init.proofs.Hushes.{Sound, kept_part}
-use Rattle.quiet_init.proofs.Parts.{class_is}
-use Rattle.quiet_init.proofs.PartsKept.{parts_kept}
-use Rattle.quiet_init.proofs.Still.{with_touch}
-use Rattle.quiet_init.proofs.Trivials.{quiet_loud, quiet_trivial}
-use Rattle.quiet_law.proofs.Together.{Equal}
-use Rattle.quiet_law.proofs.Clear.{clear, Locked}
-use Rattle.quiet_law.proofs.Plain.{twins}
+use Rattle.quiet_init.proofs.{Beside.IsHushed, Beside.Beside, Going.Among, Hushes.Sound, Hushes.kept_part, Parts.class_is, PartsKept.parts_kept}
+use Rattle.quiet_init.proofs.{Still.with_touch, Trivials.quiet_loud, Trivials.quiet_trivial}
+use Rattle.quiet_law.proofs.{Together.Equal, Clear.clear, Clear.Locked, Plain.twins, Here.RowsOut}
 use Rattle.quiet_law.proofs.Use.{Met, Out, locked, begins, no_room, as_left, rows_alike, rows_out}
-use Rattle.quiet_law.proofs.Here.{RowsOut}
 
 -- ---- one touch more, and a lower price
 

@@ -2,17 +2,13 @@
 use Rattle.std.proofs.Common.{ℕ, length, Bool, true, false, cond, None, sym, ◌∙◌, subst, inl, inr, arith}
 use Rattle.std.specs.List.{range_with_len}
 use Rattle.std.specs.Prelude.{map}
-use Rattle.std.proofs.lemmas.Bool.{eqb-true, cases_lt}
-use Rattle.std.proofs.lemmas.List.{get_or_past}
+use Rattle.std.proofs.lemmas.{Bool.eqb-true, Bool.cases_lt, List.get_or_past}
 use Rattle.std.proofs.lemmas.List.FromFn.{get_or-map-range_with_len, length-map-range_with_len}
 use Rattle.jvm_model.specs.declared.values.Value.{Value}
 use Rattle.jvm_model.specs.declared.values.Location.TheVariants as place
-use Rattle.jvm_model.specs.declared.program.ClassRec.{ClassRec}
-use Rattle.jvm_model.specs.declared.program.FieldRec.{FieldRec}
-use Rattle.jvm_model.specs.declared.program.Program.{Program}
-use Rattle.jvm_model.specs.World.{at}
+use Rattle.jvm_model.specs.declared.program.{ClassRec.ClassRec, FieldRec.FieldRec, Program.Program}
+use Rattle.jvm_model.specs.{World.at, Linked.Linked}
 use Rattle.jvm_model.specs.Classes.{no_field, class_at, field_at}
-use Rattle.jvm_model.specs.Linked.{Linked}
 use Rattle.order_law.specs.Matched.{MatchedCode, PairedClass, PairedField}
 use Rattle.order_law.specs.Numbers.{same_numbers}
 use Rattle.order_law.proofs.Same.{self_matched}

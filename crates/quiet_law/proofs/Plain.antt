@@ -2,18 +2,14 @@
 use Rattle.std.proofs.Common.{◌≡◌}
 use Rattle.jvm_model.specs.declared.instr.Instr.{Instr}
 use Rattle.jvm_model.specs.declared.program.Program.{Program}
-use Rattle.jvm_model.specs.Entries.{Entries}
-use Rattle.jvm_model.specs.Linked.{Linked}
+use Rattle.jvm_model.specs.{Entries.Entries, Linked.Linked}
 use Rattle.jvm_model.specs.Step.{Group, moves, arith, branches, fields, arrays, casts, returns, row_of}
-use Rattle.order_law.specs.Numbers.{same_numbers}
-use Rattle.order_law.specs.Forms.{PairedInstr}
-use Rattle.order_law.proofs.Twins.{Twins}
-use Rattle.order_law.proofs.Combinators.{Frames, Rows}
+use Rattle.order_law.specs.{Numbers.same_numbers, Forms.PairedInstr}
+use Rattle.order_law.proofs.{Twins.Twins, Combinators.Frames, Combinators.Rows}
 use Rattle.order_law.proofs.PlainRows.{moves-paired, arith-paired, branches-paired, return-paired}
 use Rattle.order_law.proofs.ObjectRows.{fields-paired, arrays-paired, casts-paired}
 use Rattle.quiet_init.specs.Quiet.{quiet}
-use Rattle.quiet_law.proofs.Matching.{matched}
-use Rattle.quiet_law.proofs.Together.{one_place}
+use Rattle.quiet_law.proofs.{Matching.matched, Together.one_place}
 
 abbrev pub twins : (p : Program) → Linked p → Twins
 twins p lk = record { numbers = same_numbers; place = λ a b. a ≡ b; one = one_place; left = p; right = quiet p; matched = matched p lk }

@@ -2,44 +2,27 @@
 -- make a step.
 use Rattle.std.proofs.Common.{◌≡◌, ◌+◌, Bool, true, cond, nat_eq, Option, Some, None, refl, sym, ◌∙◌, ap, subst, inl, inr, arith}
 use Rattle.std.proofs.lemmas.Bool.{eq-eqb}
-use Rattle.jvm_model.specs.declared.values.Value.{Value}
-use Rattle.jvm_model.specs.declared.values.Value.TheVariants.{Obj}
-use Rattle.jvm_model.specs.declared.values.Head.{Head}
+use Rattle.jvm_model.specs.declared.values.{Value.Value, Value.TheVariants.Obj, Head.Head}
 use Rattle.jvm_model.specs.declared.values.Location.TheVariants as place
 use Rattle.jvm_model.specs.declared.program.Program.{Program}
-use Rattle.jvm_model.specs.declared.state.EntryKind.{EntryKind}
-use Rattle.jvm_model.specs.declared.state.EntryKind.TheVariants.{Absent, InMethod, InClass}
+use Rattle.jvm_model.specs.declared.state.{EntryKind.EntryKind, EntryKind.TheVariants.Absent, EntryKind.TheVariants.InMethod, EntryKind.TheVariants.InClass}
 use Rattle.jvm_model.specs.World.{World, size, object_at, make_object}
 use Rattle.jvm_model.specs.Access.{Access, spend, Ran, run}
-use Rattle.jvm_model.specs.Builtin.{stack_overflow_error}
-use Rattle.jvm_model.specs.Classes.{blank, instance_head}
-use Rattle.jvm_model.specs.Entries.{Entries, is_full}
-use Rattle.jvm_model.specs.Kinds.{class_of}
+use Rattle.jvm_model.specs.{Builtin.stack_overflow_error, Classes.blank, Classes.instance_head, Entries.Entries, Entries.is_full, Kinds.class_of, Step.step}
 use Rattle.jvm_model.specs.Reached.{thrown_after, thrown_itself, Overflows}
 use Rattle.jvm_model.specs.State.{State, Turn, next, raised_in, with_entries}
-use Rattle.jvm_model.specs.Step.{step}
 use Rattle.jvm_model.specs.Throwing.{throws}
 use Rattle.jvm_model.proofs.Locations.{at_make_new}
 use Rattle.jvm_model.proofs.Steps.{step_drives, step_runs, step_raises, step_finishes, step_fails}
 use Rattle.order_law.specs.Numbers.{same_numbers}
 use Rattle.order_law.specs.Pairing.{PairedOption, both_none, both_some}
-use Rattle.order_law.proofs.Combinators.{V}
-use Rattle.order_law.proofs.States.{frame_top}
-use Rattle.order_law.proofs.Steps.{States, raise_row-paired}
+use Rattle.order_law.proofs.{Combinators.V, States.frame_top, Steps.States, Steps.raise_row-paired}
 use Rattle.type_frames.specs.TypedState.{TypedState, IsTop, Initialises}
-use Rattle.check_sound.proofs.PacedCreate.{cut}
-use Rattle.check_sound.proofs.PacedRows.{raise-paced}
+use Rattle.check_sound.proofs.{PacedCreate.cut, PacedRows.raise-paced}
 use Rattle.quiet_init.specs.Quiet.{quiet}
-use Rattle.quiet_init.proofs.Beside.{IsHushed, Beside}
-use Rattle.quiet_init.proofs.Hushes.{Sound}
-use Rattle.quiet_law.proofs.Together.{Equal}
-use Rattle.quiet_law.proofs.Clear.{Locked}
-use Rattle.quiet_law.proofs.Plain.{twins}
+use Rattle.quiet_init.proofs.{Beside.IsHushed, Beside.Beside, Hushes.Sound}
+use Rattle.quiet_law.proofs.{Together.Equal, Clear.Locked, Plain.twins, Here.here_out, Looks.init_out, Looks.fail_out, Driven.drive_out, Calm.IsCalm}
 use Rattle.quiet_law.proofs.Use.{Met, Comes, alike, goes, Out, locked, begins, no_room, rows_alike}
-use Rattle.quiet_law.proofs.Here.{here_out}
-use Rattle.quiet_law.proofs.Looks.{init_out, fail_out}
-use Rattle.quiet_law.proofs.Driven.{drive_out}
-use Rattle.quiet_law.proofs.Calm.{IsCalm}
 
 -- a step under which there is no room throws a StackOverflowError by itself
 over_room : (p : Program) (s : State) (w : World) → (s.entries.top.kind ≡ Absent → ⊥) → (run (step p s) w).value ≡ (run (throws p stack_overflow_error (with_entries s s.entries)) w).value →

@@ -3,40 +3,22 @@ use Rattle.std.proofs.Common.{◌≡◌, ℕ, zero, suc, ◌+◌, ◌-◌, ◌<�
 use Rattle.std.specs.List.{range_with_len}
 use Rattle.std.proofs.lemmas.Bool.{eq-eqb, leb-true, le-leb}
 use Rattle.jvm_model.specs.declared.outcome.Outcome.{Outcome}
-use Rattle.jvm_model.specs.declared.program.Program.{Program}
-use Rattle.jvm_model.specs.declared.program.TestEntry.{TestEntry}
-use Rattle.jvm_model.specs.World.{World}
-use Rattle.jvm_model.specs.Access.{Ran, run}
-use Rattle.jvm_model.specs.Linked.{Linked}
+use Rattle.jvm_model.specs.declared.program.{Program.Program, TestEntry.TestEntry}
+use Rattle.jvm_model.specs.{World.World, Access.Ran, Access.run, Linked.Linked}
 use Rattle.jvm_model.specs.Reached.{Reaches, begins, Overflows}
 use Rattle.jvm_model.specs.State.{State, no_test, started, test_at}
 use Rattle.jvm_model.specs.Suite.{End, opening, tree, Given, given_at, one_test, runs_on, runs, all_tests, outcome_in, given_by_test, seq, units_of, suite_limit, within_limit, is_detected, with_first}
 use Rattle.jvm_model.proofs.Runs.{runs_after, split}
-use Rattle.order_law.specs.Conflicts.{down}
-use Rattle.order_law.specs.Histories.{after_history}
-use Rattle.order_law.specs.Matched.{PairedTest}
-use Rattle.order_law.specs.Numbers.{same_numbers}
-use Rattle.order_law.specs.Outcomes.{PairedEnd}
+use Rattle.order_law.specs.{Conflicts.down, Histories.after_history, Matched.PairedTest, Numbers.same_numbers, Outcomes.PairedEnd}
 use Rattle.order_law.specs.Pairing.{PairedList, no_more, one_more, PairedOption, both_none, both_some}
 use Rattle.order_law.proofs.FrameLaw.{given_of, RanTo, ran_to, given_then, second_end}
-use Rattle.order_law.proofs.Lists.{get-list}
-use Rattle.order_law.proofs.Same.{verdict_is}
-use Rattle.order_law.proofs.States.{both_first, nothing-paired}
-use Rattle.order_law.proofs.Steps.{States}
-use Rattle.type_frames.specs.Typing.{IsTyped}
-use Rattle.type_frames.specs.TypedState.{TypedWorld}
-use Rattle.check_sound.proofs.AllGroups.{groups}
-use Rattle.check_sound.proofs.WholeTest.{opening_typed, test_typed}
+use Rattle.order_law.proofs.{Lists.get-list, Same.verdict_is, States.both_first, States.nothing-paired, Steps.States}
+use Rattle.type_frames.specs.{Typing.IsTyped, TypedState.TypedWorld}
+use Rattle.check_sound.proofs.{AllGroups.groups, WholeTest.opening_typed, WholeTest.test_typed}
 use Rattle.quiet_init.specs.Quiet.{quiet}
-use Rattle.quiet_init.proofs.Beside.{Beside}
-use Rattle.quiet_init.proofs.Hushes.{Sound}
-use Rattle.quiet_init.proofs.Sounds.{sound}
-use Rattle.quiet_init.proofs.Walk.{left_law}
+use Rattle.quiet_init.proofs.{Beside.Beside, Hushes.Sound, Sounds.sound, Walk.left_law}
 use Rattle.quiet_law.specs.QuietLaw.{NeverOverflows, IsNoDearer, AllNoDearer, QuietLaw}
-use Rattle.quiet_law.proofs.Together.{Equal, beside_at_start}
-use Rattle.quiet_law.proofs.Clear.{Locked}
-use Rattle.quiet_law.proofs.Plain.{twins}
-use Rattle.quiet_law.proofs.Whole.{IsFinished, whole_out}
+use Rattle.quiet_law.proofs.{Together.Equal, Together.beside_at_start, Clear.Locked, Plain.twins, Whole.IsFinished, Whole.whole_out}
 
 -- the tests are the same
 pub tests_kept : (p : Program) → (quiet p).tests ≡ p.tests

@@ -4,33 +4,19 @@ use Rattle.std.specs.Prelude.{flat_map}
 use Rattle.std.specs.List.{list_all, list_any}
 use Rattle.std.proofs.lemmas.List.{get_or_past}
 use Rattle.std.proofs.lemmas.Bool.{eqb-true, eq-eqb, cases_lt}
-use Rattle.jvm_model.specs.declared.values.Value.{Value}
+use Rattle.jvm_model.specs.declared.values.{Value.Value, Location.Location}
 use Rattle.jvm_model.specs.declared.values.Value.TheVariants as value
-use Rattle.jvm_model.specs.declared.values.Location.{Location}
 use Rattle.jvm_model.specs.declared.values.Location.TheVariants as place
-use Rattle.jvm_model.specs.declared.program.ClassRec.{ClassRec}
-use Rattle.jvm_model.specs.declared.program.FieldRec.{FieldRec}
-use Rattle.jvm_model.specs.declared.program.Program.{Program}
+use Rattle.jvm_model.specs.declared.program.{ClassRec.ClassRec, FieldRec.FieldRec, Program.Program}
 use Rattle.jvm_model.specs.World.{World, Content, at}
-use Rattle.jvm_model.specs.Access.{Access, run}
-use Rattle.jvm_model.specs.Builtin.{object_class}
-use Rattle.jvm_model.specs.Library.{builtin_defs, builtin_classes}
+use Rattle.jvm_model.specs.{Access.Access, Access.run, Builtin.object_class, Library.builtin_defs, Library.builtin_classes, Suite.opening}
 use Rattle.jvm_model.specs.Classes.{no_field, class_at, field_at, method_at, is_interface, is_trivial, is_default_method, default_interfaces, own_interfaces, first_mentions, lineage_in, class_bound, upwards, declares_start}
-use Rattle.jvm_model.specs.Suite.{opening}
-use Rattle.jvm_model.proofs.BuiltinRules.{builtin_class}
-use Rattle.jvm_model.proofs.Upwards.{upwards_root}
-use Rattle.order_law.specs.Exposed.{written, exposed}
+use Rattle.jvm_model.proofs.{BuiltinRules.builtin_class, Upwards.upwards_root}
+use Rattle.order_law.specs.{Exposed.written, Exposed.exposed, Numbers.same_numbers, Numbers.with_places, Frame.Alike}
 use Rattle.order_law.specs.Pairing.{Matching, OneToOne, PairedValue, ints, longs, nulls, literals, objects, PairedLocation, statics, inits, heads, at_field, at_elem, texts, files, props, PairedContent, Paired}
-use Rattle.order_law.specs.Numbers.{same_numbers, with_places}
-use Rattle.order_law.specs.Frame.{Alike}
-use Rattle.order_law.proofs.Frame.{frame}
-use Rattle.order_law.proofs.Leaves.{unwritten}
-use Rattle.order_law.proofs.Pairs.{written-paired}
-use Rattle.order_law.proofs.Same.{equal_one, self_kind}
+use Rattle.order_law.proofs.{Frame.frame, Leaves.unwritten, Pairs.written-paired, Same.equal_one, Same.self_kind}
 use Rattle.quiet_init.specs.Quiet.{quiet}
-use Rattle.quiet_init.proofs.Going.{Went}
-use Rattle.quiet_init.proofs.Hushes.{Sound, starts_none}
-use Rattle.quiet_init.proofs.Trivials.{quiet_loud, quiet_trivial}
+use Rattle.quiet_init.proofs.{Going.Went, Hushes.Sound, Hushes.starts_none, Trivials.quiet_loud, Trivials.quiet_trivial}
 use Rattle.quiet_init.proofs.Beside.{IsHushed, IsPending, IsClear, Beside, at_start, after_going}
 
 -- each number and each place with itself

@@ -1,43 +1,26 @@
 -- A whole test in both runs: it ends alike, and without quiet initialisers it costs no more.
 use Rattle.std.proofs.Common.{◌≡◌, ℕ, zero, suc, ◌+◌, ◌-◌, ◌<◌, ◌≤◌, length, ◌∷◌, ◌&&◌, ◌++◌, true, Option, None, refl, sym, ◌∙◌, ap, subst, inl, inr, arith}
 use Rattle.std.proofs.lemmas.Bool.{and_parts, and_from, cases_lt}
-use Rattle.jvm_model.specs.declared.values.Value.{Value}
-use Rattle.jvm_model.specs.declared.values.InitState.TheVariants.{Running}
+use Rattle.jvm_model.specs.declared.values.{Value.Value, InitState.TheVariants.Running}
 use Rattle.jvm_model.specs.declared.values.Location.TheVariants as place
 use Rattle.jvm_model.specs.declared.program.Program.{Program}
-use Rattle.jvm_model.specs.declared.state.EntryKind.{EntryKind}
-use Rattle.jvm_model.specs.declared.state.EntryKind.TheVariants.{Absent, InMethod, InClass}
-use Rattle.jvm_model.specs.World.{World, put}
-use Rattle.jvm_model.specs.Access.{Ran, run}
-use Rattle.jvm_model.specs.Entries.{Entries, entries_of}
+use Rattle.jvm_model.specs.declared.state.{EntryKind.EntryKind, EntryKind.TheVariants.Absent, EntryKind.TheVariants.InMethod, EntryKind.TheVariants.InClass}
+use Rattle.jvm_model.specs.{World.World, World.put, Access.Ran, Access.run, Entries.Entries, Entries.entries_of, Step.step}
 use Rattle.jvm_model.specs.Reached.{Reaches, steps, Overflows}
 use Rattle.jvm_model.specs.State.{State, Turn, next}
-use Rattle.jvm_model.specs.Step.{step}
 use Rattle.jvm_model.specs.Suite.{End, finished, stuck, out_of_steps, after_step, whole}
 use Rattle.jvm_model.proofs.Binds.{run_bind}
-use Rattle.order_law.specs.Numbers.{same_numbers}
-use Rattle.order_law.specs.Outcomes.{PairedEnd, both_finished}
-use Rattle.order_law.specs.Pairing.{PairedOption}
-use Rattle.order_law.proofs.Combinators.{V}
+use Rattle.order_law.specs.{Numbers.same_numbers, Outcomes.PairedEnd, Outcomes.both_finished, Pairing.PairedOption}
+use Rattle.order_law.proofs.{Combinators.V, Steps.States}
 use Rattle.order_law.proofs.States.{both_next, both_ended, no_turns}
-use Rattle.order_law.proofs.Steps.{States}
-use Rattle.type_frames.specs.Typing.{IsTyped}
-use Rattle.type_frames.specs.TypedState.{TypedState, TypedWorld}
-use Rattle.check_sound.proofs.AllGroups.{groups}
-use Rattle.check_sound.proofs.Reaching.{reached_typed}
+use Rattle.type_frames.specs.{Typing.IsTyped, TypedState.TypedState, TypedState.TypedWorld}
+use Rattle.check_sound.proofs.{AllGroups.groups, Reaching.reached_typed}
 use Rattle.quiet_init.specs.Quiet.{quiet}
 use Rattle.quiet_init.specs.StillLaw.{Leads, there, one_more}
-use Rattle.quiet_init.proofs.Beside.{Beside, fresh}
+use Rattle.quiet_init.proofs.{Beside.Beside, Beside.fresh, Hushes.Sound, Hushing.hushed_classes, Later.one_step, Later.rest_of}
 use Rattle.quiet_init.proofs.Going.{IsWhole, pushed, resting, going}
-use Rattle.quiet_init.proofs.Hushes.{Sound}
-use Rattle.quiet_init.proofs.Hushing.{hushed_classes}
-use Rattle.quiet_init.proofs.Later.{one_step, rest_of}
-use Rattle.quiet_law.proofs.Together.{Equal, beside_after_going}
-use Rattle.quiet_law.proofs.Clear.{Locked}
-use Rattle.quiet_law.proofs.Plain.{twins}
+use Rattle.quiet_law.proofs.{Together.Equal, Together.beside_after_going, Clear.Locked, Plain.twins, Calm.reached_calm, Stutter.step_comes}
 use Rattle.quiet_law.proofs.Use.{Met, Begins, Comes, alike, goes}
-use Rattle.quiet_law.proofs.Calm.{reached_calm}
-use Rattle.quiet_law.proofs.Stutter.{step_comes}
 
 -- an end with a verdict
 abbrev pub IsFinished : End → Type 0

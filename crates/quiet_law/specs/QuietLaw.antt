@@ -3,12 +3,8 @@
 use Rattle.std.specs.Prelude.{◌≡◌, ℕ, ◌≤◌, true, Some}
 use Rattle.jvm_model.specs.declared.outcome.Outcome.{Outcome}
 use Rattle.jvm_model.specs.declared.program.Program.{Program}
-use Rattle.jvm_model.specs.World.{World}
-use Rattle.jvm_model.specs.Reached.{Reaches, Overflows}
-use Rattle.jvm_model.specs.State.{State}
-use Rattle.jvm_model.specs.Suite.{seq, is_detected}
-use Rattle.order_law.specs.Conflicts.{down}
-use Rattle.order_law.specs.Histories.{IsTestNumber, after_history}
+use Rattle.jvm_model.specs.{World.World, Reached.Reaches, Reached.Overflows, State.State, Suite.seq, Suite.is_detected}
+use Rattle.order_law.specs.{Conflicts.down, Histories.IsTestNumber, Histories.after_history}
 use Rattle.type_frames.specs.Typing.{IsTyped}
 use Rattle.quiet_init.specs.Quiet.{quiet}
 

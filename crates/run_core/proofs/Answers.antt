@@ -12,12 +12,9 @@ use Rattle.order_law.specs.Conflicts.{Member}
 use Rattle.order_law.specs.Plan as law
 use Rattle.order_law.proofs.Posts.{in_posts, reversed}
 use Rattle.test_run.specs.Running.{Posted}
-use Rattle.run_core.specs.declared.events.Event.{Event}
-use Rattle.run_core.specs.declared.events.Event.TheVariants.{Claim, Post}
-use Rattle.run_core.specs.declared.events.Refused.{Refused}
+use Rattle.run_core.specs.declared.events.{Event.Event, Event.TheVariants.Claim, Event.TheVariants.Post, Refused.Refused}
 use Rattle.run_core.specs.declared.events.Refused.TheVariants.{InHand, Taken, Idle, NotNext, OtherList}
-use Rattle.run_core.specs.declared.tables.Open.{Open}
-use Rattle.run_core.specs.declared.tables.Row.{Row}
+use Rattle.run_core.specs.declared.tables.{Open.Open, Row.Row}
 use Rattle.run_core.specs.Refusal.{HasOpen, HasNone, EndsWith, DifferFirstAt, IsRefused, Names}
 use Rattle.run_core.specs.Run.{Run, history, before_last, last_of, told, history_of, most_events, IsInRange, IsLegal, MayFollow, Gave}
 use Rattle.run_core.specs.Kept.{row_at, hand_of, in_hand, IsClaimer, AreDone, IsFull, IsHeld, IsSplit, outcome_or, IsKept}

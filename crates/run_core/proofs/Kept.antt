@@ -2,19 +2,16 @@
 use Rattle.std.proofs.Common.{◌≡◌, ℕ, zero, suc, ◌+◌, ◌-◌, ◌^◌, ◌<◌, ◌≤◌, Bool, true, cond, nat_eq, List, [], ◌∷◌, ◌++◌, length, get_or, take, drop, set, map, replicate, reverse, sum_by, refl, sym, ◌∙◌, ap, subst, inl, inr, arith, true≢false}
 use Rattle.std.proofs.lemmas.Bool.{cases_Bool, cases_eq, cases_lt, eqb-true, eq-eqb}
 use Rattle.std.proofs.lemmas.List.{take-append-drop, take_all, length-append, length-map, length-replicate, length-set, get_or-set_same, get_or-set_other, get_or-replicate}
-use Rattle.std.proofs.lemmas.List.Folds.{fold-map}
+use Rattle.std.proofs.{lemmas.List.Folds.fold-map, Math.ListN.get_or-map}
 use Rattle.std.proofs.lemmas.List.Sums.{fold-append, sum_by-set, sum_by-le-sum_by}
-use Rattle.std.proofs.Math.ListN.{get_or-map}
 use lib.Seq.{drop-cons, take-suc}
 use Rattle.jvm_model.specs.declared.outcome.Outcome.{Outcome}
 use Rattle.jvm_model.specs.declared.program.Program.{Program}
-use Rattle.order_law.specs.Conflicts.{Member, Distinct}
+use Rattle.order_law.specs.{Conflicts.Member, Conflicts.Distinct, RecordForm.are_chains}
 use Rattle.order_law.specs.Plan as law
-use Rattle.order_law.specs.RecordForm.{are_chains}
 use Rattle.order_law.proofs.Members.{snoc_member}
 use Rattle.order_law.proofs.Posts.{claims_more, posts_more, in_claims, in_posts, member_mid, reversed, of_cons, law_of_histories, forms_apart}
-use Rattle.run_core.specs.declared.events.Event.{Event}
-use Rattle.run_core.specs.declared.events.Event.TheVariants.{Claim, Post}
+use Rattle.run_core.specs.declared.events.{Event.Event, Event.TheVariants.Claim, Event.TheVariants.Post}
 use Rattle.run_core.specs.declared.tables.Row.{Row}
 use Rattle.run_core.specs.Refusal.{HasNone}
 use Rattle.run_core.specs.Run.{Run, before_last, last_of, told, history_of, most_events, IsInRange}

@@ -2,13 +2,10 @@
 use Rattle.std.specs.Prelude.{◌≡◌, ◌⊎◌, ℕ, suc, ◌+◌, ◌-◌, ◌^◌, ◌<◌, ◌≤◌, List, [], ◌∷◌, ◌++◌, length, get_or, take, drop, set, fold, reverse, cond, nat_eq, sum_by, true, Option, Some, None}
 use Rattle.jvm_model.specs.declared.outcome.Outcome.{Outcome}
 use Rattle.jvm_model.specs.declared.program.Program.{Program}
-use Rattle.order_law.specs.Conflicts.{Member}
+use Rattle.order_law.specs.{Conflicts.Member, RecordForm.are_chains}
 use Rattle.order_law.specs.Plan as law
-use Rattle.order_law.specs.RecordForm.{are_chains}
-use Rattle.run_core.specs.declared.events.Event.{Event}
-use Rattle.run_core.specs.declared.events.Event.TheVariants.{Claim, Post}
-use Rattle.run_core.specs.declared.tables.Open.{Open}
-use Rattle.run_core.specs.declared.tables.Row.{Row}
+use Rattle.run_core.specs.declared.events.{Event.Event, Event.TheVariants.Claim, Event.TheVariants.Post}
+use Rattle.run_core.specs.declared.tables.{Open.Open, Row.Row}
 use Rattle.run_core.specs.Run.{before_last, last_of, history_of, most_events}
 
 abbrev pub row : ℕ → ℕ → ℕ → Row

@@ -2,11 +2,8 @@
 use Rattle.std.specs.Prelude.{◌≡◌, ℕ, ◌-◌, ◌<◌, ◌≤◌, List, [], ◌∷◌, ◌++◌, take, slice_get, Result, MatchResult}
 use Rattle.order_law.specs.Conflicts.{Member}
 use Rattle.order_law.specs.Plan as law
-use Rattle.run_core.specs.declared.events.Event.{Event}
-use Rattle.run_core.specs.declared.events.Event.TheVariants.{Claim, Post}
-use Rattle.run_core.specs.declared.events.Refused.{Refused}
+use Rattle.run_core.specs.declared.events.{Event.Event, Event.TheVariants.Claim, Event.TheVariants.Post, Refused.Refused, Rejected.Rejected}
 use Rattle.run_core.specs.declared.events.Refused.TheVariants.{InHand, Taken, Idle, NotNext, OtherList}
-use Rattle.run_core.specs.declared.events.Rejected.{Rejected}
 use Rattle.run_core.specs.Run.{Run, MayFollow, added, history}
 
 -- The worker has a chain in hand, and this is its next test.

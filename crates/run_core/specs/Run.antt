@@ -3,8 +3,7 @@ use Rattle.std.specs.Prelude.{◌≡◌, ◌⊎◌, ℕ, ◌+◌, ◌-◌, ◌<�
 use Rattle.jvm_model.specs.declared.outcome.Outcome.{Outcome}
 use Rattle.jvm_model.specs.declared.program.Program.{Program}
 use Rattle.order_law.specs.Plan as law
-use Rattle.run_core.specs.declared.events.Event.{Event}
-use Rattle.run_core.specs.declared.events.Event.TheVariants.{Claim, Post}
+use Rattle.run_core.specs.declared.events.{Event.Event, Event.TheVariants.Claim, Event.TheVariants.Post}
 
 -- the last test of a list, and those before it
 abbrev pub last_of : List ℕ → ℕ

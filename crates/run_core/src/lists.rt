@@ -1,9 +1,7 @@
 //! Lists of tests, compared, and what a history says of a worker and of a test.
 
 ghost use Rattle.std.specs.Prelude.{◌≡◌, ◌+◌, ◌<◌, ◌^◌, ◌++◌, ◌∷◌, [], length, true, false, option_copied, MatchOption};
-ghost use Rattle.run_core.specs.Kept.{found_outcome, last_list};
-ghost use Rattle.run_core.specs.Refusal.{DifferFirstAt, EndsWith};
-ghost use Rattle.run_core.specs.Run.{last_of};
+ghost use Rattle.run_core.specs.{Kept.found_outcome, Kept.last_list, Refusal.DifferFirstAt, Refusal.EndsWith, Run.last_of};
 
 use crate::events::Event;
 use jvm_model::Outcome;

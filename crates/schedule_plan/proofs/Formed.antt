@@ -7,8 +7,7 @@ use Rattle.order_law.specs.declared.edges.Edge.{Edge}
 use Rattle.order_law.specs.Conflicts.{Member, Distinct}
 use Rattle.order_law.specs.RecordForm.{no_repeats, joined, are_chains}
 use Rattle.order_law.specs.Plan.{chain_at, AreApart, AreListedChainsOf}
-use Rattle.order_law.proofs.Members.{member_either, true_member}
-use Rattle.order_law.proofs.Posts.{ascending_distinct}
+use Rattle.order_law.proofs.{Members.member_either, Members.true_member, Posts.ascending_distinct}
 
 pub joined_where : (C : List (List ℕ)) (t : ℕ) → Member t (joined C) → (i : ℕ) × Member t (chain_at C i)
 joined_where [] t m = absurd m

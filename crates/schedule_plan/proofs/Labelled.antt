@@ -5,8 +5,7 @@ use Rattle.std.proofs.lemmas.List.{get_or_append_left, get_or-append_right}
 use Rattle.order_law.specs.declared.edges.Edge.{Edge}
 use Rattle.order_law.specs.Conflicts.{Member, Before, Joined, itself, forth}
 use Rattle.schedule_plan.specs.Grouping.{at, AreLabels, Keeps, IsJoinedTo, AreJoined}
-use Rattle.schedule_plan.proofs.Places.{member_get}
-use Rattle.schedule_plan.proofs.Joinings.{joined_on, joined_back}
+use Rattle.schedule_plan.proofs.{Places.member_get, Joinings.joined_on, Joinings.joined_back}
 
 -- each place has its own label
 pub own_labels : (R : List Edge) (tests labels : List ℕ) → length labels ≡ length tests → ((k : ℕ) → k < length tests → at labels k ≡ k) → AreLabels R tests labels

@@ -1,8 +1,7 @@
 -- Places of lists of numbers.
 use Rattle.std.proofs.Common.{◌≡◌, ℕ, zero, suc, ◌<◌, ◌≤◌, List, [], ◌∷◌, length, get_or, refl, sym, ap, inl, inr, arith}
 use Rattle.std.proofs.lemmas.Bool.{cases_lt, cases_eq}
-use Rattle.order_law.specs.Conflicts.{Member}
-use Rattle.order_law.specs.Plan.{Ascending}
+use Rattle.order_law.specs.{Conflicts.Member, Plan.Ascending}
 
 pub member_get : (l : List ℕ) (k : ℕ) → k < length l → Member (get_or l k 0) l
 member_get [] k h = absurd (omega arith)

@@ -1,7 +1,6 @@
 -- Plans: which worker runs which chains. Workers and chains are numbered from 0 by their places.
 use Rattle.std.specs.Prelude.{◌≡◌, ◌↔◌, ◌⊎◌, ℕ, ◌+◌, ◌-◌, ◌*◌, ◌<◌, ◌≤◌, List, [], ◌∷◌, ◌++◌, length, get_or, slice_set, take, map, sum, sum_by, Bool, true, ◌&&◌, ◌||◌, cond, nat_eq, nat_lt}
-use Rattle.order_law.specs.Conflicts.{Member, Distinct}
-use Rattle.order_law.specs.Plan.{chain_at}
+use Rattle.order_law.specs.{Conflicts.Member, Conflicts.Distinct, Plan.chain_at}
 use Rattle.schedule_plan.specs.declared.shares.Share.{Share}
 use Rattle.schedule_plan.specs.Grouping.{at}
 

@@ -1,8 +1,7 @@
 //! The chains of a set of tests.
 
 ghost use Rattle.std.specs.Prelude.{ℕ, IfOk};
-ghost use Rattle.order_law.specs.Conflicts.{Member};
-ghost use Rattle.order_law.specs.Plan.{AreListedChainsOf};
+ghost use Rattle.order_law.specs.{Conflicts.Member, Plan.AreListedChainsOf};
 
 use crate::classes::classes_of;
 use crate::labels::labels_of;

@@ -1,10 +1,7 @@
 -- Lists of tests, a place further.
 use Rattle.std.proofs.Common.{◌≡◌, ◌⊎◌, ◌↔◌, IsTrue, ℕ, zero, suc, ◌+◌, ◌<◌, ◌≤◌, true, false, List, [], ◌∷◌, ◌++◌, length, get_or, take, refl, sym, ◌∙◌, ap, subst, inl, inr, arith, Some}
-use Rattle.std.proofs.lemmas.Bool.{false≢true, cases_lt}
-use Rattle.std.proofs.lemmas.List.{take_more, take_all}
-use Rattle.std.proofs.lemmas.Option.{slice_get-get_or}
-use Rattle.order_law.specs.Conflicts.{Member, Distinct}
-use Rattle.order_law.specs.OrderFault.{IsTwice}
+use Rattle.std.proofs.lemmas.{Bool.false≢true, Bool.cases_lt, List.take_more, List.take_all, Option.slice_get-get_or}
+use Rattle.order_law.specs.{Conflicts.Member, Conflicts.Distinct, OrderFault.IsTwice}
 use Rattle.order_law.proofs.Members.{member_either}
 
 pub member_at : (l : List ℕ) (q i t : ℕ) → q < i → i ≤ length l → get_or l q 0 ≡ t → Member t (take i l)

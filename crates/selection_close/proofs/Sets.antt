@@ -2,15 +2,11 @@
 use Rattle.std.proofs.Common.{◌≡◌, ℕ, zero, suc, ◌+◌, ◌<◌, ◌≤◌, true, false, nat_eq, List, [], ◌∷◌, length, get_or, take, refl, sym, ◌∙◌, ap, subst, inl, inr, arith}
 use Rattle.std.proofs.lemmas.Bool.{or_cases, or_left, or_right, eqb-true, eq-eqb}
 use Rattle.std.proofs.lemmas.List.{take_more, take_all}
-use Rattle.order_law.specs.declared.edges.Edge.{Edge}
-use Rattle.order_law.specs.declared.edges.EdgeKind.TheVariants.{Raw}
-use Rattle.order_law.specs.Conflicts.{Member, HasEdge}
-use Rattle.order_law.specs.OrderFault.{HasWriters}
-use Rattle.order_law.specs.Plan.{Ascending}
+use Rattle.order_law.specs.declared.edges.{Edge.Edge, EdgeKind.TheVariants.Raw}
+use Rattle.order_law.specs.{Conflicts.Member, Conflicts.HasEdge, OrderFault.HasWriters, Plan.Ascending}
 use Rattle.order_law.proofs.Members.{member_left, member_right}
 use Rattle.dep_graph.specs.declared.sets.TestSet.{TestSet}
-use Rattle.dep_graph.specs.Sets.{holds}
-use Rattle.dep_graph.specs.Graphs.{GoUp, AreWriters}
+use Rattle.dep_graph.specs.{Sets.holds, Graphs.GoUp, Graphs.AreWriters}
 use Rattle.selection_close.specs.Faults.{HoldsList, HasAll, IsLeastOutside, gained}
 use Rattle.selection_close.proofs.Lists.{member_at, member_next}
 

@@ -1,7 +1,6 @@
 -- Faults of lists of tests, and what finds them.
 use Rattle.std.specs.Prelude.{◌≡◌, ◌↔◌, ℕ, ◌<◌, List, Bool, true, false, ◌||◌, nat_eq, get_or}
-use Rattle.order_law.specs.declared.edges.Edge.{Edge}
-use Rattle.order_law.specs.declared.edges.EdgeKind.TheVariants.{Raw}
+use Rattle.order_law.specs.declared.edges.{Edge.Edge, EdgeKind.TheVariants.Raw}
 use Rattle.order_law.specs.Conflicts.{Member, HasEdge, Before}
 use Rattle.order_law.specs.OrderFault as law
 use Rattle.dep_graph.specs.declared.sets.TestSet.{TestSet}

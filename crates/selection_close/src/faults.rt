@@ -1,8 +1,7 @@
 //! The first reason why a list isn't lawful.
 
 ghost use Rattle.std.specs.Prelude.{MatchResult};
-ghost use Rattle.order_law.specs.Conflicts.{Lawful};
-ghost use Rattle.order_law.specs.OrderFault.{IsOrderFault};
+ghost use Rattle.order_law.specs.{Conflicts.Lawful, OrderFault.IsOrderFault};
 ghost use Rattle.selection_close.specs.Faults.{fault_of};
 
 use crate::inversions::inverted;

@@ -1,8 +1,7 @@
 //! Tests that stand in the wrong order.
 
 ghost use Rattle.std.specs.Prelude.{◌<◌, length, MatchOption};
-ghost use Rattle.order_law.specs.Conflicts.{InOrder};
-ghost use Rattle.order_law.specs.OrderFault.{IsInverted};
+ghost use Rattle.order_law.specs.{Conflicts.InOrder, OrderFault.IsInverted};
 ghost use Rattle.selection_close.specs.Faults.{IsBeforeNone, IsFirstAfter};
 
 use dep_graph::Graph;

@@ -1,8 +1,7 @@
 //! Tests that stand twice.
 
 ghost use Rattle.std.specs.Prelude.{ℕ, ◌≤◌, ◌↔◌, IsTrue, take, length, MatchOption};
-ghost use Rattle.order_law.specs.Conflicts.{Member, Distinct};
-ghost use Rattle.order_law.specs.OrderFault.{IsTwice};
+ghost use Rattle.order_law.specs.{Conflicts.Member, Conflicts.Distinct, OrderFault.IsTwice};
 
 /// The test at the least place that repeats an earlier one.
 #[tactic(auto, using(crate::proofs::Lists::distinct_next, crate::proofs::Lists::distinct_all, crate::proofs::Lists::twice_at))]

@@ -1,8 +1,7 @@
 //! Raw writers that aren't listed.
 
 ghost use Rattle.std.specs.Prelude.{◌≡◌, ℕ, ◌<◌, ◌↔◌, true, MatchOption};
-ghost use Rattle.order_law.specs.Conflicts.{Member, HasEdge};
-ghost use Rattle.order_law.specs.OrderFault.{HasWriters, IsMissing};
+ghost use Rattle.order_law.specs.{Conflicts.Member, Conflicts.HasEdge, OrderFault.HasWriters, OrderFault.IsMissing};
 ghost use Rattle.dep_graph.specs.Sets.{holds};
 ghost use Rattle.selection_close.specs.Faults.{HasAll, IsLeastOutside, HoldsList, gained};
 

@@ -1,8 +1,7 @@
 -- One part of a store.
 use Rattle.std.specs.Prelude.{List}
 use Rattle.sim_store.specs.Stored.{Stored, Named}
-use Rattle.sim_store.specs.declared.store.Part.{Part}
-use Rattle.sim_store.specs.declared.store.Part.TheVariants.{File, Prop}
+use Rattle.sim_store.specs.declared.store.{Part.Part, Part.TheVariants.File, Part.TheVariants.Prop}
 
 abbrev pub in_part : Part → Stored → List Named
 in_part File s = s.files

@@ -1,6 +1,5 @@
 ghost use Rattle.std.specs.Prelude.{◌≡◌, List, [], None, Some, OnOk, OnErr, MatchOption};
-ghost use Rattle.std.specs.List.{list_any};
-ghost use Rattle.std.specs.Str.{bytes_eq};
+ghost use Rattle.std.specs.{List.list_any, Str.bytes_eq};
 ghost use Rattle.jvm_model.specs.World.{look, keep};
 
 use crate::texts::Texts;

@@ -1,7 +1,6 @@
 -- What is written for each number of a range.
 use Rattle.std.proofs.Common.{◌≡◌, ℕ, zero, suc, ◌+◌, ◌≤◌, List, [], ◌∷◌, ◌++◌, append-nil, refl, sym, ap, ◌∙◌, arith}
-use Rattle.std.proofs.lemmas.List.{append_assoc}
-use Rattle.std.proofs.lemmas.Grind.{flat_map-append}
+use Rattle.std.proofs.lemmas.{List.append_assoc, Grind.flat_map-append}
 use Rattle.std.specs.List.{flat_map, range_with_len}
 use Rattle.et_base.proofs.Ranges.{range_more}
 

@@ -2,10 +2,8 @@
 use Rattle.std.proofs.Common.{◌≡◌, ℕ, zero, suc, ◌+◌, ◌-◌, ◌*◌, ◌%◌, ◌≤◌, List, [], ◌∷◌, ◌++◌, length, map, Bool, true, false, ◌==◌, if◌then◌else◌, Option, refl, sym, ap, ◌∙◌, arith}
 use Rattle.std.specs.Int.{w16, w32, to_be_bytes}
 use Rattle.std.specs.List.{flat_map, range_with_len}
-use Rattle.std.proofs.lemmas.Grind.{flat_map-append}
-use Rattle.std.proofs.lemmas.List.{length-append}
-use Rattle.std.proofs.lemmas.List.Folds.{flat_map-map}
-use Rattle.std.proofs.lemmas.List.FromFn.{length-map-range_with_len}
+use Rattle.std.proofs.lemmas.{Grind.flat_map-append, List.length-append}
+use Rattle.std.proofs.{lemmas.List.Folds.flat_map-map, lemmas.List.FromFn.length-map-range_with_len}
 use Rattle.et_base.specs.Utf.{group}
 use Rattle.class_pool.specs.declared.pool.Entry.{Entry}
 use Rattle.class_pool.specs.PoolGrammar.{slot_bytes, pool_spelling}
@@ -14,8 +12,7 @@ use Rattle.class_write.specs.declared.names.Names.{Names}
 use Rattle.class_write.specs.Spelling as spelling
 use Rattle.suite_gen.specs.Bytes as bytes
 use Rattle.suite_gen.specs.Generated.{group_count, common_slots, group_slots, test_slot, slots, setting, adding, printing, field_of, method_of, generated_class}
-use Rattle.suite_gen.proofs.Names.{name_entry}
-use Rattle.suite_gen.proofs.Ranges.{each_same, flat_twice}
+use Rattle.suite_gen.proofs.{Names.name_entry, Ranges.each_same, Ranges.flat_twice}
 
 -- ---- the constant pool
 

@@ -5,9 +5,7 @@ use Rattle.std.specs.List.{flat_map, range_with_len}
 use Rattle.class_pool.specs.declared.pool.Entry.{Entry}
 use Rattle.class_pool.specs.declared.pool.Entry.TheVariants.{Utf8, Class, Field, Method, NameAndType}
 use Rattle.code_decode.specs.declared.instructions.RawOp.{RawOp}
-use Rattle.class_reader.specs.declared.parts.CodePart.{CodePart}
-use Rattle.class_reader.specs.declared.parts.MemberPart.{MemberPart}
-use Rattle.class_reader.specs.declared.parts.ClassParts.{ClassParts}
+use Rattle.class_reader.specs.declared.parts.{CodePart.CodePart, MemberPart.MemberPart, ClassParts.ClassParts}
 
 -- ---- the suite text
 

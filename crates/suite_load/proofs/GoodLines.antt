@@ -1,36 +1,25 @@
 -- What good lines say is in the form that linking asks for.
 use Rattle.std.proofs.Common.{◌≡◌, ℕ, ℤ, ◌+◌, ◌<◌, ◌≤◌, Bool, true, false, not, List, [], ◌∷◌, ◌++◌, length, map, get_or, eqb, Option, Some, None, Result, Ok, refl, sym, ap, ◌∙◌, subst, inl, inr, arith}
 use Rattle.std.specs.Prelude.{codes}
-use Rattle.std.specs.Option.{ok_or}
-use Rattle.std.specs.List.{list_all, list_any}
-use Rattle.std.specs.Str.{bytes_eq}
+use Rattle.std.specs.{Option.ok_or, List.list_all, List.list_any, Str.bytes_eq}
 use Rattle.std.proofs.lemmas.Bool.{and_from, not-true, ltb-true, both_ways, cases_lt}
 use Rattle.std.proofs.lemmas.List.{length-map, length_push, map_push, get_or-map, get_or_append_left, get_or_push}
-use Rattle.std.proofs.lemmas.List.Folds.{list_all-append, list_any_at}
-use Rattle.std.proofs.lemmas.Slice.Eq.{bytes_eq-Decides}
+use Rattle.std.proofs.{lemmas.List.Folds.list_all-append, lemmas.List.Folds.list_any_at, lemmas.Slice.Eq.bytes_eq-Decides}
 use Rattle.jvm_model.specs.Suite.{suite_limit}
 use Rattle.class_link.specs.Link.{AreLines, AreDifferent}
 use Rattle.class_link.specs.Link as link
 use Rattle.suite_load.specs.declared.suite_line.SuiteLine.{SuiteLine}
 use Rattle.suite_load.specs.declared.suite_line.SuiteLine.TheVariants.{Header, Budget, Class, File, Test, End}
-use Rattle.suite_load.specs.declared.suite_text.SuiteText.{SuiteText}
-use Rattle.suite_load.specs.declared.suite_text.FileLine.{FileLine}
-use Rattle.suite_load.specs.declared.suite_text.TestLine.{TestLine}
-use Rattle.suite_load.specs.declared.suite_text.SuiteRefusal.{SuiteRefusal}
+use Rattle.suite_load.specs.declared.suite_text.{SuiteText.SuiteText, FileLine.FileLine, TestLine.TestLine, SuiteRefusal.SuiteRefusal}
 use Rattle.suite_load.specs.declared.suite_text.Why.TheVariants as why
 use Rattle.suite_load.specs.declared.first_word.FirstWord.{FirstWord}
 use Rattle.suite_load.specs.declared.first_word.FirstWord.TheVariants as words
-use Rattle.suite_load.specs.ContentForm.{content_of}
+use Rattle.suite_load.specs.{ContentForm.content_of, NameForms.is_test_name, NumberForms.budget_of, Reading.tested}
 use Rattle.suite_load.specs.LineForms.{Row, rows, cut}
-use Rattle.suite_load.specs.NameForms.{is_test_name}
-use Rattle.suite_load.specs.NumberForms.{budget_of}
-use Rattle.suite_load.specs.Reading.{tested}
 use Rattle.suite_load.specs.SuiteForm.{added, suite_from, class_names, file_names, test_names, fault, fresh, one_field, is_in_order, placed, second_header, budget_line, class_name, class_line, file_fields, file_line, stream_fields, stream_of, test_from, test_of, test_line, end_line, first_word, line_of, is_formed, later_line, first_line, next_line, is_ended, missing, whole, lines_from, suite_of}
 use Rattle.suite_load.specs.Loading as loading
-use Rattle.suite_load.proofs.NumberLaws.{budget_bounds}
+use Rattle.suite_load.proofs.{NumberLaws.budget_bounds, SummaryLaws.suite_more, WordLaws.class_is_words, WordLaws.method_is_word}
 use Rattle.suite_load.proofs.ReadingLaws.{went_on, held, was_some}
-use Rattle.suite_load.proofs.SummaryLaws.{suite_more}
-use Rattle.suite_load.proofs.WordLaws.{class_is_words, method_is_word}
 
 -- ---- what a line says, behind good lines
 

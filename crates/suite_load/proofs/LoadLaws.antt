@@ -5,8 +5,7 @@ use Rattle.et_base.specs.Answers.{Fails}
 use Rattle.outside.specs.Depot.{Files, OfHeld, DepotView, FailedAt}
 use Rattle.outside.proofs.CountLemmas.{rose_later}
 use Rattle.class_reader.specs.declared.parts.ClassParts.{ClassParts}
-use Rattle.jvm_model.specs.declared.program.Names.{Names}
-use Rattle.jvm_model.specs.declared.program.Program.{Program}
+use Rattle.jvm_model.specs.declared.program.{Names.Names, Program.Program}
 use Rattle.order_law.specs.declared.records.Prints.{Prints}
 use Rattle.dep_record.specs.Hashes.{prints_of}
 use Rattle.suite_load.specs.declared.print_sums.PrintSums.{PrintSums}

@@ -1,8 +1,7 @@
 -- Refusals that name a fault, and what a reading without fault went through.
 use Rattle.std.proofs.Common.{◌≡◌, Bool, true, false, Option, Some, None, Result, Ok, Err, refl, ap}
 use Rattle.std.specs.Option.{ok_or}
-use Rattle.suite_load.specs.declared.suite_text.SuiteRefusal.{SuiteRefusal}
-use Rattle.suite_load.specs.declared.suite_text.SuiteRefusal.TheVariants.{Suite, NoMemory}
+use Rattle.suite_load.specs.declared.suite_text.{SuiteRefusal.SuiteRefusal, SuiteRefusal.TheVariants.Suite, SuiteRefusal.TheVariants.NoMemory}
 use Rattle.suite_load.specs.Reading.{◌>>=◌, Fails, Names, tested}
 
 -- where a fault is what reading gives, the refusal that names it says so

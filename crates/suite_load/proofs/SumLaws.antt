@@ -1,8 +1,7 @@
 -- What sums hold, and of which bytes.
 use Rattle.std.proofs.Common.{◌≡◌, ℕ, List, [], ◌∷◌, ◌++◌, length, flat_map, nat_le, Bool, true, false, sym, ap, subst, ◌∙◌, append_assoc, if◌then◌else◌, Option, Some, None, Result, Ok, Err}
 use Rattle.std.specs.Option.{unwrap_or}
-use Rattle.std.proofs.lemmas.Grind.{flat_map-append}
-use Rattle.std.proofs.lemmas.List.{append-nil}
+use Rattle.std.proofs.lemmas.{Grind.flat_map-append, List.append-nil}
 use Rattle.outside.specs.Depot.{Files, content}
 use Rattle.dep_record.specs.Hashes.{sized, suite_bytes}
 use Rattle.suite_load.specs.declared.print_sums.PrintSums.{PrintSums}

@@ -8,8 +8,7 @@ use Rattle.class_reader.specs.declared.parts.ClassParts.{ClassParts}
 use Rattle.class_reader.specs.declared.fault.ClassFault.{ClassFault}
 use Rattle.class_reader.specs.declared.fault.ClassFault.TheVariants as class
 use Rattle.class_reader.specs.Faults.{class_of}
-use Rattle.jvm_model.specs.declared.program.Program.{Program}
-use Rattle.jvm_model.specs.declared.program.Names.{Names}
+use Rattle.jvm_model.specs.declared.program.{Program.Program, Names.Names}
 use Rattle.order_law.specs.declared.records.Prints.{Prints}
 use Rattle.dep_record.specs.Hashes.{prints_of}
 use Rattle.class_link.specs.declared.fault.LinkFault.{LinkFault}
@@ -19,9 +18,7 @@ use Rattle.class_link.specs.declared.lines.TestLine as line
 use Rattle.class_link.specs.Link.{LinksBy}
 use Rattle.type_frames.specs.declared.fault.CheckFault.{CheckFault}
 use Rattle.type_frames.specs.Typing.{check_fault}
-use Rattle.suite_load.specs.declared.suite_text.SuiteText.{SuiteText}
-use Rattle.suite_load.specs.declared.suite_text.TestLine.{TestLine}
-use Rattle.suite_load.specs.declared.suite_text.SuiteRefusal.{SuiteRefusal}
+use Rattle.suite_load.specs.declared.suite_text.{SuiteText.SuiteText, TestLine.TestLine, SuiteRefusal.SuiteRefusal}
 use Rattle.suite_load.specs.declared.suite_text.SuiteRefusal.TheVariants as refusals
 use Rattle.suite_load.specs.declared.suite_text.Why.TheVariants as why
 use Rattle.suite_load.specs.SuiteForm.{suite_of}

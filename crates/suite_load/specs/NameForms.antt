@@ -1,8 +1,6 @@
 -- The forms of names in a suite text (this project's).
 use Rattle.std.specs.Prelude.{ℕ, ◌==◌, ◌&&◌, ◌||◌, not, Bool, List, length, codes, nat_le}
-use Rattle.std.specs.Char.{is_ascii_alphanumeric}
-use Rattle.std.specs.List.{list_all, slice_split}
-use Rattle.std.specs.Str.{bytes_eq}
+use Rattle.std.specs.{Char.is_ascii_alphanumeric, List.list_all, List.slice_split, Str.bytes_eq}
 
 -- letters, digits, `_` and `$`
 abbrev pub is_word_byte : ℕ → Bool

@@ -2,8 +2,7 @@
 use Rattle.std.specs.Prelude.{◌≡◌, Option, Some, None, Result}
 use Rattle.et_base.specs.Answers as answers
 pub use Rattle.et_base.specs.Answers.{◌>>=◌, tested, nothing}
-use Rattle.suite_load.specs.declared.suite_text.SuiteRefusal.{SuiteRefusal}
-use Rattle.suite_load.specs.declared.suite_text.SuiteRefusal.TheVariants.{Suite, NoMemory}
+use Rattle.suite_load.specs.declared.suite_text.{SuiteRefusal.SuiteRefusal, SuiteRefusal.TheVariants.Suite, SuiteRefusal.TheVariants.NoMemory}
 
 -- the fault that a refusal names
 abbrev pub says : SuiteRefusal → Option SuiteRefusal

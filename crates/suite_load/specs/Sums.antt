@@ -1,7 +1,6 @@
 -- The sums of a suite so far.
 use Rattle.std.specs.Prelude.{◌≡◌, ℕ, List, ◌++◌, map, codes}
-use Rattle.sha2.specs.Sha256.{sha256}
-use Rattle.sha2.specs.Hashers.{Holds256}
+use Rattle.sha2.specs.{Sha256.sha256, Hashers.Holds256}
 use Rattle.dep_record.specs.Hashes.{suite_bytes}
 use Rattle.suite_load.specs.declared.print_sums.PrintSums.{PrintSums}
 

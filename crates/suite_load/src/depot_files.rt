@@ -4,11 +4,10 @@ ghost use Rattle.std.specs.Prelude.{◌≡◌, ◌≤◌, ◌<◌, ◌^◌, ◌+
 ghost use Rattle.outside.specs.Depot.{FailedAt, OfHeld, TellsOn};
 ghost use Rattle.class_link.specs.Link.{AreLines};
 ghost use Rattle.class_reader.specs.Faults.{class_of};
-ghost use Rattle.suite_load.specs.SuiteForm.{suite_of};
+ghost use Rattle.suite_load.specs.{SuiteForm.suite_of, Sums.AreSums, Sums.AreMoreSums};
 ghost use Rattle.suite_load.specs.Loading as loading;
 ghost use Rattle.et_base.specs.Answers.{Gives};
 ghost use Rattle.suite_load.specs.LoadAnswers.{Answers, IsProper, refusal_of, says};
-ghost use Rattle.suite_load.specs.Sums.{AreSums, AreMoreSums};
 
 use crate::load_fault::LoadFault;
 use crate::print_sums::PrintSums;

@@ -1,9 +1,7 @@
 //! What each kind of line wants, and what it adds to the lines before it.
 
 ghost use Rattle.std.specs.Prelude.{◌≡◌, ◌+◌, length, true, false, OnOk, IfOk};
-ghost use Rattle.std.specs.List.{list_any};
-ghost use Rattle.std.specs.Option.{ok_or, option_copied};
-ghost use Rattle.std.specs.Str.{bytes_eq};
+ghost use Rattle.std.specs.{List.list_any, Option.ok_or, Option.option_copied, Str.bytes_eq};
 ghost use Rattle.suite_load.specs.ContentForm as content;
 ghost use Rattle.suite_load.specs.SuiteForm as form;
 ghost use Rattle.suite_load.specs.Reading.{Gives, same, nothing, tested};

@@ -2,8 +2,7 @@
 
 ghost use Rattle.std.specs.Prelude.{◌≡◌, [], IfOk, OnOk};
 ghost use Rattle.std.specs.Option.{option_copied};
-ghost use Rattle.suite_load.specs.LineForms.{rows, rest_of};
-ghost use Rattle.suite_load.specs.Reading.{Gives, same};
+ghost use Rattle.suite_load.specs.{LineForms.rows, LineForms.rest_of, Reading.Gives, Reading.same};
 ghost use Rattle.suite_load.specs.SuiteForm as form;
 
 use crate::cut::cut;

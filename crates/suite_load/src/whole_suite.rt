@@ -4,8 +4,7 @@ ghost use Rattle.std.specs.Prelude.{◌≡◌, ◌≤◌, length, IfOk, IfErr, �
 ghost use Rattle.jvm_model.specs.Builtin.{builtin_count};
 ghost use Rattle.outside.specs.Depot.{FailedAt, OfHeld, TellsOn};
 ghost use Rattle.type_frames.specs.Typing.{IsTyped};
-ghost use Rattle.suite_load.specs.Loading.{IsRead};
-ghost use Rattle.suite_load.specs.LoadAnswers.{LoadAnswers, IsProper};
+ghost use Rattle.suite_load.specs.{Loading.IsRead, LoadAnswers.LoadAnswers, LoadAnswers.IsProper};
 
 use crate::depot_files::{classes_in, suite_in};
 use crate::linking::program_of;

@@ -2,14 +2,12 @@
 use Rattle.std.proofs.Common.{◌≡◌, ◌≤◌, ℕ, List, [], ◌∷◌, ◌++◌, Option, Some, IfSome, refl, sym, subst, ap, ◌∙◌, arith}
 use Rattle.jvm_model.specs.declared.outcome.Outcome.{Outcome}
 use Rattle.jvm_model.specs.declared.program.Program.{Program}
-use Rattle.jvm_model.specs.State.{test_at}
+use Rattle.jvm_model.specs.{State.test_at, World.World}
 use Rattle.jvm_model.specs.Suite.{Given, opening, one_test, runs, last_outcome, outcome_in, world_after}
-use Rattle.jvm_model.specs.World.{World}
 use Rattle.jvm_model.proofs.Budgets.{one_test_within, one_test_units}
 use Rattle.jvm_model.proofs.Runs.{runs_more, last_outcome_is, with_last}
 use Rattle.type_frames.specs.TypedState.{TypedWorld}
-use Rattle.test_run.specs.Outcomes.{given_in, touches_of}
-use Rattle.test_run.specs.Running.{IsAfter, Stands}
+use Rattle.test_run.specs.{Outcomes.given_in, Outcomes.touches_of, Running.IsAfter, Running.Stands}
 
 -- the world after two lists, one after the other
 pub world_both : (w : World) (xs ys : List Given) → world_after w (xs ++ ys) ≡ world_after (world_after w xs) ys

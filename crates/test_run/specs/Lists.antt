@@ -3,9 +3,8 @@ use Rattle.std.specs.Prelude.{◌≡◌, ℕ, ◌+◌, List, [], ◌∷◌, ◌+
 use Rattle.jvm_model.specs.declared.outcome.Outcome.{Outcome}
 use Rattle.jvm_model.specs.declared.program.Program.{Program}
 use Rattle.jvm_model.specs.declared.values.Touch.{Touch}
-use Rattle.jvm_model.specs.State.{test_at}
+use Rattle.jvm_model.specs.{State.test_at, World.World}
 use Rattle.jvm_model.specs.Suite.{Given, first_over_on, one_test, runs_on, units_of, world_after}
-use Rattle.jvm_model.specs.World.{World}
 use Rattle.vm_mem.specs.Trace.{Trace, next_test}
 use Rattle.test_run.specs.Running.{IsRefused}
 use Rattle.test_run.specs.declared.run_fault.RunFault.{RunFault}

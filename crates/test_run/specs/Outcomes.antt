@@ -3,9 +3,7 @@ use Rattle.std.specs.Prelude.{ℕ, List, Option, Some, None}
 use Rattle.jvm_model.specs.declared.outcome.Outcome.{Outcome}
 use Rattle.jvm_model.specs.declared.program.Program.{Program}
 use Rattle.jvm_model.specs.declared.values.Touch.{Touch}
-use Rattle.jvm_model.specs.Access.{run}
-use Rattle.jvm_model.specs.Suite.{Given, tree}
-use Rattle.jvm_model.specs.World.{World}
+use Rattle.jvm_model.specs.{Access.run, Suite.Given, Suite.tree, World.World}
 use Rattle.vm_mem.specs.Trace.{Trace, next_test}
 
 -- the touches of test t under the budget b, begun in the world w

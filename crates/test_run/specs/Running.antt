@@ -2,9 +2,8 @@
 use Rattle.std.specs.Prelude.{◌≡◌, ◌<◌, ◌≤◌, ℕ, List, length, Bool, false, Some, None, min}
 use Rattle.jvm_model.specs.declared.outcome.Outcome.{Outcome}
 use Rattle.jvm_model.specs.declared.program.Program.{Program}
-use Rattle.jvm_model.specs.State.{test_at}
+use Rattle.jvm_model.specs.{State.test_at, World.World}
 use Rattle.jvm_model.specs.Suite.{Given, opening, one_test, runs, world_after}
-use Rattle.jvm_model.specs.World.{World}
 use Rattle.type_frames.specs.TypedState.{TypedWorld}
 use Rattle.check_sound.specs.ReachLaw.{HasStackLimits}
 use Rattle.test_run.specs.declared.run_fault.RunFault.{RunFault}

@@ -4,8 +4,7 @@ use Rattle.std.specs.List.{list_all}
 use Rattle.jvm_model.specs.declared.outcome.Outcome.{Outcome}
 use Rattle.jvm_model.specs.declared.program.Names.{Names}
 use Rattle.jvm_model.specs.Texts.{is_passed, is_failed, is_error, outcome_lines, test_lines}
-use Rattle.test_run.specs.declared.tallies.Counts.{Counts}
-use Rattle.test_run.specs.declared.tallies.Tally.{Tally}
+use Rattle.test_run.specs.declared.tallies.{Counts.Counts, Tally.Tally}
 
 -- the counts with one outcome more
 abbrev pub counted_with : Outcome → Counts → Counts

@@ -3,12 +3,10 @@
 ghost use Rattle.std.specs.Prelude.{◌≡◌, IfOk, IfSome};
 ghost use Rattle.std.specs.Option.{option_map};
 ghost use Rattle.jvm_model.specs.Suite.{one_test};
-ghost use Rattle.type_frames.specs.Typing.{IsTyped};
-ghost use Rattle.type_frames.specs.TypedState.{TypedWorld};
+ghost use Rattle.type_frames.specs.{Typing.IsTyped, TypedState.TypedWorld};
 ghost use Rattle.check_sound.specs.ReachLaw.{HasStackLimits};
 ghost use Rattle.vm_interp.specs.Turns.{AreOf};
-ghost use Rattle.test_run.specs.Outcomes.{given_in, TracesOne};
-ghost use Rattle.test_run.specs.Running.{IsTest};
+ghost use Rattle.test_run.specs.{Outcomes.given_in, Outcomes.TracesOne, Running.IsTest};
 
 use et_base::NoMemory;
 use jvm_model::{Outcome, Own, Verdict};

@@ -3,8 +3,7 @@ use Rattle.std.proofs.Common.{◌≡◌, ℕ, zero, suc, List, [], ◌∷◌, �
 use Rattle.std.proofs.lemmas.Bool.{cases_lt}
 use Rattle.std.proofs.lemmas.List.{map-append, get_or-reverse, get_or_past, length-reverse, length-drop, reverse-append, take-append-drop, drop_all}
 use Rattle.type_frames.specs.declared.vtype.VType.{VType}
-use Rattle.type_frames.specs.declared.stack_effect.Substitution.{Substitution}
-use Rattle.type_frames.specs.declared.stack_effect.Substitution.TheVariants.{Keep, All}
+use Rattle.type_frames.specs.declared.stack_effect.{Substitution.Substitution, Substitution.TheVariants.Keep, Substitution.TheVariants.All}
 use Rattle.type_frames.specs.Rules.{turned, turned_one}
 
 pub from_top : (s : List VType) (n : ℕ) (d : VType) → n < length s → get_or s (length s - 1 - n) d ≡ get_or (reverse s) n d

@@ -1,17 +1,11 @@
 -- No first fault is no fault at all.
 use Rattle.std.proofs.lemmas.List.{drop_all}
 use Rattle.std.proofs.Common.{◌≡◌, ◌≤◌, ◌<◌, drop, length, ℕ, zero, suc, List, [], ◌∷◌, ◌+◌, Option, Some, None, slice_get, refl, ap, sym, ◌∙◌, arith, subst, add-zero, true, is_some}
-use Rattle.jvm_model.specs.declared.program.Program.{Program}
-use Rattle.jvm_model.specs.declared.program.ClassRec.{ClassRec}
-use Rattle.jvm_model.specs.declared.program.MethodRec.{MethodRec}
-use Rattle.jvm_model.specs.declared.program.Body.{Body}
-use Rattle.jvm_model.specs.declared.program.Placed.{Placed}
-use Rattle.jvm_model.specs.Classes.{field_at, method_at}
-use Rattle.jvm_model.specs.Linked.{Linked}
+use Rattle.jvm_model.specs.declared.program.{Program.Program, ClassRec.ClassRec, MethodRec.MethodRec, Body.Body, Placed.Placed}
+use Rattle.jvm_model.specs.{Classes.field_at, Classes.method_at, Linked.Linked}
 use Rattle.type_frames.specs.declared.vtype.Frame.{Frame}
 use Rattle.type_frames.specs.declared.fault.CheckFault.{CheckFault}
-use Rattle.type_frames.specs.Given.{given_frames}
-use Rattle.type_frames.specs.Environment.{Environment, environment_of}
+use Rattle.type_frames.specs.{Given.given_frames, Environment.Environment, Environment.environment_of}
 use Rattle.type_frames.specs.Typing.{IsTyped, IsTypedMethod, Breach, no_frame, rule, breach_at, fault_of, or_later, unsupported_field, unsupported_method, fields_fault, members_fault, code_fault, body_fault, method_fault, methods_fault, class_fault, classes_fault, check_fault, given_classes}
 
 none_both : (x y : Option CheckFault) → or_later x y ≡ None → (x ≡ None) × (y ≡ None)

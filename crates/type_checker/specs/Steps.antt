@@ -1,18 +1,12 @@
 -- What the parts of the walk over a method answer.
 use Rattle.std.specs.Prelude.{ℕ, List, Option, Some, None, map, ◌≡◌}
-use Rattle.jvm_model.specs.declared.program.Program.{Program}
-use Rattle.jvm_model.specs.declared.program.Placed.{Placed}
+use Rattle.jvm_model.specs.declared.program.{Program.Program, Placed.Placed}
 use Rattle.type_frames.specs.declared.stack_effect.StackEffect.{StackEffect}
 use Rattle.type_frames.specs.declared.vtype.Frame.{Frame}
-use Rattle.type_frames.specs.Given.{given_frames}
-use Rattle.type_frames.specs.Frames.{Slots}
-use Rattle.type_frames.specs.Environment.{Environment}
-use Rattle.type_frames.specs.Rules.{broken}
+use Rattle.type_frames.specs.{Given.given_frames, Frames.Slots, Environment.Environment, Rules.broken}
 use Rattle.type_frames.specs.Typing.{Breach, no_frame, rule, passed, passed_on, judged, fault_of}
-use Rattle.type_checker.specs.declared.judge.Turned.{Turned}
+use Rattle.type_checker.specs.declared.judge.{Turned.Turned, Step.Step, Step.TheVariants.Faulty, Step.TheVariants.Onward}
 use Rattle.type_checker.specs.declared.judge.Turned.TheVariants as way
-use Rattle.type_checker.specs.declared.judge.Step.{Step}
-use Rattle.type_checker.specs.declared.judge.Step.TheVariants.{Faulty, Onward}
 use Rattle.type_checker.specs.declared.rule.Rule.{Rule}
 use Rattle.type_checker.specs.declared.rule.Rule.TheVariants as rules
 

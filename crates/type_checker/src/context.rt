@@ -3,10 +3,8 @@
 ghost use Rattle.std.specs.Prelude.{◌≡◌, ◌++◌, IfOk, OnOk, MatchOption, Some, None, map, flat_map};
 ghost use Rattle.type_frames.specs.Environment.{class_made, environment_of, given_at, is_target, leads, made_at, targets, Environment};
 ghost use Rattle.jvm_model.specs.Descriptors.{return_type};
-ghost use Rattle.type_frames.specs.Descriptors.{types_of};
-ghost use Rattle.type_frames.specs.Frames.{spread};
+ghost use Rattle.type_frames.specs.{Descriptors.types_of, Frames.spread, Given.entry_types};
 ghost use Rattle.type_frames.specs.Given as maps;
-ghost use Rattle.type_frames.specs.Given.{entry_types};
 
 use et_base::{Items, NoMemory};
 use jvm_model::{Body, Instr, MethodRec, Placed, Program, return_type};

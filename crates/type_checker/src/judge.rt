@@ -2,8 +2,7 @@
 
 ghost use Rattle.std.specs.Prelude.{◌≡◌, ◌<◌, IfOk, Some, length, map, option_map, slice_get};
 ghost use Rattle.jvm_model.specs.declared.program.Placed.{Placed};
-ghost use Rattle.type_frames.specs.Rules.{first_broken, test};
-ghost use Rattle.type_frames.specs.Typing.{fault_of, taken_at};
+ghost use Rattle.type_frames.specs.{Rules.first_broken, Rules.test, Typing.fault_of, Typing.taken_at};
 ghost use Rattle.type_checker.specs.Steps.{breach, number_of, IsJudged, IsStep, IsTurned};
 
 use crate::after::{after, frame_type_of};

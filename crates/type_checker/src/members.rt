@@ -2,13 +2,12 @@
 
 ghost use Rattle.std.specs.Prelude.{◌≡◌, ◌∷◌, ◌++◌, [], IfOk, OnOk, Bool, true, false, not, ◌&&◌, ◌||◌, length, option_to_list, replicate, reverse, List};
 ghost use Rattle.std.specs.List.{list_any};
-ghost use Rattle.type_frames.specs.Frames.{same};
+ghost use Rattle.type_frames.specs.{Frames.same, Descriptors.kind_name, Descriptors.types_of};
 ghost use Rattle.jvm_model.specs.Classes.{class_at, field_at, method_at};
 ghost use Rattle.type_frames.specs.declared.vtype.VType.{VType};
 ghost use Rattle.type_frames.specs.declared.vtype.VType.TheVariants as types;
 ghost use Rattle.type_frames.specs.declared.stack_effect.OperandConstraint.TheVariants as wants;
 ghost use Rattle.type_frames.specs.declared.stack_effect.Substitution.TheVariants as turns;
-ghost use Rattle.type_frames.specs.Descriptors.{kind_name, types_of};
 ghost use Rattle.type_frames.specs.StackEffect.{argument_needs, array_need, call_sides, element_type, init_sides, int_need, int_type, is_that, is_raw, is_start, is_unset, leaving, loaded, needs_of, new_sides, object_of, on_stack, owner_need, place_of, plain, put_field_sides, ref_sides, refs_sides, return_sides, return_typed, returns, special_need, special_sides, started, stored};
 
 use crate::build::{

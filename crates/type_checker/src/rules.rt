@@ -1,11 +1,9 @@
 //! The rules of the check, each by itself (JVMS 4.10.1).
 
 ghost use Rattle.std.specs.Prelude.{◌≡◌, List, [], ◌∷◌, ◌++◌, drop, length, map, reverse, slice_get, slice_set, slice_index_or, IfOk, OnOk, not, ◌&&◌, ◌||◌, Some, None, Option, ◌+◌, ◌<◌, nat_lt};
-ghost use Rattle.type_frames.specs.Descriptors.{name_of};
+ghost use Rattle.type_frames.specs.{Descriptors.name_of, Frames.slots_of, Environment.leads};
 ghost use Rattle.jvm_model.specs.declared.program.Placed.{Placed};
 ghost use Rattle.type_frames.specs.declared.vtype.VType.TheVariants as types;
-ghost use Rattle.type_frames.specs.Frames.{slots_of};
-ghost use Rattle.type_frames.specs.Environment.{leads};
 ghost use Rattle.type_frames.specs.Rules as rules;
 
 use crate::after::opening;

@@ -2,18 +2,13 @@
 -- for a type stands for all that this type stands for; and Object and each interface take every reference.
 use Rattle.std.proofs.Common.{◌≡◌, ◌⊎◌, ℕ, suc, ◌<◌, List, [], ◌∷◌, length, drop, Bool, true, false, not, ◌&&◌, ◌||◌, nat_eq, cond, ltb, refl, sym, ◌∙◌, ap, subst, inl, inr, arith, Option, Some, None}
 use Rattle.std.specs.Prelude.{position, option_and_then, nat_le, nat_lt}
-use Rattle.std.specs.List.{list_all, list_any}
-use Rattle.std.specs.Str.{bytes_eq}
+use Rattle.std.specs.{List.list_all, List.list_any, Str.bytes_eq}
 use Rattle.std.proofs.lemmas.Bool.{and_parts, and_from, or_cases, or_left, or_right, cases_lt, eqb-true, eq-eqb, false_from_ne_true, lt-ltb}
-use Rattle.std.proofs.lemmas.Iterator.Adapters.{position_from-zero}
-use Rattle.std.proofs.lemmas.List.Quantifiers.{position-Some}
-use Rattle.std.proofs.lemmas.List.Folds.{list_any_at}
+use Rattle.std.proofs.{lemmas.Iterator.Adapters.position_from-zero, lemmas.List.Quantifiers.position-Some, lemmas.List.Folds.list_any_at}
 use Rattle.std.proofs.lemmas.List.Sums.{position_or_len_is}
 use Rattle.et_base.specs.Names.{is_plain, is_unqualified, parts_of, grown, is_class_name, after_element, after_type, ends, is_field_descriptor, is_class_entry_name}
-use Rattle.jvm_model.specs.declared.program.Program.{Program}
-use Rattle.jvm_model.specs.declared.program.ClassRec.{ClassRec}
-use Rattle.jvm_model.specs.Builtin.{builtin_count, object_class}
-use Rattle.jvm_model.specs.Library.{builtin_classes, builtin_defs}
+use Rattle.jvm_model.specs.declared.program.{Program.Program, ClassRec.ClassRec}
+use Rattle.jvm_model.specs.{Builtin.builtin_count, Builtin.object_class, Library.builtin_classes, Library.builtin_defs}
 use Rattle.jvm_model.specs.Classes.{class_at, no_class, is_interface, is_below, upwards, member}
 use Rattle.jvm_model.specs.Linked.{Linked, IsClass, is_interface_at}
 use Rattle.jvm_model.proofs.Upwards.{below_trans, upwards_step, upwards_root}

@@ -3,8 +3,7 @@ use Rattle.std.proofs.Common.{◌≤◌, inl, inr, ◌⊎◌, ◌≡◌, ℕ, ze
 use Rattle.std.specs.List.{position_from}
 use Rattle.std.proofs.lemmas.List.{drop_more, drop_all}
 use Rattle.std.proofs.lemmas.Bool.{cases_eq, eq-eqb, ne_eqb}
-use Rattle.type_frames.specs.Frames.{index_of}
-use Rattle.type_frames.specs.Places.{noted, IsIndex}
+use Rattle.type_frames.specs.{Frames.index_of, Places.noted, Places.IsIndex}
 
 abbrev pub or_else : Option ℕ → Option ℕ → Option ℕ
 or_else None b = b

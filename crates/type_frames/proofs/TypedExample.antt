@@ -5,31 +5,21 @@ use Rattle.std.specs.Prelude.{codes}
 use Rattle.std.specs.List.{IsDistinct}
 use Rattle.std.proofs.lemmas.Bool.{leb-true}
 use Rattle.std.proofs.lemmas.List.Elements.{All-nil, All-from_recursion}
-use Rattle.jvm_model.specs.declared.values.Value.{Value}
+use Rattle.jvm_model.specs.declared.values.{Value.Value, InitState.TheVariants.Running}
 use Rattle.jvm_model.specs.declared.values.Value.TheVariants as value
-use Rattle.jvm_model.specs.declared.values.InitState.TheVariants.{Running}
 use Rattle.jvm_model.specs.declared.values.Location.TheVariants as place
-use Rattle.jvm_model.specs.declared.state.EntryKind.TheVariants.{InMethod, InClass}
-use Rattle.jvm_model.specs.declared.state.Stage.TheVariants.{Last}
+use Rattle.jvm_model.specs.declared.state.{EntryKind.TheVariants.InMethod, EntryKind.TheVariants.InClass, Stage.TheVariants.Last}
 use Rattle.jvm_model.specs.declared.instr.Instr.TheVariants as form
 use Rattle.jvm_model.specs.declared.instr.Sort.TheVariants as sort
 use Rattle.jvm_model.specs.declared.program.Program.{Program}
 use Rattle.jvm_model.specs.World.{World, at, put}
-use Rattle.jvm_model.specs.View.{Exists}
+use Rattle.jvm_model.specs.{View.Exists, Descriptors.parameters, Descriptors.return_type, Entries.Entry, Initialise.parts_of, Linked.IsField, State.started}
 use Rattle.jvm_model.specs.Library.{builtin_defs, builtin_classes, builtin_fields, builtin_methods}
 use Rattle.jvm_model.specs.Classes.{field_at, class_bound, is_trivial, own_interfaces, default_interfaces}
-use Rattle.jvm_model.specs.Descriptors.{parameters, return_type}
-use Rattle.jvm_model.specs.Entries.{Entry}
-use Rattle.jvm_model.specs.Initialise.{parts_of}
-use Rattle.jvm_model.specs.Linked.{IsField}
-use Rattle.jvm_model.specs.State.{started}
 use Rattle.jvm_model.specs.Suite.{opening}
 use Rattle.jvm_model.proofs.Examples.Parts.{program, class, body, fixed, static_int, test, int_const, get_static, put_static, call_static, returns}
-use Rattle.type_frames.specs.Frames.{index_of}
+use Rattle.type_frames.specs.{Frames.index_of, Given.given_frames, Given.body_frames, Environment.given_at, Environment.is_target, StackEffect.sides}
 use Rattle.type_frames.specs.Assign.{takes_any, extends, class_fits, object_fits}
-use Rattle.type_frames.specs.Given.{given_frames, body_frames}
-use Rattle.type_frames.specs.Environment.{given_at, is_target}
-use Rattle.type_frames.specs.StackEffect.{sides}
 use Rattle.type_frames.specs.Typing.{incoming}
 use Rattle.type_frames.specs.TypedState.{IsDeclared, IsInRange, TypedWorld, TypedState, Goes, Waits, Initialises, IsPushedBy}
 use Rattle.type_frames.proofs.Started.{started_law}

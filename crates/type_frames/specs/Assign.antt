@@ -1,8 +1,7 @@
 -- What may stand where a type is asked (JVMS 4.10.1.2). An interface takes every reference, arrays too; a class that the
 -- program lacks counts as one below Object (this project's).
 use Rattle.std.specs.Prelude.{ℕ, List, [], ◌∷◌, drop, Bool, true, false, not, ◌&&◌, ◌||◌, nat_eq, Option, Some, None}
-use Rattle.std.specs.List.{position_from}
-use Rattle.std.specs.Str.{bytes_eq}
+use Rattle.std.specs.{List.position_from, Str.bytes_eq}
 use Rattle.jvm_model.specs.declared.program.Program.{Program}
 use Rattle.jvm_model.specs.Classes.{class_at, is_interface, is_below}
 use Rattle.jvm_model.specs.Builtin.{object_class}

@@ -4,10 +4,8 @@ use Rattle.et_base.specs.Names.{is_class_entry_name}
 use Rattle.jvm_model.specs.declared.program.Program.{Program}
 use Rattle.jvm_model.specs.Builtin.{object_class}
 use Rattle.jvm_model.specs.Linked.{Linked, IsClass, is_interface_at}
-use Rattle.type_frames.specs.declared.vtype.VType.{VType}
-use Rattle.type_frames.specs.declared.vtype.VType.TheVariants.{Null, Object}
-use Rattle.type_frames.specs.Descriptors.{name_of}
-use Rattle.type_frames.specs.Assign.{assignable}
+use Rattle.type_frames.specs.declared.vtype.{VType.VType, VType.TheVariants.Null, VType.TheVariants.Object}
+use Rattle.type_frames.specs.{Descriptors.name_of, Assign.assignable}
 
 -- an object's type is named as a Class entry names it: by a class name or an array's descriptor (JVMS 4.4.1)
 abbrev pub InForm : VType → Type 0

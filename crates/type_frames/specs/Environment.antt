@@ -1,15 +1,10 @@
 -- What the rules look at of a method (the environment of JVMS 4.10.1.1).
 use Rattle.std.specs.Prelude.{ℕ, List, [], ◌∷◌, ◌++◌, map, Bool, Option, Some, None, flat_map, is_some, slice_get}
-use Rattle.jvm_model.specs.declared.program.Program.{Program}
-use Rattle.jvm_model.specs.declared.program.MethodRec.{MethodRec}
-use Rattle.jvm_model.specs.declared.program.Body.{Body}
-use Rattle.jvm_model.specs.declared.program.Placed.{Placed}
+use Rattle.jvm_model.specs.declared.program.{Program.Program, MethodRec.MethodRec, Body.Body, Placed.Placed}
 use Rattle.jvm_model.specs.declared.instr.Instr.{Instr}
 use Rattle.jvm_model.specs.declared.instr.Instr.TheVariants as form
-use Rattle.type_frames.specs.declared.vtype.VType.{VType}
-use Rattle.type_frames.specs.declared.vtype.Frame.{Frame}
-use Rattle.type_frames.specs.Frames.{spread, index_of}
-use Rattle.type_frames.specs.Descriptors.{types_of}
+use Rattle.type_frames.specs.declared.vtype.{VType.VType, Frame.Frame}
+use Rattle.type_frames.specs.{Frames.spread, Frames.index_of, Descriptors.types_of}
 use Rattle.jvm_model.specs.Descriptors.{return_type}
 use Rattle.type_frames.specs.Given.{is_constructor, entry_types, places}
 

@@ -1,10 +1,8 @@
 -- Frames as the rules see them (JVMS 4.10.1.4).
 use Rattle.std.specs.Prelude.{ℕ, List, [], ◌∷◌, ◌++◌, length, reverse, replicate, Bool, true, false, nat_eq, ◌-◌, Option, slice_index_or, flat_map}
-use Rattle.std.specs.List.{position_from, list_any}
-use Rattle.std.specs.Str.{bytes_eq}
-use Rattle.type_frames.specs.declared.vtype.VType.{VType}
+use Rattle.std.specs.{List.position_from, List.list_any, Str.bytes_eq}
+use Rattle.type_frames.specs.declared.vtype.{VType.VType, Frame.Frame}
 use Rattle.type_frames.specs.declared.vtype.VType.TheVariants.{Top, Int, Long, Null, Object, UninitThis, Uninit}
-use Rattle.type_frames.specs.declared.vtype.Frame.{Frame}
 
 -- the types of the locals and of the stack, top first; flag: flagThisUninit, this isn't initialised yet
 pub record Slots : Type 0 where

@@ -1,20 +1,13 @@
 -- The frames that a method's stack map gives (JVMS 4.7.4 and 4.10.1.5), or none where the map is malformed.
 use Rattle.std.specs.Prelude.{ℕ, List, [], ◌∷◌, ◌++◌, length, take, map, Bool, true, false, not, ◌&&◌, ◌||◌, nat_eq, nat_lt, nat_le, ◌+◌, ◌-◌, Option, Some, None, flat_map, is_some}
 use Rattle.std.specs.Str.{bytes_eq}
-use Rattle.jvm_model.specs.declared.program.Program.{Program}
-use Rattle.jvm_model.specs.declared.program.MethodRec.{MethodRec}
-use Rattle.jvm_model.specs.declared.program.Body.{Body}
-use Rattle.jvm_model.specs.declared.program.Placed.{Placed}
-use Rattle.jvm_model.specs.declared.program.FrameRec.{FrameRec}
-use Rattle.jvm_model.specs.declared.program.TypeRec.{TypeRec}
+use Rattle.jvm_model.specs.declared.program.{Program.Program, MethodRec.MethodRec, Body.Body, Placed.Placed, FrameRec.FrameRec, TypeRec.TypeRec}
 use Rattle.jvm_model.specs.declared.program.TypeRec.TheVariants as entry
-use Rattle.jvm_model.specs.Classes.{is_static, init_name}
-use Rattle.type_frames.specs.declared.vtype.VType.{VType}
+use Rattle.jvm_model.specs.{Classes.is_static, Classes.init_name, Descriptors.parameters}
+use Rattle.type_frames.specs.declared.vtype.{VType.VType, Frame.Frame}
 use Rattle.type_frames.specs.declared.vtype.VType.TheVariants.{Top, Int, Long, Null, Object, UninitThis, Uninit}
-use Rattle.type_frames.specs.declared.vtype.Frame.{Frame}
 use Rattle.type_frames.specs.Frames.{spread, padded, holds_this, index_of}
 use Rattle.type_frames.specs.Descriptors.{types_of, name_of}
-use Rattle.jvm_model.specs.Descriptors.{parameters}
 
 -- an instance method `<init>`; a static one is an ordinary method
 abbrev pub is_constructor : MethodRec → Bool

@@ -1,7 +1,6 @@
 -- What the parts of a reader of stack maps answer.
 use Rattle.std.specs.Prelude.{ℕ, List, ◌∷◌, ◌++◌, Option, Some, None, ◌≡◌, ◌+◌}
-use Rattle.jvm_model.specs.declared.program.Body.{Body}
-use Rattle.jvm_model.specs.declared.program.FrameRec.{FrameRec}
+use Rattle.jvm_model.specs.declared.program.{Body.Body, FrameRec.FrameRec}
 use Rattle.type_frames.specs.declared.vtype.VType.{VType}
 use Rattle.type_frames.specs.declared.given.NextFrame.{NextFrame}
 use Rattle.type_frames.specs.Given.{frames_from, joined}

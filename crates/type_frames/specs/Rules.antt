@@ -1,24 +1,16 @@
 -- The rules of the check, each by itself, and the lowest one that is broken (JVMS 4.10.1).
 use Rattle.std.specs.Prelude.{ℕ, zero, suc, List, [], ◌∷◌, ◌++◌, length, map, drop, Bool, true, false, not, ◌&&◌, ◌||◌, cond, nat_eq, nat_lt, nat_le, ◌+◌, ◌-◌, Option, Some, None, slice_get, slice_set, slice_index_or, is_some}
 use Rattle.std.specs.List.{list_all}
-use Rattle.jvm_model.specs.declared.program.Program.{Program}
-use Rattle.jvm_model.specs.declared.program.Placed.{Placed}
-use Rattle.jvm_model.specs.declared.program.Handler.{Handler}
+use Rattle.jvm_model.specs.declared.program.{Program.Program, Placed.Placed, Handler.Handler}
 use Rattle.jvm_model.specs.Builtin.{throwable_class}
-use Rattle.type_frames.specs.declared.vtype.VType.{VType}
+use Rattle.type_frames.specs.declared.vtype.{VType.VType, Frame.Frame}
 use Rattle.type_frames.specs.declared.vtype.VType.TheVariants.{Top, Int, Long, Null, Object, UninitThis, Uninit}
-use Rattle.type_frames.specs.declared.vtype.Frame.{Frame}
-use Rattle.type_frames.specs.declared.stack_effect.OperandConstraint.{OperandConstraint}
+use Rattle.type_frames.specs.declared.stack_effect.{OperandConstraint.OperandConstraint, Reading.Reading, LocalUpdate.LocalUpdate, Substitution.Substitution}
 use Rattle.type_frames.specs.declared.stack_effect.OperandConstraint.TheVariants.{Fits, One, Half, Ref, Raw, Small, Array, Never}
-use Rattle.type_frames.specs.declared.stack_effect.Reading.{Reading}
-use Rattle.type_frames.specs.declared.stack_effect.LocalUpdate.{LocalUpdate}
-use Rattle.type_frames.specs.declared.stack_effect.Substitution.{Substitution}
-use Rattle.type_frames.specs.declared.stack_effect.Substitution.TheVariants.{Keep, All}
-use Rattle.type_frames.specs.declared.stack_effect.StackEffect.{StackEffect}
+use Rattle.type_frames.specs.declared.stack_effect.{Substitution.TheVariants.Keep, Substitution.TheVariants.All, StackEffect.StackEffect}
 use Rattle.type_frames.specs.Frames.{Slots, same, slots_of, padded}
-use Rattle.type_frames.specs.Assign.{assignable, is_array}
+use Rattle.type_frames.specs.{Assign.assignable, Assign.is_array, StackEffect.is_raw, StackEffect.object_of}
 use Rattle.type_frames.specs.Environment.{Environment, given_at, made_at, leads}
-use Rattle.type_frames.specs.StackEffect.{is_raw, object_of}
 
 -- a reference, also one to an uninitialised object
 abbrev pub is_ref : VType → Bool

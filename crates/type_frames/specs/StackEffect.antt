@@ -1,38 +1,26 @@
 -- What each instruction needs and leaves (JVMS 4.10.1.9): the table of the check.
 use Rattle.std.specs.Prelude.{ℕ, List, [], ◌∷◌, ◌++◌, length, reverse, replicate, Bool, true, false, not, ◌&&◌, ◌||◌, cond, nat_eq, ◌+◌, Option, Some, None, slice_index_or, flat_map}
-use Rattle.std.specs.List.{list_any}
-use Rattle.std.specs.Str.{bytes_eq}
-use Rattle.jvm_model.specs.declared.values.Value.{Value}
+use Rattle.std.specs.{List.list_any, Str.bytes_eq}
+use Rattle.jvm_model.specs.declared.values.{Value.Value, Kind.Kind}
 use Rattle.jvm_model.specs.declared.values.Value.TheVariants as value
-use Rattle.jvm_model.specs.declared.values.Kind.{Kind}
-use Rattle.jvm_model.specs.declared.program.Program.{Program}
-use Rattle.jvm_model.specs.declared.program.MethodRec.{MethodRec}
-use Rattle.jvm_model.specs.declared.program.FieldRec.{FieldRec}
-use Rattle.jvm_model.specs.declared.instr.Instr.{Instr}
+use Rattle.jvm_model.specs.declared.program.{Program.Program, MethodRec.MethodRec, FieldRec.FieldRec}
+use Rattle.jvm_model.specs.declared.instr.{Instr.Instr, Sort.Sort, Cell.Cell, Op.Op, Conv.Conv}
 use Rattle.jvm_model.specs.declared.instr.Instr.TheVariants as form
-use Rattle.jvm_model.specs.declared.instr.Sort.{Sort}
 use Rattle.jvm_model.specs.declared.instr.Sort.TheVariants as sort
-use Rattle.jvm_model.specs.declared.instr.Cell.{Cell}
 use Rattle.jvm_model.specs.declared.instr.Cell.TheVariants as cell
-use Rattle.jvm_model.specs.declared.instr.Op.{Op}
 use Rattle.jvm_model.specs.declared.instr.Op.TheVariants as op
-use Rattle.jvm_model.specs.declared.instr.Conv.{Conv}
 use Rattle.jvm_model.specs.declared.instr.Conv.TheVariants as conv
 use Rattle.jvm_model.specs.Classes.{class_at, field_at, method_at, init_name, clinit_name}
 use Rattle.jvm_model.specs.Descriptors.{parameters, return_type}
 use Rattle.jvm_model.specs.Builtin.{object_class, string_class, throwable_class}
 use Rattle.type_frames.specs.declared.vtype.VType.{VType}
 use Rattle.type_frames.specs.declared.vtype.VType.TheVariants.{Top, Int, Long, Null, Object, UninitThis, Uninit}
-use Rattle.type_frames.specs.declared.stack_effect.OperandConstraint.{OperandConstraint}
+use Rattle.type_frames.specs.declared.stack_effect.{OperandConstraint.OperandConstraint, Reading.Reading, LocalUpdate.LocalUpdate}
 use Rattle.type_frames.specs.declared.stack_effect.OperandConstraint.TheVariants.{Fits, One, Half, Ref, Raw, Small, Array, Never}
-use Rattle.type_frames.specs.declared.stack_effect.Reading.{Reading}
-use Rattle.type_frames.specs.declared.stack_effect.LocalUpdate.{LocalUpdate}
-use Rattle.type_frames.specs.declared.stack_effect.Substitution.TheVariants.{Keep, All}
-use Rattle.type_frames.specs.declared.stack_effect.StackEffect.{StackEffect}
+use Rattle.type_frames.specs.declared.stack_effect.{Substitution.TheVariants.Keep, Substitution.TheVariants.All, StackEffect.StackEffect}
 use Rattle.type_frames.specs.Frames.{Slots, same, spread}
 use Rattle.type_frames.specs.Descriptors.{types_of, class_name, name_of, kind_name}
-use Rattle.type_frames.specs.Assign.{assignable}
-use Rattle.type_frames.specs.Environment.{Environment, made_at}
+use Rattle.type_frames.specs.{Assign.assignable, Environment.Environment, Environment.made_at}
 
 abbrev pub plain : List OperandConstraint → List VType → StackEffect
 plain ts gs = record { takes = ts; gives = gs; reads = []; sets = []; turn = Keep; falls = true; returns_well = true; starts_well = true; calls_well = true }

@@ -2,43 +2,27 @@
 -- (JVMS 4.10.1 and 2.6; initialisation entries and the driver's stage are this project's). All is said of a typed program.
 use Rattle.std.specs.Prelude.{◌≡◌, ℕ, List, [], ◌∷◌, ◌++◌, length, map, drop, ◌<◌, ◌≤◌, All, Bool, true, false, nat_eq, Option, Some, None, IfSome, slice_get, flat_map}
 use Rattle.std.specs.List.{IsDistinct}
-use Rattle.jvm_model.specs.declared.values.Value.{Value}
+use Rattle.jvm_model.specs.declared.values.{Value.Value, Base.Base, Kind.Kind, InitState.TheVariants.Running}
 use Rattle.jvm_model.specs.declared.values.Value.TheVariants as value
-use Rattle.jvm_model.specs.declared.values.Base.{Base}
-use Rattle.jvm_model.specs.declared.values.Kind.{Kind}
 use Rattle.jvm_model.specs.declared.values.Kind.TheVariants as kind
-use Rattle.jvm_model.specs.declared.values.InitState.TheVariants.{Running}
 use Rattle.jvm_model.specs.declared.values.Location.TheVariants as place
-use Rattle.jvm_model.specs.declared.state.EntryKind.{EntryKind}
-use Rattle.jvm_model.specs.declared.state.EntryKind.TheVariants.{Absent, InMethod, InClass}
+use Rattle.jvm_model.specs.declared.state.{EntryKind.EntryKind, EntryKind.TheVariants.Absent, EntryKind.TheVariants.InMethod, EntryKind.TheVariants.InClass}
 use Rattle.jvm_model.specs.declared.state.Stage.{Stage}
 use Rattle.jvm_model.specs.declared.state.Stage.TheVariants.{First, Made, Built, SetUp, Called, Last}
 use Rattle.jvm_model.specs.declared.instr.Instr.{Instr}
 use Rattle.jvm_model.specs.declared.instr.Instr.TheVariants as form
-use Rattle.jvm_model.specs.declared.program.Program.{Program}
-use Rattle.jvm_model.specs.declared.program.Body.{Body}
-use Rattle.jvm_model.specs.declared.program.Placed.{Placed}
-use Rattle.jvm_model.specs.declared.program.TestEntry.{TestEntry}
+use Rattle.jvm_model.specs.declared.program.{Program.Program, Body.Body, Placed.Placed, TestEntry.TestEntry}
 use Rattle.jvm_model.specs.World.{World, size, at, object_at}
-use Rattle.jvm_model.specs.View.{Exists}
-use Rattle.jvm_model.specs.Builtin.{throwable_class}
+use Rattle.jvm_model.specs.{View.Exists, Builtin.throwable_class, Initialise.parts_of, Kinds.class_of, Rows.constant_kind}
 use Rattle.jvm_model.specs.Classes.{class_at, field_at, method_at, is_below, is_static, is_trivial, layout, member}
 use Rattle.jvm_model.specs.Entries.{Entry, all_entries, entry_limit, no_entries}
-use Rattle.jvm_model.specs.Initialise.{parts_of}
-use Rattle.jvm_model.specs.Kinds.{class_of}
 use Rattle.jvm_model.specs.Linked.{IsField, IsKind, first_or, fits_int}
-use Rattle.jvm_model.specs.Rows.{constant_kind}
 use Rattle.jvm_model.specs.State.{State, started, test_at}
-use Rattle.type_frames.specs.declared.vtype.VType.{VType}
+use Rattle.type_frames.specs.declared.vtype.{VType.VType, Frame.Frame}
 use Rattle.type_frames.specs.declared.vtype.VType.TheVariants.{Top, Int, Long, Null, Object, UninitThis, Uninit}
-use Rattle.type_frames.specs.declared.vtype.Frame.{Frame}
-use Rattle.type_frames.specs.Frames.{Slots}
-use Rattle.type_frames.specs.Descriptors.{types_of, kind_name}
-use Rattle.type_frames.specs.Assign.{assignable}
-use Rattle.type_frames.specs.Given.{given_frames}
+use Rattle.type_frames.specs.{Frames.Slots, Descriptors.types_of, Descriptors.kind_name, Assign.assignable, Given.given_frames}
 use Rattle.type_frames.specs.Environment.{Environment, environment_of, made_at}
-use Rattle.type_frames.specs.StackEffect.{sides, is_that}
-use Rattle.type_frames.specs.Typing.{before}
+use Rattle.type_frames.specs.{StackEffect.sides, StackEffect.is_that, Typing.before}
 
 -- Values.
 

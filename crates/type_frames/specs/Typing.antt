@@ -1,24 +1,15 @@
 -- The frame before an instruction, what it is for a program to be typed, and its first fault.
 use Rattle.std.specs.Prelude.{ℕ, zero, suc, List, [], ◌∷◌, drop, map, Bool, true, not, ◌&&◌, ◌||◌, cond, nat_lt, Option, Some, None, slice_get, is_some, ◌≡◌, unwrap_or}
 use Rattle.std.specs.Str.{bytes_eq}
-use Rattle.jvm_model.specs.declared.program.Program.{Program}
-use Rattle.jvm_model.specs.declared.program.ClassRec.{ClassRec}
-use Rattle.jvm_model.specs.declared.program.FieldRec.{FieldRec}
-use Rattle.jvm_model.specs.declared.program.MethodRec.{MethodRec}
-use Rattle.jvm_model.specs.declared.program.Body.{Body}
-use Rattle.jvm_model.specs.declared.program.Placed.{Placed}
+use Rattle.jvm_model.specs.declared.program.{Program.Program, ClassRec.ClassRec, FieldRec.FieldRec, MethodRec.MethodRec, Body.Body, Placed.Placed}
 use Rattle.jvm_model.specs.Classes.{field_at, method_at, is_private, is_interface, has_flag, clinit_name}
-use Rattle.jvm_model.specs.Builtin.{builtin_count}
-use Rattle.jvm_model.specs.Linked.{Linked}
+use Rattle.jvm_model.specs.{Builtin.builtin_count, Linked.Linked}
 use Rattle.type_frames.specs.declared.vtype.Frame.{Frame}
 use Rattle.type_frames.specs.declared.stack_effect.StackEffect.{StackEffect}
 use Rattle.type_frames.specs.declared.fault.CheckFault.{CheckFault}
 use Rattle.type_frames.specs.declared.fault.CheckFault.TheVariants.{Rule, NoFrame, Unsupported}
-use Rattle.type_frames.specs.Frames.{Slots, slots_of}
-use Rattle.type_frames.specs.Descriptors.{has_float, is_float}
-use Rattle.type_frames.specs.Given.{given_frames}
+use Rattle.type_frames.specs.{Frames.Slots, Frames.slots_of, Descriptors.has_float, Descriptors.is_float, Given.given_frames, StackEffect.sides}
 use Rattle.type_frames.specs.Environment.{Environment, environment_of, given_at, is_target}
-use Rattle.type_frames.specs.StackEffect.{sides}
 use Rattle.type_frames.specs.Rules.{after, opening, broken}
 
 -- what goes on to the next instruction: the frame after, unless control never does

@@ -1,8 +1,7 @@
 //! Where numbers stand in a list, found at once.
 
 ghost use Rattle.std.specs.Prelude.{◌≡◌, IfOk, length, ◌<◌, replicate, None, IsNone, IfSome, is_some, true};
-ghost use Rattle.type_frames.specs.Frames.{index_of};
-ghost use Rattle.type_frames.specs.Places.{IsIndex, noted};
+ghost use Rattle.type_frames.specs.{Frames.index_of, Places.IsIndex, Places.noted};
 
 use et_base::NoMemory;
 use std::alloc::Global;

@@ -15,8 +15,7 @@
 
 ghost use Rattle.std.specs.Prelude.{◌≡◌, ◌↔◌, ◌<◌, ◌≤◌, length, IsTrue, IfErr};
 ghost use Rattle.run_core.specs.declared.events.Event.TheVariants.{Claim, Post};
-ghost use Rattle.run_core.specs.Refusal.{IsStep, Names};
-ghost use Rattle.run_core.specs.Run.{IsComplete};
+ghost use Rattle.run_core.specs.{Refusal.IsStep, Refusal.Names, Run.IsComplete};
 
 use run_core::{Core, Event, Refused, Rejected, RunName};
 use std::marker::PhantomData;

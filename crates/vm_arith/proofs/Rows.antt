@@ -2,22 +2,15 @@
 use Rattle.std.proofs.Common.{ℕ, ℤ, List, [], ◌∷◌, length, slice_get, Bool, true, false, cond, nat_lt, int_eq, pos, Option, Some, None}
 use Rattle.jvm_model.specs.declared.values.Value.{Value}
 use Rattle.jvm_model.specs.declared.values.Value.TheVariants.{Int, Long, Null, Lit, Obj}
-use Rattle.jvm_model.specs.declared.instr.Op.{Op}
-use Rattle.jvm_model.specs.declared.instr.Conv.{Conv}
+use Rattle.jvm_model.specs.declared.instr.{Op.Op, Conv.Conv, Instr.Instr}
 use Rattle.jvm_model.specs.declared.instr.Conv.TheVariants as conv
-use Rattle.jvm_model.specs.declared.instr.Instr.{Instr}
 use Rattle.jvm_model.specs.declared.instr.Instr.TheVariants as form
 use Rattle.jvm_model.specs.declared.program.Program.{Program}
-use Rattle.jvm_model.specs.World.{World}
-use Rattle.jvm_model.specs.Access.{Access}
-use Rattle.jvm_model.specs.Entries.{Entries, with_stack}
+use Rattle.jvm_model.specs.{World.World, Access.Access, Entries.Entries, Entries.with_stack, RowsBranches.goes_if, RowsBranches.row_branches, Step.row}
 use Rattle.jvm_model.specs.Rows.{Answer, popping, on_int, on_long, on_reference}
 use Rattle.jvm_model.specs.RowsMoves.{is_long, loaded, stored, two_under_long, two_under_two, row_moves}
 use Rattle.jvm_model.specs.RowsArith.{divides, shifts, unless_zero, two_ints, two_longs, long_by_int, converted, increased, row_arith}
-use Rattle.jvm_model.specs.RowsBranches.{goes_if, row_branches}
-use Rattle.jvm_model.specs.Step.{row}
-use Rattle.jvm_model.specs.View.{IsSafe, IsRow}
-use Rattle.jvm_model.specs.Classes.{no_program}
+use Rattle.jvm_model.specs.{View.IsSafe, View.IsRow, Classes.no_program}
 use Rattle.vm_arith.specs.Pure.{no_world, HasRow, TouchesNothing}
 
 -- where one program has its end in a row, the other has

@@ -4,10 +4,7 @@ use Rattle.jvm_model.specs.declared.instr.Instr.{Instr}
 use Rattle.jvm_model.specs.declared.instr.Instr.TheVariants as form
 use Rattle.jvm_model.specs.declared.outcome.Next.{Next}
 use Rattle.jvm_model.specs.declared.outcome.Next.TheVariants.{Go, Fault, Raise, Enter, Leave, Over}
-use Rattle.jvm_model.specs.Entries.{Entries, with_place}
-use Rattle.jvm_model.specs.Step.{row}
-use Rattle.jvm_model.specs.View.{counted, ended}
-use Rattle.jvm_model.specs.Rows.{answer}
+use Rattle.jvm_model.specs.{Entries.Entries, Entries.with_place, Step.row, View.counted, View.ended, Rows.answer}
 use Rattle.vm_arith.specs.Pure.{GoesOn, GoesTo, GoesFrom, Ends, IsStep}
 
 pub same_form : (i j : Instr) (s u : Entries) → i ≡ j → GoesOn j s u → GoesOn i s u

@@ -7,10 +7,7 @@ use Rattle.jvm_model.specs.declared.instr.Instr.TheVariants as form
 use Rattle.jvm_model.specs.declared.outcome.Next.{Next}
 use Rattle.jvm_model.specs.declared.outcome.Next.TheVariants.{Go, Fault, Raise, Enter, Leave, Over}
 use Rattle.jvm_model.specs.declared.program.Program.{Program}
-use Rattle.jvm_model.specs.World.{World}
-use Rattle.jvm_model.specs.Access.{Access, done}
-use Rattle.jvm_model.specs.Classes.{next_place, no_program}
-use Rattle.jvm_model.specs.Entries.{Entries, with_place}
+use Rattle.jvm_model.specs.{World.World, Access.Access, Access.done, Classes.next_place, Classes.no_program, Entries.Entries, Entries.with_place}
 use Rattle.jvm_model.specs.Rows.{Answer, answer}
 use Rattle.jvm_model.specs.Step.{Group, moves, arith, branches, statics, fields, create, arrays, casts, calls, returns, throw, group_of, row}
 use Rattle.jvm_model.specs.View.{IsSafe, IsRow, counted, paid, counts_one, outcome}

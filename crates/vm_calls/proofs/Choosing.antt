@@ -1,9 +1,7 @@
 -- Methods that classes declare, class by class, and those that are kept.
 use Rattle.std.proofs.Common.{◌≡◌, ℕ, zero, suc, ◌-◌, ◌<◌, List, [], ◌∷◌, ◌++◌, append-nil, filter, find, flat_map, Bool, true, false, not, ◌&&◌, cond, nat_eq, refl, sym, ◌∙◌, ap, arith, sub-one, Option, Some, None}
-use Rattle.std.specs.List.{list_any}
-use Rattle.std.specs.Option.{option_or}
-use Rattle.std.proofs.lemmas.List.Elements.{filter_agree}
-use Rattle.std.proofs.lemmas.List.Folds.{find-append}
+use Rattle.std.specs.{List.list_any, Option.option_or}
+use Rattle.std.proofs.{lemmas.List.Elements.filter_agree, lemmas.List.Folds.find-append}
 use Rattle.indexmap.specs.IndexSet.{insert_all}
 use Rattle.jvm_model.specs.declared.program.Program.{Program}
 use Rattle.jvm_model.specs.Builtin.{object_class}

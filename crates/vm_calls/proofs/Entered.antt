@@ -1,25 +1,16 @@
 -- Calls touch nothing, and where there is a call there are its arguments.
 use Rattle.std.proofs.Common.{◌≡◌, ℕ, zero, suc, List, [], ◌∷◌, ◌<◌, ◌≤◌, length, Bool, true, false, cond, nat_le, slice_get, Option, Some, None, Result, IfOk, refl, sym, subst, arith}
-use Rattle.std.proofs.lemmas.Result.{IfOk-weaker}
-use Rattle.std.proofs.lemmas.Bool.{leb-true}
-use Rattle.jvm_model.specs.declared.values.Value.{Value}
-use Rattle.jvm_model.specs.declared.values.Touch.{Touch}
+use Rattle.std.proofs.lemmas.{Result.IfOk-weaker, Bool.leb-true}
+use Rattle.jvm_model.specs.declared.values.{Value.Value, Touch.Touch, Kind.Kind}
 use Rattle.jvm_model.specs.declared.library.Native.{Native}
-use Rattle.jvm_model.specs.declared.program.Body.{Body}
-use Rattle.jvm_model.specs.declared.program.Program.{Program}
+use Rattle.jvm_model.specs.declared.program.{Body.Body, Program.Program}
 use Rattle.jvm_model.specs.declared.outcome.Next.{Next}
-use Rattle.jvm_model.specs.World.{World}
-use Rattle.jvm_model.specs.Access.{Access}
-use Rattle.jvm_model.specs.Classes.{method_at}
-use Rattle.jvm_model.specs.Entries.{Entries, is_full}
-use Rattle.jvm_model.specs.Rows.{Answer}
+use Rattle.jvm_model.specs.{World.World, Access.Access, Classes.method_at, Entries.Entries, Entries.is_full, Rows.Answer}
 use Rattle.jvm_model.specs.RowsCalls.{on_receiver, receiver, argument_count, call_special, calls, calls_selected, enters_body, enters_native}
 use Rattle.jvm_model.specs.Selection.{Selected, chosen, failing}
 use Rattle.jvm_model.specs.View.{touched, IsSafe, IsRow}
-use Rattle.jvm_model.specs.declared.values.Kind.{Kind}
 use Rattle.class_init.proofs.Starts.{either_untouched}
-use Rattle.vm_mem.specs.Refines.{Refines, Makes}
-use Rattle.vm_mem.specs.Trace.{Trace}
+use Rattle.vm_mem.specs.{Refines.Refines, Refines.Makes, Trace.Trace}
 use Rattle.vm_calls.specs.Calls.{method_row, object_row}
 
 body_touches : (b : Option Body) (m n : ℕ) (s : Entries) (w : World) (ts : List Touch) → touched (enters_body b m n s) w ts ≡ ts

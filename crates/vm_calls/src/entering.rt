@@ -1,12 +1,10 @@
 //! Methods are entered.
 
 ghost use Rattle.std.specs.Prelude.{◌≡◌, ◌≤◌, ◌<◌, ℕ, IfOk, None, Some, length};
-ghost use Rattle.jvm_model.specs.Entries.{Entries};
-ghost use Rattle.jvm_model.specs.World.{World};
+ghost use Rattle.jvm_model.specs.{Entries.Entries, World.World};
 ghost use Rattle.vm_mem.specs.Refines.{Refines};
 ghost use Rattle.vm_tables.specs.Methods.{call_descriptor_of};
-ghost use Rattle.vm_calls.specs.Calls.{method_row, selected_row};
-ghost use Rattle.vm_calls.specs.Choices.{selected_of};
+ghost use Rattle.vm_calls.specs.{Calls.method_row, Calls.selected_row, Choices.selected_of};
 
 use crate::choice::Choice;
 use et_base::NoMemory;

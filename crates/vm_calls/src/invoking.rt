@@ -2,10 +2,8 @@
 #![tactic(auto, unfolding(jvm_model::specs::RowsCalls::row_calls))]
 
 ghost use Rattle.std.specs.Prelude.{◌≡◌, ◌≢◌, ◌<◌, IfOk, length};
-ghost use Rattle.jvm_model.specs.Classes.{method_at};
-ghost use Rattle.jvm_model.specs.World.{World};
+ghost use Rattle.jvm_model.specs.{Classes.method_at, World.World, RowsCalls.argument_count};
 ghost use Rattle.class_init.specs.Uses.{IsUsable, MakesUse};
-ghost use Rattle.jvm_model.specs.RowsCalls.{argument_count};
 ghost use Rattle.jvm_model.specs.declared.instr.Instr.TheVariants as form;
 ghost use Rattle.vm_mem.specs.Refines.{IsReady, Makes, Refines};
 ghost use Rattle.vm_calls.specs.Calls.{call_row, kind_row, object_row};

@@ -2,10 +2,8 @@
 use Rattle.std.proofs.Common.{◌≡◌, ℕ, zero, suc, ◌<◌, ◌≤◌, ◌-◌, ◌+◌, ◌^◌, List, [], ◌∷◌, ◌++◌, length, get_or, set, take, drop, map, reverse, refl, sym, ap, ◌∙◌, arith, length-append, false, subst}
 use Rattle.std.proofs.lemmas.List.{reverse-append, take-take, take_at, drop_at, drop_more, take_more, drop-append-le, append-nil, length-take-le, nil_from_length, length-map, length-reverse, drop-take, drop_all}
 use Rattle.std.proofs.lemmas.Bool.Decides.{nat_tests}
-use Rattle.jvm_model.specs.declared.values.Value.{Value}
-use Rattle.jvm_model.specs.declared.values.Value.TheVariants.{Null}
-use Rattle.jvm_model.specs.declared.state.EntryKind.{EntryKind}
-use Rattle.jvm_model.specs.declared.state.EntryKind.TheVariants.{Absent, InMethod, InClass}
+use Rattle.jvm_model.specs.declared.values.{Value.Value, Value.TheVariants.Null}
+use Rattle.jvm_model.specs.declared.state.{EntryKind.EntryKind, EntryKind.TheVariants.Absent, EntryKind.TheVariants.InMethod, EntryKind.TheVariants.InClass}
 use Rattle.jvm_model.specs.Entries.{Entry, Entries, entries_of, with_stack, with_entry, popped_entry, all_entries, is_full, filled, slots_of}
 use Rattle.vm_frames.specs.declared.extent.Extent.{Extent}
 use Rattle.vm_frames.specs.Stack.{HasRoom, frame_with, called_with}

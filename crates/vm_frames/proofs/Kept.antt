@@ -3,8 +3,7 @@ use Rattle.std.proofs.Common.{◌≡◌, ℕ, zero, suc, ◌<◌, ◌≤◌, ◌
 use Rattle.std.proofs.lemmas.List.{length-append, length-replicate, get_or_default}
 use Rattle.jvm_model.specs.RowsMoves.{is_long}
 use Rattle.std.specs.Int.{w32, w64, cast_signed}
-use Rattle.jvm_model.specs.declared.values.Value.{Value}
-use Rattle.jvm_model.specs.declared.values.Value.TheVariants.{Int, Long, Null}
+use Rattle.jvm_model.specs.declared.values.{Value.Value, Value.TheVariants.Int, Value.TheVariants.Long, Value.TheVariants.Null}
 use Rattle.vm_frames.specs.declared.slots.Tag.{Tag}
 use Rattle.vm_frames.specs.declared.slots.Tag.TheVariants.{OfInt, OfLong, OfNull, OfLit, OfObj}
 use Rattle.vm_frames.specs.Slots.{value_of, values, Fit, AreFit, IsInt, IsLong}

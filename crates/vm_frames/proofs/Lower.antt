@@ -1,8 +1,7 @@
 -- What stands below a place depends on the slots below it alone.
 use Rattle.std.proofs.Common.{◌≡◌, ℕ, zero, suc, ◌<◌, ◌≤◌, ◌-◌, ◌+◌, List, [], ◌∷◌, take, map, refl, sym, ap, ◌∙◌, arith, get_or-take}
 use Rattle.std.proofs.lemmas.List.{take-take}
-use Rattle.jvm_model.specs.declared.values.Value.{Value}
-use Rattle.jvm_model.specs.declared.values.Value.TheVariants.{Null}
+use Rattle.jvm_model.specs.declared.values.{Value.Value, Value.TheVariants.Null}
 use Rattle.vm_frames.specs.declared.extent.Extent.{Extent}
 use Rattle.vm_frames.specs.Extents.{downwards, upwards, entry_of, IsWithin, AreStacked}
 

@@ -1,12 +1,9 @@
 -- What the calls on the top entry leave.
 use Rattle.std.proofs.Common.{◌≡◌, ◌≢◌, ℕ, zero, suc, ◌<◌, ◌≤◌, ◌-◌, ◌+◌, List, [], ◌∷◌, length, get_or, set, take, map, reverse, slice_get, Some, refl, sym, ap, ◌∙◌, arith, subst, get_or-set_other, get_or-set_same, length-set}
 use Rattle.std.proofs.lemmas.List.{take-set-le}
-use Rattle.jvm_model.specs.declared.values.Value.{Value}
-use Rattle.jvm_model.specs.declared.values.Value.TheVariants.{Null}
-use Rattle.jvm_model.specs.declared.state.EntryKind.{EntryKind}
-use Rattle.jvm_model.specs.declared.state.EntryKind.TheVariants.{Absent, InMethod, InClass}
-use Rattle.jvm_model.specs.Entries.{Entries, with_stack}
-use Rattle.jvm_model.specs.RowsMoves.{with_local}
+use Rattle.jvm_model.specs.declared.values.{Value.Value, Value.TheVariants.Null}
+use Rattle.jvm_model.specs.declared.state.{EntryKind.EntryKind, EntryKind.TheVariants.Absent, EntryKind.TheVariants.InMethod, EntryKind.TheVariants.InClass}
+use Rattle.jvm_model.specs.{Entries.Entries, Entries.with_stack, RowsMoves.with_local}
 use Rattle.vm_frames.specs.declared.extent.Extent.{Extent}
 use Rattle.vm_frames.specs.Extents.{downwards, upwards, entry_of, entries_at, IsStanding}
 use Rattle.vm_frames.specs.Stack.{operand_limit, HasRoom}

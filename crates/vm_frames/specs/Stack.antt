@@ -1,9 +1,7 @@
 -- What contracts say of a stack of entries beside the definitions of the machine.
 use Rattle.std.specs.Prelude.{ℕ, List, [], ◌∷◌, ◌+◌, ◌≤◌, length, take, drop, reverse, get_or}
-use Rattle.jvm_model.specs.declared.values.Value.{Value}
-use Rattle.jvm_model.specs.declared.values.Value.TheVariants.{Null}
-use Rattle.jvm_model.specs.declared.state.EntryKind.{EntryKind}
-use Rattle.jvm_model.specs.declared.state.EntryKind.TheVariants.{Absent, InMethod, InClass}
+use Rattle.jvm_model.specs.declared.values.{Value.Value, Value.TheVariants.Null}
+use Rattle.jvm_model.specs.declared.state.{EntryKind.EntryKind, EntryKind.TheVariants.Absent, EntryKind.TheVariants.InMethod, EntryKind.TheVariants.InClass}
 use Rattle.jvm_model.specs.RowsMoves.{with_local}
 use Rattle.vm_frames.specs.Slots.{IsInt, IsLong}
 use Rattle.jvm_model.specs.Entries.{Entry, Entries, with_entry, with_stack, filled, slots_of}

@@ -4,8 +4,7 @@ ghost use Rattle.std.specs.Prelude.{◌≡◌, ◌≤◌, ◌<◌, ◌+◌, ◌�
 ghost use Rattle.std.specs.Option.{option_to_list};
 ghost use Rattle.jvm_model.specs.declared.values.Value.TheVariants.{Int, Long, Null};
 ghost use Rattle.jvm_model.specs.Entries.{no_entries, with_stack, with_place, with_entry, class_entry, popped_entry, all_entries, is_full};
-ghost use Rattle.jvm_model.specs.Initialise.{with_entered};
-ghost use Rattle.jvm_model.specs.RowsMoves.{with_local, is_long};
+ghost use Rattle.jvm_model.specs.{Initialise.with_entered, RowsMoves.with_local, RowsMoves.is_long};
 ghost use Rattle.vm_frames.specs.Stack.{HasRoom, HasIntOnTop, HasLongOnTop, frame_with, called_with, stored_local};
 
 use crate::extent::{Extent, save, take_saved};

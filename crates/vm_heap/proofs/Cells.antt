@@ -1,22 +1,16 @@
 -- Fields and elements of an object by the cells of all.
 use Rattle.std.proofs.Common.{◌≡◌, ℕ, suc, ◌+◌, ◌^◌, ◌-◌, ◌<◌, ◌≤◌, List, [], ◌∷◌, ◌++◌, length, get_or, set, drop, map, nat_eq, true, Option, Some, None, refl, sym, subst, ap, ◌∙◌, arith, inl, inr, length-append, Vec, Global}
-use Rattle.std.specs.Vec.{vec_len}
-use Rattle.std.specs.List.{zip}
+use Rattle.std.specs.{Vec.vec_len, List.zip}
 use Rattle.std.proofs.lemmas.Bool.{cases_Bool}
 use Rattle.std.proofs.lemmas.List.{get_or_default, get_or-take, get_or-drop, drop-set-lt, length-drop, length-take-le, nil_from_length}
 use Rattle.jvm_model.specs.declared.program.Program.{Program}
-use Rattle.jvm_model.specs.declared.values.Value.{Value}
-use Rattle.jvm_model.specs.declared.values.Value.TheVariants.{Null}
-use Rattle.jvm_model.specs.declared.values.Kind.{Kind}
-use Rattle.jvm_model.specs.declared.values.Kind.TheVariants.{Class, Array}
-use Rattle.jvm_model.specs.declared.values.Head.{Head}
+use Rattle.jvm_model.specs.declared.values.{Value.Value, Value.TheVariants.Null, Kind.Kind, Kind.TheVariants.Class, Kind.TheVariants.Array, Head.Head}
 use Rattle.jvm_model.specs.World.{Object, look, keep, put_at, no_object}
 use Rattle.jvm_model.specs.Classes.{member, layout, field_at, default_of, fields_of, elems_of, blank}
 use Rattle.jvm_model.specs.View.{keys}
-use Rattle.vm_heap.specs.Entries.{Entry, no_entry}
+use Rattle.vm_heap.specs.{Entries.Entry, Entries.no_entry, Held.Held}
 use Rattle.vm_heap.specs.Objects.{field_numbers, new_cells, cell_count, object_of, objects_of, IsWhole, IsHeap}
 use Rattle.vm_tables.specs.FieldPlaces.{place, IsHeld}
-use Rattle.vm_heap.specs.Held.{Held}
 use Rattle.jvm_model.proofs.Ranges.{put_at_is_set}
 use Rattle.vm_heap.proofs.Objects.{before, own_cells, object_there, cell_set, start_at, cells_within, length-objects_of, with_text, text_set, made_last, whole_last}
 

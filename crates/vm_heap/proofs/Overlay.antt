@@ -4,10 +4,8 @@ use Rattle.std.specs.Str.{bytes_eq}
 use Rattle.std.proofs.lemmas.Bool.{cases_Bool, false_from_ne_true}
 use Rattle.et_base.proofs.Texts.{units_true, units_refl}
 use Rattle.jvm_model.specs.World.{look, keep}
-use Rattle.sim_store.specs.Stored.{Stored, Named}
-use Rattle.sim_store.specs.Parts.{in_part, with_part}
-use Rattle.sim_store.specs.declared.store.Part.{Part}
-use Rattle.sim_store.specs.declared.store.Part.TheVariants.{File, Prop}
+use Rattle.sim_store.specs.{Stored.Stored, Stored.Named, Parts.in_part, Parts.with_part}
+use Rattle.sim_store.specs.declared.store.{Part.Part, Part.TheVariants.File, Part.TheVariants.Prop}
 use Rattle.vm_heap.specs.Changes.{changed_by, is_named, AreApart, Changing}
 
 other_name : (m n k : List ℕ) → bytes_eq m k ≡ true → bytes_eq n m ≡ false → bytes_eq n k ≡ false

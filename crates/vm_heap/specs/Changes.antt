@@ -1,7 +1,6 @@
 -- Texts by names, and what was changed of them.
 use Rattle.std.specs.Prelude.{◌≡◌, ℕ, List, [], ◌∷◌, Bool, false}
-use Rattle.std.specs.List.{list_any}
-use Rattle.std.specs.Str.{bytes_eq}
+use Rattle.std.specs.{List.list_any, Str.bytes_eq}
 use Rattle.jvm_model.specs.World.{keep}
 use Rattle.sim_store.specs.Stored.{Stored, Named}
 

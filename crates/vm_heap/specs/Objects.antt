@@ -2,11 +2,8 @@
 use Rattle.std.specs.Prelude.{◌≡◌, ℕ, ◌+◌, List, [], ◌∷◌, ◌++◌, length, take, drop, map}
 use Rattle.std.specs.List.{zip}
 use Rattle.jvm_model.specs.declared.program.Program.{Program}
-use Rattle.jvm_model.specs.declared.values.Value.{Value}
-use Rattle.jvm_model.specs.declared.values.Head.{Head}
-use Rattle.jvm_model.specs.World.{Object}
-use Rattle.jvm_model.specs.Classes.{fields_of, elems_of}
-use Rattle.jvm_model.specs.View.{keys}
+use Rattle.jvm_model.specs.declared.values.{Value.Value, Head.Head}
+use Rattle.jvm_model.specs.{World.Object, Classes.fields_of, Classes.elems_of, View.keys}
 use Rattle.vm_heap.specs.Entries.{Entry}
 
 -- the numbers of an object's fields, in the order of its cells

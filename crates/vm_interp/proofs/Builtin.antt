@@ -1,34 +1,23 @@
 -- What is left of a step that runs a built-in method.
 use Rattle.std.proofs.Common.{◌≡◌, ℕ, List, Bool, true, false, not, Option, Some, is_some, refl, sym, ap, ◌∙◌, subst, Result}
 use Rattle.std.proofs.lemmas.Result.{IfOk-weaker}
-use Rattle.jvm_model.specs.declared.values.Value.{Value}
-use Rattle.jvm_model.specs.declared.values.Touch.{Touch}
+use Rattle.jvm_model.specs.declared.values.{Value.Value, Touch.Touch}
 use Rattle.jvm_model.specs.declared.library.Native.{Native}
 use Rattle.jvm_model.specs.declared.outcome.Next.{Next}
 use Rattle.jvm_model.specs.declared.outcome.Next.TheVariants.{Go, Fault, Raise, Enter, Leave, Over}
 use Rattle.jvm_model.specs.declared.program.Program.{Program}
-use Rattle.jvm_model.specs.World.{World}
-use Rattle.jvm_model.specs.Access.{Access, spend}
-use Rattle.jvm_model.specs.Classes.{method_at}
-use Rattle.jvm_model.specs.Natives.{row_native}
-use Rattle.jvm_model.specs.Rows.{Answer, answer}
-use Rattle.jvm_model.specs.State.{State, next}
-use Rattle.jvm_model.specs.Step.{after_native, entered}
-use Rattle.jvm_model.specs.Throwing.{throws}
+use Rattle.jvm_model.specs.{World.World, Access.Access, Access.spend, Classes.method_at, Natives.row_native, Rows.Answer, Rows.answer, State.State, State.next}
+use Rattle.jvm_model.specs.{Step.after_native, Step.entered, Throwing.throws, Working.Working}
 use Rattle.jvm_model.specs.View.{over, ended, counted, and_then, paid, counts_one, touched, IsSafe, IsTurn}
-use Rattle.jvm_model.specs.Working.{Working}
 use Rattle.jvm_model.proofs.Binds.{counted_bind, touched_bind, safe_rest}
-use Rattle.jvm_model.proofs.Bridges.{spent_later}
-use Rattle.jvm_model.proofs.Steps.{safe_native}
+use Rattle.jvm_model.proofs.{Bridges.spent_later, Steps.safe_native}
 use Rattle.vm_mem.specs.Refines.{IsReady, Refines, Traces}
 use Rattle.vm_mem.specs.Trace.{Trace}
 use Rattle.vm_natives.specs.Rows.{with_own, native_row}
-use Rattle.vm_interp.specs.Driving.{throw_part}
-use Rattle.vm_interp.specs.Abs.{abs}
+use Rattle.vm_interp.specs.{Driving.throw_part, Abs.abs}
 use Rattle.vm_interp.specs.Turns.{IsFit, EndsPart, MakesPart, after, builtin_part}
 use Rattle.vm_interp.specs.declared.state.State.{State as Kept}
-use Rattle.vm_interp.specs.declared.step_outcome.StepOutcome.{StepOutcome}
-use Rattle.vm_interp.specs.declared.step_outcome.StepOutcome.TheVariants.{Running, OutOfBudget as Spent}
+use Rattle.vm_interp.specs.declared.step_outcome.{StepOutcome.StepOutcome, StepOutcome.TheVariants.Running, StepOutcome.TheVariants.OutOfBudget as Spent}
 
 -- the method that is entered is this built-in one
 pub enters_native : (p q : Program) (x : Native) (m : ℕ) (s : State) → q ≡ p → (method_at q m).native ≡ Some x → after (Enter m) p s ≡ builtin_part x p s

@@ -6,11 +6,8 @@ use Rattle.jvm_model.specs.declared.outcome.Next.{Next}
 use Rattle.jvm_model.specs.declared.outcome.Next.TheVariants.{Go, Fault, Raise, Enter, Leave, Over}
 use Rattle.jvm_model.specs.declared.program.Program.{Program}
 use Rattle.jvm_model.specs.declared.state.EntryKind.TheVariants.{InMethod}
-use Rattle.jvm_model.specs.World.{World}
+use Rattle.jvm_model.specs.{World.World, Classes.next_place, Classes.form_at, Entries.Entries, Entries.with_place, Rows.Answer, Rows.answer}
 use Rattle.jvm_model.specs.Access.{Access, done, spend, bind}
-use Rattle.jvm_model.specs.Classes.{next_place, form_at}
-use Rattle.jvm_model.specs.Entries.{Entries, with_place}
-use Rattle.jvm_model.specs.Rows.{Answer, answer}
 use Rattle.jvm_model.specs.State.{State, Turn}
 use Rattle.jvm_model.specs.Step.{group_of, row, row_here, row_or_none, after_row}
 use Rattle.jvm_model.specs.View.{counted, touched, IsSafe, IsRow, IsTurn}
@@ -19,14 +16,11 @@ use Rattle.vm_arith.specs.Pure.{GoesOn, GoesTo, Branches, Ends, TouchesNothing, 
 use Rattle.vm_frames.specs.Stack.{HasRoom}
 use Rattle.vm_mem.specs.Refines.{IsReady, Refines, Row, Traces}
 use Rattle.vm_mem.specs.Trace.{Trace}
-use Rattle.vm_arith.proofs.Rows.{has_row}
-use Rattle.vm_arith.proofs.Steps.{thrown}
+use Rattle.vm_arith.proofs.{Rows.has_row, Steps.thrown}
 use Rattle.check_sound.specs.ReachLaw.{puts}
-use Rattle.vm_interp.specs.Reaching.{CanStep}
-use Rattle.vm_interp.specs.declared.flow.Flow.{Flow}
-use Rattle.vm_interp.specs.declared.flow.Flow.TheVariants.{Jump, Other}
+use Rattle.vm_interp.specs.{Reaching.CanStep, Rows.form_row}
+use Rattle.vm_interp.specs.declared.flow.{Flow.Flow, Flow.TheVariants.Jump, Flow.TheVariants.Other}
 use Rattle.vm_interp.specs.Dispatching.{CanGo, CanRun, EndsFlow, IsLeft, next_of, settled, settled_flow, settled_units}
-use Rattle.vm_interp.specs.Rows.{form_row}
 use Rattle.vm_interp.proofs.Quiet.{grows, untouched}
 
 -- the row of a form goes on, where this is the place of the next instruction

@@ -1,36 +1,30 @@
 -- A row that enters a built-in method leaves the calling frame on top.
 use Rattle.std.proofs.Common.{◌≡◌, ℕ, zero, suc, ◌+◌, ℤ, pos, negsuc, List, [], ◌∷◌, length, Bool, true, false, cond, nat_le, nat_lt, refl, ap, subst, Option, Some, None, IsSome}
-use Rattle.jvm_model.specs.declared.values.Value.{Value}
+use Rattle.jvm_model.specs.declared.values.{Value.Value, Kind.Kind}
 use Rattle.jvm_model.specs.declared.values.Value.TheVariants.{Int, Long, Null, Lit, Obj}
-use Rattle.jvm_model.specs.declared.values.Kind.{Kind}
 use Rattle.jvm_model.specs.declared.values.Kind.TheVariants as kind
 use Rattle.jvm_model.specs.declared.library.Native.{Native}
 use Rattle.jvm_model.specs.declared.instr.Instr.{Instr}
 use Rattle.jvm_model.specs.declared.instr.Instr.TheVariants as form
 use Rattle.jvm_model.specs.declared.outcome.Next.TheVariants.{Enter}
-use Rattle.jvm_model.specs.declared.program.Body.{Body}
-use Rattle.jvm_model.specs.declared.program.Program.{Program}
-use Rattle.jvm_model.specs.declared.state.EntryKind.{EntryKind}
-use Rattle.jvm_model.specs.declared.state.EntryKind.TheVariants.{Absent, InMethod, InClass}
-use Rattle.jvm_model.specs.World.{World}
+use Rattle.jvm_model.specs.declared.program.{Body.Body, Program.Program}
+use Rattle.jvm_model.specs.declared.state.{EntryKind.EntryKind, EntryKind.TheVariants.Absent, EntryKind.TheVariants.InMethod, EntryKind.TheVariants.InClass}
+use Rattle.jvm_model.specs.{World.World, Kinds.kind_fits, RowsFields.row_fields}
 use Rattle.jvm_model.specs.Access.{Access, done, read, write, make, spend, run}
 use Rattle.jvm_model.specs.Classes.{method_at, field_at, form_at}
 use Rattle.jvm_model.specs.Entries.{Entries, is_full, popped_entry}
-use Rattle.jvm_model.specs.Kinds.{kind_fits}
 use Rattle.jvm_model.specs.Rows.{Answer, answer, Used, ready, begun, refused, begin, once, using, popping, on_int, on_object, on_reference, with_kind}
 use Rattle.jvm_model.specs.RowsArrays.{on_array, in_range, holds_references, checked, row_arrays}
 use Rattle.jvm_model.specs.RowsCalls.{enters_body, enters_native, calls, calls_selected, argument_count, on_receiver, receiver, row_calls}
 use Rattle.jvm_model.specs.RowsCasts.{cast, tested, row_casts}
 use Rattle.jvm_model.specs.RowsCreate.{new_object, new_array, nest, nested, sized, is_bare, row_create}
-use Rattle.jvm_model.specs.RowsFields.{row_fields}
 use Rattle.jvm_model.specs.RowsReturn.{handed_on, hands_on, row_return}
 use Rattle.jvm_model.specs.RowsStatics.{read_static, write_static, row_statics}
 use Rattle.jvm_model.specs.Selection.{Selected, chosen, failing}
 use Rattle.jvm_model.specs.Step.{Group, moves, arith as of_arith, branches, statics, fields, create, arrays, casts, calls as of_calls, returns, throw, group_of, row_throw, row_of, row, row_or_none, row_here}
 use Rattle.vm_arith.specs.Pure.{TouchesNothing, is_pure}
 use Rattle.vm_interp.proofs.Leaves.{Each, each_run, each_bind, each_either}
-use Rattle.vm_interp.proofs.NoEntry.{enters, NoEntry}
-use Rattle.vm_interp.proofs.Quiet.{quiet_enters_none}
+use Rattle.vm_interp.proofs.{NoEntry.enters, NoEntry.NoEntry, Quiet.quiet_enters_none}
 
 abbrev Framed : Program → Answer Entries → Type 0
 Framed p (answer (Enter m) t) = IsSome (method_at p m).native → t.top.kind ≡ InMethod

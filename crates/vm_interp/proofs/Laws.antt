@@ -1,27 +1,17 @@
 -- What the law of checked code gives to each step of a test, and to its end.
 use Rattle.std.proofs.Common.{◌≡◌, ◌≤◌, ◌<◌, ◌+◌, ℕ, length, refl, sym, subst, arith, Option, Some, None, IfSome, IsSome}
-use Rattle.jvm_model.specs.declared.outcome.Verdict.{Verdict}
-use Rattle.jvm_model.specs.declared.outcome.Next.TheVariants.{Enter}
+use Rattle.jvm_model.specs.declared.outcome.{Verdict.Verdict, Next.TheVariants.Enter}
 use Rattle.jvm_model.specs.declared.instr.Instr.{Instr}
 use Rattle.jvm_model.specs.declared.instr.Instr.TheVariants as form
 use Rattle.jvm_model.specs.declared.library.Native.{Native}
 use Rattle.jvm_model.specs.declared.library.Native.TheVariants as native
 use Rattle.jvm_model.specs.declared.program.Program.{Program}
-use Rattle.jvm_model.specs.declared.state.EntryKind.{EntryKind}
-use Rattle.jvm_model.specs.declared.state.EntryKind.TheVariants.{InMethod}
-use Rattle.jvm_model.specs.World.{World}
-use Rattle.jvm_model.specs.Access.{run}
-use Rattle.jvm_model.specs.Classes.{form_at, method_at}
-use Rattle.jvm_model.specs.Entries.{Entries, popped_entry}
-use Rattle.jvm_model.specs.Rows.{answer}
-use Rattle.jvm_model.specs.State.{State}
-use Rattle.jvm_model.specs.Step.{row_here}
-use Rattle.jvm_model.specs.Suite.{one_test}
-use Rattle.type_frames.specs.Typing.{IsTyped}
-use Rattle.type_frames.specs.TypedState.{TypedWorld, TypedState}
-use Rattle.check_sound.specs.StepLaw.{StepLaw}
+use Rattle.jvm_model.specs.declared.state.{EntryKind.EntryKind, EntryKind.TheVariants.InMethod}
+use Rattle.jvm_model.specs.{World.World, Access.run, Classes.form_at, Classes.method_at, Entries.Entries, Entries.popped_entry, Rows.answer, State.State}
+use Rattle.jvm_model.specs.{Step.row_here, Suite.one_test}
+use Rattle.type_frames.specs.{Typing.IsTyped, TypedState.TypedWorld, TypedState.TypedState}
+use Rattle.check_sound.specs.{StepLaw.StepLaw, TestLaw.LeftLaw}
 use Rattle.check_sound.specs.ReachLaw.{most_operands, HasStackLimits, puts, native_puts, ReachedLaw, AloneLaw, RoomLaw, ReturnLaw, NativeLaw}
-use Rattle.check_sound.specs.TestLaw.{LeftLaw}
 use Rattle.vm_frames.specs.Stack.{HasRoom, operand_limit}
 use Rattle.vm_natives.specs.Rows.{growth}
 use Rattle.vm_interp.specs.Reaching.{HasPlaceBelow, HasRoomFor, CanStep, AllSafe, given_by}

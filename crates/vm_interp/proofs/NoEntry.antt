@@ -1,30 +1,21 @@
 -- Rows that enter no built-in method, and room for one that a row enters.
 use Rattle.std.proofs.Common.{◌≡◌, ◌≢◌, ℕ, List, [], ◌∷◌, ◌+◌, Bool, true, false, not, ◌&&◌, cond, refl, sym, ap, ◌∙◌, Option, Some, None}
-use Rattle.jvm_model.specs.declared.values.Value.{Value}
+use Rattle.jvm_model.specs.declared.values.{Value.Value, InitState.InitState}
 use Rattle.jvm_model.specs.declared.values.Value.TheVariants.{Int, Long, Null, Lit, Obj}
-use Rattle.jvm_model.specs.declared.values.InitState.{InitState}
 use Rattle.jvm_model.specs.declared.values.InitState.TheVariants.{Idle, Running, Done, Erroneous}
 use Rattle.jvm_model.specs.declared.outcome.Next.{Next}
 use Rattle.jvm_model.specs.declared.outcome.Next.TheVariants.{Go, Fault, Raise, Enter, Leave, Over}
-use Rattle.jvm_model.specs.declared.program.Body.{Body}
-use Rattle.jvm_model.specs.declared.program.Program.{Program}
-use Rattle.jvm_model.specs.declared.state.EntryKind.{EntryKind}
-use Rattle.jvm_model.specs.declared.state.EntryKind.TheVariants.{Absent, InMethod, InClass}
-use Rattle.jvm_model.specs.World.{World}
-use Rattle.jvm_model.specs.Access.{Access, run}
+use Rattle.jvm_model.specs.declared.program.{Body.Body, Program.Program}
+use Rattle.jvm_model.specs.declared.state.{EntryKind.EntryKind, EntryKind.TheVariants.Absent, EntryKind.TheVariants.InMethod, EntryKind.TheVariants.InClass}
+use Rattle.jvm_model.specs.{World.World, Access.Access, Access.run, Builtin.error_class, Kinds.class_of, Rows.Answer, Rows.answer, View.paid, View.counts_one}
 use Rattle.jvm_model.specs.Classes.{class_at, method_at, is_below}
-use Rattle.jvm_model.specs.Builtin.{error_class}
 use Rattle.jvm_model.specs.Entries.{Entries, popped_entry, is_full}
 use Rattle.jvm_model.specs.Initialise.{Part, starts_body, starts, looked_at, looks, left_at, parts_of, finishing, row_finish, row_fail, was_entered, fails, fails_anew}
-use Rattle.jvm_model.specs.Kinds.{class_of}
 use Rattle.jvm_model.specs.Raising.{handled, handler_for, row_raise}
-use Rattle.jvm_model.specs.Rows.{Answer, answer}
-use Rattle.jvm_model.specs.View.{paid, counts_one}
 use Rattle.jvm_model.proofs.Bridges.{counted_is}
 use Rattle.vm_mem.specs.Refines.{Row, Refines}
 use Rattle.vm_interp.proofs.Leaves.{Each, each_run, each_either}
-use Rattle.vm_interp.proofs.Whole.{ended_so}
-use Rattle.vm_interp.proofs.Stepped.{answered}
+use Rattle.vm_interp.proofs.{Whole.ended_so, Stepped.answered}
 use Rattle.vm_interp.specs.Reaching.{HasRoomAfter, HasNativeSpace}
 
 abbrev pub enters : Answer Entries → Bool

@@ -1,26 +1,17 @@
 -- The instructions of a code by number.
 use Rattle.std.proofs.Common.{◌≡◌, ℕ, zero, suc, ◌<◌, ◌+◌, List, [], ◌∷◌, length, get_or, take, drop, ◌-◌, eqb, Bool, true, false, cond, refl, sym, ap, ◌∙◌, subst, arith, Option, Some, None, IfSome, IsSome, slice_get, ◌≤◌, All}
-use Rattle.std.proofs.lemmas.Bool.{eq-eqb, ne_eqb}
-use Rattle.std.proofs.lemmas.List.{length-drop, take_all}
-use Rattle.std.proofs.lemmas.List.Elements.{All-head, All-tail}
-use Rattle.std.proofs.lemmas.Option.{slice_get_within}
-use Rattle.std.proofs.Math.Nat.{lt_of_not-le}
+use Rattle.std.proofs.lemmas.{Bool.eq-eqb, Bool.ne_eqb, List.length-drop, List.take_all, Option.slice_get_within}
+use Rattle.std.proofs.{lemmas.List.Elements.All-head, lemmas.List.Elements.All-tail, Math.Nat.lt_of_not-le}
 use Rattle.jvm_model.specs.declared.instr.Instr.{Instr}
-use Rattle.jvm_model.specs.declared.program.Placed.{Placed}
-use Rattle.jvm_model.specs.declared.program.Body.{Body}
-use Rattle.jvm_model.specs.declared.program.Program.{Program}
+use Rattle.jvm_model.specs.declared.program.{Placed.Placed, Body.Body, Program.Program}
 use Rattle.jvm_model.specs.Classes.{Found, found_in, found_of, form_at, next_place, place_after, method_at}
-use Rattle.jvm_model.specs.Entries.{Entries}
+use Rattle.jvm_model.specs.{Entries.Entries, Step.row_here, Step.row_or_none, View.IsRow, View.IsSafe, World.World}
 use Rattle.jvm_model.specs.Linked.{Ascends, IsBody, Linked}
-use Rattle.jvm_model.specs.Step.{row_here, row_or_none}
-use Rattle.jvm_model.specs.View.{IsRow, IsSafe}
-use Rattle.jvm_model.specs.World.{World}
 use Rattle.vm_tables.specs.Numbers.{instruction, instruction_of, after_or, no_placed}
 use Rattle.vm_tables.proofs.Places.{ascending_number, form_bare, form_some, get_some, next_found, place_past}
 use Rattle.check_sound.proofs.Arrive.{has_number}
 use Rattle.vm_interp.specs.Dispatching.{IsAtForm, IsIn, IsInCode, IsLeft, IsRest, Stands, StaysAt}
-use Rattle.vm_interp.specs.declared.flow.Flow.{Flow}
-use Rattle.vm_interp.specs.declared.flow.Flow.TheVariants.{FallThrough, Jump, Call, Other}
+use Rattle.vm_interp.specs.declared.flow.{Flow.Flow, Flow.TheVariants.FallThrough, Flow.TheVariants.Jump, Flow.TheVariants.Call, Flow.TheVariants.Other}
 
 chosen : (b c : Bool) (o f : Option Found) → b ≡ c → (elim b as (λ _. Option Found) [ true ↦ o | false ↦ f ]) ≡ cond c o f
 chosen true c o f e = subst (λ (x : Bool). o ≡ cond x o f) e refl

@@ -1,37 +1,26 @@
 -- Steps of a test one after the other, as the code makes them.
 use Rattle.std.proofs.Common.{◌≡◌, ◌≢◌, ◌≤◌, ◌<◌, ◌-◌, ℕ, List, [], ◌∷◌, length, nat_le, true, not, refl, sym, ap, ◌∙◌, subst, arith, Option, None, Some, is_some}
-use Rattle.jvm_model.specs.declared.values.Touch.{Touch}
-use Rattle.jvm_model.specs.declared.values.Value.{Value}
+use Rattle.jvm_model.specs.declared.values.{Touch.Touch, Value.Value}
 use Rattle.jvm_model.specs.declared.library.Native.{Native}
 use Rattle.jvm_model.specs.declared.library.Native.TheVariants as native
 use Rattle.jvm_model.specs.declared.outcome.Next.{Next}
 use Rattle.jvm_model.specs.declared.outcome.Next.TheVariants.{Go, Fault, Raise, Enter, Leave, Over as Spent}
 use Rattle.jvm_model.specs.declared.program.Program.{Program}
 use Rattle.jvm_model.specs.declared.state.EntryKind.TheVariants.{InMethod}
-use Rattle.jvm_model.specs.World.{World}
+use Rattle.jvm_model.specs.{World.World, Classes.method_at, Classes.next_place, Natives.row_native, NativesObject.native_object, Rows.popping, Working.answers}
 use Rattle.jvm_model.specs.Access.{Access, bind, done, spend}
-use Rattle.jvm_model.specs.Classes.{method_at, next_place}
 use Rattle.jvm_model.specs.Entries.{Entries, with_place, with_stack}
-use Rattle.jvm_model.specs.Natives.{row_native}
-use Rattle.jvm_model.specs.NativesObject.{native_object}
-use Rattle.jvm_model.specs.Rows.{popping}
 use Rattle.jvm_model.specs.State.{State, Turn, next, with_entries}
 use Rattle.jvm_model.specs.Step.{after_native, entered, row_here, step}
 use Rattle.jvm_model.specs.View.{counted, ended, paid, touched, IsSafe, IsTurn}
-use Rattle.jvm_model.specs.Working.{answers}
 use Rattle.jvm_model.proofs.Steps.{step_runs}
-use Rattle.vm_mem.specs.Refines.{Refines, Traces}
-use Rattle.vm_mem.specs.Trace.{Trace}
+use Rattle.vm_mem.specs.{Refines.Refines, Refines.Traces, Trace.Trace}
 use Rattle.vm_interp.specs.Dispatching.{Steps, here, on, StepsOn, RunsSlice, Dispatches, EndsInit, EndsWithRow, HasObject, IsAtForm}
-use Rattle.vm_interp.specs.Reaching.{AllSafe, HasRoomAfter}
-use Rattle.vm_interp.specs.Abs.{abs}
+use Rattle.vm_interp.specs.{Reaching.AllSafe, Reaching.HasRoomAfter, Abs.abs}
 use Rattle.vm_interp.specs.Turns.{after, by_row, step_outcome}
 use Rattle.vm_interp.specs.declared.state.State.{State as Kept}
-use Rattle.vm_interp.specs.declared.step_outcome.StepOutcome.{StepOutcome}
-use Rattle.vm_interp.specs.declared.step_outcome.StepOutcome.TheVariants.{OutOfBudget}
-use Rattle.vm_interp.proofs.NoEntry.{room_then}
-use Rattle.vm_interp.proofs.Found.{fits, row_safe}
-use Rattle.vm_interp.proofs.Numbered.{has_form}
+use Rattle.vm_interp.specs.declared.step_outcome.{StepOutcome.StepOutcome, StepOutcome.TheVariants.OutOfBudget}
+use Rattle.vm_interp.proofs.{NoEntry.room_then, Found.fits, Found.row_safe, Numbered.has_form}
 use Rattle.vm_interp.proofs.Stepped.{row_over, row_fit, row_counted, row_touches}
 use Rattle.vm_interp.proofs.Whole.{IsRest, goes_by, step_falls}
 

@@ -1,23 +1,16 @@
 -- The forms that touch nothing touch nothing, and enter no method.
 use Rattle.std.proofs.Common.{◌≡◌, ◌≤◌, ℕ, ℤ, List, [], ◌∷◌, length, slice_get, Bool, true, false, cond, nat_lt, int_eq, pos, refl, arith, Option, Some, None}
-use Rattle.jvm_model.specs.declared.values.Value.{Value}
+use Rattle.jvm_model.specs.declared.values.{Value.Value, Touch.Touch}
 use Rattle.jvm_model.specs.declared.values.Value.TheVariants.{Int, Long, Null, Lit, Obj}
-use Rattle.jvm_model.specs.declared.values.Touch.{Touch}
-use Rattle.jvm_model.specs.declared.instr.Op.{Op}
-use Rattle.jvm_model.specs.declared.instr.Conv.{Conv}
+use Rattle.jvm_model.specs.declared.instr.{Op.Op, Conv.Conv, Instr.Instr}
 use Rattle.jvm_model.specs.declared.instr.Conv.TheVariants as conv
-use Rattle.jvm_model.specs.declared.instr.Instr.{Instr}
 use Rattle.jvm_model.specs.declared.instr.Instr.TheVariants as form
 use Rattle.jvm_model.specs.declared.program.Program.{Program}
-use Rattle.jvm_model.specs.World.{World}
+use Rattle.jvm_model.specs.{World.World, Entries.Entries, Entries.with_stack, RowsBranches.goes_if, RowsBranches.row_branches, Step.row, View.touched}
 use Rattle.jvm_model.specs.Access.{Access, done, read, write, make, spend}
-use Rattle.jvm_model.specs.Entries.{Entries, with_stack}
 use Rattle.jvm_model.specs.Rows.{Answer, popping, on_int, on_long, on_reference}
 use Rattle.jvm_model.specs.RowsMoves.{is_long, loaded, stored, two_under_long, two_under_two, row_moves}
 use Rattle.jvm_model.specs.RowsArith.{divides, shifts, unless_zero, two_ints, two_longs, long_by_int, converted, increased, row_arith}
-use Rattle.jvm_model.specs.RowsBranches.{goes_if, row_branches}
-use Rattle.jvm_model.specs.Step.{row}
-use Rattle.jvm_model.specs.View.{touched}
 use Rattle.check_sound.specs.ReachLaw.{puts}
 use Rattle.vm_arith.specs.Pure.{TouchesNothing, growth}
 use Rattle.vm_interp.proofs.NoEntry.{enters, NoEntry}

@@ -7,13 +7,8 @@ use Rattle.jvm_model.specs.declared.library.Native.{Native}
 use Rattle.jvm_model.specs.declared.outcome.Next.{Next}
 use Rattle.jvm_model.specs.declared.outcome.Next.TheVariants.{Go, Fault, Raise, Enter, Leave, Over}
 use Rattle.jvm_model.specs.declared.program.Program.{Program}
-use Rattle.jvm_model.specs.World.{World}
-use Rattle.jvm_model.specs.Access.{Access, bind}
-use Rattle.jvm_model.specs.Classes.{method_at}
-use Rattle.jvm_model.specs.Entries.{Entries}
-use Rattle.jvm_model.specs.Natives.{row_native}
+use Rattle.jvm_model.specs.{World.World, Access.Access, Access.bind, Classes.method_at, Entries.Entries, Natives.row_native, State.State, State.Turn}
 use Rattle.jvm_model.specs.Rows.{Answer, answer, stuck_row}
-use Rattle.jvm_model.specs.State.{State, Turn}
 use Rattle.jvm_model.specs.Step.{after_native, entered, after_row}
 use Rattle.jvm_model.specs.View.{over, ended, counted, paid, counts_one, outcome, touched, IsSafe, IsTurn}
 use Rattle.jvm_model.specs.Working.{Working}
@@ -23,8 +18,7 @@ use Rattle.vm_mem.specs.Trace.{Trace}
 use Rattle.vm_interp.specs.Abs.{abs}
 use Rattle.vm_interp.specs.Turns.{Part, IsFit, EndsPart, MakesPart, by_row, after}
 use Rattle.vm_interp.specs.declared.state.State.{State as Kept}
-use Rattle.vm_interp.specs.declared.step_outcome.StepOutcome.{StepOutcome}
-use Rattle.vm_interp.specs.declared.step_outcome.StepOutcome.TheVariants.{OutOfBudget as Spent}
+use Rattle.vm_interp.specs.declared.step_outcome.{StepOutcome.StepOutcome, StepOutcome.TheVariants.OutOfBudget as Spent}
 
 pub answered : (x : Next) (s : Entries) (w : World) (left : ℕ) → x ≢ Over → outcome x s w left ≡ ended (answer x s) w left
 answered Go s w left h = refl

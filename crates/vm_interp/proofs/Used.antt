@@ -2,28 +2,21 @@
 use Rattle.std.proofs.Common.{◌≡◌, ◌≢◌, ℕ, List, [], Bool, true, false, cond, None, refl, sym, ap, ◌∙◌, subst, Result}
 use Rattle.std.proofs.lemmas.Result.{IfOk-weaker}
 use Rattle.jvm_model.specs.declared.values.Touch.{Touch}
-use Rattle.jvm_model.specs.declared.program.Program.{Program}
-use Rattle.jvm_model.specs.declared.program.TestEntry.{TestEntry}
-use Rattle.jvm_model.specs.World.{World}
+use Rattle.jvm_model.specs.declared.program.{Program.Program, TestEntry.TestEntry}
+use Rattle.jvm_model.specs.{World.World, Classes.method_at, Classes.is_static, Entries.Entries, Throwing.throws}
 use Rattle.jvm_model.specs.Access.{Access, spend, bind}
 use Rattle.jvm_model.specs.declared.state.Stage.TheVariants.{Last}
-use Rattle.jvm_model.specs.Classes.{method_at, is_static}
 use Rattle.jvm_model.specs.Driver.{once_driven, drive_first, drives, makes}
-use Rattle.jvm_model.specs.Entries.{Entries}
 use Rattle.jvm_model.specs.Rows.{ready, begun, refused, begin}
 use Rattle.jvm_model.specs.State.{State, Turn, next, with_entries, test_at}
-use Rattle.jvm_model.specs.Throwing.{throws}
 use Rattle.jvm_model.specs.View.{over, ended, counted, and_then, touched, IsSafe, IsTurn, Any}
 use Rattle.vm_mem.specs.Trace.{Trace}
-use Rattle.class_init.specs.declared.uses.Use.{Use}
-use Rattle.class_init.specs.declared.uses.Use.TheVariants.{Ready, Begun, Fault, Over}
+use Rattle.class_init.specs.declared.uses.{Use.Use, Use.TheVariants.Ready, Use.TheVariants.Begun, Use.TheVariants.Fault, Use.TheVariants.Over}
 use Rattle.class_init.specs.Uses.{RefinesUse, TracesUse}
-use Rattle.vm_interp.specs.Driving.{throw_part}
-use Rattle.vm_interp.specs.Abs.{abs}
+use Rattle.vm_interp.specs.{Driving.throw_part, Abs.abs}
 use Rattle.vm_interp.specs.Turns.{Part, EndsPart, MakesPart}
 use Rattle.vm_interp.specs.declared.state.State.{State as Kept}
-use Rattle.vm_interp.specs.declared.step_outcome.StepOutcome.{StepOutcome}
-use Rattle.vm_interp.specs.declared.step_outcome.StepOutcome.TheVariants.{Running, OutOfBudget as Spent}
+use Rattle.vm_interp.specs.declared.step_outcome.{StepOutcome.StepOutcome, StepOutcome.TheVariants.Running, StepOutcome.TheVariants.OutOfBudget as Spent}
 use Rattle.jvm_model.proofs.Binds.{counted_bind, touched_bind, safe_begins}
 use Rattle.jvm_model.proofs.Bridges.{spent_later}
 

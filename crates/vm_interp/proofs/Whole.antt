@@ -11,13 +11,9 @@ use Rattle.jvm_model.specs.State.{State, Turn, next, ended as judged, stuck_turn
 use Rattle.jvm_model.specs.Step.{step, turn}
 use Rattle.jvm_model.specs.Suite.{finished, after_step, whole, tree, one_test}
 use Rattle.jvm_model.specs.View.{over, ended, counted, and_then, touched, IsSafe, IsTurn, Any}
-use Rattle.jvm_model.proofs.Binds.{counted_bind, touched_bind}
+use Rattle.jvm_model.proofs.{Binds.counted_bind, Binds.touched_bind, Budgets.step_costs, Tests.one_test_ended, Tests.one_test_over}
 use Rattle.jvm_model.proofs.Bridges.{compared, counted_is, safe_sound}
-use Rattle.jvm_model.proofs.Budgets.{step_costs}
-use Rattle.jvm_model.proofs.Tests.{one_test_ended, one_test_over}
-use Rattle.vm_interp.specs.Reaching.{AllSafe, given_by}
-use Rattle.vm_interp.specs.Abs.{abs}
-use Rattle.vm_interp.specs.Turns.{step_outcome, as_step_outcome}
+use Rattle.vm_interp.specs.{Reaching.AllSafe, Reaching.given_by, Abs.abs, Turns.step_outcome, Turns.as_step_outcome}
 use Rattle.vm_interp.specs.declared.state.State.{State as Kept}
 use Rattle.vm_interp.specs.declared.step_outcome.StepOutcome.TheVariants.{Running, Done, OutOfBudget}
 

@@ -1,33 +1,25 @@
 -- Steps of a test, one after the other.
 use Rattle.std.specs.Prelude.{◌≡◌, ◌≢◌, ◌<◌, ◌-◌, ℕ, suc, Result, IfOk, List, ◌∷◌, length, drop, Bool, true, false, Some, None, IsSome}
 use Rattle.jvm_model.specs.declared.library.Native.TheVariants as native
-use Rattle.jvm_model.specs.declared.values.Touch.{Touch}
-use Rattle.jvm_model.specs.declared.values.Value.{Value}
+use Rattle.jvm_model.specs.declared.values.{Touch.Touch, Value.Value}
 use Rattle.jvm_model.specs.declared.instr.Instr.{Instr}
 use Rattle.jvm_model.specs.declared.outcome.Next.{Next}
 use Rattle.jvm_model.specs.declared.outcome.Next.TheVariants.{Go, Fault, Raise, Enter, Leave, Over as Spent}
-use Rattle.jvm_model.specs.declared.program.Body.{Body}
-use Rattle.jvm_model.specs.declared.program.Placed.{Placed}
-use Rattle.jvm_model.specs.declared.program.Program.{Program}
+use Rattle.jvm_model.specs.declared.program.{Body.Body, Placed.Placed, Program.Program}
 use Rattle.jvm_model.specs.declared.state.EntryKind.TheVariants.{InMethod}
-use Rattle.jvm_model.specs.World.{World}
+use Rattle.jvm_model.specs.{World.World, State.State, State.next}
 use Rattle.jvm_model.specs.Classes.{form_at, method_at, next_place, place_after}
 use Rattle.jvm_model.specs.Entries.{Entries, with_place, with_stack}
-use Rattle.jvm_model.specs.State.{State, next}
 use Rattle.jvm_model.specs.Step.{group_of, row_here, step}
 use Rattle.jvm_model.specs.View.{counted, ended, touched}
 use Rattle.vm_frames.specs.Stack.{HasRoom}
 use Rattle.vm_mem.specs.Refines.{Row, Refines, Traces}
 use Rattle.vm_mem.specs.Trace.{Trace}
 use Rattle.vm_arith.specs.Pure.{HasRow, is_pure, growth}
-use Rattle.vm_interp.specs.Reaching.{CanStep}
-use Rattle.vm_interp.specs.Abs.{abs}
-use Rattle.vm_interp.specs.Turns.{step_outcome}
+use Rattle.vm_interp.specs.{Reaching.CanStep, Abs.abs, Turns.step_outcome}
 use Rattle.vm_interp.specs.declared.state.State.{State as Kept}
-use Rattle.vm_interp.specs.declared.step_outcome.StepOutcome.{StepOutcome}
-use Rattle.vm_interp.specs.declared.flow.Flow.{Flow}
-use Rattle.vm_interp.specs.declared.flow.Flow.TheVariants.{FallThrough, Jump, Call, Other}
-use Rattle.vm_interp.specs.declared.step_outcome.StepOutcome.TheVariants.{OutOfBudget}
+use Rattle.vm_interp.specs.declared.step_outcome.{StepOutcome.StepOutcome, StepOutcome.TheVariants.OutOfBudget}
+use Rattle.vm_interp.specs.declared.flow.{Flow.Flow, Flow.TheVariants.FallThrough, Flow.TheVariants.Jump, Flow.TheVariants.Call, Flow.TheVariants.Other}
 
 -- so many steps, after each of which the test goes on; the function adds their touches to those before
 pub data Steps (p : Program) (s : State) (w : World) (n : ℕ) : State → World → ℕ → (List Touch → List Touch) → Type 0 where

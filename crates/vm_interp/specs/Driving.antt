@@ -2,12 +2,9 @@
 use Rattle.std.specs.Prelude.{ℕ, [], Option, None}
 use Rattle.std.specs.Option.{option_to_list}
 use Rattle.jvm_model.specs.declared.values.Value.{Value}
-use Rattle.jvm_model.specs.declared.state.Stage.{Stage}
-use Rattle.jvm_model.specs.declared.state.Stage.TheVariants.{Last}
-use Rattle.jvm_model.specs.Access.{spend, bind}
+use Rattle.jvm_model.specs.declared.state.{Stage.Stage, Stage.TheVariants.Last}
+use Rattle.jvm_model.specs.{Access.spend, Access.bind, Rows.begin, Throwing.throws}
 use Rattle.jvm_model.specs.Driver as driver
-use Rattle.jvm_model.specs.Rows.{begin}
-use Rattle.jvm_model.specs.Throwing.{throws}
 use Rattle.vm_interp.specs.Turns.{Part}
 
 -- a new throwable of the class is made and raised

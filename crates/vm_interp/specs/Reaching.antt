@@ -1,27 +1,18 @@
 -- What the steps of a test ask of its states, and what its run gives.
 use Rattle.std.specs.Prelude.{◌≡◌, ◌-◌, ℕ, List, Option, Some, None, IsSome}
 use Rattle.jvm_model.specs.declared.values.Touch.{Touch}
-use Rattle.jvm_model.specs.declared.outcome.Verdict.{Verdict}
+use Rattle.jvm_model.specs.declared.outcome.{Verdict.Verdict, Next.Next}
 use Rattle.jvm_model.specs.declared.instr.Instr.{Instr}
 use Rattle.jvm_model.specs.declared.instr.Instr.TheVariants as form
 use Rattle.jvm_model.specs.declared.library.Native.{Native}
-use Rattle.jvm_model.specs.declared.outcome.Next.{Next}
 use Rattle.jvm_model.specs.declared.outcome.Next.TheVariants.{Go, Fault, Raise, Enter, Leave, Over}
 use Rattle.jvm_model.specs.declared.state.EntryKind.TheVariants.{Absent, InMethod}
 use Rattle.jvm_model.specs.declared.program.Program.{Program}
-use Rattle.jvm_model.specs.World.{World}
-use Rattle.jvm_model.specs.Access.{run}
-use Rattle.jvm_model.specs.Classes.{form_at, method_at}
-use Rattle.jvm_model.specs.Entries.{Entries, no_entries}
-use Rattle.jvm_model.specs.Reached.{Reaches}
-use Rattle.jvm_model.specs.State.{State}
-use Rattle.jvm_model.specs.Rows.{answer}
-use Rattle.jvm_model.specs.Step.{row_here, step}
-use Rattle.jvm_model.specs.Suite.{tree, Given}
+use Rattle.jvm_model.specs.{World.World, Access.run, Classes.form_at, Classes.method_at, Entries.Entries, Entries.no_entries, Reached.Reaches, State.State}
+use Rattle.jvm_model.specs.{Rows.answer, Step.row_here, Step.step, Suite.tree, Suite.Given}
 use Rattle.jvm_model.specs.View.{IsSafe, IsTurn, touched}
 use Rattle.vm_frames.specs.Stack.{HasRoom}
-use Rattle.vm_mem.specs.Refines.{Row}
-use Rattle.vm_mem.specs.Trace.{Trace}
+use Rattle.vm_mem.specs.{Refines.Row, Trace.Trace}
 use Rattle.check_sound.specs.ReachLaw.{puts}
 use Rattle.vm_calls.specs.Calls.{HasRoomBelow}
 use Rattle.vm_natives.specs.Rows.{growth as native_growth}

@@ -1,23 +1,17 @@
 -- What contracts say of a step, and of what a part of one makes of a test's state.
 use Rattle.std.specs.Prelude.{◌≡◌, ◌≢◌, ℕ, List, not, Option, Some, None, Result, IfOk}
 use Rattle.jvm_model.specs.declared.values.Touch.{Touch}
-use Rattle.jvm_model.specs.declared.outcome.Next.{Next}
-use Rattle.jvm_model.specs.declared.outcome.Verdict.{Verdict}
+use Rattle.jvm_model.specs.declared.outcome.{Next.Next, Verdict.Verdict}
 use Rattle.jvm_model.specs.declared.program.Program.{Program}
-use Rattle.jvm_model.specs.World.{World}
+use Rattle.jvm_model.specs.{World.World, Entries.Entries, Rows.answer, Natives.row_native, Step.after_native, Step.after_row}
 use Rattle.jvm_model.specs.Access.{Access, spend, bind}
-use Rattle.jvm_model.specs.Entries.{Entries}
-use Rattle.jvm_model.specs.Rows.{answer}
 use Rattle.jvm_model.specs.State.{State, Turn, next, ended as judged}
 use Rattle.vm_interp.specs.Abs.{abs}
 use Rattle.vm_interp.specs.declared.state.State.{State as Kept}
-use Rattle.jvm_model.specs.Natives.{row_native}
-use Rattle.jvm_model.specs.Step.{after_native, after_row}
 use Rattle.jvm_model.specs.declared.library.Native.{Native}
 use Rattle.vm_natives.specs.Rows.{with_own}
 use Rattle.jvm_model.specs.View.{Counted, over, ended, counted, paid, counts_one, touched, IsSafe, IsTurn}
-use Rattle.vm_mem.specs.Refines.{Row}
-use Rattle.vm_mem.specs.Trace.{Trace}
+use Rattle.vm_mem.specs.{Refines.Row, Trace.Trace}
 use Rattle.vm_interp.specs.declared.step_outcome.StepOutcome.{StepOutcome}
 use Rattle.vm_interp.specs.declared.step_outcome.StepOutcome.TheVariants.{Running, Done, OutOfBudget}
 

@@ -2,16 +2,12 @@
 
 ghost use Rattle.std.specs.Prelude.{◌≡◌, ◌<◌, ℕ, true, false, None, Some, IfOk, OnOk, drop, IfSome, IsSome};
 ghost use Rattle.jvm_model.specs.declared.state.EntryKind.TheVariants.{InMethod};
-ghost use Rattle.jvm_model.specs.Entries.{Entries};
-ghost use Rattle.jvm_model.specs.Classes.{form_at, method_at};
+ghost use Rattle.jvm_model.specs.{Entries.Entries, Classes.form_at, Classes.method_at, Linked.Linked};
 ghost use Rattle.jvm_model.specs.declared.library.Native.TheVariants as native;
-ghost use Rattle.jvm_model.specs.Linked.{Linked};
 ghost use Rattle.jvm_model.specs.Step as steps;
 ghost use Rattle.vm_interp.specs.Dispatching.{RunsSlice, EndsInit, EndsWithRow, HasObject, IsAtForm, IsInCode, IsRest, MakesFlow, Dispatches, Stands, StaysAt, StepsOn, next_of, place_behind};
 ghost use Rattle.vm_interp.specs.declared.flow.Flow.TheVariants.{FallThrough};
-ghost use Rattle.vm_interp.specs.Reaching.{CanStep};
-ghost use Rattle.vm_interp.specs.Abs.{abs};
-ghost use Rattle.vm_interp.specs.Turns.{AreOf, as_step_outcome};
+ghost use Rattle.vm_interp.specs.{Reaching.CanStep, Abs.abs, Turns.AreOf, Turns.as_step_outcome};
 
 use crate::concluding::{conclude, native_of};
 use crate::cursor::InstrCursor;

@@ -2,8 +2,7 @@
 
 ghost use Rattle.std.specs.Prelude.{◌≡◌, ◌<◌, ◌-◌, ℕ, IfOk, Some, cond, length};
 ghost use Rattle.jvm_model.specs.declared.instr.Instr.TheVariants as form;
-ghost use Rattle.jvm_model.specs.Classes.{form_at};
-ghost use Rattle.jvm_model.specs.Entries.{Entries, with_place};
+ghost use Rattle.jvm_model.specs.{Classes.form_at, Entries.Entries, Entries.with_place};
 ghost use Rattle.jvm_model.specs.Step as steps;
 ghost use Rattle.vm_frames.specs.Stack.{HasIntOnTop, HasRoom};
 ghost use Rattle.vm_mem.specs.Refines.{IsNext, IsReady};
@@ -12,9 +11,8 @@ ghost use Rattle.vm_interp.specs.declared.flow.Flow.TheVariants.{Jump, FallThrou
 ghost use Rattle.vm_arith.specs.Pure.{Ends, HasRow};
 ghost use Rattle.vm_interp.specs.Dispatching.{CanRun, IsLeft, MakesFlow, next_of, place_behind, settled, settled_flow, settled_units};
 ghost use Rattle.check_sound.specs.ReachLaw.{puts};
-ghost use Rattle.vm_interp.specs.Reaching.{HasPlaceBelow, HasSpace};
+ghost use Rattle.vm_interp.specs.{Reaching.HasPlaceBelow, Reaching.HasSpace, Rows.IsOnObject, Rows.form_row};
 ghost use Rattle.vm_calls.specs.Calls.{object_row};
-ghost use Rattle.vm_interp.specs.Rows.{IsOnObject, form_row};
 
 use crate::cursor::InstrCursor;
 use crate::flow::Flow;

@@ -1,11 +1,9 @@
 //! How a test is judged.
 
 ghost use Rattle.std.specs.Prelude.{◌≡◌, List, ℕ};
-ghost use Rattle.jvm_model.specs.Access.{spend};
+ghost use Rattle.jvm_model.specs.{Access.spend, View.counted, World.World};
 ghost use Rattle.jvm_model.specs.Driver as driver;
 ghost use Rattle.jvm_model.specs.State as states;
-ghost use Rattle.jvm_model.specs.View.{counted};
-ghost use Rattle.jvm_model.specs.World.{World};
 ghost use Rattle.vm_interp.specs.declared.state.State.{State};
 ghost use Rattle.vm_interp.specs.Turns.{IsFit, MakesPart, step_outcome};
 ghost use Rattle.vm_interp.specs.Driving.{judge_part, judge_value_part};

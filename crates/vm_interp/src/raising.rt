@@ -2,9 +2,7 @@
 
 ghost use Rattle.std.specs.Prelude.{◌≡◌};
 ghost use Rattle.jvm_model.specs.State as states;
-ghost use Rattle.vm_interp.specs.Abs.{abs};
-ghost use Rattle.vm_interp.specs.Turns.{MakesPart};
-ghost use Rattle.vm_interp.specs.Driving.{throw_part};
+ghost use Rattle.vm_interp.specs.{Abs.abs, Turns.MakesPart, Driving.throw_part};
 
 use crate::state::State;
 use crate::step_outcome::StepOutcome;

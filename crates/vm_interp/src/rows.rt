@@ -8,8 +8,7 @@ ghost use Rattle.vm_arith.specs.Pure.{TouchesNothing};
 ghost use Rattle.vm_mem.specs.Refines.{IsNext, IsReady, Makes};
 ghost use Rattle.vm_calls.specs.Calls.{return_row};
 ghost use Rattle.check_sound.specs.ReachLaw.{puts};
-ghost use Rattle.vm_interp.specs.Reaching.{HasPlaceBelow, HasSpace};
-ghost use Rattle.vm_interp.specs.Rows.{form_row, throw_row};
+ghost use Rattle.vm_interp.specs.{Reaching.HasPlaceBelow, Reaching.HasSpace, Rows.form_row, Rows.throw_row};
 
 use et_base::NoMemory;
 use jvm_model::{EntryKind, Instr, NULL_POINTER_EXCEPTION, Next, Value};

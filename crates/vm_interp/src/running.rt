@@ -1,15 +1,11 @@
 //! The steps of a test.
 
 ghost use Rattle.std.specs.Prelude.{◌≡◌, ◌<◌, ◌≤◌, length, IfOk, IfSome};
-ghost use Rattle.jvm_model.specs.Linked.{Linked};
-ghost use Rattle.jvm_model.specs.State.{started};
-ghost use Rattle.jvm_model.specs.Suite.{one_test};
-ghost use Rattle.type_frames.specs.Typing.{IsTyped};
-ghost use Rattle.type_frames.specs.TypedState.{TypedWorld};
+ghost use Rattle.jvm_model.specs.{Linked.Linked, State.started, Suite.one_test};
+ghost use Rattle.type_frames.specs.{Typing.IsTyped, TypedState.TypedWorld};
 ghost use Rattle.check_sound.specs.ReachLaw.{HasStackLimits};
 ghost use Rattle.vm_interp.specs.Reaching.{AllSafe, TracesTest, given_by};
-ghost use Rattle.vm_interp.specs.Abs.{abs};
-ghost use Rattle.vm_interp.specs.Turns.{AreOf};
+ghost use Rattle.vm_interp.specs.{Abs.abs, Turns.AreOf};
 
 use crate::dispatching::run_slice;
 use crate::state::State;

@@ -2,8 +2,7 @@
 
 ghost use Rattle.std.specs.Prelude.{◌≡◌, true, false, IfOk};
 ghost use Rattle.jvm_model.specs.State as states;
-ghost use Rattle.vm_interp.specs.Reaching.{IsRunning};
-ghost use Rattle.vm_interp.specs.Abs.{abs};
+ghost use Rattle.vm_interp.specs.{Reaching.IsRunning, Abs.abs};
 
 use et_base::{NoMemory, Text};
 use jvm_model::{EntryKind, Own, Program, Stage, TestEntry, Value};

@@ -1,13 +1,8 @@
 -- Layouts of all class numbers, and the object that was just made.
 use Rattle.std.proofs.Common.{◌≡◌, ℕ, ◌<◌, ◌≤◌, List, [], ◌∷◌, ◌++◌, length, get_or, None, refl, sym, ap, ◌∙◌, arith, inl, inr}
-use Rattle.std.proofs.lemmas.Bool.{cases_lt}
-use Rattle.std.proofs.lemmas.List.{length-replicate}
-use Rattle.std.proofs.Math.ListN.{get_or-eq_default}
-use Rattle.std.proofs.Math.Seq.{get_or-append_seam}
-use Rattle.jvm_model.specs.declared.values.Value.{Value}
-use Rattle.jvm_model.specs.declared.values.Head.{Head}
-use Rattle.jvm_model.specs.declared.values.Kind.{Kind}
-use Rattle.jvm_model.specs.declared.values.Kind.TheVariants.{Class, Array}
+use Rattle.std.proofs.lemmas.{Bool.cases_lt, List.length-replicate}
+use Rattle.std.proofs.{Math.ListN.get_or-eq_default, Math.Seq.get_or-append_seam}
+use Rattle.jvm_model.specs.declared.values.{Value.Value, Head.Head, Kind.Kind, Kind.TheVariants.Class, Kind.TheVariants.Array}
 use Rattle.jvm_model.specs.declared.program.Program.{Program}
 use Rattle.jvm_model.specs.World.{World, Object, size, object_at, make_object, no_object}
 use Rattle.jvm_model.specs.Classes.{class_at, no_class, class_bound, layout, fields_of, elems_of, element_default, blank}

@@ -1,8 +1,7 @@
 ghost use Rattle.std.specs.Prelude.{◌≡◌, IfOk};
 ghost use Rattle.jvm_model.specs.declared.values.Kind.TheVariants.{Class};
-ghost use Rattle.jvm_model.specs.Classes.{blank, fields_of};
+ghost use Rattle.jvm_model.specs.{Classes.blank, Classes.fields_of, Linked.Linked};
 ghost use Rattle.jvm_model.specs.Classes as classes;
-ghost use Rattle.jvm_model.specs.Linked.{Linked};
 
 use crate::object::Object;
 use et_base::{Items, NoMemory};

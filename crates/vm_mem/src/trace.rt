@@ -3,9 +3,8 @@ ghost use Rattle.jvm_model.specs.Access.{made, fields_made, elems_made};
 ghost use Rattle.jvm_model.specs.Linked.{Linked};
 ghost use Rattle.jvm_model.specs.Suite as suite;
 ghost use Rattle.jvm_model.specs.declared.values.Touch.{Touch};
-ghost use Rattle.vm_mem.specs.Trace.{Trace, empty_trace};
+ghost use Rattle.vm_mem.specs.{Trace.Trace, Trace.empty_trace, Noting.noted_by, Noting.all_noted};
 ghost use Rattle.vm_mem.specs.Stores as stores;
-ghost use Rattle.vm_mem.specs.Noting.{noted_by, all_noted};
 
 use crate::memory::Memory;
 use crate::noted::Noted;

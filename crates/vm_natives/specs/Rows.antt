@@ -1,17 +1,13 @@
 -- The rows of built-in methods and of their ends, as contracts name them.
 use Rattle.std.specs.Prelude.{ℕ, ℤ, pos, List, ◌∷◌, length, get_or, Option, Some, None}
 use Rattle.std.specs.Str.{bytes_eq}
-use Rattle.jvm_model.specs.declared.values.Value.{Value}
+use Rattle.jvm_model.specs.declared.values.{Value.Value, Value.TheVariants.Int}
 use Rattle.jvm_model.specs.declared.library.Native.{Native}
 use Rattle.jvm_model.specs.declared.library.Native.TheVariants as native
 use Rattle.jvm_model.specs.declared.outcome.Own.{Own}
-use Rattle.jvm_model.specs.Entries.{Entries}
-use Rattle.jvm_model.specs.declared.values.Value.TheVariants.{Int}
+use Rattle.jvm_model.specs.{Entries.Entries, Access.write, Access.spend, Builtin.string_class, Builtin.string_index_exception, Natives.row_native}
 use Rattle.jvm_model.specs.declared.values.Location.TheVariants as place
-use Rattle.jvm_model.specs.Access.{write, spend}
-use Rattle.jvm_model.specs.Builtin.{string_class, string_index_exception}
 use Rattle.jvm_model.specs.Rows.{faults, on_object, on_text}
-use Rattle.jvm_model.specs.Natives.{row_native}
 use Rattle.jvm_model.specs.NativesObject.{native_object, native_throwable, sets_message, makes_message}
 use Rattle.jvm_model.specs.NativesString.{native_string, native_builder, text_index, answers_part, compares, joined, appends}
 use Rattle.jvm_model.specs.NativesOutside.{native_system, native_print, native_files, native_env}

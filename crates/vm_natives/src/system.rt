@@ -4,8 +4,7 @@ ghost use Rattle.jvm_model.specs.declared.library.Native.{Native};
 ghost use Rattle.jvm_model.specs.World.{World};
 ghost use Rattle.vm_frames.specs.Stack.{HasRoom};
 ghost use Rattle.vm_mem.specs.Refines.{IsReady, IsNext, Refines, Makes};
-ghost use Rattle.vm_natives.specs.Rows.{with_own, system_row};
-ghost use Rattle.vm_natives.specs.Named.{property_row, property_change_row};
+ghost use Rattle.vm_natives.specs.{Rows.with_own, Rows.system_row, Named.property_row, Named.property_change_row};
 
 use crate::named::answer_for;
 use crate::working::{answer, answer_text};

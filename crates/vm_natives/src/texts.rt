@@ -1,8 +1,7 @@
 //! Works on the texts of strings.
 
 ghost use Rattle.std.specs.Prelude.{◌≡◌, ◌<◌, ◌≤◌, ◌-◌, IfOk, pos, length, take, drop};
-ghost use Rattle.std.specs.Fmt.{signed_decimal};
-ghost use Rattle.std.specs.Str.{bytes_eq};
+ghost use Rattle.std.specs.{Fmt.signed_decimal, Str.bytes_eq};
 ghost use Rattle.et_base.specs.Numbers as numbers;
 ghost use Rattle.jvm_model.specs.NativesString as natives;
 ghost use Rattle.jvm_model.specs.Working as working;

@@ -1,15 +1,10 @@
 -- How the elements of an outer array are filled, one after another.
 use Rattle.std.proofs.Common.{◌≡◌, ℕ, suc, List, [], ◌∷◌, ◌++◌, ◌-◌, ◌<◌, ◌≤◌, ◌+◌, ap, ◌∙◌, subst, arith}
-use Rattle.jvm_model.specs.declared.values.Touch.{Touch}
-use Rattle.jvm_model.specs.declared.values.Value.{Value}
-use Rattle.jvm_model.specs.declared.values.Kind.{Kind}
+use Rattle.jvm_model.specs.declared.values.{Touch.Touch, Value.Value, Kind.Kind, Value.TheVariants.Obj}
 use Rattle.jvm_model.specs.declared.program.Program.{Program}
-use Rattle.jvm_model.specs.declared.values.Value.TheVariants.{Obj}
 use Rattle.jvm_model.specs.declared.values.Location.TheVariants as place
-use Rattle.jvm_model.specs.World.{World, put}
+use Rattle.jvm_model.specs.{World.World, World.put, Entries.Entries, Rows.goes_on}
 use Rattle.jvm_model.specs.Access.{Access, done, write, bind, write_of}
-use Rattle.jvm_model.specs.Entries.{Entries}
-use Rattle.jvm_model.specs.Rows.{goes_on}
 use Rattle.jvm_model.specs.RowsCreate.{children, nest, nested}
 use Rattle.jvm_model.specs.View.{counted, ended, and_then, touched, Exists, IsSafe, Any}
 use Rattle.vm_mem.specs.Trace.{Trace}

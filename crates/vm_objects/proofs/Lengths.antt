@@ -3,15 +3,12 @@ use Rattle.std.proofs.Common.{◌≡◌, ◌<◌, ◌≤◌, ◌+◌, ◌-◌, �
 use Rattle.std.specs.Prelude.{take, drop, length, slice_set}
 use Rattle.std.proofs.lemmas.Result.{IfOk-weaker}
 use Rattle.std.proofs.lemmas.List.{drop-set, take_all, length-drop}
-use Rattle.jvm_model.specs.declared.values.Value.{Value}
+use Rattle.jvm_model.specs.declared.values.{Value.Value, Kind.Kind, Touch.Touch}
 use Rattle.jvm_model.specs.declared.values.Value.TheVariants.{Int, Long, Null, Lit, Obj}
-use Rattle.jvm_model.specs.declared.values.Kind.{Kind}
-use Rattle.jvm_model.specs.declared.values.Touch.{Touch}
 use Rattle.jvm_model.specs.declared.instr.Instr.TheVariants as form
 use Rattle.jvm_model.specs.declared.outcome.Next.{Next}
 use Rattle.jvm_model.specs.declared.program.Program.{Program}
-use Rattle.jvm_model.specs.World.{World}
-use Rattle.jvm_model.specs.Entries.{Entries, with_stack}
+use Rattle.jvm_model.specs.{World.World, Entries.Entries, Entries.with_stack}
 use Rattle.jvm_model.specs.RowsCreate.{row_create, sized, nested}
 use Rattle.jvm_model.specs.View.{IsSafe, IsRow, counted, paid, counts_one, touched}
 use Rattle.vm_mem.specs.Trace.{Trace}

@@ -2,9 +2,7 @@
 use Rattle.std.proofs.Common.{◌≡◌, ℕ, Bool, false, sym, ap, ◌∙◌}
 use Rattle.jvm_model.specs.declared.instr.Instr.TheVariants as form
 use Rattle.jvm_model.specs.declared.program.Program.{Program}
-use Rattle.jvm_model.specs.Classes.{field_at}
-use Rattle.jvm_model.specs.Entries.{Entries}
-use Rattle.jvm_model.specs.Rows.{using}
+use Rattle.jvm_model.specs.{Classes.field_at, Entries.Entries, Rows.using}
 use Rattle.jvm_model.specs.RowsStatics.{row_statics, read_static, write_static}
 use Rattle.jvm_model.specs.RowsCreate.{row_create, new_object, is_bare}
 

@@ -3,14 +3,9 @@
 use Rattle.std.specs.Prelude.{ℕ, ℤ, pos, negsuc, cond, nat_lt, Option, Some, None}
 use Rattle.jvm_model.specs.declared.values.Value.{Value}
 use Rattle.jvm_model.specs.declared.values.Location.TheVariants as place
-use Rattle.jvm_model.specs.declared.instr.Cell.{Cell}
-use Rattle.jvm_model.specs.declared.instr.Instr.{Instr}
-use Rattle.jvm_model.specs.Access.{read}
-use Rattle.jvm_model.specs.Entries.{Entries}
+use Rattle.jvm_model.specs.declared.instr.{Cell.Cell, Instr.Instr}
+use Rattle.jvm_model.specs.{Access.read, Entries.Entries, RowsFields.row_fields, RowsArrays.row_arrays, RowsArrays.stored_in, RowsCasts.row_casts}
 use Rattle.jvm_model.specs.RowsStatics.{row_statics, read_static, write_static}
-use Rattle.jvm_model.specs.RowsFields.{row_fields}
-use Rattle.jvm_model.specs.RowsArrays.{row_arrays, stored_in}
-use Rattle.jvm_model.specs.RowsCasts.{row_casts}
 use Rattle.jvm_model.specs.RowsCreate.{row_create, new_object}
 use Rattle.vm_mem.specs.Refines.{Row}
 

@@ -1,13 +1,8 @@
 -- Arrays of arrays: their lengths, and what is left of their row.
 use Rattle.std.specs.Prelude.{ℕ, zero, suc, List, [], ◌∷◌, drop, Option, Some, None}
-use Rattle.jvm_model.specs.declared.values.Value.{Value}
-use Rattle.jvm_model.specs.declared.values.Kind.{Kind}
+use Rattle.jvm_model.specs.declared.values.{Value.Value, Kind.Kind}
 use Rattle.jvm_model.specs.declared.program.Program.{Program}
-use Rattle.jvm_model.specs.Access.{Access}
-use Rattle.jvm_model.specs.Builtin.{negative_size_exception}
-use Rattle.jvm_model.specs.Entries.{Entries, with_stack}
-use Rattle.jvm_model.specs.Rows.{Answer, faults}
-use Rattle.jvm_model.specs.RowsCreate.{nested}
+use Rattle.jvm_model.specs.{Access.Access, Builtin.negative_size_exception, Entries.Entries, Entries.with_stack, Rows.Answer, Rows.faults, RowsCreate.nested}
 use Rattle.vm_frames.specs.Slots.{IsInt}
 use Rattle.vm_mem.specs.Refines.{Row}
 

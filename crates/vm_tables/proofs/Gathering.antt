@@ -1,17 +1,14 @@
 -- Superinterfaces noted one after another.
 use Rattle.std.proofs.Common.{◌≡◌, ℕ, ◌+◌, ◌*◌, ◌<◌, List, [], ◌∷◌, ◌++◌, append-nil, length, get_or, take, flat_map, All, false, true, nat_eq, sym, ◌∙◌, ap, subst, inl, inr, arith, length-append}
-use Rattle.std.proofs.lemmas.Bool.{or_cases, eqb-true}
-use Rattle.std.proofs.lemmas.List.{take_more}
-use Rattle.std.proofs.lemmas.List.Concat.{flat_map-append}
-use Rattle.std.proofs.lemmas.List.Folds.{length-flat_map-take}
+use Rattle.std.proofs.lemmas.{Bool.or_cases, Bool.eqb-true, List.take_more}
+use Rattle.std.proofs.{lemmas.List.Concat.flat_map-append, lemmas.List.Folds.length-flat_map-take}
 use Rattle.indexmap.specs.IndexSet.{insert_key, insert_all}
 use Rattle.jvm_model.specs.declared.program.Program.{Program}
 use Rattle.jvm_model.specs.Classes.{class_at, member, first_mentions, own_interfaces}
 use Rattle.jvm_model.specs.Linked.{IsClass, Linked}
 use Rattle.jvm_model.proofs.Walks.{lineage_step}
 use Rattle.member_lookup.proofs.Ancestry.{member_kept, member_there, member_from}
-use Rattle.member_lookup.proofs.Walking.{insert_append, insert_known}
-use Rattle.member_lookup.proofs.MentionFacts.{first_is}
+use Rattle.member_lookup.proofs.{Walking.insert_append, Walking.insert_known, MentionFacts.first_is}
 use Rattle.vm_tables.specs.Interfaces.{lineage, IsClosed, Gathers}
 
 module _ (p : Program) where

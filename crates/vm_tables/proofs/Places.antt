@@ -1,14 +1,10 @@
 -- The numbers of instructions by byte place.
 use Rattle.std.proofs.Common.{inl, inr, ◌≡◌, ◌≢◌, ℕ, zero, suc, ◌<◌, ◌≤◌, ◌+◌, ◌-◌, List, [], ◌∷◌, ◌++◌, length, get_or, set, take, drop, cond, eqb, Bool, true, false, Option, Some, None, IsSome, slice_get, refl, sym, ap, ◌∙◌, arith, subst, get_or-set_other, get_or-set_same}
-use Rattle.std.proofs.lemmas.List.Elements.{All-get_or}
+use Rattle.std.proofs.{lemmas.List.Elements.All-get_or, Math.Seq.get_or-append_seam}
 use Rattle.std.proofs.lemmas.Bool.{eqb-true, eqb-false, cases_lt}
 use Rattle.std.proofs.lemmas.List.{get_or_default, take_more, length-take-le, get_or-take, get_or_append_left, get_or_past, drop_all, length_push}
-use Rattle.std.proofs.Math.Seq.{get_or-append_seam}
 use Rattle.jvm_model.specs.declared.instr.Instr.{Instr}
-use Rattle.jvm_model.specs.declared.program.Placed.{Placed}
-use Rattle.jvm_model.specs.declared.program.Body.{Body}
-use Rattle.jvm_model.specs.declared.program.MethodRec.{MethodRec}
-use Rattle.jvm_model.specs.declared.program.Program.{Program}
+use Rattle.jvm_model.specs.declared.program.{Placed.Placed, Body.Body, MethodRec.MethodRec, Program.Program}
 use Rattle.jvm_model.specs.Classes.{layout, method_at, Found, found_in, found_of, form_at, next_place, place_after}
 use Rattle.jvm_model.specs.Linked.{Ascends, IsBody}
 use Rattle.vm_tables.specs.Numbers.{AreCells, AreNumbers, code_of, one_later, number_in, number_of, ArePlaces, AreNexts, AllNexts, after_or, next_of, no_placed, instruction, instruction_of, less_one}

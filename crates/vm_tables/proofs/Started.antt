@@ -6,8 +6,7 @@ use Rattle.std.proofs.lemmas.List.Elements.{filter-append}
 use Rattle.jvm_model.specs.declared.program.Program.{Program}
 use Rattle.jvm_model.specs.Classes.{class_at, no_class, class_bound, own_interfaces, default_interfaces, is_interface, is_trivial}
 use Rattle.jvm_model.specs.Initialise.{Part as Before, parts_of, superclass_part}
-use Rattle.jvm_model.specs.Classes.{method_at, no_method}
-use Rattle.jvm_model.specs.Descriptors.{parameters, return_type}
+use Rattle.jvm_model.specs.{Classes.method_at, Classes.no_method, Descriptors.parameters, Descriptors.return_type}
 use Rattle.vm_tables.specs.declared.methods.MethodFacts.{MethodFacts}
 use Rattle.vm_tables.specs.declared.init_plan.Part.{Part}
 use Rattle.vm_tables.specs.Methods.{AreFacts, facts_of, no_facts}

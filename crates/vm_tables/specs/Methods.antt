@@ -2,14 +2,10 @@
 use Rattle.std.specs.Prelude.{◌≡◌, ℕ, ◌+◌, List, length, get_or, false, Option, Some, None}
 use Rattle.std.specs.Str.{bytes_eq}
 use Rattle.jvm_model.specs.declared.library.Native.{Native}
-use Rattle.jvm_model.specs.declared.program.Body.{Body}
-use Rattle.jvm_model.specs.declared.program.MethodRec.{MethodRec}
-use Rattle.jvm_model.specs.declared.program.Program.{Program}
+use Rattle.jvm_model.specs.declared.program.{Body.Body, MethodRec.MethodRec, Program.Program}
 use Rattle.jvm_model.specs.Classes.{init_name, is_trivial, method_at}
-use Rattle.jvm_model.specs.Descriptors.{parameters, return_type}
-use Rattle.jvm_model.specs.Linked.{first_or}
-use Rattle.vm_tables.specs.declared.methods.CallDescriptor.{CallDescriptor}
-use Rattle.vm_tables.specs.declared.methods.MethodFacts.{MethodFacts}
+use Rattle.jvm_model.specs.{Descriptors.parameters, Descriptors.return_type, Linked.first_or}
+use Rattle.vm_tables.specs.declared.methods.{CallDescriptor.CallDescriptor, MethodFacts.MethodFacts}
 
 -- what entering a method of this class takes that has this code
 abbrev pub call_descriptor_by : Program → ℕ → Option Body → Option CallDescriptor

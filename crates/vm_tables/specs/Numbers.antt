@@ -1,9 +1,7 @@
 -- Instructions by number. A table has for each byte place 1 and the number of the instruction there, or 0.
 use Rattle.std.specs.Prelude.{◌≡◌, ℕ, zero, suc, List, [], ◌∷◌, length, cond, nat_eq, get_or, drop, Option, Some, None}
 use Rattle.jvm_model.specs.declared.instr.Instr.TheVariants as form
-use Rattle.jvm_model.specs.declared.program.Program.{Program}
-use Rattle.jvm_model.specs.declared.program.Body.{Body}
-use Rattle.jvm_model.specs.declared.program.Placed.{Placed}
+use Rattle.jvm_model.specs.declared.program.{Program.Program, Body.Body, Placed.Placed}
 use Rattle.jvm_model.specs.Classes.{layout, Found, found_of, place_after, method_at}
 use Rattle.vm_tables.specs.FieldUnits.{AreUnits}
 

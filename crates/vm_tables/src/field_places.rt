@@ -1,8 +1,7 @@
 //! Where a field's cell stands in an object.
 
 ghost use Rattle.std.specs.Prelude.{◌≡◌, ℕ, ◌<◌, All, IfOk, cond, get_or, length, true};
-ghost use Rattle.jvm_model.specs.Classes.{layout, member};
-ghost use Rattle.jvm_model.specs.Linked.{Linked};
+ghost use Rattle.jvm_model.specs.{Classes.layout, Classes.member, Linked.Linked};
 ghost use Rattle.vm_tables.specs.FieldPlaces.{IsHeld, place};
 
 use et_base::NoMemory;

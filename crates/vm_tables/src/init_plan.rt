@@ -1,8 +1,7 @@
 //! What is initialised before a class.
 
 ghost use Rattle.std.specs.Prelude.{◌≡◌, ◌∷◌, [], ◌++◌, IfOk, OnOk, filter, map};
-ghost use Rattle.jvm_model.specs.Initialise.{parts_of, superclass_part};
-ghost use Rattle.jvm_model.specs.Linked.{Linked};
+ghost use Rattle.jvm_model.specs.{Initialise.parts_of, Initialise.superclass_part, Linked.Linked};
 ghost use Rattle.vm_tables.specs.Starts.{part_of, interface_part, is_started};
 
 use crate::interfaces::DefaultInterfaces;

@@ -3,8 +3,7 @@
 ghost use Rattle.std.specs.Prelude.{◌≡◌, ◌&&◌, All, IfOk, OnOk, filter, flat_map, is_some, not};
 ghost use Rattle.std.specs.List.{list_any};
 ghost use Rattle.jvm_model.specs.Classes as classes;
-ghost use Rattle.jvm_model.specs.Classes.{class_at, method_at};
-ghost use Rattle.jvm_model.specs.Linked.{Linked, IsClass};
+ghost use Rattle.jvm_model.specs.{Classes.class_at, Classes.method_at, Linked.Linked, Linked.IsClass};
 ghost use Rattle.vm_tables.specs.Interfaces.{lineage, IsClosed, Gathers};
 
 use et_base::{Items, NoMemory};

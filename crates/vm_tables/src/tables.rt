@@ -4,15 +4,10 @@ ghost use Rattle.std.specs.Prelude.{◌≡◌, ◌<◌, IfOk, IfSome, IsSome, le
 ghost use Rattle.std.specs.Str.{bytes_eq};
 ghost use Rattle.jvm_model.specs.Classes as classes;
 ghost use Rattle.jvm_model.specs.Classes.{found_of, method_at, layout};
-ghost use Rattle.jvm_model.specs.Initialise.{parts_of};
-ghost use Rattle.jvm_model.specs.RowsCalls.{argument_count};
-ghost use Rattle.jvm_model.specs.Linked.{IsBody, Linked};
+ghost use Rattle.jvm_model.specs.{Initialise.parts_of, RowsCalls.argument_count, Linked.IsBody, Linked.Linked, Selection.all_interfaces};
 ghost use Rattle.jvm_model.specs.Kinds as kinds;
-ghost use Rattle.jvm_model.specs.Selection.{all_interfaces};
-ghost use Rattle.vm_tables.specs.FieldUnits.{field_unit, AreUnits};
-ghost use Rattle.vm_tables.specs.Methods.{call_descriptor_of, return_unit};
+ghost use Rattle.vm_tables.specs.{FieldUnits.field_unit, FieldUnits.AreUnits, Methods.call_descriptor_of, Methods.return_unit, Starts.part_of};
 ghost use Rattle.vm_tables.specs.Numbers.{code_of, instruction_of, no_placed, AllNexts, AreCells, AreNexts, AreNumbers, ArePlaces};
-ghost use Rattle.vm_tables.specs.Starts.{part_of};
 
 use crate::hierarchy::Hierarchy;
 use crate::init_plan::{InitPlan, Part};

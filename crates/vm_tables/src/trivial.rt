@@ -3,8 +3,7 @@
 ghost use Rattle.std.specs.Prelude.{◌≡◌, IfOk, not};
 ghost use Rattle.std.specs.List.{list_all};
 ghost use Rattle.jvm_model.specs.Classes as classes;
-ghost use Rattle.jvm_model.specs.Classes.{upwards_in};
-ghost use Rattle.jvm_model.specs.Linked.{Linked};
+ghost use Rattle.jvm_model.specs.{Classes.upwards_in, Linked.Linked};
 ghost use Rattle.vm_tables.specs.Starts.{is_silent};
 
 use crate::interfaces::DefaultInterfaces;

@@ -2,13 +2,11 @@
 use Rattle.std.proofs.Common.{◌≡◌, ℕ, ◌+◌, ◌-◌, ◌<◌, ◌≤◌, List, [], ◌∷◌, ◌++◌, length, length-append, reverse, slice_get, Bool, true, false, refl, sym, ◌∙◌, ap, subst, inl, inr, arith, true≢false}
 use Rattle.std.proofs.lemmas.Bool.{cases_lt}
 use lib.ListN.{get_or-eq_default}
-use Rattle.order_law.specs.Conflicts.{Member}
+use Rattle.order_law.specs.{Conflicts.Member, RecordForm.are_chains}
 use Rattle.order_law.specs.Plan as law
-use Rattle.order_law.specs.RecordForm.{are_chains}
 use Rattle.order_law.proofs.Posts.{of_cons, member_mid, reversed, law_of_histories, forms_apart}
 use Rattle.test_run.specs.Running.{Posted}
-use Rattle.run_core.specs.declared.events.Event.TheVariants.{Claim, Post}
-use Rattle.run_core.specs.declared.events.Refused.{Refused}
+use Rattle.run_core.specs.declared.events.{Event.TheVariants.Claim, Event.TheVariants.Post, Refused.Refused}
 use Rattle.run_core.specs.declared.events.Refused.TheVariants.{InHand, Taken, Idle, NotNext, OtherList}
 use Rattle.run_core.specs.Refusal.{HasNone, HasOpen, IsRefused}
 use Rattle.run_core.specs.Run.{Run, IsLegal, IsComplete, IsWorker, history, most_events}

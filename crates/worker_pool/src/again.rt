@@ -3,8 +3,7 @@
 ghost use Rattle.std.specs.Prelude.{◌≡◌, ◌++◌, ◌∷◌, [], None, false, IfOk, IfErr};
 ghost use Rattle.jvm_model.specs.Suite.{first_over};
 ghost use Rattle.order_law.specs.Histories.{IsTestNumber};
-ghost use Rattle.worker_pool.specs.Faults.{IsRunFault};
-ghost use Rattle.worker_pool.specs.Plans.{AreTests};
+ghost use Rattle.worker_pool.specs.{Faults.IsRunFault, Plans.AreTests};
 
 use outside::{Gate, Steps};
 use std::marker::Brand;

@@ -2,9 +2,7 @@
 
 ghost use Rattle.std.specs.Prelude.{◌≡◌, ◌+◌, ◌<◌, ℕ, length, reverse, None, true, IfOk, IfErr, IfSome};
 ghost use Rattle.jvm_model.specs.Suite.{first_over};
-ghost use Rattle.order_law.specs.Histories.{IsTestNumber};
-ghost use Rattle.order_law.specs.Plan.{posts};
-ghost use Rattle.order_law.specs.RecordForm.{are_chains};
+ghost use Rattle.order_law.specs.{Histories.IsTestNumber, Plan.posts, RecordForm.are_chains};
 ghost use Rattle.run_core.specs.Refusal.{HasOpen};
 ghost use Rattle.run_core.specs.Run.{IsComplete, IsLegal, IsWorker, history};
 ghost use Rattle.worker_pool.specs.Faults.{IsPlanFault, IsRunFault};

@@ -2,8 +2,7 @@
 
 ghost use Rattle.std.specs.Prelude.{◌≡◌, ◌+◌, ◌<◌, ◌^◌, All, length, map, IfOk, IfErr};
 ghost use Rattle.run_core.specs.Run.{IsComplete, IsLegal};
-ghost use Rattle.worker_pool.specs.Faults.{IsPlanFault};
-ghost use Rattle.worker_pool.specs.Plans.{HaveTests, units_of};
+ghost use Rattle.worker_pool.specs.{Faults.IsPlanFault, Plans.HaveTests, Plans.units_of};
 
 use crate::chain_jobs::ChainJobs;
 use crate::finish::{count, finish};

@@ -1,5 +1,4 @@
-use Rattle.access_tags.proofs.Spread.{numbers_law}
-use Rattle.access_tags.proofs.Changes.{changes_law}
+use Rattle.access_tags.proofs.{Spread.numbers_law, Changes.changes_law}
 use Rattle.access_tags.proofs.numbers_law.Goals as goal
 
 pub returns : goal.returns

@@ -1,5 +1,4 @@
-use Rattle.access_tags.proofs.Conflicts.{tags_law}
-use Rattle.access_tags.proofs.EdgeRows.{rows_law}
+use Rattle.access_tags.proofs.{Conflicts.tags_law, EdgeRows.rows_law}
 use Rattle.access_tags.proofs.tags_law.Goals as goal
 
 pub returns : goal.returns

@@ -1,6 +1,4 @@
-use Rattle.check_sound.proofs.AllGroups.{groups}
-use Rattle.check_sound.proofs.HeadsStay.{heads_stay}
-use Rattle.check_sound.proofs.WholeStep.{stays_typed}
+use Rattle.check_sound.proofs.{AllGroups.groups, HeadsStay.heads_stay, WholeStep.stays_typed}
 use Rattle.check_sound.proofs.step_law.Goals as goal
 
 pub returns-clause-stays : goal.returns-clause-stays

@@ -1,25 +1,18 @@
 -- The suite of one test that only returns is a linked program, so the rules of linked programs can be met.
 use Rattle.std.proofs.Common.{◌≡◌, ℕ, zero, suc, ◌<◌, ◌≤◌, List, [], ◌∷◌, length, get_or, Bool, true, false, not, ◌&&◌, nat_eq, nat_lt, is_none, refl, sym, ◌∙◌, ap, subst, inl, inr, arith, Option, Some, None, IfSome, All}
-use Rattle.std.specs.List.{list_all}
+use Rattle.std.specs.{List.list_all, Str.bytes_eq}
 use Rattle.std.proofs.lemmas.Bool.{and_parts, and_from, eqb-true, eq-eqb, ltb-true, cases_lt}
-use Rattle.jvm_model.specs.declared.program.ClassRec.{ClassRec}
-use Rattle.jvm_model.specs.declared.program.Body.{Body}
-use Rattle.jvm_model.specs.declared.program.Program.{Program}
-use Rattle.jvm_model.specs.declared.program.Placed.{Placed}
+use Rattle.jvm_model.specs.declared.program.{ClassRec.ClassRec, Body.Body, Program.Program, Placed.Placed}
 use Rattle.jvm_model.specs.declared.instr.Instr.TheVariants as form
-use Rattle.std.specs.Str.{bytes_eq}
-use Rattle.jvm_model.specs.Builtin.{object_class}
+use Rattle.jvm_model.specs.{Builtin.object_class, Suite.suite_limit}
 use Rattle.jvm_model.specs.Library.{builtin_defs, builtin_classes, builtin_fields, builtin_methods}
 use Rattle.jvm_model.specs.Classes.{no_class, class_at, field_at, method_at, class_bound, is_static, default_of, member}
-use Rattle.jvm_model.specs.Suite.{suite_limit}
 use Rattle.et_base.proofs.Texts.{units_same}
 use Rattle.et_base.specs.Names.{is_class_name, is_unqualified, is_method_name, is_field_descriptor, is_method_descriptor, after_class, after_element, after_type, argument, arguments, argument_units}
 use Rattle.jvm_model.specs.Linked.{IsClass, IsField, IsMethod, IsGiven, HoldsBuiltins, NamesClass, NamesForm, NamesBody, NamesEntries, IsDirect, IsAncestor, direct, further, IsClassKind, IsFormKind, IsBodyKind, HasKinds, IsDistinct, count, has_room, IsInitialiser, IsListed, IsForm, IsBody, IsFormFound, FindsMembers, opens, HasOpenings, IsTest, Linked}
 use Rattle.std.proofs.lemmas.List.{get_or_past}
-use Rattle.jvm_model.proofs.BuiltinRules.{all_at}
-use Rattle.jvm_model.proofs.Interfaces.{none_listed}
+use Rattle.jvm_model.proofs.{BuiltinRules.all_at, Interfaces.none_listed, Examples.Suites.return_suite}
 use Rattle.jvm_model.proofs.Examples.Parts.{body, returns, test}
-use Rattle.jvm_model.proofs.Examples.Suites.{return_suite}
 
 -- whether a test holds of all numbers below n
 abbrev below : ℕ → (ℕ → Bool) → Bool

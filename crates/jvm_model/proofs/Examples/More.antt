@@ -7,21 +7,15 @@ use Rattle.jvm_model.specs.declared.values.Location.TheVariants as place
 use Rattle.jvm_model.specs.declared.outcome.Outcome.{Outcome}
 use Rattle.jvm_model.specs.declared.instr.Cell.TheVariants as cell
 use Rattle.jvm_model.specs.declared.instr.Conv.TheVariants as conv
-use Rattle.jvm_model.specs.declared.instr.Instr.{Instr}
+use Rattle.jvm_model.specs.declared.instr.{Instr.Instr, Op.TheVariants.Add, Op.TheVariants.Div}
 use Rattle.jvm_model.specs.declared.values.Kind.TheVariants as kind
 use Rattle.jvm_model.specs.declared.instr.Instr.TheVariants as form
-use Rattle.jvm_model.specs.declared.instr.Op.TheVariants.{Add, Div}
 use Rattle.jvm_model.specs.declared.instr.Sort.TheVariants as sort
 use Rattle.jvm_model.specs.declared.instr.IfTest.TheVariants as if_test
 use Rattle.jvm_model.specs.declared.program.Program.{Program}
 use Rattle.jvm_model.specs.Suite.{Given, opening, one_test, runs, all_tests, over_budget, suite_fault}
-use Rattle.jvm_model.specs.Step.{step}
-use Rattle.jvm_model.specs.RowsCreate.{nest_cost}
-use Rattle.jvm_model.specs.World.{World}
-use Rattle.jvm_model.specs.Access.{run}
+use Rattle.jvm_model.specs.{Step.step, RowsCreate.nest_cost, World.World, Access.run, Step.step, Step.turn, Reached.thrown_itself}
 use Rattle.jvm_model.specs.State.{State, started, next, ended, stuck_turn}
-use Rattle.jvm_model.specs.Step.{step, turn}
-use Rattle.jvm_model.specs.Reached.{thrown_itself}
 use Rattle.jvm_model.proofs.OnLiterals.{machine_on_literals}
 use Rattle.jvm_model.proofs.Examples.Parts.{program, class, body, fixed, plain, test, int_const, literal, static_int, get_static, put_static, returns, load_this, print, print_number, gets, sets, shown, passed, error, line}
 

@@ -1,20 +1,12 @@
 -- Parts of small programs that are computed.
 use Rattle.std.proofs.Common.{ℕ, List, [], ◌∷◌, ◌++◌, ◌+◌, Option, Some, None, pos, Bool, true, false, map}
 use Rattle.std.specs.Prelude.{codes}
-use Rattle.jvm_model.specs.declared.values.Value.{Value}
-use Rattle.jvm_model.specs.declared.values.Value.TheVariants.{Int, Lit}
-use Rattle.jvm_model.specs.declared.values.Location.{Location}
+use Rattle.jvm_model.specs.declared.values.{Value.Value, Value.TheVariants.Int, Value.TheVariants.Lit, Location.Location}
 use Rattle.jvm_model.specs.declared.instr.Instr.{Instr}
 use Rattle.jvm_model.specs.declared.instr.Instr.TheVariants as form
 use Rattle.jvm_model.specs.declared.instr.Sort.TheVariants as sort
-use Rattle.jvm_model.specs.declared.outcome.Outcome.{Outcome}
-use Rattle.jvm_model.specs.declared.outcome.Verdict.TheVariants.{Passed, Failed, Error}
-use Rattle.jvm_model.specs.declared.program.Program.{Program}
-use Rattle.jvm_model.specs.declared.program.ClassRec.{ClassRec}
-use Rattle.jvm_model.specs.declared.program.FieldRec.{FieldRec}
-use Rattle.jvm_model.specs.declared.program.MethodRec.{MethodRec}
-use Rattle.jvm_model.specs.declared.program.Body.{Body}
-use Rattle.jvm_model.specs.declared.program.Placed.{Placed}
+use Rattle.jvm_model.specs.declared.outcome.{Outcome.Outcome, Verdict.TheVariants.Passed, Verdict.TheVariants.Failed, Verdict.TheVariants.Error}
+use Rattle.jvm_model.specs.declared.program.{Program.Program, ClassRec.ClassRec, FieldRec.FieldRec, MethodRec.MethodRec, Body.Body, Placed.Placed}
 use Rattle.jvm_model.specs.declared.program.TestEntry.{TestEntry}
 use Rattle.jvm_model.specs.Library.{builtin_classes, builtin_fields, builtin_methods}
 use Rattle.jvm_model.specs.Suite.{Given}

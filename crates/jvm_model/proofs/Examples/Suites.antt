@@ -2,20 +2,14 @@
 -- should.
 use Rattle.std.proofs.Common.{◌≡◌, ℕ, List, [], ◌∷◌, ◌++◌, Some, None, refl, map, pos, false}
 use Rattle.std.specs.Prelude.{codes}
-use Rattle.jvm_model.specs.declared.values.Value.TheVariants.{Int, Null}
+use Rattle.jvm_model.specs.declared.values.{Value.TheVariants.Int, Value.TheVariants.Null, InitState.InitState}
 use Rattle.jvm_model.specs.declared.values.Kind.TheVariants as kind
-use Rattle.jvm_model.specs.declared.values.InitState.{InitState}
 use Rattle.jvm_model.specs.declared.values.InitState.TheVariants.{Idle, Running, Done}
 use Rattle.jvm_model.specs.declared.values.Location.TheVariants as place
-use Rattle.jvm_model.specs.declared.instr.Instr.{Instr}
+use Rattle.jvm_model.specs.declared.instr.{Instr.Instr, Op.TheVariants.Div}
 use Rattle.jvm_model.specs.declared.instr.Instr.TheVariants as form
-use Rattle.jvm_model.specs.declared.instr.Op.TheVariants.{Div}
 use Rattle.jvm_model.specs.declared.program.Program.{Program}
-use Rattle.jvm_model.specs.World.{at}
-use Rattle.jvm_model.specs.Access.{run}
-use Rattle.jvm_model.specs.State.{started}
-use Rattle.jvm_model.specs.Classes.{literal_at}
-use Rattle.jvm_model.specs.Descriptors.{parameters, return_type}
+use Rattle.jvm_model.specs.{World.at, Access.run, State.started, Classes.literal_at, Descriptors.parameters, Descriptors.return_type}
 use Rattle.jvm_model.specs.Suite.{opening, whole, runs, all_tests}
 use Rattle.jvm_model.proofs.OnLiterals.{machine_on_literals}
 use Rattle.jvm_model.proofs.Examples.Parts.{program, class, body, fixed, plain, static, field, static_int, test, int_const, literal, get_static, put_static, call_static, returns, load_this, dup, print_number, gets, sets, shown, passed, failed, error, line}

@@ -4,23 +4,17 @@ use Rattle.std.specs.Prelude.{codes}
 use Rattle.std.proofs.lemmas.Bool.{true≢false}
 use Rattle.jvm_model.specs.declared.outcome.Outcome.{Outcome}
 use Rattle.jvm_model.specs.declared.program.Program.{Program}
-use Rattle.jvm_model.specs.Suite.{is_detected, all_tests}
-use Rattle.jvm_model.specs.Linked.{Linked}
-use Rattle.jvm_model.proofs.Examples.Parts.{passed, line}
-use Rattle.jvm_model.proofs.Examples.Suites.{counter_suite, return_suite}
+use Rattle.jvm_model.specs.{Suite.is_detected, Suite.all_tests, Linked.Linked}
+use Rattle.jvm_model.proofs.{Examples.Parts.passed, Examples.Parts.line, Examples.Suites.counter_suite, Examples.Suites.return_suite}
 use Rattle.jvm_model.proofs.Examples.Linked.{return_linked}
-use Rattle.order_law.specs.declared.edges.Edge.{Edge}
-use Rattle.order_law.specs.declared.edges.EdgeKind.{EdgeKind}
-use Rattle.order_law.specs.declared.edges.EdgeKind.TheVariants.{Raw, Waw, War}
+use Rattle.order_law.specs.declared.edges.{Edge.Edge, EdgeKind.EdgeKind, EdgeKind.TheVariants.Raw, EdgeKind.TheVariants.Waw, EdgeKind.TheVariants.War}
 use Rattle.order_law.specs.Conflicts.{Member, HasEdge, Before, Lawful, Closure, selected, source, Joined, itself, forth, back}
 use Rattle.order_law.specs.OrderFault.{twice, missing_writer, inverted}
 use Rattle.order_law.specs.OwnRecord.{edges_of}
 use Rattle.order_law.specs.RecordForm.{is_record_form, is_reach, are_chains}
 use Rattle.order_law.specs.Plan.{chain_at, Ascending, AreChainsOf, AreListedChainsOf, Event, claim, post, claims, Posted, NextOf, Legal, IsComplete}
-use Rattle.order_law.proofs.OnLiterals.{records_on_literals}
+use Rattle.order_law.proofs.{OnLiterals.records_on_literals, Members.joined_within, Posts.ascending_from}
 use Rattle.order_law.proofs.OrderFaults.{order_fault, lawful_list, before-true, before-from}
-use Rattle.order_law.proofs.Members.{joined_within}
-use Rattle.order_law.proofs.Posts.{ascending_from}
 use Rattle.order_law.proofs.Examples.Records.{edge_at, triple, links}
 
 -- read before write, and the suite of three writers and a reader

@@ -2,30 +2,22 @@
 use Rattle.std.proofs.Common.{◌≡◌, ℕ, ◌+◌, ◌≤◌, List, [], ◌∷◌, ◌++◌, map, take, length, replicate, true, false, refl, sym, ◌∙◌, ap, subst, inl, inr, arith, Some, None, pos, nat_eq}
 use Rattle.std.specs.Prelude.{codes}
 use Rattle.std.proofs.lemmas.Bool.{cases_eq}
-use Rattle.jvm_model.specs.declared.values.Touch.{Touch}
-use Rattle.jvm_model.specs.declared.values.Value.TheVariants.{Int, Null}
+use Rattle.jvm_model.specs.declared.values.{Touch.Touch, Value.TheVariants.Int, Value.TheVariants.Null, Location.Location}
 use Rattle.jvm_model.specs.declared.values.Kind.TheVariants as kind
-use Rattle.jvm_model.specs.declared.values.Location.{Location}
 use Rattle.jvm_model.specs.declared.values.Location.TheVariants as place
 use Rattle.jvm_model.specs.declared.instr.Instr.TheVariants as form
 use Rattle.jvm_model.specs.declared.program.Program.{Program}
-use Rattle.jvm_model.specs.Classes.{class_at}
-use Rattle.jvm_model.specs.Linked.{IsGiven}
+use Rattle.jvm_model.specs.{Classes.class_at, Linked.IsGiven}
 use Rattle.jvm_model.proofs.Examples.Parts.{program, class, body, fixed, plain, static, field, static_int, test, int_const, literal, get_static, put_static, print_number, returns, load_this}
 use Rattle.jvm_model.proofs.Examples.Suites.{counter_suite, again_suite, read_write_suite, node_suite, bad_init_suite, kept_error_suite, files_suite}
-use Rattle.order_law.specs.declared.edges.Edge.{Edge}
-use Rattle.order_law.specs.declared.edges.EdgeKind.{EdgeKind}
-use Rattle.order_law.specs.declared.edges.EdgeKind.TheVariants.{Raw, Waw, War}
-use Rattle.order_law.specs.declared.records.Place.{Place}
-use Rattle.order_law.specs.declared.records.Shown.{Shown}
-use Rattle.order_law.specs.Conflicts.{Member, down}
+use Rattle.order_law.specs.declared.edges.{Edge.Edge, EdgeKind.EdgeKind, EdgeKind.TheVariants.Raw, EdgeKind.TheVariants.Waw, EdgeKind.TheVariants.War}
+use Rattle.order_law.specs.declared.records.{Place.Place, Shown.Shown}
+use Rattle.order_law.specs.{Conflicts.Member, Conflicts.down, Pairing.PairedList, Pairing.one_more}
 use Rattle.order_law.specs.Histories.{Touches, ran_after, touches_of}
-use Rattle.order_law.specs.Pairing.{PairedList, one_more}
 use Rattle.order_law.specs.Reach.{inner_class, is_settled, Reaches, own, touched, mentioned, IsReachOf, kinds_of}
 use Rattle.order_law.specs.Walk.{Walk, from_static, through, read_text, IsPlaceIn, IsShownIn}
 use Rattle.order_law.specs.OwnRecord.{edges_of, edges_in, places_in, owner, cut, conflict_places_in}
-use Rattle.order_law.proofs.Lists.{length-paired}
-use Rattle.order_law.proofs.OnLiterals.{records_on_literals}
+use Rattle.order_law.proofs.{Lists.length-paired, OnLiterals.records_on_literals}
 
 -- an edge from the first test to the second
 abbrev pub one_two : EdgeKind → ℕ → List ℕ → Edge

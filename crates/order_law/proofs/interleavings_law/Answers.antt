@@ -1,7 +1,5 @@
-use Rattle.order_law.specs.Histories.{touches_of}
-use Rattle.order_law.specs.OwnRecord.{edges_of, owner}
-use Rattle.order_law.proofs.OwnRecord.{is_record}
-use Rattle.order_law.proofs.Plans.{law_of_interleavings}
+use Rattle.order_law.specs.{Histories.touches_of, OwnRecord.edges_of, OwnRecord.owner}
+use Rattle.order_law.proofs.{OwnRecord.is_record, Plans.law_of_interleavings}
 use Rattle.order_law.proofs.interleavings_law.Goals as goal
 
 pub returns-clause-any : goal.returns-clause-any

@@ -1,5 +1,4 @@
-use Rattle.order_law.proofs.Histories.{law_of_order}
-use Rattle.order_law.proofs.OwnRecord.{own_law, is_record}
+use Rattle.order_law.proofs.{Histories.law_of_order, OwnRecord.own_law, OwnRecord.is_record}
 use Rattle.order_law.proofs.lawful_order_law.Goals as goal
 
 pub returns-clause-own : goal.returns-clause-own

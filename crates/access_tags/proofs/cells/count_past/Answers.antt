@@ -1,9 +1,7 @@
 use Rattle.std.proofs.Common.{◌++◌, [], map, reverse, cond, sym, subst}
 use Rattle.order_law.specs.declared.edges.EdgeKind.TheVariants as kinds
 use Rattle.access_tags.specs.declared.table.Table.{Table}
-use Rattle.access_tags.specs.Tag.{conflict, with_writer}
-use Rattle.access_tags.specs.Cells.{chain}
-use Rattle.access_tags.specs.Counted.{HaveCounted}
+use Rattle.access_tags.specs.{Tag.conflict, Tag.with_writer, Cells.chain, Counted.HaveCounted}
 use Rattle.access_tags.proofs.Parted.{counted_after, counted_none}
 use Rattle.access_tags.proofs.cells.count_past.Goals.{then-mark+in_ok-count_writer, else-mark}
 use Rattle.access_tags.proofs.cells.count_past.Goals as goal

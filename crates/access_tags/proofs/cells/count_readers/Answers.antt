@@ -1,13 +1,9 @@
 use Rattle.std.proofs.Common.{◌≡◌, ◌++◌, ◌∷◌, ℕ, List, [], map, reverse, arith, sym, ◌∙◌, ap, subst}
 use Rattle.std.proofs.lemmas.List.{append_assoc, append-nil}
 use Rattle.order_law.specs.declared.edges.EdgeKind.TheVariants as kinds
-use Rattle.access_tags.specs.declared.conflict.Conflict.{Conflict}
-use Rattle.access_tags.specs.declared.conflict.LocationKey.{LocationKey}
-use Rattle.access_tags.specs.Tag.{conflict}
-use Rattle.access_tags.specs.Cells.{chain}
-use Rattle.access_tags.specs.Counted.{HaveCounted}
-use Rattle.access_tags.proofs.Chains.{chain_step, chain_end}
-use Rattle.access_tags.proofs.Parted.{counted_after}
+use Rattle.access_tags.specs.declared.conflict.{Conflict.Conflict, LocationKey.LocationKey}
+use Rattle.access_tags.specs.{Tag.conflict, Cells.chain, Counted.HaveCounted}
+use Rattle.access_tags.proofs.{Chains.chain_step, Chains.chain_end, Parted.counted_after}
 use Rattle.access_tags.proofs.cells.count_readers.Goals as goal
 
 pub loop-at-preserved : goal.loop-at-preserved

@@ -1,10 +1,7 @@
 use Rattle.std.proofs.Common.{◌≡◌, ◌≤◌, ◌++◌, List, length, map, reverse}
 use Rattle.order_law.specs.declared.edges.EdgeKind.TheVariants as kinds
-use Rattle.access_tags.specs.declared.conflict.Conflict.{Conflict}
-use Rattle.access_tags.specs.declared.conflict.LocationKey.{LocationKey}
-use Rattle.access_tags.specs.Tag.{conflict}
-use Rattle.access_tags.specs.Cells.{chain}
-use Rattle.access_tags.specs.Counted.{HaveCounted}
+use Rattle.access_tags.specs.declared.conflict.{Conflict.Conflict, LocationKey.LocationKey}
+use Rattle.access_tags.specs.{Tag.conflict, Cells.chain, Counted.HaveCounted}
 use Rattle.access_tags.proofs.cells.count_readers.Given as goal
 
 abbrev pub invariant-loop-at : goal.invariant-loop-at

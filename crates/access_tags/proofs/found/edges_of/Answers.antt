@@ -2,8 +2,7 @@ use Rattle.std.proofs.Common.{◌≡◌, ◌∙◌, ◌++◌, ◌+◌, ℕ, List
 use Rattle.order_law.specs.OwnRecord.{owner_in}
 use Rattle.access_tags.specs.declared.ended.Ended.{Ended}
 use Rattle.access_tags.specs.declared.rows.Row.{Row}
-use Rattle.access_tags.specs.FoundIn.{edges_up_to}
-use Rattle.access_tags.specs.Rows.{edge_by}
+use Rattle.access_tags.specs.{FoundIn.edges_up_to, Rows.edge_by}
 use Rattle.access_tags.proofs.Finding.{entry_there, edges_more}
 use Rattle.access_tags.proofs.found.edges_of.Goals as goal
 

@@ -1,6 +1,5 @@
 use Rattle.std.proofs.Common.{◌≡◌, Bool, true}
-use Rattle.order_law.specs.Histories.{Touches}
-use Rattle.order_law.specs.OwnRecord.{owner_in}
+use Rattle.order_law.specs.{Histories.Touches, OwnRecord.owner_in}
 use Rattle.access_tags.specs.FoundIn.{AreEnded, are_printed, edges_up_to}
 use Rattle.access_tags.proofs.found.edges_of.Given as goal
 

@@ -1,7 +1,6 @@
 use Rattle.order_law.specs.OwnRecord.{owner_in}
 use Rattle.access_tags.specs.Rows.{edge_by}
-use Rattle.access_tags.proofs.Finding.{printed_push}
-use Rattle.access_tags.proofs.Placed.{mapped_on}
+use Rattle.access_tags.proofs.{Finding.printed_push, Placed.mapped_on}
 use Rattle.access_tags.proofs.found.push_edges.Goals as goal
 
 pub loop-row-preserved : goal.loop-row-preserved

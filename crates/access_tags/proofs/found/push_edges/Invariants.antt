@@ -1,7 +1,6 @@
 use Rattle.std.proofs.Common.{◌≡◌, ◌++◌, true, map, take}
 use Rattle.order_law.specs.OwnRecord.{owner_in}
-use Rattle.access_tags.specs.FoundIn.{are_printed}
-use Rattle.access_tags.specs.Rows.{edge_by}
+use Rattle.access_tags.specs.{FoundIn.are_printed, Rows.edge_by}
 use Rattle.access_tags.proofs.found.push_edges.Given as goal
 
 abbrev pub invariant-loop-row : goal.invariant-loop-row

@@ -1,12 +1,9 @@
 use Rattle.std.proofs.Common.{◌≡◌, ◌∙◌, ◌++◌, ℕ, List, length, slice_get, Some, sym, ap, subst, arith}
-use Rattle.order_law.specs.OwnRecord.{owner_in}
-use Rattle.order_law.specs.Pairing.{PairedList, no_more}
-use Rattle.order_law.specs.Walk.{IsShownIn}
+use Rattle.order_law.specs.{OwnRecord.owner_in, Pairing.PairedList, Pairing.no_more, Walk.IsShownIn}
 use Rattle.access_tags.specs.declared.conflict.LocationKey.{LocationKey}
 use Rattle.access_tags.specs.declared.ended.Ended.{Ended}
 use Rattle.access_tags.specs.declared.rows.Row.{Row}
-use Rattle.access_tags.specs.FoundIn.{edges_up_to}
-use Rattle.access_tags.specs.Places.{shown_rows}
+use Rattle.access_tags.specs.{FoundIn.edges_up_to, Places.shown_rows}
 use Rattle.access_tags.proofs.Finding.{entry_there, shown_more}
 use Rattle.access_tags.proofs.found.shown_of_edges.Goals as goal
 

@@ -1,11 +1,6 @@
 use Rattle.std.proofs.Common.{◌+◌, ◌≤◌, true, length}
-use Rattle.order_law.specs.Histories.{Touches}
-use Rattle.order_law.specs.OwnRecord.{owner_in}
-use Rattle.order_law.specs.Pairing.{PairedList}
-use Rattle.order_law.specs.Walk.{IsShownIn}
-use Rattle.access_tags.specs.AreNames.{AreNames}
-use Rattle.access_tags.specs.FoundIn.{AreEnded, edges_up_to}
-use Rattle.access_tags.specs.Ran.{HaveWalks}
+use Rattle.order_law.specs.{Histories.Touches, OwnRecord.owner_in, Pairing.PairedList, Walk.IsShownIn}
+use Rattle.access_tags.specs.{AreNames.AreNames, FoundIn.AreEnded, FoundIn.edges_up_to, Ran.HaveWalks}
 use Rattle.access_tags.proofs.found.shown_of_edges.Given as goal
 
 abbrev pub invariant-loop-test : goal.invariant-loop-test

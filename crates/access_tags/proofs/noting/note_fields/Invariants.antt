@@ -1,7 +1,6 @@
 use Rattle.std.proofs.Common.{◌≡◌, ◌<◌, List, take}
 use Rattle.jvm_model.specs.declared.values.Location.{Location}
-use Rattle.jvm_model.specs.Access.{fields_made}
-use Rattle.jvm_model.specs.View.{keys}
+use Rattle.jvm_model.specs.{Access.fields_made, View.keys}
 use Rattle.jvm_model.specs.World.{World, object_at, size}
 use Rattle.access_tags.specs.Followed.{HaveNoted, HaveSameRoom, IsNumbered, numbering_in}
 use Rattle.access_tags.proofs.noting.note_fields.Given as goal

@@ -2,9 +2,7 @@ use Rattle.std.proofs.Common.{◌≡◌, ◌∙◌, ℕ, List, length, subst, sy
 use Rattle.jvm_model.specs.declared.values.Location.TheVariants as place
 use Rattle.jvm_model.specs.declared.values.Value.{Value}
 use Rattle.jvm_model.specs.Access.{elems_made, fields_made, write_of}
-use Rattle.jvm_model.specs.Classes.{blank, fields_of}
-use Rattle.jvm_model.specs.View.{keys}
-use Rattle.jvm_model.specs.World.{Object}
+use Rattle.jvm_model.specs.{Classes.blank, Classes.fields_of, View.keys, World.Object}
 use Rattle.access_tags.specs.Followed.{HaveNoted, numbering_in}
 use Rattle.access_tags.proofs.PartNotes.{blank_parts, made_noted}
 use Rattle.access_tags.proofs.noting.note_made.Goals as goal

@@ -1,10 +1,7 @@
 use Rattle.std.proofs.Common.{◌≡◌, ◌+◌, ◌<◌, ℕ, List, false, length, get_or}
-use Rattle.jvm_model.specs.declared.values.Kind.{Kind}
-use Rattle.jvm_model.specs.declared.values.Touch.{Touch}
+use Rattle.jvm_model.specs.declared.values.{Kind.Kind, Touch.Touch}
 use Rattle.order_law.specs.Histories.{Touches}
-use Rattle.access_tags.specs.HeadMarks.{touches_so_far}
-use Rattle.access_tags.specs.HeadsStand.{HeadsStand}
-use Rattle.access_tags.specs.Settled.{AreReaches, reads_out_alone}
+use Rattle.access_tags.specs.{HeadMarks.touches_so_far, HeadsStand.HeadsStand, Settled.AreReaches, Settled.reads_out_alone}
 use Rattle.access_tags.proofs.reaches.reaches_of.Given as goal
 
 abbrev pub invariant-loop-i : goal.invariant-loop-i

@@ -1,16 +1,8 @@
 use Rattle.std.proofs.Common.{◌<◌, List, length, flat_map, arith, sym, subst}
-use Rattle.access_tags.specs.declared.conflict.Conflict.{Conflict}
-use Rattle.access_tags.specs.declared.conflict.LocationKey.{LocationKey}
-use Rattle.access_tags.specs.declared.conflict.Touched.{Touched}
+use Rattle.access_tags.specs.declared.conflict.{Conflict.Conflict, LocationKey.LocationKey, Touched.Touched}
 use Rattle.access_tags.specs.declared.interval.Interval.{Interval}
-use Rattle.access_tags.specs.Counted.{HaveCounted}
-use Rattle.access_tags.specs.Numbering.{tag_at}
-use Rattle.access_tags.specs.Shelf.{tag_in}
-use Rattle.access_tags.specs.Intervals.{parts_of}
-use Rattle.access_tags.specs.Tag.{conflicts_at}
-use Rattle.access_tags.specs.Within.{AreWithin}
-use Rattle.access_tags.proofs.Parted.{counted_parts}
-use Rattle.access_tags.proofs.Spanned.{within_interval}
+use Rattle.access_tags.specs.{Counted.HaveCounted, Numbering.tag_at, Shelf.tag_in, Intervals.parts_of, Tag.conflicts_at, Within.AreWithin}
+use Rattle.access_tags.proofs.{Parted.counted_parts, Spanned.within_interval}
 use Rattle.access_tags.proofs.tags.count_all.Goals as goal
 
 pub count_interval-requires-clause-within : goal.count_interval-requires-clause-within

@@ -1,8 +1,5 @@
 use Rattle.std.proofs.Common.{take}
-use Rattle.access_tags.specs.Counted.{HaveCounted}
-use Rattle.access_tags.specs.Numbering.{conflicts_in}
-use Rattle.access_tags.specs.Shelf.{tag_in}
-use Rattle.access_tags.specs.Intervals.{parts}
+use Rattle.access_tags.specs.{Counted.HaveCounted, Numbering.conflicts_in, Shelf.tag_in, Intervals.parts}
 use Rattle.access_tags.proofs.tags.count_all.Given as goal
 
 abbrev pub invariant-loop-i : goal.invariant-loop-i

@@ -1,14 +1,7 @@
 use Rattle.std.proofs.Common.{◌<◌, List, sym, subst}
-use Rattle.access_tags.specs.declared.conflict.Conflict.{Conflict}
-use Rattle.access_tags.specs.declared.conflict.LocationKey.{LocationKey}
-use Rattle.access_tags.specs.declared.conflict.Touched.{Touched}
-use Rattle.access_tags.specs.Counted.{HaveCounted}
-use Rattle.access_tags.specs.Numbering.{tag_at}
-use Rattle.access_tags.specs.Shelf.{tag_in}
-use Rattle.access_tags.specs.Tag.{conflicts_at}
-use Rattle.access_tags.specs.Within.{room}
-use Rattle.access_tags.proofs.Parted.{counted_to}
-use Rattle.access_tags.proofs.Spanned.{within_part}
+use Rattle.access_tags.specs.declared.conflict.{Conflict.Conflict, LocationKey.LocationKey, Touched.Touched}
+use Rattle.access_tags.specs.{Counted.HaveCounted, Numbering.tag_at, Shelf.tag_in, Tag.conflicts_at, Within.room}
+use Rattle.access_tags.proofs.{Parted.counted_to, Spanned.within_part}
 use Rattle.access_tags.proofs.tags.count_interval.Goals as goal
 
 pub count_part-requires : goal.count_part-requires

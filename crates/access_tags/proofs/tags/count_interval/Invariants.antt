@@ -1,7 +1,4 @@
-use Rattle.access_tags.specs.Counted.{HaveCounted}
-use Rattle.access_tags.specs.Numbering.{conflicts_in}
-use Rattle.access_tags.specs.Shelf.{tag_in}
-use Rattle.access_tags.specs.Intervals.{parts_to}
+use Rattle.access_tags.specs.{Counted.HaveCounted, Numbering.conflicts_in, Shelf.tag_in, Intervals.parts_to}
 use Rattle.access_tags.proofs.tags.count_interval.Given as goal
 
 abbrev pub invariant-loop-index : goal.invariant-loop-index

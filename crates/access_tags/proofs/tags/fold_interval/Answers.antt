@@ -1,12 +1,7 @@
 use Rattle.std.proofs.Common.{[], ◌∷◌, ◌<◌, ◌∙◌, arith, sym, subst}
 use Rattle.access_tags.specs.declared.conflict.Touched.{Touched}
-use Rattle.access_tags.specs.HaveEnded.{HaveEnded}
-use Rattle.access_tags.specs.Shelf.{tag_in}
-use Rattle.access_tags.specs.Intervals.{parts_of}
-use Rattle.access_tags.specs.Within.{room}
-use Rattle.access_tags.proofs.More.{within_more}
-use Rattle.access_tags.proofs.Parted.{ended_one, ended_to}
-use Rattle.access_tags.proofs.Spanned.{within_part}
+use Rattle.access_tags.specs.{HaveEnded.HaveEnded, Shelf.tag_in, Intervals.parts_of, Within.room}
+use Rattle.access_tags.proofs.{More.within_more, Parted.ended_one, Parted.ended_to, Spanned.within_part}
 use Rattle.access_tags.proofs.tags.fold_interval.Goals as goal
 
 pub fold-requires : goal.fold-requires

@@ -1,7 +1,5 @@
 use Rattle.std.proofs.Common.{◌≡◌}
-use Rattle.access_tags.specs.HaveEnded.{HaveEnded}
-use Rattle.access_tags.specs.Shelf.{tag_in, count}
-use Rattle.access_tags.specs.Intervals.{parts_to}
+use Rattle.access_tags.specs.{HaveEnded.HaveEnded, Shelf.tag_in, Shelf.count, Intervals.parts_to}
 use Rattle.access_tags.proofs.tags.fold_interval.Given as goal
 
 abbrev pub invariant-loop-index : goal.invariant-loop-index

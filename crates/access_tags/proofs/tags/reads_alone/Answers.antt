@@ -1,9 +1,6 @@
 use Rattle.std.proofs.Common.{◌≡◌, ◌<◌, ◌∙◌, false, ap, sym, subst}
 use Rattle.access_tags.specs.declared.conflict.Touched.{Touched}
-use Rattle.access_tags.specs.Numbering.{is_alone}
-use Rattle.access_tags.specs.Shelf.{tag_in}
-use Rattle.access_tags.specs.Intervals.{part_at}
-use Rattle.access_tags.specs.Within.{room}
+use Rattle.access_tags.specs.{Numbering.is_alone, Shelf.tag_in, Intervals.part_at, Within.room}
 use Rattle.access_tags.proofs.Spanned.{one_fails, within_part}
 use Rattle.access_tags.proofs.tags.reads_alone.Goals as goal
 

@@ -1,7 +1,5 @@
 use Rattle.std.proofs.Common.{◌≡◌, true}
-use Rattle.access_tags.specs.Numbering.{are_alone}
-use Rattle.access_tags.specs.Shelf.{tag_in}
-use Rattle.access_tags.specs.Intervals.{parts_to}
+use Rattle.access_tags.specs.{Numbering.are_alone, Shelf.tag_in, Intervals.parts_to}
 use Rattle.access_tags.proofs.tags.reads_alone.Given as goal
 
 abbrev pub invariant-loop-index : goal.invariant-loop-index

@@ -1,12 +1,7 @@
 use Rattle.std.proofs.Common.{◌<◌, ◌∙◌, length, arith, sym, subst}
 use Rattle.access_tags.specs.declared.interval.Interval.{Interval}
-use Rattle.access_tags.specs.HaveEnded.{HaveEnded}
-use Rattle.access_tags.specs.Shelf.{tag_in}
-use Rattle.access_tags.specs.Intervals.{parts, parts_of}
-use Rattle.access_tags.specs.Within.{AreWithin}
-use Rattle.access_tags.proofs.More.{within_more}
-use Rattle.access_tags.proofs.Parted.{ended_parts}
-use Rattle.access_tags.proofs.Spanned.{within_interval}
+use Rattle.access_tags.specs.{HaveEnded.HaveEnded, Shelf.tag_in, Intervals.parts, Intervals.parts_of, Within.AreWithin}
+use Rattle.access_tags.proofs.{More.within_more, Parted.ended_parts, Spanned.within_interval}
 use Rattle.access_tags.proofs.tags.settle_all.Goals as goal
 
 pub fold_interval-requires-clause-within : goal.fold_interval-requires-clause-within

@@ -1,7 +1,5 @@
 use Rattle.std.proofs.Common.{◌≡◌, take}
-use Rattle.access_tags.specs.HaveEnded.{HaveEnded}
-use Rattle.access_tags.specs.Shelf.{tag_in, count}
-use Rattle.access_tags.specs.Intervals.{parts}
+use Rattle.access_tags.specs.{HaveEnded.HaveEnded, Shelf.tag_in, Shelf.count, Intervals.parts}
 use Rattle.access_tags.proofs.tags.settle_all.Given as goal
 
 abbrev pub invariant-loop-i : goal.invariant-loop-i

@@ -1,6 +1,5 @@
 use Rattle.std.proofs.Common.{◌≡◌, ◌∷◌, ◌-◌, map, refl, subst, rules}
-use Rattle.jvm_model.specs.Initialise.{looks}
-use Rattle.jvm_model.specs.View.{IsSafe, IsRow}
+use Rattle.jvm_model.specs.{Initialise.looks, View.IsSafe, View.IsRow}
 use Rattle.vm_tables.specs.Starts.{part_of}
 use Rattle.class_init.proofs.Starts.{too_dear_at}
 use Rattle.class_init.proofs.finishing.+look.Goals as goal

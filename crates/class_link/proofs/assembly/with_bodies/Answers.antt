@@ -1,7 +1,6 @@
 use Rattle.std.proofs.Common.{◌≡◌, ap, ◌∙◌, List}
 use Rattle.jvm_model.specs.declared.program.MethodRec.{MethodRec}
-use Rattle.class_link.specs.Assembly.{bodies_of}
-use Rattle.class_link.specs.Filling.{filled}
+use Rattle.class_link.specs.{Assembly.bodies_of, Filling.filled}
 use Rattle.class_link.proofs.AssemblyLaws.{filled_program}
 use Rattle.class_link.proofs.assembly.with_bodies.Goals as goal
 

@@ -1,7 +1,6 @@
 use Rattle.std.proofs.Common.{◌∙◌, ◌+◌, ◌++◌, ap, map}
 use Rattle.std.specs.Prelude.{option_map}
-use Rattle.class_reader.specs.declared.parts.ClassParts.{ClassParts}
-use Rattle.class_reader.specs.declared.parts.CodePart.{CodePart}
+use Rattle.class_reader.specs.declared.parts.{ClassParts.ClassParts, CodePart.CodePart}
 use Rattle.class_link.specs.Bodies.{linked_body}
 use Rattle.class_link.proofs.Blocks.{flat_at}
 use Rattle.class_link.proofs.bodies.bodies_of.Goals as goal

@@ -1,10 +1,6 @@
 use Rattle.std.proofs.Common.{◌≡◌, ◌∙◌, ℕ, List, ap}
-use Rattle.class_reader.specs.declared.parts.ClassParts.{ClassParts}
-use Rattle.class_reader.specs.declared.parts.CodePart.{CodePart}
-use Rattle.class_link.specs.Assembly.{bodies_of, assembled}
-use Rattle.class_link.specs.Bodies.{linked_body}
-use Rattle.class_link.specs.References.{LinkEnvironment}
-use Rattle.class_link.specs.Link.{setting}
+use Rattle.class_reader.specs.declared.parts.{ClassParts.ClassParts, CodePart.CodePart}
+use Rattle.class_link.specs.{Assembly.bodies_of, Assembly.assembled, Bodies.linked_body, References.LinkEnvironment, Link.setting}
 use Rattle.class_link.proofs.linking.program_of.Goals as goal
 
 pub returns : goal.returns

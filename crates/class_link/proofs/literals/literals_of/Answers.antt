@@ -2,8 +2,7 @@ use Rattle.std.proofs.Common.{◌≡◌, ◌<◌, ◌∙◌, ◌+◌, [], ap, sy
 use Rattle.std.specs.List.{flat_map}
 use Rattle.class_reader.specs.declared.parts.ClassParts.{ClassParts}
 use Rattle.class_link.specs.Literals.{noted, strings_of}
-use Rattle.class_link.proofs.Blocks.{flat_at}
-use Rattle.class_link.proofs.TextLaws.{noted_append}
+use Rattle.class_link.proofs.{Blocks.flat_at, TextLaws.noted_append}
 use Rattle.class_link.proofs.literals.literals_of.Goals as goal
 
 pub loop-class-preserved : goal.loop-class-preserved

@@ -2,8 +2,7 @@ use Rattle.std.proofs.Common.{◌≡◌, ◌-◌, ◌<◌, ◌∙◌, length, fa
 use Rattle.std.specs.Prelude.{filter}
 use Rattle.std.specs.List.{flat_map, range_with_len}
 use Rattle.std.proofs.lemmas.List.{get_or_default}
-use Rattle.jvm_model.specs.Builtin.{builtin_count}
-use Rattle.jvm_model.specs.Classes.{member}
+use Rattle.jvm_model.specs.{Builtin.builtin_count, Classes.member}
 use Rattle.class_link.specs.Assembly.{mentioned_by}
 use Rattle.class_link.proofs.MentionLaws.{given_next, not_given, ends_at}
 use Rattle.class_link.proofs.mentions.mentions.Goals as goal

@@ -1,8 +1,7 @@
 use Rattle.std.proofs.Common.{◌≡◌, ◌≤◌, ◌⊎◌, ◌-◌}
 use Rattle.std.specs.Prelude.{filter}
 use Rattle.std.specs.List.{flat_map, range_with_len}
-use Rattle.jvm_model.specs.Builtin.{builtin_count}
-use Rattle.jvm_model.specs.Classes.{member}
+use Rattle.jvm_model.specs.{Builtin.builtin_count, Classes.member}
 use Rattle.class_link.specs.Assembly.{mentioned_by}
 use Rattle.class_link.proofs.mentions.mentions.Given as goal
 

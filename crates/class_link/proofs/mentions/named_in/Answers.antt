@@ -1,7 +1,6 @@
 use Rattle.std.proofs.Common.{◌∙◌, ap, subst, take, length, ◌++◌}
 use Rattle.std.specs.List.{flat_map}
-use Rattle.class_link.specs.Assembly.{mentioned_by}
-use Rattle.class_link.specs.Marks.{Lists}
+use Rattle.class_link.specs.{Assembly.mentioned_by, Marks.Lists}
 use Rattle.class_link.proofs.Blocks.{flat_at}
 use Rattle.class_link.proofs.mentions.named_in.Goals as goal
 

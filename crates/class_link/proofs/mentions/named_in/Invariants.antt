@@ -1,7 +1,6 @@
 use Rattle.std.proofs.Common.{length, take}
 use Rattle.std.specs.List.{flat_map}
-use Rattle.class_link.specs.Assembly.{mentioned_by}
-use Rattle.class_link.specs.Marks.{Lists}
+use Rattle.class_link.specs.{Assembly.mentioned_by, Marks.Lists}
 use Rattle.class_link.proofs.mentions.named_in.Given as goal
 
 abbrev pub invariant-loop-slot : goal.invariant-loop-slot

@@ -1,6 +1,5 @@
 use Rattle.std.proofs.Common.{◌≡◌, ◌≤◌, ◌+◌, ◌++◌, length, map, drop}
-use Rattle.class_link.specs.ClassNames.{own_name}
-use Rattle.class_link.specs.Faults.{duplicate}
+use Rattle.class_link.specs.{ClassNames.own_name, Faults.duplicate}
 use Rattle.class_link.proofs.names.note_classes.Given as goal
 
 abbrev pub invariant-loop-class : goal.invariant-loop-class

@@ -1,7 +1,6 @@
 use Rattle.std.proofs.Common.{◌≡◌, ◌+◌, drop, map, take}
 use Rattle.jvm_model.specs.Builtin.{builtin_count}
-use Rattle.class_link.specs.Bodies.{targets}
-use Rattle.class_link.specs.Faults.{all_references_fault}
+use Rattle.class_link.specs.{Bodies.targets, Faults.all_references_fault}
 use Rattle.class_link.proofs.reference_faults.check_all_references.Given as goal
 
 -- the first fault of the classes from here on is that of all

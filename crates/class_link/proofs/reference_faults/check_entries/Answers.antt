@@ -1,9 +1,7 @@
 use Rattle.std.proofs.Common.{◌∙◌, sym, subst, Option}
 use Rattle.class_link.specs.declared.fault.LinkFault.{LinkFault}
-use Rattle.class_link.specs.Answers.{Fails}
-use Rattle.class_link.specs.Link.{unless}
-use Rattle.class_link.proofs.FaultLaws.{fails_on}
-use Rattle.class_link.proofs.MarkLaws.{marked_next, marked_fails}
+use Rattle.class_link.specs.{Answers.Fails, Link.unless}
+use Rattle.class_link.proofs.{FaultLaws.fails_on, MarkLaws.marked_next, MarkLaws.marked_fails}
 use Rattle.class_link.proofs.reference_faults.check_entries.Goals as goal
 
 pub returns-in_err-check_entry : goal.returns-in_err-check_entry

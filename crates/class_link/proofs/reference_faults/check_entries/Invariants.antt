@@ -1,8 +1,6 @@
 use Rattle.std.proofs.Common.{◌≡◌, ◌-◌}
 use Rattle.std.specs.List.{range_with_len}
-use Rattle.class_link.specs.Bodies.{target_in}
-use Rattle.class_link.specs.Faults.{first_some, indices}
-use Rattle.class_link.specs.Marks.{mark_at, mark_fault}
+use Rattle.class_link.specs.{Bodies.target_in, Faults.first_some, Faults.indices, Marks.mark_at, Marks.mark_fault}
 use Rattle.class_link.proofs.reference_faults.check_entries.Given as goal
 
 -- the first fault of the entries from here on is that of all

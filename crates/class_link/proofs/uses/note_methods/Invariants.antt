@@ -1,6 +1,5 @@
 use Rattle.std.proofs.Common.{◌≡◌, flat_map, take}
-use Rattle.class_link.specs.Marks.{noted_by}
-use Rattle.class_link.specs.References.{code_uses}
+use Rattle.class_link.specs.{Marks.noted_by, References.code_uses}
 use Rattle.class_link.proofs.uses.note_methods.Given as goal
 
 abbrev pub invariant-loop-method : goal.invariant-loop-method

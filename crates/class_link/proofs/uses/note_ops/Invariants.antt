@@ -1,6 +1,5 @@
 use Rattle.std.proofs.Common.{◌≡◌, flat_map, take}
-use Rattle.class_link.specs.Marks.{noted_by}
-use Rattle.class_link.specs.References.{op_use}
+use Rattle.class_link.specs.{Marks.noted_by, References.op_use}
 use Rattle.class_link.proofs.uses.note_ops.Given as goal
 
 abbrev pub invariant-loop-op : goal.invariant-loop-op

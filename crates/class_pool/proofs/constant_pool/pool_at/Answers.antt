@@ -1,6 +1,5 @@
 use Rattle.std.proofs.Common.{arith}
-use Rattle.class_pool.proofs.PoolLaw.{reads_pool}
-use Rattle.class_pool.proofs.WriteLaw.{pool_kept}
+use Rattle.class_pool.proofs.{PoolLaw.reads_pool, WriteLaw.pool_kept}
 use Rattle.class_pool.proofs.constant_pool.pool_at.Goals as goal
 
 pub new-requires : goal.new-requires

@@ -1,9 +1,7 @@
 use Rattle.std.proofs.Common.{subst, Ok, Err}
 use Rattle.et_base.specs.Answers.{Fails}
-use Rattle.class_pool.specs.Reading.{named}
-use Rattle.class_pool.specs.Pool.{pool_at}
-use Rattle.class_pool.proofs.PoolFaults.{refuses_pool}
-use Rattle.class_pool.proofs.OffsetsLaw.{gives, from_slice}
+use Rattle.class_pool.specs.{Reading.named, Pool.pool_at}
+use Rattle.class_pool.proofs.{PoolFaults.refuses_pool, OffsetsLaw.gives, OffsetsLaw.from_slice}
 use Rattle.class_pool.proofs.offsets.read_exactly.Goals as goal
 
 pub placed_fault-requires-clause-sort : goal.placed_fault-requires-clause-sort

@@ -1,6 +1,5 @@
 use Rattle.std.proofs.Common.{◌≡◌, ◌-◌, []}
-use Rattle.class_pool.specs.Loops.{counted}
-use Rattle.class_pool.specs.Pool.{slot_at, is_second}
+use Rattle.class_pool.specs.{Loops.counted, Pool.slot_at, Pool.is_second}
 use Rattle.class_pool.proofs.pool.slots_of.Given as goal
 
 abbrev pub invariant-loop-i : goal.invariant-loop-i

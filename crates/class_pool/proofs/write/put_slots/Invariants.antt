@@ -1,6 +1,5 @@
 use Rattle.std.proofs.Common.{◌≡◌, ◌++◌, ◌+◌, length, take}
-use Rattle.std.specs.List.{flat_map}
-use Rattle.std.specs.Int.{w16, to_be_bytes}
+use Rattle.std.specs.{List.flat_map, Int.w16, Int.to_be_bytes}
 use Rattle.class_pool.specs.PoolGrammar.{slot_bytes}
 use Rattle.class_pool.proofs.write.put_slots.Given as goal
 

@@ -1,5 +1,4 @@
-use Rattle.class_pool.proofs.WriteLaw.{pool_written}
-use Rattle.class_pool.proofs.OffsetsLaw.{is_reread}
+use Rattle.class_pool.proofs.{WriteLaw.pool_written, OffsetsLaw.is_reread}
 use Rattle.class_pool.proofs.write.write_pool.Goals as goal
 
 pub returns-clause-spelled : goal.returns-clause-spelled

@@ -1,7 +1,6 @@
 use Rattle.std.proofs.Common.{arith}
 use Rattle.std.proofs.lemmas.Result.{err_from_is_err_and}
-use Rattle.class_reader.specs.Names.{is_text_of}
-use Rattle.class_reader.specs.Class.{attribute_at}
+use Rattle.class_reader.specs.{Names.is_text_of, Class.attribute_at}
 use Rattle.class_pool.proofs.Loops.{folded_on, folded_fails, folded_done}
 use Rattle.class_reader.proofs.attributes.folded_of.Goals as goal
 

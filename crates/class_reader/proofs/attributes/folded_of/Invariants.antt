@@ -1,7 +1,6 @@
 use Rattle.std.proofs.Common.{◌≡◌, ◌-◌, None}
 use Rattle.class_pool.specs.Loops.{folded}
-use Rattle.class_reader.specs.Names.{is_text_of}
-use Rattle.class_reader.specs.Class.{attribute_at}
+use Rattle.class_reader.specs.{Names.is_text_of, Class.attribute_at}
 use Rattle.class_reader.proofs.attributes.folded_of.Given as goal
 
 abbrev pub invariant-loop-i : goal.invariant-loop-i

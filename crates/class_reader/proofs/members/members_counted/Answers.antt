@@ -1,8 +1,7 @@
 use Rattle.std.proofs.Common.{◌≡◌, ◌-◌, [], arith, ap, sym, subst, length}
-use Rattle.std.proofs.lemmas.Result.{err_from_is_err_and}
+use Rattle.std.proofs.lemmas.{Result.err_from_is_err_and, Grind.common_steps}
 use Rattle.class_pool.specs.Loops.{counted}
 use Rattle.class_reader.specs.Texts.{IsSeen}
-use Rattle.std.proofs.lemmas.Grind.{common_steps}
 use Rattle.class_pool.proofs.Loops.{counted_on, counted_fails, counted_done}
 use Rattle.class_reader.proofs.TextLaw.{seen_none}
 use Rattle.class_reader.proofs.members.members_counted.Goals as goal

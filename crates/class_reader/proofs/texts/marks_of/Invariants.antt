@@ -1,6 +1,5 @@
 use Rattle.std.proofs.Common.{◌≡◌, ℕ, List, map, take}
-use Rattle.class_reader.specs.Lookups.{noted}
-use Rattle.class_reader.specs.Texts.{first_from, mark_of}
+use Rattle.class_reader.specs.{Lookups.noted, Texts.first_from, Texts.mark_of}
 use Rattle.class_reader.proofs.texts.marks_of.Given as goal
 
 abbrev pub invariant-loop-i : goal.invariant-loop-i

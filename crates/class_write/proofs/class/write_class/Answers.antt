@@ -1,7 +1,6 @@
 use Rattle.std.proofs.Common.{sym, ap, subst, ◌∙◌}
 use Rattle.std.proofs.lemmas.Result.{IfOk-weaker}
-use Rattle.class_reader.specs.ClassGrammar.{class_bytes}
-use Rattle.class_reader.specs.Faults.{class_of}
+use Rattle.class_reader.specs.{ClassGrammar.class_bytes, Faults.class_of}
 use Rattle.class_write.specs.Spelling.{class_spelling}
 use Rattle.class_write.proofs.WriteLaw.{class_written, class_reread}
 use Rattle.class_write.proofs.class.write_class.Goals as goal

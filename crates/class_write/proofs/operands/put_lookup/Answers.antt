@@ -1,7 +1,6 @@
 use Rattle.std.proofs.Common.{rules, ◌≡◌, ◌/◌, ◌++◌, length, drop, get_or, pos, OnOk, sym, ap, subst, ◌∙◌}
 use Rattle.std.specs.Int.{w32, to_be_bytes}
-use Rattle.std.proofs.lemmas.List.{take_rest}
-use Rattle.std.proofs.lemmas.Result.{on_ok_weaker}
+use Rattle.std.proofs.lemmas.{List.take_rest, Result.on_ok_weaker}
 use Rattle.code_decode.specs.Spelling.{pair_bytes}
 use Rattle.class_write.proofs.OperandLaw.{other_bytes, lookup_is, behind}
 use Rattle.class_write.proofs.operands.put_lookup.Goals as goal

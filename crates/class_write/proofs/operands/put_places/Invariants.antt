@@ -1,6 +1,5 @@
 use Rattle.std.proofs.Common.{◌≡◌, ◌++◌, take}
-use Rattle.std.specs.List.{flat_map}
-use Rattle.std.specs.Int.{w32}
+use Rattle.std.specs.{List.flat_map, Int.w32}
 use Rattle.code_decode.specs.Spelling.{offset_bytes}
 use Rattle.class_write.proofs.operands.put_places.Given as goal
 

@@ -1,8 +1,6 @@
 use Rattle.std.proofs.Common.{rules, ◌≡◌, ◌++◌, drop, get_or, pos, OnOk, sym, ap, subst, ◌∙◌}
-use Rattle.std.specs.Int.{w32}
-use Rattle.std.specs.List.{flat_map}
-use Rattle.std.proofs.lemmas.List.{take_rest}
-use Rattle.std.proofs.lemmas.Result.{on_ok_weaker}
+use Rattle.std.specs.{Int.w32, List.flat_map}
+use Rattle.std.proofs.lemmas.{List.take_rest, Result.on_ok_weaker}
 use Rattle.code_decode.specs.Spelling.{signed_bytes, offset_bytes}
 use Rattle.class_write.proofs.OperandLaw.{other_bytes, table_is, behind_four}
 use Rattle.class_write.proofs.operands.put_table.Goals as goal

@@ -1,7 +1,6 @@
 use Rattle.std.proofs.Common.{length}
 use Rattle.std.proofs.lemmas.Result.{err_from_is_err_and}
-use Rattle.code_decode.specs.Decoding.{code_at}
-use Rattle.code_decode.specs.Targets.{is_start, targets_fit}
+use Rattle.code_decode.specs.{Decoding.code_at, Targets.is_start, Targets.targets_fit}
 use Rattle.code_decode.proofs.TargetSteps.{fails_then}
 use Rattle.code_decode.proofs.decoding.code_at.Goals as goal
 

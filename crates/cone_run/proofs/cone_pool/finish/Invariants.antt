@@ -1,6 +1,5 @@
 use Rattle.std.proofs.Common.{◌≡◌, ◌+◌, take, sum_by}
-use Rattle.cone_run.specs.Books.{AreLeft, posted_units}
-use Rattle.cone_run.specs.Cones.{AreConesOf, cone_units}
+use Rattle.cone_run.specs.{Books.AreLeft, Books.posted_units, Cones.AreConesOf, Cones.cone_units}
 use Rattle.cone_run.proofs.cone_pool.finish.Given as goal
 
 -- the pieces so far, and those that are left

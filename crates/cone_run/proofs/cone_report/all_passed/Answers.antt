@@ -1,7 +1,6 @@
 use Rattle.std.proofs.Common.{◌∙◌, sym, ap, Bool, ◌&&◌}
-use Rattle.cone_run.proofs.TallyLaws.{passed_more}
+use Rattle.cone_run.proofs.{TallyLaws.passed_more, cone_report.all_passed.Goals.then-all, cone_report.all_passed.Goals.else-all}
 use Rattle.cone_run.proofs.cone_report.all_passed.Goals as goal
-use Rattle.cone_run.proofs.cone_report.all_passed.Goals.{then-all, else-all}
 
 pub loop-index-preserved : goal.loop-index-preserved
 loop-index-preserved c =

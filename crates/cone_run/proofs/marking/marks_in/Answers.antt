@@ -3,8 +3,7 @@ use Rattle.std.proofs.lemmas.List.Sums.{sum_by_more}
 use Rattle.jvm_model.specs.declared.program.Program.{Program}
 use Rattle.jvm_model.specs.Suite.{last_outcome}
 use Rattle.test_run.specs.Running.{IsTest}
-use Rattle.cone_run.specs.Cones.{cone_units}
-use Rattle.cone_run.specs.Marks.{IsEffect, without}
+use Rattle.cone_run.specs.{Cones.cone_units, Marks.IsEffect, Marks.without}
 use Rattle.cone_run.proofs.ConeLists.{filled, member_at, without_has}
 use Rattle.cone_run.proofs.Pairs.{paired_next, paired_none}
 use Rattle.cone_run.proofs.marking.marks_in.Goals as goal

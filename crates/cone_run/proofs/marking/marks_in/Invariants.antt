@@ -1,7 +1,5 @@
 use Rattle.std.proofs.Common.{◌≡◌, ◌+◌, take, sum_by}
-use Rattle.cone_run.specs.Cones.{cone_units}
-use Rattle.cone_run.specs.Marking.{AreMarksIn}
-use Rattle.cone_run.specs.Marks.{without}
+use Rattle.cone_run.specs.{Cones.cone_units, Marking.AreMarksIn, Marks.without}
 use Rattle.cone_run.proofs.marking.marks_in.Given as goal
 
 -- the marks of the writers before this one

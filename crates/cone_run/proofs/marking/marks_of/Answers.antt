@@ -4,10 +4,7 @@ use Rattle.jvm_model.specs.declared.outcome.Outcome.{Outcome}
 use Rattle.jvm_model.specs.declared.program.Program.{Program}
 use Rattle.jvm_model.specs.Suite.{last_outcome}
 use Rattle.test_run.specs.Running.{IsTest}
-use Rattle.cone_run.specs.Cones.{IsCone, cone_units}
-use Rattle.cone_run.specs.Marking.{AreMarksIn}
-use Rattle.cone_run.specs.Marks.{without}
-use Rattle.cone_run.specs.Runs.{HasTest}
+use Rattle.cone_run.specs.{Cones.IsCone, Cones.cone_units, Marking.AreMarksIn, Marks.without, Runs.HasTest}
 use Rattle.cone_run.proofs.ConeLists.{filled, has_test}
 use Rattle.cone_run.proofs.MarkLaws.{added, has_marks, is_empty, no_marks, not_empty, test_fault, writers_low}
 use Rattle.cone_run.proofs.marking.marks_of.Goals as goal

@@ -1,6 +1,5 @@
 use Rattle.std.proofs.Common.{◌≡◌, ℕ, ◌+◌}
-use Rattle.cone_run.specs.Marking.{AreMarksTo}
-use Rattle.cone_run.specs.Marks.{AreUnits}
+use Rattle.cone_run.specs.{Marking.AreMarksTo, Marks.AreUnits}
 use Rattle.cone_run.proofs.marking.marks_on.Given as goal
 
 -- the marks of the tests before this one, and what was counted for them

@@ -4,8 +4,7 @@ use Rattle.jvm_model.specs.declared.outcome.Outcome.{Outcome}
 use Rattle.jvm_model.specs.declared.program.Program.{Program}
 use Rattle.test_run.specs.Running.{IsTest}
 use Rattle.type_frames.specs.Typing.{IsTyped}
-use Rattle.cone_run.specs.Cones.{cone_units}
-use Rattle.cone_run.specs.Runs.{IsNextFault, RanAfter}
+use Rattle.cone_run.specs.{Cones.cone_units, Runs.IsNextFault, Runs.RanAfter}
 use Rattle.cone_run.proofs.RunLaws.{counted_more, list_fault, low_next, piece_more, room_next, units_next}
 use Rattle.cone_run.proofs.runs.run_alone.Goals as goal
 

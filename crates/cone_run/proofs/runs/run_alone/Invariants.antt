@@ -1,6 +1,5 @@
 use Rattle.std.proofs.Common.{◌≡◌, ◌+◌, ◌*◌, ◌≤◌, take, false, MatchOption}
-use Rattle.cone_run.specs.Cones.{cone_units}
-use Rattle.cone_run.specs.Runs.{IsPieceOf}
+use Rattle.cone_run.specs.{Cones.cone_units, Runs.IsPieceOf}
 use Rattle.cone_run.proofs.runs.run_alone.Given as goal
 
 -- the tests before this one ran

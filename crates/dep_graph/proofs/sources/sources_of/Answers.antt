@@ -1,11 +1,9 @@
 -- Each edge is the next one of an ordered record.
 use Rattle.std.proofs.Common.{◌≡◌, ◌+◌, ◌≤◌, ◌<◌, ℕ, List, [], ◌∷◌, ◌++◌, length, take, get_or, set, sym, subst, ap, ◌∙◌, arith, Vec, Global}
 use Rattle.et_base.specs.declared.items.Items.{Items}
-use Rattle.order_law.specs.declared.edges.EdgeKind.{EdgeKind}
-use Rattle.order_law.specs.declared.edges.EdgeKind.TheVariants.{Raw, Waw, War}
+use Rattle.order_law.specs.declared.edges.{EdgeKind.EdgeKind, EdgeKind.TheVariants.Raw, EdgeKind.TheVariants.Waw, EdgeKind.TheVariants.War}
 use Rattle.dep_graph.specs.Graphs.{AreSources}
-use Rattle.dep_graph.proofs.RowLaws.{next_up}
-use Rattle.dep_graph.proofs.SourceLaws.{sources_same, sources_more}
+use Rattle.dep_graph.proofs.{RowLaws.next_up, SourceLaws.sources_same, SourceLaws.sources_more}
 use Rattle.dep_graph.proofs.sources.sources_of.Goals as goal
 use Rattle.dep_graph.proofs.sources.sources_of.Goals.{in-Raw+in_ok-push_to-in-Raw, in-Waw, in-War}
 

@@ -1,6 +1,4 @@
-use Rattle.dep_record.proofs.FoundLaws.{found_text}
-use Rattle.dep_record.proofs.GivenLaws.{given_text}
-use Rattle.dep_record.proofs.HashLaws.{hashes_law}
+use Rattle.dep_record.proofs.{FoundLaws.found_text, GivenLaws.given_text, HashLaws.hashes_law}
 use Rattle.dep_record.proofs.laws.text_laws.Goals as goal
 
 pub returns-clause-found : goal.returns-clause-found

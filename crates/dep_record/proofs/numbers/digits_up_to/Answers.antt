@@ -1,6 +1,5 @@
 use Rattle.std.proofs.Common.{arith}
-use Rattle.std.proofs.lemmas.Grind.{common_steps}
-use Rattle.std.proofs.lemmas.List.{at_drop_more, at_drop_all}
+use Rattle.std.proofs.lemmas.{Grind.common_steps, List.at_drop_more, List.at_drop_all}
 use Rattle.dep_record.proofs.NumberLaws.{digits_after, digits_by_steps}
 use Rattle.dep_record.proofs.numbers.digits_up_to.Goals as goal
 

@@ -1,7 +1,6 @@
 use Rattle.std.proofs.Common.{◌+◌, ◌-◌, refl, arith}
 use Rattle.std.proofs.lemmas.Result.{err_from_is_err_and}
-use Rattle.dep_record.specs.Fields.{class_of}
-use Rattle.dep_record.specs.RecordReading.{pieces}
+use Rattle.dep_record.specs.{Fields.class_of, RecordReading.pieces}
 use Rattle.dep_record.proofs.LineLaws.{lines_begin, lines_go_on, lines_fail, lines_done}
 use Rattle.dep_record.proofs.reading.classes_at.Goals as goal
 

@@ -1,6 +1,5 @@
 use Rattle.std.proofs.Common.{◌≡◌, ◌+◌, ◌-◌}
-use Rattle.dep_record.specs.Fields.{class_of}
-use Rattle.dep_record.specs.RecordReading.{pieces, lines_by}
+use Rattle.dep_record.specs.{Fields.class_of, RecordReading.pieces, RecordReading.lines_by}
 use Rattle.dep_record.proofs.LineLaws.{with_front}
 use Rattle.dep_record.proofs.reading.classes_at.Given as goal
 

@@ -1,6 +1,5 @@
 use Rattle.std.proofs.Common.{◌≡◌, ◌+◌, [], ◌∷◌, ◌++◌, length, refl, sym, ap, subst, arith}
-use Rattle.std.proofs.lemmas.List.{length_push}
-use Rattle.std.proofs.lemmas.Result.{err_from_is_err_and}
+use Rattle.std.proofs.lemmas.{List.length_push, Result.err_from_is_err_and}
 use Rattle.dep_record.specs.RecordReading.{pieces, last_of}
 use Rattle.dep_record.proofs.EdgeLaws.{edges_begin, edges_go_on, edges_end, edges_fail}
 use Rattle.dep_record.proofs.EdgeCount.{IsCounted, edge_found, counted_more, few_counted}

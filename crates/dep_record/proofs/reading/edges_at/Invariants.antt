@@ -1,7 +1,6 @@
 use Rattle.std.proofs.Common.{◌≡◌, ◌+◌, None, length}
 use Rattle.dep_record.specs.RecordReading.{pieces, last_of, edges_from}
-use Rattle.dep_record.proofs.EdgeLaws.{edges_front}
-use Rattle.dep_record.proofs.EdgeCount.{IsCounted}
+use Rattle.dep_record.proofs.{EdgeLaws.edges_front, EdgeCount.IsCounted}
 use Rattle.dep_record.proofs.reading.edges_at.Given as goal
 
 -- the conflicts so far, which are few, and those that are left

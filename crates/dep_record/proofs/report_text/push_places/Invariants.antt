@@ -1,6 +1,5 @@
 use Rattle.std.proofs.Common.{◌≡◌, ◌++◌, map, drop}
-use Rattle.dep_record.specs.RecordText.{text_of}
-use Rattle.dep_record.specs.DepsText.{place_line}
+use Rattle.dep_record.specs.{RecordText.text_of, DepsText.place_line}
 use Rattle.dep_record.proofs.report_text.push_places.Given as goal
 
 -- what was written, and the lines that are left

@@ -1,7 +1,6 @@
 use Rattle.std.proofs.Common.{List, arith, subst, sym, ◌∙◌}
 use Rattle.order_law.specs.declared.edges.Edge.{Edge}
-use Rattle.order_law.specs.Pairing.{PairedList}
-use Rattle.order_law.specs.Walk.{IsShownOf}
+use Rattle.order_law.specs.{Pairing.PairedList, Walk.IsShownOf}
 use Rattle.order_law.proofs.Lists.{length-paired}
 use Rattle.detect_run.proofs.Detected.{edges_found, shown_found}
 use Rattle.detect_run.proofs.detection.detected_of.Goals as goal

@@ -1,14 +1,8 @@
 use Rattle.std.proofs.Common.{List, arith, refl, subst, sym}
 use Rattle.order_law.specs.declared.edges.Edge.{Edge}
-use Rattle.order_law.specs.Histories.{touches_of}
-use Rattle.order_law.specs.OwnRecord.{owner}
-use Rattle.order_law.specs.Pairing.{PairedList}
-use Rattle.order_law.specs.Walk.{IsShownOf}
+use Rattle.order_law.specs.{Histories.touches_of, OwnRecord.owner, Pairing.PairedList, Walk.IsShownOf}
 use Rattle.order_law.proofs.Lists.{length-paired}
-use Rattle.detect_run.proofs.Detected.{edges_found}
-use Rattle.detect_run.proofs.Kept.{has_run}
-use Rattle.detect_run.proofs.OwnRun.{have_walks}
-use Rattle.detect_run.proofs.Showable.{can_show}
+use Rattle.detect_run.proofs.{Detected.edges_found, Kept.has_run, OwnRun.have_walks, Showable.can_show}
 use Rattle.detect_run.proofs.detection.edges_recorded.Goals as goal
 
 pub record_of-requires : goal.record_of-requires

@@ -2,8 +2,7 @@ use Rattle.std.proofs.Common.{◌≡◌, length, refl, ap, subst, sym, ◌∙◌
 use Rattle.jvm_model.specs.Linked.{Linked}
 use Rattle.order_law.specs.declared.records.More.{More}
 use Rattle.order_law.specs.Reach.{IsMoreOf}
-use Rattle.detect_run.proofs.Detected.{reach_each, reach_found}
-use Rattle.detect_run.proofs.Kept.{record_form, reach_form}
+use Rattle.detect_run.proofs.{Detected.reach_each, Detected.reach_found, Kept.record_form, Kept.reach_form}
 use Rattle.detect_run.proofs.detection.record_of.Goals as goal
 
 pub reaches-requires : goal.reaches-requires

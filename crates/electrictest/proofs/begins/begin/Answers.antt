@@ -1,9 +1,7 @@
 use Rattle.std.proofs.Common.{Ok, Err}
 use Rattle.std.proofs.lemmas.Result.{err_from_is_err_and}
-use Rattle.electrictest.specs.Loads.{named_by}
-use Rattle.electrictest.specs.Records.{beginning}
-use Rattle.electrictest.proofs.PlanLaws.{tests_have}
-use Rattle.electrictest.proofs.PoolReplies.{is_of_suite}
+use Rattle.electrictest.specs.{Loads.named_by, Records.beginning}
+use Rattle.electrictest.proofs.{PlanLaws.tests_have, PoolReplies.is_of_suite}
 use Rattle.electrictest.proofs.Request.{begins, named_gives, not_begun, not_begun_ends, tests_are, unnamed, unnamed_ends}
 use Rattle.electrictest.proofs.begins.begin.Goals as goal
 

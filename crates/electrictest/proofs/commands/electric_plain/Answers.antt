@@ -1,12 +1,6 @@
-use Rattle.electrictest.specs.Commands.{called}
-use Rattle.electrictest.specs.Words.{plain}
-use Rattle.electrictest.proofs.AskedFor.{plain_impact, plain_over}
-use Rattle.electrictest.proofs.CompleteLaws.{complete_answer}
-use Rattle.electrictest.proofs.DetectedLaws.{detected_order_answer}
-use Rattle.electrictest.proofs.EagerLaws.{told_eager}
-use Rattle.electrictest.proofs.EarlierLaws.{earlier_answer}
-use Rattle.electrictest.proofs.Held.{for_held}
-use Rattle.electrictest.proofs.OwnConeLaws.{own_manifest_answer}
+use Rattle.electrictest.specs.{Commands.called, Words.plain}
+use Rattle.electrictest.proofs.{AskedFor.plain_impact, AskedFor.plain_over, CompleteLaws.complete_answer, DetectedLaws.detected_order_answer}
+use Rattle.electrictest.proofs.{EagerLaws.told_eager, EarlierLaws.earlier_answer, Held.for_held, OwnConeLaws.own_manifest_answer}
 use Rattle.electrictest.proofs.OwnOrderLaws.{own_order_answer}
 use Rattle.electrictest.proofs.Replying.{served_by, taken_by, ends_by}
 use Rattle.electrictest.proofs.commands.electric_plain.Goals as goal

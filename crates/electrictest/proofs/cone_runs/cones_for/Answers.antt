@@ -4,12 +4,9 @@ use Rattle.order_law.specs.Conflicts.{Member}
 use Rattle.electrictest.specs.declared.reports.Report.{Report}
 use Rattle.electrictest.specs.declared.status.Status.{Status}
 use Rattle.electrictest.specs.declared.words.Command.TheVariants as command
-use Rattle.electrictest.specs.Causes.{MayReport}
+use Rattle.electrictest.specs.{Causes.MayReport, Records.beginning, Selections.selected, Words.word_at}
 use Rattle.electrictest.specs.Commands.{ReportEnds, ReportsOver, RefusedOver}
 use Rattle.electrictest.specs.ConeRuns.{AreCounted, ConesRefused, IsConeReport}
-use Rattle.electrictest.specs.Records.{beginning}
-use Rattle.electrictest.specs.Selections.{selected}
-use Rattle.electrictest.specs.Words.{word_at}
 use Rattle.electrictest.proofs.AskedFor.{may_report, named_as}
 use Rattle.electrictest.proofs.ConeReplies.{counted_reports, cones_refused, cones_ends}
 use Rattle.electrictest.proofs.cone_runs.cones_for.Goals as goal

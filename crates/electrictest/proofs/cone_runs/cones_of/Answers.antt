@@ -2,8 +2,7 @@ use Rattle.std.proofs.Common.{ℕ, sym, subst}
 use Rattle.order_law.specs.Conflicts.{Member}
 use Rattle.dep_graph.proofs.Form.{ordered_at}
 use Rattle.cone_run.proofs.Pairs.{paired_length}
-use Rattle.electrictest.specs.ConeRuns.{ConesRefused}
-use Rattle.electrictest.specs.Records.{beginning}
+use Rattle.electrictest.specs.{ConeRuns.ConesRefused, Records.beginning}
 use Rattle.electrictest.proofs.ConeReplies.{selected_tests, selected_numbers, few_selected, cones_status, same_fault}
 use Rattle.electrictest.proofs.cone_runs.cones_of.Goals as goal
 

@@ -1,7 +1,5 @@
 use Rattle.electrictest.specs.Records.{beginning}
-use Rattle.electrictest.proofs.ChosenLaws.{few_tests}
-use Rattle.electrictest.proofs.GeneratedLaws.{summed_of}
-use Rattle.electrictest.proofs.PoolLaws.{all_posted}
+use Rattle.electrictest.proofs.{ChosenLaws.few_tests, GeneratedLaws.summed_of, PoolLaws.all_posted}
 use Rattle.electrictest.proofs.generated.summed.Goals as goal
 
 pub tally_of-requires-clause-few : goal.tally_of-requires-clause-few

@@ -1,6 +1,5 @@
 use Rattle.std.proofs.Common.{◌≡◌, List, ℕ, ◌++◌, ◌∷◌, [], codes, take, reverse, sym, ap, ◌∙◌, refl, arith}
-use Rattle.std.proofs.lemmas.List.{take_all}
-use Rattle.std.proofs.lemmas.Result.{on_ok_weaker}
+use Rattle.std.proofs.lemmas.{List.take_all, Result.on_ok_weaker}
 use Rattle.std.specs.List.{flat_map}
 use Rattle.run_core.specs.declared.events.Event.{Event}
 use Rattle.run_core.specs.Run.{told, history_of}

@@ -4,11 +4,8 @@ use Rattle.cone_run.specs.Marks.{HasWriter}
 use Rattle.electrictest.specs.declared.reports.Report.{Report}
 use Rattle.electrictest.specs.declared.status.Status.{Status}
 use Rattle.electrictest.specs.declared.words.Command.TheVariants as command
-use Rattle.electrictest.specs.Causes.{MayReport}
+use Rattle.electrictest.specs.{Causes.MayReport, ConeRuns.AreCounted, ConeRuns.ConesRefused, Manifests.IsManifest, Records.beginning}
 use Rattle.electrictest.specs.Commands.{ReportEnds, ReportsOver, RefusedOver}
-use Rattle.electrictest.specs.ConeRuns.{AreCounted, ConesRefused}
-use Rattle.electrictest.specs.Manifests.{IsManifest}
-use Rattle.electrictest.specs.Records.{beginning}
 use Rattle.electrictest.proofs.AskedFor.{formed_as, may_pass, named_as}
 use Rattle.electrictest.proofs.ConeReplies.{counted_reports, cones_refused, cones_ends}
 use Rattle.electrictest.proofs.manifests.manifest_for.Goals as goal

@@ -3,13 +3,8 @@ use Rattle.std.proofs.lemmas.Result.{IfOk-weaker, IfErr-weaker}
 use Rattle.electrictest.specs.declared.reports.Report.{Report}
 use Rattle.electrictest.specs.declared.status.Status.{Status}
 use Rattle.electrictest.specs.declared.words.Command.TheVariants as command
-use Rattle.electrictest.specs.Causes.{MayReport}
+use Rattle.electrictest.specs.{Causes.MayReport, Orders.Reports, Records.beginning, Running.OrderRefused, Selections.ordered, Words.word_at}
 use Rattle.electrictest.specs.Commands.{ReportEnds, ReportsOver, RefusedOver}
-use Rattle.electrictest.specs.Orders.{Reports}
-use Rattle.electrictest.specs.Records.{beginning}
-use Rattle.electrictest.specs.Running.{OrderRefused}
-use Rattle.electrictest.specs.Selections.{ordered}
-use Rattle.electrictest.specs.Words.{word_at}
 use Rattle.electrictest.proofs.AskedFor.{may_report, named_as}
 use Rattle.electrictest.proofs.OrderLaws.{order_reports, order_refused, order_ends}
 use Rattle.electrictest.proofs.orders.order_for.Goals as goal

@@ -1,12 +1,8 @@
 use Rattle.std.proofs.Common.{refl}
 use Rattle.std.proofs.lemmas.Result.{err_from_is_err_and}
 use Rattle.electrictest.specs.declared.words.Command.TheVariants as command
-use Rattle.electrictest.specs.Records.{beginning}
-use Rattle.electrictest.specs.Selections.{selected}
-use Rattle.electrictest.specs.Words.{word_at}
-use Rattle.electrictest.proofs.AskedFor.{formed_as, named_as}
-use Rattle.electrictest.proofs.OrderLaws.{plan_reports}
-use Rattle.electrictest.proofs.PlanLaws.{unplanned}
+use Rattle.electrictest.specs.{Records.beginning, Selections.selected, Words.word_at}
+use Rattle.electrictest.proofs.{AskedFor.formed_as, AskedFor.named_as, OrderLaws.plan_reports, PlanLaws.unplanned}
 use Rattle.electrictest.proofs.plans.plan_for.Goals as goal
 
 pub begin-requires-clause-named : goal.begin-requires-clause-named

@@ -1,8 +1,6 @@
 use Rattle.std.proofs.Common.{◌≡◌, ℕ, List}
 use Rattle.std.proofs.lemmas.Result.{IfOk-weaker}
-use Rattle.electrictest.specs.PlanTexts.{plan_text}
-use Rattle.electrictest.specs.Plans.{IsPlanReport}
-use Rattle.electrictest.specs.Records.{beginning}
+use Rattle.electrictest.specs.{PlanTexts.plan_text, Plans.IsPlanReport, Records.beginning}
 use Rattle.electrictest.proofs.PlanLaws.{chains_have, units_small}
 use Rattle.electrictest.proofs.plans.plan_of.Goals as goal
 

@@ -1,5 +1,4 @@
-use Rattle.electrictest.proofs.ChosenLaws.{closure_has}
-use Rattle.electrictest.proofs.PlanLaws.{chains_have, units_small}
+use Rattle.electrictest.proofs.{ChosenLaws.closure_has, PlanLaws.chains_have, PlanLaws.units_small}
 use Rattle.electrictest.proofs.pool_runs.choose.Goals as goal
 
 pub plan-requires-clause-listed : goal.plan-requires-clause-listed

@@ -1,12 +1,8 @@
 use Rattle.std.proofs.Common.{◌≡◌, ℕ, List, [], ◌++◌, length, cond, Some, ap, ◌∙◌, subst}
 use Rattle.run_core.specs.Run.{history}
 use Rattle.worker_pool.specs.Plans.{units_of}
-use Rattle.electrictest.specs.Logs.{log_text}
-use Rattle.electrictest.specs.PoolRuns.{IsPoolReport}
-use Rattle.electrictest.specs.Records.{beginning}
-use Rattle.electrictest.specs.Tallies.{report_text}
-use Rattle.electrictest.proofs.ChosenLaws.{few_tests}
-use Rattle.electrictest.proofs.PoolLaws.{all_posted, pool_reported}
+use Rattle.electrictest.specs.{Logs.log_text, PoolRuns.IsPoolReport, Records.beginning, Tallies.report_text}
+use Rattle.electrictest.proofs.{ChosenLaws.few_tests, PoolLaws.all_posted, PoolLaws.pool_reported}
 use Rattle.electrictest.proofs.pool_runs.pool_report.Goals as goal
 
 pub tally_of-requires-clause-few : goal.tally_of-requires-clause-few

@@ -3,12 +3,8 @@ use Rattle.std.proofs.lemmas.Result.{IfOk-weaker, IfErr-weaker}
 use Rattle.electrictest.specs.declared.reports.Report.{Report}
 use Rattle.electrictest.specs.declared.status.Status.{Status}
 use Rattle.electrictest.specs.declared.words.Command.TheVariants as command
-use Rattle.electrictest.specs.Causes.{MayReport}
+use Rattle.electrictest.specs.{Causes.MayReport, PoolRuns.PoolReports, PoolRuns.PoolRefused, Records.beginning, Selections.selected, Words.word_at}
 use Rattle.electrictest.specs.Commands.{ReportEnds, ReportsOver, RefusedOver}
-use Rattle.electrictest.specs.PoolRuns.{PoolReports, PoolRefused}
-use Rattle.electrictest.specs.Records.{beginning}
-use Rattle.electrictest.specs.Selections.{selected}
-use Rattle.electrictest.specs.Words.{word_at}
 use Rattle.electrictest.proofs.AskedFor.{may_report, named_as}
 use Rattle.electrictest.proofs.PoolReplies.{pool_reports, pool_refused, pool_ends}
 use Rattle.electrictest.proofs.pool_runs.run_for.Goals as goal

@@ -1,6 +1,5 @@
 use Rattle.electrictest.specs.declared.words.Command.TheVariants as command
-use Rattle.electrictest.proofs.AskedFor.{formed_as}
-use Rattle.electrictest.proofs.QuietReports.{quiet_reports}
+use Rattle.electrictest.proofs.{AskedFor.formed_as, QuietReports.quiet_reports}
 use Rattle.electrictest.proofs.quiet_lists.quiet_for.Goals as goal
 
 pub returns-clause-reports : goal.returns-clause-reports

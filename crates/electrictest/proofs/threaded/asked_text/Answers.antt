@@ -5,11 +5,7 @@ use Rattle.electrictest.specs.declared.reports.Report.{Report}
 use Rattle.electrictest.specs.declared.status.Status.{Status}
 use Rattle.electrictest.specs.declared.words.Command.TheVariants as command
 use Rattle.electrictest.specs.declared.status.Status.TheVariants as ends
-use Rattle.electrictest.specs.Causes.{MayReport}
-use Rattle.electrictest.specs.Commands.{Reported, ReportEnds}
-use Rattle.electrictest.specs.Generated.{Sums}
-use Rattle.electrictest.specs.GeneratedAnswers.{Summed}
-use Rattle.electrictest.specs.Replies.{Unreported}
+use Rattle.electrictest.specs.{Causes.MayReport, Commands.Reported, Commands.ReportEnds, Generated.Sums, GeneratedAnswers.Summed, Replies.Unreported}
 use Rattle.electrictest.proofs.AskedFor.{formed_as, may_pass, of_this_alone}
 use Rattle.electrictest.proofs.GeneratedLaws.{summary_answers, summary_ends, summary_refused}
 use Rattle.electrictest.proofs.threaded.asked_text.Goals as goal

@@ -3,12 +3,9 @@ use Rattle.std.proofs.lemmas.Result.{IfOk-weaker, IfErr-weaker}
 use Rattle.electrictest.specs.declared.reports.Report.{Report}
 use Rattle.electrictest.specs.declared.status.Status.{Status}
 use Rattle.electrictest.specs.declared.words.Command.TheVariants as command
-use Rattle.electrictest.specs.Causes.{MayReport}
+use Rattle.electrictest.specs.{Causes.MayReport, Running.RunRefused, Running.WholeReports}
 use Rattle.electrictest.specs.Commands.{ReportEnds, ReportsOver, RefusedOver}
-use Rattle.electrictest.specs.Running.{RunRefused, WholeReports}
-use Rattle.electrictest.proofs.AskedFor.{may_report, overs_as}
-use Rattle.electrictest.proofs.Founds.{refused_found, ends_found}
-use Rattle.electrictest.proofs.WholeLaws.{whole_reports}
+use Rattle.electrictest.proofs.{AskedFor.may_report, AskedFor.overs_as, Founds.refused_found, Founds.ends_found, WholeLaws.whole_reports}
 use Rattle.electrictest.proofs.wholes.whole_for.Goals as goal
 
 pub returns-clause-reports : goal.returns-clause-reports

@@ -1,8 +1,7 @@
 use Rattle.std.proofs.Common.{◌-◌, ◌∙◌, sym, arith, length, drop}
 use Rattle.std.proofs.lemmas.List.{length-take, length-drop}
-use Rattle.et_base.proofs.Utf8Laws.{utf8_of-pair, utf8_of-lone}
+use Rattle.et_base.proofs.{Utf8Laws.utf8_of-pair, Utf8Laws.utf8_of-lone, utf8.first_char.Goals.in_default, utf8.first_char.Goals.in-len1-up-rest+else-is_pair}
 use Rattle.et_base.proofs.utf8.first_char.Goals as goal
-use Rattle.et_base.proofs.utf8.first_char.Goals.{in_default, in-len1-up-rest+else-is_pair}
 
 pub returns-then-is_pair-clause-first : goal.returns-then-is_pair-clause-first
 returns-then-is_pair-clause-first c = rw c.pair_char.ensures (utf8_of-pair c.args.units.now (grind arith) (sym c.is_pair.ensures ∙ c.if-is_pair.true))

@@ -1,6 +1,5 @@
 use Rattle.std.proofs.Common.{◌≡◌}
-use Rattle.jvm_model.specs.Classes.{upwards}
-use Rattle.jvm_model.specs.Lookup.{find_declared}
+use Rattle.jvm_model.specs.{Classes.upwards, Lookup.find_declared}
 use Rattle.jvm_model.proofs.Upwards.{chain}
 use Rattle.member_lookup.proofs.lookup.declared_upwards.Given as goal
 

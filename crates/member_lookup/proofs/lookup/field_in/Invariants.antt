@@ -1,6 +1,5 @@
 use Rattle.std.proofs.Common.{◌≡◌, drop, find, flat_map}
-use Rattle.jvm_model.specs.Classes.{class_at}
-use Rattle.jvm_model.specs.Lookup.{is_field}
+use Rattle.jvm_model.specs.{Classes.class_at, Lookup.is_field}
 use Rattle.member_lookup.proofs.lookup.field_in.Given as goal
 
 abbrev pub invariant-loop-class : goal.invariant-loop-class

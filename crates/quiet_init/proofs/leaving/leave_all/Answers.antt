@@ -1,8 +1,7 @@
 use Rattle.std.proofs.Common.{sym, subst, arith}
 use Rattle.jvm_model.specs.World.{World}
 use Rattle.quiet_init.specs.Leaving.{AreLeft}
-use Rattle.quiet_init.proofs.Leaves.{left_first}
-use Rattle.quiet_init.proofs.Lists.{quiet_listed, as_many}
+use Rattle.quiet_init.proofs.{Leaves.left_first, Lists.quiet_listed, Lists.as_many}
 use Rattle.quiet_init.proofs.leaving.leave_all.Goals as goal
 
 pub loop-class-init : goal.loop-class-init

@@ -1,6 +1,5 @@
 use Rattle.std.proofs.Common.{◌∙◌, ap, sym, refl}
-use Rattle.jvm_model.specs.Classes.{next_place}
-use Rattle.jvm_model.specs.Entries.{Entries, with_place}
+use Rattle.jvm_model.specs.{Classes.next_place, Entries.Entries, Entries.with_place}
 use Rattle.vm_tables.proofs.FieldUnits.{field_narrowed}
 use Rattle.quiet_init.proofs.Leaves.{get_done, put_done, put_pops, default_calm, calm_there, calm_room, calm_does, calm_keeps}
 use Rattle.quiet_init.proofs.leaving.step.Goals as goal

@@ -1,6 +1,5 @@
 use Rattle.std.proofs.Common.{◌≡◌, drop}
-use Rattle.quiet_init.specs.Leaving.{CanDoAll}
-use Rattle.quiet_init.specs.Quiet.{left_after}
+use Rattle.quiet_init.specs.{Leaving.CanDoAll, Quiet.left_after}
 use Rattle.quiet_init.proofs.leaving.step_through.Given as goal
 
 -- what is left can be done, and leaves what the whole does

@@ -1,9 +1,7 @@
 use Rattle.std.proofs.Common.{◌∙◌, ap, subst, sym}
 use Rattle.jvm_model.specs.declared.program.Program.{Program}
 use Rattle.type_frames.specs.Typing.{IsTyped, all_frames}
-use Rattle.quiet_init.proofs.Finished.{put_together, long_flags}
-use Rattle.quiet_init.proofs.KeptRules.{all_frames_kept}
-use Rattle.quiet_init.proofs.Typed.{typed_kept}
+use Rattle.quiet_init.proofs.{Finished.put_together, Finished.long_flags, KeptRules.all_frames_kept, Typed.typed_kept}
 use Rattle.quiet_init.proofs.program.hushed.Goals as goal
 
 pub without_starts-requires : goal.without_starts-requires

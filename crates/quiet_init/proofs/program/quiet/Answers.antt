@@ -1,8 +1,7 @@
 use Rattle.std.proofs.Common.{◌∙◌, subst}
 use Rattle.jvm_model.specs.declared.program.Program.{Program}
 use Rattle.quiet_init.specs.Leaving.{AreFlags}
-use Rattle.quiet_init.proofs.Finished.{few_flags}
-use Rattle.quiet_init.proofs.Lists.{quiet_numbers}
+use Rattle.quiet_init.proofs.{Finished.few_flags, Lists.quiet_numbers}
 use Rattle.quiet_init.proofs.program.quiet.Goals as goal
 
 pub flagged-requires : goal.flagged-requires

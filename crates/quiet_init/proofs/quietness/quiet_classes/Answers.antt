@@ -4,8 +4,7 @@ use Rattle.std.proofs.lemmas.Result.{IfOk-weaker}
 use Rattle.jvm_model.specs.declared.program.Program.{Program}
 use Rattle.quiet_init.specs.Leaving.{AreFlags}
 use Rattle.quiet_init.specs.Quiet as quiet
-use Rattle.quiet_init.proofs.Finished.{few_flags}
-use Rattle.quiet_init.proofs.Lists.{quiet_numbers}
+use Rattle.quiet_init.proofs.{Finished.few_flags, Lists.quiet_numbers}
 use Rattle.quiet_init.proofs.quietness.quiet_classes.Goals as goal
 
 pub flagged-requires : goal.flagged-requires

@@ -1,7 +1,6 @@
 use Rattle.std.proofs.Common.{◌≡◌, ◌∙◌, List, ℕ}
 use Rattle.std.proofs.lemmas.Result.{IfOk-weaker}
-use Rattle.quiet_init.specs.Quiet.{quiet_classes}
-use Rattle.quiet_init.specs.QuietText.{text_of}
+use Rattle.quiet_init.specs.{Quiet.quiet_classes, QuietText.text_of}
 use Rattle.quiet_init.proofs.text.quiet_text.Goals as goal
 
 pub returns : goal.returns

@@ -1,9 +1,7 @@
 -- The classes of the labels are the chains.
 use Rattle.std.proofs.Common.{ℕ, List, sym, subst}
-use Rattle.order_law.specs.Conflicts.{Member}
-use Rattle.order_law.specs.Plan.{Ascending}
-use Rattle.schedule_plan.proofs.Grouped.{chains_of_set}
-use Rattle.schedule_plan.proofs.Formed.{chains_form}
+use Rattle.order_law.specs.{Conflicts.Member, Plan.Ascending}
+use Rattle.schedule_plan.proofs.{Grouped.chains_of_set, Formed.chains_form}
 use Rattle.schedule_plan.proofs.chaining.chains.Goals as goal
 
 pub classes_of-requires-clause-many : goal.classes_of-requires-clause-many

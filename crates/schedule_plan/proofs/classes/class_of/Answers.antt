@@ -1,8 +1,7 @@
 -- The next test is listed, where it has this label.
 use Rattle.std.proofs.Common.{ℕ, List, length, subst, sym, arith}
-use Rattle.schedule_plan.proofs.Places.{ended}
+use Rattle.schedule_plan.proofs.{Places.ended, Grouped.class_begun, Grouped.class_next}
 use Rattle.schedule_plan.specs.Grouping.{IsClassOf}
-use Rattle.schedule_plan.proofs.Grouped.{class_begun, class_next}
 use Rattle.schedule_plan.proofs.classes.class_of.Goals as goal
 
 pub loop-i-init : goal.loop-i-init

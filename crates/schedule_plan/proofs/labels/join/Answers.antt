@@ -1,7 +1,6 @@
 -- The greater label is written over.
 use Rattle.std.proofs.Common.{arith}
-use Rattle.schedule_plan.proofs.Joinings.{joined_back}
-use Rattle.schedule_plan.proofs.Labelled.{new_labels, joined_forth}
+use Rattle.schedule_plan.proofs.{Joinings.joined_back, Labelled.new_labels, Labelled.joined_forth}
 use Rattle.schedule_plan.proofs.labels.join.Goals as goal
 
 pub returns-then-a-b-2-clause-labels : goal.returns-then-a-b-2-clause-labels

@@ -2,8 +2,7 @@
 use Rattle.std.proofs.Common.{◌∙◌, ℕ, List, ap, length, sum, arith}
 use Rattle.order_law.proofs.Posts.{forms_apart}
 use Rattle.schedule_plan.specs.Plans.{chain_units}
-use Rattle.schedule_plan.proofs.Totals.{chains_within, few_dealt}
-use Rattle.schedule_plan.proofs.Dealing.{plan_of}
+use Rattle.schedule_plan.proofs.{Totals.chains_within, Totals.few_dealt, Dealing.plan_of}
 use Rattle.schedule_plan.proofs.planning.plan.Goals as goal
 
 pub shares_of-requires-clause-small : goal.shares_of-requires-clause-small

@@ -1,7 +1,6 @@
 -- The units of the chains so far, whose tests have numbers of 32 bits.
 use Rattle.std.proofs.Common.{◌≡◌, ℕ, ◌<◌, take}
-use Rattle.order_law.specs.Conflicts.{Member}
-use Rattle.order_law.specs.Plan.{chain_at}
+use Rattle.order_law.specs.{Conflicts.Member, Plan.chain_at}
 use Rattle.schedule_plan.specs.Plans.{chain_units}
 use Rattle.schedule_plan.proofs.sizes.sizes_of.Given as goal
 

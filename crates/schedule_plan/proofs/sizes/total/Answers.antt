@@ -3,10 +3,8 @@ use Rattle.std.proofs.Common.{◌-◌, ◌∙◌, ap, List, ℕ, arith}
 use Rattle.std.proofs.lemmas.List.{take_all}
 use Rattle.std.proofs.lemmas.List.Sums.{sum_by_more}
 use Rattle.selection_close.proofs.Lists.{member_less}
-use Rattle.schedule_plan.specs.Grouping.{at}
-use Rattle.schedule_plan.specs.Plans.{units_of}
-use Rattle.schedule_plan.proofs.Places.{member_get}
-use Rattle.schedule_plan.proofs.Totals.{units_more}
+use Rattle.schedule_plan.specs.{Grouping.at, Plans.units_of}
+use Rattle.schedule_plan.proofs.{Places.member_get, Totals.units_more}
 use Rattle.schedule_plan.proofs.sizes.total.Goals as goal
 
 pub overflow_add-total : goal.overflow_add-total

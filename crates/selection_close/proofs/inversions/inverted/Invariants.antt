@@ -1,7 +1,6 @@
 -- The tests so far keep to the order.
 use Rattle.std.proofs.Common.{ℕ, ◌<◌, take}
-use Rattle.order_law.specs.Conflicts.{InOrder}
-use Rattle.order_law.specs.OrderFault.{IsInPlace}
+use Rattle.order_law.specs.{Conflicts.InOrder, OrderFault.IsInPlace}
 use Rattle.selection_close.proofs.inversions.inverted.Given as goal
 
 abbrev pub invariant-loop-i : goal.invariant-loop-i

@@ -1,7 +1,6 @@
 -- The tests so far have their raw writers in the list.
 use Rattle.std.proofs.Common.{ℕ, take}
-use Rattle.order_law.specs.Conflicts.{Member}
-use Rattle.order_law.specs.OrderFault.{HasWriters}
+use Rattle.order_law.specs.{Conflicts.Member, OrderFault.HasWriters}
 use Rattle.selection_close.proofs.writers.unlisted.Given as goal
 
 abbrev pub invariant-loop-i : goal.invariant-loop-i

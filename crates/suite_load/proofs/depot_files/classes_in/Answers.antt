@@ -1,6 +1,5 @@
 use Rattle.std.proofs.Common.{◌∙◌, refl, ap, List, length, arith}
-use Rattle.std.proofs.lemmas.List.{length_push}
-use Rattle.std.proofs.lemmas.Result.{err_from_is_err_and}
+use Rattle.std.proofs.lemmas.{List.length_push, Result.err_from_is_err_and}
 use Rattle.class_reader.specs.declared.parts.ClassParts.{ClassParts}
 use Rattle.suite_load.proofs.LoadLaws.{so_far_more, so_far_fails, so_far_all, so_far_proper, sums_none, sums_more, sums_last}
 use Rattle.suite_load.proofs.depot_files.classes_in.Goals as goal

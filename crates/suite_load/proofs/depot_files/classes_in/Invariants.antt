@@ -1,7 +1,6 @@
 use Rattle.std.proofs.Common.{◌≡◌, ◌≤◌, ◌+◌, length, map, take}
 use Rattle.outside.specs.Depot.{OfHeld, TellsOn}
-use Rattle.suite_load.specs.Loading.{bytes_of}
-use Rattle.suite_load.specs.Sums.{AreMoreSums}
+use Rattle.suite_load.specs.{Loading.bytes_of, Sums.AreMoreSums}
 use Rattle.suite_load.proofs.LoadLaws.{AreRead}
 use Rattle.suite_load.proofs.depot_files.classes_in.Given as goal
 

@@ -1,6 +1,5 @@
 use Rattle.std.proofs.Common.{◌==◌, rules, tests}
-use Rattle.std.proofs.lemmas.Iterator.Consumers.{count_from_yields_List}
-use Rattle.std.proofs.lemmas.Iterator.Splits.{YieldsList-from_slice_split}
+use Rattle.std.proofs.{lemmas.Iterator.Consumers.count_from_yields_List, lemmas.Iterator.Splits.YieldsList-from_slice_split}
 use Rattle.suite_load.proofs.names.part_count.Goals as goal
 
 pub returns : goal.returns

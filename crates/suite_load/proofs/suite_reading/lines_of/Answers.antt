@@ -1,7 +1,6 @@
 use Rattle.std.proofs.Common.{◌<◌, length, sym, ap, ◌∙◌}
 use Rattle.std.proofs.lemmas.Result.{err_from_is_err_and}
-use Rattle.suite_load.specs.LineForms.{rows}
-use Rattle.suite_load.specs.SuiteForm.{lines_from}
+use Rattle.suite_load.specs.{LineForms.rows, SuiteForm.lines_from}
 use Rattle.suite_load.proofs.LineLaws.{lines_go_on, lines_fail, lines_end, whole_fails, whole_done, rest_shorter}
 use Rattle.suite_load.proofs.suite_reading.lines_of.Goals as goal
 

@@ -1,6 +1,5 @@
 use Rattle.std.proofs.Common.{◌≡◌, [], length}
-use Rattle.suite_load.specs.LineForms.{rows}
-use Rattle.suite_load.specs.SuiteForm.{lines_from}
+use Rattle.suite_load.specs.{LineForms.rows, SuiteForm.lines_from}
 use Rattle.suite_load.proofs.suite_reading.lines_of.Given as goal
 
 -- the lines so far and those of the rest are those of the text

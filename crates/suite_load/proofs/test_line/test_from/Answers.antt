@@ -1,7 +1,6 @@
 use Rattle.std.proofs.Common.{◌≡◌, ◌-◌, ◌==◌, not, length, take, drop, refl, arith, w64}
 use Rattle.std.specs.List.{suffix_len}
-use Rattle.std.proofs.lemmas.Int.{to_z-of_z}
-use Rattle.std.proofs.lemmas.List.{take_all, length-drop}
+use Rattle.std.proofs.lemmas.{Int.to_z-of_z, List.take_all, List.length-drop}
 use Rattle.suite_load.specs.SuiteForm.{test_from, test_class, test_method}
 use Rattle.suite_load.proofs.test_line.test_from.Goals as goal
 

@@ -1,7 +1,6 @@
 use Rattle.std.proofs.Common.{ℕ, List, length, sym, ap, ◌∙◌, arith}
 use Rattle.class_reader.specs.declared.parts.ClassParts.{ClassParts}
-use Rattle.std.proofs.lemmas.List.{length-map}
-use Rattle.std.proofs.lemmas.Result.{err_from_is_err_and}
+use Rattle.std.proofs.lemmas.{List.length-map, Result.err_from_is_err_and}
 use Rattle.jvm_model.specs.declared.program.Names.{Names}
 use Rattle.suite_load.specs.declared.suite_text.TestLine.{TestLine}
 use Rattle.suite_load.proofs.LoadLaws.{unread_suite, unread_class, all_read, not_checked, loads_all, sums_all}

@@ -1,6 +1,5 @@
 use Rattle.std.proofs.Common.{◌≡◌, ◌<◌, ◌^◌, drop}
-use Rattle.type_frames.specs.Given.{frames_from}
-use Rattle.type_frames.specs.MapReading.{prefixed}
+use Rattle.type_frames.specs.{Given.frames_from, MapReading.prefixed}
 use Rattle.type_frames.proofs.given.frames_in.Given as goal
 
 abbrev pub invariant-loop-entry : goal.invariant-loop-entry

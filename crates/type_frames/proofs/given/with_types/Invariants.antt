@@ -1,6 +1,5 @@
 use Rattle.std.proofs.Common.{◌≡◌, drop}
-use Rattle.type_frames.specs.Given.{all_types}
-use Rattle.type_frames.specs.MapReading.{prefixed}
+use Rattle.type_frames.specs.{Given.all_types, MapReading.prefixed}
 use Rattle.type_frames.proofs.given.with_types.Given as goal
 
 abbrev pub invariant-loop-entry : goal.invariant-loop-entry

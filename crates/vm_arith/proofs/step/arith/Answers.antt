@@ -1,6 +1,5 @@
-use Rattle.vm_arith.proofs.Steps.{thrown}
+use Rattle.vm_arith.proofs.{Steps.thrown, step.arith.Goals.in_default, step.arith.Goals.in-Binary}
 use Rattle.vm_arith.proofs.step.arith.Goals as goal
-use Rattle.vm_arith.proofs.step.arith.Goals.{in_default, in-Binary}
 
 pub returns-in_default-answer : goal.returns-in_default-answer
 returns-in_default-answer c = thrown _ _ _ _ _ _ (elim c.match-form.branch [

@@ -1,11 +1,9 @@
 use Rattle.std.proofs.Common.{refl, sym, ◌∙◌}
 use Rattle.jvm_model.specs.declared.instr.Instr.TheVariants as form
-use Rattle.jvm_model.specs.Classes.{method_at}
-use Rattle.jvm_model.specs.RowsCalls.{argument_count}
+use Rattle.jvm_model.specs.{Classes.method_at, RowsCalls.argument_count}
 use Rattle.vm_calls.specs.Calls.{call_row, method_row}
-use Rattle.vm_calls.proofs.Entered.{calls_there, entered}
+use Rattle.vm_calls.proofs.{Entered.calls_there, Entered.entered, Using.static_uses}
 use Rattle.class_init.proofs.Using.{row_usable, ready_row, ready_makes, begun_makes, fault_makes, over_makes}
-use Rattle.vm_calls.proofs.Using.{static_uses}
 use Rattle.vm_calls.proofs.invoking.invoke_static.Goals as goal
 
 pub begin_method_use-requires : goal.begin_method_use-requires

@@ -1,6 +1,5 @@
 use Rattle.std.proofs.Common.{◌≡◌, filter, flat_map, take}
-use Rattle.jvm_model.specs.Classes.{class_at}
-use Rattle.jvm_model.specs.Selection.{is_open_like}
+use Rattle.jvm_model.specs.{Classes.class_at, Selection.is_open_like}
 use Rattle.vm_calls.proofs.selecting.open_in.Given as goal
 
 abbrev pub invariant-loop-interface : goal.invariant-loop-interface

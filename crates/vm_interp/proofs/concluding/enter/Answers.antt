@@ -1,9 +1,7 @@
 use Rattle.std.proofs.Common.{sym, ◌∙◌}
 use Rattle.jvm_model.specs.declared.outcome.Next.TheVariants.{Enter}
-use Rattle.vm_interp.specs.Abs.{abs}
-use Rattle.vm_interp.specs.Turns.{after, builtin_part}
-use Rattle.vm_interp.proofs.Builtin.{enters_native}
-use Rattle.vm_interp.proofs.Stepped.{same_part}
+use Rattle.vm_interp.specs.{Abs.abs, Turns.after, Turns.builtin_part}
+use Rattle.vm_interp.proofs.{Builtin.enters_native, Stepped.same_part}
 use Rattle.vm_interp.proofs.concluding.enter.Goals as goal
 
 pub returns-in-Some : goal.returns-in-Some

@@ -2,8 +2,7 @@ use Rattle.std.proofs.Common.{sym, subst}
 use Rattle.jvm_model.specs.declared.program.Program.{Program}
 use Rattle.vm_mem.specs.Refines.{IsReady}
 use Rattle.vm_natives.specs.Rows.{native_row, with_own}
-use Rattle.vm_interp.specs.Abs.{abs}
-use Rattle.vm_interp.specs.Turns.{builtin_part}
+use Rattle.vm_interp.specs.{Abs.abs, Turns.builtin_part}
 use Rattle.vm_interp.proofs.Builtin.{native_ready, made_go, made_fault, made_spent, not_raise, not_leave, not_enter}
 use Rattle.vm_interp.proofs.Stepped.{fit_own}
 use Rattle.vm_interp.proofs.concluding.run_builtin.Goals as goal

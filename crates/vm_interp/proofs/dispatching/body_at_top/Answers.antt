@@ -1,6 +1,5 @@
 use Rattle.std.proofs.Common.{ℕ, ◌∙◌, ap, sym}
-use Rattle.jvm_model.specs.declared.program.MethodRec.{MethodRec}
-use Rattle.jvm_model.specs.declared.program.Program.{Program}
+use Rattle.jvm_model.specs.declared.program.{MethodRec.MethodRec, Program.Program}
 use Rattle.jvm_model.specs.Classes.{method_at}
 use Rattle.vm_interp.proofs.Numbered.{has_body}
 use Rattle.vm_interp.proofs.dispatching.body_at_top.Goals as goal

@@ -1,10 +1,7 @@
 use Rattle.std.proofs.Common.{◌∙◌, ap, sym, subst, refl, arith}
-use Rattle.jvm_model.specs.Entries.{Entries}
-use Rattle.jvm_model.specs.Step.{step}
-use Rattle.jvm_model.specs.View.{touched}
+use Rattle.jvm_model.specs.{Entries.Entries, Step.step, View.touched}
 use Rattle.vm_interp.specs.Dispatching.{Stands, Steps, here, next_of}
-use Rattle.vm_interp.specs.Reaching.{CanStep}
-use Rattle.vm_interp.specs.Abs.{abs}
+use Rattle.vm_interp.specs.{Reaching.CanStep, Abs.abs}
 use Rattle.vm_interp.specs.declared.state.State.{State as Kept}
 use Rattle.vm_interp.proofs.Onward.{ended_with_init, ended_with_row, row_falls, row_object, row_on, row_there, row_told}
 use Rattle.vm_interp.proofs.dispatching.dispatch_loop.Goals as goal

@@ -1,8 +1,7 @@
 use Rattle.std.proofs.Common.{◌≡◌, List}
 use Rattle.jvm_model.specs.declared.values.Touch.{Touch}
 use Rattle.vm_mem.specs.Trace.{Trace}
-use Rattle.vm_interp.specs.Dispatching.{Stands, Steps}
-use Rattle.vm_interp.specs.Abs.{abs}
+use Rattle.vm_interp.specs.{Dispatching.Stands, Dispatching.Steps, Abs.abs}
 use Rattle.vm_interp.proofs.dispatching.dispatch_loop.Given as goal
 
 -- such steps were made up to these entries, and the test is at the first of these instructions

@@ -1,15 +1,12 @@
 use Rattle.std.proofs.Common.{◌≡◌, Some, sym, subst}
 use Rattle.jvm_model.specs.declared.state.EntryKind.TheVariants.{InMethod}
 use Rattle.jvm_model.specs.Classes.{form_at, method_at, next_place}
-use Rattle.jvm_model.specs.Entries.{Entries}
-use Rattle.jvm_model.specs.Step.{row_here}
+use Rattle.jvm_model.specs.{Entries.Entries, Step.row_here}
 use Rattle.vm_mem.specs.Refines.{IsReady}
 use Rattle.vm_interp.specs.Dispatching.{CanRun, EndsFlow, place_behind}
-use Rattle.vm_interp.specs.Reaching.{HasSpace}
-use Rattle.vm_interp.specs.Abs.{abs}
-use Rattle.vm_interp.proofs.Found.{can_run, row_safe}
+use Rattle.vm_interp.specs.{Reaching.HasSpace, Abs.abs}
+use Rattle.vm_interp.proofs.{Found.can_run, Found.row_safe, Onward.placed_again}
 use Rattle.vm_interp.proofs.Numbered.{left_in, looked_up, rest_some, stands_form, stands_next, stands_pc}
-use Rattle.vm_interp.proofs.Onward.{placed_again}
 use Rattle.vm_interp.proofs.dispatching.row_at.Goals as goal
 
 pub hot_row-requires : goal.hot_row-requires

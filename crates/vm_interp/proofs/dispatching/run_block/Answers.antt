@@ -1,9 +1,6 @@
 use Rattle.std.proofs.Common.{sym}
-use Rattle.vm_interp.specs.Abs.{abs}
-use Rattle.vm_interp.specs.Dispatching.{here}
-use Rattle.vm_interp.proofs.Found.{row_safe}
-use Rattle.vm_interp.proofs.Numbered.{has_form}
-use Rattle.vm_interp.proofs.Onward.{alone}
+use Rattle.vm_interp.specs.{Abs.abs, Dispatching.here}
+use Rattle.vm_interp.proofs.{Found.row_safe, Numbered.has_form, Onward.alone}
 use Rattle.vm_interp.proofs.dispatching.run_block.Goals as goal
 
 pub cursor_in_method-cursor-requires : goal.cursor_in_method-cursor-requires

@@ -1,10 +1,8 @@
 use Rattle.std.proofs.Common.{ap, ◌∙◌}
-use Rattle.jvm_model.specs.Access.{Access, spend}
-use Rattle.jvm_model.specs.State.{Turn}
+use Rattle.jvm_model.specs.{Access.Access, Access.spend, State.Turn}
 use Rattle.vm_interp.specs.Driving.{first_part, object_part, static_part}
 use Rattle.vm_interp.specs.Abs.{abs}
-use Rattle.vm_interp.proofs.Stepped.{same_part}
-use Rattle.vm_interp.proofs.Used.{first_static_is, first_object_is}
+use Rattle.vm_interp.proofs.{Stepped.same_part, Used.first_static_is, Used.first_object_is}
 use Rattle.vm_interp.proofs.driving.drive_first.Goals as goal
 
 pub returns-then-is_static_method : goal.returns-then-is_static_method

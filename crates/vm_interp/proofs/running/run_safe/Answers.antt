@@ -1,7 +1,6 @@
 use Rattle.std.proofs.Common.{List, refl, sym, subst, ◌∙◌, arith}
 use Rattle.jvm_model.specs.declared.values.Touch.{Touch}
-use Rattle.jvm_model.specs.Step.{step}
-use Rattle.jvm_model.specs.View.{touched}
+use Rattle.jvm_model.specs.{Step.step, View.touched}
 use Rattle.vm_interp.specs.Abs.{abs}
 use Rattle.vm_interp.proofs.Onward.{advanced, no_more, steps_can}
 use Rattle.vm_interp.proofs.Whole.{rest_at_first, goes_on_rest, goes_on_falls, gives_none, gives_so, tells_so, not_over, goes_not_over}

@@ -1,11 +1,9 @@
 use Rattle.std.proofs.Common.{sym, ◌∙◌}
-use Rattle.jvm_model.specs.Initialise.{row_finish}
-use Rattle.jvm_model.specs.Step.{step}
+use Rattle.jvm_model.specs.{Initialise.row_finish, Step.step}
 use Rattle.jvm_model.proofs.Steps.{step_fails, step_finishes, step_raises}
 use Rattle.class_init.specs.Starting.{fail_row}
 use Rattle.exception_flow.specs.Raise.{raise_row}
-use Rattle.vm_interp.specs.Abs.{abs}
-use Rattle.vm_interp.specs.Turns.{by_row}
+use Rattle.vm_interp.specs.{Abs.abs, Turns.by_row}
 use Rattle.vm_interp.proofs.Stepped.{same_part}
 use Rattle.vm_interp.proofs.stepping.step_aside.Goals as goal
 

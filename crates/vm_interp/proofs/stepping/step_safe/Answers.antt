@@ -1,9 +1,7 @@
 use Rattle.jvm_model.specs.Step.{row_here, step}
 use Rattle.jvm_model.proofs.Steps.{step_runs}
-use Rattle.vm_interp.specs.Abs.{abs}
-use Rattle.vm_interp.specs.Turns.{by_row}
-use Rattle.vm_interp.proofs.Found.{fits}
-use Rattle.vm_interp.proofs.Stepped.{same_part}
+use Rattle.vm_interp.specs.{Abs.abs, Turns.by_row}
+use Rattle.vm_interp.proofs.{Found.fits, Stepped.same_part}
 use Rattle.vm_interp.proofs.stepping.step_safe.Goals as goal
 
 pub run_step-requires : goal.run_step-requires

@@ -2,8 +2,7 @@ use Rattle.std.proofs.Common.{[], false, subst}
 use Rattle.std.specs.Prelude.{take, drop, ◌-◌}
 use Rattle.jvm_model.specs.declared.instr.Instr.TheVariants as form
 use Rattle.jvm_model.specs.View.{IsSafe, IsRow}
-use Rattle.vm_objects.specs.Forms.{create_row}
-use Rattle.vm_objects.specs.Nests.{nested_row}
+use Rattle.vm_objects.specs.{Forms.create_row, Nests.nested_row}
 use Rattle.vm_objects.proofs.Lengths.{ints_there, row_multi, row_taken, same_makes}
 use Rattle.vm_objects.proofs.nesting.multi_new_array.Goals as goal
 

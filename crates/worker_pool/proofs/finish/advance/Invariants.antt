@@ -1,6 +1,5 @@
 use Rattle.std.proofs.Common.{◌≡◌, ◌<◌, ◌≤◌, ℕ}
-use Rattle.run_core.specs.Refusal.{HasNone}
-use Rattle.run_core.specs.Run.{history}
+use Rattle.run_core.specs.{Refusal.HasNone, Run.history}
 use Rattle.worker_pool.proofs.finish.advance.Given as goal
 
 abbrev pub invariant-loop-before : goal.invariant-loop-before

@@ -1,6 +1,5 @@
 use Rattle.std.proofs.Common.{◌≡◌, ◌<◌, ℕ}
-use Rattle.order_law.specs.Conflicts.{Member}
-use Rattle.order_law.specs.Plan.{claims}
+use Rattle.order_law.specs.{Conflicts.Member, Plan.claims}
 use Rattle.run_core.specs.Run.{history}
 use Rattle.worker_pool.proofs.finish.claim_next.Given as goal
 

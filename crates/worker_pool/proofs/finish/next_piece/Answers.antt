@@ -2,8 +2,7 @@ use Rattle.std.proofs.Common.{◌∙◌, ℕ, List, reverse, sym, subst}
 use Rattle.order_law.specs.Plan.{posts}
 use Rattle.run_core.specs.Run.{history}
 use Rattle.test_run.specs.declared.run_fault.RunFault.{RunFault}
-use Rattle.worker_pool.specs.Faults.{IsRunFault}
-use Rattle.worker_pool.specs.Plans.{IsStop}
+use Rattle.worker_pool.specs.{Faults.IsRunFault, Plans.IsStop}
 use Rattle.worker_pool.proofs.Tests.{posted_tests, posts_give, open_test, stops}
 use Rattle.worker_pool.proofs.finish.next_piece.Goals as goal
 

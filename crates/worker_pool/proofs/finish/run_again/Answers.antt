@@ -3,8 +3,7 @@ use Rattle.std.specs.Result.{IfErr}
 use Rattle.std.proofs.lemmas.Result.{IfOk-weaker}
 use Rattle.jvm_model.specs.declared.program.Program.{Program}
 use Rattle.jvm_model.specs.Suite.{first_over}
-use Rattle.worker_pool.specs.Faults.{IsRunFault}
-use Rattle.worker_pool.specs.Plans.{AreTests}
+use Rattle.worker_pool.specs.{Faults.IsRunFault, Plans.AreTests}
 use Rattle.worker_pool.proofs.finish.run_again.Goals as goal
 
 pub run_after-requires-clause-tests : goal.run_after-requires-clause-tests

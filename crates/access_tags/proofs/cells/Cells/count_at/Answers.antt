@@ -1,9 +1,7 @@
 use Rattle.std.proofs.Common.{◌≡◌, get_or, reverse, arith, sym, ◌∙◌, subst}
 use Rattle.std.proofs.lemmas.List.{get_or_default}
 use Rattle.access_tags.specs.declared.mark.Past.{Past}
-use Rattle.access_tags.specs.Tag.{conflicts_at, no_mark}
-use Rattle.access_tags.specs.Cells.{no_past, tag_by}
-use Rattle.access_tags.specs.Counted.{HaveCounted}
+use Rattle.access_tags.specs.{Tag.conflicts_at, Tag.no_mark, Cells.no_past, Cells.tag_by, Counted.HaveCounted}
 use Rattle.access_tags.proofs.Parted.{counted_there}
 use Rattle.access_tags.proofs.cells.Cells.count_at.Goals as goal
 

@@ -1,7 +1,6 @@
 use Rattle.std.proofs.Common.{◌<◌, List, take}
 use Rattle.jvm_model.specs.declared.values.Touch.{Touch}
-use Rattle.access_tags.specs.ParentEdges.{HasParents}
-use Rattle.access_tags.specs.Paths.{AreWalks}
+use Rattle.access_tags.specs.{ParentEdges.HasParents, Paths.AreWalks}
 use Rattle.access_tags.proofs.discovery_tree.DiscoveryTree.walks.Given as goal
 
 abbrev pub invariant-loop-spot : goal.invariant-loop-spot

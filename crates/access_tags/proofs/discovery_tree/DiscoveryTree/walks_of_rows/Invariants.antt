@@ -1,7 +1,6 @@
 use Rattle.std.proofs.Common.{◌<◌, List, take}
 use Rattle.jvm_model.specs.declared.values.Touch.{Touch}
-use Rattle.access_tags.specs.ParentEdges.{HasParents}
-use Rattle.access_tags.specs.Paths.{HaveRowsWalks}
+use Rattle.access_tags.specs.{ParentEdges.HasParents, Paths.HaveRowsWalks}
 use Rattle.access_tags.proofs.discovery_tree.DiscoveryTree.walks_of_rows.Given as goal
 
 abbrev pub invariant-loop-row : goal.invariant-loop-row

@@ -1,6 +1,5 @@
 use Rattle.std.proofs.Common.{◌∙◌, ◌||◌, ◌&&◌, ℕ, false, get_or, length, nat_eq, sym, ap}
-use Rattle.access_tags.specs.Given.{is_given}
-use Rattle.access_tags.specs.HeadMarks.{is_marked}
+use Rattle.access_tags.specs.{Given.is_given, HeadMarks.is_marked}
 use Rattle.access_tags.proofs.HeadNotes.{class_more, class_same}
 use Rattle.access_tags.proofs.heads.Heads.add_marked.Goals as goal
 use Rattle.access_tags.proofs.heads.Heads.add_marked.Goals.{then-is_marked+in_ok-add, else-is_marked}

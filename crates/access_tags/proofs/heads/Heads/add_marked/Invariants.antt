@@ -1,6 +1,5 @@
 use Rattle.std.proofs.Common.{◌≡◌, ◌||◌, ◌&&◌, ℕ, length, get_or, false, nat_lt}
-use Rattle.access_tags.specs.Given.{is_given}
-use Rattle.access_tags.specs.HeadMarks.{is_marked}
+use Rattle.access_tags.specs.{Given.is_given, HeadMarks.is_marked}
 use Rattle.access_tags.proofs.heads.Heads.add_marked.Given as goal
 
 abbrev pub invariant-loop-class : goal.invariant-loop-class

@@ -1,8 +1,7 @@
 use Rattle.std.proofs.Common.{◌∙◌, ◌||◌, ◌&&◌, ℕ, Bool, List, false, get_or, length, nat_eq, ap}
 use Rattle.jvm_model.specs.State.{test_at}
 use Rattle.jvm_model.specs.declared.values.Touch.{Touch}
-use Rattle.access_tags.specs.Given.{is_given}
-use Rattle.access_tags.specs.HeadMarks.{is_marked, touches_class}
+use Rattle.access_tags.specs.{Given.is_given, HeadMarks.is_marked, HeadMarks.touches_class}
 use Rattle.access_tags.proofs.Reaching.{reach_is}
 use Rattle.access_tags.proofs.heads.Heads.reach.Goals as goal
 

@@ -1,7 +1,6 @@
 use Rattle.std.proofs.Common.{List, sym, subst}
 use Rattle.order_law.specs.declared.edges.Edge.{Edge}
-use Rattle.order_law.specs.Pairing.{PairedList}
-use Rattle.order_law.specs.Walk.{IsShownIn}
+use Rattle.order_law.specs.{Pairing.PairedList, Walk.IsShownIn}
 use Rattle.access_tags.specs.Ran.{owner_by}
 use Rattle.access_tags.proofs.memory.TaggedMemory+true.found.Goals as goal
 

@@ -1,8 +1,7 @@
 use Rattle.std.proofs.Common.{◌∙◌, ◌+◌, ◌<◌, ℕ, List, length, refl, sym, subst, arith}
 use Rattle.jvm_model.specs.declared.values.Location.{Location}
 use Rattle.order_law.specs.Pairing.{no_more}
-use Rattle.access_tags.specs.AreNames.{AreNames}
-use Rattle.access_tags.specs.Ran.{size_in, owner_by}
+use Rattle.access_tags.specs.{AreNames.AreNames, Ran.size_in, Ran.owner_by}
 use Rattle.access_tags.proofs.FoundAll.{test_all, kept_all, count_by, positive, none_found, all_shown}
 use Rattle.access_tags.proofs.memory.TaggedMemory+true.shown.Goals as goal
 

@@ -1,9 +1,7 @@
 use Rattle.std.proofs.Common.{◌≡◌, ◌+◌, ◌-◌, ◌<◌, ◌≤◌, ℕ, List, take, length, subst, arith}
 use Rattle.std.proofs.lemmas.List.{take_all}
 use Rattle.access_tags.specs.declared.ended.Ended.{Ended}
-use Rattle.access_tags.specs.Followed.{numbering}
-use Rattle.access_tags.specs.Ran.{touched_by}
-use Rattle.access_tags.specs.Settled.{reads_out_alone}
+use Rattle.access_tags.specs.{Followed.numbering, Ran.touched_by, Settled.reads_out_alone}
 use Rattle.access_tags.proofs.FoundAll.{told_all, count_all, last_alone, marks_there}
 use Rattle.access_tags.proofs.memory.TaggedMemory.alone.Goals as goal
 

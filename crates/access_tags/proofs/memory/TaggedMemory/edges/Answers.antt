@@ -1,6 +1,5 @@
 use Rattle.std.proofs.Common.{◌∙◌, ◌+◌, ◌<◌, ℕ, length, refl, sym, subst}
-use Rattle.access_tags.specs.Followed.{keeps_walks}
-use Rattle.access_tags.specs.Ran.{size_in, owner_by}
+use Rattle.access_tags.specs.{Followed.keeps_walks, Ran.size_in, Ran.owner_by}
 use Rattle.access_tags.proofs.FoundAll.{test_all, kept_all, count_by, positive, none_found, all_edges}
 use Rattle.access_tags.proofs.memory.TaggedMemory.edges.Goals as goal
 

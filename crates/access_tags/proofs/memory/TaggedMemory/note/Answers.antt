@@ -1,7 +1,6 @@
 use Rattle.std.proofs.Common.{[], sym, subst}
 use Rattle.jvm_model.specs.declared.values.Location.{Location}
-use Rattle.access_tags.specs.HeadMarks.{IsKindAt}
-use Rattle.access_tags.specs.Numbering.{located}
+use Rattle.access_tags.specs.{HeadMarks.IsKindAt, Numbering.located}
 use Rattle.access_tags.proofs.Following.{kind_at, noted}
 use Rattle.access_tags.proofs.memory.TaggedMemory.note.Goals as goal
 

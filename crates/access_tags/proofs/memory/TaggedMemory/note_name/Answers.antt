@@ -1,7 +1,6 @@
 use Rattle.std.proofs.Common.{None}
 use Rattle.vm_mem.specs.Stores.{place_in}
-use Rattle.access_tags.proofs.Ending.{name_notes}
-use Rattle.access_tags.proofs.Following.{noted}
+use Rattle.access_tags.proofs.{Ending.name_notes, Following.noted}
 use Rattle.access_tags.proofs.memory.TaggedMemory.note_name.Goals as goal
 
 pub returns-clause-told : goal.returns-clause-told

@@ -1,8 +1,7 @@
 use Rattle.std.proofs.Common.{◌≡◌, ◌∙◌, List, Bool, false, get_or, length, refl, ap}
 use Rattle.jvm_model.specs.declared.program.Program.{Program}
 use Rattle.access_tags.specs.Ran.{kinds_in, touched_by}
-use Rattle.access_tags.proofs.FoundAll.{told_all}
-use Rattle.access_tags.proofs.Settling.{so_far_all}
+use Rattle.access_tags.proofs.{FoundAll.told_all, Settling.so_far_all}
 use Rattle.access_tags.proofs.memory.TaggedMemory.reaches.Goals as goal
 
 pub reaches_of-requires : goal.reaches_of-requires

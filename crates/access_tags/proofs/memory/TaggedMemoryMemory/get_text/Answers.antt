@@ -1,6 +1,5 @@
 use Rattle.std.proofs.Common.{[], ◌∷◌, refl}
-use Rattle.jvm_model.specs.Access.{read_of}
-use Rattle.jvm_model.specs.World.{at}
+use Rattle.jvm_model.specs.{Access.read_of, World.at}
 use Rattle.jvm_model.specs.declared.values.Location.TheVariants as place
 use Rattle.access_tags.proofs.Ending.{lent}
 use Rattle.access_tags.proofs.memory.TaggedMemoryMemory.get_text.Goals as goal

@@ -1,8 +1,7 @@
 use Rattle.std.proofs.Common.{◌∙◌, ap, length, option_copied}
 use Rattle.sim_store.specs.declared.store.Part.TheVariants as part
-use Rattle.access_tags.proofs.NamesKept.{number_found, number_missing}
+use Rattle.access_tags.proofs.{NamesKept.number_found, NamesKept.number_missing, names.Names.find.Goals.in-File, names.Names.find.Goals.in-Prop}
 use Rattle.access_tags.proofs.names.Names.find.Goals as goal
-use Rattle.access_tags.proofs.names.Names.find.Goals.{in-File, in-Prop}
 
 pub returns-in-Some-clause-number : goal.returns-in-Some-clause-number
 returns-in-Some-clause-number c = elim c.match-part.branch [

@@ -3,8 +3,7 @@ use Rattle.std.proofs.lemmas.Option.{IfSome_then}
 use Rattle.jvm_model.specs.View.{Exists}
 use Rattle.access_tags.specs.declared.conflict.LocationKey.{LocationKey}
 use Rattle.access_tags.specs.declared.conflict.LocationKey.TheVariants as spot
-use Rattle.access_tags.specs.Numbering.{located}
-use Rattle.access_tags.specs.Worlds.{bases_of, number_in}
+use Rattle.access_tags.specs.{Numbering.located, Worlds.bases_of, Worlds.number_in}
 use Rattle.access_tags.proofs.PartNotes.{field_number}
 use Rattle.access_tags.proofs.numbers.Numbers.number.Goals as goal
 

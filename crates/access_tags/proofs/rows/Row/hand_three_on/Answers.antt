@@ -1,8 +1,7 @@
 use Rattle.std.proofs.Common.{◌≡◌, ◌+◌, ◌*◌, ℕ, get_or, set, arith, ◌∙◌, ap}
 use Rattle.std.proofs.lemmas.List.{get_or-set_other}
 use Rattle.order_law.specs.declared.edges.EdgeKind.TheVariants.{Raw, Waw, War}
-use Rattle.access_tags.specs.Tag.{found}
-use Rattle.access_tags.specs.Rows.{row_with}
+use Rattle.access_tags.specs.{Tag.found, Rows.row_with}
 use Rattle.access_tags.proofs.Tally.{three_rows}
 use Rattle.access_tags.proofs.rows.Row.hand_three_on.Goals as goal
 

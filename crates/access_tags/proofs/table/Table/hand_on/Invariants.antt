@@ -1,10 +1,8 @@
 use Rattle.std.proofs.Common.{◌≡◌, ◌≤◌, ◌*◌, ◌++◌, ◌-◌, ℕ, List, flat_map, get_or, length}
 use Rattle.std.specs.List.{range_with_len}
-use Rattle.access_tags.specs.declared.conflict.Conflict.{Conflict}
-use Rattle.access_tags.specs.declared.conflict.LocationKey.{LocationKey}
+use Rattle.access_tags.specs.declared.conflict.{Conflict.Conflict, LocationKey.LocationKey}
 use Rattle.access_tags.specs.declared.rows.Row.{Row}
-use Rattle.access_tags.specs.Counted.{Counts}
-use Rattle.access_tags.specs.Rows.{rows_between}
+use Rattle.access_tags.specs.{Counted.Counts, Rows.rows_between}
 use Rattle.access_tags.proofs.table.Table.hand_on.Given as goal
 
 abbrev pub invariant-loop-earlier : goal.invariant-loop-earlier

@@ -1,8 +1,6 @@
 use Rattle.std.proofs.Common.{[], List, sym, subst}
 use Rattle.access_tags.specs.declared.conflict.Touched.{Touched}
-use Rattle.access_tags.specs.Shelf.{tag_in}
-use Rattle.access_tags.specs.Stands.{StandFor}
-use Rattle.access_tags.specs.AccessLogs.{touched_in}
+use Rattle.access_tags.specs.{Shelf.tag_in, Stands.StandFor, AccessLogs.touched_in}
 use Rattle.access_tags.proofs.Stood.{ended_stands, apart}
 use Rattle.access_tags.proofs.tags.Tags.end_test.Goals as goal
 

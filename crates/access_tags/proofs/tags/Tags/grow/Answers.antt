@@ -1,8 +1,6 @@
 use Rattle.std.proofs.Common.{arith}
-use Rattle.access_tags.specs.Shelf.{tag_in}
-use Rattle.access_tags.specs.AccessLogs.{touched_in}
-use Rattle.access_tags.proofs.Grown.{no_tag_past}
-use Rattle.access_tags.proofs.More.{more_cells_stand}
+use Rattle.access_tags.specs.{Shelf.tag_in, AccessLogs.touched_in}
+use Rattle.access_tags.proofs.{Grown.no_tag_past, More.more_cells_stand}
 use Rattle.access_tags.proofs.tags.Tags.grow.Goals as goal
 
 pub returns-clause-stands : goal.returns-clause-stands

@@ -1,5 +1,4 @@
-use Rattle.access_tags.specs.Shelf.{tag_in}
-use Rattle.access_tags.specs.AccessLogs.{touched_in}
+use Rattle.access_tags.specs.{Shelf.tag_in, AccessLogs.touched_in}
 use Rattle.access_tags.proofs.Stood.{covered_stands}
 use Rattle.access_tags.proofs.tags.Tags.note.Goals as goal
 

@@ -1,9 +1,7 @@
 use Rattle.std.proofs.Common.{◌∙◌, List, [], ◌∷◌, ◌++◌, true, false, sym, subst}
 use Rattle.std.proofs.lemmas.List.{append-nil}
 use Rattle.access_tags.specs.declared.conflict.Touched.{Touched}
-use Rattle.access_tags.specs.Shelf.{tag_in}
-use Rattle.access_tags.specs.Stands.{StandFor}
-use Rattle.access_tags.specs.AccessLogs.{touched_in}
+use Rattle.access_tags.specs.{Shelf.tag_in, Stands.StandFor, AccessLogs.touched_in}
 use Rattle.access_tags.proofs.Stood.{noted_stands}
 use Rattle.access_tags.proofs.tags.Tags.note_first.Goals as goal
 

@@ -1,10 +1,6 @@
 use Rattle.std.proofs.Common.{◌≡◌, ◌++◌, ◌∙◌, ℕ, [], ap}
-use Rattle.access_tags.specs.Numbering.{conflicts_in}
-use Rattle.access_tags.specs.Rows.{rows_to}
-use Rattle.access_tags.specs.Shelf.{tag_in}
-use Rattle.access_tags.specs.AccessLogs.{touched_in}
-use Rattle.access_tags.proofs.ShownRows.{rows_shown}
-use Rattle.access_tags.proofs.Stood.{conflicts_stand}
+use Rattle.access_tags.specs.{Numbering.conflicts_in, Rows.rows_to, Shelf.tag_in, AccessLogs.touched_in}
+use Rattle.access_tags.proofs.{ShownRows.rows_shown, Stood.conflicts_stand}
 use Rattle.access_tags.proofs.tags.Tags.push_rows.Goals as goal
 
 pub returns : goal.returns

@@ -1,11 +1,7 @@
 use Rattle.std.proofs.Common.{◌≡◌, ◌<◌, ◌∙◌, List, false, get_or, length, ap, arith, sym, subst}
 use Rattle.access_tags.specs.declared.conflict.Touched.{Touched}
 use Rattle.access_tags.specs.declared.interval.Interval.{Interval}
-use Rattle.access_tags.specs.Numbering.{are_alone, is_alone}
-use Rattle.access_tags.specs.Shelf.{tag_in}
-use Rattle.access_tags.specs.Intervals.{parts_of}
-use Rattle.access_tags.specs.AccessLogs.{touched_in}
-use Rattle.access_tags.specs.Within.{AreWithin}
+use Rattle.access_tags.specs.{Numbering.are_alone, Numbering.is_alone, Shelf.tag_in, Intervals.parts_of, AccessLogs.touched_in, Within.AreWithin}
 use Rattle.access_tags.proofs.OutReads.{reads_alone}
 use Rattle.access_tags.proofs.Spanned.{all_fails, parts_all, within_interval}
 use Rattle.access_tags.proofs.tags.Tags.reads_static_alone.Goals as goal

@@ -1,7 +1,5 @@
 use Rattle.std.proofs.Common.{◌≡◌, take, true}
-use Rattle.access_tags.specs.Numbering.{are_alone}
-use Rattle.access_tags.specs.Shelf.{tag_in}
-use Rattle.access_tags.specs.Intervals.{parts}
+use Rattle.access_tags.specs.{Numbering.are_alone, Shelf.tag_in, Intervals.parts}
 use Rattle.access_tags.proofs.tags.Tags.reads_static_alone.Given as goal
 
 abbrev pub invariant-loop-i : goal.invariant-loop-i

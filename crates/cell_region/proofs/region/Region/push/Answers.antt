@@ -1,7 +1,6 @@
 use Rattle.std.proofs.Common.{◌≡◌, ◌<◌, ◌*◌, ◌+◌, length, take, arith, ap, ◌∙◌, refl}
 use Rattle.cell_region.specs.Chunks.{AreLong, joined, chunk_size}
-use Rattle.cell_region.proofs.Places.{pushed}
-use Rattle.cell_region.proofs.region.Region.push.Goals.{then-self-len+in_ok-make_room, else-self-len}
+use Rattle.cell_region.proofs.{Places.pushed, region.Region.push.Goals.then-self-len+in_ok-make_room, region.Region.push.Goals.else-self-len}
 use Rattle.cell_region.proofs.region.Region.push.Goals as goal
 
 pub returns-clause-pushed : goal.returns-clause-pushed

@@ -1,6 +1,5 @@
 use Rattle.std.proofs.Common.{◌≡◌, ◌∙◌, ap, sym, ℕ, List, ◌++◌, ◌∷◌, [], length, not, cond, Bool, false}
-use Rattle.std.specs.List.{list_any}
-use Rattle.std.specs.Str.{bytes_eq}
+use Rattle.std.specs.{List.list_any, Str.bytes_eq}
 use Rattle.class_link.proofs.TextLaws.{text_among, placed_more}
 use Rattle.class_link.proofs.text_set.TextSet.note.Goals as goal
 

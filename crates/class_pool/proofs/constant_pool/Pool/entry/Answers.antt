@@ -1,6 +1,5 @@
 use Rattle.std.proofs.Common.{◌≡◌, is_some, sym, ap, ◌∙◌, subst}
-use Rattle.class_pool.specs.Pool.{entry_of}
-use Rattle.class_pool.specs.PoolGrammar.{IsPool}
+use Rattle.class_pool.specs.{Pool.entry_of, PoolGrammar.IsPool}
 use Rattle.class_pool.proofs.PoolFacts.{named_from_some, some_from_named, copied_some}
 use Rattle.class_pool.proofs.constant_pool.Pool.entry.Goals as goal
 

@@ -1,6 +1,5 @@
 use Rattle.std.proofs.Common.{subst, true}
-use Rattle.std.specs.BTreeSet.{Updates}
-use Rattle.std.specs.Ordering.{nat_cmp}
+use Rattle.std.specs.{BTreeSet.Updates, Ordering.nat_cmp}
 use Rattle.class_reader.proofs.TextLaw.{seen_more, on_ok}
 use Rattle.class_reader.proofs.texts.Texts.once.Goals as goal
 

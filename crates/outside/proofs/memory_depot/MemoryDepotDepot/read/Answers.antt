@@ -1,7 +1,6 @@
 use Rattle.std.proofs.Common.{refl, subst}
 use Rattle.std.specs.Prelude.{Contains}
-use Rattle.outside.specs.Counts.{raised}
-use Rattle.outside.specs.MemoryDepot.{MemoryDepotState}
+use Rattle.outside.specs.{Counts.raised, MemoryDepot.MemoryDepotState}
 use Rattle.outside.proofs.memory_depot.MemoryDepotDepot.read.Goals as goal
 
 pub returns-then-is_listed-clause-failed : goal.returns-then-is_listed-clause-failed

@@ -1,6 +1,5 @@
 use Rattle.std.proofs.Common.{◌∙◌, ap, ℕ, List, length, map, arith}
-use Rattle.run_core.specs.Kept.{row}
-use Rattle.run_core.specs.Run.{most_events}
+use Rattle.run_core.specs.{Kept.row, Run.most_events}
 use Rattle.run_core.proofs.Kept.{kept_first}
 use Rattle.run_core.proofs.history.Core.new.Goals as goal
 

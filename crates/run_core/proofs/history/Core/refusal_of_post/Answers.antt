@@ -1,7 +1,6 @@
 use Rattle.std.proofs.Common.{◌+◌, ◌^◌, ◌<◌, ◌-◌, ◌∙◌, ℕ, List, length, reverse, ap, subst, sym}
 use Rattle.order_law.specs.Plan.{posts}
-use Rattle.run_core.specs.Refusal.{HasNone, HasOpen}
-use Rattle.run_core.specs.Run.{Run, history}
+use Rattle.run_core.specs.{Refusal.HasNone, Refusal.HasOpen, Run.Run, Run.history}
 use Rattle.run_core.proofs.Answers.{posts_few}
 use Rattle.run_core.proofs.history.Core.refusal_of_post.Goals as goal
 

@@ -1,6 +1,5 @@
 use Rattle.std.proofs.Common.{◌∙◌, ap, sym, None}
-use Rattle.std.specs.Option.{option_flatten}
-use Rattle.std.specs.Str.{bytes_eq}
+use Rattle.std.specs.{Option.option_flatten, Str.bytes_eq}
 use Rattle.jvm_model.specs.World.{look}
 use Rattle.sim_store.proofs.Entries.{look_named, lent}
 use Rattle.sim_store.proofs.texts.Texts.get.Goals as goal

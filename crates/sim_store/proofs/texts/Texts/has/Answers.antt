@@ -1,6 +1,5 @@
 use Rattle.std.proofs.Common.{◌∙◌, ap, sym}
-use Rattle.std.specs.List.{list_any}
-use Rattle.std.specs.Str.{bytes_eq}
+use Rattle.std.specs.{List.list_any, Str.bytes_eq}
 use Rattle.sim_store.proofs.Entries.{any_named}
 use Rattle.sim_store.proofs.texts.Texts.has.Goals as goal
 

@@ -1,6 +1,5 @@
 use Rattle.std.proofs.Common.{◌∙◌, sym, ap}
-use Rattle.std.specs.List.{list_any}
-use Rattle.std.specs.Str.{bytes_eq}
+use Rattle.std.specs.{List.list_any, Str.bytes_eq}
 use Rattle.suite_load.proofs.SetLaws.{any_map}
 use Rattle.suite_load.proofs.name_set.NameSet.contains.Goals as goal
 

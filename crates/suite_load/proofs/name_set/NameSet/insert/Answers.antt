@@ -1,6 +1,5 @@
 use Rattle.std.proofs.Common.{◌≡◌, ℕ, List, false, ◌∙◌, ap, map, ◌++◌, ◌∷◌, []}
-use Rattle.std.specs.List.{list_any}
-use Rattle.std.specs.Str.{bytes_eq}
+use Rattle.std.specs.{List.list_any, Str.bytes_eq}
 use Rattle.suite_load.proofs.SetLaws.{name_goes_last}
 use Rattle.suite_load.proofs.name_set.NameSet.insert.Goals as goal
 

@@ -1,8 +1,6 @@
 use Rattle.std.proofs.Common.{[], ◌∷◌, ◌++◌, ◌∙◌, codes, sym, ap, subst, map, append_assoc}
-use Rattle.std.proofs.lemmas.List.{map-append}
-use Rattle.std.proofs.lemmas.Result.{on_ok_weaker}
-use Rattle.sha2.specs.Sha256.{sha256}
-use Rattle.sha2.specs.Hashers.{Holds256}
+use Rattle.std.proofs.lemmas.{List.map-append, Result.on_ok_weaker}
+use Rattle.sha2.specs.{Sha256.sha256, Hashers.Holds256}
 use Rattle.dep_record.specs.Hashes.{sized, suite_bytes}
 use Rattle.suite_load.proofs.SumLaws.{bytes_more}
 use Rattle.suite_load.proofs.print_sums.PrintSums.add.Goals as goal

@@ -1,10 +1,8 @@
 use Rattle.std.proofs.Common.{◌≡◌, ◌≤◌, [], ◌∷◌, ◌++◌, IfSome, Some, false, sym, subst, ap, ◌∙◌}
 use Rattle.jvm_model.specs.declared.program.Program.{Program}
-use Rattle.jvm_model.specs.State.{test_at}
-use Rattle.jvm_model.specs.Suite.{last_outcome, one_test}
+use Rattle.jvm_model.specs.{State.test_at, Suite.last_outcome, Suite.one_test}
 use Rattle.type_frames.specs.TypedState.{TypedWorld}
-use Rattle.test_run.specs.Outcomes.{given_in}
-use Rattle.test_run.specs.Running.{Machined}
+use Rattle.test_run.specs.{Outcomes.given_in, Running.Machined}
 use Rattle.test_run.proofs.After.{last_now, stands_now}
 use Rattle.test_run.proofs.machine.Machine.run_bounded.Goals as goal
 

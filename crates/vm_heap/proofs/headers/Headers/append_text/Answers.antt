@@ -1,6 +1,5 @@
 use Rattle.std.proofs.Common.{◌-◌, ◌++◌, length, arith, ap, ◌∙◌, Some}
-use Rattle.std.proofs.lemmas.List.{length-set}
-use Rattle.std.proofs.lemmas.Result.{on_ok_weaker}
+use Rattle.std.proofs.lemmas.{List.length-set, Result.on_ok_weaker}
 use Rattle.jvm_model.specs.World.{text_or_empty}
 use Rattle.vm_heap.specs.Entries.{no_entry}
 use Rattle.vm_heap.proofs.Entries.{objects_there, same_headers, covered, text_set, text_of}

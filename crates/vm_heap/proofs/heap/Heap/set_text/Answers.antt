@@ -1,7 +1,6 @@
 use Rattle.std.proofs.Common.{ap, refl}
 use Rattle.std.proofs.lemmas.Result.{on_ok_weaker}
-use Rattle.vm_heap.proofs.Objects.{whole_same}
-use Rattle.vm_heap.proofs.Cells.{there, text_set_there}
+use Rattle.vm_heap.proofs.{Objects.whole_same, Cells.there, Cells.text_set_there}
 use Rattle.vm_heap.proofs.heap.Heap.set_text.Goals as goal
 
 pub set_text-requires : goal.set_text-requires
