@@ -13,10 +13,6 @@ use Rattle.access_tags.specs.declared.interval.{Sort.Sort, Interval.Interval}
 use Rattle.access_tags.specs.Intervals.{part_at, parts_to, parts_of, parts, spot_in}
 use Rattle.access_tags.specs.Within.{room, AreWithin}
 
--- the parts of an interval
-pub to_none : (s : Interval) → parts_to s s.first ≡ []
-to_none s = let e : s.first - s.first ≡ 0 = omega arith in ap (λ (n : ℕ). map (λ i. part_at s i) (range_with_len s.first n)) e
-
 pub to_more : (s : Interval) (i : ℕ) → s.first ≤ i → parts_to s (i + 1) ≡ parts_to s i ++ part_at s i ∷ []
 to_more s i h = let e : (i + 1) - s.first ≡ (i - s.first) + 1 = omega arith in
     ap (λ (n : ℕ). map (λ i. part_at s i) (range_with_len s.first n)) e ∙ map-range_with_len_more (λ i. part_at s i) s.first (i - s.first) i (omega arith)

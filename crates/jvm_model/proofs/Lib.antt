@@ -3,7 +3,6 @@ pub mod Bridges
 pub mod Uses
 pub mod Steps
 pub mod Locations
-pub mod Fuel
 pub mod Ranges
 pub mod Options
 pub mod Budgets
@@ -18,7 +17,6 @@ pub mod Tests
 pub mod FirstOver
 pub mod DescriptorLemmas
 pub mod Interfaces
-pub mod Pointwise
 pub mod Standing
 pub mod NarrowedFits
 pub mod OnLiterals

@@ -24,9 +24,6 @@ member_next l q t h m = elim (member_either (take q l) (get_or l q 0 ∷ []) t (
   | inr b ↦ elim b [ inl e ↦ inr e | inr z ↦ absurd z ]
 ]
 
-pub member_all : (l : List ℕ) (q t : ℕ) → length l ≤ q → Member t l → Member t (take q l)
-member_all l q t h m = subst (λ (x : List ℕ). Member t x) (sym (take_all q l h)) m
-
 pub still_none : (l : List ℕ) (q t : ℕ) → q < length l → (Member t (take q l) → ⊥) → (get_or l q 0 ≡ t → ⊥) → Member t (take (q + 1) l) → ⊥
 still_none l q t h f g m = elim (member_next l q t h m) [ inl a ↦ f a | inr e ↦ g (sym e) ]
 

@@ -131,11 +131,6 @@ cells_found p q c cells h e = subst (λ (w : Program). get_or cells c 0 ≡ leng
 
 -- ---- the place after an instruction
 
-pub place_at : (code : List Placed) (i end : ℕ) (d : Placed) → i < length code → place_after (drop i code) end ≡ (get_or code i d).pc
-place_at [] i end d l = let none : ⊥ = omega arith in absurd none
-place_at (x ∷ xs) zero end d l = refl
-place_at (x ∷ xs) (suc i) end d l = place_at xs i end d (omega arith)
-
 pub place_past : (code : List Placed) (i end : ℕ) → length code ≤ i → place_after (drop i code) end ≡ end
 place_past code i end l = ap (λ xs. place_after xs end) (drop_all i code l)
 

@@ -1,1 +1,0 @@
--- Why a test gives nothing: it met what doesn't stand or has no row, or its units pass the budget.
