@@ -1,10 +1,10 @@
 -- A cone is lawful.
-use Rattle.std.proofs.Common.{◌≡◌, ℕ, ◌<◌, ◌≤◌, List, [], ◌∷◌, ◌++◌, length, Option, Some, refl, sym, ◌∙◌, ap, subst, inl, inr, arith}
+use Rattle.std.proofs.Common.{◌≡◌, ℕ, ◌<◌, ◌≤◌, List, [], ◌∷◌, ◌++◌, length, Option, Some, sym, ◌∙◌, ap, subst, arith}
 use Rattle.jvm_model.specs.declared.program.Program.{Program}
 use Rattle.jvm_model.specs.declared.values.Location.{Location}
-use Rattle.jvm_model.specs.Suite.{Given, opening, runs, first_over, last_outcome, last_in, outcome_in, seq}
+use Rattle.jvm_model.specs.Suite.{Given, last_outcome, last_in, outcome_in, seq}
 use Rattle.order_law.specs.declared.edges.{Edge.Edge, EdgeKind.EdgeKind, EdgeKind.TheVariants.Raw, EdgeKind.TheVariants.Waw, EdgeKind.TheVariants.War}
-use Rattle.order_law.specs.Conflicts.{Tests, Conflict, Member, HasEdge, InOrder, source}
+use Rattle.order_law.specs.Conflicts.{Tests, Conflict, Member, InOrder, source}
 use Rattle.order_law.specs.Histories.{AreSequential, IsTestNumber, writes_of, exposed_of, touches_of}
 use Rattle.order_law.specs.{OwnRecord.edges_of, OwnRecord.owner, Plan.Ascending}
 use Rattle.order_law.proofs.{Members.before_up, Posts.ascending_distinct, OwnRecord.own_law, OwnRecord.is_record}

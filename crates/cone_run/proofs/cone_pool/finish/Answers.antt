@@ -1,4 +1,4 @@
-use Rattle.std.proofs.Common.{◌≡◌, ℕ, ◌+◌, ◌<◌, ◌≤◌, List, Option, length, sym, ◌∙◌, refl, subst, arith}
+use Rattle.std.proofs.Common.{◌+◌, ◌<◌, List, Option, length, sym, ◌∙◌, refl, subst, arith}
 use Rattle.std.proofs.lemmas.Result.{err_from_is_err_and}
 use Rattle.test_run.specs.Running.{Posted}
 use Rattle.cone_run.specs.Books.{AreLeft}

@@ -1,4 +1,4 @@
-use Rattle.std.proofs.Common.{ℕ, All, get_or, sym, subst}
+use Rattle.std.proofs.Common.{All, get_or, sym, subst}
 use Rattle.jvm_model.specs.declared.program.Program.{Program}
 use Rattle.test_run.specs.Running.{IsTest}
 use Rattle.cone_run.proofs.ConeLists.{filled, suite_cone}

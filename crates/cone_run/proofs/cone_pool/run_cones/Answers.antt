@@ -1,4 +1,4 @@
-use Rattle.std.proofs.Common.{◌≡◌, ℕ, List, length, sym, ap, subst, arith}
+use Rattle.std.proofs.Common.{ℕ, List, length, sym, ap, subst, arith}
 use Rattle.order_law.specs.declared.edges.Edge.{Edge}
 use Rattle.cone_run.specs.Cones.{AreCones}
 use Rattle.cone_run.proofs.ConeLists.{few_selected}

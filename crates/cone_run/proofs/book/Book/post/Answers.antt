@@ -1,4 +1,4 @@
-use Rattle.std.proofs.Common.{◌≡◌, ℕ, ◌<◌, length, sym, subst, arith}
+use Rattle.std.proofs.Common.{ℕ, ◌<◌, length, sym, subst, arith}
 use Rattle.cone_run.proofs.Books.{book_more, none_read, room}
 use Rattle.cone_run.proofs.book.Book.post.Goals as goal
 

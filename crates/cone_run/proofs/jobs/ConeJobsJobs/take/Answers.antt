@@ -1,4 +1,4 @@
-use Rattle.std.proofs.Common.{◌≡◌, ℕ, ◌<◌, ◌≤◌, List, All, length, get_or, sym, ◌∙◌, subst, arith}
+use Rattle.std.proofs.Common.{◌≡◌, All, get_or, sym, ◌∙◌, subst, arith}
 use Rattle.jvm_model.specs.declared.program.Program.{Program}
 use Rattle.type_frames.specs.Typing.{IsTyped}
 use Rattle.test_run.specs.Running.{IsTest}
