@@ -3,7 +3,7 @@
 ghost use Rattle.std.specs.Prelude.{◌≡◌, ◌<◌, false, OnOk};
 ghost use Rattle.jvm_model.specs.Suite.{opening};
 
-use crate::suites::{COUNTER_FILES, COUNTER_LINES, R_FILES, R_LINES, loaded};
+use crate::suites::{COUNTER_FILES, COUNTER_LINES, M_FILES, M_LINES, R_FILES, R_LINES, loaded};
 use et_base::Text;
 use jvm_model::Location;
 use outside::Steps;
@@ -150,6 +150,8 @@ fn reports_are_the_same_over_each_memory(rt: HostRuntime) -> Result<(), Fail> {
     assert!(rt; are_over_each(alloc, &counter, &Lines(COUNTER_LINES))?);
     let recursion = loaded(alloc, &R_FILES)?;
     assert!(rt; are_over_each(alloc, &recursion, &Lines(R_LINES))?);
+    let each_kind = loaded(alloc, &M_FILES)?;
+    assert!(rt; are_over_each(alloc, &each_kind, &Lines(M_LINES))?);
     Ok(())
 }
 
@@ -172,7 +174,7 @@ fn are_of_counter(touches: &[Noted]) -> bool {
     }
 }
 
-// The touches of the counter's tests are noted.
+// The counter's tests are listed, and their touches noted.
 #[derive(Drop)]
 struct NotesCounter;
 
@@ -184,7 +186,7 @@ impl Trial<TraceMemory> for NotesCounter {
         machine: &mut Machine<'_, TraceMemory>,
     ) -> Result<bool, RunFault> {
         let _lines = lines_on(alloc, loaded, machine)?;
-        Ok(are_of_counter(machine.memory().touches()))
+        Ok(matches!(machine.list(), [1, 2]) && are_of_counter(machine.memory().touches()))
     }
 }
 
