@@ -15,6 +15,7 @@ pub mod Spread
 pub mod ShownRows
 pub mod Changes
 pub mod OutReads
+pub mod Unread
 pub mod Makers
 pub mod PartNotes
 pub mod Following

@@ -1,6 +1,6 @@
 -- The tags after a test ended at some parts and then at more, and the conflicts there.
-use Rattle.std.proofs.Common.{◌≡◌, ℕ, ◌+◌, ◌<◌, ◌≤◌, Bool, true, false, ◌||◌, ◌&&◌, not, cond, List, [], ◌∷◌, ◌++◌, length, get_or, take, flat_map, nat_eq, refl, sym, ◌∙◌, ap, subst, inl, inr}
-use Rattle.std.specs.List.{list_any}
+use Rattle.std.proofs.Common.{◌≡◌, ℕ, ◌+◌, ◌-◌, ◌<◌, ◌≤◌, Bool, true, false, ◌||◌, ◌&&◌, not, cond, List, [], ◌∷◌, ◌++◌, length, get_or, take, map, flat_map, nat_eq, refl, arith, sym, ◌∙◌, ap, subst, inl, inr}
+use Rattle.std.specs.List.{list_any, range_with_len}
 use Rattle.std.proofs.lemmas.Bool.{cases_Bool, eqb-true, or_parts, and_parts}
 use Rattle.std.proofs.lemmas.Grind.{flat_map-append}
 use Rattle.std.proofs.lemmas.List.{append-nil, append_assoc, map-append}
@@ -13,10 +13,10 @@ use Rattle.access_tags.specs.declared.interval.Interval.{Interval}
 use Rattle.access_tags.specs.declared.mark.{Mark.Mark, Past.Past, Reader.Reader}
 use Rattle.access_tags.specs.declared.table.Table.{Table}
 use Rattle.access_tags.specs.Tag.{Tag, conflicts_at, ended}
-use Rattle.access_tags.specs.Cells.{Apart, chain, tag_by}
+use Rattle.access_tags.specs.Cells.{Apart, AreFresh, chain, tag_by}
 use Rattle.access_tags.specs.{Counted.Counts, Counted.HaveCounted, HaveEnded.HaveEnded}
-use Rattle.access_tags.specs.Numbering.{Numbering, located, is_name, view, ArePlaced, locations, is_at}
-use Rattle.access_tags.specs.Intervals.{part_at, parts_to, parts_of, parts}
+use Rattle.access_tags.specs.Numbering.{Numbering, conflicts_in, located, is_name, tag_at, view, ArePlaced, locations, is_at}
+use Rattle.access_tags.specs.Intervals.{part_at, parts_to, parts_of, parts, spot_in}
 use Rattle.access_tags.proofs.{Chains.chain_end, Numbered.changed, Numbered.any_location, Spanned.to_more, Spanned.parts_more}
 
 -- two lists, one after the other
@@ -84,6 +84,25 @@ no_conflicts x p rs m h =
       | inl a ↦ rw a (elim (cases_Bool m.written) [ inl b ↦ rw b refl | inr b ↦ rw b refl ])
       | inr a ↦ rw a (elim (cases_Bool m.written) [ inl b ↦ rw b refl | inr b ↦ rw b refl ])
     ]))
+
+-- no test that ended touched the parts of an interval
+fresh_at : (x : LocationKey) (g : Tag) → g.writer ≡ 0 → g.readers ≡ [] → conflicts_at x g ≡ []
+fresh_at x g w r = rw w (rw r (elim (cases_Bool g.mark.exposed) [
+  | inl a ↦ rw a (elim (cases_Bool g.mark.written) [ inl b ↦ rw b refl | inr b ↦ rw b refl ])
+  | inr a ↦ rw a (elim (cases_Bool g.mark.written) [ inl b ↦ rw b refl | inr b ↦ rw b refl ])
+]))
+
+pub counted_fresh : (t : Table) (x : LocationKey) (g : Tag) → g.writer ≡ 0 → g.readers ≡ [] → HaveCounted t t (conflicts_at x g)
+counted_fresh t x g w r = subst (λ (xs : List (Conflict LocationKey)). HaveCounted t t xs) (sym (fresh_at x g w r)) (counted_none t)
+
+none_of : (f : Touched → List (Conflict LocationKey)) (s : Interval) → ((i : ℕ) → f (part_at s i) ≡ []) → (is : List ℕ) → flat_map f (map (λ i. part_at s i) is) ≡ []
+none_of f s h [] = refl
+none_of f s h (i ∷ is) = rw (h i) (none_of f s h is)
+
+pub fresh_parts : (c d : ℕ → Tag) (s : Interval) → ((i : ℕ) → is_name (spot_in s.sort s.object i) ≡ false) → AreFresh c s.at → conflicts_in c d (parts_of s) ≡ []
+fresh_parts c d s h k = none_of (λ x. conflicts_at x.spot (tag_at c d x)) s
+    (λ i. rw (h i) (let g = k (s.at + (i - s.first)) (omega arith) in fresh_at (spot_in s.sort s.object i) (c (s.at + (i - s.first))) g.0 g.1))
+    (range_with_len s.first (s.end - s.first))
 
 pub counted_there : (t : Table) (x : LocationKey) (p : Past) (rs : List Reader) (m : Mark) → (nat_eq p.writer 0 && nat_eq p.readers 0) ≡ true → HaveCounted t t (conflicts_at x (tag_by p rs m))
 counted_there t x p rs m h = subst (λ (xs : List (Conflict LocationKey)). HaveCounted t t xs) (sym (no_conflicts x p rs m h)) (counted_none t)

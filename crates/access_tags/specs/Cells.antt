@@ -33,8 +33,20 @@ abbrev pub look : List Past → List Reader → List Mark → ℕ → Tag
 look ps rs ms n = tag_by (get_or ps n no_past) (reverse rs) (get_or ms n no_mark)
 
 pub record AreCells (ps : List Past) (rs : List Reader) (ms : List Mark) : Type 0 where
-  pub full : length ms ≤ length ps
+  pub within : length ps ≤ length ms
   pub down : AreDown rs
   pub below : (n : ℕ) → (get_or ps n no_past).readers ≤ length rs
   pub few : length rs < 2 ^ 32
-  pub free : (n : ℕ) → length ms ≤ n → get_or ps n no_past ≡ no_past
+
+-- with readers rs' in the place of rs the chain from n is that of reader r among rs, and other chains stay
+pub record IsLinked (rs : List Reader) (r : Reader) (rs' : List Reader) (n : ℕ) : Type 0 where
+  pub given : chain (reverse rs') n ≡ r.test ∷ chain (reverse rs) r.next
+  pub kept : (at : ℕ) → at ≤ length rs → chain (reverse rs') at ≡ chain (reverse rs) at
+  pub down : AreDown rs'
+  pub within : n ≤ length rs'
+  pub more : length rs ≤ length rs'
+  pub few : length rs' < 2 ^ 32
+
+-- no test that ended touched the locations from number n on
+abbrev pub AreFresh : (ℕ → Tag) → ℕ → Type 0
+AreFresh c n = (l : ℕ) → n ≤ l → ((c l).writer ≡ 0) × ((c l).readers ≡ [])

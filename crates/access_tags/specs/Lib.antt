@@ -3,6 +3,7 @@ pub mod Cells
 pub mod Shelf
 pub mod Numbering
 pub mod Within
+pub mod Unread
 pub mod Intervals
 pub mod AccessLogs
 pub mod Stands

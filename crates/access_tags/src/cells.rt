@@ -1,10 +1,10 @@
 //! The tags of numbered locations.
 
-ghost use Rattle.std.specs.Prelude.{◌≡◌, ◌+◌, ◌<◌, ◌≤◌, ◌^◌, ℕ, [], ◌∷◌, ◌++◌, length, map, reverse, cond, nat_eq, IfOk, OnOk, OnErr};
+ghost use Rattle.std.specs.Prelude.{◌≡◌, ◌+◌, ◌<◌, ◌≤◌, ◌^◌, ℕ, [], ◌∷◌, ◌++◌, length, map, reverse, cond, nat_eq, IfOk, OnOk, OnErr, true};
 ghost use Rattle.order_law.specs.declared.edges.EdgeKind.TheVariants as kinds;
 ghost use Rattle.access_tags.specs.Tag.{conflict, conflicts_at, with_writer};
 ghost use Rattle.access_tags.specs.Counted.{HaveCounted};
-ghost use Rattle.access_tags.specs.Cells.{AreCells, AreDown, chain, tag_by};
+ghost use Rattle.access_tags.specs.Cells.{AreCells, AreDown, AreFresh, IsLinked, chain, tag_by};
 
 use crate::conflict::{Conflict, LocationKey};
 use crate::mark::{Mark, Past, Reader};
@@ -57,22 +57,23 @@ impl Cells {
     }
 
     /// So many locations more, which no test touched.
-    #[tactic(auto, using(crate::proofs::Grown::more_pasts, crate::proofs::Grown::more_cells, crate::proofs::Grown::more_look))]
+    #[tactic(auto, using(crate::proofs::Grown::more_cells, crate::proofs::Grown::more_look))]
     pub fn grow(&mut self, more: u64) -> Result<(), NoMemory>
         ensures count { OnOk result (count self.new ≡ count self.old + more) }
         ensures kept { count self.old ≤ count self.new }
         ensures room { OnOk result (count self.new < 2 ^ 64) }
-        ensures tags { OnOk result ((l : ℕ) → tag_in self.new l ≡ tag_in self.old l) }
+        ensures tags { (l : ℕ) → tag_in self.new l ≡ tag_in self.old l }
     {
-        self.pasts.grow(
-            more,
-            Past {
-                writer: 0,
-                readers: 0,
-            },
-        )?;
         self.marks.grow(more, Mark::NONE)?;
         Ok(())
+    }
+
+    /// Whether it is known that no test which ended touched this location or one behind it.
+    #[inline(always)]
+    pub fn is_fresh(&self, at: u64) -> bool
+        ensures { result ≡ true → AreFresh (tag_in self.now) at }
+    {
+        at >= self.pasts.len()
     }
 
     /// One more touch of a location by the running test. Answers whether it is the first.
@@ -95,6 +96,9 @@ impl Cells {
         requires { at < count self.now }
         ensures { OnOk result (HaveCounted table.old table.new (conflicts_at place (tag_in self.now at))) }
     {
+        if at >= self.pasts.len() {
+            return Ok(());
+        }
         let past = self.pasts.get(at);
         if past.is_none() {
             return Ok(());
@@ -104,9 +108,39 @@ impl Cells {
     }
 
     /// The running test, with this number, ended: what it did at the location joins what earlier tests did there.
-    #[tactic(auto, using(crate::proofs::Settle::written_look, crate::proofs::Settle::exposed_look, crate::proofs::Settle::clear_look, crate::proofs::Settle::written_cells, crate::proofs::Settle::exposed_cells, crate::proofs::Settle::marked_cells))]
     pub fn fold(&mut self, at: u64, test: u32) -> Result<(), NoMemory>
         requires { at < count self.old }
+        ensures count { count self.new ≡ count self.old }
+        ensures tags { OnOk result ((l : ℕ) → tag_in self.new l
+            ≡ cond (nat_eq l at) (ended test (tag_in self.old at)) (tag_in self.old l)) }
+    {
+        self.reach(at)?;
+        self.settle(at, test)
+    }
+
+    /// Makes room for what tests that ended did at a location: where there is none, for all locations.
+    #[inline(always)]
+    #[tactic(auto, using(crate::proofs::Grown::more_pasts, crate::proofs::Grown::past_look))]
+    fn reach(&mut self, at: u64) -> Result<(), NoMemory>
+        requires { at < count self.old }
+        ensures room { OnOk result (at < length self.new.pasts) }
+        ensures count { count self.new ≡ count self.old }
+        ensures tags { OnOk result ((l : ℕ) → tag_in self.new l ≡ tag_in self.old l) }
+    {
+        let len = self.pasts.len();
+        if at < len {
+            return Ok(());
+        }
+        self.pasts.grow(self.marks.len() - len, Past::NONE)?;
+        Ok(())
+    }
+
+    /// The same where there is room for what tests that ended did at the location.
+    #[inline(always)]
+    #[tactic(auto, using(crate::proofs::Settle::written_look, crate::proofs::Settle::exposed_look, crate::proofs::Settle::clear_look, crate::proofs::Settle::written_cells, crate::proofs::Settle::exposed_cells, crate::proofs::Settle::marked_cells))]
+    fn settle(&mut self, at: u64, test: u32) -> Result<(), NoMemory>
+        requires room { at < length self.old.pasts }
+        requires there { at < count self.old }
         ensures count { count self.new ≡ count self.old }
         ensures tags { OnOk result ((l : ℕ) → tag_in self.new l
             ≡ cond (nat_eq l at) (ended test (tag_in self.old at)) (tag_in self.old l)) }
@@ -144,7 +178,7 @@ impl Cells {
 }
 
 /// Counts the conflicts at a location of a test that left this mark there with the tests before it.
-#[inline(never)]
+#[inline(always)]
 fn count_past(
     table: &mut Table,
     readers: &Region<Reader>,
@@ -168,6 +202,7 @@ fn count_past(
 }
 
 /// Counts the conflict with a location's last writer, where there is one.
+#[inline(always)]
 fn count_writer(
     table: &mut Table,
     kind: EdgeKind,
@@ -187,6 +222,7 @@ fn count_writer(
 }
 
 /// Counts the conflicts with the readers of a chain, which begins at this number.
+#[inline(never)]
 fn count_readers(
     table: &mut Table,
     readers: &Region<Reader>,
@@ -211,15 +247,21 @@ fn count_readers(
     Ok(())
 }
 
-/// Adds a reader and answers its number. More than 2^32 - 1 readers are refused as want of memory, and after a refusal the
-/// readers are as before.
+/// Answers the number of a reader, which is added where it isn't the last of them: the locations that one test reads behind
+/// the same reader share it. More than 2^32 - 1 readers are refused as want of memory, and after a refusal the readers are
+/// as before.
+#[tactic(auto, using(crate::proofs::Settle::linked_new, crate::proofs::Settle::linked_last))]
 fn link(readers: &mut Region<Reader>, reader: Reader) -> Result<u32, NoMemory>
-    ensures gives { IfOk result (λ n. n ≡ length readers.old + 1) }
-    ensures linked { OnOk result (readers.new ≡ readers.old ++ reader ∷ []) }
-    ensures few { OnOk result (length readers.old + 1 < 2 ^ 32) }
+    requires down { AreDown readers.old }
+    requires next { reader.next ≤ length readers.old }
+    requires few { length readers.old < 2 ^ 32 }
+    ensures linked { IfOk result (λ n. IsLinked readers.old reader readers.new n) }
     ensures kept { OnErr result (readers.new ≡ readers.old) }
 {
     let last = readers.len();
+    if last > 0 && readers.get(last - 1) == reader {
+        return Ok(last as u32);
+    }
     if last >= u32::MAX as u64 {
         return Err(NoMemory {});
     }

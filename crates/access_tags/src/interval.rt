@@ -1,7 +1,8 @@
 //! Parts that a test touched one after the other.
 
-ghost use Rattle.std.specs.Prelude.{◌≡◌, ◌≤◌, ◌++◌, ◌∷◌, [], true, IfSome};
+ghost use Rattle.std.specs.Prelude.{◌≡◌, ℕ, ◌≤◌, ◌++◌, ◌∷◌, [], true, IfSome};
 ghost use Rattle.access_tags.specs.Intervals.{part_at, parts_of, spot_in};
+ghost use Rattle.access_tags.specs.Numbering.{is_name};
 
 use crate::conflict::{LocationKey, Touched};
 
@@ -18,6 +19,16 @@ pub enum Sort {
 }
 
 impl Sort {
+    /// Whether it is the sort of files and properties.
+    pub fn is_named(self) -> bool
+        ensures { (o i : ℕ) → is_name (spot_in self o i) ≡ result }
+    {
+        match self {
+            Sort::Named => true,
+            _ => false,
+        }
+    }
+
     /// The part of this sort with an index, of an object where the sort has one.
     fn spot(self, object: u32, index: u32) -> LocationKey
         ensures { result ≡ spot_in self object index }

@@ -27,6 +27,11 @@ pub struct Reader {
 }
 
 impl Past {
+    pub const NONE: Past = Past {
+        writer: 0,
+        readers: 0,
+    };
+
     /// Whether no test wrote there, and none read since.
     #[inline(always)]
     pub fn is_none(self) -> bool

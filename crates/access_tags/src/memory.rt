@@ -33,7 +33,7 @@ use vm_mem::Memory;
 
 /// The world, and beside each location the last test that wrote it and the tests that read it since. It follows the tests
 /// that run on it, and with `WALKS` keeps how they came to the objects at places of conflict. More than 2^32 - 1 readers,
-/// each a location and a test, or 2^32 names of files and properties are refused as want of memory.
+/// each of one or more locations, or 2^32 names of files and properties are refused as want of memory.
 #[derive(Drop)]
 pub struct TaggedMemory<const WALKS: bool> {
     memory: RegionMemory,

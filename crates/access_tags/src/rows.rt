@@ -40,20 +40,18 @@ impl Row {
         }
     }
 
-    /// One more location. There is room for one at first, since most rows have no more.
+    /// One more location.
+    #[inline(always)]
     fn add(&mut self, alloc: Global, spot: LocationKey) -> Result<(), NoMemory>
         ensures { OnOk result ((k : Kind) (u : ℕ) (xs : List Part) → self.old ≡ row_with k u xs → self.new ≡ row_with k u (xs ++ spot ∷ [])) }
     {
         let Some(count) = self.count.checked_add(1) else {
             return Err(NoMemory {});
         };
-        if self.count == 0 {
-            self.spots = Items::with_capacity(alloc, 1)?;
+        if self.spots.len() < SHOWN {
+            show(alloc, &mut self.spots, spot)?;
         }
         self.count = count;
-        if self.spots.len() < SHOWN {
-            self.spots.push(spot)?;
-        }
         Ok(())
     }
 
@@ -72,6 +70,7 @@ impl Row {
     }
 
     /// One more conflict, which is left out where it is with no earlier test.
+    #[inline(always)]
     pub fn count(
         rows: &mut Vec<Row>,
         alloc: Global,
@@ -119,6 +118,17 @@ impl Row {
         table[first + 2].hand_on(alloc, rows)?;
         Ok(())
     }
+}
+
+/// Adds a location to those that a row shows. There is room for one at first, since most rows have no more.
+#[inline(never)]
+fn show(alloc: Global, spots: &mut Items<LocationKey>, spot: LocationKey) -> Result<(), NoMemory>
+    ensures { OnOk result (spots.new ≡ spots.old ++ spot ∷ []) }
+{
+    if spots.len() == 0 {
+        *spots = Items::with_capacity(alloc, 1)?;
+    }
+    spots.push(spot)
 }
 
 /// The place of a kind among the three.

@@ -35,6 +35,7 @@ impl Table {
     }
 
     /// One more conflict, which is left out where it is with no earlier test.
+    #[inline(always)]
     pub fn add(&mut self, conflict: Conflict<LocationKey>) -> Result<(), NoMemory>
         ensures { OnOk result (HaveCounted self.old self.new (conflict ∷ [])) }
     {

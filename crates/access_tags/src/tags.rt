@@ -1,11 +1,11 @@
 //! The tags of a memory's locations.
 
-ghost use Rattle.std.specs.Prelude.{◌≡◌, ◌+◌, ◌<◌, ◌≤◌, ◌^◌, ◌++◌, ◌∷◌, [], ℕ, suc, List, length, cond, map, nat_eq, true, not, ◌&&◌, ◌||◌, OnOk};
+ghost use Rattle.std.specs.Prelude.{◌≡◌, ◌+◌, ◌<◌, ◌≤◌, ◌^◌, ◌++◌, ◌∷◌, [], ℕ, suc, List, length, cond, map, nat_eq, true, false, not, ◌&&◌, ◌||◌, OnOk};
 ghost use Rattle.std.specs.List.{list_all};
 ghost use Rattle.jvm_model.specs.declared.values.Location.{Location};
 ghost use Rattle.jvm_model.specs.World.{same};
-ghost use Rattle.access_tags.specs.Tag.{covers, ended, conflicts_at, is_new, noted};
-ghost use Rattle.access_tags.specs.{Counted.HaveCounted, HaveEnded.HaveEnded, Shelf.tag_in, Shelf.count, Within.room, Within.AreWithin};
+ghost use Rattle.access_tags.specs.Tag.{Tag, covers, ended, conflicts_at, is_new, noted};
+ghost use Rattle.access_tags.specs.{Counted.HaveCounted, HaveEnded.HaveEnded, Shelf.tag_in, Shelf.count, Within.room, Within.AreWithin, Unread.AreUnread};
 ghost use Rattle.access_tags.specs.Numbering.{Numbering, are_alone, conflicts_in, is_alone, is_name, tag_at};
 ghost use Rattle.access_tags.specs.Intervals.{parts, parts_of};
 
@@ -19,14 +19,16 @@ use crate::table::Table;
 use et_base::{Items, NoMemory};
 use std::alloc::Global;
 
-/// The tags of statics, class states and the parts of objects, those of files and properties, and what the running test
-/// touched in the order of first touch.
+/// The tags of statics, class states and the parts of objects, those of files and properties, what the running test touched
+/// in the order of first touch, and whether it may have an exposed read.
 #[derive(Drop)]
 pub struct Tags {
     cells: Cells,
     named: Cells,
     touched: AccessLog,
+    reads: bool,
     ghost within: { AreWithin cells named (parts touched.intervals) },
+    ghost unread: { reads ≡ false → AreUnread (tag_in cells) (tag_in named) (parts touched.intervals) },
 }
 
 impl Tags {
@@ -51,10 +53,12 @@ impl Tags {
             cells: Cells::new(alloc),
             named: Cells::new(alloc),
             touched: AccessLog::new(alloc),
+            reads: false,
         }
     }
 
     /// So many locations more of statics, class states and parts of objects, which no test touched.
+    #[tactic(auto, using(crate::proofs::Unread::kept_unread))]
     pub fn grow(&mut self, more: u64) -> Result<(), NoMemory>
         ensures cells { OnOk result (count self.new.cells ≡ count self.old.cells + more) }
         ensures room { OnOk result (count self.new.cells < 2 ^ 64) }
@@ -67,6 +71,7 @@ impl Tags {
     }
 
     /// One more file or property, which no test touched.
+    #[tactic(auto, using(crate::proofs::Unread::kept_unread))]
     pub fn grow_names(&mut self) -> Result<(), NoMemory>
         ensures cells { OnOk result (count self.new.cells ≡ count self.old.cells) }
         ensures named { OnOk result (count self.new.named ≡ count self.old.named + 1) }
@@ -140,6 +145,7 @@ impl Tags {
         if at >= self.room(spot) {
             return Err(NoMemory {});
         }
+        self.reads = reads_after(self.reads, write);
         let is_first = note(&mut self.cells, &mut self.named, spot, at, write);
         if is_first {
             self.touched.push(Touched { spot, at })?;
@@ -165,6 +171,9 @@ impl Tags {
         ensures { (n : Numbering) (T : Touches) (t : ℕ) (ts : List Touch) → Stands n T t ts self.now
             → result ≡ list_all (λ L. not (exposed ts L) || same L (place.Static field)) (tag.places ts) }
     {
+        if !self.reads {
+            return true;
+        }
         for i in 0..self.touched.len() {
             if !reads_alone(&self.cells, &self.named, self.touched.get(i), field) {
                 return false;
@@ -179,10 +188,20 @@ impl Tags {
         ensures named { count self.new.named ≡ count self.old.named }
         ensures stands { OnOk result ((n : Numbering) (T : Touches) (t : ℕ) (ts : List Touch) → test ≡ suc t → T test ≡ ts → Stands n T t ts self.old → Stands n T test [] self.new) }
     {
+        self.reads = true;
         settle_all(&mut self.cells, &mut self.named, &self.touched, test)?;
         self.touched.clear();
+        self.reads = false;
         Ok(())
     }
+}
+
+/// Whether there may be an exposed read after one more touch, where that is known of those before it.
+#[inline(always)]
+fn reads_after(reads: bool, write: bool) -> bool
+    ensures { result ≡ (reads || not write) }
+{
+    reads || !write
 }
 
 /// One more touch of a part. Answers whether it is the first.
@@ -271,6 +290,17 @@ fn count_part(
     }
 }
 
+/// Whether it is known that no test which ended touched a part of an interval; of files and properties it isn't.
+#[inline(always)]
+fn are_fresh(cells: &Cells, interval: Interval) -> bool
+    ensures { result ≡ true → (d : ℕ → Tag) → conflicts_in (tag_in cells.now) d (parts_of interval) ≡ [] }
+{
+    if interval.sort.is_named() {
+        return false;
+    }
+    cells.is_fresh(interval.at as u64)
+}
+
 /// Counts the conflicts at the parts of an interval.
 fn count_interval(
     cells: &Cells,
@@ -283,6 +313,9 @@ fn count_interval(
     ensures { OnOk result (HaveCounted table.old table.new
         (conflicts_in (tag_in cells.now) (tag_in named.now) (parts_of interval))) }
 {
+    if are_fresh(cells, interval) {
+        return Ok(());
+    }
     for index in interval.first..interval.end {
         count_part(cells, named, interval.part(index), table)?;
     }

@@ -3,7 +3,29 @@ use Rattle.std.proofs.lemmas.List.{append-nil}
 use Rattle.access_tags.specs.declared.conflict.Touched.{Touched}
 use Rattle.access_tags.specs.{Shelf.tag_in, Stands.StandFor, AccessLogs.touched_in}
 use Rattle.access_tags.proofs.Stood.{noted_stands}
+use Rattle.access_tags.proofs.Unread.{first_unread, pushed_unread, reads_nothing, written_unread}
 use Rattle.access_tags.proofs.tags.Tags.note_first.Goals as goal
+
+pub invariant_of-self-clause-unread : goal.invariant_of-self-clause-unread
+invariant_of-self-clause-unread c q =
+    let o = c.args.self.now in
+    let n = c.note-is_first in
+    let r = reads_nothing o.reads c.args.write (sym c.reads_after-self.ensures ∙ q) in
+    let xs = touched_in o.touched in
+    let cs = tag_in o.cells in
+    let ds = tag_in o.named in
+    let es = tag_in n.new.cells in
+    let fs = tag_in n.new.named in
+    pushed_unread c.push.result es fs xs (touched_in c.push.new.self) _ c.push.ensures.pushed c.push.ensures.kept
+    (first_unread cs ds es fs c.args.spot c.args.at c.args.write n.ensures.cells n.ensures.named xs r.1 (sym n.ensures.first ∙ c.if-is_first.true) (o.unread r.0))
+    (written_unread cs ds es fs c.args.spot c.args.at c.args.write n.ensures.cells n.ensures.named xs r.1 (o.unread r.0))
+
+pub invariant_of-self-else-is_first-clause-unread : goal.invariant_of-self-else-is_first-clause-unread
+invariant_of-self-else-is_first-clause-unread c q =
+    let o = c.args.self.now in
+    let n = c.note-is_first in
+    let r = reads_nothing o.reads c.args.write (sym c.reads_after-self.ensures ∙ q) in
+    written_unread (tag_in o.cells) (tag_in o.named) (tag_in n.new.cells) (tag_in n.new.named) c.args.spot c.args.at c.args.write n.ensures.cells n.ensures.named (touched_in o.touched) r.1 (o.unread r.0)
 
 pub returns-in_ok-push-clause-stands : goal.returns-in_ok-push-clause-stands
 returns-in_ok-push-clause-stands c n T t ts x p w l s =

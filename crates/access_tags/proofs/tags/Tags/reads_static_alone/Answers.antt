@@ -2,9 +2,16 @@ use Rattle.std.proofs.Common.{◌≡◌, ◌<◌, ◌∙◌, List, false, get_or
 use Rattle.access_tags.specs.declared.conflict.Touched.{Touched}
 use Rattle.access_tags.specs.declared.interval.Interval.{Interval}
 use Rattle.access_tags.specs.{Numbering.are_alone, Numbering.is_alone, Shelf.tag_in, Intervals.parts_of, AccessLogs.touched_in, Within.AreWithin}
-use Rattle.access_tags.proofs.OutReads.{reads_alone}
+use Rattle.access_tags.proofs.{OutReads.reads_alone, Unread.unread_alone}
 use Rattle.access_tags.proofs.Spanned.{all_fails, parts_all, within_interval}
 use Rattle.access_tags.proofs.tags.Tags.reads_static_alone.Goals as goal
+
+pub returns-then-not-self : goal.returns-then-not-self
+returns-then-not-self c n T t ts s =
+    let o = c.args.self.now in
+    let xs = touched_in o.touched in
+    sym (unread_alone (tag_in o.cells) (tag_in o.named) c.args.field xs (o.unread c.if-not-self.true))
+    ∙ reads_alone n T t ts (tag_in o.cells) (tag_in o.named) xs s c.args.field
 
 pub reads_alone-requires-clause-within : goal.reads_alone-requires-clause-within
 reads_alone-requires-clause-within c =
