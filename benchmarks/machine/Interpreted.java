@@ -24,6 +24,8 @@ public class Interpreted {
         show("longs", Work::longs);
         show("switches", Work::switches);
         show("interfaces", Work::interfaces);
+        show("casts", Work::casts);
+        show("increments", Work::increments);
         show("exceptions", Work::exceptions);
         show("matrices", Work::matrices);
     }
