@@ -13,7 +13,7 @@ fn frames_are_entered_and_left(rt: HostRuntime) -> Result<(), Fail> {
     stack.enter(8, 4, 2)?;
     assert!(rt; stack.local(0) == Value::Long(9) && stack.local(2) == Value::Int(3));
     stack.pop();
-    assert_eq!(rt; stack.depth(), 1);
+    assert!(rt; stack.number() == 7 && stack.kind_below() == EntryKind::Absent);
     Ok(())
 }
 

@@ -174,7 +174,7 @@ fn are_of_counter(touches: &[Noted]) -> bool {
     }
 }
 
-// The counter's tests are listed, and their touches noted.
+// The touches of the counter's tests are noted.
 #[derive(Drop)]
 struct NotesCounter;
 
@@ -186,7 +186,7 @@ impl Trial<TraceMemory> for NotesCounter {
         machine: &mut Machine<'_, TraceMemory>,
     ) -> Result<bool, RunFault> {
         let _lines = lines_on(alloc, loaded, machine)?;
-        Ok(matches!(machine.list(), [1, 2]) && are_of_counter(machine.memory().touches()))
+        Ok(are_of_counter(machine.memory().touches()))
     }
 }
 

@@ -5,11 +5,11 @@ ghost use Rattle.jvm_model.specs.{Classes.field_at, Classes.is_trivial, Suite.op
 
 use crate::parts::{Parts, parts_of};
 use crate::suites::{COUNTER_FILES, loaded};
-use jvm_model::{Base, Instr, Kind, Next};
+use jvm_model::{Base, EntryKind, Instr, Kind, Next};
 use std::alloc::Global;
 use std::test::Fail;
 use type_frames::Checked;
-use vm_frames::{FrameStack, PushFault, TopEntry};
+use vm_frames::{FrameStack, PushFault};
 use vm_mem::PlainMemory;
 use vm_objects::{create, statics};
 use vm_tables::Tables;
@@ -21,7 +21,7 @@ fn last_of(count: usize) -> u32 {
 
 // Whether the top entry stands behind the three bytes of a method's first instruction.
 fn is_behind_first(stack: &FrameStack, method: u32) -> bool {
-    stack.top() == Some(TopEntry::Method { method, pc: 3 })
+    stack.kind() == EntryKind::InMethod && stack.number() == method && stack.pc() == 3
 }
 
 // Whether `getstatic` at the head of a method's code goes on behind it, for one unit.

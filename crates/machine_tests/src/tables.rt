@@ -2,7 +2,7 @@
 
 use crate::suites::{COUNTER_FILES, loaded};
 use et_base::NoMemory;
-use jvm_model::{ERROR, THROWABLE};
+use jvm_model::{ERROR, Kind, THROWABLE};
 use std::alloc::Global;
 use std::test::Fail;
 use type_frames::Checked;
@@ -11,7 +11,8 @@ use vm_tables::Tables;
 // Whether an error is a throwable, and a throwable need not be an error.
 fn throwables_fit(alloc: Global, checked: &Checked) -> Result<bool, NoMemory> {
     let tables = Tables::of(alloc, checked.program())?;
-    Ok(tables.class_fits(ERROR, THROWABLE) && !tables.class_fits(THROWABLE, ERROR))
+    let (error, throwable) = (Kind::Class(ERROR), Kind::Class(THROWABLE));
+    Ok(tables.kind_fits(error, throwable) && !tables.kind_fits(throwable, error))
 }
 
 #[test]

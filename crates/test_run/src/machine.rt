@@ -110,13 +110,6 @@ impl<'p, M: Memory> Machine<'p, M> {
         self.spent
     }
 
-    /// The tests that it ran, in order.
-    pub fn list(&self) -> &[u32]
-        ensures { result.now ≡ self.now.list }
-    {
-        self.list.as_slice()
-    }
-
     /// Runs a test under a number of units that is at most its budget.
     fn run_bounded<L: Ledger>(
         &mut self,

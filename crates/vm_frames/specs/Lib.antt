@@ -1,4 +1,3 @@
 pub mod Slots
 pub mod Extents
 pub mod Stack
-pub mod TopEntries

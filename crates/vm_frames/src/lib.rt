@@ -20,4 +20,4 @@ mod slots;
 mod stack;
 
 pub use fault::PushFault;
-pub use stack::{FrameStack, TopEntry};
+pub use stack::FrameStack;

@@ -3,7 +3,7 @@
 ghost use Rattle.std.specs.Prelude.{◌≡◌, ◌≤◌, ◌<◌, ◌+◌, ◌∷◌, ◌↔◌, length, slice_get, get_or, Some, Err, OnOk, OnErr, true, false, []};
 ghost use Rattle.std.specs.Option.{option_to_list};
 ghost use Rattle.jvm_model.specs.declared.values.Value.TheVariants.{Int, Long, Null};
-ghost use Rattle.jvm_model.specs.Entries.{no_entries, with_stack, with_place, with_entry, class_entry, popped_entry, all_entries, is_full};
+ghost use Rattle.jvm_model.specs.Entries.{no_entries, with_stack, with_place, with_entry, class_entry, popped_entry, is_full};
 ghost use Rattle.jvm_model.specs.{Initialise.with_entered, RowsMoves.with_local, RowsMoves.is_long};
 ghost use Rattle.vm_frames.specs.Stack.{HasRoom, HasIntOnTop, HasLongOnTop, frame_with, called_with, stored_local};
 
@@ -17,14 +17,6 @@ use std::marker::Model;
 
 /// The most entries (this project's).
 const ENTRY_LIMIT: u32 = 1_024;
-
-/// The top entry. `entered` says that the `<clinit>` of an initialisation entry was entered or that there is none to
-/// enter.
-#[derive(Clone, Copy, Debug, PartialEq, Eq)]
-pub enum TopEntry {
-    Method { method: u32, pc: u32 },
-    Init { class: u32, entered: bool },
-}
 
 /// The entries of a running test. Contracts see the definition's list of entries: the top one first, operands with the
 /// top first, locals by slot, a long in the first of its two.
@@ -52,8 +44,6 @@ impl Model for FrameStack {
 }
 
 impl FrameStack {
-    ghost use Rattle.vm_frames.specs.TopEntries.{top_of};
-
     /// No entries. It takes no memory.
     pub fn new(alloc: Global) -> FrameStack
         ensures { result ≡ no_entries }
@@ -65,41 +55,14 @@ impl FrameStack {
         }
     }
 
-    /// How many entries stand.
-    pub fn depth(&self) -> u32
-        ensures { result ≡ length (all_entries self.now) }
-    {
-        let saved = self.saved.len() as u32;
-        match self.current.kind {
-            EntryKind::Absent => saved,
-            EntryKind::InMethod | EntryKind::InClass { .. } => saved + 1,
-        }
-    }
-
     /// Whether as many entries stand as may: 1,024.
     pub fn is_full(&self) -> bool
         ensures { result ≡ is_full self.now }
     {
-        self.depth() >= ENTRY_LIMIT
-    }
-
-    /// The top entry, or None exactly where no entry stands.
-    pub fn top(&self) -> Option<TopEntry>
-        ensures { result ≡ top_of self.now.top }
-    {
-        let Extent {
-            kind,
-            number,
-            pc,
-            ..
-        } = self.current;
-        match kind {
-            EntryKind::Absent => None,
-            EntryKind::InMethod => Some(TopEntry::Method { method: number, pc }),
-            EntryKind::InClass { entered } => Some(TopEntry::Init {
-                class: number,
-                entered,
-            }),
+        let saved = self.saved.len() as u32;
+        match self.current.kind {
+            EntryKind::Absent => saved >= ENTRY_LIMIT,
+            EntryKind::InMethod | EntryKind::InClass { .. } => saved + 1 >= ENTRY_LIMIT,
         }
     }
 

@@ -87,7 +87,7 @@ impl Hierarchy {
 
     /// Whether an instance of a class or interface is one of another.
     #[tactic(auto, unfolding(jvm_model::specs::Kinds::class_fits))]
-    pub(crate) fn class_fits(&self, class: u32, other: u32) -> bool
+    fn class_fits(&self, class: u32, other: u32) -> bool
         ensures { result ≡ kinds.class_fits self.now class other }
     {
         self.is_below(class, other) || self.implements(class, other)

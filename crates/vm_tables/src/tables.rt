@@ -189,14 +189,6 @@ impl<'p> Tables<'p> {
         self.hierarchy.implements(class, interface)
     }
 
-    /// Whether an instance of a class or interface is one of another: that is the same, above it, or implemented by it
-    /// (JVMS 6.5, checkcast).
-    pub fn class_fits(&self, class: u32, other: u32) -> bool
-        ensures { result ≡ kinds.class_fits self.now class other }
-    {
-        self.hierarchy.class_fits(class, other)
-    }
-
     /// Whether an object of one kind is an instance of another (JVMS 6.5, instanceof and aastore). At run time an array
     /// implements no interface.
     pub fn kind_fits(&self, kind: Kind, other: Kind) -> bool
