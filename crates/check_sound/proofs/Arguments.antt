@@ -1,8 +1,7 @@
 -- The arguments of a call: what is taken of the operands, and the locals with which a method is entered.
 use Rattle.std.proofs.Common.{◌≡◌, ℕ, zero, suc, ◌-◌, ◌≤◌, List, [], ◌∷◌, ◌++◌, length, drop, reverse, replicate, true, false, nat_eq, Option, Some, None, is_some, refl, sym, ◌∙◌, ap, subst, arith, inl, inr}
 use Rattle.std.specs.Prelude.{flat_map}
-use Rattle.std.proofs.lemmas.Bool.{cases_Bool, and_parts, eqb-true}
-use Rattle.std.proofs.lemmas.List.{reverse-append, append_assoc}
+use Rattle.std.proofs.lemmas.{Bool.cases_Bool, Bool.and_parts, Bool.eqb-true, List.reverse-append, List.append_assoc}
 use Rattle.jvm_model.specs.declared.values.Value.{Value}
 use Rattle.jvm_model.specs.declared.values.Value.TheVariants as value
 use Rattle.jvm_model.specs.declared.program.{Program.Program, Body.Body}
@@ -16,9 +15,8 @@ use Rattle.type_frames.specs.{Frames.spread, Frames.padded, Descriptors.types_of
 use Rattle.type_frames.specs.{Environment.Environment, Environment.environment_of, StackEffect.needs_of, Rules.opening, Rules.meet_all, Typing.IsTyped}
 use Rattle.type_frames.specs.TypedState.{IsInRange, HaveTypes, Goes}
 use Rattle.check_sound.proofs.{Grow.Ranged, Arrive.typed_method, Arrive.arrived_first, Ready.HasPlain, Ready.Takes}
-use Rattle.check_sound.proofs.Held.{Is, Locals, is_fits, nothing_held}
+use Rattle.check_sound.proofs.{Held.Is, Held.Locals, Held.is_fits, Held.nothing_held, ReturnRows.plain_int, ReturnRows.plain_long}
 use Rattle.check_sound.proofs.Operands.{Operands, IsPop, popped, long_popped, none_there}
-use Rattle.check_sound.proofs.ReturnRows.{plain_int, plain_long}
 use Rattle.check_sound.proofs.ParameterTexts.{IsText, AreTexts, parameters_formed}
 
 -- ---- texts of parameters

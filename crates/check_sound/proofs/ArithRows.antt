@@ -14,14 +14,13 @@ use Rattle.std.specs.Prelude.{slice_index_or}
 use Rattle.std.proofs.lemmas.Option.{slice_get_within}
 use Rattle.type_frames.specs.declared.vtype.VType.{VType}
 use Rattle.type_frames.specs.{Environment.Environment, Rules.meets, TypedState.HasType, TypedState.HaveTypes, Typing.IsTyped}
-use Rattle.check_sound.proofs.MoveRows.{read_local, kept_local, set_range}
+use Rattle.check_sound.proofs.{MoveRows.read_local, MoveRows.kept_local, MoveRows.set_range, Held.is_fits, Held.Locals, Held.int_on, Held.long_on}
 use Rattle.jvm_model.specs.RowsArith.{increased, divides, shifts, two_ints, two_longs, long_by_int, row_arith}
 use Rattle.type_frames.specs.declared.stack_effect.OperandConstraint.{OperandConstraint}
 use Rattle.type_frames.specs.declared.stack_effect.OperandConstraint.TheVariants.{Fits, Half}
 use Rattle.type_frames.specs.declared.vtype.VType.TheVariants.{Top, Int, Long, Null, Object, UninitThis, Uninit}
 use Rattle.type_frames.specs.StackEffect.{sides, second_need, int_need, long_need}
 use Rattle.check_sound.proofs.{Tree.typed_done, Ends.fault_typed, Thrown.arithmetic_thrown}
-use Rattle.check_sound.proofs.Held.{is_fits, Locals, int_on, long_on}
 use Rattle.check_sound.proofs.Operands.{Operands, rest_of, popping-fits, popping-long, on_int-typed, on_long-typed, choose-typed}
 use Rattle.check_sound.proofs.Ready.{Ends, Row, Ready, here, rest, operands, on}
 

@@ -9,13 +9,12 @@ use Rattle.jvm_model.specs.Classes.{class_at, no_class, is_interface, is_below}
 use Rattle.type_frames.specs.{StackEffect.element_type, TypedState.IsInstance, TypedState.element_text}
 use Rattle.type_frames.specs.Assign.{class_named, takes_any, extends, class_fits, element_fits, is_array, object_fits, assignable}
 use Rattle.et_base.proofs.Texts.{units_true}
-use Rattle.check_sound.proofs.Instances.{plain_name, plain_fits, array_fits}
+use Rattle.check_sound.proofs.{Instances.plain_name, Instances.plain_fits, Instances.array_fits, KindNames.class_within}
 use Rattle.jvm_model.specs.declared.values.{Base.Base, Kind.Kind}
 use Rattle.jvm_model.specs.declared.values.Base.TheVariants as base
 use Rattle.jvm_model.specs.declared.values.Kind.TheVariants as kind
 use Rattle.type_frames.specs.declared.vtype.{VType.VType, VType.TheVariants.Object}
 use Rattle.type_frames.specs.Descriptors.{class_name, types_of, name_of, kind_name, base_text}
-use Rattle.check_sound.proofs.KindNames.{class_within}
 
 -- the elements of kind k are references, of kind e
 pub record References (p : Program) (k e : Kind) : Type 0 where

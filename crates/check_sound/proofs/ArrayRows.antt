@@ -22,9 +22,8 @@ use Rattle.type_frames.specs.declared.stack_effect.OperandConstraint.TheVariants
 use Rattle.type_frames.specs.declared.vtype.VType.{VType}
 use Rattle.type_frames.specs.declared.vtype.VType.TheVariants.{Top, Int, Long, Null, Object}
 use Rattle.type_frames.specs.{Frames.Slots, Environment.Environment, Assign.is_array, Assign.assignable, Typing.IsTyped}
-use Rattle.type_frames.specs.Descriptors.{types_of, name_of, kind_name}
+use Rattle.type_frames.specs.{Descriptors.types_of, Descriptors.name_of, Descriptors.kind_name, Rules.meets, Rules.is_any_array, Rules.is_small}
 use Rattle.type_frames.specs.StackEffect.{sides, array_need, element_type, loaded, place_of, objects_text}
-use Rattle.type_frames.specs.Rules.{meets, is_any_array, is_small}
 use Rattle.type_frames.specs.TypedState.{kind_at, IsInstance, RefersTo, HasType, IsDeclared, IsReferenceOf, element_text}
 use Rattle.type_frames.proofs.AssignLaws.{assignable_trans}
 use Rattle.check_sound.proofs.Tree.{head_at, typed_done, typed_read, typed_write}
@@ -32,9 +31,8 @@ use Rattle.check_sound.proofs.Held.{Is, Held, int_on, is_fits, refers_fits}
 use Rattle.check_sound.proofs.Operands.{Operands, IsPop, rest_of, popping-seen, popping-typed, popping-fits, popping-long, on_int-typed, on_object-typed, head-typed, choose-typed}
 use Rattle.check_sound.proofs.Ready.{Ends, Row, Ready, here, rest, operands, on}
 use Rattle.check_sound.proofs.{Ends.fault_typed, CallEffects.Result, CallEffects.push, DeclaredValues.declared_result, CastRows.constant_is_kind}
-use Rattle.check_sound.proofs.Thrown.{null_pointer_thrown, array_index_thrown, array_store_thrown}
+use Rattle.check_sound.proofs.{Thrown.null_pointer_thrown, Thrown.array_index_thrown, Thrown.array_store_thrown, KindNames.kind_instance}
 use Rattle.jvm_model.proofs.NarrowedFits.{narrowed_fits, smalls}
-use Rattle.check_sound.proofs.KindNames.{kind_instance}
 use Rattle.check_sound.proofs.ArrayKinds.{Plain, Refs, array_below, array_kind, plain_cells, ref_cells}
 
 -- ---- arrays on the stack

@@ -5,16 +5,15 @@ use Rattle.std.specs.Prelude.{flat_map}
 use Rattle.std.proofs.lemmas.Bool.{and_parts, cases_Bool, cases_lt, ltb-false, eqb-true, ltb-true, leb-true, or_left, or_right, or_cases}
 use Rattle.std.proofs.lemmas.List.{length-append, length-drop, length-reverse}
 use Rattle.std.specs.Prelude.{reverse}
-use Rattle.check_sound.proofs.Wide.{turned_length}
+use Rattle.check_sound.proofs.{Wide.turned_length, Held.Locals, Held.Held, Held.locals_fit, Held.held_fits}
 use Rattle.std.proofs.lemmas.Option.{slice_get-get_or, slice_get_within, get_or_from_slice_get}
 use Rattle.jvm_model.specs.declared.values.Value.{Value}
 use Rattle.jvm_model.specs.declared.state.EntryKind.TheVariants.{InMethod}
 use Rattle.jvm_model.specs.declared.instr.Instr.TheVariants as form
 use Rattle.jvm_model.specs.declared.program.{Program.Program, MethodRec.MethodRec, Body.Body, Placed.Placed}
 use Rattle.jvm_model.specs.{World.World, Builtin.builtin_count}
-use Rattle.jvm_model.specs.Library.{builtin_defs, builtin_classes, builtin_methods}
+use Rattle.jvm_model.specs.{Library.builtin_defs, Library.builtin_classes, Library.builtin_methods, Linked.IsBody, Linked.IsPlace, Linked.count}
 use Rattle.jvm_model.specs.Classes.{no_class, no_method, class_at, method_at, form_at, next_place}
-use Rattle.jvm_model.specs.Linked.{IsBody, IsPlace, count}
 use Rattle.jvm_model.proofs.Places as places
 use Rattle.jvm_model.proofs.BuiltinRules.{class_keeps, method_keeps}
 use Rattle.type_frames.specs.declared.vtype.Frame.{Frame}
@@ -24,7 +23,6 @@ use Rattle.type_frames.specs.{Given.given_frames, StackEffect.sides, TypedState.
 use Rattle.type_frames.specs.Environment.{Environment, environment_of, given_at, is_target, leads, targets}
 use Rattle.type_frames.specs.Rules.{turned, is_sound, all_made, rule_1, rule_2, rule_3, rule_4, rule_5, rule_6, rule_7, rule_9, rule_10, rule_11, Test, first_broken, tests, broken, after, opening, fits_given, fits_at, fits_next, slots_fit}
 use Rattle.type_frames.specs.Typing.{passed_on, taken_by, incoming, before, breach_of, judged, breach_at, IsTypedMethod, IsTyped}
-use Rattle.check_sound.proofs.Held.{Locals, Held, locals_fit, held_fits}
 
 -- ---- all rules are kept
 

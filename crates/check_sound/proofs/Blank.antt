@@ -16,8 +16,7 @@ use Rattle.jvm_model.specs.Linked.{IsClass, IsField, IsKind, first_or, opens}
 use Rattle.jvm_model.proofs.{BuiltinRules.class_keeps, BuiltinRules.field_keeps, Upwards.member_class}
 use Rattle.type_frames.specs.{Descriptors.types_of, Descriptors.is_float, Typing.unsupported_field, Typing.IsTyped}
 use Rattle.type_frames.specs.TypedState.{IsDeclared, IsReferenceOf, element_text}
-use Rattle.check_sound.proofs.Tree.{IsNew}
-use Rattle.check_sound.proofs.Arrive.{counted_at, slice_get_drop, all_at_index}
+use Rattle.check_sound.proofs.{Tree.IsNew, Arrive.counted_at, Arrive.slice_get_drop, Arrive.all_at_index}
 
 -- ---- no field is a float or a double
 

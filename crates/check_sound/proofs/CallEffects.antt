@@ -15,10 +15,9 @@ use Rattle.jvm_model.specs.Classes.{method_at, init_name, is_below}
 use Rattle.type_frames.specs.declared.vtype.VType.{VType}
 use Rattle.type_frames.specs.declared.vtype.VType.TheVariants.{Top, Int, Long, Null, Object, UninitThis, Uninit}
 use Rattle.type_frames.specs.declared.stack_effect.{OperandConstraint.OperandConstraint, OperandConstraint.TheVariants.Raw, StackEffect.StackEffect}
-use Rattle.type_frames.specs.Frames.{Slots, same, places_of, spread}
+use Rattle.type_frames.specs.{Frames.Slots, Frames.same, Frames.places_of, Frames.spread, Rules.meets, Rules.meet_all, Rules.turned, Rules.after}
 use Rattle.type_frames.specs.{Descriptors.name_of, Environment.Environment, Environment.made_at}
 use Rattle.type_frames.specs.StackEffect.{sides, place_of, on_stack, argument_needs, result_types, call_sides, is_that, is_start, started, init_sides, special_sides, special_need, is_raw}
-use Rattle.type_frames.specs.Rules.{meets, meet_all, turned, after}
 use Rattle.type_frames.specs.TypedState.{HaveStackTypes, kind_at, IsInRange, IsInstance, is_class_with, HasType, called_by}
 use Rattle.check_sound.proofs.Held.{Locals, Held, on_top, int_on, long_on, locals_turned, held_turned}
 use Rattle.check_sound.proofs.{Arrive.Kept, Instances.instance_itself, Instances.below_is, Ready.HasPlain}

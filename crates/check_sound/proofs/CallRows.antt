@@ -28,10 +28,9 @@ use Rattle.type_frames.specs.declared.stack_effect.OperandConstraint.{OperandCon
 use Rattle.type_frames.specs.declared.stack_effect.OperandConstraint.TheVariants.{Fits, Raw, Never}
 use Rattle.type_frames.specs.declared.stack_effect.StackEffect.{StackEffect}
 use Rattle.type_frames.specs.{Frames.spread, Frames.places_of, Environment.Environment, Environment.made_at, Assign.assignable, Rules.meets, Rules.turned}
-use Rattle.type_frames.specs.Descriptors.{types_of, name_of, kind_name}
-use Rattle.type_frames.specs.Given.{is_constructor, this_types, entry_types}
+use Rattle.type_frames.specs.{Descriptors.types_of, Descriptors.name_of, Descriptors.kind_name, Given.is_constructor, Given.this_types, Given.entry_types}
 use Rattle.jvm_model.proofs.Upwards.{below_same as itself_below, below_trans}
-use Rattle.check_sound.proofs.Instances.{below_class, super_below, instance_itself}
+use Rattle.check_sound.proofs.{Instances.below_class, Instances.super_below, Instances.instance_itself, Onward.whole, Onward.not_full, Onward.ready_grows}
 use Rattle.type_frames.specs.StackEffect.{sides, argument_needs, result_types, on_stack, call_sides, is_that, is_start, init_sides, special_need, object_of, place_of}
 use Rattle.type_frames.specs.Typing.{IsTyped}
 use Rattle.type_frames.specs.TypedState.{is_class_with, kind_at, IsInRange, IsInstance, RefersTo, HasType, HaveTypes, IsBelow, class_begun, called_by}
@@ -39,7 +38,6 @@ use Rattle.check_sound.proofs.{Tree.typed_done, Tree.typed_spend, Grow.Ranged, A
 use Rattle.check_sound.proofs.Held.{refers_fits, Is, Held, IsShort, held_over, locals_over, is_fits}
 use Rattle.check_sound.proofs.Operands.{Operands, IsPop, popped, none_there, rest_of, choose-typed, on_reference-typed, with_kind-typed, refers_nullable, IsNonNull, IsKindOf}
 use Rattle.check_sound.proofs.Ready.{TypedEntries, stub, closed, below_same, Takes, Gives, operand_types, NativeCall, Enters, Ends, Row, Ready, here, sides_at, rest, operands, next_typed, raised_typed, waits_typed, names_form, form_kind, form_found}
-use Rattle.check_sound.proofs.Onward.{whole, not_full, ready_grows}
 use Rattle.check_sound.proofs.Thrown.{builtin_is, abstract_thrown, overflow_thrown, null_pointer_thrown}
 use Rattle.check_sound.proofs.CallEffects.{values_few, on_stack_length, this_of, CallEffects, call_of, Result, push}
 use Rattle.check_sound.proofs.{ReturnRows.home, ReturnRows.named_class, ParameterTexts.AreTexts}

@@ -8,24 +8,21 @@ use Rattle.jvm_model.specs.declared.instr.Instr.TheVariants as form
 use Rattle.jvm_model.specs.declared.program.Program.{Program}
 use Rattle.jvm_model.specs.{World.World, Library.builtin_defs, Library.builtin_classes, Entries.Entries, Kinds.kind_fits, Kinds.class_of}
 use Rattle.jvm_model.specs.Builtin.{object_class, throwable_class, string_class, stream_class, class_cast_exception, null_pointer_exception}
-use Rattle.jvm_model.specs.Classes.{is_below, is_interface, member}
+use Rattle.jvm_model.specs.{Classes.is_below, Classes.is_interface, Classes.member, Rows.constant_kind, Rows.answer, Rows.on_object}
 use Rattle.jvm_model.proofs.BuiltinRules.{class_keeps}
 use Rattle.type_frames.proofs.AssignLaws.{builtin_plain}
 use Rattle.check_sound.proofs.{Instances.takes_every, Instances.instance_below, Tree.typed_done, Tree.typed_known, Ends.fault_typed, KindNames.kind_instance}
 use Rattle.std.proofs.lemmas.Bool.{not-true}
 use Rattle.jvm_model.specs.{Linked.Linked, Linked.IsKind, Access.done}
 use Rattle.jvm_model.specs.declared.outcome.Next.TheVariants.{Raise}
-use Rattle.jvm_model.specs.Rows.{constant_kind, answer, on_object}
-use Rattle.jvm_model.specs.RowsCasts.{cast_to, cast, tested, row_casts}
-use Rattle.jvm_model.specs.Step.{group_of, casts, row_throw}
+use Rattle.jvm_model.specs.{RowsCasts.cast_to, RowsCasts.cast, RowsCasts.tested, RowsCasts.row_casts, Step.group_of, Step.casts, Step.row_throw}
 use Rattle.type_frames.specs.declared.vtype.VType.TheVariants.{Object}
 use Rattle.type_frames.specs.{Descriptors.name_of, Descriptors.kind_name, StackEffect.sides, Typing.IsTyped}
 use Rattle.type_frames.specs.TypedState.{kind_at, IsInstance, RefersTo}
 use Rattle.check_sound.proofs.Held.{Is, Held, on_top, int_on}
 use Rattle.check_sound.proofs.Operands.{rest_of, popping-fits, head-typed, choose-typed}
 use Rattle.check_sound.proofs.Ready.{Ends, Row, Ready, here, rest, operands, on, raised_typed}
-use Rattle.check_sound.proofs.Thrown.{under_object, builtin_is, class_cast_thrown, null_pointer_thrown}
-use Rattle.check_sound.proofs.Ready.{names_form}
+use Rattle.check_sound.proofs.{Thrown.under_object, Thrown.builtin_is, Thrown.class_cast_thrown, Thrown.null_pointer_thrown, Ready.names_form}
 
 -- what a constant object is an instance of is a class of the program
 pub constant_is_kind : (p : Program) (lk : Linked p) (n : ℕ) → IsKind p (constant_kind n)

@@ -1,19 +1,16 @@
 -- The rows of new, newarray, anewarray and multianewarray.
 use Rattle.std.proofs.Common.{◌≡◌, ℕ, ℤ, zero, suc, ◌+◌, ◌≤◌, List, [], ◌∷◌, get_or, true, false, pos, negsuc, nat_eq, Option, Some, slice_get, refl, sym, ◌∙◌, ap, subst, arith, inl, inr}
 use Rattle.std.specs.List.{position_from}
-use Rattle.std.proofs.lemmas.Bool.{cases_Bool, eqb-true, eq-eqb}
+use Rattle.std.proofs.lemmas.{Bool.cases_Bool, Bool.eqb-true, Bool.eq-eqb, Option.slice_get_within, Option.get_or_from_slice_get}
 use Rattle.jvm_model.specs.declared.values.{Value.Value, Kind.Kind, Head.Head}
 use Rattle.jvm_model.specs.declared.values.Value.TheVariants as value
 use Rattle.jvm_model.specs.declared.values.Kind.TheVariants as kind
 use Rattle.jvm_model.specs.declared.values.Location.TheVariants as place
 use Rattle.jvm_model.specs.declared.instr.Instr.TheVariants as form
 use Rattle.jvm_model.specs.declared.program.{Program.Program, Placed.Placed}
-use Rattle.jvm_model.specs.World.{World, size, make_object}
+use Rattle.jvm_model.specs.{World.World, World.size, World.make_object, Entries.Entries, Linked.IsKind, Linked.IsArray, Linked.Ascends}
 use Rattle.jvm_model.specs.{World.Object as Made, Builtin.instantiation_error, Builtin.negative_size_exception, Classes.blank, Classes.instance_head}
-use Rattle.jvm_model.specs.Entries.{Entries}
-use Rattle.jvm_model.specs.Linked.{IsKind, IsArray, Ascends}
 use Rattle.jvm_model.specs.RowsCreate.{new_object, is_bare, array_head, new_array, row_create}
-use Rattle.std.proofs.lemmas.Option.{slice_get_within, get_or_from_slice_get}
 use Rattle.jvm_model.proofs.{Places.places_from, Locations.at_make_new, Locations.size_make}
 use Rattle.check_sound.proofs.{KindNames.kind_itself, Arrive.is_body, Onward.grows_make, Onward.ready_grows}
 use Rattle.type_frames.specs.declared.vtype.VType.TheVariants.{Top, Int, Object, Uninit}

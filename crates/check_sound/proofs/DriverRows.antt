@@ -2,8 +2,7 @@
 use Rattle.std.proofs.Common.{◌≡◌, ℕ, ◌-◌, ◌<◌, List, [], ◌∷◌, ◌++◌, length, Bool, true, false, not, ◌&&◌, cond, nat_eq, Option, Some, None, IfSome, IsSome, refl, sym, ◌∙◌, ap, subst, arith}
 use Rattle.std.specs.Prelude.{flat_map}
 use Rattle.std.specs.{List.IsDistinct, Str.bytes_eq}
-use Rattle.std.proofs.lemmas.Bool.{or_left, or_right, eq-eqb}
-use Rattle.std.proofs.lemmas.Option.{same_Some}
+use Rattle.std.proofs.lemmas.{Bool.or_left, Bool.or_right, Bool.eq-eqb, Option.same_Some}
 use Rattle.jvm_model.specs.declared.values.{Value.Value, Kind.Kind, Head.Head, InitState.InitState}
 use Rattle.jvm_model.specs.declared.values.Value.TheVariants as value
 use Rattle.jvm_model.specs.declared.values.InitState.TheVariants.{Idle, Running, Done, Erroneous}
@@ -13,14 +12,13 @@ use Rattle.jvm_model.specs.declared.state.Stage.{Stage}
 use Rattle.jvm_model.specs.declared.state.Stage.TheVariants.{First, Made, Built, SetUp, Called, Last}
 use Rattle.jvm_model.specs.declared.outcome.Verdict.{Verdict}
 use Rattle.jvm_model.specs.declared.program.{Program.Program, TestEntry.TestEntry, Body.Body}
-use Rattle.jvm_model.specs.World.{World, put, make_object}
+use Rattle.jvm_model.specs.{World.World, World.put, World.make_object, Linked.IsClass, Linked.IsMethod, Linked.IsKind, Linked.IsTest}
 use Rattle.jvm_model.specs.Access.{Access, done, read, write, bind}
 use Rattle.jvm_model.specs.Builtin.{throwable_class, message_field, assertion_error, stack_overflow_error, no_class_error, abstract_method_error}
 use Rattle.jvm_model.specs.Classes.{class_at, method_at, is_static, is_below, is_trivial, init_name, upwards, member, blank, instance_head, literal_at}
 use Rattle.jvm_model.specs.{Descriptors.parameters, Kinds.class_of, Lookup.is_method}
 use Rattle.jvm_model.specs.Driver.{no_arguments, set_up_name, tear_down_name, plain_method_in, plain_method_of, driven, drives, once_driven, makes, drive_first, drive_init, drive_method, drive_set_up, drive_tear_down, judged, judged_message, judge, drive_at, drive}
 use Rattle.jvm_model.specs.Entries.{Entry, all_entries, is_full, class_entry, with_entry, frame_of}
-use Rattle.jvm_model.specs.Linked.{IsClass, IsMethod, IsKind, IsTest}
 use Rattle.jvm_model.specs.Rows.{ready, begun, refused, begun_at, begin}
 use Rattle.jvm_model.specs.State.{State, Turn, ended, stuck_turn, no_test, test_at}
 use Rattle.jvm_model.proofs.{Locations.at_put_same, Locations.size_make, Upwards.below_same, Interfaces.member_first}
@@ -30,8 +28,7 @@ use Rattle.type_frames.specs.TypedState.{kind_at, IsInstance, is_class_with, Ref
 use Rattle.et_base.proofs.Texts.{units_true}
 use Rattle.check_sound.proofs.Tree.{IsSpot, typed_done, typed_read, typed_mark, typed_make, typed_spend, Over}
 use Rattle.check_sound.proofs.{Grow.Ranged, Grow.throwable_over, RaiseRows.throwable_instance, Blank.blank_new, Instances.below_is}
-use Rattle.check_sound.proofs.Ready.{TypedEntries, Rest, closed}
-use Rattle.check_sound.proofs.Onward.{grows_make, grows_begin, entries_grow}
+use Rattle.check_sound.proofs.{Ready.TypedEntries, Ready.Rest, Ready.closed, Onward.grows_make, Onward.grows_begin, Onward.entries_grow}
 use Rattle.check_sound.proofs.Thrown.{abstract_thrown, overflow_thrown, no_class_thrown}
 use Rattle.check_sound.proofs.Ends.{Local, TurnsTo, Step, tested, throws-typed, new_kind, stage_over}
 use Rattle.check_sound.proofs.{Arguments.EntersWith, Arguments.entered_frame, CallRows.this_type, CallRows.this_is}

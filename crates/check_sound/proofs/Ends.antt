@@ -23,9 +23,8 @@ use Rattle.jvm_model.proofs.Locations.{at_make_new, size_make}
 use Rattle.type_frames.specs.Typing.{IsTyped}
 use Rattle.type_frames.specs.TypedState.{kind_at, IsTop, IsThrowable, HasObject, HasStage}
 use Rattle.check_sound.proofs.Tree.{Tree, typed_done, typed_read, typed_mark, typed_make, typed_spend, Over}
-use Rattle.check_sound.proofs.Grow.{Ranged, throwable_over, kind_over}
+use Rattle.check_sound.proofs.{Grow.Ranged, Grow.throwable_over, Grow.kind_over, Onward.grows_make, Onward.entries_grow, Onward.begun_typed}
 use Rattle.check_sound.proofs.Ready.{TypedEntries, IsThrown, Ends, Row, Ready, again_typed, raised_typed, any_raised}
-use Rattle.check_sound.proofs.Onward.{grows_make, entries_grow, begun_typed}
 use Rattle.check_sound.proofs.{Thrown.overflow_thrown, Thrown.no_class_thrown, Blank.blank_new}
 
 -- the parts of a typed state beside its world

@@ -7,10 +7,9 @@ use Rattle.jvm_model.specs.Access.{Access, done, read, write, make, spend, run}
 use Rattle.jvm_model.specs.{State.State, Step.step}
 use Rattle.type_frames.specs.{Typing.IsTyped, TypedState.TypedWorld, TypedState.TypedState}
 use Rattle.check_sound.proofs.Tree.{Tree, typed_done, typed_read, typed_write, typed_mark, typed_make, typed_spend, typed_known, Over, Alike}
-use Rattle.check_sound.proofs.Grow.{over_itself, alike_over, alike_back}
+use Rattle.check_sound.proofs.{Grow.over_itself, Grow.alike_over, Grow.alike_back, Ends.TurnsTo}
 use Rattle.check_sound.proofs.WorldKept.{whole, spot_over, fits_alike, put_alike, mark_over, make_over, world_put, world_mark, world_make}
 use Rattle.check_sound.proofs.TreeRuns.{alike_itself, alike_then, mark_alike, make_alike, new_alike, known}
-use Rattle.check_sound.proofs.Ends.{TurnsTo}
 use Rattle.check_sound.proofs.WholeStep.{Groups, over_then, local_of, step-typed}
 
 module _ (p : Program) where

@@ -11,8 +11,7 @@ use Rattle.type_frames.specs.{Frames.same, Environment.Environment, Descriptors.
 use Rattle.type_frames.specs.TypedState.{kind_at, IsInRange, IsInstance, RefersTo, HasType, HaveTypes, HasOnTop, HaveStackTypes}
 use Rattle.type_frames.proofs.AssignLaws.{assignable_trans}
 use Rattle.et_base.proofs.Texts.{units_true}
-use Rattle.check_sound.proofs.Tree.{Over}
-use Rattle.check_sound.proofs.Grow.{Ranged, types_over, stack_over, ranged_over}
+use Rattle.check_sound.proofs.{Tree.Over, Grow.Ranged, Grow.types_over, Grow.stack_over, Grow.ranged_over}
 
 -- the value has the type
 pub record Is (p : Program) (w : World) (e : Environment) (t : VType) (v : Value) : Type 0 where

@@ -11,14 +11,12 @@ use Rattle.jvm_model.specs.declared.values.Location.TheVariants as place
 use Rattle.jvm_model.specs.declared.state.{EntryKind.EntryKind, EntryKind.TheVariants.Absent, EntryKind.TheVariants.InMethod, EntryKind.TheVariants.InClass}
 use Rattle.jvm_model.specs.declared.program.{Program.Program, ClassRec.ClassRec, Body.Body}
 use Rattle.jvm_model.specs.World.{World, size, at, put, make_object}
-use Rattle.jvm_model.specs.Builtin.{throwable_class, initializer_error, error_class}
+use Rattle.jvm_model.specs.{Builtin.throwable_class, Builtin.initializer_error, Builtin.error_class, Linked.Linked, Linked.IsClass, Linked.IsInitialiser}
 use Rattle.jvm_model.specs.Classes.{no_class, class_at, method_at, is_interface, is_below, is_trivial, declares_start, default_interfaces, own_interfaces, first_mentions, is_default_method, lineage_in, class_bound, upwards, member, blank, instance_head}
 use Rattle.jvm_model.specs.{Descriptors.parameters, Kinds.class_of, Rows.answer}
 use Rattle.jvm_model.specs.Entries.{Entry, Entries, all_entries, is_full, entry_limit, popped_entry, entries_of, class_entry, with_entry, frame_of}
 use Rattle.jvm_model.specs.Initialise.{Part, parts_of, superclass_part, with_entered, starts_body, starts, looked_at, looks, left_at, finished, finishing, row_finish, fails, fails_anew, was_entered, row_fail}
-use Rattle.jvm_model.specs.Linked.{Linked, IsClass, IsInitialiser}
-use Rattle.jvm_model.proofs.Locations.{same_false, at_put_same, at_put_other, size_make}
-use Rattle.jvm_model.proofs.Upwards.{upwards_root}
+use Rattle.jvm_model.proofs.{Locations.same_false, Locations.at_put_same, Locations.at_put_other, Locations.size_make, Upwards.upwards_root}
 use Rattle.type_frames.specs.declared.vtype.{VType.VType, VType.TheVariants.Object, VType.TheVariants.UninitThis}
 use Rattle.type_frames.specs.{Frames.spread, Descriptors.types_of, Descriptors.name_of, Given.is_constructor, Given.entry_types, Typing.IsTyped}
 use Rattle.type_frames.specs.TypedState.{kind_at, HaveTypes, Initialises, IsTop, IsBelow, AllBelow, class_begun, IsThrowable}
@@ -27,8 +25,7 @@ use Rattle.check_sound.proofs.{Grow.throwable_over, WorldKept.mark_over, Operand
 use Rattle.check_sound.proofs.Ready.{TypedEntries, stub, Rest, IsEntry, Opened, opened, closed, below_same, Ends, Quiet, Row}
 use Rattle.check_sound.proofs.Onward.{StayRunning, rest_kept, grows_begin, grows_make, entries_grow, running_in, differs, not_full}
 use Rattle.check_sound.proofs.Thrown.{overflow_thrown, no_class_thrown, initializer_thrown}
-use Rattle.check_sound.proofs.RaiseRows.{beneath, none_typed, raised_below}
-use Rattle.check_sound.proofs.Arguments.{EntersWith, entered_frame}
+use Rattle.check_sound.proofs.{RaiseRows.beneath, RaiseRows.none_typed, RaiseRows.raised_below, Arguments.EntersWith, Arguments.entered_frame}
 
 -- ---- a class that isn't trivial is one
 

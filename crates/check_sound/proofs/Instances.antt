@@ -5,9 +5,8 @@ use Rattle.std.proofs.lemmas.Bool.{cases_lt, or_cases, or_left, or_right, eqb-tr
 use Rattle.jvm_model.specs.declared.values.{Kind.Kind, Base.Base}
 use Rattle.jvm_model.specs.declared.values.Kind.TheVariants as kind
 use Rattle.jvm_model.specs.declared.program.{Program.Program, ClassRec.ClassRec}
-use Rattle.jvm_model.specs.Builtin.{object_class}
+use Rattle.jvm_model.specs.{Builtin.object_class, Linked.Linked, Linked.IsClass, Linked.IsKind, Linked.is_interface_at}
 use Rattle.jvm_model.specs.Classes.{class_at, is_below, is_interface, member, no_class, upwards}
-use Rattle.jvm_model.specs.Linked.{Linked, IsClass, IsKind, is_interface_at}
 use Rattle.jvm_model.proofs.Upwards.{below_same, upwards_root, upwards_step}
 use Rattle.et_base.specs.Names.{is_class_name, is_class_entry_name, starts_array, is_field_descriptor}
 use Rattle.type_frames.specs.declared.vtype.VType.TheVariants.{Object}

@@ -8,15 +8,13 @@ use Rattle.jvm_model.specs.declared.values.{Base.Base, Kind.Kind}
 use Rattle.jvm_model.specs.declared.values.Base.TheVariants as base
 use Rattle.jvm_model.specs.declared.values.Kind.TheVariants as kind
 use Rattle.jvm_model.specs.declared.program.Program.{Program}
-use Rattle.jvm_model.specs.Builtin.{object_class}
+use Rattle.jvm_model.specs.{Builtin.object_class, Kinds.class_fits, Kinds.base_fits, Kinds.is_object, Kinds.kind_fits}
 use Rattle.jvm_model.specs.Classes.{is_below, implements, upwards, own_interfaces, member}
-use Rattle.jvm_model.specs.Kinds.{class_fits, base_fits, is_object, kind_fits}
 use Rattle.jvm_model.specs.Linked.{Linked, IsClass, IsKind, IsBase, is_interface_at}
 use Rattle.jvm_model.proofs.{Upwards.below_same, Interfaces.member-flat_map}
 use Rattle.type_frames.specs.Descriptors.{class_name, name_of, kind_name, base_text}
-use Rattle.type_frames.specs.Assign.{takes_any, element_fits, object_fits}
+use Rattle.type_frames.specs.{Assign.takes_any, Assign.element_fits, Assign.object_fits, TypedState.IsInstance}
 use Rattle.type_frames.specs.Assign as named
-use Rattle.type_frames.specs.TypedState.{IsInstance}
 use Rattle.check_sound.proofs.Instances.{takes_all, below_instance, plain_name, plain_fits, named_any}
 use Rattle.check_sound.proofs.SelectLaws.{any_some, own}
 

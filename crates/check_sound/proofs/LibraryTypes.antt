@@ -17,8 +17,7 @@ use Rattle.jvm_model.specs.Library.{builtin_defs, builtin_classes, builtin_field
 use Rattle.jvm_model.specs.Classes.{no_class, no_method, class_at, field_at, method_at, is_below, is_static, is_interface, member, upwards, plain_fields, layout_in, layout}
 use Rattle.jvm_model.specs.Linked.{Linked, IsClass, IsKind}
 use Rattle.jvm_model.specs.Natives.{NativeGroup, of_object, of_string, of_builder, of_system, of_stream, of_files, of_env, of_throwable, native_group}
-use Rattle.jvm_model.proofs.BuiltinRules.{builtin_class, builtin_field, class_keeps, method_keeps}
-use Rattle.jvm_model.proofs.Upwards.{below_same}
+use Rattle.jvm_model.proofs.{BuiltinRules.builtin_class, BuiltinRules.builtin_field, BuiltinRules.class_keeps, BuiltinRules.method_keeps, Upwards.below_same}
 use Rattle.type_frames.specs.declared.vtype.{VType.VType, VType.TheVariants.Int, VType.TheVariants.Long, VType.TheVariants.Object}
 use Rattle.type_frames.specs.{Frames.same, Assign.assignable}
 use Rattle.type_frames.specs.Descriptors.{types_of, name_of, kind_name}

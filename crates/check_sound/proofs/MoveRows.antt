@@ -2,7 +2,7 @@
 use Rattle.std.proofs.Common.{◌≡◌, ℕ, zero, suc, ◌+◌, ◌<◌, List, [], ◌∷◌, ◌++◌, length, Bool, true, false, ◌&&◌, cond, nat_eq, nat_lt, Option, Some, slice_get, slice_set, set, refl, sym, ◌∙◌, ap, subst, arith, inl, inr, append-nil}
 use Rattle.std.specs.Prelude.{slice_index_or}
 use Rattle.std.proofs.lemmas.Bool.{and_parts, cases_Bool, eqb-true, ltb-true, lt-ltb}
-use Rattle.jvm_model.specs.Builtin.{null_pointer_exception, string_class, stream_class}
+use Rattle.jvm_model.specs.{Builtin.null_pointer_exception, Builtin.string_class, Builtin.stream_class, Step.group_of, Step.moves}
 use Rattle.jvm_model.specs.{Classes.method_at, Linked.Linked, Linked.IsLiteral, Rows.goes_on, World.World, Entries.Entries, Entries.with_stack}
 use Rattle.jvm_model.specs.declared.values.Kind.TheVariants as kind
 use Rattle.jvm_model.specs.declared.instr.{Sort.Sort, Instr.Instr}
@@ -16,7 +16,6 @@ use Rattle.jvm_model.specs.declared.values.Value.TheVariants as value
 use Rattle.jvm_model.specs.declared.instr.Instr.TheVariants as form
 use Rattle.jvm_model.specs.declared.instr.Sort.TheVariants as sort
 use Rattle.jvm_model.specs.declared.program.Program.{Program}
-use Rattle.jvm_model.specs.Step.{group_of, moves}
 use Rattle.jvm_model.specs.RowsMoves.{row_moves, is_long, loaded, stored}
 use Rattle.type_frames.specs.declared.stack_effect.OperandConstraint.TheVariants.{Fits, One, Half, Ref}
 use Rattle.type_frames.specs.declared.vtype.VType.{VType}

@@ -12,10 +12,9 @@ use Rattle.jvm_model.specs.declared.library.Native.{Native}
 use Rattle.jvm_model.specs.declared.library.Native.TheVariants as native
 use Rattle.jvm_model.specs.declared.outcome.{Own.Own, Next.TheVariants.Go, Next.TheVariants.Fault}
 use Rattle.jvm_model.specs.declared.program.Program.{Program}
-use Rattle.jvm_model.specs.World.{World, size, make_object}
+use Rattle.jvm_model.specs.{World.World, World.size, World.make_object, Classes.blank, Classes.instance_head, Classes.method_at}
 use Rattle.jvm_model.specs.{Access.Access, Access.bind, Entries.Entries, Entries.with_stack, Kinds.class_of, State.State, Step.after_native}
 use Rattle.jvm_model.specs.Builtin.{string_class, builder_class, throwable_class, message_field, null_pointer_exception, string_index_exception}
-use Rattle.jvm_model.specs.Classes.{blank, instance_head, method_at}
 use Rattle.jvm_model.specs.Rows.{Answer, answer, popping, on_int, on_long, on_object, on_text, constant_kind}
 use Rattle.jvm_model.specs.Working.{Working, operands, with_operands, makes_text, answers_text, answers_found, prints, char_of, boolean_text}
 use Rattle.jvm_model.specs.NativesObject.{native_object, sets_message, makes_message, keeps_string, keeps_object, native_throwable}

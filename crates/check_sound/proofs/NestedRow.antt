@@ -7,9 +7,8 @@ use Rattle.jvm_model.specs.declared.values.Location.TheVariants as place
 use Rattle.jvm_model.specs.declared.instr.Instr.{Instr}
 use Rattle.jvm_model.specs.declared.instr.Instr.TheVariants as form
 use Rattle.jvm_model.specs.declared.program.Program.{Program}
-use Rattle.jvm_model.specs.World.{World, size, make_object}
+use Rattle.jvm_model.specs.{World.World, World.size, World.make_object, Linked.IsKind, Linked.IsArray, Linked.dims_of}
 use Rattle.jvm_model.specs.{World.Object as Made, Access.Access, Builtin.negative_size_exception, Classes.blank, Entries.Entries, Kinds.element_kind}
-use Rattle.jvm_model.specs.Linked.{IsKind, IsArray, dims_of}
 use Rattle.jvm_model.specs.{Rows.Answer, Step.group_of, Step.create as of_create}
 use Rattle.jvm_model.specs.RowsCreate.{array_head, children, nest, nested, sized, row_create}
 use Rattle.jvm_model.proofs.Locations.{at_make_new, size_make}

@@ -15,8 +15,7 @@ use Rattle.type_frames.specs.declared.stack_effect.OperandConstraint.{OperandCon
 use Rattle.type_frames.specs.declared.stack_effect.OperandConstraint.TheVariants.{Fits, One, Half, Ref, Raw, Small, Array, Never}
 use Rattle.type_frames.specs.{Environment.Environment, Rules.meets, Rules.meet_all}
 use Rattle.type_frames.specs.TypedState.{kind_at, IsInstance, RefersTo, HaveStackTypes}
-use Rattle.check_sound.proofs.Tree.{head_at, Tree, typed_done, typed_read}
-use Rattle.check_sound.proofs.Held.{Is, Held, IsShort, is_fits}
+use Rattle.check_sound.proofs.{Tree.head_at, Tree.Tree, Tree.typed_done, Tree.typed_read, Held.Is, Held.Held, Held.IsShort, Held.is_fits}
 
 -- The needs that are still to be met, the types that are still there, what is left of them in the end, and the operands.
 pub record Operands (p : Program) (w : World) (e : Environment) (ns : List OperandConstraint) (ts rest : List VType) (vs : List Value) : Type 0 where

@@ -15,9 +15,8 @@ use Rattle.jvm_model.specs.Classes.{class_at, method_at, is_private, is_static, 
 use Rattle.jvm_model.specs.RowsCalls.{enters_body, enters_native, calls, calls_selected, argument_count, on_receiver, receiver, call_special, row_calls}
 use Rattle.jvm_model.specs.Selection.{Selected, chosen, failing, is_like, is_open_like, declared_in, all_interfaces, candidates, kept_of, redeclares, has_code, one_with_code, kept_method, or_kept, select, select_virtual, select_interface, select_special, named_class, special_start, special_path}
 use Rattle.jvm_model.proofs.Interfaces.{member_first}
-use Rattle.check_sound.proofs.SelectLaws.{found, filtered}
+use Rattle.check_sound.proofs.{SelectLaws.found, SelectLaws.filtered, Light.native_trivial, Light.light, Light.null_light}
 use Rattle.check_sound.proofs.Paced.{Limits, either, paced_done, paced_spend, IsLight, LeavesFor, PacedRow, on_reference-paced, with_kind-paced}
-use Rattle.check_sound.proofs.Light.{native_trivial, light, null_light}
 use Rattle.check_sound.proofs.PacedRows.{none, one, NamesAllowed, using-paced}
 
 -- the method is private, or not static

@@ -13,10 +13,9 @@ use Rattle.jvm_model.specs.Access.{Access, done, read, write, bind}
 use Rattle.jvm_model.specs.Builtin.{abstract_method_error, no_class_error, stack_overflow_error}
 use Rattle.jvm_model.specs.Classes.{class_at, method_at, is_static, is_trivial, upwards, init_name}
 use Rattle.jvm_model.specs.Driver.{set_up_name, tear_down_name, plain_method_in, plain_method_of, driven, drives, once_driven, makes, drive_first, drive_init, drive_method, drive_set_up, judged_message, judged_value, judge, drive_tear_down, drive_at, drive}
-use Rattle.jvm_model.specs.Entries.{is_full, with_entry, class_entry}
+use Rattle.jvm_model.specs.{Entries.is_full, Entries.with_entry, Entries.class_entry, State.State, State.Turn, State.stuck_turn, State.test_at}
 use Rattle.jvm_model.specs.{Kinds.class_of, Linked.Linked, Natives.native_group, Natives.row_native, Step.after_native, Throwing.throws, Working.Working}
 use Rattle.jvm_model.specs.Rows.{Answer, answer, stuck_row, ready, begun, refused, begun_at, begin}
-use Rattle.jvm_model.specs.State.{State, Turn, stuck_turn, test_at}
 use Rattle.check_sound.specs.PaceLaw.{first_class}
 use Rattle.check_sound.proofs.Paced.{Limits, Paced, paced_done, paced_read, paced_write, paced_make, paced_spend, IsLight, Pays, paced_bind}
 use Rattle.check_sound.proofs.{Light.instance_cells, Light.light, PacedNatives.allowance, PacedNatives.native-paced}

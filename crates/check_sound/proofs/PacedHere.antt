@@ -11,9 +11,8 @@ use Rattle.jvm_model.specs.Linked.{Linked, NamesForm, NamesBody, IsForm, IsBody}
 use Rattle.jvm_model.specs.Step.{Group, moves, arith as of_arith, branches, statics, fields, create, arrays, casts, calls, returns, throw, group_of, row_of, row, row_or_none, row_here}
 use Rattle.check_sound.specs.PaceLaw.{array_sum, sum_of, sum_here}
 use Rattle.check_sound.proofs.{Arrive.has_number, PacedCalls.calls-row}
-use Rattle.check_sound.proofs.Paced.{Limits, paced_done, CutRow}
+use Rattle.check_sound.proofs.{Paced.Limits, Paced.paced_done, Paced.CutRow, PacedCreate.HasDims, PacedCreate.cut, PacedCreate.create-paced}
 use Rattle.check_sound.proofs.PacedRows.{none, NamesAllowed, moves-paced, arith-paced, branches-paced, statics-paced, fields-paced, arrays-paced, casts-paced, returns-paced, throw-paced}
-use Rattle.check_sound.proofs.PacedCreate.{HasDims, cut, create-paced}
 
 abbrev form_of : Option Found → Option Instr
 form_of o = elim o [ None ↦ None | Some x ↦ Some x.form ]

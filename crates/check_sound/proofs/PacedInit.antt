@@ -14,8 +14,7 @@ use Rattle.jvm_model.specs.Entries.{Entries, is_full, popped_entry}
 use Rattle.jvm_model.specs.Initialise.{Part, superclass_part, parts_of, starts_body, starts, looked_at, looks, left_at, finishing, row_finish, fails, fails_anew, was_entered, row_fail}
 use Rattle.jvm_model.proofs.Interfaces.{member_first}
 use Rattle.check_sound.proofs.Paced.{Limits, either, paced_done, paced_read, paced_write, paced_make, paced_spend, PaysBy, PacedRow, on_object-paced}
-use Rattle.check_sound.proofs.Light.{instance_cells, light, null_light}
-use Rattle.check_sound.proofs.PacedRows.{none, one, two}
+use Rattle.check_sound.proofs.{Light.instance_cells, Light.light, Light.null_light, PacedRows.none, PacedRows.one, PacedRows.two}
 
 no_record : (cs : List ClassRec) (c : ℕ) → length cs ≤ c → (get_or cs c no_class).initialiser ≡ None
 no_record [] c h = refl

@@ -12,20 +12,17 @@ use Rattle.jvm_model.specs.declared.state.Stage.TheVariants.{First, Made, Built,
 use Rattle.jvm_model.specs.declared.state.EntryKind.TheVariants.{Absent, InMethod, InClass}
 use Rattle.jvm_model.specs.declared.program.{Program.Program, MethodRec.MethodRec}
 use Rattle.jvm_model.specs.{World.World, Entries.Entries, Initialise.row_finish, Initialise.row_fail, Library.builtin_defs, Library.builtin_methods}
-use Rattle.jvm_model.specs.Access.{Access, bind, run}
+use Rattle.jvm_model.specs.{Access.Access, Access.bind, Access.run, Natives.NativeGroup, Natives.of_object, Natives.native_group}
 use Rattle.jvm_model.specs.Classes.{method_at, field_at, form_at, is_private, is_static}
 use Rattle.jvm_model.specs.{Linked.Linked, Raising.row_raise}
-use Rattle.jvm_model.specs.Natives.{NativeGroup, of_object, native_group}
-use Rattle.jvm_model.specs.Rows.{Answer, answer, stuck_row}
-use Rattle.jvm_model.specs.State.{State, Turn, with_entries}
+use Rattle.jvm_model.specs.{Rows.Answer, Rows.answer, Rows.stuck_row, State.State, State.Turn, State.with_entries}
 use Rattle.jvm_model.specs.Step.{after_row, entered, row_here, acts, step, cost, touch}
 use Rattle.jvm_model.proofs.BuiltinRules.{method_keeps}
 use Rattle.check_sound.specs.PaceLaw.{sum_here, IsRunning, IsPriced, PutsHere, Writes, IsSameStatic, GetsHere, used_of, first_class, MetByEntry, MetBy, StateHere, Meets}
 use Rattle.check_sound.proofs.{LibraryTypes.is_in_table, PacedRows.NamesAllowed, PacedRows.raise-paced, PacedCreate.cut, PacedNatives.allowance}
 use Rattle.check_sound.proofs.Paced.{Limits, Paced, paced_done, paced_spend, Bounded, LeavesFor, Cut, CutRow, paced_map, paced_bind, paced_touches, paced_writes, paced_touched, paced_statics}
-use Rattle.check_sound.proofs.PacedInit.{EntryAllowed, finish-paced, fail-paced}
+use Rattle.check_sound.proofs.{PacedInit.EntryAllowed, PacedInit.finish-paced, PacedInit.fail-paced, PacedHere.here-paced}
 use Rattle.check_sound.proofs.PacedDriver.{PacedStep, StageAllowed, throws-paced, native-step-paced, drive-paced}
-use Rattle.check_sound.proofs.PacedHere.{here-paced}
 
 -- ---- a built-in method with four touches is static, and not private
 

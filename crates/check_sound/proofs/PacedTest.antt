@@ -5,14 +5,12 @@ use Rattle.jvm_model.specs.declared.state.EntryKind.TheVariants.{Absent, InMetho
 use Rattle.jvm_model.specs.declared.program.Program.{Program}
 use Rattle.jvm_model.specs.declared.values.Location.TheVariants as place
 use Rattle.jvm_model.specs.{World.World, World.at, Linked.Linked}
-use Rattle.jvm_model.specs.Access.{Ran, done, run}
+use Rattle.jvm_model.specs.{Access.Ran, Access.done, Access.run, Step.step, Step.cost, Step.touch}
 use Rattle.jvm_model.specs.State.{State, Turn, next, ended, stuck_turn, started}
-use Rattle.jvm_model.specs.Step.{step, cost, touch}
 use Rattle.jvm_model.specs.Suite.{End, finished, stuck, out_of_steps, after_step, whole, tree, Given, one_test}
 use Rattle.jvm_model.proofs.{Binds.run_bind, Budgets.step_costs}
 use Rattle.check_sound.specs.PaceLaw.{IsRunning, IsPut, WriteOf, Writes, IsSameStatic}
-use Rattle.check_sound.proofs.PacedStep.{step_bounded, paced, statics_of}
-use Rattle.check_sound.proofs.WholeTest.{given_by}
+use Rattle.check_sound.proofs.{PacedStep.step_bounded, PacedStep.paced, PacedStep.statics_of, WholeTest.given_by}
 
 module _ (p : Program) (lk : Linked p) where
   -- what the steps from a world on did; their units are few where no cost was cut

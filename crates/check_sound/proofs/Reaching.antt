@@ -12,10 +12,8 @@ use Rattle.jvm_model.specs.declared.library.Native.TheVariants as native
 use Rattle.jvm_model.specs.declared.outcome.Next.TheVariants.{Enter}
 use Rattle.jvm_model.specs.declared.program.{Program.Program, Body.Body}
 use Rattle.jvm_model.specs.{World.World, Access.run, Descriptors.return_type, Rows.Answer, Rows.answer, Step.row_here, Step.turn}
-use Rattle.jvm_model.specs.Classes.{method_at, field_at, form_at}
-use Rattle.jvm_model.specs.Entries.{Entry, Entries, popped_entry, entries_of}
-use Rattle.jvm_model.specs.Reached.{Reaches, begins, steps}
-use Rattle.jvm_model.specs.State.{State, Turn, next}
+use Rattle.jvm_model.specs.{Classes.method_at, Classes.field_at, Classes.form_at, Entries.Entry, Entries.Entries, Entries.popped_entry, Entries.entries_of}
+use Rattle.jvm_model.specs.{Reached.Reaches, Reached.begins, Reached.steps, State.State, State.Turn, State.next}
 use Rattle.type_frames.specs.declared.vtype.{VType.VType, VType.TheVariants.Top, VType.TheVariants.Int, VType.TheVariants.Long, VType.TheVariants.Object}
 use Rattle.type_frames.specs.declared.stack_effect.{StackEffect.StackEffect, OperandConstraint.TheVariants.One}
 use Rattle.std.specs.Prelude.{slice_index_or}
@@ -24,8 +22,7 @@ use Rattle.type_frames.specs.{Frames.Slots, Frames.same, Environment.Environment
 use Rattle.type_frames.specs.StackEffect.{sides, two, long_need, const_type}
 use Rattle.type_frames.specs.TypedState.{TypedWorld, TypedState, IsBelow}
 use Rattle.type_frames.proofs.Started.{started_law}
-use Rattle.check_sound.specs.StepLaw.{StaysTyped}
-use Rattle.check_sound.specs.ReachLaw.{most_operands, HasStackLimits, puts, native_puts}
+use Rattle.check_sound.specs.{StepLaw.StaysTyped, ReachLaw.most_operands, ReachLaw.HasStackLimits, ReachLaw.puts, ReachLaw.native_puts}
 use Rattle.check_sound.proofs.{TreeRuns.alike_itself, TreeRuns.tree_leaves, CallEffects.values_few, CallEffects.on_stack_length, RaiseRows.beneath}
 use Rattle.check_sound.proofs.Ready.{TypedEntries, stub, Rest, Takes, NativeCall, Enters, Ends, Ready, ready, here, sides_at, names_form}
 use Rattle.check_sound.proofs.ReturnRows.{SortOf, sort_of, back_room}

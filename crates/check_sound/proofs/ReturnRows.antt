@@ -10,21 +10,17 @@ use Rattle.jvm_model.specs.declared.instr.{Instr.Instr, Sort.Sort}
 use Rattle.jvm_model.specs.declared.instr.Instr.TheVariants as form
 use Rattle.jvm_model.specs.declared.instr.Sort.TheVariants as sort
 use Rattle.jvm_model.specs.{World.World, Classes.method_at, Classes.next_place, Descriptors.return_type, Narrow.narrowed, Rows.goes_on}
-use Rattle.jvm_model.specs.Entries.{Entry, Entries, entries_of}
-use Rattle.jvm_model.specs.Linked.{IsClass, IsMethod, NamesForm, NamesBody}
-use Rattle.jvm_model.specs.RowsReturn.{handed_on, hands_on, row_return}
-use Rattle.jvm_model.specs.Step.{group_of, returns}
+use Rattle.jvm_model.specs.{Entries.Entry, Entries.Entries, Entries.entries_of, Linked.IsClass, Linked.IsMethod, Linked.NamesForm, Linked.NamesBody}
+use Rattle.jvm_model.specs.{RowsReturn.handed_on, RowsReturn.hands_on, RowsReturn.row_return, Step.group_of, Step.returns}
 use Rattle.jvm_model.proofs.Ranges.{all_there}
 use Rattle.type_frames.specs.declared.vtype.{VType.VType, VType.TheVariants.Int, VType.TheVariants.Long, VType.TheVariants.Object}
 use Rattle.type_frames.specs.{Descriptors.types_of, Environment.Environment, Environment.environment_of, Rules.turned, Typing.IsTyped}
 use Rattle.type_frames.specs.StackEffect.{sides, on_stack, result_types, return_typed}
 use Rattle.type_frames.specs.TypedState.{IsInRange, Waits, IsTop, IsBelow, called_by}
-use Rattle.check_sound.proofs.Held.{Is, Locals, Held}
-use Rattle.check_sound.proofs.Operands.{Operands, popping-fits, popping-long}
-use Rattle.check_sound.proofs.Arrive.{has_number, kept_at, arrived_next}
+use Rattle.check_sound.proofs.{Held.Is, Held.Locals, Held.Held, Operands.Operands, Operands.popping-fits, Operands.popping-long}
+use Rattle.check_sound.proofs.{Arrive.has_number, Arrive.kept_at, Arrive.arrived_next, RaiseRows.Beneath, RaiseRows.beneath, RaiseRows.none_typed}
 use Rattle.check_sound.proofs.Ready.{TypedEntries, stub, Rest, IsEntry, closed, HasPlain, Ends, Row, Ready, here, rest, operands}
 use Rattle.check_sound.proofs.CallEffects.{values_few, on_stack_length, call_of, Result, narrowed_plain, narrowed_range, push}
-use Rattle.check_sound.proofs.RaiseRows.{Beneath, beneath, none_typed}
 
 -- what a return of this sort says of the result
 abbrev pub SortOf : List VType → Option Sort → Type 0

@@ -2,8 +2,7 @@
 -- its class. Where none is selected, a throwable is thrown.
 use Rattle.std.proofs.Common.{◌≡◌, ℕ, zero, suc, ◌≤◌, List, [], ◌∷◌, ◌++◌, length, get_or, filter, Bool, true, false, not, ◌&&◌, ◌||◌, cond, nat_eq, Option, Some, None, refl, sym, ◌∙◌, subst, arith, inl, inr, All}
 use Rattle.std.specs.Prelude.{flat_map}
-use Rattle.std.specs.List.{find, list_any, list_all}
-use Rattle.std.specs.Str.{bytes_eq}
+use Rattle.std.specs.{List.find, List.list_any, List.list_all, Str.bytes_eq}
 use Rattle.std.proofs.lemmas.Bool.{cases_lt, and_parts, or_cases, or_left, or_right, eqb-true, eq-eqb, not-true}
 use Rattle.jvm_model.specs.declared.values.Kind.{Kind}
 use Rattle.jvm_model.specs.declared.values.Kind.TheVariants as kind
@@ -21,8 +20,7 @@ use Rattle.type_frames.specs.declared.vtype.VType.TheVariants.{Object}
 use Rattle.type_frames.specs.{Descriptors.name_of, Descriptors.kind_name, Assign.assignable, TypedState.IsInstance}
 use Rattle.et_base.proofs.Texts.{units_true}
 use Rattle.type_frames.proofs.AssignLaws.{assignable_trans}
-use Rattle.check_sound.proofs.Ready.{IsThrown}
-use Rattle.check_sound.proofs.Thrown.{builtin_is, abstract_thrown, class_change_thrown}
+use Rattle.check_sound.proofs.{Ready.IsThrown, Thrown.builtin_is, Thrown.abstract_thrown, Thrown.class_change_thrown}
 use Rattle.check_sound.proofs.Instances.{takes_all, instance_itself, below_instance}
 
 -- a method that may run where the method m is called on an instance

@@ -8,21 +8,17 @@ use Rattle.jvm_model.specs.declared.instr.Instr.TheVariants as form
 use Rattle.jvm_model.specs.declared.library.Native.{Native}
 use Rattle.jvm_model.specs.declared.outcome.Next.TheVariants as after
 use Rattle.jvm_model.specs.declared.program.Program.{Program}
-use Rattle.jvm_model.specs.World.{World, size, put, make_object}
+use Rattle.jvm_model.specs.{World.World, World.size, World.put, World.make_object, Rows.Answer, Rows.answer, Rows.stuck_row, View.IsSafe, View.IsTurn}
 use Rattle.jvm_model.specs.Access.{Access, done, read, write, make, spend, bind, run}
 use Rattle.jvm_model.specs.{Classes.method_at, Entries.Entries, Natives.row_native, Driver.drive, RowsStatics.row_statics, RowsFields.row_fields}
-use Rattle.jvm_model.specs.Rows.{Answer, answer, stuck_row}
 use Rattle.jvm_model.specs.{RowsCreate.row_create, RowsArrays.row_arrays, RowsCasts.row_casts, Raising.row_raise, Initialise.row_finish, Initialise.row_fail}
 use Rattle.jvm_model.specs.State.{State, Turn, next, ended, stuck_turn, test_at, with_entries}
 use Rattle.jvm_model.specs.Step.{Group, moves, arith as of_arith, branches, statics, fields, create, arrays, casts, calls, returns, throw, group_of, row_throw, row_of, row, after_native, entered, after_row, row_or_none, row_here, acts, step}
-use Rattle.jvm_model.specs.View.{IsSafe, IsTurn}
-use Rattle.type_frames.specs.Typing.{IsTyped}
-use Rattle.type_frames.specs.TypedState.{TypedWorld, TypedState, IsThrowable}
+use Rattle.type_frames.specs.{Typing.IsTyped, TypedState.TypedWorld, TypedState.TypedState, TypedState.IsThrowable}
 use Rattle.check_sound.specs.StepLaw.{StaysTyped}
 use Rattle.check_sound.proofs.Tree.{Tree, typed_done, typed_read, typed_write, typed_mark, typed_make, typed_spend, typed_known, Over, Alike}
-use Rattle.check_sound.proofs.Grow.{over_itself, alike_over, throwable_over}
+use Rattle.check_sound.proofs.{Grow.over_itself, Grow.alike_over, Grow.throwable_over, TreeRuns.alike_itself, TreeRuns.tree_safe, TreeRuns.tree_leaves}
 use Rattle.check_sound.proofs.{WorldKept.mark_over, WorldKept.make_over, Onward.grows_alike, Onward.entries_grow, MoveRows.moves-typed, ArithRows.arith-typed}
-use Rattle.check_sound.proofs.TreeRuns.{alike_itself, tree_safe, tree_leaves}
 use Rattle.check_sound.proofs.Ready.{TypedEntries, NativeCall, Enters, Ends, Quiet, Row, Ready, ready}
 use Rattle.check_sound.proofs.Ends.{Local, TurnsTo, Step, Tested, tested, tested_over, stage_over, raise_typed, goes_typed, throws-typed}
 use Rattle.check_sound.proofs.{BranchRows.branches-typed, CallRows.calls-typed, ReturnRows.returns-typed, RaiseRows.raise-typed}

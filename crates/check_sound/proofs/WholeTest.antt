@@ -19,8 +19,7 @@ use Rattle.jvm_model.specs.State.{State, Turn, next, ended, stuck_turn, started,
 use Rattle.jvm_model.specs.Suite.{End, finished, stuck, out_of_steps, after_step, whole, tree, opening, Given, given_at, one_test, with_first, runs_on}
 use Rattle.jvm_model.proofs.BuiltinRules.{builtin_class}
 use Rattle.type_frames.specs.declared.vtype.{VType.VType, VType.TheVariants.Object}
-use Rattle.type_frames.specs.Descriptors.{types_of, class_name, is_float, name_of}
-use Rattle.type_frames.specs.Typing.{IsTyped}
+use Rattle.type_frames.specs.{Descriptors.types_of, Descriptors.class_name, Descriptors.is_float, Descriptors.name_of, Typing.IsTyped}
 use Rattle.type_frames.specs.TypedState.{TypedWorld, IsInstance, IsReferenceOf, IsDeclared}
 use Rattle.type_frames.proofs.Started.{started_law}
 use Rattle.et_base.proofs.Texts.{units_true}

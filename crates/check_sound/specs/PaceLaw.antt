@@ -9,9 +9,7 @@ use Rattle.jvm_model.specs.declared.state.Stage.TheVariants.{First}
 use Rattle.jvm_model.specs.declared.program.Program.{Program}
 use Rattle.jvm_model.specs.{World.World, World.at, Access.write_of, Access.run, Entries.Entries, Initialise.parts_of, Linked.Linked, RowsCreate.nest_sum}
 use Rattle.jvm_model.specs.Classes.{field_at, form_at, is_static, member, method_at}
-use Rattle.jvm_model.specs.State.{State, test_at}
-use Rattle.jvm_model.specs.Step.{step, cost, touch}
-use Rattle.jvm_model.specs.Suite.{tree, Given, one_test}
+use Rattle.jvm_model.specs.{State.State, State.test_at, Step.step, Step.cost, Step.touch, Suite.tree, Suite.Given, Suite.one_test}
 
 -- ---- what a multianewarray costs
 

@@ -15,8 +15,7 @@
 
 ghost use Rattle.check_sound.specs.PaceLaw.{PaceLaw, StaticsLaw, TouchesLaw, TestPaceLaw, GivenPaceLaw, TestStaticsLaw};
 ghost use Rattle.check_sound.specs.ReachLaw.{ReachedLaw, AloneLaw, RoomLaw, ReturnLaw, NativeLaw};
-ghost use Rattle.check_sound.specs.StepLaw.{StepLaw, HeadsLaw};
-ghost use Rattle.check_sound.specs.TestLaw.{TestLaw, OpeningLaw, LeftLaw, ListLaw};
+ghost use Rattle.check_sound.specs.{StepLaw.StepLaw, StepLaw.HeadsLaw, TestLaw.TestLaw, TestLaw.OpeningLaw, TestLaw.LeftLaw, TestLaw.ListLaw};
 
 /// What a step of a typed state of a typed program does: it reads and writes only what is there, it has a row, and
 /// it leaves a typed state, or a typed world where it ends the test; and it writes the head of no object that stands.

@@ -4,8 +4,7 @@ use Rattle.std.proofs.lemmas.{Bool.cases_lt, Option.slice_get_within, Option.get
 use Rattle.std.proofs.lemmas.List.{length-append, take_at, get_or-append-add}
 use Rattle.class_reader.specs.declared.parts.{ClassParts.ClassParts, MemberPart.MemberPart, CodePart.CodePart}
 use Rattle.jvm_model.specs.declared.program.{Program.Program, Body.Body, TestEntry.TestEntry, FieldRec.FieldRec, MethodRec.MethodRec}
-use Rattle.jvm_model.specs.Builtin.{builtin_count}
-use Rattle.jvm_model.specs.Library.{builtin_classes, builtin_fields, builtin_methods}
+use Rattle.jvm_model.specs.{Builtin.builtin_count, Library.builtin_classes, Library.builtin_fields, Library.builtin_methods}
 use Rattle.jvm_model.specs.Classes.{no_class, no_field, no_method, class_at, field_at, method_at}
 use Rattle.jvm_model.specs.Linked.{IsClass, IsField, IsMethod, HoldsBuiltins}
 use Rattle.jvm_model.proofs.BuiltinRules.{lengths}

@@ -2,10 +2,9 @@
 use Rattle.std.proofs.Common.{◌≡◌, ◌⊎◌, ℕ, zero, suc, ◌+◌, ◌<◌, List, [], ◌∷◌, ◌++◌, length, map, get_or, slice_get, ◌-◌, refl, sym, ◌∙◌, ap, subst, inl, inr, arith, Option, Some, All}
 use Rattle.std.specs.Prelude.{option_map, flat_map, take}
 use Rattle.std.specs.List.{range_with_len}
-use Rattle.std.proofs.lemmas.Bool.{cases_lt}
+use Rattle.std.proofs.lemmas.{Bool.cases_lt, Option.slice_get-map, Option.slice_get_within, Option.get_or_from_slice_get}
 use Rattle.std.proofs.lemmas.List.{length-append, length-map, get_or-append-add, flat_map_more, take_more}
 use Rattle.std.proofs.{lemmas.List.Elements.All-from_get_or, lemmas.List.FromFn.length-range_with_len, lemmas.List.FromFn.get_or-range_with_len}
-use Rattle.std.proofs.lemmas.Option.{slice_get-map, slice_get_within, get_or_from_slice_get}
 use Rattle.class_reader.specs.declared.parts.{ClassParts.ClassParts, MemberPart.MemberPart}
 use Rattle.jvm_model.specs.Builtin.{builtin_count}
 use Rattle.class_link.specs.Assembly.{member_recs}

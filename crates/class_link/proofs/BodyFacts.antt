@@ -22,10 +22,9 @@ use Rattle.jvm_model.specs.declared.program.{Program.Program, Body.Body, Placed.
 use Rattle.jvm_model.specs.Linked.{IsForm, IsPlace, IsHandler, IsBody, KeysAscend, Ascends, place_listed, dims_of}
 use Rattle.code_forms.specs.declared.references.Target.TheVariants as target
 use Rattle.class_link.specs.ClassNames.{text_at, class_number, base_of, array_kind, kind_of}
-use Rattle.class_link.specs.References.{LinkEnvironment, target_of}
+use Rattle.class_link.specs.{References.LinkEnvironment, References.target_of, Bodies.placed, Bodies.handler_rec, Bodies.linked_body}
 use Rattle.code_forms.specs.{Operands.number_in, Operands.index_in, Forms.form_of}
 use Rattle.code_forms.specs.Forms as forms
-use Rattle.class_link.specs.Bodies.{placed, handler_rec, linked_body}
 use Rattle.code_forms.proofs.FormCases.{form_case, field_case, method_case, type_case}
 use Rattle.code_forms.proofs.FormFacts.{IsConstant, IsTarget, MakesNested, plain_form}
 use Rattle.code_forms.proofs.ShapeFacts.{branch_args, null_args, far_args, table_args, look_up_args, nested_args, first_index}

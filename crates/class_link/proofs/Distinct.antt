@@ -12,13 +12,11 @@ use Rattle.class_reader.specs.declared.parts.{ClassParts.ClassParts, MemberPart.
 use Rattle.class_reader.proofs.MemberFacts.{FieldFacts, MethodFacts, Differ}
 use Rattle.et_base.specs.Names.{is_unqualified, is_method_name, is_field_descriptor, is_method_descriptor}
 use Rattle.jvm_model.specs.declared.program.{Program.Program, FieldRec.FieldRec, MethodRec.MethodRec, Body.Body, TestEntry.TestEntry}
-use Rattle.jvm_model.specs.Builtin.{builtin_count}
-use Rattle.jvm_model.specs.Library.{builtin_classes, builtin_fields, builtin_methods}
+use Rattle.jvm_model.specs.{Builtin.builtin_count, Library.builtin_classes, Library.builtin_fields, Library.builtin_methods}
 use Rattle.jvm_model.specs.Classes.{class_at, field_at, method_at, no_field, no_method}
 use Rattle.jvm_model.specs.Linked.{IsClass, IsField, IsMethod, IsDistinct}
 use Rattle.jvm_model.proofs.Ranges.{all_there}
-use Rattle.class_link.specs.ClassNames.{text_at, own_name, all_names}
-use Rattle.class_link.specs.Literals.{strings_of, noted, literals}
+use Rattle.class_link.specs.{ClassNames.text_at, ClassNames.own_name, ClassNames.all_names, Literals.strings_of, Literals.noted, Literals.literals}
 use Rattle.class_link.specs.{Assembly.member_recs, Assembly.assembled, Faults.duplicate, Faults.duplicate_fault, Link.AreDifferent}
 use Rattle.class_link.proofs.Blocks.{before, GivenMember, all_members, member_cases}
 use Rattle.class_link.proofs.Assembled.{own_fields, own_methods, make_field, make_method}

@@ -27,8 +27,7 @@ use Rattle.jvm_model.proofs.Ranges.{all_there}
 use Rattle.class_link.specs.ClassNames.{text_at, name_at, all_names, class_number, number_or_first, base_of, kind_of}
 use Rattle.class_link.specs.{Assembly.skeleton, References.LinkEnvironment, References.target_of, Faults.all_references_fault, Faults.references_fault}
 use Rattle.code_forms.specs.{Operands.index_in, Uses.fits, Forms.form_of}
-use Rattle.class_link.specs.Bodies.{placed, caught, handler_rec, linked_body}
-use Rattle.class_link.specs.Link.{setting, program_of}
+use Rattle.class_link.specs.{Bodies.placed, Bodies.caught, Bodies.handler_rec, Bodies.linked_body, Link.setting, Link.program_of}
 use Rattle.class_link.proofs.{Assembled.class_count, Numbered.if_some, Numbered.number_class, SkeletonFacts.below_same, SkeletonFacts.fits_same}
 use Rattle.class_link.proofs.{TargetFacts.target_is, BodyFacts.makes_nested, BodyFacts.is_body}
 use Rattle.class_link.proofs.Referenced.{use_fits, op_used, handler_used, no_fault}

@@ -8,9 +8,8 @@ use Rattle.std.proofs.lemmas.Nat.Bits.{and_pow}
 use Rattle.class_pool.specs.declared.pool.Entry.{Entry}
 use Rattle.class_pool.proofs.EntryFacts.{NamesText, units_are}
 use Rattle.class_reader.specs.declared.parts.{ClassParts.ClassParts, CodePart.CodePart, MemberPart.MemberPart}
-use Rattle.class_reader.proofs.ClassFacts.{ClassFacts, own_name_is}
+use Rattle.class_reader.proofs.{ClassFacts.ClassFacts, ClassFacts.own_name_is, MemberFacts.FieldFacts, MemberFacts.MethodFacts, MemberFacts.HasRoom}
 use Rattle.class_reader.specs.Names.{own_units}
-use Rattle.class_reader.proofs.MemberFacts.{FieldFacts, MethodFacts, HasRoom}
 use Rattle.et_base.specs.Names.{is_class_name, is_unqualified, is_method_name, is_field_descriptor, is_method_descriptor, argument_units}
 use Rattle.jvm_model.specs.declared.program.{Program.Program, ClassRec.ClassRec, FieldRec.FieldRec, MethodRec.MethodRec, Body.Body, TestEntry.TestEntry}
 use Rattle.jvm_model.specs.{Builtin.builtin_count, Builtin.object_class, Driver.no_arguments}

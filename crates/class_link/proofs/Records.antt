@@ -10,12 +10,10 @@ use Rattle.jvm_model.specs.{Builtin.builtin_count, Library.builtin_fields, Libra
 use Rattle.jvm_model.specs.Classes.{class_at, field_at, method_at, no_field, no_method, member}
 use Rattle.jvm_model.specs.Linked.{IsClass, IsField, IsMethod, NamesClass}
 use Rattle.jvm_model.proofs.BuiltinRules.{builtin_names, builtin_field_class, builtin_method_class}
-use Rattle.class_link.specs.ClassNames.{name_at, all_names, number_or_first}
-use Rattle.class_link.specs.Literals.{literals}
+use Rattle.class_link.specs.{ClassNames.name_at, ClassNames.all_names, ClassNames.number_or_first, Literals.literals}
 use Rattle.class_link.specs.Assembly.{mentioned_by, given_classes, is_initialiser, initialiser_from, class_rec, assembled}
-use Rattle.class_link.proofs.Blocks.{before, all_range, all_numbers}
+use Rattle.class_link.proofs.{Blocks.before, Blocks.all_range, Blocks.all_numbers, Numbered.if_some, Numbered.number_class, Numbered.given_number}
 use Rattle.class_link.proofs.Assembled.{own_fields, own_methods, make_field, make_method, holds_builtins, class_given, field_given, method_given, class_cases, field_cases, method_cases, given_class_is}
-use Rattle.class_link.proofs.Numbered.{if_some, number_class, given_number}
 
 -- the initialiser's number is that of a method which is one
 pub record Initialiser (m : ℕ) (slots : List (Option Entry)) (xs : List MemberPart) (n : ℕ) : Type 0 where

@@ -9,8 +9,7 @@ use Rattle.class_reader.specs.declared.parts.{ClassParts.ClassParts, MemberPart.
 use Rattle.jvm_model.specs.declared.program.{Program.Program, Body.Body, TestEntry.TestEntry}
 use Rattle.jvm_model.specs.{Builtin.builtin_count, Builtin.throwable_class, Library.builtin_methods, Lookup.find_field, Lookup.find_method}
 use Rattle.jvm_model.specs.Classes.{class_at, method_at, no_method, is_below, is_static}
-use Rattle.jvm_model.specs.Driver.{plain_method_in}
-use Rattle.jvm_model.specs.Linked.{IsAncestor, direct, further, test_method}
+use Rattle.jvm_model.specs.{Driver.plain_method_in, Linked.IsAncestor, Linked.direct, Linked.further, Linked.test_method}
 use Rattle.class_link.specs.ClassNames.{text_at}
 use Rattle.class_link.specs.Assembly.{bare_body, method_rec, method_recs, assembled, skeleton}
 use Rattle.member_lookup.proofs.Alike as alike

@@ -14,8 +14,7 @@ use Rattle.jvm_model.specs.declared.values.{Base.Base, Kind.Kind, Value.TheVaria
 use Rattle.jvm_model.specs.declared.values.Base.TheVariants as base
 use Rattle.jvm_model.specs.declared.values.Kind.TheVariants as kind
 use Rattle.jvm_model.specs.declared.program.{Program.Program, Body.Body, TestEntry.TestEntry}
-use Rattle.jvm_model.specs.Selection.{named_class}
-use Rattle.jvm_model.specs.Lookup.{find_field, find_method, lacks_method}
+use Rattle.jvm_model.specs.{Selection.named_class, Lookup.find_field, Lookup.find_method, Lookup.lacks_method}
 use Rattle.jvm_model.specs.Linked.{IsClass, IsLiteral, IsBase, IsKind}
 use Rattle.code_forms.specs.declared.references.Target.{Target}
 use Rattle.code_forms.specs.declared.references.Target.TheVariants as target

@@ -1,12 +1,11 @@
 -- The faults of linking, each by itself.
 use Rattle.std.specs.Prelude.{ℕ, ◌+◌, List, [], ◌∷◌, ◌++◌, length, map, option_and_then, is_some, Option, Some, None, Bool, true, false, not, ◌&&◌, ◌||◌, cond, nat_eq, nat_le}
-use Rattle.std.specs.List.{list_any, list_all, range_with_len}
+use Rattle.std.specs.{List.list_any, List.list_all, List.range_with_len, Str.bytes_eq}
 use Rattle.class_pool.specs.declared.pool.Entry.{Entry}
 use Rattle.class_pool.specs.Pool.{entry_of, is_class}
 use Rattle.class_reader.specs.declared.parts.ClassParts.{ClassParts}
 use Rattle.et_base.specs.Names.{starts_array}
 use Rattle.jvm_model.specs.declared.program.{Program.Program, TestEntry.TestEntry}
-use Rattle.std.specs.Str.{bytes_eq}
 use Rattle.jvm_model.specs.Builtin.{builtin_count, object_class, throwable_class}
 use Rattle.jvm_model.specs.{Library.builtin_classes, RowsCreate.is_bare, Driver.plain_method_in, Linked.is_interface_at, Linked.test_method}
 use Rattle.jvm_model.specs.Classes.{class_at, method_at, is_static, is_interface, is_below, member, init_name}

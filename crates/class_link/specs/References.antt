@@ -6,15 +6,13 @@ use Rattle.class_pool.specs.Pool.{entry_of}
 use Rattle.code_decode.specs.declared.instructions.RawOp.{RawOp}
 use Rattle.class_reader.specs.declared.parts.{ClassParts.ClassParts, CodePart.CodePart, RawHandler.RawHandler}
 use Rattle.jvm_model.specs.declared.values.{Kind.Kind, Value.TheVariants.Int, Value.TheVariants.Long, Value.TheVariants.Lit}
-use Rattle.jvm_model.specs.Selection.{named_class}
-use Rattle.jvm_model.specs.Lookup.{find_field, find_method, lacks_method}
+use Rattle.jvm_model.specs.{Selection.named_class, Lookup.find_field, Lookup.find_method, Lookup.lacks_method}
 use Rattle.code_forms.specs.declared.references.{Use.Use, Target.Target}
 use Rattle.code_forms.specs.declared.references.Use.TheVariants as used
 use Rattle.code_forms.specs.declared.references.Target.TheVariants as target
 use Rattle.code_forms.specs.{Operands.index_in, Uses.use_of}
 pub use Rattle.class_link.specs.declared.link_environment.LinkEnvironment.{LinkEnvironment}
-use Rattle.class_link.specs.ClassNames.{text_at, name_at, missing, kind_of}
-use Rattle.class_link.specs.Literals.{literal_number}
+use Rattle.class_link.specs.{ClassNames.text_at, ClassNames.name_at, ClassNames.missing, ClassNames.kind_of, Literals.literal_number}
 
 -- ---- what an entry stands for
 

@@ -5,8 +5,7 @@ ghost use Rattle.class_reader.specs.declared.parts.{ClassParts.ClassParts, CodeP
 ghost use Rattle.jvm_model.specs.declared.program.Body.{Body};
 ghost use Rattle.jvm_model.specs.Library.{builtin_classes, builtin_fields, builtin_methods};
 ghost use Rattle.class_link.specs.{Answers.Gives, Answers.nothing, ClassNames.all_names, Literals.literals, Faults.duplicate_fault, Link.setting, Link.unless};
-ghost use Rattle.class_link.specs.Assembly.{assembled, skeleton, bodies_of};
-ghost use Rattle.class_link.specs.Filling.{filled, with_body};
+ghost use Rattle.class_link.specs.{Assembly.assembled, Assembly.skeleton, Assembly.bodies_of, Filling.filled, Filling.with_body};
 
 use crate::class_records::push_classes;
 use crate::fault::LinkFault;

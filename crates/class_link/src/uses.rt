@@ -4,8 +4,7 @@ ghost use Rattle.std.specs.Prelude.{◌≡◌, IfOk, None, flat_map, length, opt
 ghost use Rattle.class_pool.specs.Pool.{entry_of};
 ghost use Rattle.class_link.specs.Bodies as bodies;
 ghost use Rattle.class_link.specs.Marks as marking;
-ghost use Rattle.class_link.specs.Marks.{noted, noted_by};
-ghost use Rattle.class_link.specs.References.{code_uses, handler_use, op_use, uses};
+ghost use Rattle.class_link.specs.{Marks.noted, Marks.noted_by, References.code_uses, References.handler_use, References.op_use, References.uses};
 
 use crate::targets::target_in;
 use class_pool::{Entry, lookup};

@@ -1,17 +1,15 @@
 -- A reader of a grammar: what it takes is spelled so, and what is spelled so is taken, whatever follows.
 use Rattle.std.proofs.Common.{◌≡◌, ℕ, ℤ, zero, suc, ◌+◌, ◌-◌, ◌^◌, ◌<◌, ◌≤◌, Bool, true, false, cond, ltb, eqb, eq-eqb, List, [], ◌∷◌, ◌++◌, length, take, drop, Result, Ok, Err, refl, sym, ap, subst, ◌∙◌, append_assoc, arith, inl, inr}
 use Rattle.std.specs.Int.{Width, w8, w16, w32, w64, byte_len, from_be_bytes, to_be_bytes, cast_signed, cast_unsigned}
-use Rattle.std.proofs.lemmas.Int.{of_z-to_z, to_z-of_z}
+use Rattle.std.proofs.lemmas.{Int.of_z-to_z, Int.to_z-of_z, Bool.cases_lt, Bool.ltb-false, Bool.le-ltb, Bool.eqb-true}
 use borrow.Author.Gap.{read_sfits}
 use mir.Val.{bits}
 use mir.ValLaws.{of_z_fits}
-use Rattle.std.proofs.lemmas.Bool.{cases_lt, ltb-false, le-ltb, eqb-true}
 use Rattle.std.proofs.lemmas.List.{take_at, drop_at, take-append-drop, length-append, length-take, get_or-drop, get_or-take, get_or_past, append-nil}
 use Rattle.std.proofs.lemmas.Nat.{be_bytes_2, be_bytes_4, be_bytes_8, from_be_bytes-to_be_bytes_2, from_be_bytes-to_be_bytes_4, from_be_bytes-to_be_bytes_8}
 use Rattle.class_pool.specs.declared.fault.{Fault.Fault, Fault.TheVariants.Truncated}
 use Rattle.et_base.specs.Answers.{◌>>=◌, tested}
-use Rattle.class_pool.specs.Reading.{number_or, number_at, run_or, run_at}
-use Rattle.class_pool.specs.Loops.{counted, folded}
+use Rattle.class_pool.specs.{Reading.number_or, Reading.number_at, Reading.run_or, Reading.run_at, Loops.counted, Loops.folded}
 use Rattle.class_pool.specs.Grammar.{Joined, Chain, IsBytes, Nothing, Then, Mapped, Never, Tested, Number, Signed, Run, Counted, Sized}
 
 pub IsBytes-drop : (n : ℕ) (bytes : List ℕ) → IsBytes bytes → IsBytes (drop n bytes)

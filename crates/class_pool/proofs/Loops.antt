@@ -3,8 +3,7 @@ use Rattle.std.proofs.Common.{◌≡◌, ℕ, zero, suc, ◌-◌, ◌+◌, ◌�
 use Rattle.class_pool.specs.declared.fault.{Fault.Fault, ReadError.ReadError}
 use Rattle.class_pool.specs.declared.fault.ReadError.TheVariants as errors
 use Rattle.et_base.specs.Answers.{◌>>=◌, Fails}
-use Rattle.class_pool.specs.Reading.{named}
-use Rattle.class_pool.specs.Loops.{counted, to_end, folded}
+use Rattle.class_pool.specs.{Reading.named, Loops.counted, Loops.to_end, Loops.folded}
 
 -- ---- as many as a count says
 

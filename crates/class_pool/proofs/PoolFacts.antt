@@ -1,7 +1,6 @@
 -- What is known of an entry of a pool.
 use Rattle.std.proofs.Common.{◌≡◌, ℕ, zero, suc, Bool, true, false, List, length, Option, Some, None, refl, subst, inl, inr, All, ◌<◌, is_some, is_none, not, take, slice_index_or, append_assoc, ◌∷◌, ◌++◌, [], arith, sym, ap, ◌∙◌, add-one, ◌-◌, Bor, option_copied}
-use Rattle.std.proofs.lemmas.Bool.{cases_lt, not-true}
-use Rattle.std.proofs.lemmas.List.{get_or_past, append-nil, take_more}
+use Rattle.std.proofs.lemmas.{Bool.cases_lt, Bool.not-true, List.get_or_past, List.append-nil, List.take_more}
 use Rattle.class_pool.specs.declared.pool.Entry.{Entry}
 use Rattle.class_pool.specs.declared.pool.Entry.TheVariants.{Class, Field, Method, InterfaceMethod}
 use Rattle.et_base.specs.Names.{is_class_entry_name}

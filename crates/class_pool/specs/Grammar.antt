@@ -1,7 +1,6 @@
 -- Which bytes spell what, part by part: the bytes of a whole are those of its parts, joined.
 use Rattle.std.specs.Prelude.{◌≡◌, ◌<◌, ◌^◌, ℕ, ℤ, zero, suc, List, [], ◌∷◌, ◌++◌, length, get_or, Bool, true}
-use Rattle.std.specs.Int.{Width, w32, to_be_bytes, cast_unsigned}
-use Rattle.std.specs.Int.RustNames.{FitsSigned}
+use Rattle.std.specs.{Int.Width, Int.w32, Int.to_be_bytes, Int.cast_unsigned, Int.RustNames.FitsSigned}
 
 -- Each item's bytes, one after the other. An item is spelled by what stands before it and by how many follow.
 abbrev pub Joined : {A : Type 0} → (List A → ℕ → List ℕ → A → Type 0) → List A → List ℕ → List A → Type 0

@@ -2,9 +2,8 @@
 
 ghost use Rattle.std.specs.Prelude.{◌≡◌, ◌||◌, map, IfOk, IfErr, None};
 ghost use Rattle.et_base.specs.Answers.{nothing};
-ghost use Rattle.class_pool.specs.Reading.{Gives};
+ghost use Rattle.class_pool.specs.{Reading.Gives, Marks.mark_of_text, Marks.no_mark, Marks.mark_of, Marks.marked};
 ghost use Rattle.class_pool.specs.Pool.{entry_of, is_class, is_pair, is_field_pair, is_method_pair, wants_at, wrong_index, wrong_name, pass, indices_pass, names_pass};
-ghost use Rattle.class_pool.specs.Marks.{mark_of_text, no_mark, mark_of, marked};
 
 use crate::fault::{Fault, ReadError};
 use crate::lookup::{entry_at, names_class, names_handled, names_pair, names_text};

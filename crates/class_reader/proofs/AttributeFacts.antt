@@ -4,8 +4,7 @@ use Rattle.std.specs.Prelude.{IfSome}
 use Rattle.class_pool.specs.declared.pool.Entry.{Entry}
 use Rattle.class_pool.specs.Pool.{entry_of}
 use Rattle.class_pool.proofs.{Laws.chosen, GrammarFacts.chain_keeps}
-use Rattle.class_reader.specs.Indices.{Index, Form}
-use Rattle.class_reader.specs.ClassGrammar.{OnceText, AttributeText, AttributesText}
+use Rattle.class_reader.specs.{Indices.Index, Indices.Form, ClassGrammar.OnceText, ClassGrammar.AttributeText, ClassGrammar.AttributesText}
 
 -- ---- attributes
 

@@ -2,8 +2,7 @@
 use Rattle.std.proofs.Common.{◌≡◌, ◌<◌, ◌≤◌, ◌^◌, ℕ, true, false, not, List, [], ◌∷◌, length, Option, Some, None, refl, sym, ap, subst, ◌∙◌, All}
 use Rattle.std.proofs.lemmas.Bool.{leb-true, not-true, and_parts}
 use Rattle.class_pool.specs.declared.pool.{Entry.Entry, Entry.TheVariants.Utf8, Entry.TheVariants.Class}
-use Rattle.class_pool.specs.Pool.{entry_of, is_class, class_name_of}
-use Rattle.class_pool.specs.PoolGrammar.{IsPool}
+use Rattle.class_pool.specs.{Pool.entry_of, Pool.is_class, Pool.class_name_of, PoolGrammar.IsPool}
 use Rattle.class_pool.proofs.{WriteLaw.pool_kept, GrammarFacts.counted_all, GrammarFacts.counted_length}
 use Rattle.class_pool.proofs.EntryFacts.{NamesText, NamesClass, EntryFacts, class_from, plain_name, units_are, entry_facts}
 use Rattle.et_base.specs.Names.{is_class_name, starts_array}

@@ -3,8 +3,7 @@ use Rattle.std.proofs.{Math.Bool.or-true, lemmas.List.Elements.All-from_recursio
 use Rattle.std.proofs.Common.{◌≡◌, ◌<◌, ◌≤◌, ◌^◌, ◌+◌, ℕ, zero, suc, Bool, true, false, not, cond, ◌&&◌, ◌||◌, List, [], ◌∷◌, ◌++◌, length, take, get_or, Option, Some, None, is_some, refl, sym, ap, subst, ◌∙◌, arith, inl, inr, All}
 use Rattle.std.specs.Prelude.{IfSome}
 use Rattle.std.specs.List.{AllByRecursion}
-use Rattle.std.proofs.lemmas.Bool.{cases_lt, leb-true, not-true}
-use Rattle.std.proofs.lemmas.List.{get_or-take, length-take}
+use Rattle.std.proofs.lemmas.{Bool.cases_lt, Bool.leb-true, Bool.not-true, List.get_or-take, List.length-take}
 use Rattle.class_pool.specs.declared.pool.{Entry.Entry, Entry.TheVariants.Utf8}
 use Rattle.class_pool.specs.Pool.{entry_of, is_text, text_of}
 use Rattle.class_pool.specs.{Grammar.Sized, PoolGrammar.IsPool}

@@ -14,8 +14,7 @@ use Rattle.class_reader.specs.declared.parts.{CodePart.CodePart, RawHandler.RawH
 use Rattle.class_reader.specs.Handlers.{begins_at, ends_at, is_caught, handler_of, RangeText, CatchText, HandlerText, HandlersText}
 use Rattle.class_reader.specs.Maps.{type_of, frame_of, is_object, is_frame_tag, tells_delta, stack_given, frame_at, has_bad_tag}
 use Rattle.class_reader.specs.MapGrammar.{TaggedText, TypeText, GivenText, TypesText, FrameText, FramesText, MapText}
-use Rattle.class_reader.specs.Names.{is_stack_map}
-use Rattle.class_reader.specs.ClassGrammar.{RunText, part_of, PartText}
+use Rattle.class_reader.specs.{Names.is_stack_map, ClassGrammar.RunText, ClassGrammar.part_of, ClassGrammar.PartText}
 use Rattle.class_reader.proofs.AttributeFacts.{attributes_keep, index_facts}
 
 -- ---- the facts

@@ -2,9 +2,8 @@
 use Rattle.std.specs.Prelude.{◌^◌, ℕ, List, [], Option, Some, None, is_some, Bool, not, nat_lt, nat_le, ◌==◌, ◌&&◌, cond}
 use Rattle.std.specs.Int.{w32}
 use Rattle.class_pool.specs.declared.pool.Entry.{Entry}
-use Rattle.class_pool.specs.Pool.{entry_of, is_text, is_class}
+use Rattle.class_pool.specs.{Pool.entry_of, Pool.is_text, Pool.is_class, PoolGrammar.PoolText}
 use Rattle.class_pool.specs.Grammar.{Nothing, Then, Mapped, Tested, Number, Run, Counted, Sized, Chain}
-use Rattle.class_pool.specs.PoolGrammar.{PoolText}
 use Rattle.code_decode.specs.declared.decoding.Code.{Code}
 use Rattle.code_decode.specs.CodeGrammar.{CodeText}
 use Rattle.class_reader.specs.declared.parts.{CodePart.CodePart, RawHandler.RawHandler, MapPart.MapPart, MemberPart.MemberPart, ClassParts.ClassParts}

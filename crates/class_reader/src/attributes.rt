@@ -2,8 +2,7 @@
 
 ghost use Rattle.std.specs.Prelude.{◌≡◌, ◌<◌, length, IfOk, None, List, Option};
 ghost use Rattle.class_pool.specs.{Pool.entry_of, Reading.Gives, Loops.folded};
-ghost use Rattle.class_reader.specs.Names.{is_text_of, is_code, is_constant_value, is_stack_map};
-ghost use Rattle.class_reader.specs.Maps.{map_at};
+ghost use Rattle.class_reader.specs.{Names.is_text_of, Names.is_code, Names.is_constant_value, Names.is_stack_map, Maps.map_at};
 ghost use Rattle.class_reader.specs.Class.{other_at, once_at, attribute_at, attributes_at, skipped_at, all_skipped_at, constant_at, run_code_at, part_at, code_attribute_at};
 
 use crate::handlers::handlers_of;

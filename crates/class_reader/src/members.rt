@@ -2,8 +2,7 @@
 
 ghost use Rattle.std.specs.Prelude.{◌≡◌, ◌+◌, ◌<◌, length, [], ◌∷◌, ◌++◌, IfOk};
 ghost use Rattle.class_pool.specs.{Reading.Gives, Loops.counted};
-ghost use Rattle.class_reader.specs.Texts.{IsSeen};
-ghost use Rattle.class_reader.specs.Class.{field_at, fields_at, method_at, methods_at};
+ghost use Rattle.class_reader.specs.{Texts.IsSeen, Class.field_at, Class.fields_at, Class.method_at, Class.methods_at};
 
 use crate::attributes::{field_attributes, method_attributes};
 use crate::names::{Form, fits_flags, form_at};

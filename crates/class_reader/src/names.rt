@@ -1,8 +1,7 @@
 //! What an index of a class file must name, place by place.
 
 ghost use Rattle.std.specs.Prelude.{◌≡◌, ◌≤◌, true, IfOk};
-ghost use Rattle.class_pool.specs.Pool.{entry_of, is_text, is_class};
-ghost use Rattle.class_pool.specs.Reading.{Gives};
+ghost use Rattle.class_pool.specs.{Pool.entry_of, Pool.is_text, Pool.is_class, Reading.Gives};
 ghost use Rattle.class_reader.specs.Names.{is_text_of, own_units, has_room, is_small, begins_array, is_own_class, has_form, fits_constant, fits_flags};
 ghost use Rattle.class_reader.specs.Indices.{index_at, form_at};
 

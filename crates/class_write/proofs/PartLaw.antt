@@ -4,12 +4,10 @@ use Rattle.std.specs.Prelude.{slice_index_or, unwrap_or}
 use Rattle.std.specs.List.{flat_map}
 use Rattle.std.proofs.lemmas.{List.append-nil, List.length-append, Option.same_Some}
 use Rattle.class_pool.specs.declared.pool.{Entry.Entry, Entry.TheVariants.Utf8}
-use Rattle.class_pool.specs.Pool.{entry_of, is_text}
-use Rattle.class_pool.specs.Grammar.{Then, Joined, Counted, Chain}
+use Rattle.class_pool.specs.{Pool.entry_of, Pool.is_text, Grammar.Then, Grammar.Joined, Grammar.Counted, Grammar.Chain}
 use Rattle.et_base.proofs.Cases.{by_test}
-use Rattle.class_reader.specs.Indices.{Short, Index, Form}
+use Rattle.class_reader.specs.{Indices.Short, Indices.Index, Indices.Form, ClassGrammar.OnceText, ClassGrammar.AttributeText, ClassGrammar.AttributesText}
 use Rattle.class_reader.specs.{Names.is_text_of, Texts.first_from}
-use Rattle.class_reader.specs.ClassGrammar.{OnceText, AttributeText, AttributesText}
 use Rattle.class_write.specs.Spelling.{short_bytes, listed_bytes, sized_bytes, attribute_bytes, index_of}
 
 abbrev pub Slots : Type 0

@@ -1,7 +1,6 @@
 -- The bytes of a class file as they are written: the pool as it is, and of the attributes Code, ConstantValue and StackMapTable alone.
 use Rattle.std.specs.Prelude.{ℕ, List, [], ◌++◌, length, Option, Some, None, unwrap_or, codes, ◌==◌, ◌||◌, if◌then◌else◌}
-use Rattle.std.specs.List.{flat_map}
-use Rattle.std.specs.Int.{w8, w16, w32, to_be_bytes}
+use Rattle.std.specs.{List.flat_map, Int.w8, Int.w16, Int.w32, Int.to_be_bytes}
 use Rattle.class_pool.specs.declared.pool.Entry.{Entry}
 use Rattle.class_pool.specs.PoolGrammar.{pool_spelling}
 use Rattle.code_decode.specs.declared.decoding.Code.{Code}

@@ -1,8 +1,7 @@
 //! The instructions of a code.
 
 ghost use Rattle.std.specs.Prelude.{◌≡◌, ◌++◌, OnOk};
-ghost use Rattle.code_decode.specs.Opcodes.{shape_of};
-ghost use Rattle.code_decode.specs.Spelling.{shaped_bytes, op_bytes, code_spelling};
+ghost use Rattle.code_decode.specs.{Opcodes.shape_of, Spelling.shaped_bytes, Spelling.op_bytes, Spelling.code_spelling};
 ghost use Rattle.class_write.specs.Spelling.{run_bytes};
 
 use crate::numbers::{put_byte, put_word};

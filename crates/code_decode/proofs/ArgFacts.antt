@@ -18,8 +18,7 @@ use Rattle.code_decode.specs.declared.judging.Fit.TheVariants as fit
 use Rattle.code_decode.specs.declared.opcodes.{Shape.Shape, Named.TheVariants.Nested, Named.TheVariants.Interface}
 use Rattle.code_decode.specs.declared.opcodes.Shape.TheVariants as shape
 use Rattle.code_decode.specs.Judging.{constant_fit, named_fit, kind_fit, class_name, dimensions, interface_units, counts_units}
-use Rattle.code_decode.specs.Switches.{span, keys_rise}
-use Rattle.code_decode.specs.Targets.{has_start, is_start, is_place, leads}
+use Rattle.code_decode.specs.{Switches.span, Switches.keys_rise, Targets.has_start, Targets.is_start, Targets.is_place, Targets.leads}
 use Rattle.code_decode.specs.CodeGrammar.{OneText, IncrementText, is_right, FittingText, InterfaceText, DimensionsText, WordText, EndsText, TableText, PairText, PairsText, LookupText, ArgsText}
 
 -- ---- the facts

@@ -13,8 +13,7 @@ use Rattle.code_decode.specs.declared.judging.Fit.{Fit}
 use Rattle.code_decode.specs.declared.judging.Fit.TheVariants as fit
 use Rattle.code_decode.specs.declared.opcodes.{Shape.Shape, Named.TheVariants.Nested, Named.TheVariants.Interface}
 use Rattle.code_decode.specs.declared.opcodes.Shape.TheVariants as shape
-use Rattle.code_decode.specs.Place.{cut, wrong, foreign, target}
-use Rattle.code_decode.specs.Opcodes.{shape_of, takes_local}
+use Rattle.code_decode.specs.{Place.cut, Place.wrong, Place.foreign, Place.target, Opcodes.shape_of, Opcodes.takes_local}
 use Rattle.code_decode.specs.Judging.{constant_fit, named_fit, kind_fit, class_name, dimensions, interface_units, counts_units}
 use Rattle.code_decode.specs.Operands.{judged, one_at, local_at, increment_at, fitting_at, interface_at, dimensions_at}
 use Rattle.code_decode.specs.Switches.{padding, span, keys_rise, word_at, place_at, other_at, ends_at, rows_at, table_at, count_at, pair_at, pairs_at, lookup_at}

@@ -3,8 +3,7 @@ use Rattle.std.proofs.Common.{◌≡◌, ℕ, zero, suc, ◌^◌, ◌*◌, Bool,
 use Rattle.std.specs.Int.{Width, byte_len}
 use Rattle.class_pool.specs.declared.fault.Fault.{Fault}
 use Rattle.et_base.specs.Answers.{◌>>=◌, tested}
-use Rattle.class_pool.specs.Reading.{number_or, run_or}
-use Rattle.class_pool.specs.Loops.{counted, folded, to_end}
+use Rattle.class_pool.specs.{Reading.number_or, Reading.run_or, Loops.counted, Loops.folded, Loops.to_end}
 use Rattle.class_pool.specs.Grammar.{Nothing, Then, Mapped, Never, Tested, Run, Counted, Chain}
 use Rattle.class_pool.proofs.Laws.{Reads, reads_nothing, reads_then, tested_then, reads_mapped, reads_if, reads_never, IsWide, reads_number, reads_run, reads_counted, reads_folded}
 use Rattle.code_decode.specs.declared.place.Spot.{Spot}

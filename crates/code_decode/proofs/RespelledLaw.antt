@@ -1,8 +1,7 @@
 -- What is spelled is spelled by its spelling, too.
 use Rattle.std.proofs.Common.{◌≡◌, ℕ, ◌+◌, Bool, true, false, not, cond, eqb, ◌&&◌, ◌||◌, List, [], ◌∷◌, ◌++◌, length, Option, Some, None, refl, sym, ap, subst, ◌∙◌}
 use Rattle.std.specs.Prelude.{ℤ, pos, negsuc}
-use Rattle.std.specs.List.{AllByRecursion, flat_map, list_all, enumerate_from}
-use Rattle.std.specs.Int.{w8, w16, w32, to_be_bytes}
+use Rattle.std.specs.{List.AllByRecursion, List.flat_map, List.list_all, List.enumerate_from, Int.w8, Int.w16, Int.w32, Int.to_be_bytes}
 use Rattle.std.proofs.lemmas.{Bool.eqb-true, Bool.and_parts, List.length-append}
 use Rattle.class_pool.specs.declared.pool.Entry.{Entry}
 use Rattle.class_pool.specs.Pool.{entry_of}
@@ -11,8 +10,7 @@ use Rattle.code_decode.specs.declared.instructions.RawOp.{RawOp}
 use Rattle.code_decode.specs.declared.decoding.Code.{Code}
 use Rattle.code_decode.specs.declared.opcodes.Shape.{Shape}
 use Rattle.code_decode.specs.declared.opcodes.Shape.TheVariants as shape
-use Rattle.code_decode.specs.Opcodes.{shape_of, takes_local}
-use Rattle.code_decode.specs.Judging.{constant_fit, named_fit, kind_fit}
+use Rattle.code_decode.specs.{Opcodes.shape_of, Opcodes.takes_local, Judging.constant_fit, Judging.named_fit, Judging.kind_fit}
 use Rattle.code_decode.specs.Targets.{is_place, leads, leads_to, is_start}
 use Rattle.code_decode.specs.CodeGrammar.{OneText, IncrementText, ArgsText, ShapedText, WideArgsText, WideText, OpText, OpsText, CodeText}
 use Rattle.code_decode.specs.Spelling.{number_bytes, signed_bytes, one_bytes, two_bytes, args_bytes, shaped_bytes, wide_args_bytes, op_bytes, code_spelling}

@@ -11,8 +11,7 @@ use Rattle.class_pool.specs.Reading.{named}
 use Rattle.code_decode.specs.declared.instructions.RawOp.{RawOp}
 use Rattle.code_decode.specs.declared.opcodes.Shape.{Shape}
 use Rattle.code_decode.specs.declared.opcodes.Shape.TheVariants as shape
-use Rattle.code_decode.specs.Opcodes.{shape_of}
-use Rattle.code_decode.specs.Targets.{is_place, names_places, leads_to, targets_fit}
+use Rattle.code_decode.specs.{Opcodes.shape_of, Targets.is_place, Targets.names_places, Targets.leads_to, Targets.targets_fit}
 
 -- ---- opcodes that lead nowhere
 

@@ -12,10 +12,8 @@ use Rattle.class_pool.proofs.Laws.{bind_ok, ok_is, tested_ok, wide8}
 use Rattle.code_decode.specs.declared.place.Spot.{Spot}
 use Rattle.code_decode.specs.declared.instructions.RawOp.{RawOp}
 use Rattle.code_decode.specs.declared.decoding.Code.{Code}
-use Rattle.code_decode.specs.Instructions.{op_at, spot_at, ops_at}
-use Rattle.code_decode.specs.Targets.{is_start, leads_to, targets_fit}
-use Rattle.code_decode.specs.Decoding.{code_at, IsCodeError}
-use Rattle.code_decode.specs.CodeGrammar.{OpText, OpsText, CodeText}
+use Rattle.code_decode.specs.{Instructions.op_at, Instructions.spot_at, Instructions.ops_at, Targets.is_start, Targets.leads_to, Targets.targets_fit}
+use Rattle.code_decode.specs.{Decoding.code_at, Decoding.IsCodeError, CodeGrammar.OpText, CodeGrammar.OpsText, CodeGrammar.CodeText}
 use Rattle.code_decode.proofs.CodeLaw.{takes_op}
 use Rattle.code_decode.proofs.Readers.{Named, named_ok, named_then, named_test, named_to_end}
 

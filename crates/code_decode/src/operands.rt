@@ -3,8 +3,7 @@
 ghost use Rattle.std.specs.Prelude.{pos};
 ghost use Rattle.std.specs.Int.{w8, w16, w32, cast_signed};
 ghost use Rattle.class_pool.specs.{Reading.Gives, Pool.entry_of};
-ghost use Rattle.code_decode.specs.Judging.{named_fit, constant_fit, kind_fit};
-ghost use Rattle.code_decode.specs.Place.{target};
+ghost use Rattle.code_decode.specs.{Judging.named_fit, Judging.constant_fit, Judging.kind_fit, Place.target};
 ghost use Rattle.code_decode.specs.Operands.{one_at, signed_at, local_at, branch_at, increment_at, fitting_at, interface_at, dimensions_at};
 
 use crate::args::Args;

@@ -13,12 +13,10 @@ use Rattle.code_decode.specs.declared.opcodes.Shape.{Shape}
 use Rattle.code_decode.specs.declared.opcodes.Shape.TheVariants as shape
 use Rattle.code_decode.specs.declared.opcodes.Named.TheVariants as named
 use Rattle.code_decode.specs.{Judging.named_fit, Opcodes.shape_of, Opcodes.takes_local}
-use Rattle.code_decode.proofs.ArgFacts.{OneNumber, IndexCount, CallsInterface, ArgFacts}
-use Rattle.code_decode.proofs.CodeFacts.{PlainFacts, OpFacts}
+use Rattle.code_decode.proofs.{ArgFacts.OneNumber, ArgFacts.IndexCount, ArgFacts.CallsInterface, ArgFacts.ArgFacts, CodeFacts.PlainFacts, CodeFacts.OpFacts}
 use Rattle.code_forms.specs.Operands.{number_in, index_in}
-use Rattle.code_forms.proofs.FormCases.{is_untyped, is_single, IsTyped}
+use Rattle.code_forms.proofs.{FormCases.is_untyped, FormCases.is_single, FormCases.IsTyped, FormFacts.CallsBySort}
 use Rattle.et_base.proofs.Cases.{by_test}
-use Rattle.code_forms.proofs.FormFacts.{CallsBySort}
 
 -- ---- the shape of an opcode
 

@@ -1,8 +1,7 @@
 -- The tests of a cone: none is above its test, and all are tests of the program.
 use Rattle.std.proofs.Common.{◌≡◌, ℕ, suc, ◌+◌, ◌<◌, ◌≤◌, List, [], ◌∷◌, ◌++◌, length, refl, sym, ap, inl, inr, arith}
 use Rattle.order_law.specs.declared.edges.{Edge.Edge, EdgeKind.TheVariants.Raw}
-use Rattle.order_law.specs.Conflicts.{Member, Closure, selected, source}
-use Rattle.order_law.specs.Plan.{Ascending}
+use Rattle.order_law.specs.{Conflicts.Member, Conflicts.Closure, Conflicts.selected, Conflicts.source, Plan.Ascending}
 use Rattle.dep_graph.specs.Graphs.{GoUp}
 use Rattle.cone_run.specs.Cones.{IsCone}
 

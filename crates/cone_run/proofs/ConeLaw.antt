@@ -10,8 +10,7 @@ use Rattle.order_law.specs.{OwnRecord.edges_of, OwnRecord.owner, Plan.Ascending}
 use Rattle.order_law.proofs.{Members.before_up, Posts.ascending_distinct, OwnRecord.own_law, OwnRecord.is_record}
 use Rattle.dep_graph.specs.Graphs.{GoUp}
 use Rattle.cone_run.specs.ConeLaw.{ConeLaw, OwnConeLaw}
-use Rattle.cone_run.proofs.Closures.{cone_low, cone_positive, cone_own, last_is}
-use Rattle.cone_run.proofs.Units.{none_over}
+use Rattle.cone_run.proofs.{Closures.cone_low, Closures.cone_positive, Closures.cone_own, Closures.last_is, Units.none_over}
 
 in_order : (R : List Edge) (n : ℕ) → GoUp n R → (l : List ℕ) → Ascending l → InOrder R l
 in_order R n up [] a = tt

@@ -13,10 +13,8 @@ use Rattle.test_run.specs.declared.run_fault.RunFault.{RunFault}
 use Rattle.test_run.specs.declared.run_fault.RunFault.TheVariants as fault
 use Rattle.test_run.specs.Running.{IsTest, Posted}
 use Rattle.cone_run.specs.Cones.{IsCone, IsConeOf, AreCones, AreConesOf, IsConeFault, IsConeSuite, GivesCone}
-use Rattle.cone_run.specs.Marks.{without}
-use Rattle.cone_run.specs.Runs.{HasTest, IsListFault, IsPieceOf}
-use Rattle.cone_run.proofs.Closures.{cone_low, cone_positive, cone_own, few}
-use Rattle.cone_run.proofs.Pairs.{paired_at, paired_length}
+use Rattle.cone_run.specs.{Marks.without, Runs.HasTest, Runs.IsListFault, Runs.IsPieceOf}
+use Rattle.cone_run.proofs.{Closures.cone_low, Closures.cone_positive, Closures.cone_own, Closures.few, Pairs.paired_at, Pairs.paired_length}
 
 pub member_at : (l : List ℕ) (k d : ℕ) → k < length l → Member (get_or l k d) l
 member_at [] k d h = absurd (omega arith)

@@ -11,9 +11,8 @@ use Rattle.dep_graph.specs.Graphs.{GoUp, AreWriters}
 use Rattle.test_run.specs.declared.run_fault.RunFault.{RunFault}
 use Rattle.test_run.specs.declared.run_fault.RunFault.TheVariants as fault
 use Rattle.cone_run.specs.declared.marks.{Effect.TheVariants.Over, Mark.Mark}
-use Rattle.cone_run.specs.Cones.{IsCone, GivesCone, IsConeFault, cone_units}
+use Rattle.cone_run.specs.{Cones.IsCone, Cones.GivesCone, Cones.IsConeFault, Cones.cone_units, Runs.IsListFault}
 use Rattle.cone_run.specs.Marks.{AreMarks, AreUnits, HasWriter, InRecordOrder, IsBefore, IsEffect, IsMark, Marks, without}
-use Rattle.cone_run.specs.Runs.{IsListFault}
 use Rattle.cone_run.proofs.Units.{nothing_last}
 use Rattle.cone_run.specs.Marking.{AreMarksIn, AreMarksTo, HasMarks, IsMarked, IsMarkIn, IsTestFault, IsTestMarked}
 

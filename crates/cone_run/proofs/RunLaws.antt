@@ -12,8 +12,7 @@ use Rattle.test_run.specs.declared.run_fault.RunFault.{RunFault}
 use Rattle.test_run.specs.declared.run_fault.RunFault.TheVariants as fault
 use Rattle.test_run.specs.Outcomes.{given_in}
 use Rattle.test_run.specs.Running.{IsAfter, IsRefused, IsTest, Machined, Posted}
-use Rattle.cone_run.specs.Cones.{ended_units_on, cone_units}
-use Rattle.cone_run.specs.Runs.{IsListFault, IsNextFault, IsPieceOf, RanAfter}
+use Rattle.cone_run.specs.{Cones.ended_units_on, Cones.cone_units, Runs.IsListFault, Runs.IsNextFault, Runs.IsPieceOf, Runs.RanAfter}
 use Rattle.cone_run.proofs.Units.{ended_both, over_both, units_are}
 
 -- a test's budget is at most the limit of a suite

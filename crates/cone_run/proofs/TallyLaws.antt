@@ -8,8 +8,7 @@ use Rattle.jvm_model.specs.Texts.{is_passed, count_line}
 use Rattle.test_run.specs.Running.{Posted}
 use Rattle.test_run.specs.Tallies.{IsCount, IsFew, IsTally, head_of, tally_with}
 use Rattle.test_run.specs.declared.tallies.Tally.{Tally}
-use Rattle.test_run.proofs.Joins.{join2, join3}
-use Rattle.test_run.proofs.TallyLaws.{all_more, few_of, tally_next}
+use Rattle.test_run.proofs.{Joins.join2, Joins.join3, TallyLaws.all_more, TallyLaws.few_of, TallyLaws.tally_next}
 use Rattle.cone_run.specs.ConesText.{cones_line, cones_text, count_run, outcomes}
 
 -- the line that begins with a head

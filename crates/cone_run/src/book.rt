@@ -1,8 +1,7 @@
 //! The pieces of cones, which lie under one lock.
 
 ghost use Rattle.std.specs.Prelude.{◌≡◌, ℕ, ◌<◌, ◌≤◌, length, get_or, sum_by, false, true, not, None, IfOk};
-ghost use Rattle.cone_run.specs.Books.{AreLeft, IsPosted, posted_units};
-ghost use Rattle.cone_run.specs.Cones.{cone_units};
+ghost use Rattle.cone_run.specs.{Books.AreLeft, Books.IsPosted, Books.posted_units, Cones.cone_units};
 
 use et_base::NoMemory;
 use std::alloc::Global;

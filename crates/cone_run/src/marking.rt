@@ -6,9 +6,7 @@ ghost use Rattle.order_law.specs.Conflicts.{Member};
 ghost use Rattle.type_frames.specs.Typing.{IsTyped};
 ghost use Rattle.dep_graph.specs.Graphs.{GoUp};
 ghost use Rattle.test_run.specs.Running.{IsTest};
-ghost use Rattle.cone_run.specs.Cones.{IsCone, IsConeFault, cone_units};
-ghost use Rattle.cone_run.specs.Runs.{HasTest};
-ghost use Rattle.cone_run.specs.Marking.{AreMarksIn, HasMarks, IsTestFault};
+ghost use Rattle.cone_run.specs.{Cones.IsCone, Cones.IsConeFault, Cones.cone_units, Runs.HasTest, Marking.AreMarksIn, Marking.HasMarks, Marking.IsTestFault};
 ghost use Rattle.cone_run.specs.Marks.{AreMarks, HasSpent, HasWriter, without};
 
 use crate::effects::effect_of;

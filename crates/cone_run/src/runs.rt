@@ -3,8 +3,7 @@
 ghost use Rattle.std.specs.Prelude.{◌≡◌, ◌+◌, ◌*◌, ◌<◌, ◌≤◌, ◌^◌, All, length, false, IfOk, IfErr, OnOk, OnErr};
 ghost use Rattle.type_frames.specs.Typing.{IsTyped};
 ghost use Rattle.test_run.specs.Running.{IsTest};
-ghost use Rattle.cone_run.specs.Cones.{cone_units};
-ghost use Rattle.cone_run.specs.Runs.{IsListFault, IsNextFault, IsPieceOf, RanAfter};
+ghost use Rattle.cone_run.specs.{Cones.cone_units, Runs.IsListFault, Runs.IsNextFault, Runs.IsPieceOf, Runs.RanAfter};
 
 use outside::{Gate, Steps};
 use std::sync::ledger::Ledger;

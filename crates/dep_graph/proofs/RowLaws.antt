@@ -6,10 +6,8 @@ use Rattle.std.proofs.Math.Seq.{drop-cons}
 use Rattle.order_law.specs.declared.edges.{Edge.Edge, EdgeKind.EdgeKind}
 use Rattle.order_law.specs.Conflicts.{HasEdge, Before, edge, chain}
 use Rattle.dep_graph.specs.declared.sets.TestSet.{TestSet}
-use Rattle.dep_graph.specs.Graphs.{AreOrdered, AreRows, nothing, has_row}
-use Rattle.dep_graph.specs.Sets.{holds}
-use Rattle.dep_graph.proofs.Bits.{empty_held}
-use Rattle.dep_graph.proofs.Edges.{edge_taken, edge_dropped, before_either, before_from}
+use Rattle.dep_graph.specs.{Graphs.AreOrdered, Graphs.AreRows, Graphs.nothing, Graphs.has_row, Sets.holds}
+use Rattle.dep_graph.proofs.{Bits.empty_held, Edges.edge_taken, Edges.edge_dropped, Edges.before_either, Edges.before_from}
 
 -- the next edge stands in the rest
 pub next_edge : (R : List Edge) (i : ℕ) (e : Edge) → i < length R → e ≡ get_or R i e → HasEdge (drop i R) e.kind e.earlier e.later

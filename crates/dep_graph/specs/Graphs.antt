@@ -1,8 +1,7 @@
 -- What a graph keeps of the edges of a record.
 use Rattle.std.specs.Prelude.{◌≡◌, ◌↔◌, ℕ, ◌+◌, ◌<◌, ◌≤◌, List, [], take, drop, get_or, length, Bool, true}
 use Rattle.order_law.specs.declared.edges.{Edge.Edge, EdgeKind.EdgeKind, EdgeKind.TheVariants.Raw}
-use Rattle.order_law.specs.Conflicts.{Member, HasEdge, Before}
-use Rattle.order_law.specs.Plan.{Ascending}
+use Rattle.order_law.specs.{Conflicts.Member, Conflicts.HasEdge, Conflicts.Before, Plan.Ascending}
 use Rattle.dep_graph.specs.declared.sets.TestSet.{TestSet}
 use Rattle.dep_graph.specs.Sets.{holds}
 

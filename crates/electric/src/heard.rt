@@ -2,8 +2,7 @@
 
 ghost use Rattle.std.specs.Prelude.{◌≡◌, ◌≤◌, ◌<◌, length, take, IfOk};
 ghost use Rattle.std.specs.Result.{result_unwrap_or};
-ghost use Rattle.outside.specs.Counts.{Rose};
-ghost use Rattle.outside.specs.Sink.{appended, lowered, HasRoom};
+ghost use Rattle.outside.specs.{Counts.Rose, Sink.appended, Sink.lowered, Sink.HasRoom};
 
 use et_base::Text;
 use outside::{Sink, SinkFailed};

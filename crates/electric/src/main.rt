@@ -24,8 +24,7 @@ ghost use Rattle.std.specs.Process.{exit_status};
 ghost use Rattle.outside.specs.Counts.{Rose};
 ghost use Rattle.electrictest.specs.declared.status.Status.TheVariants as ends;
 ghost use Rattle.electrictest.specs.{Commands.Writes, Codes.code_of};
-ghost use Rattle.electric.specs.Answers.{Answers, word_text, words_text};
-ghost use Rattle.electric.specs.Gathered.{HandedOn};
+ghost use Rattle.electric.specs.{Answers.Answers, Answers.word_text, Answers.words_text, Gathered.HandedOn};
 
 mod gathered;
 mod heard;

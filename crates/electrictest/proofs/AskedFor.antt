@@ -7,8 +7,7 @@ use Rattle.electrictest.specs.declared.status.{InputFault.InputFault, OverFault.
 use Rattle.electrictest.specs.declared.words.Command.{Command}
 use Rattle.electrictest.specs.declared.words.Command.TheVariants as command
 use Rattle.electrictest.specs.Causes.{AsksAny, AsksSuch, MayReport, reads_files, reads_record, tells_verdicts}
-use Rattle.electrictest.specs.Loads.{IsNamed}
-use Rattle.electrictest.specs.Replies.{Reports, ReportsBy, OversBy}
+use Rattle.electrictest.specs.{Loads.IsNamed, Replies.Reports, Replies.ReportsBy, Replies.OversBy}
 use Rattle.electrictest.specs.Words.{Ask, Asking, IsOverSuite, IsServed, OfGenerated, command_of, form_of, form_words, has_eager, is_eager, only, plain_of, refusal_of, suite_named, unformed, word_at}
 
 -- what a command is answered is answered to words that ask for it

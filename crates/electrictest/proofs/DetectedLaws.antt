@@ -13,8 +13,7 @@ use Rattle.electrictest.specs.declared.status.Status.{Status}
 use Rattle.electrictest.specs.{Commands.Asked, Commands.Served, OwnLists.DetectedOrderAnswer, OwnPools.DetectedAnswer}
 use Rattle.electrictest.specs.Loads.{LoadsNamed, LoadsAny, quieted, prepared}
 use Rattle.electrictest.specs.OwnRecords.{AsksOwnRecord, HoldsSaying, HoldsText}
-use Rattle.electrictest.specs.Records.{record_bytes, record_limit, within_limit}
-use Rattle.electrictest.specs.Words.{Ask, is_eager, suite_word, word_at}
+use Rattle.electrictest.specs.{Records.record_bytes, Records.record_limit, Records.within_limit, Words.Ask, Words.is_eager, Words.suite_word, Words.word_at}
 use Rattle.electrictest.proofs.{LoadedFacts.loaded_from, OwnAnswers.own_answer, OwnOrderLaws.own_order_answer, RecordSizes.record_short}
 
 -- ---- a suite that is loaded has sums

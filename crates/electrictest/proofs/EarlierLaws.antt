@@ -1,9 +1,8 @@
 -- With the record that `detect` wrote of the suite's earlier state, each test that an impact doesn't name has the lines that it had.
 use Rattle.std.proofs.Common.{◌≡◌, ℕ, zero, suc, ◌+◌, ◌<◌, ◌≤◌, List, [], ◌∷◌, length, map, slice_get, filter, Bool, true, false, cond, ◌==◌, refl, sym, ap, ◌∙◌, subst, inl, inr, arith, Option, Some, None, option_map, unwrap_or, IsSome, Result, Ok, Err}
 use Rattle.std.specs.{List.range_with_len, Str.bytes_eq}
-use Rattle.std.proofs.lemmas.Bool.{cases_eq, eq-eqb, false≢true}
+use Rattle.std.proofs.lemmas.{Bool.cases_eq, Bool.eq-eqb, Bool.false≢true, List.length-map}
 use Rattle.std.proofs.{lemmas.Slice.Eq.bytes_eq-Decides, lemmas.List.FromFn.length-map-range_with_len}
-use Rattle.std.proofs.lemmas.List.{length-map}
 use Rattle.sha2.specs.Sha256.{sha256}
 use Rattle.jvm_model.specs.declared.program.{Names.Names, Program.Program}
 use Rattle.jvm_model.specs.{Texts.outcome_lines, Suite.is_detected, Suite.seq}
@@ -17,15 +16,13 @@ use Rattle.suite_load.specs.declared.loaded.Loaded.{Loaded}
 use Rattle.suite_load.specs.declared.load_fault.LoadFault.{LoadFault}
 use Rattle.suite_load.specs.Loading.{bytes_of, lines_of, names_in}
 use Rattle.suite_load.proofs.{GoodLines.IsGood, LinkedCounts.tests_linked}
-use Rattle.impact_pick.specs.Pick.{changed, is_picked, picked}
-use Rattle.impact_pick.specs.ImpactText.{impact_text}
+use Rattle.impact_pick.specs.{Pick.changed, Pick.is_picked, Pick.picked, ImpactText.impact_text}
 use Rattle.impact_pick.proofs.ImpactLaw.{impact_law}
 use Rattle.electrictest.specs.declared.status.{Status.Status, InputFault.InputFault, OverFault.OverFault}
 use Rattle.electrictest.specs.declared.status.Status.TheVariants as ends
 use Rattle.electrictest.specs.declared.words.Command.TheVariants as command
-use Rattle.electrictest.specs.Commands.{Asked, Served, Whole}
+use Rattle.electrictest.specs.{Commands.Asked, Commands.Served, Commands.Whole, Impacts.IsImpacted}
 use Rattle.electrictest.specs.EarlierRecords.{AsksEarlier, WroteImpact, EarlierAnswer, KeptLines, lines_in}
-use Rattle.electrictest.specs.Impacts.{IsImpacted}
 use Rattle.electrictest.specs.Loads.{LoadsFor, LoadsAny, begun_by, fits_for, named_by}
 use Rattle.electrictest.specs.Records.{Beginning, nameless, begun, record_at, record_bytes, suite_fits, classes_fit, earlier_fits}
 use Rattle.electrictest.specs.Replies.{IsRefusedInput, unloaded, unbegun, unlawful, ReportsBy, OversBy}

@@ -6,9 +6,7 @@ use Rattle.generated_law.specs.{GeneratedLaw.LoadLaw, GeneratedRun.RunLaw, Gener
 use Rattle.generated_law.specs.GeneratedRecord.{ChainLaw, IsGeneratedRecord, RecordLaw}
 use Rattle.generated_law.specs.GeneratedSuite.{gen_program, gen_test, generated_program, generated_suite, suite_files, suite_name}
 use Rattle.jvm_model.specs.declared.program.Program.{Program}
-use Rattle.jvm_model.specs.Linked.{Linked}
-use Rattle.jvm_model.specs.Suite.{all_tests, is_detected, seq}
-use Rattle.jvm_model.specs.Texts.{count_line, is_error, is_failed, is_passed}
+use Rattle.jvm_model.specs.{Linked.Linked, Suite.all_tests, Suite.is_detected, Suite.seq, Texts.count_line, Texts.is_error, Texts.is_failed, Texts.is_passed}
 use Rattle.jvm_model.proofs.Detection.{no_fault_where_detected}
 use Rattle.order_law.specs.declared.records.Record.{Record}
 use Rattle.order_law.specs.declared.edges.Edge.{Edge}

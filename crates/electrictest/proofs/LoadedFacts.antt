@@ -27,8 +27,7 @@ use Rattle.type_frames.specs.Typing.{check_fault, IsTyped}
 use Rattle.type_checker.proofs.Typed.{typed_none}
 use Rattle.class_link.proofs.LinkLaw.{links_linked}
 use Rattle.electrictest.specs.declared.status.Status.{Status}
-use Rattle.electrictest.specs.Loads.{LoadsNamed, LoadsAny, answered, prepared}
-use Rattle.electrictest.specs.EarlierRecords.{HoldBytes, SumsTell}
+use Rattle.electrictest.specs.{Loads.LoadsNamed, Loads.LoadsAny, Loads.answered, Loads.prepared, EarlierRecords.HoldBytes, EarlierRecords.SumsTell}
 
 -- a step that went on
 went_on : {A B : Type 0} (r : Result A LoadFault) (f : A → Result B LoadFault) (y : B) → (r >>= f) ≡ Ok y → (x : A) × (r ≡ Ok x) × (f x ≡ Ok y)

@@ -1,18 +1,16 @@
 -- The outcomes of a list of tests, in suite order.
 use Rattle.std.proofs.Common.{◌≡◌, ℕ, zero, suc, ◌+◌, ◌-◌, ◌<◌, ◌≤◌, List, [], ◌∷◌, ◌++◌, length, map, get_or, drop, filter, flat_map, sum_by, count_by, cond, nat_eq, Bool, true, false, refl, sym, ap, ◌∙◌, inl, inr, arith, append_assoc, codes, None, All, subst}
 use Rattle.std.specs.List.{range_with_len}
-use Rattle.std.proofs.lemmas.Bool.{cases_eq}
+use Rattle.std.proofs.lemmas.{Bool.cases_eq, List.append-nil, List.drop_more, List.drop_all}
 use Rattle.std.proofs.{lemmas.Bool.Decides.nat_tests, lemmas.List.Sums.sum_by-cons, lemmas.List.Sums.sum_by-append}
-use Rattle.std.proofs.lemmas.List.{append-nil, drop_more, drop_all}
 use Rattle.jvm_model.specs.declared.outcome.Outcome.{Outcome}
 use Rattle.jvm_model.specs.declared.program.Names.{Names}
 use Rattle.jvm_model.specs.Texts.{is_passed, is_failed, is_error, head_line, count_line, verdict_line, outcome_lines, test_lines, report_on}
 use Rattle.order_law.specs.Conflicts.{Member}
 use Rattle.schedule_plan.proofs.Places.{place_of}
 use Rattle.test_run.specs.declared.tallies.Counts.{Counts}
-use Rattle.electrictest.specs.Orders.{paired, is_of, by_test, order_report}
+use Rattle.electrictest.specs.{Orders.paired, Orders.is_of, Orders.by_test, Orders.order_report, Tallies.report_text}
 use Rattle.test_run.specs.Tallies.{IsCount}
-use Rattle.electrictest.specs.Tallies.{report_text}
 
 abbrev Listed : Type 0
 Listed = List (ℕ × Outcome)

@@ -4,13 +4,11 @@ use Rattle.outside.specs.{Depot.Files, Sink.SinkView}
 use Rattle.suite_load.specs.declared.loaded.Loaded.{Loaded}
 use Rattle.electrictest.specs.declared.status.{Status.Status, InputFault.InputFault, OverFault.OverFault}
 use Rattle.electrictest.specs.declared.status.Status.TheVariants as ends
-use Rattle.electrictest.specs.Commands.{Asked, Served, Whole}
-use Rattle.electrictest.specs.Loads.{Begins, begun_by, fits_for, named_by}
-use Rattle.electrictest.specs.OwnPools.{AsksOwnRun, WroteOwn, OwnAnswer}
+use Rattle.electrictest.specs.{Commands.Asked, Commands.Served, Commands.Whole, Loads.Begins, Loads.begun_by, Loads.fits_for, Loads.named_by}
+use Rattle.electrictest.specs.{OwnPools.AsksOwnRun, OwnPools.WroteOwn, OwnPools.OwnAnswer, Words.Ask, Words.Asking, Words.is_eager, Words.suite_word}
 use Rattle.electrictest.specs.{OwnRecords.HoldsSaying, Records.Beginning}
 use Rattle.electrictest.specs.PoolRuns.{IsPoolRun, IsPoolOver, IsPoolReport, IsOverPool, IsOfSuite, LawOfOwnRuns}
 use Rattle.electrictest.specs.Replies.{IsRefusedInput, unloaded, unbegun, unlawful, ReportsBy, OversBy}
-use Rattle.electrictest.specs.Words.{Ask, Asking, is_eager, suite_word}
 use Rattle.electrictest.proofs.OwnRecordLaws.{any_once, own_start, begun_by_own, begins_once, starts_once, own_ends}
 use Rattle.electrictest.proofs.PoolLaws.{own_runs}
 

@@ -2,8 +2,7 @@
 use Rattle.std.proofs.Common.{◌≡◌, ℕ, ◌+◌, List, [], ◌∷◌, map, Bool, true, Option, Some, None, Ok, Err, refl, sym, ap, ◌∙◌, subst, inl, inr, arith}
 use Rattle.jvm_model.specs.declared.outcome.Outcome.{Outcome}
 use Rattle.jvm_model.specs.declared.program.Program.{Program}
-use Rattle.jvm_model.specs.Linked.{Linked}
-use Rattle.jvm_model.specs.Suite.{first_over, is_detected, last_outcome, seq}
+use Rattle.jvm_model.specs.{Linked.Linked, Suite.first_over, Suite.is_detected, Suite.last_outcome, Suite.seq}
 use Rattle.order_law.specs.declared.edges.{Edge.Edge, EdgeKind.TheVariants.Raw}
 use Rattle.order_law.specs.{Conflicts.HasEdge, Conflicts.Member, Histories.IsTestNumber, Histories.touches_of, OwnRecord.edges_of, OwnRecord.owner}
 use Rattle.order_law.specs.Pairing.{no_more, one_more}
@@ -19,12 +18,10 @@ use Rattle.electrictest.specs.declared.status.{Status.Status, InputFault.InputFa
 use Rattle.electrictest.specs.declared.status.Status.TheVariants as ends
 use Rattle.electrictest.specs.declared.words.Command.{Command}
 use Rattle.electrictest.specs.declared.words.Command.TheVariants as command
-use Rattle.electrictest.specs.Commands.{Asked, Served, Whole}
-use Rattle.electrictest.specs.ConeRuns.{IsConeReport, IsOverCone, OfBegun}
-use Rattle.electrictest.specs.Loads.{Begins, begun_by, fits_for, named_by}
+use Rattle.electrictest.specs.{Commands.Asked, Commands.Served, Commands.Whole, ConeRuns.IsConeReport, ConeRuns.IsOverCone, ConeRuns.OfBegun}
+use Rattle.electrictest.specs.{Loads.Begins, Loads.begun_by, Loads.fits_for, Loads.named_by, Records.Beginning, Records.record_fits}
 use Rattle.electrictest.specs.{Manifests.IsManifest, OwnRecords.AsksOwnRecord, OwnRecords.HoldsSaying, PoolRuns.IsOfSuite}
 use Rattle.electrictest.specs.OwnCones.{AsksOwn, HoldsRecord, IsOwnConeReport, IsOwnManifest, IsOwnMark, OwnConesAnswer, OwnManifestAnswer, WroteBy}
-use Rattle.electrictest.specs.Records.{Beginning, record_fits}
 use Rattle.electrictest.specs.Replies.{IsRefusedInput, unloaded, unbegun, unlawful, ReportsBy, OversBy}
 use Rattle.electrictest.specs.Words.{Ask, Asking, is_eager, suite_word}
 use Rattle.electrictest.proofs.DetectedLaws.{says_own}

@@ -12,13 +12,11 @@ use Rattle.outside.specs.{Depot.Files, Sink.SinkView}
 use Rattle.suite_load.specs.declared.loaded.Loaded.{Loaded}
 use Rattle.electrictest.specs.declared.status.{Status.Status, InputFault.InputFault, OverFault.OverFault}
 use Rattle.electrictest.specs.declared.status.Status.TheVariants as ends
-use Rattle.electrictest.specs.Commands.{Asked, Served, Whole}
-use Rattle.electrictest.specs.Loads.{Begins, begun_by, fits_for, named_by}
+use Rattle.electrictest.specs.{Commands.Asked, Commands.Served, Commands.Whole, Loads.Begins, Loads.begun_by, Loads.fits_for, Loads.named_by}
 use Rattle.electrictest.specs.Orders.{IsOrderReport, IsOrdered, IsOrderedOver, IsOverOrder, IsUnlawful, OwnOrders}
-use Rattle.electrictest.specs.OwnLists.{AsksOwnOrder, WroteOrder, OwnOrderAnswer}
+use Rattle.electrictest.specs.{OwnLists.AsksOwnOrder, OwnLists.WroteOrder, OwnLists.OwnOrderAnswer, Words.Ask, Words.Asking, Words.is_eager, Words.suite_word}
 use Rattle.electrictest.specs.{OwnRecords.HoldsSaying, PoolRuns.IsOfSuite, Records.Beginning}
 use Rattle.electrictest.specs.Replies.{IsRefusedInput, unloaded, unbegun, unlawful, ReportsBy, OversBy}
-use Rattle.electrictest.specs.Words.{Ask, Asking, is_eager, suite_word}
 use Rattle.electrictest.proofs.OwnRecordLaws.{any_once, own_start, begun_by_own, begins_once, starts_once, own_ends}
 
 -- ---- an order by the suite's own edges

@@ -12,9 +12,8 @@ use Rattle.suite_load.specs.declared.loaded.Loaded.{Loaded}
 use Rattle.suite_load.proofs.LoadOnce.{loads_once}
 use Rattle.electrictest.specs.declared.status.{Status.Status, InputFault.InputFault, OverFault.OverFault}
 use Rattle.electrictest.specs.declared.status.Status.TheVariants as ends
-use Rattle.electrictest.specs.Commands.{Asked, Served, Whole}
+use Rattle.electrictest.specs.{Commands.Asked, Commands.Served, Commands.Whole, OwnRecords.AsksOwnRecord, OwnRecords.HoldsSaying, OwnRecords.OwnEndsBy}
 use Rattle.electrictest.specs.Loads.{LoadsFor, LoadsNamed, LoadsAny, answered, prepared, Begins, begun_by, fits_for, named_by}
-use Rattle.electrictest.specs.OwnRecords.{AsksOwnRecord, HoldsSaying, OwnEndsBy}
 use Rattle.electrictest.specs.Records.{Beginning, begun, record_at, record_fits, classes_fit}
 use Rattle.electrictest.specs.Replies.{IsRefusedInput, Reports, OversBy}
 use Rattle.electrictest.specs.Words.{Ask, is_eager, word_at, suite_word, unformed}

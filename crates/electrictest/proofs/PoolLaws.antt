@@ -5,8 +5,7 @@ use Rattle.jvm_model.specs.declared.program.Program.{Program}
 use Rattle.jvm_model.specs.Suite.{seq}
 use Rattle.order_law.specs.declared.edges.{Edge.Edge, EdgeKind.TheVariants.Raw}
 use Rattle.order_law.specs.Conflicts.{Member, Closure, selected, source, ClosedUnderRaw}
-use Rattle.order_law.specs.Histories.{RecordOf, IsTestNumber, touches_of}
-use Rattle.order_law.specs.OwnRecord.{edges_of, owner}
+use Rattle.order_law.specs.{Histories.RecordOf, Histories.IsTestNumber, Histories.touches_of, OwnRecord.edges_of, OwnRecord.owner}
 use Rattle.order_law.specs.Plan.{Event, claim, post, Legal, PostsSequential, Posted, chain_at}
 use Rattle.order_law.proofs.{OwnRecord.is_record, Plans.law_of_interleavings, Posts.legal_once, Posts.posted_where}
 use Rattle.order_law.specs.Plan as law

@@ -8,8 +8,7 @@ use Rattle.electrictest.specs.declared.status.Status.TheVariants as ends
 use Rattle.electrictest.specs.declared.words.Command.TheVariants as command
 use Rattle.electrictest.specs.declared.recorded.Request.{Request}
 use Rattle.electrictest.specs.{Words.Ask, Selections.IsTestOf, Records.Beginning, Records.beginning, Loads.IsSuite, Loads.begun_by}
-use Rattle.electrictest.specs.Causes.{AsksSuch, runs_tests}
-use Rattle.electrictest.specs.Commands.{ReportEnds, ReportsOver, RefusedOver}
+use Rattle.electrictest.specs.{Causes.AsksSuch, Causes.runs_tests, Commands.ReportEnds, Commands.ReportsOver, Commands.RefusedOver}
 use Rattle.electrictest.specs.PoolRuns.{IsOfSuite, IsPoolOver, IsPoolRun, PoolReports, PoolRefused}
 use Rattle.electrictest.proofs.{AskedFor.reports_as, AskedFor.overs_as, ChosenLaws.units_are_tests, PlanLaws.tests_have}
 

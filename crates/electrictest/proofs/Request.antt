@@ -9,9 +9,8 @@ use Rattle.electrictest.specs.declared.status.{Status.Status, InputFault.InputFa
 use Rattle.electrictest.specs.declared.status.Status.TheVariants as ends
 use Rattle.electrictest.specs.declared.status.InputFault.TheVariants as input
 use Rattle.electrictest.specs.declared.words.Command.TheVariants as command
-use Rattle.electrictest.specs.Words.{Ask, Asking, word_at}
+use Rattle.electrictest.specs.{Words.Ask, Words.Asking, Words.word_at, Records.Beginning, Records.Gives, Records.begun, Records.says}
 use Rattle.electrictest.specs.{Selections.IsTestOf, Replies.unbegun}
-use Rattle.electrictest.specs.Records.{Beginning, Gives, begun, says}
 use Rattle.electrictest.specs.Loads.{IsSuite, named_by, fits_for, begun_by, of_record}
 use Rattle.electrictest.specs.Causes.{AsksSuch, IsOfRecord, MayRefuse, names_tests, reads_record}
 use Rattle.electrictest.specs.Commands.{Fails, IsNameRefusal, IsProperInput, IsRecordRefusal, ReportEnds, RefusedOver}

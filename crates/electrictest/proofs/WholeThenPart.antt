@@ -9,8 +9,7 @@ use Rattle.order_law.specs.declared.edges.{Edge.Edge, EdgeKind.TheVariants.Raw}
 use Rattle.order_law.specs.Conflicts.{Member, Distinct, edge, Fits, History, ClosedUnderRaw, itself, forth, back}
 use Rattle.order_law.specs.Histories.{RecordOf, IsTestNumber}
 use Rattle.order_law.specs.Plan.{Ascending, AreChainsOf, IsWholeThenPart, chain_at, whole_chains}
-use Rattle.order_law.proofs.Plans.{before_rises, next_outcome}
-use Rattle.order_law.proofs.Posts.{member_mid, below_mid, reversed}
+use Rattle.order_law.proofs.{Plans.before_rises, Plans.next_outcome, Posts.member_mid, Posts.below_mid, Posts.reversed}
 use Rattle.worker_pool.specs.Plans.{GivesNone}
 
 -- what stands before a place of an ascending list is lower

@@ -1,8 +1,7 @@
 -- What the top call promises: its status, the bytes on the sink and the steps (this project's).
 use Rattle.std.specs.Prelude.{◌≡◌, ◌≢◌, ◌⊎◌, ℕ, ◌+◌, ◌-◌, ◌^◌, ◌≤◌, List, length, Bool, true, false, Ok}
-use Rattle.outside.specs.Counts.{Rose}
+use Rattle.outside.specs.{Counts.Rose, Sink.SinkView, Sink.TookPrefix, Sink.appended, Sink.HasRoom}
 use Rattle.outside.specs.Depot.{Files, Told, DepotView, FailedAt, OfHeld}
-use Rattle.outside.specs.Sink.{SinkView, TookPrefix, appended, HasRoom}
 use Rattle.class_reader.specs.declared.fault.ClassFault.TheVariants as class
 use Rattle.class_link.specs.declared.fault.LinkFault.TheVariants as linking
 use Rattle.type_frames.specs.declared.fault.CheckFault.TheVariants as checking

@@ -4,8 +4,7 @@ use Rattle.std.specs.List.{list_all}
 use Rattle.jvm_model.specs.{State.test_at, Texts.is_passed}
 use Rattle.order_law.specs.Conflicts.{Member}
 use Rattle.test_run.specs.Running.{Posted}
-use Rattle.cone_run.specs.Cones.{AreConesOf, IsFirstOver, cone_units}
-use Rattle.cone_run.specs.ConesText.{cones_text, outcomes}
+use Rattle.cone_run.specs.{Cones.AreConesOf, Cones.IsFirstOver, Cones.cone_units, ConesText.cones_text, ConesText.outcomes}
 use Rattle.outside.specs.Depot.{Files}
 use Rattle.selection_close.specs.Closed.{IsAscendingOf}
 use Rattle.suite_load.specs.declared.loaded.Loaded.{Loaded}

@@ -4,8 +4,7 @@ use Rattle.jvm_model.specs.Suite.{is_detected}
 use Rattle.outside.specs.Depot.{Files}
 use Rattle.suite_load.specs.declared.loaded.Loaded.{Loaded}
 use Rattle.quiet_law.specs.QuietLaw.{NeverOverflows, AllNoDearer}
-use Rattle.electrictest.specs.EarlierRecords.{HoldBytes}
-use Rattle.electrictest.specs.Loads.{LoadsFor, LoadsNamed, quieted}
+use Rattle.electrictest.specs.{EarlierRecords.HoldBytes, Loads.LoadsFor, Loads.LoadsNamed, Loads.quieted}
 use Rattle.electrictest.specs.Words.{Ask, is_eager, refusal_of, word_at}
 
 -- The words ask for an eager form over this suite, whose own run, as it is, ends within its limits; and no step of that run throws

@@ -1,8 +1,7 @@
 -- What becomes of each test without one of its raw writers, by a loaded suite and what it begins with (this project's).
 use Rattle.std.specs.Prelude.{◌≡◌, ℕ, List, length, Bool, true}
 use Rattle.cone_run.specs.declared.marks.Mark.{Mark}
-use Rattle.cone_run.specs.ManifestText.{manifest_text}
-use Rattle.cone_run.specs.Marks.{AreMarks, AreUnits, HasWriter}
+use Rattle.cone_run.specs.{ManifestText.manifest_text, Marks.AreMarks, Marks.AreUnits, Marks.HasWriter}
 use Rattle.outside.specs.Depot.{Files}
 use Rattle.suite_load.specs.declared.loaded.Loaded.{Loaded}
 use Rattle.electrictest.specs.declared.status.OverFault.{OverFault}

@@ -7,8 +7,7 @@ use Rattle.suite_load.specs.declared.loaded.Loaded.{Loaded}
 use Rattle.electrictest.specs.declared.status.Status.{Status}
 use Rattle.electrictest.specs.declared.words.Command.TheVariants as command
 use Rattle.electrictest.specs.{Commands.Asked, Commands.Whole, PoolRuns.IsPoolReport, PoolRuns.AreOwn, Records.Beginning, Selections.selected}
-use Rattle.electrictest.specs.OwnRecords.{AsksOwnRecord, HoldsSaying, HoldsText, OwnEndsBy}
-use Rattle.electrictest.specs.Words.{Ask, word_at}
+use Rattle.electrictest.specs.{OwnRecords.AsksOwnRecord, OwnRecords.HoldsSaying, OwnRecords.HoldsText, OwnRecords.OwnEndsBy, Words.Ask, Words.word_at}
 
 -- the words ask for a run of these tests, by the suite's own record
 pub record AsksOwnRun (Holds : Files → List ℕ → Record → Type 0) (files : Files) (a : Ask) (workers : ℕ) (log : Bool) (l : Loaded) (tests : List ℕ) : Type 0 where

@@ -10,12 +10,10 @@ use Rattle.electrictest.specs.declared.status.InputFault.TheVariants as input
 use Rattle.electrictest.specs.declared.status.OverFault.TheVariants as over
 use Rattle.electrictest.specs.declared.words.Command.TheVariants as command
 use Rattle.electrictest.specs.FaultTexts.{why_text, class_text, link_text, check_text}
-use Rattle.electrictest.specs.Words.{Asking, Ask, unformed}
+use Rattle.electrictest.specs.{Words.Asking, Words.Ask, Words.unformed, Loads.LoadsFor, Loads.Begins, Loads.IsReadFor}
 use Rattle.electrictest.specs.{Records.Beginning, Wholes.IsReport, Wholes.IsOver, PoolRuns.IsPoolRun, PoolRuns.IsPoolOver, Plans.IsPlanned, Impacts.IsImpacted}
-use Rattle.electrictest.specs.Loads.{LoadsFor, Begins, IsReadFor}
-use Rattle.electrictest.specs.Orders.{IsUnlawful, IsOrdered, IsOrderedOver}
+use Rattle.electrictest.specs.{Orders.IsUnlawful, Orders.IsOrdered, Orders.IsOrderedOver, QuietLists.IsQuietList}
 use Rattle.electrictest.specs.{ConeRuns.IsConed, ConeRuns.IsConedOver, Manifests.IsManifested, Manifests.IsManifestedOver, Generated.IsSummary}
-use Rattle.electrictest.specs.QuietLists.{IsQuietList}
 use Rattle.electrictest.specs.Detections.{IsDetected, recorded, dependences}
 
 -- Why the input is refused: by its loading; by the names in the words, or the record; or by an order that isn't lawful.

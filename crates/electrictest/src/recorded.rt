@@ -4,8 +4,7 @@ ghost use Rattle.std.specs.Prelude.{◌≡◌, ◌≤◌, [], length, true, Ok, 
 ghost use Rattle.outside.specs.Depot.{OfHeld, TellsOn};
 ghost use Rattle.dep_record.specs.{RecordReading.said_in, RecordText.said};
 ghost use Rattle.impact_pick.specs.Form.{fits_prints};
-ghost use Rattle.electrictest.specs.Commands.{Fails, IsRecordRefusal};
-ghost use Rattle.electrictest.specs.Records.{Gives, nothing, says};
+ghost use Rattle.electrictest.specs.{Commands.Fails, Commands.IsRecordRefusal, Records.Gives, Records.nothing, Records.says};
 ghost use Rattle.electrictest.specs.Records as records;
 
 use crate::status::{InputFault, Status};

@@ -6,9 +6,8 @@ ghost use Rattle.electrictest.specs.{Causes.MayReport, Complete.Complete, EagerF
 ghost use Rattle.electrictest.specs.Commands.{called, ReportEnds, Reported, ReportsOver, RefusedOver, Taken, Served, Ends};
 ghost use Rattle.electrictest.specs.{GeneratedAnswers.GeneratedAnswer, GeneratedAnswers.Summed, Loads.IsSuite};
 ghost use Rattle.electrictest.specs.{OwnCones.OwnConesAnswer, OwnCones.OwnManifestAnswer, OwnLists.DetectedOrderAnswer, OwnLists.OwnOrderAnswer};
-ghost use Rattle.electrictest.specs.OwnPools.{DetectedAnswer, OwnAnswer};
+ghost use Rattle.electrictest.specs.{OwnPools.DetectedAnswer, OwnPools.OwnAnswer, Words.threaded, Words.refusal_of, Words.IsOverSuite, Words.OfGenerated};
 ghost use Rattle.electrictest.specs.Replies as reply;
-ghost use Rattle.electrictest.specs.Words.{threaded, refusal_of, IsOverSuite, OfGenerated};
 
 use crate::asks::Ask;
 use crate::commands::{answered, report_for};

@@ -11,10 +11,9 @@ use Rattle.jvm_model.specs.Library.{builtin_defs, builtin_classes, builtin_field
 use Rattle.jvm_model.specs.{Classes.is_static, Classes.clinit_name, Driver.no_arguments}
 use Rattle.jvm_model.proofs.BuiltinRules.{lengths}
 use Rattle.class_link.specs.ClassNames.{text_at, all_names, class_number, number_or_first, needed_class}
-use Rattle.class_link.specs.Literals.{string_in, strings_of, noted, literals}
+use Rattle.class_link.specs.{Literals.string_in, Literals.strings_of, Literals.noted, Literals.literals, Link.setting}
 use Rattle.class_link.specs.Assembly.{mentions, is_initialiser, initialiser_from, class_rec, opening, field_rec, method_rec, assembled, bare_body, skeleton}
 use Rattle.class_link.specs.declared.link_environment.LinkEnvironment.{LinkEnvironment}
-use Rattle.class_link.specs.Link.{setting}
 use Rattle.suite_gen.specs.Generated.{group_count, slots, code_of, field_of, method_of, test_name, generated_class}
 use Rattle.generated_law.specs.GeneratedSuite.{method_name, gen_class, gen_field, gen_method, gen_program}
 use Rattle.generated_law.proofs.Pool.{Slots, Holds, holds, each_slot}

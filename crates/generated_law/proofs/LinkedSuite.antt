@@ -12,9 +12,8 @@ use Rattle.jvm_model.specs.declared.values.Value.TheVariants as value
 use Rattle.jvm_model.specs.declared.instr.Instr.TheVariants as form
 use Rattle.jvm_model.specs.declared.instr.Op.TheVariants as operation
 use Rattle.jvm_model.specs.declared.program.{Program.Program, ClassRec.ClassRec, MethodRec.MethodRec, Body.Body, TestEntry.TestEntry}
-use Rattle.jvm_model.specs.Library.{builtin_defs, builtin_classes, builtin_fields, builtin_methods}
+use Rattle.jvm_model.specs.{Library.builtin_defs, Library.builtin_classes, Library.builtin_fields, Library.builtin_methods, Driver.plain_method_in}
 use Rattle.jvm_model.specs.Classes.{class_at, is_static, is_abstract, is_interface, member, init_name}
-use Rattle.jvm_model.specs.Driver.{plain_method_in}
 use Rattle.jvm_model.specs.Linked.{IsDirect, IsAncestor, direct, further, test_method}
 use Rattle.jvm_model.proofs.BuiltinRules.{lengths}
 use Rattle.member_lookup.specs.Ancestors.{IsFirstCycle}
@@ -32,10 +31,9 @@ use Rattle.suite_gen.specs.Generated.{op, group_of, group_count, field_entry, co
 use Rattle.suite_gen.specs.Generated as generated
 use Rattle.generated_law.specs.GeneratedSuite.{method_name, said_test, said_suite, field_number, method_number, print_number, gen_class, gen_field, gen_method, gen_program, setting_body, printing_body, adding_body, gen_body, gen_test, generated_program, placed}
 use Rattle.generated_law.specs.GeneratedLaw.{LinkLaw}
-use Rattle.generated_law.proofs.Pool.{holds}
+use Rattle.generated_law.proofs.{Pool.holds, UsedEntries.none_first, UsedEntries.field_target_is, UsedEntries.print_target_is, UsedEntries.no_reference_fault}
 use Rattle.generated_law.proofs.Members.{class_is, method_is, holds_builtins, object_is, object_above, object_interfaces, method_found}
 use Rattle.generated_law.proofs.Assembling.{gen_names, own_number, object_number, assembled_is, gen_skeleton, gen_setting, skeleton_is, setting_is}
-use Rattle.generated_law.proofs.UsedEntries.{none_first, field_target_is, print_target_is, no_reference_fault}
 
 -- ---- names and supertypes
 

@@ -12,10 +12,8 @@ use Rattle.jvm_model.specs.declared.values.Location.TheVariants as place
 use Rattle.jvm_model.specs.declared.library.Native.TheVariants as native
 use Rattle.jvm_model.specs.declared.outcome.{Outcome.Outcome, Verdict.TheVariants.Passed}
 use Rattle.jvm_model.specs.declared.program.{Program.Program, ClassRec.ClassRec, FieldRec.FieldRec, MethodRec.MethodRec, TestEntry.TestEntry}
-use Rattle.jvm_model.specs.Library.{builtin_defs, builtin_classes, builtin_methods}
+use Rattle.jvm_model.specs.{Library.builtin_defs, Library.builtin_classes, Library.builtin_methods, World.World, World.at, World.put, Access.Ran, Access.run}
 use Rattle.jvm_model.specs.Classes.{no_class, no_method, class_at, method_at, is_interface, is_static, class_bound, upwards, lineage_in, first_mentions, own_interfaces, is_default_method, default_interfaces, declares_start, is_trivial}
-use Rattle.jvm_model.specs.World.{World, at, put}
-use Rattle.jvm_model.specs.Access.{Ran, run}
 use Rattle.jvm_model.specs.State.{no_test, test_at, started}
 use Rattle.jvm_model.specs.Suite.{opening, finished, End, whole, tree, Given, given_at, one_test, with_first, runs_on, runs, all_tests, outcome_in, given_by_test, seq, units_of, within_limit, suite_limit, is_detected}
 use Rattle.jvm_model.proofs.{BuiltinRules.builtin_class, BuiltinRules.builtin_method, Locations.at_put_same}

@@ -3,8 +3,7 @@ use Rattle.std.proofs.Common.{◌≡◌, ℕ, zero, suc, ◌<◌, ◌≤◌, Boo
 use Rattle.std.specs.Int.{w16, w32, byte_at, to_be_bytes, cast_signed}
 use Rattle.std.proofs.lemmas.{Bool.lt-ltb, Bool.and_from, Int.to_z-of_z, List.length-append}
 use Rattle.class_pool.specs.declared.pool.Entry.TheVariants.{Utf8, Class}
-use Rattle.class_pool.specs.Pool.{entry_of, text_of, class_name_of}
-use Rattle.class_pool.specs.Grammar.{IsBytes, Sized}
+use Rattle.class_pool.specs.{Pool.entry_of, Pool.text_of, Pool.class_name_of, Grammar.IsBytes, Grammar.Sized}
 use Rattle.code_decode.specs.declared.decoding.Code.{Code}
 use Rattle.code_decode.specs.declared.opcodes.Named.TheVariants as named
 use Rattle.code_decode.specs.CodeGrammar.{is_right, OpText, CodeText}

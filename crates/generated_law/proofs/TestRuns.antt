@@ -12,11 +12,9 @@ use Rattle.jvm_model.specs.declared.instr.Instr.TheVariants as form
 use Rattle.jvm_model.specs.declared.instr.Op.TheVariants as op
 use Rattle.jvm_model.specs.declared.outcome.{Own.Own, Verdict.TheVariants.Passed}
 use Rattle.jvm_model.specs.declared.program.{Program.Program, Body.Body, Placed.Placed}
-use Rattle.jvm_model.specs.World.{World, at, put, has}
+use Rattle.jvm_model.specs.{World.World, World.at, World.put, World.has, State.State, State.Turn, State.test_at, State.started, Step.step}
 use Rattle.jvm_model.specs.Access.{Access, Ran, done, write, spend, bind, run, read_of, write_of}
 use Rattle.jvm_model.specs.Classes.{field_at, method_at, found_of, form_at, next_place, is_static, is_trivial}
-use Rattle.jvm_model.specs.State.{State, Turn, test_at, started}
-use Rattle.jvm_model.specs.Step.{step}
 use Rattle.jvm_model.specs.Suite.{End, finished, after_step, whole}
 use Rattle.generated_law.specs.GeneratedSuite.{print_number, body_with, setting_body, printing_body, adding_body}
 use Rattle.generated_law.specs.GeneratedRun.{line_of}

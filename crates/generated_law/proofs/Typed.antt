@@ -4,8 +4,7 @@ use Rattle.std.specs.Prelude.{codes}
 use Rattle.std.specs.List.{range_with_len}
 use Rattle.std.proofs.Math.Seq.{drop-append_seam}
 use Rattle.jvm_model.specs.declared.program.{Program.Program, ClassRec.ClassRec, FieldRec.FieldRec, MethodRec.MethodRec, Body.Body}
-use Rattle.jvm_model.specs.Library.{builtin_defs, builtin_classes, builtin_methods}
-use Rattle.jvm_model.specs.Classes.{no_method, field_at, method_at}
+use Rattle.jvm_model.specs.{Library.builtin_defs, Library.builtin_classes, Library.builtin_methods, Classes.no_method, Classes.field_at, Classes.method_at}
 use Rattle.jvm_model.specs.Descriptors.{parameters, return_type}
 use Rattle.jvm_model.proofs.BuiltinRules.{lengths, builtin_method}
 use Rattle.type_frames.specs.{Frames.index_of, StackEffect.sides, Rules.broken}

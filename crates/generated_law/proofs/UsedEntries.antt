@@ -22,8 +22,7 @@ use Rattle.class_link.specs.References.{pair_of, field_target, method_target, ta
 use Rattle.class_link.specs.Faults.{first_some, uses_at, missing_or, wrong_unless, target_fault, entry_fault, references_fault, all_references_fault}
 use Rattle.suite_gen.specs.Generated.{group_of, group_count, field_entry, print_entry, setting, printing, adding, code_of, method_of, slots, generated_class}
 use Rattle.generated_law.specs.GeneratedSuite.{field_number, print_number, gen_program}
-use Rattle.generated_law.proofs.Pool.{Slots, Holds, holds, all_append}
-use Rattle.generated_law.proofs.Members.{field_is, field_found, print_found}
+use Rattle.generated_law.proofs.{Pool.Slots, Pool.Holds, Pool.holds, Pool.all_append, Members.field_is, Members.field_found, Members.print_found}
 use Rattle.generated_law.proofs.Assembling.{gen_names, own_number, env_number, gen_skeleton, gen_setting}
 
 -- ---- what entries stand for

@@ -4,9 +4,8 @@ use Rattle.class_reader.specs.Faults.{class_of}
 use Rattle.class_write.specs.Spelling.{class_spelling}
 use Rattle.suite_gen.specs.Generated.{suite_text, generated_class}
 use Rattle.class_link.specs.Link.{LinksBy}
-use Rattle.suite_load.specs.SuiteForm.{suite_of}
+use Rattle.suite_load.specs.{SuiteForm.suite_of, Loading.lines_of, Loading.read_in, Loading.Loads}
 use Rattle.type_frames.specs.Typing.{check_fault}
-use Rattle.suite_load.specs.Loading.{lines_of, read_in, Loads}
 use Rattle.generated_law.specs.GeneratedSuite.{suite_name, suite_files, said_suite, generated_program, generated_suite}
 
 -- The text of each generated suite is read as what it says.

@@ -9,9 +9,8 @@ use Rattle.jvm_model.specs.declared.values.Location.TheVariants as place
 use Rattle.jvm_model.specs.declared.instr.Instr.{Instr}
 use Rattle.jvm_model.specs.declared.instr.Instr.TheVariants as form
 use Rattle.jvm_model.specs.declared.program.{Program.Program, ClassRec.ClassRec, FieldRec.FieldRec, MethodRec.MethodRec, Body.Body, Placed.Placed}
-use Rattle.jvm_model.specs.World.{World, at, same}
+use Rattle.jvm_model.specs.{World.World, World.at, World.same, Library.builtin_classes, Library.builtin_fields, Library.builtin_defs}
 use Rattle.jvm_model.specs.{Builtin.out_field, Builtin.system_class, Linked.Linked, State.test_at}
-use Rattle.jvm_model.specs.Library.{builtin_classes, builtin_fields, builtin_defs}
 use Rattle.jvm_model.specs.Classes.{class_at, method_at, no_field, no_method, found_in, found_of, place_after, Found, form_at}
 use Rattle.jvm_model.specs.Suite.{opening, Given, one_test}
 use Rattle.jvm_model.proofs.BuiltinRules.{builtin_class, builtin_field}

@@ -4,9 +4,8 @@ use Rattle.std.specs.Str.{bytes_eq}
 use Rattle.std.proofs.Math.ListN.{get_or-map}
 use Rattle.jvm_model.specs.declared.values.{Value.Value, InitState.TheVariants.Idle, Location.Location, Touch.Touch}
 use Rattle.jvm_model.specs.declared.program.{Program.Program, FieldRec.FieldRec, ClassRec.ClassRec}
-use Rattle.jvm_model.specs.World.{World, size, at, look}
+use Rattle.jvm_model.specs.{World.World, World.size, World.at, World.look, Suite.opening, Suite.Given, Suite.one_test, Suite.is_detected}
 use Rattle.jvm_model.specs.{Classes.field_at, Classes.no_field, Linked.Linked, State.test_at}
-use Rattle.jvm_model.specs.Suite.{opening, Given, one_test, is_detected}
 use Rattle.order_law.specs.{Conflicts.down, Exposed.exposed, Matched.Matched, Outcomes.PairedOutcome, Reach.is_settled, Reach.puts_out_somewhere}
 use Rattle.order_law.specs.Histories.{after_history, given_after, touches_of, IsTestNumber}
 use Rattle.order_law.specs.Pairing.{PairedValue, PairedLocation, statics, inits, heads, at_field, at_elem, texts, files, props, PairedContent}

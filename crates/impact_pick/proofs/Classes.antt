@@ -9,11 +9,9 @@ use Rattle.jvm_model.specs.{Builtin.builtin_count, Linked.IsDistinct}
 use Rattle.jvm_model.specs.Library.{builtin_classes, builtin_methods, builtin_defs}
 use Rattle.jvm_model.specs.Classes.{class_at, field_at, method_at, literal_at, no_class, no_method}
 use Rattle.jvm_model.proofs.BuiltinRules.{lengths, all_at, enough_fields, enough_methods, builtin_class, builtin_field, builtin_method}
-use Rattle.class_link.specs.ClassNames.{name_at, all_names, number_or_first}
-use Rattle.class_link.specs.Literals.{literals}
+use Rattle.class_link.specs.{ClassNames.name_at, ClassNames.all_names, ClassNames.number_or_first, Literals.literals}
 use Rattle.class_link.specs.Assembly.{class_rec, method_rec, assembled, skeleton, field_rec}
-use Rattle.class_link.proofs.Blocks.{at_place}
-use Rattle.class_link.proofs.Assembled.{holds_builtins, class_given, method_given}
+use Rattle.class_link.proofs.{Blocks.at_place, Assembled.holds_builtins, Assembled.class_given, Assembled.method_given}
 use Rattle.order_law.specs.Pairing.{PairedList, no_more, one_more, PairedOption, both_none, both_some}
 use Rattle.order_law.specs.Numbers.{Numbers, Tested}
 use Rattle.order_law.specs.Matched.{PairedBody, PairedMethod, PairedField, PairedClass, MatchedCode}

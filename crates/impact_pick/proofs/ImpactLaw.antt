@@ -1,8 +1,7 @@
 -- From class files and the record to report lines.
 use Rattle.std.proofs.Common.{◌≡◌, ℕ, zero, suc, ◌+◌, ◌-◌, ◌<◌, ◌≤◌, List, [], ◌∷◌, length, get_or, slice_get, filter, Bool, true, false, ◌||◌, cond, nat_eq, refl, sym, ◌∙◌, ap, subst, inl, inr, arith, Option, Some, None, Result, Ok, All, IsSome}
 use Rattle.std.specs.{List.range_with_len, Str.bytes_eq}
-use Rattle.std.proofs.lemmas.Bool.{or_cases, or_right, eqb-true}
-use Rattle.std.proofs.lemmas.Option.{slice_get_within, slice_get-get_or, get_or_from_slice_get}
+use Rattle.std.proofs.lemmas.{Bool.or_cases, Bool.or_right, Bool.eqb-true, Option.slice_get_within, Option.slice_get-get_or, Option.get_or_from_slice_get}
 use Rattle.et_base.proofs.Texts.{units_true}
 use Rattle.class_reader.specs.declared.parts.{ClassParts.ClassParts, CodePart.CodePart}
 use Rattle.class_reader.specs.ClassGrammar as grammar
@@ -21,11 +20,9 @@ use Rattle.order_law.specs.{Conflicts.Member, Histories.IsTestNumber, Matched.Ma
 use Rattle.order_law.specs.declared.records.{Prints.Prints, Record.Record, More.More}
 use Rattle.order_law.proofs.Members.{true_member}
 use Rattle.impact_pick.specs.{Carried.PairedEntry, Carried.IsCarried, Pick.is_changed, Pick.is_picked}
-use Rattle.impact_pick.specs.Unpicked.{is_kept, lines_of, KeptClasses}
-use Rattle.impact_pick.proofs.Unpicked.{not_false, kept_law, unpicked_law}
-use Rattle.impact_pick.specs.ImpactLaw.{HasSums, SumsTell, ImpactLaw}
+use Rattle.impact_pick.specs.{Unpicked.is_kept, Unpicked.lines_of, Unpicked.KeptClasses, ImpactLaw.HasSums, ImpactLaw.SumsTell, ImpactLaw.ImpactLaw}
+use Rattle.impact_pick.proofs.{Unpicked.not_false, Unpicked.kept_law, Unpicked.unpicked_law, Resolved.supers_there, Resolved.pools_name, Resolved.code_there}
 use Rattle.impact_pick.proofs.{Names.AreKept, Records.n, Starts.skeletons_match, Starts.matched}
-use Rattle.impact_pick.proofs.Resolved.{supers_there, pools_name, code_there}
 use Rattle.impact_pick.proofs.Lines.{line_test, tests_long, line_carried}
 
 -- ---- an answer's parts

@@ -19,12 +19,10 @@ use Rattle.code_forms.specs.Forms.{constant_form, branches, field_form, method_f
 use Rattle.code_forms.proofs.FormCases.{is_plain, IsTyped, loads_plain, stores_plain, moves_plain, numbers_plain, conversions_plain}
 use Rattle.class_link.specs.declared.link_environment.LinkEnvironment.{LinkEnvironment}
 use Rattle.class_link.specs.ClassNames.{text_at, name_at, all_names, class_number, number_or_first, kind_of}
-use Rattle.class_link.specs.Assembly.{skeleton}
-use Rattle.class_link.specs.References.{pair_of, field_target, method_target, target_of}
+use Rattle.class_link.specs.{Assembly.skeleton, References.pair_of, References.field_target, References.method_target, References.target_of}
 use Rattle.class_link.specs.Bodies.{placed, caught, handler_rec, linked_body}
 use Rattle.order_law.specs.Pairing.{PairedList, no_more, one_more, PairedOption, both_none, both_some, booleans, bytes, chars, shorts, int_bases, long_bases, class_bases, PairedKind, class_kinds, array_kinds}
-use Rattle.order_law.specs.Numbers.{Numbers, Tested}
-use Rattle.order_law.specs.Forms.{const_int, const_long, const_literal, PairedInstr}
+use Rattle.order_law.specs.{Numbers.Numbers, Numbers.Tested, Forms.const_int, Forms.const_long, Forms.const_literal, Forms.PairedInstr}
 use Rattle.order_law.specs.Forms as same
 use Rattle.order_law.specs.Matched.{PairedPlaced, PairedHandler, PairedBody, MatchedCode}
 use Rattle.order_law.proofs.{Programs.named-paired, Same.is_free, Same.free_alone}

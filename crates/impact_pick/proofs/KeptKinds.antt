@@ -13,8 +13,7 @@ use Rattle.class_link.specs.Assembly.{skeleton}
 use Rattle.order_law.specs.Pairing.{PairedBase, booleans, bytes, chars, shorts, int_bases, long_bases, class_bases, PairedKind, class_kinds, array_kinds}
 use Rattle.order_law.specs.Numbers.{Tested}
 use Rattle.impact_pick.specs.ByName.{same_class}
-use Rattle.impact_pick.proofs.ByNames.{class_from}
-use Rattle.impact_pick.proofs.Names.{AreKept, IsKept, number_alike}
+use Rattle.impact_pick.proofs.{ByNames.class_from, Names.AreKept, Names.IsKept, Names.number_alike}
 
 module _ (cs ds : List ClassParts) (keeps : ℕ → Bool) (kept : AreKept cs ds keeps) (dq : IsDistinct (skeleton ds)) where
   abbrev C : ℕ → ℕ → Type 0

@@ -16,8 +16,7 @@ use Rattle.code_decode.specs.declared.opcodes.Named.TheVariants as named
 use Rattle.code_decode.specs.declared.judging.Fit.TheVariants as fit
 use Rattle.dep_record.proofs.FieldLaws.{some_mapped}
 use Rattle.code_decode.specs.{Judging.named_fit, Judging.dimensions, Opcodes.shape_of}
-use Rattle.code_decode.proofs.ArgFacts.{OneNumber, IndexCount, CallsInterface, MakesArrays}
-use Rattle.code_decode.proofs.CodeFacts.{PlainFacts, OpFacts}
+use Rattle.code_decode.proofs.{ArgFacts.OneNumber, ArgFacts.IndexCount, ArgFacts.CallsInterface, ArgFacts.MakesArrays, CodeFacts.PlainFacts, CodeFacts.OpFacts}
 use Rattle.class_reader.specs.declared.parts.{ClassParts.ClassParts, MemberPart.MemberPart, CodePart.CodePart, RawHandler.RawHandler}
 use Rattle.class_reader.proofs.PartFacts.{HandlerFacts, PartFacts}
 use Rattle.jvm_model.specs.declared.values.Kind.{Kind}
@@ -28,8 +27,7 @@ use Rattle.code_forms.specs.declared.references.{Use.Use, Target.Target}
 use Rattle.code_forms.specs.declared.references.Use.TheVariants as used
 use Rattle.code_forms.specs.declared.references.Target.TheVariants as target
 use Rattle.code_forms.specs.{Operands.index_in, Uses.use_of, Uses.fits}
-use Rattle.code_forms.proofs.FormCases.{is_untyped, IsTyped}
-use Rattle.code_forms.proofs.ShapeFacts.{not_wide, args_of, first_index}
+use Rattle.code_forms.proofs.{FormCases.is_untyped, FormCases.IsTyped, ShapeFacts.not_wide, ShapeFacts.args_of, ShapeFacts.first_index}
 use Rattle.class_link.specs.ClassNames.{text_at, name_at, all_names, class_number, needed_class, missing, base_of, kind_of, element_class}
 use Rattle.class_link.specs.{Assembly.skeleton, References.target_of, Link.setting}
 use Rattle.class_link.specs.Faults.{first_some, indices, supertype_fits, missing_or, wrong_unless, supertype_fault, supertypes_fault, references_fault, all_references_fault}
@@ -38,8 +36,7 @@ use Rattle.class_link.proofs.ClassKinds.{index_listed, not_missing, not_wrong}
 use Rattle.class_link.proofs.Referenced.{use_fits, op_used, handler_used, no_fault}
 use Rattle.order_law.specs.Matched.{MatchedCode}
 use Rattle.impact_pick.proofs.{Names.AreKept, Records.n, Targets.NamesClasses}
-use Rattle.impact_pick.proofs.KeptCode.{HasKept, IsResolved, IsCode}
-use Rattle.impact_pick.proofs.Starts.{NamesNumber, HasSupers, has_kept}
+use Rattle.impact_pick.proofs.{KeptCode.HasKept, KeptCode.IsResolved, KeptCode.IsCode, Starts.NamesNumber, Starts.HasSupers, Starts.has_kept}
 
 -- ---- opcodes that use an entry
 

@@ -18,11 +18,9 @@ use Rattle.class_link.proofs.{Blocks.at_place, Assembled.holds_builtins, Assembl
 use Rattle.order_law.specs.{Pairing.PairedOption, Numbers.Numbers, Numbers.Tested, Matched.MatchedCode, Matched.Matched}
 use Rattle.order_law.specs.Forms.{PairedConstant, const_int, const_long, const_null, const_literal}
 use Rattle.impact_pick.specs.ByName.{same_class, by_name}
-use Rattle.impact_pick.proofs.ByNames.{class_is, literal_from, stream}
-use Rattle.impact_pick.proofs.Names.{AreKept, entry_kept, kept_file}
+use Rattle.impact_pick.proofs.{ByNames.class_is, ByNames.literal_from, ByNames.stream, Names.AreKept, Names.entry_kept, Names.kept_file}
 use Rattle.impact_pick.proofs.Records.{n, initialisers_paired, method_place, FieldSource, builtin_one, of_file, field_source, field_there, fields_before, methods_before, built_in}
-use Rattle.impact_pick.proofs.Classes.{matched_code, none_paired, built_in_class, AreHeaded}
-use Rattle.impact_pick.proofs.Constants.{literal_alike}
+use Rattle.impact_pick.proofs.{Classes.matched_code, Classes.none_paired, Classes.built_in_class, Classes.AreHeaded, Constants.literal_alike}
 use Rattle.impact_pick.proofs.Targets.{NamesClasses, set, skeletons}
 use Rattle.impact_pick.proofs.KeptCode.{HasKept, number_paired, IsCode, body_alike}
 

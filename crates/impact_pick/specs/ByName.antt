@@ -2,8 +2,7 @@
 use Rattle.std.specs.Prelude.{ℕ, length, Bool, ◌&&◌, ◌||◌, nat_eq, nat_lt, nat_le}
 use Rattle.std.specs.Str.{bytes_eq}
 use Rattle.jvm_model.specs.declared.program.{Program.Program, FieldRec.FieldRec, MethodRec.MethodRec}
-use Rattle.jvm_model.specs.Builtin.{builtin_count}
-use Rattle.jvm_model.specs.Classes.{field_at, method_at, literal_at}
+use Rattle.jvm_model.specs.{Builtin.builtin_count, Classes.field_at, Classes.method_at, Classes.literal_at}
 use Rattle.order_law.specs.Numbers.{Numbers}
 
 -- a built-in class or a chosen one, with the class of the same number: given classes stand in the suite's order in both

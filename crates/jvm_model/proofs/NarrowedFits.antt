@@ -1,9 +1,8 @@
 -- A narrowed int is one of its type.
 use Rattle.std.proofs.Common.{◌≡◌, ℕ, ℤ, pos, negsuc, ◌<◌, ◌≤◌, ◌-◌, ◌%◌, List, [], ◌∷◌, true, ◌&&◌, nat_eq, refl, sym, subst, arith, inl, inr}
 use Rattle.std.specs.Prelude.{FitsSigned, int_le, int_lt}
-use Rattle.std.specs.List.{AllByRecursion}
+use Rattle.std.specs.{List.AllByRecursion, Int.w8, Int.w16, Int.int_wrap, Int.int_rem_euclid}
 use Rattle.std.proofs.lemmas.Bool.{or_cases, and_from, eqb-true, lt-ltb, le-leb}
-use Rattle.std.specs.Int.{w8, w16, int_wrap, int_rem_euclid}
 use Rattle.std.proofs.lemmas.Int.{ints, SFits-int_wrap}
 use Rattle.et_base.specs.Numbers.{i2b, i2s, i2c}
 use Rattle.jvm_model.specs.{Classes.member, Linked.fits_int, Narrow.narrow_int}

@@ -4,8 +4,7 @@ use Rattle.jvm_model.specs.Library.{builtin_classes, builtin_fields, builtin_met
 use Rattle.jvm_model.specs.Classes.{class_bound, own_interfaces, is_below, implements, default_interfaces, is_trivial, layout, blank, form_at, next_place}
 use Rattle.jvm_model.specs.{Descriptors.parameters, Descriptors.return_type, Narrow.narrow, Throwing.throws, Raising.row_raise, Raising.handler_for}
 use Rattle.jvm_model.specs.Suite.{opening, tree, one_test, runs, suite_fault, suite_limit}
-use Rattle.jvm_model.specs.Step.{step, row, row_here, row_throw}
-use Rattle.jvm_model.specs.Initialise.{row_finish, row_fail, parts_of}
+use Rattle.jvm_model.specs.{Step.step, Step.row, Step.row_here, Step.row_throw, Initialise.row_finish, Initialise.row_fail, Initialise.parts_of}
 use Rattle.jvm_model.specs.{Rows.begin, RowsMoves.row_moves, RowsArith.row_arith, RowsBranches.row_branches, RowsBranches.lookup_target, RowsFields.row_fields}
 use Rattle.jvm_model.specs.RowsStatics.{row_statics, read_static, write_static}
 use Rattle.jvm_model.specs.RowsCreate.{row_create, new_object, nest, children, nest_cost}

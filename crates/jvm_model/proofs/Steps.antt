@@ -4,13 +4,10 @@ use Rattle.jvm_model.specs.declared.values.{Value.Value, Touch.Touch}
 use Rattle.jvm_model.specs.declared.state.EntryKind.TheVariants.{Absent, InMethod, InClass}
 use Rattle.jvm_model.specs.declared.program.Program.{Program}
 use Rattle.jvm_model.specs.{World.World, Entries.Entries, Initialise.row_finish, Initialise.row_fail, Raising.row_raise, Working.Working, State.State}
-use Rattle.jvm_model.specs.Access.{Access, spend, bind}
-use Rattle.jvm_model.specs.Rows.{Answer, answer, stuck_row}
+use Rattle.jvm_model.specs.{Access.Access, Access.spend, Access.bind, Rows.Answer, Rows.answer, Rows.stuck_row, Driver.drive}
 use Rattle.jvm_model.specs.Step.{row_here, after_row, after_native, acts, step}
-use Rattle.jvm_model.specs.Driver.{drive}
 use Rattle.jvm_model.specs.View.{over, ended, counted, and_then, touched, IsSafe, IsRow, IsTurn, paid}
-use Rattle.jvm_model.proofs.Binds.{counted_bind, touched_bind, safe_first, safe_rest}
-use Rattle.jvm_model.proofs.Bridges.{spent_later}
+use Rattle.jvm_model.proofs.{Binds.counted_bind, Binds.touched_bind, Binds.safe_first, Binds.safe_rest, Bridges.spent_later}
 
 -- which row a step is of
 pub step_drives : (p : Program) (s : State) → s.entries.top.kind ≡ Absent → step p s ≡ spend 1 (drive p s)

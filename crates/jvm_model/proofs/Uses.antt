@@ -6,8 +6,7 @@ use Rattle.jvm_model.specs.declared.program.Program.{Program}
 use Rattle.jvm_model.specs.{World.World, Access.Access, Access.spend, Entries.Entries}
 use Rattle.jvm_model.specs.Rows.{Answer, answer, ready, begun, refused, begin, once, using}
 use Rattle.jvm_model.specs.View.{ended, counted, and_then, touched, IsSafe, IsRow, paid}
-use Rattle.jvm_model.proofs.Binds.{counted_bind, touched_bind, safe_rest}
-use Rattle.jvm_model.proofs.Bridges.{spent_later}
+use Rattle.jvm_model.proofs.{Binds.counted_bind, Binds.touched_bind, Binds.safe_rest, Bridges.spent_later}
 
 module _ (p : Program) (c : ℕ) (s : Entries) (k : Access (Answer Entries)) (w : World) (left : ℕ) where
   -- the class may be used: the row goes on with what comes then

@@ -7,10 +7,9 @@ use Rattle.jvm_model.specs.declared.outcome.{Next.Next, Next.TheVariants.Go, Nex
 use Rattle.jvm_model.specs.declared.program.{Body.Body, Program.Program}
 use Rattle.jvm_model.specs.declared.state.{EntryKind.EntryKind, EntryKind.TheVariants.Absent, EntryKind.TheVariants.InMethod, EntryKind.TheVariants.InClass}
 use Rattle.jvm_model.specs.Access.{Access, done, read, write, make, spend}
-use Rattle.jvm_model.specs.Builtin.{error_class, initializer_error, no_class_error, stack_overflow_error}
+use Rattle.jvm_model.specs.{Builtin.error_class, Builtin.initializer_error, Builtin.no_class_error, Builtin.stack_overflow_error, Kinds.class_of}
 use Rattle.jvm_model.specs.Classes.{class_at, method_at, is_interface, is_below, is_trivial, default_interfaces, blank, instance_head}
 use Rattle.jvm_model.specs.Entries.{Entries, with_entry, class_entry, frame_of, frame_cost, is_full, popped_entry}
-use Rattle.jvm_model.specs.Kinds.{class_of}
 use Rattle.jvm_model.specs.Rows.{Answer, answer, none_here, faults, on_object}
 
 -- A class or interface that is initialised before another, and what it costs to look at its state: 1 for a default

@@ -8,8 +8,7 @@ use Rattle.jvm_model.specs.declared.values.Location.TheVariants as place
 use Rattle.jvm_model.specs.declared.library.Native.{Native}
 use Rattle.jvm_model.specs.declared.library.Native.TheVariants as native
 use Rattle.jvm_model.specs.declared.program.Program.{Program}
-use Rattle.jvm_model.specs.World.{text_or_empty}
-use Rattle.jvm_model.specs.Access.{Access, read, write, spend}
+use Rattle.jvm_model.specs.{World.text_or_empty, Access.Access, Access.read, Access.write, Access.spend}
 use Rattle.jvm_model.specs.Rows.{Answer, none_here, popping, on_int, on_long, on_reference, on_text}
 use Rattle.jvm_model.specs.Working.{Working, operands, with_operands, answers, makes_text, answers_found, prints, char_of, boolean_text, truth}
 

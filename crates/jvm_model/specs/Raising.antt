@@ -4,9 +4,8 @@ use Rattle.jvm_model.specs.declared.values.Value.{Value}
 use Rattle.jvm_model.specs.declared.values.Location.TheVariants as place
 use Rattle.jvm_model.specs.declared.outcome.Next.TheVariants.{Raise}
 use Rattle.jvm_model.specs.declared.program.{Body.Body, Handler.Handler, Program.Program}
-use Rattle.jvm_model.specs.Access.{Access, done, read}
+use Rattle.jvm_model.specs.{Access.Access, Access.done, Access.read, Rows.Answer, Rows.answer, Rows.on_object, Rows.goes_to}
 use Rattle.jvm_model.specs.{Classes.method_at, Classes.is_below, Entries.Entries, Entries.popped_entry, Kinds.class_of}
-use Rattle.jvm_model.specs.Rows.{Answer, answer, on_object, goes_to}
 
 abbrev pub catches : Program → Option ℕ → ℕ → Bool
 catches p None c = true

@@ -6,9 +6,8 @@ use Rattle.jvm_model.specs.declared.instr.Instr.TheVariants as form
 use Rattle.jvm_model.specs.declared.outcome.Next.TheVariants.{Enter}
 use Rattle.jvm_model.specs.declared.library.Native.{Native}
 use Rattle.jvm_model.specs.declared.program.{Body.Body, Program.Program}
-use Rattle.jvm_model.specs.Access.{Access, done, spend}
+use Rattle.jvm_model.specs.{Access.Access, Access.done, Access.spend, Entries.Entries, Entries.is_full, Entries.called, Entries.frame_cost}
 use Rattle.jvm_model.specs.{Builtin.abstract_method_error, Builtin.stack_overflow_error, Classes.method_at, Descriptors.parameters, Kinds.class_of}
-use Rattle.jvm_model.specs.Entries.{Entries, is_full, called, frame_cost}
 use Rattle.jvm_model.specs.Rows.{Answer, answer, none_here, faults, using, on_reference, with_kind}
 use Rattle.jvm_model.specs.Selection.{Selected, chosen, failing, select_virtual, select_interface, select_special, named_class}
 

@@ -2,8 +2,7 @@
 use Rattle.std.specs.Prelude.{ℕ}
 use Rattle.jvm_model.specs.declared.values.Value.TheVariants.{Obj}
 use Rattle.jvm_model.specs.declared.program.Program.{Program}
-use Rattle.jvm_model.specs.Access.{Access, done, make, spend}
-use Rattle.jvm_model.specs.Classes.{blank, instance_head}
+use Rattle.jvm_model.specs.{Access.Access, Access.done, Access.make, Access.spend, Classes.blank, Classes.instance_head}
 use Rattle.jvm_model.specs.State.{State, Turn, next, raise}
 
 -- A new throwable of the class is made, without a message, and raised. It costs 2 besides 1.

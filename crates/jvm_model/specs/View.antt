@@ -8,8 +8,7 @@ use Rattle.jvm_model.specs.declared.outcome.Next.TheVariants.{Go, Fault, Raise, 
 use Rattle.jvm_model.specs.declared.program.Program.{Program}
 use Rattle.jvm_model.specs.World.{World, at, put, size, object_at, make_object}
 use Rattle.jvm_model.specs.Access.{Access, done, read, write, make, spend, read_of, write_of, made}
-use Rattle.jvm_model.specs.Classes.{method_at, member}
-use Rattle.jvm_model.specs.Rows.{Answer, answer, stuck_row}
+use Rattle.jvm_model.specs.{Classes.method_at, Classes.member, Rows.Answer, Rows.answer, Rows.stuck_row}
 use Rattle.jvm_model.specs.State.{Turn, next, ended as over_with, stuck_turn}
 
 -- How a program of accesses ends under a number of units.

@@ -6,8 +6,7 @@ use Rattle.jvm_model.specs.declared.outcome.{Own.Own, Next.TheVariants.Go}
 use Rattle.jvm_model.specs.declared.program.Program.{Program}
 use Rattle.jvm_model.specs.Access.{Access, done, write, make, spend}
 use Rattle.jvm_model.specs.{Builtin.string_class, Narrow.narrow_int, Rows.Answer, Rows.answer}
-use Rattle.jvm_model.specs.Classes.{blank, instance_head, next_place}
-use Rattle.jvm_model.specs.Entries.{Entries, with_stack, with_place}
+use Rattle.jvm_model.specs.{Classes.blank, Classes.instance_head, Classes.next_place, Entries.Entries, Entries.with_stack, Entries.with_place}
 use Rattle.std.specs.Ordering.{int_eq}
 
 -- the entries, and what the test has of its own

@@ -1,8 +1,7 @@
 //! The types that a descriptor names (JVMS 4.3).
 
 ghost use Rattle.std.specs.Prelude.{◌≡◌, false, IfNone, IfOk, IfSome, length};
-ghost use Rattle.jvm_model.specs.Descriptors.{parameters, return_type};
-ghost use Rattle.jvm_model.specs.Scanning.{type_length, SplitsType, EndsTypes};
+ghost use Rattle.jvm_model.specs.{Descriptors.parameters, Descriptors.return_type, Scanning.type_length, Scanning.SplitsType, Scanning.EndsTypes};
 
 use et_base::letters::{ARRAY, CLASS, CLOSE, SEMICOLON};
 use et_base::{Items, NoMemory, Units};

@@ -7,8 +7,7 @@ use Rattle.std.proofs.lemmas.List.{get_or-take, get_or_past, get_or_append_left,
 use Rattle.indexmap.specs.IndexSet.{insert_key, insert_all}
 use Rattle.jvm_model.specs.declared.program.{Program.Program, ClassRec.ClassRec}
 use Rattle.jvm_model.specs.{Builtin.builtin_count, Library.builtin_defs, Library.builtin_classes}
-use Rattle.jvm_model.specs.Classes.{class_at, no_class, member}
-use Rattle.jvm_model.specs.Linked.{IsDirect, IsAncestor, direct, further}
+use Rattle.jvm_model.specs.{Classes.class_at, Classes.no_class, Classes.member, Linked.IsDirect, Linked.IsAncestor, Linked.direct, Linked.further}
 use Rattle.member_lookup.specs.Ancestors.{directs, AreAncestors}
 
 -- ---- numbers that are noted

@@ -2,9 +2,8 @@
 use Rattle.std.proofs.Common.{◌≡◌, ℕ, zero, suc, ◌+◌, ◌-◌, ◌<◌, List, [], ◌∷◌, ◌++◌, append-nil, add-one, length, get_or, take, drop, filter, find, flat_map, Bool, true, false, not, ◌||◌, ◌&&◌, cond, nat_eq, refl, sym, ◌∙◌, ap, arith, lit<, is_some, slice_get, Option, Some, None}
 use Rattle.std.specs.{List.list_any, Option.option_or, Option.option_to_list}
 use Rattle.std.proofs.{Math.Path.fun_ext, Math.Bool.or-false, Math.Bool.or_comm, lemmas.List.Concat.flat_map-append, lemmas.List.Folds.find-append}
-use Rattle.std.proofs.lemmas.List.Elements.{filter_agree, filter_more, filter-append}
+use Rattle.std.proofs.{lemmas.List.Elements.filter_agree, lemmas.List.Elements.filter_more, lemmas.List.Elements.filter-append, Math.Seq.drop-cons}
 use Rattle.std.proofs.lemmas.List.{take-append-drop}
-use Rattle.std.proofs.Math.Seq.{drop-cons}
 use Rattle.indexmap.specs.{IndexMap.IndexMap, IndexMap.keys, IndexSet.insert_all}
 use Rattle.jvm_model.specs.declared.program.Program.{Program}
 use Rattle.jvm_model.specs.Classes.{class_at, method_at, class_bound, member, first_mentions, lineage_in, own_interfaces, upwards_in, upwards}

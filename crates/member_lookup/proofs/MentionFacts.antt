@@ -5,8 +5,7 @@ use Rattle.std.proofs.{Math.Bool.and_comm, lemmas.List.Elements.filter-append, l
 use Rattle.std.proofs.lemmas.Bool.{eqb-true, eq-eqb}
 use Rattle.indexmap.specs.IndexSet.{insert_all}
 use Rattle.jvm_model.specs.Classes.{member, first_mentions}
-use Rattle.member_lookup.proofs.Ancestry.{any_append, member_kept, member_there}
-use Rattle.member_lookup.proofs.Walking.{insert_append, insert_known}
+use Rattle.member_lookup.proofs.{Ancestry.any_append, Ancestry.member_kept, Ancestry.member_there, Walking.insert_append, Walking.insert_known}
 
 -- ---- tests
 

@@ -4,8 +4,7 @@ use Rattle.std.proofs.lemmas.Bool.{or_cases, or_left, or_right, eqb-true, eq-eqb
 use Rattle.std.proofs.lemmas.List.{take_more}
 use Rattle.std.proofs.lemmas.List.Concat.{flat_map-append}
 use Rattle.std.specs.{Map.keys_of, Option.option_to_list}
-use Rattle.indexmap.specs.IndexMap.{IndexMap, get, keys}
-use Rattle.indexmap.specs.IndexSet.{insert_key, insert_all}
+use Rattle.indexmap.specs.{IndexMap.IndexMap, IndexMap.get, IndexMap.keys, IndexSet.insert_key, IndexSet.insert_all}
 use Rattle.jvm_model.specs.declared.program.Program.{Program}
 use Rattle.jvm_model.specs.Classes.{class_at, member}
 use Rattle.member_lookup.specs.Walks.{nexts, walk, IsWalked, Visits, is_walked}

@@ -5,9 +5,8 @@ use Rattle.jvm_model.specs.declared.values.{Location.Location, Touch.Touch}
 use Rattle.jvm_model.specs.World.{Object, World, size, at, put, make_object, has, same}
 use Rattle.jvm_model.specs.Access.{Access, done, read, write, make, spend, write_of, run}
 use Rattle.jvm_model.proofs.Locations.{same_refl, size_put, size_make, IsOf, is_of_cases}
-use Rattle.order_law.specs.Exposed.{exposed}
+use Rattle.order_law.specs.{Exposed.exposed, Frame.Agree, Frame.MadePaired, Frame.Forward, Frame.Alike}
 use Rattle.order_law.specs.Pairing.{Matching, OneToOne, PairedLocation, statics, inits, heads, at_field, at_elem, texts, files, props, PairedContent, no_more, one_more, Paired, both_done, both_read, both_write, both_make, both_spend}
-use Rattle.order_law.specs.Frame.{Agree, MadePaired, Forward, Alike}
 use Rattle.order_law.proofs.Pairs.{after_write, after_make, made_paired, made_other, given-paired, writes-paired}
 
 pub grows : {A : Type 0} (a : Access A) (w : World) → size w ≤ size (run a w).world

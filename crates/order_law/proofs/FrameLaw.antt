@@ -10,8 +10,7 @@ use Rattle.jvm_model.specs.Suite.{End, finished, stuck, out_of_steps, tree, Give
 use Rattle.jvm_model.proofs.Locations.{at_past}
 use Rattle.order_law.specs.{Exposed.exposed, Matched.Matched, Matched.PairedTest}
 use Rattle.order_law.specs.Pairing.{Matching, OneToOne, PairedLocation, PairedContent, statics, inits, heads, at_field, at_elem, texts, files, props}
-use Rattle.order_law.specs.Frame.{Agree, Forward, Alike}
-use Rattle.order_law.specs.Numbers.{Numbers, Tested, with_places}
+use Rattle.order_law.specs.{Frame.Agree, Frame.Forward, Frame.Alike, Numbers.Numbers, Numbers.Tested, Numbers.with_places}
 use Rattle.order_law.specs.Outcomes.{PairedVerdict, PairedEnd, both_stuck, both_out, both_finished}
 use Rattle.order_law.specs.FrameLaw.{PairsObjects, AlsoMade, SameTest, FrameLaw}
 use Rattle.order_law.proofs.{Frame.frame, Grow.content-more, Grow.nothing_there, Steps.tree-paired}

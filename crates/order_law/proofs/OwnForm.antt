@@ -9,8 +9,7 @@ use Rattle.jvm_model.specs.declared.program.Program.{Program}
 use Rattle.jvm_model.specs.{World.same, Builtin.builtin_count, State.test_at, Linked.IsGiven}
 use Rattle.jvm_model.specs.Suite.{Given, runs, all_tests, seq, is_detected, suite_limit, within_limit, units_of, outcome_in, given_by_test}
 use Rattle.order_law.specs.declared.edges.{Edge.Edge, EdgeKind.EdgeKind, EdgeKind.TheVariants.Raw, EdgeKind.TheVariants.Waw, EdgeKind.TheVariants.War}
-use Rattle.order_law.specs.Conflicts.{Member}
-use Rattle.order_law.specs.Histories.{Touches, writes_in, exposed_in}
+use Rattle.order_law.specs.{Conflicts.Member, Histories.Touches, Histories.writes_in, Histories.exposed_in}
 use Rattle.order_law.specs.OwnRecord.{conflicts, first_places, places_in, conflict_places_in, edge_of, edges_between_in, edges_in}
 use Rattle.order_law.specs.RecordForm.{kind_number, edge_before, edges_ascend, numbers_ascend}
 use Rattle.order_law.specs.Reach.{units_in, ReachesIn, own, touched, mentioned}

@@ -7,12 +7,10 @@ use Rattle.jvm_model.specs.declared.program.Program.{Program}
 use Rattle.jvm_model.specs.{World.same, Suite.all_tests}
 use Rattle.jvm_model.proofs.Locations.{same_true}
 use Rattle.order_law.specs.declared.edges.{Edge.Edge, EdgeKind.EdgeKind, EdgeKind.TheVariants.Raw, EdgeKind.TheVariants.Waw, EdgeKind.TheVariants.War}
-use Rattle.order_law.specs.Exposed.{written, exposed}
+use Rattle.order_law.specs.{Exposed.written, Exposed.exposed, Histories.Touches, Histories.touches_of, Histories.writes_in, Histories.exposed_in}
 use Rattle.order_law.specs.Conflicts.{Tests, Member, NoneBetween, Conflict, HasEdge, IsRecord}
-use Rattle.order_law.specs.Histories.{Touches, touches_of, writes_in, exposed_in}
 use Rattle.order_law.specs.OwnRecord.{none_between, conflicts, first_places, places_in, conflict_places_in, owner, edge_of, edges_between_in, edges_of, edges_in, OwnLaw}
-use Rattle.order_law.proofs.Members.{edge_left, edge_right, edge_either}
-use Rattle.order_law.proofs.Histories.{law_of_order}
+use Rattle.order_law.proofs.{Members.edge_left, Members.edge_right, Members.edge_either, Histories.law_of_order}
 
 between-true : (W : Tests) (u t : ℕ) (L : Location) → none_between W u t L ≡ true → NoneBetween W u t L
 between-true W u zero L e x lo hi = absurd (omega arith)

@@ -7,8 +7,7 @@ use Rattle.std.proofs.{lemmas.Str.Parse.digit_from_value, lemmas.List.Folds.list
 use Rattle.jvm_model.specs.declared.program.Program.{Program}
 use Rattle.jvm_model.specs.declared.values.Location.{Location}
 use Rattle.jvm_model.specs.declared.values.Location.TheVariants as place
-use Rattle.jvm_model.specs.Classes.{class_at, field_at}
-use Rattle.jvm_model.specs.Texts.{object_text, class_text, field_text, location_text}
+use Rattle.jvm_model.specs.{Classes.class_at, Classes.field_at, Texts.object_text, Texts.class_text, Texts.field_text, Texts.location_text}
 use Rattle.et_base.specs.Quotes.{hex_digit, unit_escape, name_unit, name_of, quoted_unit, quoted_units, is_plain}
 use Rattle.order_law.specs.{OwnRecord.cut, RecordForm.is_place_text}
 use Rattle.order_law.specs.OwnForm.{are_code_units, HasCodeUnits, IsNumbered, IsShown, PlaceLaw}

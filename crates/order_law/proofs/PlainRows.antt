@@ -15,8 +15,7 @@ use Rattle.order_law.specs.Pairing.{PairedList, no_more, one_more, PairedOption,
 use Rattle.order_law.specs.Numbers.{Numbers, with_places}
 use Rattle.order_law.specs.Forms.{PairedConstant, const_int, const_long, const_null, const_literal, PairedInstr}
 use Rattle.order_law.specs.Forms as same
-use Rattle.order_law.proofs.Twins.{Twins}
-use Rattle.order_law.proofs.Lists.{test-paired, length-paired, get-list, set-list}
+use Rattle.order_law.proofs.{Twins.Twins, Lists.test-paired, Lists.length-paired, Lists.get-list, Lists.set-list}
 use Rattle.order_law.proofs.States.{go, raised, leave, answered, stack-paired, popped-paired, frame_top}
 use Rattle.order_law.proofs.Combinators.{V, E, Frames, Rows, choose-paired, stuck_row-paired, faults-paired, goes_on-paired, goes_to-paired, popping-paired, on_int-paired, on_long-paired, on_object-paired, on_reference-paired}
 

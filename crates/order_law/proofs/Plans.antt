@@ -10,9 +10,8 @@ use Rattle.order_law.specs.declared.edges.{Edge.Edge, EdgeKind.EdgeKind, EdgeKin
 use Rattle.order_law.specs.Conflicts.{Member, HasEdge, Before, edge, Fits, History, ClosedUnderRaw, itself, forth, back}
 use Rattle.order_law.specs.Histories.{after_history, RecordOf, IsTestNumber}
 use Rattle.order_law.specs.Plan.{NextOf, PostsSequential, chain_at, Ascending, AreChainsOf, Event, claim, post, claims, posts, Posted, list_of, Legal, LawOfInterleavings}
-use Rattle.order_law.proofs.Members.{before_up}
+use Rattle.order_law.proofs.{Members.before_up, Histories.Holds, Histories.holds_first, Histories.next_test}
 use Rattle.order_law.proofs.Posts.{reversed, member_mid, below_mid, posts_more, in_posts, legal_once, posted_where, one_claimer}
-use Rattle.order_law.proofs.Histories.{Holds, holds_first, next_test}
 
 -- `Before` leads to a higher number
 module _ (p : Program) (R : List Edge) (is_record : RecordOf p R) where

@@ -6,8 +6,7 @@ use Rattle.std.proofs.lemmas.List.{reverse-append}
 use Rattle.jvm_model.specs.declared.outcome.Outcome.{Outcome}
 use Rattle.jvm_model.specs.declared.program.Program.{Program}
 use Rattle.jvm_model.specs.Classes.{member}
-use Rattle.order_law.specs.Conflicts.{Member, Distinct}
-use Rattle.order_law.specs.RecordForm.{no_repeats, joined, are_chains, numbers_ascend}
+use Rattle.order_law.specs.{Conflicts.Member, Conflicts.Distinct, RecordForm.no_repeats, RecordForm.joined, RecordForm.are_chains, RecordForm.numbers_ascend}
 use Rattle.order_law.specs.Plan.{NextOf, chain_at, Ascending, Event, claim, post, claims, posts, Posted, Legal, PostsOnce, AreApart, whole_chains, IsListOf, IsWholeThenPart, PostsInChains, LawOfHistories, FormsApart, ChainsApart}
 use Rattle.order_law.proofs.Members.{member_left, member_right, member_either, member_reversed, reversed_member, member_true}
 

@@ -10,8 +10,7 @@ use Rattle.jvm_model.specs.Kinds.{class_of, element_kind, class_fits, base_fits,
 use Rattle.jvm_model.specs.Selection.{Selected, chosen, failing, is_like, is_open_like, declared_in, candidates, redeclares, kept_of, has_code, one_with_code, kept_method, or_kept, select, select_virtual, select_interface, named_class, above_or, special_start, special_path, select_special}
 use Rattle.jvm_model.specs.Raising.{catches, handler_in, handlers_of, handler_for}
 use Rattle.order_law.specs.Pairing.{PairedList, no_more, one_more, PairedOption, both_none, both_some, PairedValue, ints, longs, nulls, PairedBase, booleans, bytes, chars, shorts, int_bases, long_bases, class_bases, PairedKind, class_kinds, array_kinds, PairedHead, PairedCell, PairedObject}
-use Rattle.order_law.specs.Numbers.{Numbers, Tested, with_places}
-use Rattle.order_law.specs.Forms.{PairedInstr}
+use Rattle.order_law.specs.{Numbers.Numbers, Numbers.Tested, Numbers.with_places, Forms.PairedInstr}
 use Rattle.order_law.specs.Matched.{PairedPlaced, PairedHandler, PairedBody, MatchedCode, MatchedStarts}
 use Rattle.order_law.proofs.Pairs.{list-append, same_cond}
 use Rattle.order_law.proofs.Lists.{test-paired, both, either, cond-list, filter-paired, any-paired, all-paired, replicate-list, is_some-paired, map-paired, flat_map-paired, member-paired, mentions-paired}

@@ -11,9 +11,8 @@ use Rattle.jvm_model.specs.declared.program.Body.{Body}
 use Rattle.std.specs.Str.{bytes_eq}
 use Rattle.jvm_model.specs.{Access.Access, Access.bind, Entries.Entries, Rows.Answer, Rows.Used, Working.Working, Raising.handled, Raising.row_raise}
 use Rattle.jvm_model.specs.Builtin.{error_class, initializer_error, no_class_error, stack_overflow_error, abstract_method_error, assertion_error}
-use Rattle.jvm_model.specs.Classes.{literal_at, is_static, is_trivial, init_name}
+use Rattle.jvm_model.specs.{Classes.literal_at, Classes.is_static, Classes.is_trivial, Classes.init_name, Throwing.throws}
 use Rattle.jvm_model.specs.Initialise.{Part, superclass_part, parts_of, with_entered, starts_body, starts, looked_at, looks, left_at, finished, finishing, row_finish, fails, fails_anew, was_entered, row_fail}
-use Rattle.jvm_model.specs.Throwing.{throws}
 use Rattle.jvm_model.specs.State.{State, Turn, test_at, started, or_first, thrown_at, raised_in, raise, with_entries}
 use Rattle.jvm_model.specs.Driver.{no_arguments, set_up_name, tear_down_name, plain_method_in, plain_method_of, driven, drives, once_driven, makes, drive_first, drive_init, drive_method, drive_set_up, judged, judged_text, judged_message, judged_value, judge, drive_tear_down, drive_at, drive}
 use Rattle.jvm_model.specs.Step.{Group, moves, arith as arith_group, branches, statics as statics_group, fields, create, arrays, casts, calls, returns, throw, group_of, row_of, row, after_native, entered, after_row, row_or_none, row_here, acts, step}

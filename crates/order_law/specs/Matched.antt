@@ -2,8 +2,7 @@
 use Rattle.std.specs.Prelude.{◌≡◌, ℕ, ◌<◌, true}
 use Rattle.jvm_model.specs.declared.program.{Program.Program, ClassRec.ClassRec, FieldRec.FieldRec, MethodRec.MethodRec, Body.Body, Placed.Placed}
 use Rattle.jvm_model.specs.declared.program.{Handler.Handler, TestEntry.TestEntry}
-use Rattle.jvm_model.specs.Builtin.{builtin_count, message_field}
-use Rattle.jvm_model.specs.Classes.{class_at, field_at, method_at, literal_at}
+use Rattle.jvm_model.specs.{Builtin.builtin_count, Builtin.message_field, Classes.class_at, Classes.field_at, Classes.method_at, Classes.literal_at}
 use Rattle.order_law.specs.Pairing.{OneToOne, PairedList, PairedOption}
 use Rattle.order_law.specs.{Numbers.Numbers, Numbers.Tested, Forms.PairedConstant, Forms.PairedInstr}
 

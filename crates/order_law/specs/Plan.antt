@@ -3,8 +3,7 @@
 use Rattle.std.specs.Prelude.{◌≡◌, ℕ, ◌<◌, ◌≤◌, List, [], ◌∷◌, ◌++◌, length, get_or, reverse, true, Some, cond, nat_eq}
 use Rattle.jvm_model.specs.declared.outcome.Outcome.{Outcome}
 use Rattle.jvm_model.specs.declared.program.Program.{Program}
-use Rattle.jvm_model.specs.Suite.{last_outcome, seq, is_detected}
-use Rattle.jvm_model.specs.Linked.{Linked}
+use Rattle.jvm_model.specs.{Suite.last_outcome, Suite.seq, Suite.is_detected, Linked.Linked}
 use Rattle.order_law.specs.declared.edges.Edge.{Edge}
 use Rattle.order_law.specs.Conflicts.{Member, Distinct, Joined, ClosedUnderRaw}
 use Rattle.order_law.specs.{RecordForm.are_chains, Histories.RecordOf, Histories.IsTestNumber, OwnRecord.edges_of}

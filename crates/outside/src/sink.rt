@@ -2,8 +2,7 @@
 
 ghost use Rattle.std.specs.Prelude.{◌≡◌, ◌≤◌, ◌<◌, length, take, IfOk};
 ghost use Rattle.std.specs.Result.{result_unwrap_or};
-ghost use Rattle.outside.specs.Counts.{Rose};
-ghost use Rattle.outside.specs.Sink.{SinkView, appended, lowered, HasRoom};
+ghost use Rattle.outside.specs.{Counts.Rose, Sink.SinkView, Sink.appended, Sink.lowered, Sink.HasRoom};
 
 /// The sink failed, which its count of faults shows. Nothing of the piece was taken.
 #[derive(Clone, Copy, Debug, PartialEq, Eq)]

@@ -1,8 +1,7 @@
 //! A text on a sink, line by line.
 
 ghost use Rattle.std.specs.Prelude.{◌≡◌, ◌≢◌, ◌<◌, ◌≤◌, ◌+◌, ◌-◌, ◌^◌, ℕ, length, slice_index, IsOk, OnOk, OnErr};
-ghost use Rattle.outside.specs.Counts.{Rose};
-ghost use Rattle.outside.specs.Sink.{appended, lowered, HasRoom, TookPrefix};
+ghost use Rattle.outside.specs.{Counts.Rose, Sink.appended, Sink.lowered, Sink.HasRoom, Sink.TookPrefix};
 
 use crate::{Sink, SinkFailed};
 

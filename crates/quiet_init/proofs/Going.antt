@@ -14,8 +14,7 @@ use Rattle.jvm_model.specs.{Builtin.stack_overflow_error, Kinds.class_of, Linked
 use Rattle.jvm_model.specs.Classes.{class_at, field_at, method_at, is_trivial, blank, instance_head}
 use Rattle.jvm_model.specs.Entries.{Entries, all_entries, entries_of, frame_of, frame_cost, class_entry, with_entry, is_full, popped_entry}
 use Rattle.jvm_model.specs.Initialise.{Part, parts_of, with_entered, starts_body, starts, looked_at, looks, finishing, row_finish}
-use Rattle.jvm_model.specs.Reached.{thrown_after, thrown_itself, Overflows}
-use Rattle.jvm_model.specs.Rows.{Answer, answer, faults}
+use Rattle.jvm_model.specs.{Reached.thrown_after, Reached.thrown_itself, Reached.Overflows, Rows.Answer, Rows.answer, Rows.faults}
 use Rattle.jvm_model.specs.State.{State, Turn, next, raised_in, with_entries}
 use Rattle.jvm_model.proofs.{Binds.run_bind, Steps.step_finishes}
 use Rattle.jvm_model.proofs.Locations.{at_put_same, at_put_other, same_false, at_make_new}

@@ -5,8 +5,7 @@ use Rattle.std.specs.List.{list_all}
 use Rattle.std.proofs.lemmas.Bool.{and_parts, cases_Bool}
 use Rattle.jvm_model.specs.declared.program.{Body.Body, Program.Program}
 use Rattle.jvm_model.specs.Classes.{class_at, method_at, is_interface, is_trivial, default_interfaces, upwards, class_bound, declares_start}
-use Rattle.jvm_model.specs.Entries.{entries_of, frame_of}
-use Rattle.jvm_model.specs.Initialise.{Part, superclass_part, parts_of}
+use Rattle.jvm_model.specs.{Entries.entries_of, Entries.frame_of, Initialise.Part, Initialise.superclass_part, Initialise.parts_of}
 use Rattle.jvm_model.specs.Linked.{Linked, IsClass, IsBody}
 use Rattle.jvm_model.proofs.Upwards.{upwards_step}
 use Rattle.quiet_init.specs.Quiet.{is_still, no_handler, is_still_body, starts_still, is_still_start, is_quiet, begun_world, quiet}

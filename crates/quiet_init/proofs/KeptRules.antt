@@ -2,8 +2,7 @@
 -- is the same at every place that it looks at, so the two functions are one path apart.
 use Rattle.std.proofs.Common.{◌≡◌, ℕ, zero, suc, ◌+◌, ◌<◌, List, [], ◌∷◌, ◌++◌, length, get_or, map, drop, replicate, Bool, true, false, not, ◌&&◌, ◌||◌, cond, nat_eq, nat_lt, Option, Some, None, refl, sym, ◌∙◌, ap, arith}
 use Rattle.std.specs.Prelude.{flat_map, slice_get, slice_index_or, unwrap_or}
-use Rattle.std.specs.List.{list_all, position_from, range_with_len}
-use Rattle.std.specs.Str.{bytes_eq}
+use Rattle.std.specs.{List.list_all, List.position_from, List.range_with_len, Str.bytes_eq}
 use Rattle.jvm_model.specs.declared.instr.{Cell.Cell, Instr.Instr}
 use Rattle.jvm_model.specs.declared.instr.Cell.TheVariants as cell
 use Rattle.jvm_model.specs.declared.instr.Instr.TheVariants as form
@@ -12,9 +11,8 @@ use Rattle.jvm_model.specs.declared.values.{Base.Base, Kind.Kind, Value.Value}
 use Rattle.jvm_model.specs.declared.values.Base.TheVariants as base
 use Rattle.jvm_model.specs.declared.values.Kind.TheVariants as kind
 use Rattle.jvm_model.specs.declared.values.Value.TheVariants as value
-use Rattle.jvm_model.specs.Builtin.{object_class, string_class, throwable_class}
+use Rattle.jvm_model.specs.{Builtin.object_class, Builtin.string_class, Builtin.throwable_class, Descriptors.parameters, Descriptors.return_type}
 use Rattle.jvm_model.specs.Classes.{no_class, class_at, field_at, method_at, is_interface, is_static, init_name}
-use Rattle.jvm_model.specs.Descriptors.{parameters, return_type}
 use Rattle.type_frames.specs.declared.stack_effect.{OperandConstraint.OperandConstraint, Reading.Reading, StackEffect.StackEffect}
 use Rattle.type_frames.specs.declared.stack_effect.OperandConstraint.TheVariants.{Fits, One, Half, Ref, Raw, Small, Array, Never}
 use Rattle.type_frames.specs.declared.stack_effect.Substitution.TheVariants as turn

@@ -10,11 +10,10 @@ use Rattle.jvm_model.specs.declared.outcome.Next.TheVariants.{Go, Fault, Raise, 
 use Rattle.jvm_model.specs.declared.instr.Instr.{Instr}
 use Rattle.jvm_model.specs.declared.instr.Instr.TheVariants as form
 use Rattle.jvm_model.specs.declared.program.{Body.Body, ClassRec.ClassRec, FieldRec.FieldRec, Placed.Placed, Program.Program}
-use Rattle.jvm_model.specs.World.{World, at, put}
+use Rattle.jvm_model.specs.{World.World, World.at, World.put, Linked.IsMethod, Linked.NamesForm, Linked.NamesBody, Linked.NamesEntries}
 use Rattle.jvm_model.specs.Access.{Access, done, write, read_of, Ran, run}
 use Rattle.jvm_model.specs.Classes.{no_field, class_at, field_at, method_at, is_trivial, next_place}
 use Rattle.jvm_model.specs.Entries.{Entry, Entries, no_entries, with_entry, entries_of, popped_entry, with_stack, with_place}
-use Rattle.jvm_model.specs.Linked.{IsMethod, NamesForm, NamesBody, NamesEntries}
 use Rattle.jvm_model.specs.{Narrow.narrowed, Step.row, Suite.opening}
 use Rattle.jvm_model.specs.Rows.{Answer, answer, stuck_row, goes_on, popping}
 use Rattle.jvm_model.specs.RowsStatics.{read_static, write_static, row_statics}

@@ -6,8 +6,7 @@ use Rattle.std.proofs.lemmas.List.{get_or_past}
 use Rattle.std.proofs.lemmas.List.FromFn.{get_or-map-range_with_len, length-map-range_with_len, map-range_with_len_more, fill_by_all, filter_of_map_range_with_len_more}
 use Rattle.jvm_model.specs.declared.program.{ClassRec.ClassRec, Program.Program}
 use Rattle.jvm_model.specs.Classes.{no_class}
-use Rattle.quiet_init.specs.Quiet.{is_still_start, starts_still, is_quiet, quiet_classes}
-use Rattle.quiet_init.specs.Starts.{AreStill}
+use Rattle.quiet_init.specs.{Quiet.is_still_start, Quiet.starts_still, Quiet.is_quiet, Quiet.quiet_classes, Starts.AreStill}
 
 -- the number below the next one
 pub below_next : (d c : ℕ) → nat_eq d c ≡ false → nat_lt d (c + 1) ≡ nat_lt d c

@@ -10,12 +10,10 @@ use Rattle.jvm_model.specs.declared.instr.Instr.{Instr}
 use Rattle.jvm_model.specs.declared.instr.Instr.TheVariants as form
 use Rattle.jvm_model.specs.declared.program.{Body.Body, ClassRec.ClassRec, FieldRec.FieldRec, Placed.Placed, Program.Program}
 use Rattle.jvm_model.specs.{World.World, World.at, Narrow.narrowed, Step.row, Suite.opening}
-use Rattle.jvm_model.specs.Access.{Access, write, Ran, run}
+use Rattle.jvm_model.specs.{Access.Access, Access.write, Access.Ran, Access.run, Entries.Entry, Entries.Entries, Entries.entries_of, Entries.frame_of}
 use Rattle.jvm_model.specs.Classes.{no_class, no_field, class_at, field_at, method_at, is_static, is_interface, is_trivial, default_of}
-use Rattle.jvm_model.specs.Entries.{Entry, Entries, entries_of, frame_of}
 use Rattle.jvm_model.specs.Linked.{IsField, IsMethod, IsFormKind, IsBodyKind, HasOpenings, class_descriptor, takes, opens}
-use Rattle.jvm_model.specs.Rows.{Answer, goes_on, popping}
-use Rattle.jvm_model.specs.RowsStatics.{read_static, write_static, row_statics}
+use Rattle.jvm_model.specs.{Rows.Answer, Rows.goes_on, Rows.popping, RowsStatics.read_static, RowsStatics.write_static, RowsStatics.row_statics}
 use Rattle.jvm_model.proofs.Locations.{at_put_same, at_put_other}
 use Rattle.type_frames.specs.Typing.{IsTyped}
 use Rattle.check_sound.proofs.InitRows.{nontrivial_class}

@@ -4,8 +4,7 @@ use Rattle.jvm_model.specs.declared.program.Program.{Program}
 use Rattle.jvm_model.specs.Classes.{class_at, is_interface, is_trivial, default_interfaces}
 use Rattle.jvm_model.specs.Initialise.{Part, superclass_part, parts_of}
 use Rattle.quiet_init.specs.Quiet.{quiet}
-use Rattle.quiet_init.proofs.Parts.{flags_kept, above_kept, defaults_kept}
-use Rattle.quiet_init.proofs.Trivials.{trivial_kept}
+use Rattle.quiet_init.proofs.{Parts.flags_kept, Parts.above_kept, Parts.defaults_kept, Trivials.trivial_kept}
 
 filter_twice : {A : Type 0} (f g : A → Bool) (xs : List A) → ((x : A) → g x ≡ false → f x ≡ false) → filter f (filter g xs) ≡ filter f xs
 filter_twice f g [] h = refl

@@ -3,8 +3,7 @@
 use Rattle.std.proofs.Common.{◌≡◌, ◌⊎◌, ℕ, zero, suc, ◌<◌, ◌≤◌, List, [], ◌∷◌, ◌++◌, length, filter, All, Bool, true, false, not, ◌&&◌, nat_lt, nat_eq, cond, Option, Some, None, IfSome, refl, sym, ◌∙◌, ap, subst, inl, inr, arith}
 use Rattle.std.specs.Prelude.{flat_map}
 use Rattle.std.specs.List.{list_all, list_any}
-use Rattle.std.proofs.lemmas.Bool.{and_parts, cases_lt, ltb-true}
-use Rattle.std.proofs.lemmas.List.{get_or_past}
+use Rattle.std.proofs.lemmas.{Bool.and_parts, Bool.cases_lt, Bool.ltb-true, List.get_or_past}
 use Rattle.jvm_model.specs.declared.program.{Body.Body, ClassRec.ClassRec, Program.Program}
 use Rattle.jvm_model.specs.{Builtin.builtin_count, Library.builtin_defs, Library.builtin_classes, Entries.entries_of, Entries.frame_of}
 use Rattle.jvm_model.specs.Classes.{no_class, class_at, method_at, is_interface, is_default_method, default_interfaces, own_interfaces, first_mentions, lineage_in, class_bound}

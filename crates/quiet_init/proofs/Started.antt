@@ -5,15 +5,12 @@ use Rattle.jvm_model.specs.declared.values.Location.TheVariants as place
 use Rattle.jvm_model.specs.declared.outcome.Next.TheVariants.{Go}
 use Rattle.jvm_model.specs.declared.state.{EntryKind.EntryKind, EntryKind.TheVariants.Absent, EntryKind.TheVariants.InMethod, EntryKind.TheVariants.InClass}
 use Rattle.jvm_model.specs.declared.program.{Body.Body, Program.Program}
-use Rattle.jvm_model.specs.World.{World, at, put}
+use Rattle.jvm_model.specs.{World.World, World.at, World.put, Classes.class_at, Classes.method_at, Classes.is_trivial, Rows.Answer, Rows.answer, Rows.faults}
 use Rattle.jvm_model.specs.Access.{Access, done, spend, Ran, run}
 use Rattle.jvm_model.specs.{Builtin.stack_overflow_error, Linked.IsBody}
-use Rattle.jvm_model.specs.Classes.{class_at, method_at, is_trivial}
 use Rattle.jvm_model.specs.Entries.{Entries, entries_of, frame_of, frame_cost, with_entry, is_full, popped_entry}
 use Rattle.jvm_model.specs.Initialise.{Part, parts_of, with_entered, starts_body, starts, looked_at, looks, left_at, finishing, row_finish}
-use Rattle.jvm_model.specs.Rows.{Answer, answer, faults}
-use Rattle.jvm_model.specs.State.{State, Turn, next, with_entries}
-use Rattle.jvm_model.specs.Step.{after_row, step, turn}
+use Rattle.jvm_model.specs.{State.State, State.Turn, State.next, State.with_entries, Step.after_row, Step.step, Step.turn}
 use Rattle.jvm_model.proofs.{Binds.run_bind, Steps.step_finishes}
 use Rattle.quiet_init.specs.Quiet.{is_still, begun_world, left_by}
 use Rattle.quiet_init.specs.StillLaw.{Leads, there, one_more, HaveRows, HasOwn, OwnAlone}

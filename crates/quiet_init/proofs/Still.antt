@@ -11,9 +11,8 @@ use Rattle.jvm_model.specs.declared.instr.{Op.Op, Conv.Conv, Instr.Instr}
 use Rattle.jvm_model.specs.declared.instr.Conv.TheVariants as conv
 use Rattle.jvm_model.specs.declared.instr.Instr.TheVariants as form
 use Rattle.jvm_model.specs.declared.program.{Placed.Placed, Program.Program}
-use Rattle.jvm_model.specs.World.{World, at, put}
+use Rattle.jvm_model.specs.{World.World, World.at, World.put, Classes.field_at, Classes.is_trivial, Classes.next_place}
 use Rattle.jvm_model.specs.Access.{Access, done, read, write, bind, read_of, Ran, run}
-use Rattle.jvm_model.specs.Classes.{field_at, is_trivial, next_place}
 use Rattle.jvm_model.specs.Entries.{Entry, Entries, with_stack, with_place, popped_entry}
 use Rattle.jvm_model.specs.Rows.{Answer, answer, stuck_row, none_here, goes_on, popping, on_int, on_long, ready, begun_at, begin, once, using}
 use Rattle.jvm_model.specs.RowsMoves.{is_long, two_under_long, two_under_two, row_moves}

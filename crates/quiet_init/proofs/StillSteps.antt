@@ -11,10 +11,8 @@ use Rattle.jvm_model.specs.declared.program.{Body.Body, Placed.Placed, Program.P
 use Rattle.jvm_model.specs.{World.World, World.at, Linked.Ascends, Suite.opening}
 use Rattle.jvm_model.specs.Access.{Access, spend, bind, Ran, run}
 use Rattle.jvm_model.specs.Classes.{method_at, is_trivial, form_at, next_place}
-use Rattle.jvm_model.specs.Entries.{Entry, Entries, entries_of, frame_of}
-use Rattle.jvm_model.specs.Rows.{Answer, answer, stuck_row}
-use Rattle.jvm_model.specs.RowsReturn.{handed_on, hands_on, row_return}
-use Rattle.jvm_model.specs.State.{State, Turn, next, with_entries}
+use Rattle.jvm_model.specs.{Entries.Entry, Entries.Entries, Entries.entries_of, Entries.frame_of, Rows.Answer, Rows.answer, Rows.stuck_row}
+use Rattle.jvm_model.specs.{RowsReturn.handed_on, RowsReturn.hands_on, RowsReturn.row_return, State.State, State.Turn, State.next, State.with_entries}
 use Rattle.jvm_model.specs.Step.{row, row_or_none, row_here, after_row, step, turn}
 use Rattle.jvm_model.proofs.{Binds.run_bind, Locations.at_put_same, Steps.step_runs}
 use Rattle.jvm_model.proofs.Places.{form_at_index, next_place_index, place_beyond_next}

@@ -3,14 +3,12 @@ use Rattle.std.proofs.Common.{◌≡◌, ℕ, ◌+◌, List, Bool, true, false, 
 use Rattle.std.specs.Prelude.{slice_get}
 use Rattle.std.proofs.lemmas.Option.{slice_get_within, slice_get-get_or, get_or_from_slice_get}
 use Rattle.jvm_model.specs.declared.program.{ClassRec.ClassRec, MethodRec.MethodRec, Program.Program}
-use Rattle.jvm_model.specs.Builtin.{builtin_count}
-use Rattle.jvm_model.specs.Classes.{no_class, class_at, field_at, method_at}
+use Rattle.jvm_model.specs.{Builtin.builtin_count, Classes.no_class, Classes.class_at, Classes.field_at, Classes.method_at}
 use Rattle.type_frames.specs.declared.vtype.Frame.{Frame}
 use Rattle.type_frames.specs.Typing.{unsupported_field, unsupported_method, given_classes, IsTypedMethod, IsTyped}
 use Rattle.check_sound.proofs.Arrive.{slice_get_drop}
 use Rattle.quiet_init.specs.{Quiet.is_quiet, Quiet.quiet, TypedAgain.TypedAgain}
-use Rattle.quiet_init.proofs.KeptLinks.{linked_kept}
-use Rattle.quiet_init.proofs.KeptRules.{given_frames_kept, environment_kept, breach_kept, all_frames_kept}
+use Rattle.quiet_init.proofs.{KeptLinks.linked_kept, KeptRules.given_frames_kept, KeptRules.environment_kept, KeptRules.breach_kept, KeptRules.all_frames_kept}
 use Rattle.quiet_init.proofs.Parts.{class_count, class_is, field_part}
 
 -- a class as it was, or without its initialiser

@@ -8,12 +8,10 @@ use Rattle.jvm_model.specs.declared.state.EntryKind.TheVariants.{InMethod, InCla
 use Rattle.jvm_model.specs.declared.instr.Instr.{Instr}
 use Rattle.jvm_model.specs.declared.instr.Instr.TheVariants as form
 use Rattle.jvm_model.specs.declared.program.{Body.Body, Placed.Placed, Program.Program}
-use Rattle.jvm_model.specs.World.{World, Object, at, size}
+use Rattle.jvm_model.specs.{World.World, World.Object, World.at, World.size, Entries.Entries, Entries.entries_of, Entries.frame_of}
 use Rattle.jvm_model.specs.{Access.run, Suite.opening}
 use Rattle.jvm_model.specs.Classes.{class_at, field_at, method_at, is_trivial, form_at, next_place}
-use Rattle.jvm_model.specs.Entries.{Entries, entries_of, frame_of}
-use Rattle.jvm_model.specs.Linked.{Ascends, IsInitialiser, IsBody}
-use Rattle.jvm_model.specs.Rows.{Answer, answer, stuck_row}
+use Rattle.jvm_model.specs.{Linked.Ascends, Linked.IsInitialiser, Linked.IsBody, Rows.Answer, Rows.answer, Rows.stuck_row}
 use Rattle.jvm_model.specs.Step.{row, row_or_none, row_here}
 use Rattle.jvm_model.proofs.{Locations.at_put_same, Places.form_at_index}
 use Rattle.type_frames.specs.{Typing.IsTyped, TypedState.TypedWorld}

@@ -11,8 +11,7 @@ use Rattle.jvm_model.specs.Classes.{no_class, no_field, field_at, is_trivial, ne
 use Rattle.jvm_model.specs.Entries.{Entries, entries_of, frame_of}
 use Rattle.check_sound.specs.ReachLaw.{puts}
 use Rattle.vm_frames.specs.Stack.{HasRoom}
-use Rattle.quiet_init.specs.Quiet.{is_calm, is_quiet, goes_with, left_by}
-use Rattle.quiet_init.specs.StillLaw.{HasOwn}
+use Rattle.quiet_init.specs.{Quiet.is_calm, Quiet.is_quiet, Quiet.goes_with, Quiet.left_by, StillLaw.HasOwn}
 
 -- the static is there, and its class is being initialised
 pub record IsBegun (p : Program) (f : ℕ) (w : World) : Type 0 where

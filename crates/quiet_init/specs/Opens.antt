@@ -5,8 +5,7 @@ use Rattle.jvm_model.specs.declared.program.{Body.Body, Program.Program}
 use Rattle.jvm_model.specs.{World.at, Entries.entries_of, Entries.frame_of, Linked.IsField, Linked.opens}
 use Rattle.jvm_model.specs.Classes.{class_at, field_at, method_at}
 use Rattle.type_frames.specs.{Typing.IsTyped, TypedState.TypedWorld}
-use Rattle.quiet_init.specs.Quiet.{is_quiet, begun_world, left_by}
-use Rattle.quiet_init.specs.StillLaw.{HaveRows}
+use Rattle.quiet_init.specs.{Quiet.is_quiet, Quiet.begun_world, Quiet.left_by, StillLaw.HaveRows}
 
 -- its code has rows, and what it leaves is a typed world
 pub record LeavesTyped (p : Program) (c : ℕ) : Type 0 where

@@ -7,11 +7,9 @@ use Rattle.jvm_model.specs.declared.values.Location.TheVariants as place
 use Rattle.jvm_model.specs.declared.instr.Instr.{Instr}
 use Rattle.jvm_model.specs.declared.instr.Instr.TheVariants as form
 use Rattle.jvm_model.specs.declared.program.{Body.Body, ClassRec.ClassRec, FieldRec.FieldRec, Handler.Handler, Placed.Placed, Program.Program}
-use Rattle.jvm_model.specs.World.{World, at, put}
+use Rattle.jvm_model.specs.{World.World, World.at, World.put, Entries.Entries, Entries.entries_of, Entries.frame_of, Rows.Answer, Rows.answer, Rows.stuck_row}
 use Rattle.jvm_model.specs.{Access.run, RowsArith.divides, Step.row, Suite.opening}
 use Rattle.jvm_model.specs.Classes.{class_at, field_at, method_at, is_interface, is_trivial, default_interfaces, upwards}
-use Rattle.jvm_model.specs.Entries.{Entries, entries_of, frame_of}
-use Rattle.jvm_model.specs.Rows.{Answer, answer, stuck_row}
 
 -- nop, a constant, a move of operands, and the int and long forms but division and remainder: such an instruction goes on at the
 -- next one, and touches nothing

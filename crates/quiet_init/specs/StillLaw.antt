@@ -6,8 +6,7 @@ use Rattle.jvm_model.specs.declared.state.EntryKind.TheVariants.{InClass}
 use Rattle.jvm_model.specs.declared.program.{Body.Body, Placed.Placed, Program.Program}
 use Rattle.jvm_model.specs.{World.World, World.at, Access.run, Linked.IsBody, Rows.stuck_row, State.State, State.next}
 use Rattle.jvm_model.specs.Classes.{class_at, field_at, method_at, is_trivial}
-use Rattle.jvm_model.specs.Entries.{Entry, Entries, entries_of, frame_of}
-use Rattle.jvm_model.specs.Step.{row, step, turn}
+use Rattle.jvm_model.specs.{Entries.Entry, Entries.Entries, Entries.entries_of, Entries.frame_of, Step.row, Step.step, Step.turn}
 use Rattle.quiet_init.specs.Quiet.{is_still, goes_with, begun_world, left_by}
 
 -- n steps lead from a state in a world to another one in another

@@ -8,8 +8,7 @@ ghost use Rattle.type_frames.specs.Typing.{IsTyped};
 ghost use Rattle.vm_arith.specs.Pure.{HasRow, growth};
 ghost use Rattle.vm_frames.specs.Stack.{HasRoom};
 ghost use Rattle.quiet_init.specs.Leaving.{CanDo, CanDoAll, Does, GoesCalmly, HasPlaces, Leaves, AreLeft, before_end, entered};
-ghost use Rattle.quiet_init.specs.Quiet.{is_calm, is_quiet, begun_world, left_after};
-ghost use Rattle.quiet_init.specs.StillLaw.{HasOwn};
+ghost use Rattle.quiet_init.specs.{Quiet.is_calm, Quiet.is_quiet, Quiet.begun_world, Quiet.left_after, StillLaw.HasOwn};
 
 use crate::memory::StaticMemory;
 use crate::starts::start_of;

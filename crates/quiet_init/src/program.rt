@@ -2,8 +2,7 @@
 
 ghost use Rattle.std.specs.Prelude.{◌≡◌, IfOk, None, cond, length};
 ghost use Rattle.type_frames.specs.Typing.{IsTyped};
-ghost use Rattle.quiet_init.specs.Leaving.{AreFlags, AreOpenings, unstarted, opened_with};
-ghost use Rattle.quiet_init.specs.Quiet.{quiet, quiet_classes};
+ghost use Rattle.quiet_init.specs.{Leaving.AreFlags, Leaving.AreOpenings, Leaving.unstarted, Leaving.opened_with, Quiet.quiet, Quiet.quiet_classes};
 
 use crate::leaving::leave_all;
 use crate::quietness::{flagged, quiet_flags};

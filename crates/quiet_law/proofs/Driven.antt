@@ -3,9 +3,8 @@ use Rattle.std.proofs.Common.{◌≡◌, ℕ, Bool, true, false, cond, nat_eq, [
 use Rattle.jvm_model.specs.declared.program.Program.{Program}
 use Rattle.jvm_model.specs.declared.state.{Stage.Stage, Stage.TheVariants.Last}
 use Rattle.jvm_model.specs.{World.World, Classes.is_static, Classes.method_at, Entries.is_full, Linked.Linked, Rows.begin}
-use Rattle.jvm_model.specs.Access.{Access, bind, run}
+use Rattle.jvm_model.specs.{Access.Access, Access.bind, Access.run, State.State, State.Turn, State.test_at}
 use Rattle.jvm_model.specs.Driver.{drives, once_driven, makes, drive_first, drive_at, drive}
-use Rattle.jvm_model.specs.State.{State, Turn, test_at}
 use Rattle.order_law.specs.{Numbers.same_numbers, Pairing.no_more, Pairing.both_none}
 use Rattle.order_law.proofs.Combinators.{bind-paired}
 use Rattle.order_law.proofs.States.{PairedStage, both_first, both_made, both_built, both_set_up, both_called, both_last}

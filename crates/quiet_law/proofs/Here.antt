@@ -3,9 +3,8 @@ use Rattle.std.proofs.Common.{◌≡◌, ℕ, Bool, true, false, cond, Option, S
 use Rattle.jvm_model.specs.declared.instr.Instr.{Instr}
 use Rattle.jvm_model.specs.declared.program.Program.{Program}
 use Rattle.jvm_model.specs.{World.World, Builtin.instantiation_error, Classes.form_at, Entries.Entries, Linked.Linked}
-use Rattle.jvm_model.specs.Access.{Access, bind, run}
+use Rattle.jvm_model.specs.{Access.Access, Access.bind, Access.run, RowsCreate.is_bare, RowsCreate.new_object, RowsCreate.row_create}
 use Rattle.jvm_model.specs.{RowsCalls.argument_count, RowsCalls.row_calls, RowsStatics.row_statics, State.State}
-use Rattle.jvm_model.specs.RowsCreate.{is_bare, new_object, row_create}
 use Rattle.jvm_model.specs.Rows.{Answer, faults, none_here, using}
 use Rattle.jvm_model.specs.Step.{group_of, row, row_or_none, row_here, after_row}
 use Rattle.order_law.specs.Pairing.{PairedOption, both_none, both_some}

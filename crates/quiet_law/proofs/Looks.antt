@@ -14,10 +14,8 @@ use Rattle.jvm_model.specs.Access.{Access, done, write, spend, bind, read_of, Ra
 use Rattle.jvm_model.specs.Classes.{class_at, method_at, is_interface, is_trivial}
 use Rattle.jvm_model.specs.Entries.{Entries, class_entry, frame_of, frame_cost, is_full, with_entry}
 use Rattle.jvm_model.specs.Initialise.{Part, parts_of, with_entered, starts_body, starts, looked_at, looks, finishing, row_finish, row_fail}
-use Rattle.jvm_model.specs.Rows.{Answer, answer, none_here, faults}
-use Rattle.jvm_model.specs.Step.{after_row}
-use Rattle.order_law.specs.Pairing.{PairedOption, both_none, both_some}
-use Rattle.order_law.specs.Numbers.{Tested, same_numbers}
+use Rattle.jvm_model.specs.{Rows.Answer, Rows.answer, Rows.none_here, Rows.faults, Step.after_row}
+use Rattle.order_law.specs.{Pairing.PairedOption, Pairing.both_none, Pairing.both_some, Numbers.Tested, Numbers.same_numbers}
 use Rattle.order_law.proofs.{States.class_top, Combinators.V, Combinators.stuck_row-paired}
 use Rattle.order_law.proofs.Steps.{States, starts-paired, looked-paired, finished-paired, fail-paired}
 use Rattle.check_sound.proofs.{Light.light, PacedCreate.cut, PacedRows.none}

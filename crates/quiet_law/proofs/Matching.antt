@@ -9,8 +9,7 @@ use Rattle.jvm_model.specs.declared.values.Location.TheVariants as place
 use Rattle.jvm_model.specs.declared.program.{ClassRec.ClassRec, FieldRec.FieldRec, Program.Program}
 use Rattle.jvm_model.specs.{World.at, Linked.Linked}
 use Rattle.jvm_model.specs.Classes.{no_field, class_at, field_at}
-use Rattle.order_law.specs.Matched.{MatchedCode, PairedClass, PairedField}
-use Rattle.order_law.specs.Numbers.{same_numbers}
+use Rattle.order_law.specs.{Matched.MatchedCode, Matched.PairedClass, Matched.PairedField, Numbers.same_numbers}
 use Rattle.order_law.proofs.Same.{self_matched}
 use Rattle.quiet_init.specs.Quiet.{is_quiet, left_by, quiet_field, quiet}
 use Rattle.quiet_init.proofs.Parts.{class_is}

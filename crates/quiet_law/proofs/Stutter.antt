@@ -6,16 +6,13 @@ use Rattle.jvm_model.specs.declared.values.{Value.Value, Value.TheVariants.Obj, 
 use Rattle.jvm_model.specs.declared.values.Location.TheVariants as place
 use Rattle.jvm_model.specs.declared.program.Program.{Program}
 use Rattle.jvm_model.specs.declared.state.{EntryKind.EntryKind, EntryKind.TheVariants.Absent, EntryKind.TheVariants.InMethod, EntryKind.TheVariants.InClass}
-use Rattle.jvm_model.specs.World.{World, size, object_at, make_object}
-use Rattle.jvm_model.specs.Access.{Access, spend, Ran, run}
+use Rattle.jvm_model.specs.{World.World, World.size, World.object_at, World.make_object, Access.Access, Access.spend, Access.Ran, Access.run}
 use Rattle.jvm_model.specs.{Builtin.stack_overflow_error, Classes.blank, Classes.instance_head, Entries.Entries, Entries.is_full, Kinds.class_of, Step.step}
-use Rattle.jvm_model.specs.Reached.{thrown_after, thrown_itself, Overflows}
+use Rattle.jvm_model.specs.{Reached.thrown_after, Reached.thrown_itself, Reached.Overflows, Throwing.throws}
 use Rattle.jvm_model.specs.State.{State, Turn, next, raised_in, with_entries}
-use Rattle.jvm_model.specs.Throwing.{throws}
 use Rattle.jvm_model.proofs.Locations.{at_make_new}
 use Rattle.jvm_model.proofs.Steps.{step_drives, step_runs, step_raises, step_finishes, step_fails}
-use Rattle.order_law.specs.Numbers.{same_numbers}
-use Rattle.order_law.specs.Pairing.{PairedOption, both_none, both_some}
+use Rattle.order_law.specs.{Numbers.same_numbers, Pairing.PairedOption, Pairing.both_none, Pairing.both_some}
 use Rattle.order_law.proofs.{Combinators.V, States.frame_top, Steps.States, Steps.raise_row-paired}
 use Rattle.type_frames.specs.TypedState.{TypedState, IsTop, Initialises}
 use Rattle.check_sound.proofs.{PacedCreate.cut, PacedRows.raise-paced}

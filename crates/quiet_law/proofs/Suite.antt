@@ -5,8 +5,7 @@ use Rattle.std.proofs.lemmas.Bool.{eq-eqb, leb-true, le-leb}
 use Rattle.jvm_model.specs.declared.outcome.Outcome.{Outcome}
 use Rattle.jvm_model.specs.declared.program.{Program.Program, TestEntry.TestEntry}
 use Rattle.jvm_model.specs.{World.World, Access.Ran, Access.run, Linked.Linked}
-use Rattle.jvm_model.specs.Reached.{Reaches, begins, Overflows}
-use Rattle.jvm_model.specs.State.{State, no_test, started, test_at}
+use Rattle.jvm_model.specs.{Reached.Reaches, Reached.begins, Reached.Overflows, State.State, State.no_test, State.started, State.test_at}
 use Rattle.jvm_model.specs.Suite.{End, opening, tree, Given, given_at, one_test, runs_on, runs, all_tests, outcome_in, given_by_test, seq, units_of, suite_limit, within_limit, is_detected, with_first}
 use Rattle.jvm_model.proofs.Runs.{runs_after, split}
 use Rattle.order_law.specs.{Conflicts.down, Histories.after_history, Matched.PairedTest, Numbers.same_numbers, Outcomes.PairedEnd}

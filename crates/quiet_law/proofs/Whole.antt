@@ -6,8 +6,7 @@ use Rattle.jvm_model.specs.declared.values.Location.TheVariants as place
 use Rattle.jvm_model.specs.declared.program.Program.{Program}
 use Rattle.jvm_model.specs.declared.state.{EntryKind.EntryKind, EntryKind.TheVariants.Absent, EntryKind.TheVariants.InMethod, EntryKind.TheVariants.InClass}
 use Rattle.jvm_model.specs.{World.World, World.put, Access.Ran, Access.run, Entries.Entries, Entries.entries_of, Step.step}
-use Rattle.jvm_model.specs.Reached.{Reaches, steps, Overflows}
-use Rattle.jvm_model.specs.State.{State, Turn, next}
+use Rattle.jvm_model.specs.{Reached.Reaches, Reached.steps, Reached.Overflows, State.State, State.Turn, State.next}
 use Rattle.jvm_model.specs.Suite.{End, finished, stuck, out_of_steps, after_step, whole}
 use Rattle.jvm_model.proofs.Binds.{run_bind}
 use Rattle.order_law.specs.{Numbers.same_numbers, Outcomes.PairedEnd, Outcomes.both_finished, Pairing.PairedOption}
@@ -15,8 +14,7 @@ use Rattle.order_law.proofs.{Combinators.V, Steps.States}
 use Rattle.order_law.proofs.States.{both_next, both_ended, no_turns}
 use Rattle.type_frames.specs.{Typing.IsTyped, TypedState.TypedState, TypedState.TypedWorld}
 use Rattle.check_sound.proofs.{AllGroups.groups, Reaching.reached_typed}
-use Rattle.quiet_init.specs.Quiet.{quiet}
-use Rattle.quiet_init.specs.StillLaw.{Leads, there, one_more}
+use Rattle.quiet_init.specs.{Quiet.quiet, StillLaw.Leads, StillLaw.there, StillLaw.one_more}
 use Rattle.quiet_init.proofs.{Beside.Beside, Beside.fresh, Hushes.Sound, Hushing.hushed_classes, Later.one_step, Later.rest_of}
 use Rattle.quiet_init.proofs.Going.{IsWhole, pushed, resting, going}
 use Rattle.quiet_law.proofs.{Together.Equal, Together.beside_after_going, Clear.Locked, Plain.twins, Calm.reached_calm, Stutter.step_comes}

@@ -1,8 +1,7 @@
 -- What the calls of a core answer.
 use Rattle.std.proofs.Common.{◌≡◌, ℕ, suc, ◌+◌, ◌-◌, ◌^◌, ◌<◌, ◌≤◌, nat_eq, List, [], ◌∷◌, ◌++◌, length, get_or, take, drop, reverse, Option, Some, None, MatchOption, Bor, option_copied, refl, sym, ◌∙◌, ap, subst, inl, inr, arith, true≢false}
 use Rattle.std.specs.List.{fold}
-use Rattle.std.proofs.lemmas.Bool.{cases_Bool, cases_lt, eqb-true, eq-eqb}
-use Rattle.std.proofs.lemmas.List.{length-append, length-reverse}
+use Rattle.std.proofs.lemmas.{Bool.cases_Bool, Bool.cases_lt, Bool.eqb-true, Bool.eq-eqb, List.length-append, List.length-reverse}
 use lib.ListN.{get_or-eq_default}
 use lib.Seq.{drop-cons, take-append_seam}
 use Rattle.jvm_model.specs.declared.outcome.Outcome.{Outcome}

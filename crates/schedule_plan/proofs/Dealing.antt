@@ -1,10 +1,8 @@
 -- Shares, as chains are given to them.
 use Rattle.std.proofs.Common.{◌≡◌, ◌⊎◌, ◌↔◌, ℕ, zero, suc, ◌+◌, ◌*◌, ◌<◌, ◌≤◌, true, cond, List, [], ◌∷◌, ◌++◌, length, take, sum, sum_by, refl, sym, ◌∙◌, ap, subst, inl, inr, arith}
-use Rattle.std.proofs.lemmas.Bool.{cases_eq, cases_lt, cases_Bool}
-use Rattle.std.proofs.lemmas.List.{get_or-set_same, get_or-set_other, take_all, take_more}
+use Rattle.std.proofs.lemmas.{Bool.cases_eq, Bool.cases_lt, Bool.cases_Bool, List.get_or-set_same, List.get_or-set_other, List.take_all, List.take_more}
 use Rattle.std.proofs.lemmas.List.Sums.{sum_by-cons, sum_by_push, sum_by-set, sum_by_more, sum_by-take-le}
-use Rattle.std.proofs.Math.ListN.{length-set}
-use Rattle.std.proofs.Math.Nat.{mul-le-mul_left, mul-add, suc-mul}
+use Rattle.std.proofs.{Math.ListN.length-set, Math.Nat.mul-le-mul_left, Math.Nat.mul-add, Math.Nat.suc-mul}
 use Rattle.order_law.specs.Conflicts.{Member}
 use Rattle.order_law.proofs.Members.{member_left, member_right, member_either}
 use Rattle.schedule_plan.specs.declared.shares.Share.{Share}

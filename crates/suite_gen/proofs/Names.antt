@@ -1,8 +1,7 @@
 -- Names of a letter and a number, as pool entries.
 use Rattle.std.proofs.Common.{◌≡◌, ℕ, ◌<◌, ◌≤◌, ◌^◌, List, [], ◌∷◌, ◌++◌, length, decimal, refl, ap, ◌∙◌, arith}
 use Rattle.std.specs.{Str.Parse.AllDigits, Int.w16, Int.to_be_bytes}
-use Rattle.std.proofs.lemmas.Bool.{and_from, le-leb, lt-ltb}
-use Rattle.std.proofs.lemmas.Fmt.{decimal_is_IsNumeral}
+use Rattle.std.proofs.lemmas.{Bool.and_from, Bool.le-leb, Bool.lt-ltb, Fmt.decimal_is_IsNumeral}
 use Rattle.std.proofs.lemmas.Str.Parse.{digit_from_value}
 use Rattle.et_base.specs.Utf.{utf, group}
 use Rattle.class_pool.specs.declared.pool.Entry.TheVariants.{Utf8}

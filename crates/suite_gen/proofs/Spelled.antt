@@ -1,7 +1,6 @@
 -- What is written spells the generated class.
 use Rattle.std.proofs.Common.{◌≡◌, ℕ, zero, suc, ◌+◌, ◌-◌, ◌*◌, ◌%◌, ◌≤◌, List, [], ◌∷◌, ◌++◌, length, map, Bool, true, false, ◌==◌, if◌then◌else◌, Option, refl, sym, ap, ◌∙◌, arith}
-use Rattle.std.specs.Int.{w16, w32, to_be_bytes}
-use Rattle.std.specs.List.{flat_map, range_with_len}
+use Rattle.std.specs.{Int.w16, Int.w32, Int.to_be_bytes, List.flat_map, List.range_with_len}
 use Rattle.std.proofs.lemmas.{Grind.flat_map-append, List.length-append}
 use Rattle.std.proofs.{lemmas.List.Folds.flat_map-map, lemmas.List.FromFn.length-map-range_with_len}
 use Rattle.et_base.specs.Utf.{group}

@@ -1,7 +1,6 @@
 -- The generated class as it is written, byte by byte (JVMS 4). Numbers stand high byte first.
 use Rattle.std.specs.Prelude.{ℕ, ◌+◌, ◌-◌, ◌*◌, ◌%◌, List, [], ◌∷◌, ◌++◌, length, codes, decimal, ◌==◌, if◌then◌else◌}
-use Rattle.std.specs.Int.{w16, w32, to_be_bytes}
-use Rattle.std.specs.List.{flat_map, range_with_len}
+use Rattle.std.specs.{Int.w16, Int.w32, Int.to_be_bytes, List.flat_map, List.range_with_len}
 use Rattle.suite_gen.specs.Generated.{group_of, group_count, print_entry, field_name, field_entry, test_name}
 
 abbrev pub short : ℕ → List ℕ

@@ -14,8 +14,7 @@ use Rattle.suite_load.specs.declared.load_fault.LoadFault.{LoadFault}
 use Rattle.suite_load.specs.declared.load_fault.LoadFault.TheVariants as fault
 use Rattle.suite_load.specs.declared.loaded.Loaded.{Loaded}
 use Rattle.suite_load.specs.Loading.{◌>>=◌, suite_in, class_in, classes_in, read_in, bytes_of, sums_in, ReadGives, Loads, IsReadAmong, names_in}
-use Rattle.suite_load.specs.LoadAnswers.{says, IsProper, LoadAnswers, Checks}
-use Rattle.suite_load.specs.Sums.{AreSums, AreMoreSums}
+use Rattle.suite_load.specs.{LoadAnswers.says, LoadAnswers.IsProper, LoadAnswers.LoadAnswers, LoadAnswers.Checks, Sums.AreSums, Sums.AreMoreSums}
 
 -- ---- refusals
 

@@ -7,8 +7,7 @@ use Rattle.dep_record.specs.Hashes.{sized, suite_bytes}
 use Rattle.suite_load.specs.declared.print_sums.PrintSums.{PrintSums}
 use Rattle.suite_load.specs.declared.load_fault.LoadFault.{LoadFault}
 use Rattle.suite_load.specs.declared.load_fault.LoadFault.TheVariants as fault
-use Rattle.suite_load.specs.Loading.{within, file_of, bytes_of}
-use Rattle.suite_load.specs.Sums.{AreSums, AreMoreSums}
+use Rattle.suite_load.specs.{Loading.within, Loading.file_of, Loading.bytes_of, Sums.AreSums, Sums.AreMoreSums}
 
 pub bytes_more : (text : List ℕ) (files : List (List ℕ)) (file : List ℕ) → suite_bytes text files ++ sized file ≡ suite_bytes text (files ++ file ∷ [])
 unfolding suite_bytes

@@ -4,8 +4,7 @@ use Rattle.jvm_model.specs.declared.outcome.Outcome.{Outcome}
 use Rattle.jvm_model.specs.declared.program.Program.{Program}
 use Rattle.jvm_model.specs.{State.test_at, World.World}
 use Rattle.jvm_model.specs.Suite.{Given, opening, one_test, runs, last_outcome, outcome_in, world_after}
-use Rattle.jvm_model.proofs.Budgets.{one_test_within, one_test_units}
-use Rattle.jvm_model.proofs.Runs.{runs_more, last_outcome_is, with_last}
+use Rattle.jvm_model.proofs.{Budgets.one_test_within, Budgets.one_test_units, Runs.runs_more, Runs.last_outcome_is, Runs.with_last}
 use Rattle.type_frames.specs.TypedState.{TypedWorld}
 use Rattle.test_run.specs.{Outcomes.given_in, Outcomes.touches_of, Running.IsAfter, Running.Stands}
 

@@ -11,8 +11,7 @@ use Rattle.vm_mem.specs.Trace.{Trace, next_test}
 use Rattle.test_run.specs.declared.run_fault.RunFault.{RunFault}
 use Rattle.test_run.specs.declared.run_fault.RunFault.TheVariants as fault
 use Rattle.test_run.specs.Lists.{AreLeft, IsListRefused, RanBefore, RanList, RanNext, trace_after}
-use Rattle.test_run.specs.Running.{IsRefused, Machined}
-use Rattle.test_run.specs.Outcomes.{given_in, touches_of, TracesOne}
+use Rattle.test_run.specs.{Running.IsRefused, Running.Machined, Outcomes.given_in, Outcomes.touches_of, Outcomes.TracesOne}
 use Rattle.test_run.proofs.After.{world_both, world_more}
 
 units_both : (xs ys : List Given) → units_of (xs ++ ys) ≡ units_of xs + units_of ys

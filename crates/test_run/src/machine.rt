@@ -3,8 +3,7 @@
 ghost use Rattle.std.specs.Prelude.{◌≡◌, ◌+◌, ◌≤◌, ◌++◌, ◌∷◌, [], All, false, true, Some, IfOk, IfErr, OnOk, OnErr};
 ghost use Rattle.jvm_model.specs.State.{test_at};
 ghost use Rattle.jvm_model.specs.Suite as suite;
-ghost use Rattle.test_run.specs.Lists.{IsListRefused, RanBefore, RanList, RanNext};
-ghost use Rattle.test_run.specs.Outcomes.{given_in, TracesOne};
+ghost use Rattle.test_run.specs.{Lists.IsListRefused, Lists.RanBefore, Lists.RanList, Lists.RanNext, Outcomes.given_in, Outcomes.TracesOne};
 ghost use Rattle.test_run.specs.Running.{IsRefused, IsTest, Stands, least};
 
 use crate::parts::{budget_of, with_last};

@@ -4,8 +4,7 @@ ghost use Rattle.std.specs.Prelude.{◌≡◌, ◌∷◌, ◌++◌, [], IfOk, On
 ghost use Rattle.jvm_model.specs.declared.values.Base.TheVariants as jvm;
 ghost use Rattle.type_frames.specs.declared.vtype.VType.TheVariants as types;
 ghost use Rattle.type_frames.specs.declared.stack_effect.OperandConstraint.TheVariants as wants;
-ghost use Rattle.type_frames.specs.Frames.{same};
-ghost use Rattle.type_frames.specs.Descriptors.{base_text, kind_name, types_of};
+ghost use Rattle.type_frames.specs.{Frames.same, Descriptors.base_text, Descriptors.kind_name, Descriptors.types_of};
 ghost use Rattle.type_frames.specs.StackEffect.{argument_needs, int_need, is_raw, int_type, long_need, long_type, needs_of, number_need, number_type, objects_text, on_stack, place_of, plain, result_types, two};
 
 use crate::frame_type::FrameType;

@@ -11,8 +11,7 @@ use Rattle.jvm_model.specs.declared.program.{Program.Program, ClassRec.ClassRec}
 use Rattle.jvm_model.specs.{Builtin.builtin_count, Builtin.object_class, Library.builtin_classes, Library.builtin_defs}
 use Rattle.jvm_model.specs.Classes.{class_at, no_class, is_interface, is_below, upwards, member}
 use Rattle.jvm_model.specs.Linked.{Linked, IsClass, is_interface_at}
-use Rattle.jvm_model.proofs.Upwards.{below_trans, upwards_step, upwards_root}
-use Rattle.jvm_model.proofs.BuiltinRules.{class_keeps}
+use Rattle.jvm_model.proofs.{Upwards.below_trans, Upwards.upwards_step, Upwards.upwards_root, BuiltinRules.class_keeps}
 use Rattle.type_frames.specs.declared.vtype.VType.{VType}
 use Rattle.type_frames.specs.declared.vtype.VType.TheVariants.{Top, Int, Long, Null, Object, UninitThis, Uninit}
 use Rattle.type_frames.specs.Descriptors.{class_name, name_of}

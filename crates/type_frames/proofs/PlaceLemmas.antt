@@ -1,8 +1,7 @@
 -- First indices: what the table keeps when the numbers up to an index were noted.
 use Rattle.std.proofs.Common.{◌≤◌, inl, inr, ◌⊎◌, ◌≡◌, ℕ, zero, suc, List, [], ◌∷◌, length, ◌<◌, ◌+◌, ◌-◌, Option, Some, None, slice_get, set, replicate, drop, get_or, eqb, cond, refl, ap, sym, ◌∙◌, arith}
 use Rattle.std.specs.List.{position_from}
-use Rattle.std.proofs.lemmas.List.{drop_more, drop_all}
-use Rattle.std.proofs.lemmas.Bool.{cases_eq, eq-eqb, ne_eqb}
+use Rattle.std.proofs.lemmas.{List.drop_more, List.drop_all, Bool.cases_eq, Bool.eq-eqb, Bool.ne_eqb}
 use Rattle.type_frames.specs.{Frames.index_of, Places.noted, Places.IsIndex}
 
 abbrev pub or_else : Option ℕ → Option ℕ → Option ℕ

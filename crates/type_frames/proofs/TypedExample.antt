@@ -12,15 +12,13 @@ use Rattle.jvm_model.specs.declared.state.{EntryKind.TheVariants.InMethod, Entry
 use Rattle.jvm_model.specs.declared.instr.Instr.TheVariants as form
 use Rattle.jvm_model.specs.declared.instr.Sort.TheVariants as sort
 use Rattle.jvm_model.specs.declared.program.Program.{Program}
-use Rattle.jvm_model.specs.World.{World, at, put}
+use Rattle.jvm_model.specs.{World.World, World.at, World.put, Library.builtin_defs, Library.builtin_classes, Library.builtin_fields, Library.builtin_methods}
 use Rattle.jvm_model.specs.{View.Exists, Descriptors.parameters, Descriptors.return_type, Entries.Entry, Initialise.parts_of, Linked.IsField, State.started}
-use Rattle.jvm_model.specs.Library.{builtin_defs, builtin_classes, builtin_fields, builtin_methods}
 use Rattle.jvm_model.specs.Classes.{field_at, class_bound, is_trivial, own_interfaces, default_interfaces}
 use Rattle.jvm_model.specs.Suite.{opening}
 use Rattle.jvm_model.proofs.Examples.Parts.{program, class, body, fixed, static_int, test, int_const, get_static, put_static, call_static, returns}
 use Rattle.type_frames.specs.{Frames.index_of, Given.given_frames, Given.body_frames, Environment.given_at, Environment.is_target, StackEffect.sides}
-use Rattle.type_frames.specs.Assign.{takes_any, extends, class_fits, object_fits}
-use Rattle.type_frames.specs.Typing.{incoming}
+use Rattle.type_frames.specs.{Assign.takes_any, Assign.extends, Assign.class_fits, Assign.object_fits, Typing.incoming}
 use Rattle.type_frames.specs.TypedState.{IsDeclared, IsInRange, TypedWorld, TypedState, Goes, Waits, Initialises, IsPushedBy}
 use Rattle.type_frames.proofs.Started.{started_law}
 

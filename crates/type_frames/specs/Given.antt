@@ -6,8 +6,7 @@ use Rattle.jvm_model.specs.declared.program.TypeRec.TheVariants as entry
 use Rattle.jvm_model.specs.{Classes.is_static, Classes.init_name, Descriptors.parameters}
 use Rattle.type_frames.specs.declared.vtype.{VType.VType, Frame.Frame}
 use Rattle.type_frames.specs.declared.vtype.VType.TheVariants.{Top, Int, Long, Null, Object, UninitThis, Uninit}
-use Rattle.type_frames.specs.Frames.{spread, padded, holds_this, index_of}
-use Rattle.type_frames.specs.Descriptors.{types_of, name_of}
+use Rattle.type_frames.specs.{Frames.spread, Frames.padded, Frames.holds_this, Frames.index_of, Descriptors.types_of, Descriptors.name_of}
 
 -- an instance method `<init>`; a static one is an ordinary method
 abbrev pub is_constructor : MethodRec → Bool

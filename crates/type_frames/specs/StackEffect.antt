@@ -11,8 +11,7 @@ use Rattle.jvm_model.specs.declared.instr.Cell.TheVariants as cell
 use Rattle.jvm_model.specs.declared.instr.Op.TheVariants as op
 use Rattle.jvm_model.specs.declared.instr.Conv.TheVariants as conv
 use Rattle.jvm_model.specs.Classes.{class_at, field_at, method_at, init_name, clinit_name}
-use Rattle.jvm_model.specs.Descriptors.{parameters, return_type}
-use Rattle.jvm_model.specs.Builtin.{object_class, string_class, throwable_class}
+use Rattle.jvm_model.specs.{Descriptors.parameters, Descriptors.return_type, Builtin.object_class, Builtin.string_class, Builtin.throwable_class}
 use Rattle.type_frames.specs.declared.vtype.VType.{VType}
 use Rattle.type_frames.specs.declared.vtype.VType.TheVariants.{Top, Int, Long, Null, Object, UninitThis, Uninit}
 use Rattle.type_frames.specs.declared.stack_effect.{OperandConstraint.OperandConstraint, Reading.Reading, LocalUpdate.LocalUpdate}

@@ -12,12 +12,10 @@ use Rattle.jvm_model.specs.declared.state.Stage.TheVariants.{First, Made, Built,
 use Rattle.jvm_model.specs.declared.instr.Instr.{Instr}
 use Rattle.jvm_model.specs.declared.instr.Instr.TheVariants as form
 use Rattle.jvm_model.specs.declared.program.{Program.Program, Body.Body, Placed.Placed, TestEntry.TestEntry}
-use Rattle.jvm_model.specs.World.{World, size, at, object_at}
+use Rattle.jvm_model.specs.{World.World, World.size, World.at, World.object_at, Entries.Entry, Entries.all_entries, Entries.entry_limit, Entries.no_entries}
 use Rattle.jvm_model.specs.{View.Exists, Builtin.throwable_class, Initialise.parts_of, Kinds.class_of, Rows.constant_kind}
 use Rattle.jvm_model.specs.Classes.{class_at, field_at, method_at, is_below, is_static, is_trivial, layout, member}
-use Rattle.jvm_model.specs.Entries.{Entry, all_entries, entry_limit, no_entries}
-use Rattle.jvm_model.specs.Linked.{IsField, IsKind, first_or, fits_int}
-use Rattle.jvm_model.specs.State.{State, started, test_at}
+use Rattle.jvm_model.specs.{Linked.IsField, Linked.IsKind, Linked.first_or, Linked.fits_int, State.State, State.started, State.test_at}
 use Rattle.type_frames.specs.declared.vtype.{VType.VType, Frame.Frame}
 use Rattle.type_frames.specs.declared.vtype.VType.TheVariants.{Top, Int, Long, Null, Object, UninitThis, Uninit}
 use Rattle.type_frames.specs.{Frames.Slots, Descriptors.types_of, Descriptors.kind_name, Assign.assignable, Given.given_frames}

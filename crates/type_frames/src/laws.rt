@@ -1,7 +1,6 @@
 //! Laws of the definitions, each handed out by a function that does nothing.
 
-ghost use Rattle.type_frames.specs.AssignLaws.{ItselfLaw, ReferenceLaw, TransitiveLaw};
-ghost use Rattle.type_frames.specs.TypedState.{StartedLaw};
+ghost use Rattle.type_frames.specs.{AssignLaws.ItselfLaw, AssignLaws.ReferenceLaw, AssignLaws.TransitiveLaw, TypedState.StartedLaw};
 
 /// Each type may stand for itself (JVMS 4.10.1.2); an object's, where it is named as a Class entry names one (JVMS 4.4.1).
 pub fn itself_law()

@@ -7,8 +7,7 @@ use Rattle.jvm_model.specs.declared.program.{Body.Body, Program.Program}
 use Rattle.jvm_model.specs.declared.outcome.Next.{Next}
 use Rattle.jvm_model.specs.{World.World, Access.Access, Classes.method_at, Entries.Entries, Entries.is_full, Rows.Answer}
 use Rattle.jvm_model.specs.RowsCalls.{on_receiver, receiver, argument_count, call_special, calls, calls_selected, enters_body, enters_native}
-use Rattle.jvm_model.specs.Selection.{Selected, chosen, failing}
-use Rattle.jvm_model.specs.View.{touched, IsSafe, IsRow}
+use Rattle.jvm_model.specs.{Selection.Selected, Selection.chosen, Selection.failing, View.touched, View.IsSafe, View.IsRow}
 use Rattle.class_init.proofs.Starts.{either_untouched}
 use Rattle.vm_mem.specs.{Refines.Refines, Refines.Makes, Trace.Trace}
 use Rattle.vm_calls.specs.Calls.{method_row, object_row}

@@ -1,7 +1,6 @@
 -- Answers that are kept.
 use Rattle.std.proofs.Common.{◌≡◌, ℕ, ◌<◌, List, length, slice_get, get_or, set, replicate, nat_eq, sym, ◌∙◌, ap, subst, inl, inr, Option, Some, None, IfSome, get_or-set_other, get_or-set_same}
-use Rattle.std.proofs.lemmas.Bool.{cases_Bool, eqb-true, eqb-false}
-use Rattle.std.proofs.lemmas.Option.{get_or_from_slice_get}
+use Rattle.std.proofs.lemmas.{Bool.cases_Bool, Bool.eqb-true, Bool.eqb-false, Option.get_or_from_slice_get}
 use Rattle.jvm_model.specs.declared.program.Program.{Program}
 use Rattle.jvm_model.proofs.Ranges.{default_in}
 use Rattle.vm_calls.specs.declared.selections.Known.{Known}

@@ -8,11 +8,9 @@ use Rattle.jvm_model.specs.declared.state.{EntryKind.EntryKind, EntryKind.TheVar
 use Rattle.jvm_model.specs.declared.outcome.Next.{Next}
 use Rattle.jvm_model.specs.declared.program.Program.{Program}
 use Rattle.jvm_model.specs.{World.World, Access.Access, Classes.method_at, Descriptors.return_type, Narrow.narrow, Narrow.narrowed, Rows.Answer, Rows.popping}
-use Rattle.jvm_model.specs.Entries.{Entries, popped_entry, with_stack}
-use Rattle.jvm_model.specs.RowsReturn.{row_return, hands_on, handed_on}
+use Rattle.jvm_model.specs.{Entries.Entries, Entries.popped_entry, Entries.with_stack, RowsReturn.row_return, RowsReturn.hands_on, RowsReturn.handed_on}
 use Rattle.jvm_model.specs.View.{counted, counts_one, outcome, paid, touched, IsSafe, IsRow}
-use Rattle.vm_mem.specs.Refines.{IsReady, Refines, Traces}
-use Rattle.vm_mem.specs.Trace.{Trace}
+use Rattle.vm_mem.specs.{Refines.IsReady, Refines.Refines, Refines.Traces, Trace.Trace}
 use Rattle.vm_calls.specs.Calls.{hands_row, return_row}
 use Rattle.vm_tables.specs.Methods.{return_unit}
 use Rattle.vm_tables.proofs.FieldUnits.{narrow_first}

@@ -2,9 +2,8 @@
 
 ghost use Rattle.std.specs.Prelude.{◌≡◌, ◌++◌, [], IfOk, OnOk, filter, flat_map, nat_eq};
 ghost use Rattle.indexmap.specs.IndexSet.{insert_all};
-ghost use Rattle.jvm_model.specs.Classes.{class_at, upwards_in};
+ghost use Rattle.jvm_model.specs.{Classes.class_at, Classes.upwards_in, Selection.declared_in, Selection.special_path, Selection.is_open_like};
 ghost use Rattle.jvm_model.specs.Selection as selection;
-ghost use Rattle.jvm_model.specs.Selection.{declared_in, special_path, is_open_like};
 ghost use Rattle.member_lookup.specs.Walks.{is_kept};
 ghost use Rattle.vm_calls.specs.Choices.{above_of, declared_by, is_wanted, searched, selected_of, special_from};
 

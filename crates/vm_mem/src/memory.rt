@@ -8,8 +8,7 @@ ghost use Rattle.jvm_model.specs.{View.Exists, Classes.blank};
 ghost use Rattle.jvm_model.specs.declared.program.Program.{Program};
 ghost use Rattle.jvm_model.specs.declared.values.Touch.{Touch};
 ghost use Rattle.jvm_model.specs.declared.values.Location.TheVariants as place;
-ghost use Rattle.vm_mem.specs.Trace.{Trace, Extends, next_test};
-ghost use Rattle.vm_mem.specs.Stores.{place_in, found_in, put_in};
+ghost use Rattle.vm_mem.specs.{Trace.Trace, Trace.Extends, Trace.next_test, Stores.place_in, Stores.found_in, Stores.put_in};
 
 use et_base::{NoMemory, Units};
 use jvm_model::{Head, InitState, Value};

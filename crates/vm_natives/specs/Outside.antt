@@ -2,9 +2,8 @@
 use Rattle.std.specs.Prelude.{ℕ, List, [], ◌∷◌, ◌++◌, Bool, true, false}
 use Rattle.std.specs.Fmt.{signed_decimal}
 use Rattle.et_base.specs.Quotes.{utf8_of}
-use Rattle.jvm_model.specs.Rows.{on_int, on_long}
+use Rattle.jvm_model.specs.{Rows.on_int, Rows.on_long, NativesOutside.line_feed, NativesOutside.on_printed, NativesOutside.prints_string}
 use Rattle.jvm_model.specs.Working.{Working, operands, prints, boolean_text, char_of}
-use Rattle.jvm_model.specs.NativesOutside.{line_feed, on_printed, prints_string}
 use Rattle.vm_mem.specs.Refines.{Row}
 
 -- the call prints these bytes

@@ -1,8 +1,7 @@
 -- The lengths of an array of arrays as they're taken off the operands.
 use Rattle.std.proofs.Common.{◌≡◌, ◌<◌, ◌≤◌, ◌+◌, ◌-◌, ℕ, ℤ, zero, suc, pos, negsuc, List, [], ◌∷◌, Bool, true, false, Option, Some, Result, refl, sym, ap, ◌∙◌, subst, arith}
 use Rattle.std.specs.Prelude.{take, drop, length, slice_set}
-use Rattle.std.proofs.lemmas.Result.{IfOk-weaker}
-use Rattle.std.proofs.lemmas.List.{drop-set, take_all, length-drop}
+use Rattle.std.proofs.lemmas.{Result.IfOk-weaker, List.drop-set, List.take_all, List.length-drop}
 use Rattle.jvm_model.specs.declared.values.{Value.Value, Kind.Kind, Touch.Touch}
 use Rattle.jvm_model.specs.declared.values.Value.TheVariants.{Int, Long, Null, Lit, Obj}
 use Rattle.jvm_model.specs.declared.instr.Instr.TheVariants as form
@@ -11,10 +10,8 @@ use Rattle.jvm_model.specs.declared.program.Program.{Program}
 use Rattle.jvm_model.specs.{World.World, Entries.Entries, Entries.with_stack}
 use Rattle.jvm_model.specs.RowsCreate.{row_create, sized, nested}
 use Rattle.jvm_model.specs.View.{IsSafe, IsRow, counted, paid, counts_one, touched}
-use Rattle.vm_mem.specs.Trace.{Trace}
-use Rattle.vm_mem.specs.Refines.{Row, Refines, Traces, Makes}
-use Rattle.vm_objects.specs.Forms.{create_row, count_of}
-use Rattle.vm_objects.specs.Nests.{HasInts, nested_row, taken}
+use Rattle.vm_mem.specs.{Trace.Trace, Refines.Row, Refines.Refines, Refines.Traces, Refines.Makes}
+use Rattle.vm_objects.specs.{Forms.create_row, Forms.count_of, Nests.HasInts, Nests.nested_row, Nests.taken}
 
 module _ (p : Program) (k : Kind) (s : Entries) (w : World) where
   -- where there is a row, the lengths are ints

@@ -5,8 +5,7 @@ use Rattle.jvm_model.specs.declared.values.Value.{Value}
 use Rattle.jvm_model.specs.declared.values.Location.TheVariants as place
 use Rattle.jvm_model.specs.declared.instr.{Cell.Cell, Instr.Instr}
 use Rattle.jvm_model.specs.{Access.read, Entries.Entries, RowsFields.row_fields, RowsArrays.row_arrays, RowsArrays.stored_in, RowsCasts.row_casts}
-use Rattle.jvm_model.specs.RowsStatics.{row_statics, read_static, write_static}
-use Rattle.jvm_model.specs.RowsCreate.{row_create, new_object}
+use Rattle.jvm_model.specs.{RowsStatics.row_statics, RowsStatics.read_static, RowsStatics.write_static, RowsCreate.row_create, RowsCreate.new_object}
 use Rattle.vm_mem.specs.Refines.{Row}
 
 abbrev pub static_row : Instr → Row Entries

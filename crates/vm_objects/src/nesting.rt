@@ -8,10 +8,8 @@ ghost use Rattle.jvm_model.specs.Entries.{Entries, with_stack};
 ghost use Rattle.jvm_model.specs.RowsCreate as create;
 ghost use Rattle.jvm_model.specs.View.{IsSafe, Any, counted, ended, touched};
 ghost use Rattle.vm_frames.specs.Stack.{HasRoom};
-ghost use Rattle.vm_mem.specs.Refines.{IsReady, IsNext, Makes};
-ghost use Rattle.vm_mem.specs.Trace.{Trace};
-ghost use Rattle.vm_objects.specs.Forms.{create_row};
-ghost use Rattle.vm_objects.specs.Nests.{nested_row, taken, HasInts};
+ghost use Rattle.vm_mem.specs.{Refines.IsReady, Refines.IsNext, Refines.Makes, Trace.Trace};
+ghost use Rattle.vm_objects.specs.{Forms.create_row, Nests.nested_row, Nests.taken, Nests.HasInts};
 
 use crate::creation::count_of;
 use et_base::NoMemory;

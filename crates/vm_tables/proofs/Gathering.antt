@@ -4,8 +4,7 @@ use Rattle.std.proofs.lemmas.{Bool.or_cases, Bool.eqb-true, List.take_more}
 use Rattle.std.proofs.{lemmas.List.Concat.flat_map-append, lemmas.List.Folds.length-flat_map-take}
 use Rattle.indexmap.specs.IndexSet.{insert_key, insert_all}
 use Rattle.jvm_model.specs.declared.program.Program.{Program}
-use Rattle.jvm_model.specs.Classes.{class_at, member, first_mentions, own_interfaces}
-use Rattle.jvm_model.specs.Linked.{IsClass, Linked}
+use Rattle.jvm_model.specs.{Classes.class_at, Classes.member, Classes.first_mentions, Classes.own_interfaces, Linked.IsClass, Linked.Linked}
 use Rattle.jvm_model.proofs.Walks.{lineage_step}
 use Rattle.member_lookup.proofs.Ancestry.{member_kept, member_there, member_from}
 use Rattle.member_lookup.proofs.{Walking.insert_append, Walking.insert_known, MentionFacts.first_is}

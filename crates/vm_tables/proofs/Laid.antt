@@ -6,8 +6,7 @@ use Rattle.std.proofs.{lemmas.List.Elements.All-from_get_or, Math.Seq.take-appen
 use Rattle.jvm_model.specs.declared.program.Program.{Program}
 use Rattle.jvm_model.specs.Classes.{class_at, field_at, no_class, class_bound, is_static, member, upwards_in, plain_fields, layout_in, layout}
 use Rattle.jvm_model.specs.Linked.{IsClass, IsField, Linked}
-use Rattle.jvm_model.proofs.Upwards.{superclass_is, upwards_step, upwards_root}
-use Rattle.jvm_model.proofs.Walks.{all_member}
+use Rattle.jvm_model.proofs.{Upwards.superclass_is, Upwards.upwards_step, Upwards.upwards_root, Walks.all_member}
 use Rattle.member_lookup.proofs.Ancestry.{any_append, member_get}
 use Rattle.vm_tables.specs.FieldPlaces.{place, AreFieldPlaces, IsHeld, HaveEntries}
 

@@ -2,8 +2,7 @@
 use Rattle.std.specs.Prelude.{◌≡◌, ℕ, List, [], get_or, map, Bool, true, not, ◌&&◌}
 use Rattle.std.specs.List.{list_all}
 use Rattle.jvm_model.specs.declared.program.Program.{Program}
-use Rattle.jvm_model.specs.Classes.{declares_start, default_interfaces, is_trivial}
-use Rattle.jvm_model.specs.Initialise.{Part as Before, parts_of}
+use Rattle.jvm_model.specs.{Classes.declares_start, Classes.default_interfaces, Classes.is_trivial, Initialise.Part as Before, Initialise.parts_of}
 use Rattle.vm_tables.specs.declared.init_plan.Part.{Part}
 
 -- neither the class nor a default interface of it declares `<clinit>`

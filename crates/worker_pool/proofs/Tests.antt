@@ -11,15 +11,12 @@ use Rattle.order_law.specs.{Conflicts.Member, Histories.IsTestNumber, RecordForm
 use Rattle.order_law.specs.Plan as law
 use Rattle.order_law.proofs.Members.{reversed_member}
 use Rattle.order_law.proofs.Posts.{member_mid, posted_where, reversed, law_of_histories, forms_apart}
-use Rattle.test_run.specs.Lists.{IsListRefused}
-use Rattle.test_run.specs.Running.{IsTest, IsRefused, Stands}
+use Rattle.test_run.specs.{Lists.IsListRefused, Running.IsTest, Running.IsRefused, Running.Stands}
 use Rattle.test_run.specs.declared.run_fault.RunFault.{RunFault}
 use Rattle.test_run.specs.declared.run_fault.RunFault.TheVariants as run
 use Rattle.run_core.specs.{Refusal.HasOpen, Run.most_events}
-use Rattle.schedule_plan.proofs.Formed.{joined_where, distinct_joined, filled_from}
-use Rattle.schedule_plan.proofs.Totals.{few, few_chains}
-use Rattle.worker_pool.specs.Plans.{AreTests, HaveTests, GivesNone, IsStop}
-use Rattle.worker_pool.specs.Faults.{IsRunFault}
+use Rattle.schedule_plan.proofs.{Formed.joined_where, Formed.distinct_joined, Formed.filled_from, Totals.few, Totals.few_chains}
+use Rattle.worker_pool.specs.{Plans.AreTests, Plans.HaveTests, Plans.GivesNone, Plans.IsStop, Faults.IsRunFault}
 
 pub member_at : (l : List ℕ) (k d : ℕ) → k < length l → Member (get_or l k d) l
 member_at [] k d h = absurd (omega arith)

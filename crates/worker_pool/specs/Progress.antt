@@ -2,8 +2,7 @@
 use Rattle.std.specs.Prelude.{◌≡◌, ℕ, ◌∷◌, ◌++◌, [], reverse, Bool, true, false}
 use Rattle.order_law.specs.Plan.{posts}
 use Rattle.run_core.specs.declared.events.Event.{Event}
-use Rattle.run_core.specs.Refusal.{HasNone}
-use Rattle.run_core.specs.Run.{Run, IsWorker, added, history}
+use Rattle.run_core.specs.{Refusal.HasNone, Run.Run, Run.IsWorker, Run.added, Run.history}
 use Rattle.test_run.specs.Running.{Posted}
 
 -- the run with one event more

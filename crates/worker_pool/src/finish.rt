@@ -3,10 +3,8 @@
 ghost use Rattle.std.specs.Prelude.{◌≡◌, ◌+◌, ◌<◌, ℕ, length, reverse, None, true, IfOk, IfErr, IfSome};
 ghost use Rattle.jvm_model.specs.Suite.{first_over};
 ghost use Rattle.order_law.specs.{Histories.IsTestNumber, Plan.posts, RecordForm.are_chains};
-ghost use Rattle.run_core.specs.Refusal.{HasOpen};
-ghost use Rattle.run_core.specs.Run.{IsComplete, IsLegal, IsWorker, history};
-ghost use Rattle.worker_pool.specs.Faults.{IsPlanFault, IsRunFault};
-ghost use Rattle.worker_pool.specs.Plans.{AreTests, HaveTests, units_of};
+ghost use Rattle.run_core.specs.{Refusal.HasOpen, Run.IsComplete, Run.IsLegal, Run.IsWorker, Run.history};
+ghost use Rattle.worker_pool.specs.{Faults.IsPlanFault, Faults.IsRunFault, Plans.AreTests, Plans.HaveTests, Plans.units_of};
 ghost use Rattle.worker_pool.specs.Progress.{AllHaveNone, IsNextPost, IsOneMore, MayPost};
 
 use crate::again::run_after;

@@ -1,6 +1,5 @@
 use Rattle.check_sound.specs.PaceLaw.{PutsHere}
-use Rattle.check_sound.proofs.PacedStep.{paced, statics_of, touched}
-use Rattle.check_sound.proofs.PacedTest.{test_paced, given_paced, test_statics}
+use Rattle.check_sound.proofs.{PacedStep.paced, PacedStep.statics_of, PacedStep.touched, PacedTest.test_paced, PacedTest.given_paced, PacedTest.test_statics}
 use Rattle.check_sound.proofs.pace_law.Goals as goal
 
 pub returns-clause-paced : goal.returns-clause-paced

@@ -1,5 +1,4 @@
-use Rattle.check_sound.proofs.AllGroups.{groups}
-use Rattle.check_sound.proofs.Reaching.{reached_typed, instruction_room, result_room, native_room}
+use Rattle.check_sound.proofs.{AllGroups.groups, Reaching.reached_typed, Reaching.instruction_room, Reaching.result_room, Reaching.native_room}
 use Rattle.check_sound.proofs.WholeTest.{opening_typed, test_typed, left_typed, list_typed}
 use Rattle.check_sound.proofs.reach_law.Goals as goal
 

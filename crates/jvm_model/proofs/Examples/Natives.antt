@@ -13,10 +13,8 @@ use Rattle.jvm_model.specs.declared.outcome.{Next.Next, Next.TheVariants.Go, Nex
 use Rattle.jvm_model.specs.declared.library.Native.{Native}
 use Rattle.jvm_model.specs.declared.program.Program.{Program}
 use Rattle.jvm_model.specs.{World.World, World.Object, Classes.method_at, Working.Working, Natives.row_native}
-use Rattle.jvm_model.specs.Access.{Access, done, run}
-use Rattle.jvm_model.specs.Rows.{Answer, answer, stuck_row}
-use Rattle.jvm_model.proofs.OnLiterals.{machine_on_literals}
-use Rattle.jvm_model.proofs.Examples.Parts.{program, gets, sets, line}
+use Rattle.jvm_model.specs.{Access.Access, Access.done, Access.run, Rows.Answer, Rows.answer, Rows.stuck_row}
+use Rattle.jvm_model.proofs.{OnLiterals.machine_on_literals, Examples.Parts.program, Examples.Parts.gets, Examples.Parts.sets, Examples.Parts.line}
 
 -- the string constants 1 to 5; the last is an e with an acute accent and half of a surrogate pair
 abbrev texts : Program

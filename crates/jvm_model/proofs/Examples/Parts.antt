@@ -8,8 +8,7 @@ use Rattle.jvm_model.specs.declared.instr.Sort.TheVariants as sort
 use Rattle.jvm_model.specs.declared.outcome.{Outcome.Outcome, Verdict.TheVariants.Passed, Verdict.TheVariants.Failed, Verdict.TheVariants.Error}
 use Rattle.jvm_model.specs.declared.program.{Program.Program, ClassRec.ClassRec, FieldRec.FieldRec, MethodRec.MethodRec, Body.Body, Placed.Placed}
 use Rattle.jvm_model.specs.declared.program.TestEntry.{TestEntry}
-use Rattle.jvm_model.specs.Library.{builtin_classes, builtin_fields, builtin_methods}
-use Rattle.jvm_model.specs.Suite.{Given}
+use Rattle.jvm_model.specs.{Library.builtin_classes, Library.builtin_fields, Library.builtin_methods, Suite.Given}
 
 -- A program of these classes, fields, methods, string constants and tests after the built-in ones: the first class has
 -- the number 32, the first field 2 and the first method 102.

@@ -9,8 +9,7 @@ use Rattle.jvm_model.proofs.{Examples.Parts.passed, Examples.Parts.line, Example
 use Rattle.jvm_model.proofs.Examples.Linked.{return_linked}
 use Rattle.order_law.specs.declared.edges.{Edge.Edge, EdgeKind.EdgeKind, EdgeKind.TheVariants.Raw, EdgeKind.TheVariants.Waw, EdgeKind.TheVariants.War}
 use Rattle.order_law.specs.Conflicts.{Member, HasEdge, Before, Lawful, Closure, selected, source, Joined, itself, forth, back}
-use Rattle.order_law.specs.OrderFault.{twice, missing_writer, inverted}
-use Rattle.order_law.specs.OwnRecord.{edges_of}
+use Rattle.order_law.specs.{OrderFault.twice, OrderFault.missing_writer, OrderFault.inverted, OwnRecord.edges_of}
 use Rattle.order_law.specs.RecordForm.{is_record_form, is_reach, are_chains}
 use Rattle.order_law.specs.Plan.{chain_at, Ascending, AreChainsOf, AreListedChainsOf, Event, claim, post, claims, Posted, NextOf, Legal, IsComplete}
 use Rattle.order_law.proofs.{OnLiterals.records_on_literals, Members.joined_within, Posts.ascending_from}

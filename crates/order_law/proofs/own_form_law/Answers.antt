@@ -1,5 +1,4 @@
-use Rattle.order_law.proofs.OwnForm.{units_law, ordered_law, counted_law, reach_law}
-use Rattle.order_law.proofs.PlaceTexts.{place_law}
+use Rattle.order_law.proofs.{OwnForm.units_law, OwnForm.ordered_law, OwnForm.counted_law, OwnForm.reach_law, PlaceTexts.place_law}
 use Rattle.order_law.proofs.own_form_law.Goals as goal
 
 pub returns-clause-units : goal.returns-clause-units

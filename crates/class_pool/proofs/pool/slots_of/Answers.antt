@@ -1,8 +1,7 @@
 use Rattle.std.proofs.Common.{◌≡◌, arith, ◌-◌, ◌∙◌}
 use Rattle.std.proofs.lemmas.Result.{err_from_is_err_and}
 use Rattle.class_pool.specs.Pool.{slot_at}
-use Rattle.class_pool.proofs.Loops.{counted_on, counted_fails, counted_done}
-use Rattle.class_pool.proofs.PoolSteps.{is_second-push, begun}
+use Rattle.class_pool.proofs.{Loops.counted_on, Loops.counted_fails, Loops.counted_done, PoolSteps.is_second-push, PoolSteps.begun}
 use Rattle.class_pool.proofs.pool.slots_of.Goals as goal
 
 pub returns-in_err-slot : goal.returns-in_err-slot

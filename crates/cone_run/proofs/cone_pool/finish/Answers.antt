@@ -2,8 +2,7 @@ use Rattle.std.proofs.Common.{◌+◌, ◌<◌, List, Option, length, sym, ◌�
 use Rattle.std.proofs.lemmas.Result.{err_from_is_err_and}
 use Rattle.test_run.specs.Running.{Posted}
 use Rattle.cone_run.specs.Books.{AreLeft}
-use Rattle.cone_run.proofs.Books.{counted_first, counted_last, counted_next, left_next}
-use Rattle.cone_run.proofs.ConeLists.{cone_at, first_fault}
+use Rattle.cone_run.proofs.{Books.counted_first, Books.counted_last, Books.counted_next, Books.left_next, ConeLists.cone_at, ConeLists.first_fault}
 use Rattle.cone_run.proofs.Pairs.{paired_all, paired_length, paired_next, paired_none}
 use Rattle.cone_run.proofs.cone_pool.finish.Goals as goal
 

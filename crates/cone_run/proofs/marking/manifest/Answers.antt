@@ -3,8 +3,7 @@ use Rattle.std.proofs.lemmas.Result.{IfOk-weaker, IfErr-weaker}
 use Rattle.jvm_model.specs.declared.program.Program.{Program}
 use Rattle.type_frames.specs.Typing.{IsTyped}
 use Rattle.dep_graph.specs.Graphs.{GoUp}
-use Rattle.cone_run.specs.Cones.{IsConeFault}
-use Rattle.cone_run.specs.Marks.{AreMarks, HasSpent, HasWriter}
+use Rattle.cone_run.specs.{Cones.IsConeFault, Marks.AreMarks, Marks.HasSpent, Marks.HasWriter}
 use Rattle.cone_run.proofs.marking.manifest.Goals as goal
 
 pub marks_on-requires-clause-typed : goal.marks_on-requires-clause-typed

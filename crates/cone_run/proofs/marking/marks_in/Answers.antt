@@ -4,8 +4,7 @@ use Rattle.jvm_model.specs.declared.program.Program.{Program}
 use Rattle.jvm_model.specs.Suite.{last_outcome}
 use Rattle.test_run.specs.Running.{IsTest}
 use Rattle.cone_run.specs.{Cones.cone_units, Marks.IsEffect, Marks.without}
-use Rattle.cone_run.proofs.ConeLists.{filled, member_at, without_has}
-use Rattle.cone_run.proofs.Pairs.{paired_next, paired_none}
+use Rattle.cone_run.proofs.{ConeLists.filled, ConeLists.member_at, ConeLists.without_has, Pairs.paired_next, Pairs.paired_none}
 use Rattle.cone_run.proofs.marking.marks_in.Goals as goal
 
 pub loop-index-init : goal.loop-index-init

@@ -5,8 +5,7 @@ use Rattle.type_frames.specs.Typing.{IsTyped}
 use Rattle.dep_graph.specs.Graphs.{GoUp}
 use Rattle.test_run.specs.Running.{IsTest}
 use Rattle.cone_run.specs.declared.marks.Mark.{Mark}
-use Rattle.cone_run.specs.Marking.{AreMarksTo, HasMarks, IsTestFault}
-use Rattle.cone_run.specs.Marks.{AreUnits}
+use Rattle.cone_run.specs.{Marking.AreMarksTo, Marking.HasMarks, Marking.IsTestFault, Marks.AreUnits}
 use Rattle.cone_run.proofs.MarkLaws.{marks_all, marks_begun, marks_fault, marks_more, units_more}
 use Rattle.cone_run.proofs.marking.marks_on.Goals as goal
 

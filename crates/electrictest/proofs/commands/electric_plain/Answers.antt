@@ -1,8 +1,7 @@
 use Rattle.electrictest.specs.{Commands.called, Words.plain}
 use Rattle.electrictest.proofs.{AskedFor.plain_impact, AskedFor.plain_over, CompleteLaws.complete_answer, DetectedLaws.detected_order_answer}
 use Rattle.electrictest.proofs.{EagerLaws.told_eager, EarlierLaws.earlier_answer, Held.for_held, OwnConeLaws.own_manifest_answer}
-use Rattle.electrictest.proofs.OwnOrderLaws.{own_order_answer}
-use Rattle.electrictest.proofs.Replying.{served_by, taken_by, ends_by}
+use Rattle.electrictest.proofs.{OwnOrderLaws.own_order_answer, Replying.served_by, Replying.taken_by, Replying.ends_by}
 use Rattle.electrictest.proofs.commands.electric_plain.Goals as goal
 
 pub returns-clause-served : goal.returns-clause-served

@@ -1,5 +1,4 @@
-use Rattle.electrictest.proofs.AskedFor.{served_over}
-use Rattle.electrictest.proofs.LoadLaws.{reports_all, refuses_all, ends_all}
+use Rattle.electrictest.proofs.{AskedFor.served_over, LoadLaws.reports_all, LoadLaws.refuses_all, LoadLaws.ends_all}
 use Rattle.electrictest.proofs.commands.reported.Goals as goal
 
 pub returns-clause-reports : goal.returns-clause-reports

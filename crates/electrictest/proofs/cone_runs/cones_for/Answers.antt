@@ -7,8 +7,7 @@ use Rattle.electrictest.specs.declared.words.Command.TheVariants as command
 use Rattle.electrictest.specs.{Causes.MayReport, Records.beginning, Selections.selected, Words.word_at}
 use Rattle.electrictest.specs.Commands.{ReportEnds, ReportsOver, RefusedOver}
 use Rattle.electrictest.specs.ConeRuns.{AreCounted, ConesRefused, IsConeReport}
-use Rattle.electrictest.proofs.AskedFor.{may_report, named_as}
-use Rattle.electrictest.proofs.ConeReplies.{counted_reports, cones_refused, cones_ends}
+use Rattle.electrictest.proofs.{AskedFor.may_report, AskedFor.named_as, ConeReplies.counted_reports, ConeReplies.cones_refused, ConeReplies.cones_ends}
 use Rattle.electrictest.proofs.cone_runs.cones_for.Goals as goal
 
 pub begin-requires-clause-named : goal.begin-requires-clause-named

@@ -5,8 +5,7 @@ use Rattle.electrictest.specs.declared.status.Status.{Status}
 use Rattle.electrictest.specs.declared.words.Command.TheVariants as command
 use Rattle.electrictest.specs.{Causes.MayReport, Orders.Reports, Records.beginning, Running.OrderRefused, Selections.ordered, Words.word_at}
 use Rattle.electrictest.specs.Commands.{ReportEnds, ReportsOver, RefusedOver}
-use Rattle.electrictest.proofs.AskedFor.{may_report, named_as}
-use Rattle.electrictest.proofs.OrderLaws.{order_reports, order_refused, order_ends}
+use Rattle.electrictest.proofs.{AskedFor.may_report, AskedFor.named_as, OrderLaws.order_reports, OrderLaws.order_refused, OrderLaws.order_ends}
 use Rattle.electrictest.proofs.orders.order_for.Goals as goal
 
 pub begin-requires-clause-named : goal.begin-requires-clause-named

@@ -5,8 +5,7 @@ use Rattle.electrictest.specs.declared.status.Status.{Status}
 use Rattle.electrictest.specs.declared.words.Command.TheVariants as command
 use Rattle.electrictest.specs.{Causes.MayReport, PoolRuns.PoolReports, PoolRuns.PoolRefused, Records.beginning, Selections.selected, Words.word_at}
 use Rattle.electrictest.specs.Commands.{ReportEnds, ReportsOver, RefusedOver}
-use Rattle.electrictest.proofs.AskedFor.{may_report, named_as}
-use Rattle.electrictest.proofs.PoolReplies.{pool_reports, pool_refused, pool_ends}
+use Rattle.electrictest.proofs.{AskedFor.may_report, AskedFor.named_as, PoolReplies.pool_reports, PoolReplies.pool_refused, PoolReplies.pool_ends}
 use Rattle.electrictest.proofs.pool_runs.run_for.Goals as goal
 
 pub begin-requires-clause-named : goal.begin-requires-clause-named

@@ -2,8 +2,7 @@ use Rattle.electrictest.specs.{Commands.called, Words.threaded}
 use Rattle.electrictest.proofs.{AskedFor.threaded_impact, AskedFor.threaded_over, Held.for_held, OwnAnswers.own_answer}
 use Rattle.electrictest.proofs.{OwnConeLaws.own_cones_answer, OwnConeLaws.own_manifest_answer, OwnOrderLaws.own_order_answer, CompleteLaws.complete_answer}
 use Rattle.electrictest.proofs.{DetectedLaws.detected_answer, DetectedLaws.detected_order_answer, EagerLaws.told_eager, EarlierLaws.earlier_answer}
-use Rattle.electrictest.proofs.GeneratedAnswers.{generated_by}
-use Rattle.electrictest.proofs.Replying.{served_by, taken_by, ends_by}
+use Rattle.electrictest.proofs.{GeneratedAnswers.generated_by, Replying.served_by, Replying.taken_by, Replying.ends_by}
 use Rattle.electrictest.proofs.threaded.electric.Goals as goal
 
 pub returns-clause-served : goal.returns-clause-served

@@ -1,5 +1,4 @@
-use Rattle.electrictest.proofs.AskedFor.{of_suite_alone}
-use Rattle.electrictest.proofs.LoadLaws.{reports_all, refuses_all, ends_all}
+use Rattle.electrictest.proofs.{AskedFor.of_suite_alone, LoadLaws.reports_all, LoadLaws.refuses_all, LoadLaws.ends_all}
 use Rattle.electrictest.proofs.threaded.suite_text.Goals as goal
 
 pub returns-clause-reports : goal.returns-clause-reports

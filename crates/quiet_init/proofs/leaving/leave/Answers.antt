@@ -1,8 +1,7 @@
 use Rattle.std.proofs.Common.{◌≡◌, sym, subst, arith}
 use Rattle.std.proofs.lemmas.Result.{on_ok_weaker}
 use Rattle.jvm_model.specs.declared.program.Program.{Program}
-use Rattle.quiet_init.specs.Leaving.{CanDoAll, before_end, entered}
-use Rattle.quiet_init.specs.Quiet.{left_after}
+use Rattle.quiet_init.specs.{Leaving.CanDoAll, Leaving.before_end, Leaving.entered, Quiet.left_after}
 use Rattle.quiet_init.proofs.Leaves.{quiet_there, never_unstarted, start_can, start_leaves}
 use Rattle.quiet_init.proofs.leaving.leave.Goals as goal
 

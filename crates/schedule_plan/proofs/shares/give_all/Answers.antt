@@ -1,8 +1,7 @@
 -- The next chain is given.
 use Rattle.std.proofs.Common.{arith, length}
 use Rattle.schedule_plan.specs.Grouping.{at}
-use Rattle.schedule_plan.proofs.Places.{member_get}
-use Rattle.schedule_plan.proofs.Dealing.{placed_more, placed_all, loads_within}
+use Rattle.schedule_plan.proofs.{Places.member_get, Dealing.placed_more, Dealing.placed_all, Dealing.loads_within}
 use Rattle.schedule_plan.proofs.shares.give_all.Goals as goal
 
 pub loop-i-init : goal.loop-i-init

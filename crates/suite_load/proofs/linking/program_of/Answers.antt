@@ -1,5 +1,4 @@
-use Rattle.suite_load.proofs.CheckLaws.{linked_goes, not_linked, not_typed}
-use Rattle.suite_load.proofs.LinkedCounts.{tests_linked, classes_linked}
+use Rattle.suite_load.proofs.{CheckLaws.linked_goes, CheckLaws.not_linked, CheckLaws.not_typed, LinkedCounts.tests_linked, LinkedCounts.classes_linked}
 use Rattle.suite_load.proofs.linking.program_of.Goals as goal
 
 pub returns-in-Err-clause-gives : goal.returns-in-Err-clause-gives

@@ -1,6 +1,5 @@
 use Rattle.std.proofs.Common.{◌-◌, ◌≤◌, length, subst, sym, ℕ, arith}
-use Rattle.run_core.specs.Kept.{IsClaimer}
-use Rattle.run_core.specs.Run.{Run, history, history_of}
+use Rattle.run_core.specs.{Kept.IsClaimer, Run.Run, Run.history, Run.history_of}
 use Rattle.run_core.proofs.history.Core.claimer.Goals as goal
 
 pub returns : goal.returns

@@ -1,6 +1,5 @@
 use Rattle.std.proofs.Common.{◌-◌, ◌<◌, MatchOption, subst, sym}
-use Rattle.run_core.specs.Refusal.{HasNone, HasOpen}
-use Rattle.run_core.specs.Run.{Run, history, IsWorker}
+use Rattle.run_core.specs.{Refusal.HasNone, Refusal.HasOpen, Run.Run, Run.history, Run.IsWorker}
 use Rattle.run_core.proofs.Answers.{opened, hand_fits}
 use Rattle.run_core.proofs.history.Core.open.Goals as goal
 

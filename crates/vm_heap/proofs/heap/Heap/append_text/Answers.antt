@@ -1,8 +1,7 @@
 use Rattle.std.proofs.Common.{◌++◌, ap, get_or, Some}
 use Rattle.std.proofs.lemmas.Result.{on_ok_weaker}
 use Rattle.jvm_model.specs.World.{no_object, text_or_empty}
-use Rattle.vm_heap.proofs.Objects.{whole_same}
-use Rattle.vm_heap.proofs.Cells.{there, text_seen, text_set_there}
+use Rattle.vm_heap.proofs.{Objects.whole_same, Cells.there, Cells.text_seen, Cells.text_set_there}
 use Rattle.vm_heap.proofs.heap.Heap.append_text.Goals as goal
 
 pub append_text-requires : goal.append_text-requires

@@ -1,8 +1,7 @@
 use Rattle.std.proofs.Common.{◌≡◌, ◌∷◌, [], ◌++◌, ◌∙◌, ap, List, None, refl}
 use Rattle.jvm_model.specs.declared.values.Value.{Value}
 use Rattle.vm_heap.specs.{Entries.Entry, Objects.objects_of, Objects.new_cells}
-use Rattle.vm_heap.proofs.Objects.{length-objects_of}
-use Rattle.vm_heap.proofs.Cells.{held, held_last, cells_last, last_on}
+use Rattle.vm_heap.proofs.{Objects.length-objects_of, Cells.held, Cells.held_last, Cells.cells_last, Cells.last_on}
 use Rattle.vm_heap.proofs.heap.Heap.make.Goals as goal
 
 pub invariant_of-self-in-Ok : goal.invariant_of-self-in-Ok
