@@ -1,8 +1,7 @@
 -- All groups of rows, the built-in methods and the driver are typed.
 use Rattle.std.proofs.Common.{◌≡◌}
-use Rattle.jvm_model.specs.declared.instr.Instr.{Instr}
+use Rattle.jvm_model.specs.declared.{instr.Instr.Instr, program.Program.Program}
 use Rattle.jvm_model.specs.declared.instr.Instr.TheVariants as form
-use Rattle.jvm_model.specs.declared.program.Program.{Program}
 use Rattle.jvm_model.specs.{World.World, Entries.Entries, RowsStatics.row_statics, RowsFields.row_fields}
 use Rattle.jvm_model.specs.Step.{statics, fields, group_of}
 use Rattle.type_frames.specs.Typing.{IsTyped}

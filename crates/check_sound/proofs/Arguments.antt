@@ -2,14 +2,12 @@
 use Rattle.std.proofs.Common.{◌≡◌, ℕ, zero, suc, ◌-◌, ◌≤◌, List, [], ◌∷◌, ◌++◌, length, drop, reverse, replicate, true, false, nat_eq, Option, Some, None, is_some, refl, sym, ◌∙◌, ap, subst, arith, inl, inr}
 use Rattle.std.specs.Prelude.{flat_map}
 use Rattle.std.proofs.lemmas.{Bool.cases_Bool, Bool.and_parts, Bool.eqb-true, List.reverse-append, List.append_assoc}
-use Rattle.jvm_model.specs.declared.values.Value.{Value}
+use Rattle.jvm_model.specs.declared.{values.Value.Value, program.Program.Program, program.Body.Body}
 use Rattle.jvm_model.specs.declared.values.Value.TheVariants as value
-use Rattle.jvm_model.specs.declared.program.{Program.Program, Body.Body}
 use Rattle.jvm_model.specs.{World.World, Classes.method_at, Descriptors.parameters, Linked.IsMethod}
 use Rattle.jvm_model.specs.Entries.{slots_of, filled, frame_of}
-use Rattle.type_frames.specs.declared.vtype.VType.{VType}
+use Rattle.type_frames.specs.declared.{vtype.VType.VType, stack_effect.OperandConstraint.OperandConstraint}
 use Rattle.type_frames.specs.declared.vtype.VType.TheVariants.{Top, Int, Long, Null, Object, UninitThis, Uninit}
-use Rattle.type_frames.specs.declared.stack_effect.OperandConstraint.{OperandConstraint}
 use Rattle.type_frames.specs.declared.stack_effect.OperandConstraint.TheVariants.{Fits, Half, Never}
 use Rattle.type_frames.specs.{Frames.spread, Frames.padded, Descriptors.types_of, Descriptors.class_name, Given.entry_types, Given.given_frames}
 use Rattle.type_frames.specs.{Environment.Environment, Environment.environment_of, StackEffect.needs_of, Rules.opening, Rules.meet_all, Typing.IsTyped}

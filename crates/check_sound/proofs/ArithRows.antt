@@ -1,22 +1,19 @@
 -- The rows of whole-number arithmetic.
 use Rattle.std.proofs.Common.{◌≡◌, ℕ, ℤ, zero, suc, List, [], ◌∷◌, ◌++◌, Bool, true, false, cond, pos, Option, set, refl, sym, subst}
 use Rattle.std.specs.Ordering.{int_eq}
-use Rattle.jvm_model.specs.declared.values.Value.{Value}
+use Rattle.jvm_model.specs.declared.{values.Value.Value, instr.Instr.Instr, instr.Op.Op, instr.Conv.Conv, program.Program.Program}
 use Rattle.jvm_model.specs.declared.values.Value.TheVariants as value
-use Rattle.jvm_model.specs.declared.instr.{Instr.Instr, Op.Op, Conv.Conv}
 use Rattle.jvm_model.specs.declared.instr.Instr.TheVariants as form
 use Rattle.jvm_model.specs.declared.instr.Op.TheVariants as op
 use Rattle.jvm_model.specs.declared.instr.Conv.TheVariants as conv
-use Rattle.jvm_model.specs.declared.program.Program.{Program}
 use Rattle.jvm_model.specs.{World.World, Access.Access, Builtin.arithmetic_exception, Entries.Entries, Rows.Answer, Step.group_of, Step.arith}
 use Rattle.et_base.specs.Numbers.{add32}
 use Rattle.std.specs.Prelude.{slice_index_or}
 use Rattle.std.proofs.lemmas.Option.{slice_get_within}
-use Rattle.type_frames.specs.declared.vtype.VType.{VType}
+use Rattle.type_frames.specs.declared.{vtype.VType.VType, stack_effect.OperandConstraint.OperandConstraint}
 use Rattle.type_frames.specs.{Environment.Environment, Rules.meets, TypedState.HasType, TypedState.HaveTypes, Typing.IsTyped}
 use Rattle.check_sound.proofs.{MoveRows.read_local, MoveRows.kept_local, MoveRows.set_range, Held.is_fits, Held.Locals, Held.int_on, Held.long_on}
 use Rattle.jvm_model.specs.RowsArith.{increased, divides, shifts, two_ints, two_longs, long_by_int, row_arith}
-use Rattle.type_frames.specs.declared.stack_effect.OperandConstraint.{OperandConstraint}
 use Rattle.type_frames.specs.declared.stack_effect.OperandConstraint.TheVariants.{Fits, Half}
 use Rattle.type_frames.specs.declared.vtype.VType.TheVariants.{Top, Int, Long, Null, Object, UninitThis, Uninit}
 use Rattle.type_frames.specs.StackEffect.{sides, second_need, int_need, long_need}

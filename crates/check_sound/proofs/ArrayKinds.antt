@@ -3,14 +3,13 @@ use Rattle.std.proofs.Common.{◌≡◌, ◌⊎◌, ℕ, zero, suc, ◌-◌, Lis
 use Rattle.std.specs.Str.{bytes_eq}
 use Rattle.std.proofs.lemmas.Bool.{cases_Bool, and_parts, or_cases, eqb-true}
 use Rattle.std.proofs.{lemmas.Iterator.Adapters.position_from-zero, lemmas.List.Quantifiers.position-Some}
-use Rattle.jvm_model.specs.declared.program.{ClassRec.ClassRec, Program.Program}
+use Rattle.jvm_model.specs.declared.{program.ClassRec.ClassRec, program.Program.Program, values.Base.Base, values.Kind.Kind}
 use Rattle.jvm_model.specs.{Builtin.object_class, RowsArrays.base_letter, Kinds.element_kind, Linked.Linked, Linked.IsKind}
 use Rattle.jvm_model.specs.Classes.{class_at, no_class, is_interface, is_below}
 use Rattle.type_frames.specs.{StackEffect.element_type, TypedState.IsInstance, TypedState.element_text}
 use Rattle.type_frames.specs.Assign.{class_named, takes_any, extends, class_fits, element_fits, is_array, object_fits, assignable}
 use Rattle.et_base.proofs.Texts.{units_true}
 use Rattle.check_sound.proofs.{Instances.plain_name, Instances.plain_fits, Instances.array_fits, KindNames.class_within}
-use Rattle.jvm_model.specs.declared.values.{Base.Base, Kind.Kind}
 use Rattle.jvm_model.specs.declared.values.Base.TheVariants as base
 use Rattle.jvm_model.specs.declared.values.Kind.TheVariants as kind
 use Rattle.type_frames.specs.declared.vtype.{VType.VType, VType.TheVariants.Object}

@@ -2,15 +2,13 @@
 use Rattle.std.proofs.Common.{◌≡◌, ℕ, ℤ, ◌<◌, List, [], ◌∷◌, ◌++◌, true, ◌||◌, cond, pos, negsuc, nat_eq, nat_lt, refl, sym, ◌∙◌, ap, subst, inl, inr}
 use Rattle.std.specs.Prelude.{slice_index_or}
 use Rattle.std.proofs.lemmas.Bool.{and_parts, or_cases, eqb-true, ltb-true}
-use Rattle.jvm_model.specs.declared.values.{Value.Value, Kind.Kind, Base.Base, Head.Head}
+use Rattle.jvm_model.specs.declared.{values.Value.Value, values.Kind.Kind, values.Base.Base, values.Head.Head, instr.Cell.Cell, instr.Instr.Instr}
 use Rattle.jvm_model.specs.declared.values.Value.TheVariants as value
 use Rattle.jvm_model.specs.declared.values.Kind.TheVariants as kind
 use Rattle.jvm_model.specs.declared.values.Location.TheVariants as place
-use Rattle.jvm_model.specs.declared.instr.{Cell.Cell, Instr.Instr}
 use Rattle.jvm_model.specs.declared.instr.Cell.TheVariants as cell
 use Rattle.jvm_model.specs.declared.instr.Instr.TheVariants as form
-use Rattle.jvm_model.specs.declared.outcome.Next.TheVariants.{Fault}
-use Rattle.jvm_model.specs.declared.program.Program.{Program}
+use Rattle.jvm_model.specs.declared.{outcome.Next.TheVariants.Fault, program.Program.Program}
 use Rattle.jvm_model.specs.{World.World, World.size, Classes.member, Entries.Entries, Entries.with_stack, Kinds.element_kind, Kinds.kind_fits}
 use Rattle.jvm_model.specs.Access.{Access, read, write}
 use Rattle.jvm_model.specs.Builtin.{object_class, null_pointer_exception, array_index_exception, array_store_exception}
@@ -18,8 +16,7 @@ use Rattle.jvm_model.specs.{Linked.Linked, Linked.IsKind, Narrow.narrow, Step.gr
 use Rattle.et_base.specs.Numbers.{l2i}
 use Rattle.jvm_model.specs.Rows.{Answer, answer, popping, on_int, on_object, goes_on, constant_kind}
 use Rattle.jvm_model.specs.RowsArrays.{on_array, in_range, element_letter, holds_references, checked, stored_in, loaded_from, row_arrays}
-use Rattle.type_frames.specs.declared.stack_effect.OperandConstraint.TheVariants.{Fits, Array}
-use Rattle.type_frames.specs.declared.vtype.VType.{VType}
+use Rattle.type_frames.specs.declared.{stack_effect.OperandConstraint.TheVariants.Fits, stack_effect.OperandConstraint.TheVariants.Array, vtype.VType.VType}
 use Rattle.type_frames.specs.declared.vtype.VType.TheVariants.{Top, Int, Long, Null, Object}
 use Rattle.type_frames.specs.{Frames.Slots, Environment.Environment, Assign.is_array, Assign.assignable, Typing.IsTyped}
 use Rattle.type_frames.specs.{Descriptors.types_of, Descriptors.name_of, Descriptors.kind_name, Rules.meets, Rules.is_any_array, Rules.is_small}

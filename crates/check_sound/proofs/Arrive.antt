@@ -7,8 +7,7 @@ use Rattle.std.proofs.lemmas.List.{length-append, length-drop, length-reverse}
 use Rattle.std.specs.Prelude.{reverse}
 use Rattle.check_sound.proofs.{Wide.turned_length, Held.Locals, Held.Held, Held.locals_fit, Held.held_fits}
 use Rattle.std.proofs.lemmas.Option.{slice_get-get_or, slice_get_within, get_or_from_slice_get}
-use Rattle.jvm_model.specs.declared.values.Value.{Value}
-use Rattle.jvm_model.specs.declared.state.EntryKind.TheVariants.{InMethod}
+use Rattle.jvm_model.specs.declared.{values.Value.Value, state.EntryKind.TheVariants.InMethod}
 use Rattle.jvm_model.specs.declared.instr.Instr.TheVariants as form
 use Rattle.jvm_model.specs.declared.program.{Program.Program, MethodRec.MethodRec, Body.Body, Placed.Placed}
 use Rattle.jvm_model.specs.{World.World, Builtin.builtin_count}
@@ -16,8 +15,7 @@ use Rattle.jvm_model.specs.{Library.builtin_defs, Library.builtin_classes, Libra
 use Rattle.jvm_model.specs.Classes.{no_class, no_method, class_at, method_at, form_at, next_place}
 use Rattle.jvm_model.proofs.Places as places
 use Rattle.jvm_model.proofs.BuiltinRules.{class_keeps, method_keeps}
-use Rattle.type_frames.specs.declared.vtype.Frame.{Frame}
-use Rattle.type_frames.specs.declared.stack_effect.StackEffect.{StackEffect}
+use Rattle.type_frames.specs.declared.{vtype.Frame.Frame, stack_effect.StackEffect.StackEffect}
 use Rattle.type_frames.specs.Frames.{Slots, slots_of, index_of}
 use Rattle.type_frames.specs.{Given.given_frames, StackEffect.sides, TypedState.Goes}
 use Rattle.type_frames.specs.Environment.{Environment, environment_of, given_at, is_target, leads, targets}

@@ -4,14 +4,11 @@ use Rattle.std.specs.{List.list_any, Ordering.int_eq}
 use Rattle.std.specs.Prelude.{int_le, unsigned_abs, ◌-ℤ◌}
 use Rattle.std.proofs.lemmas.List.Folds.{list_any_at}
 use Rattle.std.proofs.lemmas.Bool.{and_parts, ltb-true, eq-eqb, or_left, or_right}
-use Rattle.jvm_model.specs.declared.values.Value.{Value}
-use Rattle.jvm_model.specs.declared.instr.{Instr.Instr, IfTest.IfTest}
+use Rattle.jvm_model.specs.declared.{values.Value.Value, instr.Instr.Instr, instr.IfTest.IfTest, program.Program.Program}
 use Rattle.jvm_model.specs.declared.instr.Instr.TheVariants as form
-use Rattle.jvm_model.specs.declared.program.Program.{Program}
 use Rattle.jvm_model.specs.{World.World, Entries.Entries, Linked.IsPlace, Rows.goes_to, Step.group_of, Step.branches}
 use Rattle.jvm_model.specs.RowsBranches.{row_branches, holds, goes_if, table_target, lookup_target, flag_is, same_reference, is_null}
-use Rattle.type_frames.specs.declared.stack_effect.OperandConstraint.TheVariants.{Ref}
-use Rattle.type_frames.specs.declared.vtype.VType.TheVariants.{Int}
+use Rattle.type_frames.specs.declared.{stack_effect.OperandConstraint.TheVariants.Ref, vtype.VType.TheVariants.Int}
 use Rattle.type_frames.specs.{Environment.leads, StackEffect.sides, Typing.IsTyped}
 use Rattle.check_sound.proofs.Held.{Held, Locals}
 use Rattle.check_sound.proofs.Operands.{rest_of, popping-typed, popping-fits, on_int-typed, choose-typed}

@@ -9,10 +9,8 @@ use Rattle.jvm_model.specs.declared.values.{Value.Value, Kind.Kind}
 use Rattle.jvm_model.specs.declared.values.Value.TheVariants as value
 use Rattle.jvm_model.specs.declared.values.Kind.TheVariants as kind
 use Rattle.jvm_model.specs.declared.state.{EntryKind.EntryKind, EntryKind.TheVariants.Absent, EntryKind.TheVariants.InMethod, EntryKind.TheVariants.InClass}
-use Rattle.jvm_model.specs.declared.instr.Instr.{Instr}
+use Rattle.jvm_model.specs.declared.{instr.Instr.Instr, library.Native.Native, program.Program.Program, program.MethodRec.MethodRec, program.Body.Body}
 use Rattle.jvm_model.specs.declared.instr.Instr.TheVariants as form
-use Rattle.jvm_model.specs.declared.library.Native.{Native}
-use Rattle.jvm_model.specs.declared.program.{Program.Program, MethodRec.MethodRec, Body.Body}
 use Rattle.jvm_model.specs.{World.World, Access.Access, Kinds.class_of, Descriptors.parameters, Descriptors.return_type, Rows.Answer, Rows.with_kind}
 use Rattle.jvm_model.specs.Selection.{Selected, chosen, failing, select_virtual, select_interface, select_special, or_kept, special_start, special_path, declared_in, is_like, named_class as class_named_by}
 use Rattle.check_sound.proofs.SelectLaws.{SelectedOf, selected_virtual, selected_interface, selected_special}
@@ -22,9 +20,8 @@ use Rattle.jvm_model.specs.Entries.{Entry, Entries, is_full, with_stack, frame_o
 use Rattle.jvm_model.specs.Linked.{Linked, IsClass, IsMethod, IsKind, IsFoundIn}
 use Rattle.jvm_model.specs.RowsCalls.{enters_native, calls, calls_selected, argument_count, on_receiver, receiver, call_virtual, call_interface, call_special, row_calls}
 use Rattle.jvm_model.specs.Step.{group_of, calls as of_calls}
-use Rattle.type_frames.specs.declared.vtype.VType.{VType}
+use Rattle.type_frames.specs.declared.{vtype.VType.VType, stack_effect.OperandConstraint.OperandConstraint}
 use Rattle.type_frames.specs.declared.vtype.VType.TheVariants.{Top, Int, Long, Null, Object, UninitThis, Uninit}
-use Rattle.type_frames.specs.declared.stack_effect.OperandConstraint.{OperandConstraint}
 use Rattle.type_frames.specs.declared.stack_effect.OperandConstraint.TheVariants.{Fits, Raw, Never}
 use Rattle.type_frames.specs.declared.stack_effect.StackEffect.{StackEffect}
 use Rattle.type_frames.specs.{Frames.spread, Frames.places_of, Environment.Environment, Environment.made_at, Assign.assignable, Rules.meets, Rules.turned}

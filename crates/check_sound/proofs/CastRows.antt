@@ -1,11 +1,9 @@
 -- The rows of checkcast and instanceof, and athrow's.
 use Rattle.std.proofs.Common.{◌≡◌, ℕ, List, [], ◌∷◌, Bool, true, false, not, cond, nat_eq, refl, sym, subst, arith}
-use Rattle.jvm_model.specs.declared.values.{Value.Value, Kind.Kind}
+use Rattle.jvm_model.specs.declared.{values.Value.Value, values.Kind.Kind, instr.Instr.Instr, program.Program.Program, outcome.Next.TheVariants.Raise}
 use Rattle.jvm_model.specs.declared.values.Value.TheVariants as value
 use Rattle.jvm_model.specs.declared.values.Kind.TheVariants as kind
-use Rattle.jvm_model.specs.declared.instr.Instr.{Instr}
 use Rattle.jvm_model.specs.declared.instr.Instr.TheVariants as form
-use Rattle.jvm_model.specs.declared.program.Program.{Program}
 use Rattle.jvm_model.specs.{World.World, Library.builtin_defs, Library.builtin_classes, Entries.Entries, Kinds.kind_fits, Kinds.class_of}
 use Rattle.jvm_model.specs.Builtin.{object_class, throwable_class, string_class, stream_class, class_cast_exception, null_pointer_exception}
 use Rattle.jvm_model.specs.{Classes.is_below, Classes.is_interface, Classes.member, Rows.constant_kind, Rows.answer, Rows.on_object}
@@ -14,7 +12,6 @@ use Rattle.type_frames.proofs.AssignLaws.{builtin_plain}
 use Rattle.check_sound.proofs.{Instances.takes_every, Instances.instance_below, Tree.typed_done, Tree.typed_known, Ends.fault_typed, KindNames.kind_instance}
 use Rattle.std.proofs.lemmas.Bool.{not-true}
 use Rattle.jvm_model.specs.{Linked.Linked, Linked.IsKind, Access.done}
-use Rattle.jvm_model.specs.declared.outcome.Next.TheVariants.{Raise}
 use Rattle.jvm_model.specs.{RowsCasts.cast_to, RowsCasts.cast, RowsCasts.tested, RowsCasts.row_casts, Step.group_of, Step.casts, Step.row_throw}
 use Rattle.type_frames.specs.declared.vtype.VType.TheVariants.{Object}
 use Rattle.type_frames.specs.{Descriptors.name_of, Descriptors.kind_name, StackEffect.sides, Typing.IsTyped}

@@ -2,12 +2,11 @@
 use Rattle.std.proofs.Common.{◌≡◌, ℕ, ℤ, zero, suc, ◌+◌, ◌≤◌, List, [], ◌∷◌, get_or, true, false, pos, negsuc, nat_eq, Option, Some, slice_get, refl, sym, ◌∙◌, ap, subst, arith, inl, inr}
 use Rattle.std.specs.List.{position_from}
 use Rattle.std.proofs.lemmas.{Bool.cases_Bool, Bool.eqb-true, Bool.eq-eqb, Option.slice_get_within, Option.get_or_from_slice_get}
-use Rattle.jvm_model.specs.declared.values.{Value.Value, Kind.Kind, Head.Head}
+use Rattle.jvm_model.specs.declared.{values.Value.Value, values.Kind.Kind, values.Head.Head, program.Program.Program, program.Placed.Placed}
 use Rattle.jvm_model.specs.declared.values.Value.TheVariants as value
 use Rattle.jvm_model.specs.declared.values.Kind.TheVariants as kind
 use Rattle.jvm_model.specs.declared.values.Location.TheVariants as place
 use Rattle.jvm_model.specs.declared.instr.Instr.TheVariants as form
-use Rattle.jvm_model.specs.declared.program.{Program.Program, Placed.Placed}
 use Rattle.jvm_model.specs.{World.World, World.size, World.make_object, Entries.Entries, Linked.IsKind, Linked.IsArray, Linked.Ascends}
 use Rattle.jvm_model.specs.{World.Object as Made, Builtin.instantiation_error, Builtin.negative_size_exception, Classes.blank, Classes.instance_head}
 use Rattle.jvm_model.specs.RowsCreate.{new_object, is_bare, array_head, new_array, row_create}

@@ -8,10 +8,8 @@ use Rattle.jvm_model.specs.declared.values.Value.TheVariants as value
 use Rattle.jvm_model.specs.declared.values.InitState.TheVariants.{Idle, Running, Done, Erroneous}
 use Rattle.jvm_model.specs.declared.values.Location.TheVariants as place
 use Rattle.jvm_model.specs.declared.state.{EntryKind.EntryKind, EntryKind.TheVariants.Absent, EntryKind.TheVariants.InMethod, EntryKind.TheVariants.InClass}
-use Rattle.jvm_model.specs.declared.state.Stage.{Stage}
+use Rattle.jvm_model.specs.declared.{state.Stage.Stage, outcome.Verdict.Verdict, program.Program.Program, program.TestEntry.TestEntry, program.Body.Body}
 use Rattle.jvm_model.specs.declared.state.Stage.TheVariants.{First, Made, Built, SetUp, Called, Last}
-use Rattle.jvm_model.specs.declared.outcome.Verdict.{Verdict}
-use Rattle.jvm_model.specs.declared.program.{Program.Program, TestEntry.TestEntry, Body.Body}
 use Rattle.jvm_model.specs.{World.World, World.put, World.make_object, Linked.IsClass, Linked.IsMethod, Linked.IsKind, Linked.IsTest}
 use Rattle.jvm_model.specs.Access.{Access, done, read, write, bind}
 use Rattle.jvm_model.specs.Builtin.{throwable_class, message_field, assertion_error, stack_overflow_error, no_class_error, abstract_method_error}

@@ -6,11 +6,9 @@ use Rattle.jvm_model.specs.declared.values.Kind.TheVariants as kind
 use Rattle.jvm_model.specs.declared.values.InitState.TheVariants.{Idle, Running, Done, Erroneous}
 use Rattle.jvm_model.specs.declared.values.Location.TheVariants as place
 use Rattle.jvm_model.specs.declared.state.{EntryKind.EntryKind, EntryKind.TheVariants.Absent, EntryKind.TheVariants.InMethod, EntryKind.TheVariants.InClass}
-use Rattle.jvm_model.specs.declared.state.Stage.{Stage}
+use Rattle.jvm_model.specs.declared.{state.Stage.Stage, instr.Instr.Instr, program.Program.Program, program.TestEntry.TestEntry}
 use Rattle.jvm_model.specs.declared.state.Stage.TheVariants.{First, Made, Built, SetUp, Called, Last}
-use Rattle.jvm_model.specs.declared.instr.Instr.{Instr}
 use Rattle.jvm_model.specs.declared.outcome.Next.TheVariants as step
-use Rattle.jvm_model.specs.declared.program.{Program.Program, TestEntry.TestEntry}
 use Rattle.jvm_model.specs.World.{Object, World, size, at, make_object}
 use Rattle.jvm_model.specs.Access.{Access, done, read, write, bind}
 use Rattle.jvm_model.specs.Builtin.{throwable_class, stack_overflow_error, no_class_error}

@@ -3,19 +3,17 @@ use Rattle.std.proofs.Common.{◌≡◌, ◌≢◌, ◌⊎◌, ℕ, zero, suc, �
 use Rattle.std.specs.Prelude.{flat_map}
 use Rattle.std.proofs.lemmas.Bool.{cases_lt, and_parts, or_cases, or_left, or_right, eqb-true}
 use Rattle.std.proofs.lemmas.List.Folds.{list_any-append}
-use Rattle.jvm_model.specs.declared.values.{Value.Value, Kind.Kind}
+use Rattle.jvm_model.specs.declared.{values.Value.Value, values.Kind.Kind, program.Program.Program, program.ClassRec.ClassRec, outcome.Next.TheVariants.Fault}
 use Rattle.jvm_model.specs.declared.values.Value.TheVariants as value
 use Rattle.jvm_model.specs.declared.values.Kind.TheVariants as kind
 use Rattle.jvm_model.specs.declared.values.Location.TheVariants as place
 use Rattle.jvm_model.specs.declared.instr.Instr.TheVariants as form
-use Rattle.jvm_model.specs.declared.program.{Program.Program, ClassRec.ClassRec}
 use Rattle.jvm_model.specs.{World.World, World.size, Entries.Entries, Entries.with_stack, Library.builtin_defs, Library.builtin_classes, RowsFields.row_fields}
 use Rattle.jvm_model.specs.Builtin.{object_class, string_class, stream_class, builtin_count, null_pointer_exception}
 use Rattle.jvm_model.specs.Classes.{no_class, class_at, field_at, member, is_static, is_below, upwards, class_bound, plain_fields, layout_in, layout}
 use Rattle.jvm_model.specs.Lookup.{is_field, field_path_in, field_path, find_field}
 use Rattle.jvm_model.specs.Rows.{Answer, constant_kind, on_object, goes_on, popping, answer}
 use Rattle.jvm_model.specs.{Narrow.narrowed, Access.Access, Access.write}
-use Rattle.jvm_model.specs.declared.outcome.Next.TheVariants.{Fault}
 use Rattle.check_sound.proofs.{Arguments.Argument, Ends.fault_typed, Thrown.builtin_is, Thrown.null_pointer_thrown, CallEffects.push}
 use Rattle.jvm_model.specs.Linked.{Linked, IsClass, count, IsField, IsKind, IsPlainField, IsFoundField, is_interface_at}
 use Rattle.jvm_model.proofs.{Interfaces.member-flat_map, BuiltinRules.builtin_class}

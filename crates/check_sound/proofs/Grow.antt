@@ -1,8 +1,7 @@
 -- What has a type keeps it where there are more objects.
 use Rattle.std.proofs.Common.{◌≡◌, ℕ, ◌<◌, List, [], ◌∷◌, true, refl, sym, ap, subst, arith}
-use Rattle.jvm_model.specs.declared.values.{Value.Value, Kind.Kind, Head.Head}
+use Rattle.jvm_model.specs.declared.{values.Value.Value, values.Kind.Kind, values.Head.Head, program.Program.Program}
 use Rattle.jvm_model.specs.declared.values.Value.TheVariants as value
-use Rattle.jvm_model.specs.declared.program.Program.{Program}
 use Rattle.jvm_model.specs.{World.World, World.size, Builtin.throwable_class, Classes.is_below, Kinds.class_of}
 use Rattle.type_frames.specs.declared.vtype.VType.{VType}
 use Rattle.type_frames.specs.declared.vtype.VType.TheVariants.{Top, Int, Long, Null, Object, UninitThis, Uninit}

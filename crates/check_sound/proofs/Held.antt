@@ -1,9 +1,8 @@
 -- Values with their types and their references in range: one, the locals of a frame, and operands.
 use Rattle.std.proofs.Common.{◌≡◌, ℕ, ℤ, List, [], ◌∷◌, map, Bool, true, false, cond, refl, sym, ap, subst}
 use Rattle.std.proofs.lemmas.Bool.{and_parts, eqb-true}
-use Rattle.jvm_model.specs.declared.values.{Value.Value, Kind.Kind}
+use Rattle.jvm_model.specs.declared.{values.Value.Value, values.Kind.Kind, program.Program.Program}
 use Rattle.jvm_model.specs.declared.values.Value.TheVariants as value
-use Rattle.jvm_model.specs.declared.program.Program.{Program}
 use Rattle.jvm_model.specs.{World.World, Linked.Linked, Rows.constant_kind}
 use Rattle.type_frames.specs.declared.vtype.VType.{VType}
 use Rattle.type_frames.specs.declared.vtype.VType.TheVariants.{Top, Int, Long, Null, Object, UninitThis, Uninit}

@@ -2,9 +2,8 @@
 use Rattle.std.proofs.Common.{◌≡◌, ℕ, zero, suc, ◌<◌, ◌≤◌, List, [], ◌∷◌, length, get_or, drop, Bool, true, false, not, ◌&&◌, ◌||◌, nat_eq, Option, Some, None, refl, sym, ◌∙◌, ap, subst, arith, inl, inr}
 use Rattle.std.specs.Str.{bytes_eq}
 use Rattle.std.proofs.lemmas.Bool.{cases_lt, or_cases, or_left, or_right, eqb-true}
-use Rattle.jvm_model.specs.declared.values.{Kind.Kind, Base.Base}
+use Rattle.jvm_model.specs.declared.{values.Kind.Kind, values.Base.Base, program.Program.Program, program.ClassRec.ClassRec}
 use Rattle.jvm_model.specs.declared.values.Kind.TheVariants as kind
-use Rattle.jvm_model.specs.declared.program.{Program.Program, ClassRec.ClassRec}
 use Rattle.jvm_model.specs.{Builtin.object_class, Linked.Linked, Linked.IsClass, Linked.IsKind, Linked.is_interface_at}
 use Rattle.jvm_model.specs.Classes.{class_at, is_below, is_interface, member, no_class, upwards}
 use Rattle.jvm_model.proofs.Upwards.{below_same, upwards_root, upwards_step}

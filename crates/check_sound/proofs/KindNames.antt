@@ -4,10 +4,9 @@ use Rattle.std.specs.Prelude.{flat_map}
 use Rattle.std.proofs.lemmas.Bool.{cases_Bool, and_parts, or_cases, or_left, or_right, eqb-true, eq-eqb, ltb-true}
 use Rattle.std.proofs.lemmas.List.{length-append}
 use Rattle.std.proofs.Math.Seq.{take-append_seam}
-use Rattle.jvm_model.specs.declared.values.{Base.Base, Kind.Kind}
+use Rattle.jvm_model.specs.declared.{values.Base.Base, values.Kind.Kind, program.Program.Program}
 use Rattle.jvm_model.specs.declared.values.Base.TheVariants as base
 use Rattle.jvm_model.specs.declared.values.Kind.TheVariants as kind
-use Rattle.jvm_model.specs.declared.program.Program.{Program}
 use Rattle.jvm_model.specs.{Builtin.object_class, Kinds.class_fits, Kinds.base_fits, Kinds.is_object, Kinds.kind_fits}
 use Rattle.jvm_model.specs.Classes.{is_below, implements, upwards, own_interfaces, member}
 use Rattle.jvm_model.specs.Linked.{Linked, IsClass, IsKind, IsBase, is_interface_at}

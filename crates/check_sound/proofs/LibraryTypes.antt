@@ -4,11 +4,10 @@ use Rattle.std.specs.Prelude.{flat_map, codes}
 use Rattle.std.specs.List.{list_all}
 use Rattle.std.proofs.lemmas.Bool.{cases_lt, and_parts, or_cases, or_left, or_right, eqb-true, ltb-true}
 use Rattle.std.proofs.lemmas.List.{reverse-append}
-use Rattle.jvm_model.specs.declared.values.{Kind.Kind, Value.Value}
+use Rattle.jvm_model.specs.declared.{values.Kind.Kind, values.Value.Value, library.Native.Native}
 use Rattle.jvm_model.specs.declared.values.Kind.TheVariants as kind
 use Rattle.jvm_model.specs.declared.values.Value.TheVariants as value
 use Rattle.jvm_model.specs.declared.values.Location.TheVariants as place
-use Rattle.jvm_model.specs.declared.library.Native.{Native}
 use Rattle.jvm_model.specs.declared.library.Native.TheVariants as native
 use Rattle.jvm_model.specs.declared.program.{Program.Program, ClassRec.ClassRec, FieldRec.FieldRec, MethodRec.MethodRec}
 use Rattle.jvm_model.specs.{World.World, World.size, Descriptors.parameters, Descriptors.return_type, Rows.constant_kind}

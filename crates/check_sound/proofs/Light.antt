@@ -5,8 +5,7 @@ use Rattle.std.specs.List.{list_all, list_any}
 use Rattle.std.specs.Prelude.{flat_map, is_some}
 use Rattle.std.proofs.lemmas.Bool.{and_parts, and_from, leb-true, ltb-true, not-true}
 use Rattle.std.proofs.lemmas.List.{length-append, length-map}
-use Rattle.jvm_model.specs.declared.library.Native.{Native}
-use Rattle.jvm_model.specs.declared.program.{Program.Program, ClassRec.ClassRec}
+use Rattle.jvm_model.specs.declared.{library.Native.Native, program.Program.Program, program.ClassRec.ClassRec}
 use Rattle.jvm_model.specs.Builtin.{string_class, null_pointer_exception, builtin_count}
 use Rattle.jvm_model.specs.{Library.builtin_defs, Library.builtin_classes, Linked.Linked}
 use Rattle.jvm_model.specs.declared.values.Kind.TheVariants as kind

@@ -4,14 +4,12 @@ use Rattle.std.specs.Prelude.{codes}
 use Rattle.std.specs.Fmt.{signed_decimal}
 use Rattle.std.proofs.lemmas.Bool.{eqb-true}
 use Rattle.et_base.specs.{Numbers.add64, Quotes.utf8_of}
-use Rattle.jvm_model.specs.declared.values.{Value.Value, Kind.Kind}
+use Rattle.jvm_model.specs.declared.{values.Value.Value, values.Kind.Kind, library.Native.Native}
 use Rattle.jvm_model.specs.declared.values.Value.TheVariants.{Int, Long, Null, Lit, Obj}
 use Rattle.jvm_model.specs.declared.values.Kind.TheVariants as kind
 use Rattle.jvm_model.specs.declared.values.Location.TheVariants as place
-use Rattle.jvm_model.specs.declared.library.Native.{Native}
 use Rattle.jvm_model.specs.declared.library.Native.TheVariants as native
-use Rattle.jvm_model.specs.declared.outcome.{Own.Own, Next.TheVariants.Go, Next.TheVariants.Fault}
-use Rattle.jvm_model.specs.declared.program.Program.{Program}
+use Rattle.jvm_model.specs.declared.{outcome.Own.Own, outcome.Next.TheVariants.Go, outcome.Next.TheVariants.Fault, program.Program.Program}
 use Rattle.jvm_model.specs.{World.World, World.size, World.make_object, Classes.blank, Classes.instance_head, Classes.method_at}
 use Rattle.jvm_model.specs.{Access.Access, Access.bind, Entries.Entries, Entries.with_stack, Kinds.class_of, State.State, Step.after_native}
 use Rattle.jvm_model.specs.Builtin.{string_class, builder_class, throwable_class, message_field, null_pointer_exception, string_index_exception}

@@ -1,19 +1,16 @@
 -- The row of multianewarray: arrays of arrays, from the outermost in.
 use Rattle.std.proofs.Common.{◌≡◌, ℕ, ℤ, zero, suc, ◌+◌, ◌<◌, ◌≤◌, List, [], ◌∷◌, length, replicate, Bool, true, false, pos, negsuc, refl, sym, ◌∙◌, ap, subst, arith}
-use Rattle.jvm_model.specs.declared.values.{Value.Value, Kind.Kind, Base.Base, Head.Head}
+use Rattle.jvm_model.specs.declared.{values.Value.Value, values.Kind.Kind, values.Base.Base, values.Head.Head, instr.Instr.Instr, program.Program.Program}
 use Rattle.jvm_model.specs.declared.values.Value.TheVariants as value
 use Rattle.jvm_model.specs.declared.values.Kind.TheVariants as kind
 use Rattle.jvm_model.specs.declared.values.Location.TheVariants as place
-use Rattle.jvm_model.specs.declared.instr.Instr.{Instr}
 use Rattle.jvm_model.specs.declared.instr.Instr.TheVariants as form
-use Rattle.jvm_model.specs.declared.program.Program.{Program}
 use Rattle.jvm_model.specs.{World.World, World.size, World.make_object, Linked.IsKind, Linked.IsArray, Linked.dims_of}
 use Rattle.jvm_model.specs.{World.Object as Made, Access.Access, Builtin.negative_size_exception, Classes.blank, Entries.Entries, Kinds.element_kind}
 use Rattle.jvm_model.specs.{Rows.Answer, Step.group_of, Step.create as of_create}
 use Rattle.jvm_model.specs.RowsCreate.{array_head, children, nest, nested, sized, row_create}
 use Rattle.jvm_model.proofs.Locations.{at_make_new, size_make}
-use Rattle.type_frames.specs.declared.stack_effect.OperandConstraint.TheVariants.{Fits}
-use Rattle.type_frames.specs.declared.vtype.{VType.VType, VType.TheVariants.Int}
+use Rattle.type_frames.specs.declared.{stack_effect.OperandConstraint.TheVariants.Fits, vtype.VType.VType, vtype.VType.TheVariants.Int}
 use Rattle.type_frames.specs.{Descriptors.kind_name, StackEffect.sides, Typing.IsTyped}
 use Rattle.type_frames.specs.TypedState.{kind_at, IsInstance, IsReferenceOf, IsDeclared, element_text}
 use Rattle.check_sound.proofs.Tree.{head_at, Tree, typed_done, typed_write, typed_make, typed_spend, Over}

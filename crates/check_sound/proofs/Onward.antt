@@ -7,8 +7,7 @@ use Rattle.std.proofs.lemmas.Bool.{cases_Bool, eqb-true, leb-false}
 use Rattle.jvm_model.specs.declared.values.{Value.Value, InitState.TheVariants.Idle, InitState.TheVariants.Running}
 use Rattle.jvm_model.specs.declared.values.Location.TheVariants as place
 use Rattle.jvm_model.specs.declared.state.{EntryKind.EntryKind, EntryKind.TheVariants.Absent, EntryKind.TheVariants.InMethod, EntryKind.TheVariants.InClass}
-use Rattle.jvm_model.specs.declared.instr.Instr.{Instr}
-use Rattle.jvm_model.specs.declared.program.Program.{Program}
+use Rattle.jvm_model.specs.declared.{instr.Instr.Instr, program.Program.Program}
 use Rattle.jvm_model.specs.World.{Object, World, at, put, make_object, same}
 use Rattle.jvm_model.specs.Classes.{method_at, is_trivial}
 use Rattle.jvm_model.specs.Entries.{Entry, Entries, entry_limit, class_entry, with_entry, is_full, all_entries}

@@ -2,14 +2,12 @@
 -- more each cell that gets an array.
 use Rattle.std.proofs.Common.{◌≡◌, ℕ, ℤ, zero, suc, pos, negsuc, min, ◌+◌, ◌-◌, ◌*◌, ◌^◌, ◌<◌, ◌≤◌, List, [], ◌∷◌, length, Bool, true, false, cond, nat_eq, suc-mul, refl, sym, ap, subst, arith, inl, inr}
 use Rattle.std.proofs.lemmas.{Bool.cases_lt, Bool.eqb-true, List.length-replicate}
-use Rattle.jvm_model.specs.declared.values.{Value.Value, Kind.Kind}
+use Rattle.jvm_model.specs.declared.{values.Value.Value, values.Kind.Kind, instr.Instr.Instr, program.Program.Program}
 use Rattle.jvm_model.specs.declared.values.Value.TheVariants as value
 use Rattle.jvm_model.specs.declared.values.Base.TheVariants as base
 use Rattle.jvm_model.specs.declared.values.Kind.TheVariants as kind
 use Rattle.jvm_model.specs.declared.values.Location.TheVariants as place
-use Rattle.jvm_model.specs.declared.instr.Instr.{Instr}
 use Rattle.jvm_model.specs.declared.instr.Instr.TheVariants as form
-use Rattle.jvm_model.specs.declared.program.Program.{Program}
 use Rattle.jvm_model.specs.{Access.Access, Access.write, Builtin.instantiation_error, Builtin.negative_size_exception, Classes.element_default, Classes.blank}
 use Rattle.jvm_model.specs.{Entries.Entries, Kinds.element_kind, Linked.Linked, Linked.dims_of}
 use Rattle.jvm_model.specs.Rows.{Answer, faults, goes_on, popping, on_int, using}

@@ -4,11 +4,9 @@ use Rattle.jvm_model.specs.declared.values.{Value.Value, InitState.InitState}
 use Rattle.jvm_model.specs.declared.values.Value.TheVariants as value
 use Rattle.jvm_model.specs.declared.values.InitState.TheVariants.{Idle, Running, Done, Erroneous}
 use Rattle.jvm_model.specs.declared.values.Location.TheVariants as place
-use Rattle.jvm_model.specs.declared.library.Native.{Native}
+use Rattle.jvm_model.specs.declared.{library.Native.Native, state.Stage.Stage, program.Program.Program, program.Body.Body}
 use Rattle.jvm_model.specs.declared.outcome.Next.TheVariants.{Go, Fault, Raise, Enter, Leave, Over}
-use Rattle.jvm_model.specs.declared.state.Stage.{Stage}
 use Rattle.jvm_model.specs.declared.state.Stage.TheVariants.{First, Made, Built, SetUp, Called, Last}
-use Rattle.jvm_model.specs.declared.program.{Program.Program, Body.Body}
 use Rattle.jvm_model.specs.Access.{Access, done, read, write, bind}
 use Rattle.jvm_model.specs.Builtin.{abstract_method_error, no_class_error, stack_overflow_error}
 use Rattle.jvm_model.specs.Classes.{class_at, method_at, is_static, is_trivial, upwards, init_name}

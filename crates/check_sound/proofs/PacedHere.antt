@@ -2,9 +2,8 @@
 -- number.
 use Rattle.std.proofs.Common.{◌≡◌, ℕ, suc, ◌-◌, ◌^◌, ◌<◌, List, [], ◌∷◌, Bool, true, false, nat_eq, Option, Some, None, All, IfSome, refl, subst, arith}
 use Rattle.jvm_model.specs.declared.values.Kind.TheVariants as kind
-use Rattle.jvm_model.specs.declared.instr.Instr.{Instr}
+use Rattle.jvm_model.specs.declared.{instr.Instr.Instr, program.Body.Body, program.Placed.Placed, program.Program.Program}
 use Rattle.jvm_model.specs.declared.instr.Instr.TheVariants as form
-use Rattle.jvm_model.specs.declared.program.{Body.Body, Placed.Placed, Program.Program}
 use Rattle.jvm_model.specs.Classes.{method_at, form_at, Found, place_after, found_in, found_of}
 use Rattle.jvm_model.specs.Entries.{Entries}
 use Rattle.jvm_model.specs.Linked.{Linked, NamesForm, NamesBody, IsForm, IsBody}

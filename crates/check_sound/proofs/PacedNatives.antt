@@ -3,12 +3,9 @@ use Rattle.std.proofs.Common.{◌≡◌, ℕ, ℤ, suc, ◌+◌, ◌*◌, ◌-�
 use Rattle.std.specs.Prelude.{codes}
 use Rattle.std.specs.Fmt.{signed_decimal}
 use Rattle.et_base.specs.Quotes.{utf8_of}
-use Rattle.jvm_model.specs.declared.values.Value.{Value}
+use Rattle.jvm_model.specs.declared.{values.Value.Value, library.Native.Native, outcome.Next.TheVariants.Go, program.Program.Program}
 use Rattle.jvm_model.specs.declared.values.Value.TheVariants.{Int, Long, Null, Lit, Obj}
-use Rattle.jvm_model.specs.declared.library.Native.{Native}
 use Rattle.jvm_model.specs.declared.library.Native.TheVariants as native
-use Rattle.jvm_model.specs.declared.outcome.Next.TheVariants.{Go}
-use Rattle.jvm_model.specs.declared.program.Program.{Program}
 use Rattle.jvm_model.specs.{Access.Access, Access.done, Builtin.string_class, Builtin.string_index_exception, Kinds.class_of, Linked.Linked}
 use Rattle.jvm_model.specs.Classes.{blank, instance_head, literal_at}
 use Rattle.jvm_model.specs.Rows.{Answer, answer, popping, on_int, on_long, on_object, on_reference, on_text, constant_kind}

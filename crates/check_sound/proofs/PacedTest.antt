@@ -1,8 +1,7 @@
 -- A whole test touches at most four locations for each unit, and writes only the statics that some code puts.
 use Rattle.std.proofs.Common.{◌≡◌, ℕ, zero, suc, ◌+◌, ◌-◌, ◌*◌, ◌^◌, ◌<◌, ◌≤◌, ◌++◌, length, Some, refl, sym, ◌∙◌, ap, subst, arith, inl, inr, length-append}
 use Rattle.std.proofs.lemmas.List.Elements.{All-nil, All-append}
-use Rattle.jvm_model.specs.declared.state.EntryKind.TheVariants.{Absent, InMethod}
-use Rattle.jvm_model.specs.declared.program.Program.{Program}
+use Rattle.jvm_model.specs.declared.{state.EntryKind.TheVariants.Absent, state.EntryKind.TheVariants.InMethod, program.Program.Program}
 use Rattle.jvm_model.specs.declared.values.Location.TheVariants as place
 use Rattle.jvm_model.specs.{World.World, World.at, Linked.Linked}
 use Rattle.jvm_model.specs.{Access.Ran, Access.done, Access.run, Step.step, Step.cost, Step.touch}

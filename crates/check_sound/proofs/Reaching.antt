@@ -1,16 +1,12 @@
 -- What the states have that a test comes to.
 use Rattle.std.proofs.Common.{◌≡◌, ◌⊎◌, ℕ, ◌+◌, ◌-◌, ◌<◌, ◌≤◌, List, [], ◌∷◌, length, Bool, true, false, ◌&&◌, cond, nat_eq, nat_le, Option, Some, None, IfSome, refl, sym, ◌∙◌, ap, subst, arith, inl, inr}
 use Rattle.std.proofs.lemmas.Bool.{cases_Bool, and_parts, leb-true, eqb-true}
-use Rattle.jvm_model.specs.declared.values.Value.{Value}
+use Rattle.jvm_model.specs.declared.{values.Value.Value, state.EntryKind.EntryKind, state.EntryKind.TheVariants.InMethod, instr.Instr.Instr, instr.Sort.Sort}
 use Rattle.jvm_model.specs.declared.values.Value.TheVariants as value
-use Rattle.jvm_model.specs.declared.state.{EntryKind.EntryKind, EntryKind.TheVariants.InMethod}
-use Rattle.jvm_model.specs.declared.instr.{Instr.Instr, Sort.Sort}
 use Rattle.jvm_model.specs.declared.instr.Instr.TheVariants as form
 use Rattle.jvm_model.specs.declared.instr.Sort.TheVariants as sort
-use Rattle.jvm_model.specs.declared.library.Native.{Native}
+use Rattle.jvm_model.specs.declared.{library.Native.Native, outcome.Next.TheVariants.Enter, program.Program.Program, program.Body.Body}
 use Rattle.jvm_model.specs.declared.library.Native.TheVariants as native
-use Rattle.jvm_model.specs.declared.outcome.Next.TheVariants.{Enter}
-use Rattle.jvm_model.specs.declared.program.{Program.Program, Body.Body}
 use Rattle.jvm_model.specs.{World.World, Access.run, Descriptors.return_type, Rows.Answer, Rows.answer, Step.row_here, Step.turn}
 use Rattle.jvm_model.specs.{Classes.method_at, Classes.field_at, Classes.form_at, Entries.Entry, Entries.Entries, Entries.popped_entry, Entries.entries_of}
 use Rattle.jvm_model.specs.{Reached.Reaches, Reached.begins, Reached.steps, State.State, State.Turn, State.next}

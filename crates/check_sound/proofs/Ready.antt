@@ -9,11 +9,9 @@ use Rattle.jvm_model.specs.declared.values.{Value.Value, InitState.TheVariants.R
 use Rattle.jvm_model.specs.declared.values.Value.TheVariants as value
 use Rattle.jvm_model.specs.declared.values.Location.TheVariants as place
 use Rattle.jvm_model.specs.declared.state.{EntryKind.EntryKind, EntryKind.TheVariants.Absent, EntryKind.TheVariants.InMethod, EntryKind.TheVariants.InClass}
-use Rattle.jvm_model.specs.declared.library.Native.{Native}
-use Rattle.jvm_model.specs.declared.outcome.Next.{Next}
+use Rattle.jvm_model.specs.declared.{library.Native.Native, outcome.Next.Next, instr.Instr.Instr}
 use Rattle.jvm_model.specs.declared.outcome.Next.TheVariants.{Go, Fault, Raise, Enter, Leave}
 use Rattle.jvm_model.specs.declared.outcome.Next.TheVariants as next
-use Rattle.jvm_model.specs.declared.instr.Instr.{Instr}
 use Rattle.jvm_model.specs.declared.program.{Program.Program, Body.Body, Placed.Placed, MethodRec.MethodRec}
 use Rattle.jvm_model.specs.{World.World, World.at, Access.Access, Builtin.throwable_class, Descriptors.parameters, Descriptors.return_type}
 use Rattle.jvm_model.specs.Classes.{method_at, is_below, is_static, form_at, next_place}

@@ -4,9 +4,8 @@ use Rattle.std.proofs.Common.{◌≡◌, ℕ, zero, suc, ◌≤◌, List, [], �
 use Rattle.std.specs.Prelude.{flat_map}
 use Rattle.std.specs.{List.find, List.list_any, List.list_all, Str.bytes_eq}
 use Rattle.std.proofs.lemmas.Bool.{cases_lt, and_parts, or_cases, or_left, or_right, eqb-true, eq-eqb, not-true}
-use Rattle.jvm_model.specs.declared.values.Kind.{Kind}
+use Rattle.jvm_model.specs.declared.{values.Kind.Kind, program.Program.Program, program.ClassRec.ClassRec}
 use Rattle.jvm_model.specs.declared.values.Kind.TheVariants as kind
-use Rattle.jvm_model.specs.declared.program.{Program.Program, ClassRec.ClassRec}
 use Rattle.jvm_model.specs.{Builtin.object_class, Builtin.builtin_count, Library.builtin_defs, Library.builtin_classes, Kinds.class_of}
 use Rattle.jvm_model.specs.Classes.{class_at, method_at, no_class, member, is_static, is_private, is_interface, is_below, upwards, class_bound, lineage_in, own_interfaces, implements, init_name}
 use Rattle.jvm_model.specs.Lookup.{is_method, find_method, find_declared, find_in_object, find_in_interfaces, interface_methods, superinterfaces, pedigree_in, one_or_first, or_else}

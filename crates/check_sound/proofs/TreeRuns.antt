@@ -1,9 +1,8 @@
 -- A typed program of accesses over a typed world meets only what is there, and leaves a typed world and a good answer.
 use Rattle.std.proofs.Common.{◌≡◌, ℕ, suc, ◌<◌, true, get_or, nat_eq, refl, sym, ◌∙◌, ap, subst, inl, inr, arith, Some}
 use Rattle.std.proofs.lemmas.Bool.{and_from, cases_Bool}
-use Rattle.jvm_model.specs.declared.values.{Head.Head, InitState.InitState, Value.TheVariants.Null}
+use Rattle.jvm_model.specs.declared.{values.Head.Head, values.InitState.InitState, values.Value.TheVariants.Null, program.Program.Program}
 use Rattle.jvm_model.specs.declared.values.Location.TheVariants as place
-use Rattle.jvm_model.specs.declared.program.Program.{Program}
 use Rattle.jvm_model.specs.World.{World, Object, size, at, put, make_object, has, same, look}
 use Rattle.jvm_model.specs.{Classes.field_at, View.IsSafe, Linked.IsKind}
 use Rattle.jvm_model.specs.Access.{Access, done, read, write, make, spend, bind, run}

@@ -3,11 +3,9 @@ use Rattle.std.proofs.Common.{◌≡◌, ℕ, Option, Some, None, IfSome, refl, 
 use Rattle.jvm_model.specs.declared.values.Value.{Value}
 use Rattle.jvm_model.specs.declared.values.Location.TheVariants as place
 use Rattle.jvm_model.specs.declared.state.{EntryKind.EntryKind, EntryKind.TheVariants.Absent, EntryKind.TheVariants.InMethod, EntryKind.TheVariants.InClass}
-use Rattle.jvm_model.specs.declared.instr.Instr.{Instr}
+use Rattle.jvm_model.specs.declared.{instr.Instr.Instr, library.Native.Native, program.Program.Program}
 use Rattle.jvm_model.specs.declared.instr.Instr.TheVariants as form
-use Rattle.jvm_model.specs.declared.library.Native.{Native}
 use Rattle.jvm_model.specs.declared.outcome.Next.TheVariants as after
-use Rattle.jvm_model.specs.declared.program.Program.{Program}
 use Rattle.jvm_model.specs.{World.World, World.size, World.put, World.make_object, Rows.Answer, Rows.answer, Rows.stuck_row, View.IsSafe, View.IsTurn}
 use Rattle.jvm_model.specs.Access.{Access, done, read, write, make, spend, bind, run}
 use Rattle.jvm_model.specs.{Classes.method_at, Entries.Entries, Natives.row_native, Driver.drive, RowsStatics.row_statics, RowsFields.row_fields}

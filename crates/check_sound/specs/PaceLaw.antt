@@ -1,12 +1,10 @@
 -- What bounds the touches of a step and of a test, which statics they write, and which statics and class states a step meets.
 use Rattle.std.specs.Prelude.{◌≡◌, ◌⊎◌, ℕ, zero, suc, pos, ◌*◌, ◌-◌, ◌^◌, ◌<◌, ◌≤◌, List, [], ◌∷◌, length, map, Bool, true, false, cond, Option, Some, None, All}
-use Rattle.jvm_model.specs.declared.values.{Value.Value, Value.TheVariants.Int, Location.Location, Touch.Touch}
+use Rattle.jvm_model.specs.declared.{values.Value.Value, values.Value.TheVariants.Int, values.Location.Location, values.Touch.Touch, instr.Instr.Instr}
 use Rattle.jvm_model.specs.declared.values.Location.TheVariants as place
-use Rattle.jvm_model.specs.declared.instr.Instr.{Instr}
 use Rattle.jvm_model.specs.declared.instr.Instr.TheVariants as form
 use Rattle.jvm_model.specs.declared.state.{EntryKind.EntryKind, EntryKind.TheVariants.Absent, EntryKind.TheVariants.InMethod, EntryKind.TheVariants.InClass}
-use Rattle.jvm_model.specs.declared.state.Stage.TheVariants.{First}
-use Rattle.jvm_model.specs.declared.program.Program.{Program}
+use Rattle.jvm_model.specs.declared.{state.Stage.TheVariants.First, program.Program.Program}
 use Rattle.jvm_model.specs.{World.World, World.at, Access.write_of, Access.run, Entries.Entries, Initialise.parts_of, Linked.Linked, RowsCreate.nest_sum}
 use Rattle.jvm_model.specs.Classes.{field_at, form_at, is_static, member, method_at}
 use Rattle.jvm_model.specs.{State.State, State.test_at, Step.step, Step.cost, Step.touch, Suite.tree, Suite.Given, Suite.one_test}

@@ -1,12 +1,9 @@
 -- What the states have that a test comes to: they are typed, and there is room for what a step puts on the operands.
 use Rattle.std.specs.Prelude.{◌≡◌, ℕ, ◌+◌, ◌<◌, ◌≤◌, length, Some, None, IfSome}
-use Rattle.jvm_model.specs.declared.state.EntryKind.TheVariants.{Absent, InMethod}
-use Rattle.jvm_model.specs.declared.instr.{Instr.Instr, Sort.Sort}
+use Rattle.jvm_model.specs.declared.{state.EntryKind.TheVariants.Absent, state.EntryKind.TheVariants.InMethod, instr.Instr.Instr, instr.Sort.Sort}
 use Rattle.jvm_model.specs.declared.instr.Instr.TheVariants as form
-use Rattle.jvm_model.specs.declared.library.Native.{Native}
+use Rattle.jvm_model.specs.declared.{library.Native.Native, outcome.Next.TheVariants.Enter, program.Program.Program}
 use Rattle.jvm_model.specs.declared.library.Native.TheVariants as native
-use Rattle.jvm_model.specs.declared.outcome.Next.TheVariants.{Enter}
-use Rattle.jvm_model.specs.declared.program.Program.{Program}
 use Rattle.jvm_model.specs.{World.World, Access.run, Classes.method_at, Classes.form_at, Reached.Reaches, Rows.answer, State.State, Step.row_here}
 use Rattle.jvm_model.specs.Entries.{Entries, no_entries, popped_entry}
 use Rattle.type_frames.specs.{Typing.IsTyped, TypedState.TypedWorld, TypedState.TypedState}

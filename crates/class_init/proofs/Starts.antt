@@ -3,8 +3,7 @@ use Rattle.std.proofs.Common.{◌≡◌, ◌<◌, ◌≤◌, ℕ, List, [], ◌�
 use Rattle.jvm_model.specs.declared.values.InitState.{InitState}
 use Rattle.jvm_model.specs.declared.values.InitState.TheVariants.{Idle, Running, Done, Erroneous}
 use Rattle.jvm_model.specs.declared.values.Location.TheVariants as place
-use Rattle.jvm_model.specs.declared.values.Touch.{Touch}
-use Rattle.jvm_model.specs.declared.program.{Body.Body, Program.Program}
+use Rattle.jvm_model.specs.declared.{values.Touch.Touch, program.Body.Body, program.Program.Program}
 use Rattle.jvm_model.specs.{World.World, World.at, Access.Access, Access.spend, Classes.class_at, Classes.method_at, Entries.Entries, Entries.is_full}
 use Rattle.jvm_model.specs.Initialise.{Part, looks, looked_at, starts, starts_body}
 use Rattle.jvm_model.specs.Rows.{Answer}

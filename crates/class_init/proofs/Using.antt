@@ -2,10 +2,8 @@
 use Rattle.std.proofs.Common.{◌≡◌, ℕ, List, Result, refl, sym, ap, ◌∙◌, subst}
 use Rattle.std.specs.Prelude.{◌≢◌}
 use Rattle.std.proofs.lemmas.Result.{IfOk-weaker}
-use Rattle.jvm_model.specs.declared.values.Touch.{Touch}
-use Rattle.jvm_model.specs.declared.outcome.Next.{Next}
+use Rattle.jvm_model.specs.declared.{values.Touch.Touch, outcome.Next.Next, program.Program.Program}
 use Rattle.jvm_model.specs.declared.outcome.Next.TheVariants as next
-use Rattle.jvm_model.specs.declared.program.Program.{Program}
 use Rattle.jvm_model.specs.{World.World, Access.spend, Entries.Entries}
 use Rattle.jvm_model.specs.Rows.{answer, ready, begun, refused, begin, once, using}
 use Rattle.jvm_model.specs.View.{over, ended, counted, counts_one, and_then, touched, paid, IsSafe, IsRow, Any}

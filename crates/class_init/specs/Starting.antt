@@ -1,7 +1,6 @@
 -- The rows of an initialisation entry, as contracts name them.
 use Rattle.std.specs.Prelude.{ℕ, List, Option, Some, None, IsSome}
-use Rattle.jvm_model.specs.declared.values.{Value.Value, InitState.TheVariants.Idle}
-use Rattle.jvm_model.specs.declared.program.Program.{Program}
+use Rattle.jvm_model.specs.declared.{values.Value.Value, values.InitState.TheVariants.Idle, program.Program.Program}
 use Rattle.jvm_model.specs.{Classes.class_at, Classes.method_at, Rows.none_here, Entries.Entries}
 use Rattle.jvm_model.specs.Initialise.{Part, row_fail, finished, looks, looked_at, starts, starts_body}
 use Rattle.vm_mem.specs.Refines.{Row}

@@ -10,8 +10,7 @@ use Rattle.jvm_model.specs.declared.program.{Program.Program, MethodRec.MethodRe
 use Rattle.jvm_model.specs.{Builtin.builtin_count, Library.builtin_defs, Library.builtin_methods, Classes.method_at, Classes.is_static, Lookup.find_method}
 use Rattle.jvm_model.specs.Linked.{IsMethod, NamesBody, IsBodyKind, IsBody, IsFormFound, is_interface_at, Linked}
 use Rattle.jvm_model.proofs.{BuiltinRules.method_keeps, Ranges.all_there}
-use Rattle.class_link.specs.declared.fault.LinkFault.{LinkFault}
-use Rattle.class_link.specs.declared.lines.TestLines.{TestLines}
+use Rattle.class_link.specs.declared.{fault.LinkFault.LinkFault, lines.TestLines.TestLines}
 use Rattle.class_link.specs.{Assembly.assembled, Assembly.skeleton, Bodies.linked_body}
 use Rattle.class_link.specs.Faults.{first_some, duplicate_fault, supertypes_fault, all_references_fault}
 use Rattle.member_lookup.specs.Ancestors.{IsFirstCycle}

@@ -7,9 +7,8 @@ use Rattle.jvm_model.specs.{Builtin.builtin_count, Classes.class_at, Linked.IsCl
 use Rattle.member_lookup.specs.Ancestors.{IsFirstCycle}
 use Rattle.member_lookup.proofs.Ancestry.{is_direct, nothing_above, place_of}
 use Rattle.member_lookup.proofs.FirstCycle.{AreThere, cycle_found, cycle_once}
-use Rattle.class_link.specs.declared.fault.LinkFault.{LinkFault}
+use Rattle.class_link.specs.declared.{fault.LinkFault.LinkFault, lines.TestLines.TestLines}
 use Rattle.class_link.specs.declared.fault.LinkFault.TheVariants as fault
-use Rattle.class_link.specs.declared.lines.TestLines.{TestLines}
 use Rattle.class_link.specs.Assembly.{skeleton, bare_body}
 use Rattle.class_link.specs.Faults.{first_some, duplicate_fault, supertypes_fault, all_references_fault}
 use Rattle.et_base.specs.Answers.{◌>>=◌}

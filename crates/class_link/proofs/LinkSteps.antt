@@ -4,9 +4,8 @@ use Rattle.std.specs.Result.{IsErrAnd}
 use Rattle.class_reader.specs.declared.parts.ClassParts.{ClassParts}
 use Rattle.jvm_model.specs.declared.program.{Program.Program, TestEntry.TestEntry}
 use Rattle.jvm_model.specs.{Builtin.builtin_count, Library.builtin_classes}
-use Rattle.class_link.specs.declared.fault.LinkFault.{LinkFault}
+use Rattle.class_link.specs.declared.{fault.LinkFault.LinkFault, lines.TestLine.TestLine, lines.TestLines.TestLines}
 use Rattle.class_link.specs.declared.fault.LinkFault.TheVariants as fault
-use Rattle.class_link.specs.declared.lines.{TestLine.TestLine, TestLines.TestLines}
 use Rattle.class_link.specs.{Answers.Fails, Assembly.skeleton, Assembly.bare_body, References.LinkEnvironment}
 use Rattle.class_link.specs.Faults.{first_some, duplicate_fault, supertypes_fault, all_references_fault}
 use Rattle.member_lookup.specs.Ancestors.{IsFirstCycle}

@@ -6,7 +6,7 @@ use Rattle.std.proofs.Math.ListN.{get_or-map}
 use Rattle.std.proofs.lemmas.List.{map-append}
 use Rattle.class_pool.specs.declared.pool.Entry.{Entry}
 use Rattle.class_reader.specs.declared.parts.{ClassParts.ClassParts, MemberPart.MemberPart, CodePart.CodePart}
-use Rattle.jvm_model.specs.declared.program.{Program.Program, Body.Body, TestEntry.TestEntry}
+use Rattle.jvm_model.specs.declared.{program.Program.Program, program.Body.Body, program.TestEntry.TestEntry, values.Kind.Kind}
 use Rattle.jvm_model.specs.{Builtin.builtin_count, Builtin.throwable_class, Library.builtin_methods, Lookup.find_field, Lookup.find_method}
 use Rattle.jvm_model.specs.Classes.{class_at, method_at, no_method, is_below, is_static}
 use Rattle.jvm_model.specs.{Driver.plain_method_in, Linked.IsAncestor, Linked.direct, Linked.further, Linked.test_method}
@@ -14,7 +14,6 @@ use Rattle.class_link.specs.ClassNames.{text_at}
 use Rattle.class_link.specs.Assembly.{bare_body, method_rec, method_recs, assembled, skeleton}
 use Rattle.member_lookup.proofs.Alike as alike
 use Rattle.member_lookup.proofs.Alike.{Outline, outline}
-use Rattle.jvm_model.specs.declared.values.Kind.{Kind}
 use Rattle.jvm_model.specs.declared.values.Kind.TheVariants as kind
 use Rattle.code_forms.specs.declared.references.{Use.Use, Target.Target}
 use Rattle.code_forms.specs.declared.references.Use.TheVariants as used

@@ -10,9 +10,8 @@ use Rattle.jvm_model.specs.declared.program.{Program.Program, ClassRec.ClassRec,
 use Rattle.jvm_model.specs.{Builtin.builtin_count, Suite.suite_limit, RowsCreate.is_bare, Driver.no_arguments, Driver.plain_method_in}
 use Rattle.jvm_model.specs.Classes.{class_at, method_at, is_static, is_abstract, is_interface, init_name, upwards}
 use Rattle.jvm_model.specs.Linked.{IsMethod, is_word, test_method, IsTest}
-use Rattle.class_link.specs.declared.fault.LinkFault.{LinkFault}
+use Rattle.class_link.specs.declared.{fault.LinkFault.LinkFault, lines.TestLine.TestLine}
 use Rattle.class_link.specs.declared.fault.LinkFault.TheVariants as fault
-use Rattle.class_link.specs.declared.lines.TestLine.{TestLine}
 use Rattle.class_link.specs.{ClassNames.all_names, ClassNames.class_number, Assembly.assembled, Assembly.skeleton}
 use Rattle.class_link.specs.Faults.{holds_tests, is_test_method, entry_with, test_in, test_entry}
 use Rattle.class_link.specs.Link.{setting, tests_of, is_test_name}

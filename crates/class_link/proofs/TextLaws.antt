@@ -2,8 +2,7 @@
 use Rattle.std.proofs.Common.{◌≡◌, ◌+◌, ◌<◌, ℕ, suc, Bool, true, false, ◌||◌, cond, List, [], ◌∷◌, ◌++◌, length, position, Option, Some, None, is_some, refl, sym, ap, ◌∙◌, arith, add-zero, IfSome}
 use Rattle.std.specs.{List.list_any, List.position_from, Ordering.nat_cmp, Cmp.Lexicographic.slice_cmp, Map.KeepsOthers, Str.bytes_eq}
 use Rattle.std.specs.BTreeMap.{BTreeMap, Updates, is_at, IsEmpty}
-use Rattle.std.specs.declared.vec.Vec.{Vec}
-use Rattle.std.specs.declared.alloc.Global.{Global}
+use Rattle.std.specs.declared.{vec.Vec.Vec, alloc.Global.Global}
 use Rattle.std.proofs.lemmas.{Bool.or_parts, List.length-append}
 use Rattle.std.proofs.lemmas.Cmp.{nat_list_cmp_total, nat_list_eq_equiv, eq_by_cmp_equiv}
 use Rattle.std.proofs.{lemmas.Iterator.Adapters.position_from-zero, lemmas.List.Quantifiers.position-Some, lemmas.Map.Text.is_eq-slice_cmp}

@@ -9,9 +9,8 @@ use Rattle.jvm_model.specs.declared.program.{Program.Program, TestEntry.TestEntr
 use Rattle.jvm_model.specs.Builtin.{builtin_count, object_class, throwable_class}
 use Rattle.jvm_model.specs.{Library.builtin_classes, RowsCreate.is_bare, Driver.plain_method_in, Linked.is_interface_at, Linked.test_method}
 use Rattle.jvm_model.specs.Classes.{class_at, method_at, is_static, is_interface, is_below, member, init_name}
-use Rattle.class_link.specs.declared.fault.LinkFault.{LinkFault}
+use Rattle.class_link.specs.declared.{fault.LinkFault.LinkFault, lines.TestLine.TestLine}
 use Rattle.class_link.specs.declared.fault.LinkFault.TheVariants as fault
-use Rattle.class_link.specs.declared.lines.TestLine.{TestLine}
 use Rattle.code_forms.specs.declared.references.{Use.Use, Target.Target}
 use Rattle.class_link.specs.ClassNames.{name_at, own_name, class_number, number_or_first, missing}
 use Rattle.class_link.specs.References.{LinkEnvironment, target_of, missing_for, uses}

@@ -5,9 +5,8 @@ use Rattle.et_base.specs.Answers.{◌>>=◌}
 use Rattle.class_reader.specs.declared.parts.ClassParts.{ClassParts}
 use Rattle.jvm_model.specs.declared.program.{Program.Program, TestEntry.TestEntry}
 use Rattle.jvm_model.specs.{Builtin.builtin_count, Linked.is_word, Suite.suite_limit}
-use Rattle.class_link.specs.declared.fault.LinkFault.{LinkFault}
+use Rattle.class_link.specs.declared.{fault.LinkFault.LinkFault, lines.TestLine.TestLine, lines.TestLines.TestLines}
 use Rattle.class_link.specs.declared.fault.LinkFault.TheVariants as fault
-use Rattle.class_link.specs.declared.lines.{TestLine.TestLine, TestLines.TestLines}
 use Rattle.class_link.specs.{ClassNames.own_name, ClassNames.all_names, Literals.literals, Assembly.assembled, Assembly.skeleton, References.LinkEnvironment}
 use Rattle.class_link.specs.Bodies.{linked_body}
 use Rattle.class_link.specs.Faults.{first_some, duplicate_fault, supertypes_fault, all_references_fault, test_entry}

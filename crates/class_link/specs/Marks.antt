@@ -6,10 +6,9 @@ use Rattle.class_pool.specs.Pool.{entry_of, is_class}
 use Rattle.class_reader.specs.declared.parts.ClassParts.{ClassParts}
 use Rattle.jvm_model.specs.declared.program.Program.{Program}
 use Rattle.jvm_model.specs.Classes.{member}
-use Rattle.class_link.specs.declared.fault.LinkFault.{LinkFault}
+use Rattle.class_link.specs.declared.{fault.LinkFault.LinkFault, uses.User.User}
 use Rattle.class_link.specs.declared.fault.LinkFault.TheVariants as fault
 use Rattle.code_forms.specs.declared.references.{Use.Use, Target.Target}
-use Rattle.class_link.specs.declared.uses.User.{User}
 use Rattle.class_link.specs.{ClassNames.own_name, References.LinkEnvironment, References.missing_for, Bodies.target_in, Faults.missing_or, Faults.wrong_unless}
 use Rattle.code_forms.specs.Uses.{fits}
 

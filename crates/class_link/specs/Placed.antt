@@ -1,8 +1,7 @@
 -- Texts, and an ordered map with the place of each.
 use Rattle.std.specs.Prelude.{◌≡◌, ◌<◌, ℕ, List, length, position, Option}
 use Rattle.std.specs.{Ordering.nat_cmp, Cmp.Lexicographic.slice_cmp, BTreeMap.BTreeMap, BTreeMap.get_by, Str.bytes_eq}
-use Rattle.std.specs.declared.vec.Vec.{Vec}
-use Rattle.std.specs.declared.alloc.Global.{Global}
+use Rattle.std.specs.declared.{vec.Vec.Vec, alloc.Global.Global}
 
 -- the number that the map has for a text
 abbrev pub number_in : BTreeMap (Vec ℕ Global) ℕ → List ℕ → Option ℕ

@@ -1,9 +1,7 @@
 -- Pools at an offset: what is read is spelled so, and what is spelled so is read.
 use Rattle.std.proofs.Common.{◌≡◌, ℕ, List, [], ◌++◌, length, drop, Option, Result, Ok, Err, IfOk, refl, sym, ap, subst, ◌∙◌, arith}
 use Rattle.std.proofs.lemmas.List.{length-append, append-nil}
-use Rattle.class_pool.specs.declared.fault.Fault.{Fault}
-use Rattle.class_pool.specs.declared.pool.Entry.{Entry}
-use Rattle.class_pool.specs.declared.offsets.PoolFault.{PoolFault}
+use Rattle.class_pool.specs.declared.{fault.Fault.Fault, pool.Entry.Entry, offsets.PoolFault.PoolFault}
 use Rattle.class_pool.specs.declared.offsets.PoolFault.TheVariants.{Truncated, BadTag, BadIndex, BadUtf, BadDescriptor, NoMemory}
 use Rattle.class_pool.specs.{Pool.pool_at, Grammar.IsBytes, PoolGrammar.PoolText}
 use Rattle.class_pool.specs.Offsets.{place, by_offset, read_from, SpelledFrom, PoolGives}

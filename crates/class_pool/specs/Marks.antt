@@ -1,7 +1,6 @@
 -- What tests say of the texts of a pool, each text tested once.
 use Rattle.std.specs.Prelude.{ℕ, zero, suc, List, Option, Some, false, slice_index_or}
-use Rattle.class_pool.specs.declared.pool.{Entry.Entry, Entry.TheVariants.Utf8}
-use Rattle.class_pool.specs.declared.passes.Mark.{Mark}
+use Rattle.class_pool.specs.declared.{pool.Entry.Entry, pool.Entry.TheVariants.Utf8, passes.Mark.Mark}
 use Rattle.et_base.specs.Names.{is_unqualified, is_method_name, is_class_entry_name, is_field_descriptor, is_method_descriptor}
 
 abbrev pub mark_of_text : List ℕ → Mark

@@ -2,9 +2,8 @@
 use Rattle.std.proofs.Common.{◌≡◌, ℕ, ◌+◌, Bool, not, eqb, ltb, leb, ◌&&◌, List, [], ◌++◌, length, Option, Some, None, is_some, Result, Ok, Err, refl, sym, ap, subst, ◌∙◌, append_assoc}
 use Rattle.std.specs.Int.{w16, w32}
 use Rattle.std.proofs.lemmas.{Bool.eqb-true, List.append-nil, List.nil_from_length}
-use Rattle.class_pool.specs.declared.fault.Fault.{Fault}
+use Rattle.class_pool.specs.declared.{fault.Fault.Fault, pool.Entry.Entry}
 use Rattle.class_pool.specs.declared.fault.Fault.TheVariants.{Truncated, BadMagic, BadVersion, BadLength, Repeated, CodeKind, Trailing}
-use Rattle.class_pool.specs.declared.pool.Entry.{Entry}
 use Rattle.et_base.specs.Answers.{◌>>=◌, tested}
 use Rattle.class_pool.specs.{Reading.number_at, Reading.run_at, Loops.counted, Loops.folded, PoolGrammar.PoolText}
 use Rattle.class_pool.specs.Pool.{entry_of, is_text, is_class, pool_at}

@@ -1,8 +1,7 @@
 -- Handler tables: what is read is spelled so, and what is spelled so is read.
 use Rattle.std.proofs.Common.{ℕ, ltb, List, [], length, Option, Ok}
 use Rattle.std.specs.Int.{w16}
-use Rattle.class_pool.specs.declared.fault.Fault.TheVariants.{BadIndex, BadTarget}
-use Rattle.class_pool.specs.declared.pool.Entry.{Entry}
+use Rattle.class_pool.specs.declared.{fault.Fault.TheVariants.BadIndex, fault.Fault.TheVariants.BadTarget, pool.Entry.Entry}
 use Rattle.et_base.specs.Answers.{◌>>=◌, tested}
 use Rattle.class_pool.specs.{Reading.number_at, Loops.counted, Grammar.Nothing, Grammar.Mapped}
 use Rattle.class_pool.proofs.Laws.{Reads, reads_nothing, reads_then, tested_then, reads_mapped, reads_16, reads_counted}

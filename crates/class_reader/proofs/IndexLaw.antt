@@ -1,8 +1,7 @@
 -- Indices: what is read is spelled so, and what is spelled so is read.
 use Rattle.std.proofs.Common.{List, length, Option, Ok, Bool}
 use Rattle.std.specs.Int.{w16}
-use Rattle.class_pool.specs.declared.fault.Fault.TheVariants.{BadIndex, BadDescriptor}
-use Rattle.class_pool.specs.declared.pool.Entry.{Entry}
+use Rattle.class_pool.specs.declared.{fault.Fault.TheVariants.BadIndex, fault.Fault.TheVariants.BadDescriptor, pool.Entry.Entry}
 use Rattle.et_base.specs.Answers.{◌>>=◌, tested}
 use Rattle.class_pool.specs.{Reading.number_at, Pool.entry_of, Pool.is_text, Grammar.Nothing}
 use Rattle.class_pool.proofs.Laws.{Reads, reads_nothing, reads_then, tested_then, reads_16}

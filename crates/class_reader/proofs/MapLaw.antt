@@ -2,8 +2,7 @@
 use Rattle.std.proofs.Common.{◌≡◌, ℕ, zero, suc, ◌+◌, ◌-◌, ◌%◌, ◌^◌, ◌<◌, ◌≤◌, Bool, true, false, cond, eqb, ltb, eq-eqb, List, [], ◌∷◌, ◌++◌, length, take, Option, Ok, Err, refl, sym, ap, subst, ◌∙◌, append_assoc, arith}
 use Rattle.std.specs.Int.{w8, w16, w32, to_be_bytes}
 use Rattle.std.proofs.lemmas.{Bool.eqb-true, List.append-nil, List.length-append, List.take_at}
-use Rattle.class_pool.specs.declared.fault.Fault.TheVariants.{Truncated, BadLength}
-use Rattle.class_pool.specs.declared.pool.Entry.{Entry}
+use Rattle.class_pool.specs.declared.{fault.Fault.TheVariants.Truncated, fault.Fault.TheVariants.BadLength, pool.Entry.Entry}
 use Rattle.et_base.specs.Answers.{◌>>=◌, tested}
 use Rattle.class_pool.specs.{Reading.number_at, Reading.run_at, Loops.counted}
 use Rattle.class_pool.specs.Grammar.{IsBytes, Nothing, Mapped, Never, Joined}

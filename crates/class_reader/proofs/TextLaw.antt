@@ -9,8 +9,7 @@ use Rattle.std.proofs.lemmas.{Bool.eqb-true, List.take_more, List.length-take, L
 use Rattle.std.proofs.{lemmas.Bool.Decides.nat_tests, lemmas.Bool.Decides.same_from_decides, lemmas.Slice.Eq.bytes_eq-Decides}
 use Rattle.class_pool.specs.declared.pool.{Entry.Entry, Entry.TheVariants.Utf8}
 use Rattle.class_pool.specs.Pool.{entry_of, is_text}
-use Rattle.class_reader.specs.declared.parts.MemberPart.{MemberPart}
-use Rattle.class_reader.specs.declared.texts.Mark.{Mark}
+use Rattle.class_reader.specs.declared.{parts.MemberPart.MemberPart, texts.Mark.Mark}
 use Rattle.class_reader.specs.{Names.is_text_of, Names.same_text, Names.is_repeated, Lookups.noted, Lookups.noted_first}
 use Rattle.class_reader.specs.Texts.{first_from, first_of, mark_with, mark_of, key_of, is_same, IsSeen, IsSeenWith}
 

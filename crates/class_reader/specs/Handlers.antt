@@ -1,8 +1,7 @@
 -- Handler tables (JVMS 4.7.3): how they are read, the first fault, and their grammar.
 use Rattle.std.specs.Prelude.{ℕ, pos, List, [], length, Option, Result, Ok, Bool, nat_lt, ◌==◌, ◌||◌}
 use Rattle.std.specs.Int.{w16}
-use Rattle.class_pool.specs.declared.fault.{Fault.Fault, Fault.TheVariants.BadIndex, Fault.TheVariants.BadTarget}
-use Rattle.class_pool.specs.declared.pool.Entry.{Entry}
+use Rattle.class_pool.specs.declared.{fault.Fault.Fault, fault.Fault.TheVariants.BadIndex, fault.Fault.TheVariants.BadTarget, pool.Entry.Entry}
 use Rattle.et_base.specs.Answers.{◌>>=◌, tested}
 use Rattle.class_pool.specs.{Reading.number_at, Loops.counted, Pool.entry_of, Pool.is_class}
 use Rattle.class_pool.specs.Grammar.{Nothing, Then, Mapped, Tested, Counted}

@@ -1,8 +1,7 @@
 -- Indices into the pool, with what they must name: how they are read, and their grammar.
 use Rattle.std.specs.Prelude.{ℕ, ◌^◌, List, length, Option, Result, Ok, Bool}
 use Rattle.std.specs.Int.{w16}
-use Rattle.class_pool.specs.declared.fault.{Fault.Fault, Fault.TheVariants.BadIndex, Fault.TheVariants.BadDescriptor}
-use Rattle.class_pool.specs.declared.pool.Entry.{Entry}
+use Rattle.class_pool.specs.declared.{fault.Fault.Fault, fault.Fault.TheVariants.BadIndex, fault.Fault.TheVariants.BadDescriptor, pool.Entry.Entry}
 use Rattle.et_base.specs.Answers.{◌>>=◌, tested}
 use Rattle.class_pool.specs.{Reading.number_at, Pool.entry_of, Pool.is_text}
 use Rattle.class_pool.specs.Grammar.{Nothing, Then, Tested, Number}

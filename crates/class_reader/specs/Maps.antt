@@ -1,8 +1,7 @@
 -- Stack maps (JVMS 4.7.4): how they are read, and the first fault.
 use Rattle.std.specs.Prelude.{ℕ, zero, suc, ◌-◌, ◌%◌, List, [], ◌∷◌, ◌++◌, length, take, Option, Result, Ok, Err, Bool, true, false, not, nat_lt, ◌==◌, ◌&&◌, ◌||◌, if◌then◌else◌}
 use Rattle.std.specs.Int.{w8, w16, w32}
-use Rattle.class_pool.specs.declared.fault.{Fault.Fault, Fault.TheVariants.BadLength}
-use Rattle.class_pool.specs.declared.pool.Entry.{Entry}
+use Rattle.class_pool.specs.declared.{fault.Fault.Fault, fault.Fault.TheVariants.BadLength, pool.Entry.Entry}
 use Rattle.et_base.specs.Answers.{◌>>=◌, tested}
 use Rattle.class_pool.specs.{Reading.number_at, Reading.run_at, Loops.counted, Pool.is_class}
 use Rattle.class_reader.specs.declared.parts.{MapType.MapType, MapFrame.MapFrame, MapPart.MapPart}

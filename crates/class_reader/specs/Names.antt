@@ -6,8 +6,7 @@ use Rattle.class_pool.specs.declared.pool.Entry.TheVariants.{Utf8, Integer, Floa
 use Rattle.class_pool.specs.Pool.{entry_of, in_text}
 use Rattle.et_base.specs.Names.{is_unqualified, is_field_descriptor, argument_units}
 use Rattle.et_base.specs.Names as names
-use Rattle.class_reader.specs.declared.parts.MemberPart.{MemberPart}
-use Rattle.class_reader.specs.declared.names.Form.{Form}
+use Rattle.class_reader.specs.declared.{parts.MemberPart.MemberPart, names.Form.Form}
 use Rattle.class_reader.specs.declared.names.Form.TheVariants as form
 
 -- whether an entry is this text

@@ -4,8 +4,7 @@ use Rattle.std.specs.{Ordering.nat_cmp, BTreeSet.BTreeSet, BTreeSet.contains}
 use Rattle.class_pool.specs.declared.pool.{Entry.Entry, Entry.TheVariants.Utf8}
 use Rattle.class_pool.specs.Pool.{entry_of, is_text}
 use Rattle.et_base.specs.Names.{argument_units}
-use Rattle.class_reader.specs.declared.parts.MemberPart.{MemberPart}
-use Rattle.class_reader.specs.declared.texts.Mark.{Mark}
+use Rattle.class_reader.specs.declared.{parts.MemberPart.MemberPart, texts.Mark.Mark}
 use Rattle.class_reader.specs.Names.{is_text_of, same_text, is_repeated, is_field_name, is_field_type, is_method_name}
 
 -- the number of the first slot, from i on, with this text

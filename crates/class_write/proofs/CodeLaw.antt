@@ -5,9 +5,7 @@ use Rattle.std.specs.List.{flat_map}
 use Rattle.std.specs.Int.{Width, w8, w16, w32, byte_len, byte_at, bytes_high_first, to_be_bytes}
 use Rattle.std.proofs.lemmas.List.{length-append}
 use Rattle.class_pool.specs.Grammar.{IsBytes, Sized}
-use Rattle.code_decode.specs.declared.instructions.RawOp.{RawOp}
-use Rattle.code_decode.specs.declared.decoding.Code.{Code}
-use Rattle.code_decode.specs.declared.opcodes.Shape.{Shape}
+use Rattle.code_decode.specs.declared.{instructions.RawOp.RawOp, decoding.Code.Code, opcodes.Shape.Shape}
 use Rattle.code_decode.specs.declared.opcodes.Shape.TheVariants as shape
 use Rattle.code_decode.specs.{Opcodes.shape_of, Opcodes.takes_local, Switches.padding, CodeGrammar.CodeText}
 use Rattle.code_decode.specs.Spelling.{number_bytes, signed_bytes, offset_bytes, pair_bytes, one_bytes, two_bytes, table_bytes, lookup_bytes, args_bytes, shaped_bytes, wide_args_bytes, op_bytes, code_spelling}

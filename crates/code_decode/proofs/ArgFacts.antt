@@ -12,8 +12,7 @@ use Rattle.class_pool.specs.declared.pool.Entry.{Entry}
 use Rattle.class_pool.specs.Pool.{entry_of}
 use Rattle.et_base.proofs.Cases.{implied}
 use Rattle.class_pool.proofs.GrammarFacts.{chain_counts}
-use Rattle.code_decode.specs.declared.instructions.RawOp.{RawOp}
-use Rattle.code_decode.specs.declared.judging.Fit.{Fit}
+use Rattle.code_decode.specs.declared.{instructions.RawOp.RawOp, judging.Fit.Fit}
 use Rattle.code_decode.specs.declared.judging.Fit.TheVariants as fit
 use Rattle.code_decode.specs.declared.opcodes.{Shape.Shape, Named.TheVariants.Nested, Named.TheVariants.Interface}
 use Rattle.code_decode.specs.declared.opcodes.Shape.TheVariants as shape

@@ -5,9 +5,7 @@ use Rattle.std.proofs.lemmas.{Bool.eqb-true, List.length-append}
 use Rattle.std.proofs.lemmas.List.Elements.{All-from_recursion}
 use Rattle.class_pool.specs.declared.pool.Entry.{Entry}
 use Rattle.class_pool.proofs.Laws.{chosen}
-use Rattle.code_decode.specs.declared.instructions.RawOp.{RawOp}
-use Rattle.code_decode.specs.declared.decoding.Code.{Code}
-use Rattle.code_decode.specs.declared.opcodes.Shape.{Shape}
+use Rattle.code_decode.specs.declared.{instructions.RawOp.RawOp, decoding.Code.Code, opcodes.Shape.Shape}
 use Rattle.code_decode.specs.{Opcodes.shape_of, Opcodes.takes_local, Instructions.op}
 use Rattle.code_decode.specs.Targets.{is_start, leads, leads_to}
 use Rattle.code_decode.specs.CodeGrammar.{ShapedText, WideArgsText, WideText, OpText, OpsText, CodeText}

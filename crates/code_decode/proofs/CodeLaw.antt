@@ -8,8 +8,7 @@ use Rattle.et_base.specs.Answers.{◌>>=◌, tested}
 use Rattle.class_pool.specs.Grammar.{Nothing, Never, Tested, Run, Counted}
 use Rattle.class_pool.proofs.Laws.{IsWide, wide8, wide16, wide32}
 use Rattle.code_decode.proofs.Readers.{Takes, takes_nothing, takes_then, takes_mapped, takes_if, takes_never, takes_tested, takes_judged, takes_word, takes_run, takes_counted, takes_folded}
-use Rattle.code_decode.specs.declared.place.Spot.{Spot}
-use Rattle.code_decode.specs.declared.judging.Fit.{Fit}
+use Rattle.code_decode.specs.declared.{place.Spot.Spot, judging.Fit.Fit}
 use Rattle.code_decode.specs.declared.judging.Fit.TheVariants as fit
 use Rattle.code_decode.specs.declared.opcodes.{Shape.Shape, Named.TheVariants.Nested, Named.TheVariants.Interface}
 use Rattle.code_decode.specs.declared.opcodes.Shape.TheVariants as shape

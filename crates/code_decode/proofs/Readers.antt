@@ -6,8 +6,7 @@ use Rattle.et_base.specs.Answers.{◌>>=◌, tested}
 use Rattle.class_pool.specs.{Reading.number_or, Reading.run_or, Loops.counted, Loops.folded, Loops.to_end}
 use Rattle.class_pool.specs.Grammar.{Nothing, Then, Mapped, Never, Tested, Run, Counted, Chain}
 use Rattle.class_pool.proofs.Laws.{Reads, reads_nothing, reads_then, tested_then, reads_mapped, reads_if, reads_never, IsWide, reads_number, reads_run, reads_counted, reads_folded}
-use Rattle.code_decode.specs.declared.place.Spot.{Spot}
-use Rattle.code_decode.specs.declared.judging.Fit.{Fit}
+use Rattle.code_decode.specs.declared.{place.Spot.Spot, judging.Fit.Fit}
 use Rattle.code_decode.specs.declared.judging.Fit.TheVariants as fit
 use Rattle.code_decode.specs.Place.{cut, wrong, foreign}
 use Rattle.code_decode.specs.{Operands.judged, Decoding.IsOfCode, CodeGrammar.Word, CodeGrammar.is_right}

@@ -6,9 +6,7 @@ use Rattle.std.proofs.lemmas.{Bool.eqb-true, Bool.and_parts, List.length-append}
 use Rattle.class_pool.specs.declared.pool.Entry.{Entry}
 use Rattle.class_pool.specs.Pool.{entry_of}
 use Rattle.et_base.proofs.Cases.{by_test}
-use Rattle.code_decode.specs.declared.instructions.RawOp.{RawOp}
-use Rattle.code_decode.specs.declared.decoding.Code.{Code}
-use Rattle.code_decode.specs.declared.opcodes.Shape.{Shape}
+use Rattle.code_decode.specs.declared.{instructions.RawOp.RawOp, decoding.Code.Code, opcodes.Shape.Shape}
 use Rattle.code_decode.specs.declared.opcodes.Shape.TheVariants as shape
 use Rattle.code_decode.specs.{Opcodes.shape_of, Opcodes.takes_local, Judging.constant_fit, Judging.named_fit, Judging.kind_fit}
 use Rattle.code_decode.specs.Targets.{is_place, leads, leads_to, is_start}

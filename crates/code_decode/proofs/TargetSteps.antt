@@ -8,8 +8,7 @@ use Rattle.class_pool.specs.declared.fault.{Fault.Fault, Fault.TheVariants.BadTa
 use Rattle.class_pool.specs.declared.fault.ReadError.TheVariants as errors
 use Rattle.et_base.specs.Answers.{◌>>=◌, Fails, tested}
 use Rattle.class_pool.specs.Reading.{named}
-use Rattle.code_decode.specs.declared.instructions.RawOp.{RawOp}
-use Rattle.code_decode.specs.declared.opcodes.Shape.{Shape}
+use Rattle.code_decode.specs.declared.{instructions.RawOp.RawOp, opcodes.Shape.Shape}
 use Rattle.code_decode.specs.declared.opcodes.Shape.TheVariants as shape
 use Rattle.code_decode.specs.{Opcodes.shape_of, Targets.is_place, Targets.names_places, Targets.leads_to, Targets.targets_fit}
 

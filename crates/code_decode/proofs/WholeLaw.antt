@@ -3,15 +3,12 @@ use Rattle.std.proofs.Common.{◌≡◌, ℕ, zero, suc, ◌+◌, ◌-◌, ◌<�
 use Rattle.std.specs.Prelude.{ℤ}
 use Rattle.std.specs.List.{AllByRecursion}
 use Rattle.std.proofs.lemmas.List.{append-nil, length-append}
-use Rattle.class_pool.specs.declared.fault.{Fault.Fault, Fault.TheVariants.BadTarget, ReadError.ReadError}
-use Rattle.class_pool.specs.declared.pool.Entry.{Entry}
+use Rattle.class_pool.specs.declared.{fault.Fault.Fault, fault.Fault.TheVariants.BadTarget, fault.ReadError.ReadError, pool.Entry.Entry}
 use Rattle.class_pool.specs.declared.fault.ReadError.TheVariants as errors
 use Rattle.et_base.specs.Answers.{◌>>=◌, Fails, tested}
 use Rattle.class_pool.specs.{Reading.named, Loops.to_end, Grammar.IsBytes}
 use Rattle.class_pool.proofs.Laws.{bind_ok, ok_is, tested_ok, wide8}
-use Rattle.code_decode.specs.declared.place.Spot.{Spot}
-use Rattle.code_decode.specs.declared.instructions.RawOp.{RawOp}
-use Rattle.code_decode.specs.declared.decoding.Code.{Code}
+use Rattle.code_decode.specs.declared.{place.Spot.Spot, instructions.RawOp.RawOp, decoding.Code.Code}
 use Rattle.code_decode.specs.{Instructions.op_at, Instructions.spot_at, Instructions.ops_at, Targets.is_start, Targets.leads_to, Targets.targets_fit}
 use Rattle.code_decode.specs.{Decoding.code_at, Decoding.IsCodeError, CodeGrammar.OpText, CodeGrammar.OpsText, CodeGrammar.CodeText}
 use Rattle.code_decode.proofs.CodeLaw.{takes_op}

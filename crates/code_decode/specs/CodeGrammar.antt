@@ -5,9 +5,7 @@ use Rattle.std.specs.Int.{Width, w8, w16, w32, byte_len, cast_signed}
 use Rattle.class_pool.specs.declared.pool.Entry.{Entry}
 use Rattle.class_pool.specs.Pool.{entry_of}
 use Rattle.class_pool.specs.Grammar.{Nothing, Then, Mapped, Never, Tested, Number, Run, Counted, Chain}
-use Rattle.code_decode.specs.declared.instructions.RawOp.{RawOp}
-use Rattle.code_decode.specs.declared.decoding.Code.{Code}
-use Rattle.code_decode.specs.declared.judging.Fit.{Fit}
+use Rattle.code_decode.specs.declared.{instructions.RawOp.RawOp, decoding.Code.Code, judging.Fit.Fit}
 use Rattle.code_decode.specs.declared.judging.Fit.TheVariants as fit
 use Rattle.code_decode.specs.declared.opcodes.{Shape.Shape, Named.TheVariants.Nested, Named.TheVariants.Interface}
 use Rattle.code_decode.specs.declared.opcodes.Shape.TheVariants as shape

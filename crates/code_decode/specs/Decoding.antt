@@ -1,9 +1,8 @@
 -- A whole code: how it is taken, the first fault, and what an answer says of that.
 use Rattle.std.specs.Prelude.{◌≡◌, ℕ, List, length, Option, Result, Ok, Err}
-use Rattle.class_pool.specs.declared.fault.{Fault.Fault, ReadError.ReadError}
+use Rattle.class_pool.specs.declared.{fault.Fault.Fault, fault.ReadError.ReadError, pool.Entry.Entry}
 use Rattle.class_pool.specs.declared.fault.Fault.TheVariants as faults
 use Rattle.class_pool.specs.declared.fault.ReadError.TheVariants as errors
-use Rattle.class_pool.specs.declared.pool.Entry.{Entry}
 use Rattle.et_base.specs.Answers.{◌>>=◌}
 use Rattle.code_decode.specs.declared.decoding.{Code.Code, CodeFault.CodeFault}
 use Rattle.code_decode.specs.declared.decoding.CodeFault.TheVariants as code

@@ -3,8 +3,7 @@ use Rattle.std.specs.Prelude.{◌≡◌, ℕ, ℤ, pos, negsuc, ◌%◌, List, [
 use Rattle.std.specs.List.{list_all, enumerate_from}
 use Rattle.class_pool.specs.declared.fault.{Fault.Fault, Fault.TheVariants.BadTarget}
 use Rattle.et_base.specs.Answers.{◌>>=◌, tested}
-use Rattle.code_decode.specs.declared.instructions.RawOp.{RawOp}
-use Rattle.code_decode.specs.declared.opcodes.Shape.{Shape}
+use Rattle.code_decode.specs.declared.{instructions.RawOp.RawOp, opcodes.Shape.Shape}
 use Rattle.code_decode.specs.declared.opcodes.Shape.TheVariants as shape
 use Rattle.code_decode.specs.Opcodes.{is_within, shape_of}
 

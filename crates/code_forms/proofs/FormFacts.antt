@@ -6,13 +6,11 @@ use Rattle.class_pool.specs.declared.pool.Entry.TheVariants as entry
 use Rattle.std.proofs.lemmas.Bool.{eqb-true, leb-true, not-true, and_parts, or_cases, eqb-false, cases_lt, cond_both}
 use Rattle.std.proofs.lemmas.Bool.Decides.{nat_tests}
 use Rattle.code_decode.specs.declared.instructions.RawOp.{RawOp}
-use Rattle.jvm_model.specs.declared.values.{Value.Value, Base.Base, Kind.Kind}
+use Rattle.jvm_model.specs.declared.{values.Value.Value, values.Base.Base, values.Kind.Kind, instr.Instr.Instr, program.Program.Program, program.Body.Body}
 use Rattle.jvm_model.specs.declared.values.Value.TheVariants.{Int, Long, Null, Lit, Obj}
 use Rattle.jvm_model.specs.declared.values.Base.TheVariants as base
 use Rattle.jvm_model.specs.declared.values.Kind.TheVariants as kind
-use Rattle.jvm_model.specs.declared.instr.Instr.{Instr}
 use Rattle.jvm_model.specs.declared.instr.Instr.TheVariants as form
-use Rattle.jvm_model.specs.declared.program.{Program.Program, Body.Body}
 use Rattle.jvm_model.specs.{Classes.method_at, Classes.is_static, Selection.named_class}
 use Rattle.jvm_model.specs.Linked.{IsClass, IsField, IsMethod, IsLiteral, IsBase, IsKind, IsArray, NamesForm, IsFormKind, IsFormFound, IsForm, IsFoundIn, IsFoundField, IsPlainField, IsStaticMethod, IsPlainMethod, IsStaticCall, IsSpecialCall, is_interface_at, dims_of}
 use Rattle.code_forms.specs.declared.references.{Use.Use, Target.Target}

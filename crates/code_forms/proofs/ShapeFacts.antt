@@ -7,9 +7,8 @@ use Rattle.std.proofs.lemmas.Bool.Decides.{nat_tests}
 use Rattle.class_pool.specs.declared.pool.Entry.{Entry}
 use Rattle.class_pool.specs.declared.pool.Entry.TheVariants as entry
 use Rattle.class_pool.specs.Pool.{entry_of}
-use Rattle.code_decode.specs.declared.instructions.RawOp.{RawOp}
+use Rattle.code_decode.specs.declared.{instructions.RawOp.RawOp, opcodes.Shape.Shape}
 use Rattle.code_decode.specs.declared.judging.Fit.TheVariants as fit
-use Rattle.code_decode.specs.declared.opcodes.Shape.{Shape}
 use Rattle.code_decode.specs.declared.opcodes.Shape.TheVariants as shape
 use Rattle.code_decode.specs.declared.opcodes.Named.TheVariants as named
 use Rattle.code_decode.specs.{Judging.named_fit, Opcodes.shape_of, Opcodes.takes_local}

@@ -2,8 +2,7 @@
 use Rattle.std.proofs.Common.{◌≡◌, ℕ, ◌+◌, ◌<◌, ◌≤◌, List, [], ◌∷◌, ◌++◌, length, get_or, take, Bool, ◌&&◌, sym, ap, ◌∙◌, refl, subst, arith, codes, decimal, map}
 use Rattle.std.specs.List.{list_all, zip}
 use Rattle.std.proofs.lemmas.List.{take_all, take_more, append_assoc, map-append, length-map, length-take-le}
-use Rattle.jvm_model.specs.declared.outcome.Outcome.{Outcome}
-use Rattle.jvm_model.specs.declared.program.Names.{Names}
+use Rattle.jvm_model.specs.declared.{outcome.Outcome.Outcome, program.Names.Names}
 use Rattle.jvm_model.specs.Texts.{is_passed, count_line}
 use Rattle.test_run.specs.Running.{Posted}
 use Rattle.test_run.specs.Tallies.{IsCount, IsFew, IsTally, head_of, tally_with}

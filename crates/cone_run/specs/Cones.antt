@@ -1,7 +1,6 @@
 -- Cones: the tests that one test needs by the edges of a record, and what it gives after them (this project's).
 use Rattle.std.specs.Prelude.{◌≡◌, ℕ, ◌+◌, ◌<◌, List, [], ◌∷◌, length, All, Some, None}
-use Rattle.jvm_model.specs.declared.outcome.Outcome.{Outcome}
-use Rattle.jvm_model.specs.declared.program.Program.{Program}
+use Rattle.jvm_model.specs.declared.{outcome.Outcome.Outcome, program.Program.Program}
 use Rattle.jvm_model.specs.{State.test_at, World.World}
 use Rattle.jvm_model.specs.Suite.{opening, one_test, first_over, last_outcome}
 use Rattle.order_law.specs.declared.edges.Edge.{Edge}

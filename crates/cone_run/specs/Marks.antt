@@ -1,7 +1,6 @@
 -- What becomes of a test when one of its raw writers is left out of its cone (this project's).
 use Rattle.std.specs.Prelude.{◌≡◌, ◌⊎◌, ℕ, zero, suc, ◌+◌, ◌<◌, List, [], ◌∷◌, length, filter, sum_by, not, nat_eq, Option, Some, None}
-use Rattle.jvm_model.specs.declared.outcome.Outcome.{Outcome}
-use Rattle.jvm_model.specs.declared.program.Program.{Program}
+use Rattle.jvm_model.specs.declared.{outcome.Outcome.Outcome, program.Program.Program}
 use Rattle.jvm_model.specs.Suite.{last_outcome}
 use Rattle.order_law.specs.declared.edges.{Edge.Edge, EdgeKind.TheVariants.Raw}
 use Rattle.order_law.specs.Conflicts.{Member, HasEdge}

@@ -3,8 +3,7 @@ use Rattle.std.proofs.Common.{◌≡◌, ◌∙◌, ℕ, List, Bool, true, false
 use Rattle.std.proofs.lemmas.Bool.{false≢true}
 use Rattle.outside.specs.Depot.{Files}
 use Rattle.suite_load.specs.declared.loaded.Loaded.{Loaded}
-use Rattle.electrictest.specs.declared.status.{InputFault.InputFault, OverFault.OverFault}
-use Rattle.electrictest.specs.declared.words.Command.{Command}
+use Rattle.electrictest.specs.declared.{status.InputFault.InputFault, status.OverFault.OverFault, words.Command.Command}
 use Rattle.electrictest.specs.declared.words.Command.TheVariants as command
 use Rattle.electrictest.specs.Causes.{AsksAny, AsksSuch, MayReport, reads_files, reads_record, tells_verdicts}
 use Rattle.electrictest.specs.{Loads.IsNamed, Replies.Reports, Replies.ReportsBy, Replies.OversBy}

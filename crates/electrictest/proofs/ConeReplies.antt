@@ -11,9 +11,8 @@ use Rattle.outside.specs.Depot.{Files, Told, DepotView, OfHeld}
 use Rattle.selection_close.specs.Closed.{IsAscendingOf}
 use Rattle.suite_load.specs.declared.loaded.Loaded.{Loaded}
 use Rattle.worker_pool.proofs.Tests.{member_at}
-use Rattle.electrictest.specs.declared.status.{Status.Status, OverFault.OverFault}
+use Rattle.electrictest.specs.declared.{status.Status.Status, status.OverFault.OverFault, words.Command.Command}
 use Rattle.electrictest.specs.declared.status.Status.TheVariants as ends
-use Rattle.electrictest.specs.declared.words.Command.{Command}
 use Rattle.electrictest.specs.{Causes.AsksSuch, Causes.runs_tests, Loads.begun_by, PoolRuns.IsOfSuite, Records.Beginning, Replies.ReportsBy, Replies.OversBy}
 use Rattle.electrictest.specs.Commands.{ReportEnds, ReportsOver, RefusedOver}
 use Rattle.electrictest.specs.ConeRuns.{AreCounted, ConesRefused, IsOverCone, OfBegun}

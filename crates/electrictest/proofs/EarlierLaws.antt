@@ -11,9 +11,7 @@ use Rattle.order_law.specs.{Conflicts.Member, Histories.IsTestNumber}
 use Rattle.order_law.specs.Reach.{IsMoreOf, IsRecordOf, units_in}
 use Rattle.outside.specs.{Depot.Files, Sink.SinkView}
 use Rattle.dep_record.specs.{Laws.AreHashes, RecordText.said, RecordText.record_text}
-use Rattle.suite_load.specs.declared.suite_text.SuiteText.{SuiteText}
-use Rattle.suite_load.specs.declared.loaded.Loaded.{Loaded}
-use Rattle.suite_load.specs.declared.load_fault.LoadFault.{LoadFault}
+use Rattle.suite_load.specs.declared.{suite_text.SuiteText.SuiteText, loaded.Loaded.Loaded, load_fault.LoadFault.LoadFault}
 use Rattle.suite_load.specs.Loading.{bytes_of, lines_of, names_in}
 use Rattle.suite_load.proofs.{GoodLines.IsGood, LinkedCounts.tests_linked}
 use Rattle.impact_pick.specs.{Pick.changed, Pick.is_picked, Pick.picked, ImpactText.impact_text}

@@ -8,8 +8,7 @@ use Rattle.generated_law.specs.GeneratedSuite.{gen_program, gen_test, generated_
 use Rattle.jvm_model.specs.declared.program.Program.{Program}
 use Rattle.jvm_model.specs.{Linked.Linked, Suite.all_tests, Suite.is_detected, Suite.seq, Texts.count_line, Texts.is_error, Texts.is_failed, Texts.is_passed}
 use Rattle.jvm_model.proofs.Detection.{no_fault_where_detected}
-use Rattle.order_law.specs.declared.records.Record.{Record}
-use Rattle.order_law.specs.declared.edges.Edge.{Edge}
+use Rattle.order_law.specs.declared.{records.Record.Record, edges.Edge.Edge}
 use Rattle.order_law.specs.{Conflicts.Member, OwnRecord.edges_of, Plan.AreListedChainsOf, Reach.IsRecordOf, Reach.units_in as units_given}
 use Rattle.order_law.proofs.OwnRecord.{range_within}
 use Rattle.outside.specs.Depot.{Told, DepotView, FailedAt, OfHeld}
@@ -18,14 +17,12 @@ use Rattle.run_core.specs.Run.{Run, history, IsLegal, IsComplete}
 use Rattle.schedule_plan.specs.Plans.{HasUnits}
 use Rattle.worker_pool.specs.Plans.{units_of}
 use Rattle.suite_gen.specs.Generated.{group_count}
-use Rattle.suite_load.specs.declared.load_fault.LoadFault.{LoadFault}
+use Rattle.suite_load.specs.declared.{load_fault.LoadFault.LoadFault, loaded.Loaded.Loaded}
 use Rattle.suite_load.specs.declared.load_fault.LoadFault.TheVariants as fault
-use Rattle.suite_load.specs.declared.loaded.Loaded.{Loaded}
 use Rattle.suite_load.specs.{LoadAnswers.LoadAnswers, LoadAnswers.IsProper, Loading.Loads}
 use Rattle.suite_load.proofs.LoadOnce.{loads_once}
-use Rattle.electrictest.specs.declared.recorded.Request.{Request}
+use Rattle.electrictest.specs.declared.{recorded.Request.Request, status.Status.Status}
 use Rattle.test_run.specs.declared.tallies.Tally.{Tally}
-use Rattle.electrictest.specs.declared.status.Status.{Status}
 use Rattle.electrictest.specs.declared.status.Status.TheVariants as ends
 use Rattle.electrictest.specs.declared.words.Command.TheVariants as command
 use Rattle.electrictest.specs.{Commands.ReportEnds, Commands.Reported, Loads.IsSuite, Loads.status_of, Records.Beginning, Records.beginning}

@@ -1,9 +1,7 @@
 -- The run of a list of tests.
 use Rattle.std.proofs.Common.{◌≡◌, ℕ, ◌+◌, List, [], ◌∷◌, length, map, refl, sym, ap, ◌∙◌}
 use Rattle.std.proofs.lemmas.List.{length-map}
-use Rattle.jvm_model.specs.declared.outcome.Outcome.{Outcome}
-use Rattle.jvm_model.specs.declared.program.Program.{Program}
-use Rattle.jvm_model.specs.declared.values.Touch.{Touch}
+use Rattle.jvm_model.specs.declared.{outcome.Outcome.Outcome, program.Program.Program, values.Touch.Touch}
 use Rattle.jvm_model.specs.Suite.{Given, first_over, first_over_on, opening, runs, runs_on, units_of}
 use Rattle.jvm_model.specs.World.{World}
 use Rattle.vm_mem.specs.Trace.{Trace}

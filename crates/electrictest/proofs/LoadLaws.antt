@@ -2,15 +2,13 @@
 use Rattle.std.proofs.Common.{◌≡◌, ◌≤◌, ℕ, List, refl, sym, ap, subst, ◌∙◌, Option, Some, None, Result, Ok, Err, IfOk, IfErr, ◌-◌}
 use Rattle.outside.specs.Depot.{Files, Told, DepotView, FailedAt, OfHeld, TellsOn}
 use Rattle.outside.proofs.CountLemmas.{rose_later}
-use Rattle.suite_load.specs.declared.load_fault.LoadFault.{LoadFault}
+use Rattle.suite_load.specs.declared.{load_fault.LoadFault.LoadFault, loaded.Loaded.Loaded}
 use Rattle.suite_load.specs.declared.load_fault.LoadFault.TheVariants as fault
-use Rattle.suite_load.specs.declared.loaded.Loaded.{Loaded}
 use Rattle.suite_load.specs.{Loading.Loads, Loading.IsRead, LoadAnswers.LoadAnswers, LoadAnswers.IsProper}
 use Rattle.jvm_model.specs.Builtin.{builtin_count}
 use Rattle.quiet_init.specs.Quiet.{quiet}
 use Rattle.quiet_init.proofs.Parts.{class_count}
-use Rattle.electrictest.specs.declared.reports.Report.{Report}
-use Rattle.electrictest.specs.declared.status.Status.{Status}
+use Rattle.electrictest.specs.declared.{reports.Report.Report, status.Status.Status}
 use Rattle.electrictest.specs.declared.status.Status.TheVariants as ends
 use Rattle.electrictest.specs.declared.status.InputFault.TheVariants as input
 use Rattle.electrictest.specs.declared.words.WordsFault.TheVariants as faults

@@ -4,8 +4,7 @@ use Rattle.std.proofs.lemmas.List.Elements.{All-cons}
 use Rattle.sha2.specs.Sha256.{sha256}
 use Rattle.jvm_model.specs.declared.program.Program.{Program}
 use Rattle.class_pool.specs.Grammar.{IsBytes}
-use Rattle.class_reader.specs.declared.parts.ClassParts.{ClassParts}
-use Rattle.class_reader.specs.declared.fault.ClassFault.{ClassFault}
+use Rattle.class_reader.specs.declared.{parts.ClassParts.ClassParts, fault.ClassFault.ClassFault}
 use Rattle.class_reader.specs.{Class.class_at, ClassGrammar.IsClass, Faults.with_offsets, Faults.class_of}
 use Rattle.class_reader.proofs.ClassLaw.{class_takes}
 use Rattle.class_link.specs.declared.fault.LinkFault.{LinkFault}
@@ -14,9 +13,8 @@ use Rattle.class_pool.specs.declared.fault.Fault.{Fault}
 use Rattle.order_law.specs.declared.records.Prints.{Prints}
 use Rattle.order_law.specs.Pairing.{PairedList, no_more, one_more}
 use Rattle.outside.specs.Depot.{Files, content}
-use Rattle.suite_load.specs.declared.suite_text.{SuiteText.SuiteText, SuiteRefusal.SuiteRefusal}
+use Rattle.suite_load.specs.declared.{suite_text.SuiteText.SuiteText, suite_text.SuiteRefusal.SuiteRefusal, load_fault.LoadFault.LoadFault}
 use Rattle.suite_load.specs.declared.suite_text.SuiteRefusal.TheVariants as refusals
-use Rattle.suite_load.specs.declared.load_fault.LoadFault.{LoadFault}
 use Rattle.suite_load.specs.declared.load_fault.LoadFault.TheVariants as fault
 use Rattle.suite_load.specs.declared.loaded.Loaded.{Loaded}
 use Rattle.suite_load.specs.SuiteForm.{suite_of}

@@ -3,8 +3,7 @@ use Rattle.std.proofs.Common.{◌≡◌, ℕ, zero, suc, ◌+◌, ◌-◌, ◌<�
 use Rattle.std.specs.List.{range_with_len}
 use Rattle.std.proofs.lemmas.{Bool.cases_eq, List.append-nil, List.drop_more, List.drop_all}
 use Rattle.std.proofs.{lemmas.Bool.Decides.nat_tests, lemmas.List.Sums.sum_by-cons, lemmas.List.Sums.sum_by-append}
-use Rattle.jvm_model.specs.declared.outcome.Outcome.{Outcome}
-use Rattle.jvm_model.specs.declared.program.Names.{Names}
+use Rattle.jvm_model.specs.declared.{outcome.Outcome.Outcome, program.Names.Names}
 use Rattle.jvm_model.specs.Texts.{is_passed, is_failed, is_error, head_line, count_line, verdict_line, outcome_lines, test_lines, report_on}
 use Rattle.order_law.specs.Conflicts.{Member}
 use Rattle.schedule_plan.proofs.Places.{place_of}

@@ -1,7 +1,6 @@
 -- What cones and the manifest are answered with the suite's own record.
 use Rattle.std.proofs.Common.{◌≡◌, ℕ, ◌+◌, List, [], ◌∷◌, map, Bool, true, Option, Some, None, Ok, Err, refl, sym, ap, ◌∙◌, subst, inl, inr, arith}
-use Rattle.jvm_model.specs.declared.outcome.Outcome.{Outcome}
-use Rattle.jvm_model.specs.declared.program.Program.{Program}
+use Rattle.jvm_model.specs.declared.{outcome.Outcome.Outcome, program.Program.Program}
 use Rattle.jvm_model.specs.{Linked.Linked, Suite.first_over, Suite.is_detected, Suite.last_outcome, Suite.seq}
 use Rattle.order_law.specs.declared.edges.{Edge.Edge, EdgeKind.TheVariants.Raw}
 use Rattle.order_law.specs.{Conflicts.HasEdge, Conflicts.Member, Histories.IsTestNumber, Histories.touches_of, OwnRecord.edges_of, OwnRecord.owner}
@@ -14,9 +13,8 @@ use Rattle.cone_run.specs.{ConesText.outcomes, Marks.HasWriter, Marks.IsMark}
 use Rattle.cone_run.proofs.ConeLaw.{own_cone_law}
 use Rattle.outside.specs.{Depot.Files, Sink.SinkView}
 use Rattle.suite_load.specs.declared.loaded.Loaded.{Loaded}
-use Rattle.electrictest.specs.declared.status.{Status.Status, InputFault.InputFault, OverFault.OverFault}
+use Rattle.electrictest.specs.declared.{status.Status.Status, status.InputFault.InputFault, status.OverFault.OverFault, words.Command.Command}
 use Rattle.electrictest.specs.declared.status.Status.TheVariants as ends
-use Rattle.electrictest.specs.declared.words.Command.{Command}
 use Rattle.electrictest.specs.declared.words.Command.TheVariants as command
 use Rattle.electrictest.specs.{Commands.Asked, Commands.Served, Commands.Whole, ConeRuns.IsConeReport, ConeRuns.IsOverCone, ConeRuns.OfBegun}
 use Rattle.electrictest.specs.{Loads.Begins, Loads.begun_by, Loads.fits_for, Loads.named_by, Records.Beginning, Records.record_fits}

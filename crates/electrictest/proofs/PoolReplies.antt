@@ -3,10 +3,9 @@ use Rattle.std.proofs.Common.{◌≡◌, ℕ, List, length, Bool, Some, Ok, All}
 use Rattle.outside.specs.Depot.{Told, DepotView, OfHeld}
 use Rattle.jvm_model.specs.Linked.{Linked}
 use Rattle.suite_load.specs.declared.loaded.Loaded.{Loaded}
-use Rattle.electrictest.specs.declared.status.Status.{Status}
+use Rattle.electrictest.specs.declared.{status.Status.Status, recorded.Request.Request}
 use Rattle.electrictest.specs.declared.status.Status.TheVariants as ends
 use Rattle.electrictest.specs.declared.words.Command.TheVariants as command
-use Rattle.electrictest.specs.declared.recorded.Request.{Request}
 use Rattle.electrictest.specs.{Words.Ask, Selections.IsTestOf, Records.Beginning, Records.beginning, Loads.IsSuite, Loads.begun_by}
 use Rattle.electrictest.specs.{Causes.AsksSuch, Causes.runs_tests, Commands.ReportEnds, Commands.ReportsOver, Commands.RefusedOver}
 use Rattle.electrictest.specs.PoolRuns.{IsOfSuite, IsPoolOver, IsPoolRun, PoolReports, PoolRefused}

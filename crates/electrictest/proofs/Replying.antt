@@ -1,8 +1,7 @@
 -- What is on the sink, from what was written.
 use Rattle.std.proofs.Common.{◌≡◌, ◌≢◌, ℕ, List, Bool, true, false, refl, sym, subst, inl, inr, Result, Ok, Err, IfOk, IfErr}
 use Rattle.outside.specs.{Depot.Files, Depot.Told, Depot.DepotView, Depot.OfHeld, Sink.SinkView}
-use Rattle.electrictest.specs.declared.reports.Report.{Report}
-use Rattle.electrictest.specs.declared.status.Status.{Status}
+use Rattle.electrictest.specs.declared.{reports.Report.Report, status.Status.Status}
 use Rattle.electrictest.specs.declared.status.Status.TheVariants as ends
 use Rattle.electrictest.specs.{Words.Ask, Causes.MayReport}
 use Rattle.electrictest.specs.Replies.{fault_line, Unreported, IsAnswer}

@@ -2,8 +2,7 @@
 use Rattle.std.proofs.Common.{◌≡◌, ℕ, suc, ◌+◌, ◌^◌, ◌<◌, ◌≤◌, List, [], ◌∷◌, ◌++◌, length, get_or, take, sym, ap, ◌∙◌, refl, subst, arith, codes, Option, None}
 use Rattle.std.proofs.lemmas.List.{take_more, append_assoc, length-append, length-map, length-take-le}
 use Rattle.std.specs.List.{list_all}
-use Rattle.jvm_model.specs.declared.outcome.Outcome.{Outcome}
-use Rattle.jvm_model.specs.declared.program.Names.{Names}
+use Rattle.jvm_model.specs.declared.{outcome.Outcome.Outcome, program.Names.Names}
 use Rattle.jvm_model.specs.Texts.{is_passed, head_line, count_line, report_on}
 use Rattle.order_law.specs.Plan.{Event}
 use Rattle.run_core.specs.Run.{Gave}

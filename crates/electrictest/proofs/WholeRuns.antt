@@ -3,8 +3,7 @@ use Rattle.std.proofs.Common.{◌≡◌, ℕ, ◌+◌, ◌≤◌, List, [], ◌�
 use Rattle.std.proofs.lemmas.List.{length-map}
 use Rattle.std.proofs.lemmas.List.FromFn.{length-range_with_len}
 use Rattle.std.specs.Prelude.{option_map}
-use Rattle.jvm_model.specs.declared.outcome.Outcome.{Outcome}
-use Rattle.jvm_model.specs.declared.values.Touch.{Touch}
+use Rattle.jvm_model.specs.declared.{outcome.Outcome.Outcome, values.Touch.Touch}
 use Rattle.jvm_model.specs.World.{World}
 use Rattle.jvm_model.specs.Suite.{Given, over_budget, over_suite, suite_fault, runs, runs_on, all_tests, opening, units_of}
 use Rattle.vm_mem.specs.Trace.{Trace}

@@ -3,9 +3,8 @@ use Rattle.std.specs.Prelude.{◌≡◌, ◌≤◌, ℕ, ◌-◌, length, List, 
 use Rattle.jvm_model.specs.Builtin.{builtin_count}
 use Rattle.outside.specs.Depot.{Files}
 use Rattle.dep_record.specs.RecordText.{Said}
-use Rattle.suite_load.specs.declared.load_fault.LoadFault.{LoadFault}
+use Rattle.suite_load.specs.declared.{load_fault.LoadFault.LoadFault, loaded.Loaded.Loaded}
 use Rattle.suite_load.specs.declared.load_fault.LoadFault.TheVariants as fault
-use Rattle.suite_load.specs.declared.loaded.Loaded.{Loaded}
 use Rattle.suite_load.specs.Loading.{Loads, IsRead}
 use Rattle.quiet_init.specs.Quiet.{quiet}
 use Rattle.electrictest.specs.declared.status.{Status.Status, InputFault.InputFault}

@@ -1,17 +1,14 @@
 -- Cones and the manifest with the suite's own record (this project's).
 use Rattle.std.specs.Prelude.{◌≡◌, ◌⊎◌, ℕ, ◌+◌, List, [], map, Bool, Some, Ok}
-use Rattle.jvm_model.specs.declared.outcome.Outcome.{Outcome}
-use Rattle.jvm_model.specs.declared.program.Program.{Program}
+use Rattle.jvm_model.specs.declared.{outcome.Outcome.Outcome, program.Program.Program}
 use Rattle.jvm_model.specs.Suite.{last_outcome, seq}
-use Rattle.order_law.specs.declared.edges.Edge.{Edge}
-use Rattle.order_law.specs.declared.records.Record.{Record}
+use Rattle.order_law.specs.declared.{edges.Edge.Edge, records.Record.Record}
 use Rattle.order_law.specs.{Conflicts.Member, OwnRecord.edges_of}
 use Rattle.cone_run.specs.declared.marks.Mark.{Mark}
 use Rattle.cone_run.specs.{Cones.IsCone, ConesText.outcomes, Marks.IsEffect, Marks.without}
 use Rattle.outside.specs.{Depot.Files, Sink.SinkView}
 use Rattle.suite_load.specs.declared.loaded.Loaded.{Loaded}
-use Rattle.electrictest.specs.declared.status.Status.{Status}
-use Rattle.electrictest.specs.declared.words.Command.{Command}
+use Rattle.electrictest.specs.declared.{status.Status.Status, words.Command.Command}
 use Rattle.electrictest.specs.declared.words.Command.TheVariants as command
 use Rattle.electrictest.specs.{Commands.Asked, Commands.Whole, ConeRuns.IsConeReport, Loads.named_by, Manifests.IsManifest, Records.Beginning, Words.Ask}
 use Rattle.electrictest.specs.OwnRecords.{AsksOwnRecord, HoldsSaying, HoldsText, OwnEndsBy}

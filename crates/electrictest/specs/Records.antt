@@ -10,8 +10,7 @@ use Rattle.outside.specs.declared.depot.DepotRefusal.TheVariants as refused
 use Rattle.order_law.specs.declared.records.{More.More, Record.Record}
 use Rattle.dep_record.specs.{RecordText.Said, RecordText.said, RecordReading.said_in}
 use Rattle.suite_load.specs.declared.loaded.Loaded.{Loaded}
-use Rattle.electrictest.specs.declared.recorded.Request.{Request}
-use Rattle.electrictest.specs.declared.status.{Status.Status, InputFault.InputFault}
+use Rattle.electrictest.specs.declared.{recorded.Request.Request, status.Status.Status, status.InputFault.InputFault}
 use Rattle.electrictest.specs.declared.status.Status.TheVariants as ends
 use Rattle.electrictest.specs.declared.status.InputFault.TheVariants as input
 

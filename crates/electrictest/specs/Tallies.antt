@@ -1,7 +1,6 @@
 -- Reports on tests by their lines and how many ended with each verdict.
 use Rattle.std.specs.Prelude.{◌≡◌, ℕ, ◌++◌, List, ◌∷◌, length, codes, Option}
-use Rattle.jvm_model.specs.declared.outcome.Outcome.{Outcome}
-use Rattle.jvm_model.specs.declared.program.Names.{Names}
+use Rattle.jvm_model.specs.declared.{outcome.Outcome.Outcome, program.Names.Names}
 use Rattle.jvm_model.specs.Texts.{head_line, count_line}
 use Rattle.order_law.specs.Plan.{Event}
 use Rattle.test_run.specs.declared.tallies.{Counts.Counts, Tally.Tally}

@@ -1,7 +1,6 @@
 -- The names and units of tests.
 use Rattle.std.specs.Prelude.{ℕ, ◌+◌, ◌-◌, List, [], ◌∷◌, get_or}
-use Rattle.jvm_model.specs.declared.outcome.Outcome.{Outcome}
-use Rattle.jvm_model.specs.declared.program.Names.{Names}
+use Rattle.jvm_model.specs.declared.{outcome.Outcome.Outcome, program.Names.Names}
 
 -- the name of a test
 abbrev pub test_name : Names → ℕ → List ℕ

@@ -1,8 +1,7 @@
 -- What a run of the whole suite gives (this project's).
 use Rattle.std.specs.Prelude.{◌≡◌, ℕ, ◌+◌, List, [], ◌∷◌, length, map, Bool, Option, Some, None, option_map, Ok}
 use Rattle.std.specs.List.{list_all}
-use Rattle.jvm_model.specs.declared.outcome.Outcome.{Outcome}
-use Rattle.jvm_model.specs.declared.program.{Names.Names, Program.Program}
+use Rattle.jvm_model.specs.declared.{outcome.Outcome.Outcome, program.Names.Names, program.Program.Program}
 use Rattle.jvm_model.specs.Suite.{SuiteFault, over_budget, over_suite, runs, all_tests, suite_fault}
 use Rattle.jvm_model.specs.Texts.{is_passed, report_on}
 use Rattle.outside.specs.Depot.{Files}

@@ -3,10 +3,9 @@ use Rattle.std.specs.Prelude.{◌≡◌, ℕ, ◌<◌, ◌≤◌, ◌==◌, List
 use Rattle.std.specs.Str.{bytes_eq}
 use Rattle.suite_load.specs.NameForms.{is_depot_name}
 use Rattle.dep_record.specs.Fields.{number_up_to}
-use Rattle.electrictest.specs.declared.status.Status.{Status}
+use Rattle.electrictest.specs.declared.{status.Status.Status, words.Command.Command, words.WordsFault.WordsFault}
 use Rattle.electrictest.specs.declared.status.Status.TheVariants as ends
 use Rattle.electrictest.specs.declared.status.InputFault.TheVariants as input
-use Rattle.electrictest.specs.declared.words.{Command.Command, WordsFault.WordsFault}
 use Rattle.electrictest.specs.declared.words.Command.TheVariants as command
 use Rattle.electrictest.specs.declared.words.WordsFault.TheVariants as fault
 

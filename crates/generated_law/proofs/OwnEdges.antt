@@ -4,8 +4,7 @@ use Rattle.std.specs.List.{range_with_len}
 use Rattle.std.proofs.lemmas.List.Sums.{sum_by-append}
 use Rattle.std.proofs.lemmas.Bool.{and_from, lt-ltb, le-ltb, eqb-true, eq-eqb, ne_eqb, both_ways}
 use Rattle.et_base.proofs.Cases.{by_test}
-use Rattle.jvm_model.specs.declared.values.{Touch.Touch, Location.Location}
-use Rattle.jvm_model.specs.declared.program.Program.{Program}
+use Rattle.jvm_model.specs.declared.{values.Touch.Touch, values.Location.Location, program.Program.Program}
 use Rattle.jvm_model.specs.World.{same}
 use Rattle.jvm_model.proofs.Locations.{same_refl}
 use Rattle.order_law.specs.declared.edges.{Edge.Edge, EdgeKind.EdgeKind, EdgeKind.TheVariants.Raw, EdgeKind.TheVariants.Waw, EdgeKind.TheVariants.War}

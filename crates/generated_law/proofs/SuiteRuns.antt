@@ -7,10 +7,9 @@ use Rattle.std.proofs.lemmas.{Fmt.length-decimal-le, List.length-append}
 use Rattle.std.proofs.lemmas.List.FromFn.{length-map-range_with_len, get_or-map-range_with_len}
 use Rattle.et_base.proofs.Cases.{by_test}
 use Rattle.jvm_model.specs.declared.values.Value.TheVariants as value
-use Rattle.jvm_model.specs.declared.values.Touch.{Touch}
+use Rattle.jvm_model.specs.declared.{values.Touch.Touch, outcome.Outcome.Outcome, outcome.Verdict.TheVariants.Passed}
 use Rattle.jvm_model.specs.declared.values.Location.TheVariants as place
 use Rattle.jvm_model.specs.declared.library.Native.TheVariants as native
-use Rattle.jvm_model.specs.declared.outcome.{Outcome.Outcome, Verdict.TheVariants.Passed}
 use Rattle.jvm_model.specs.declared.program.{Program.Program, ClassRec.ClassRec, FieldRec.FieldRec, MethodRec.MethodRec, TestEntry.TestEntry}
 use Rattle.jvm_model.specs.{Library.builtin_defs, Library.builtin_classes, Library.builtin_methods, World.World, World.at, World.put, Access.Ran, Access.run}
 use Rattle.jvm_model.specs.Classes.{no_class, no_method, class_at, method_at, is_interface, is_static, class_bound, upwards, lineage_in, first_mentions, own_interfaces, is_default_method, default_interfaces, declares_start, is_trivial}

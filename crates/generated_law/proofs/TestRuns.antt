@@ -4,13 +4,11 @@ use Rattle.std.specs.Prelude.{codes}
 use Rattle.std.specs.Int.{w32}
 use Rattle.std.proofs.lemmas.Int.{int_wrap_fits}
 use Rattle.et_base.specs.Numbers.{add32}
-use Rattle.jvm_model.specs.declared.values.Value.{Value}
+use Rattle.jvm_model.specs.declared.{values.Value.Value, instr.Instr.Instr, outcome.Own.Own, outcome.Verdict.TheVariants.Passed}
 use Rattle.jvm_model.specs.declared.values.Value.TheVariants as value
 use Rattle.jvm_model.specs.declared.values.Location.TheVariants as place
-use Rattle.jvm_model.specs.declared.instr.Instr.{Instr}
 use Rattle.jvm_model.specs.declared.instr.Instr.TheVariants as form
 use Rattle.jvm_model.specs.declared.instr.Op.TheVariants as op
-use Rattle.jvm_model.specs.declared.outcome.{Own.Own, Verdict.TheVariants.Passed}
 use Rattle.jvm_model.specs.declared.program.{Program.Program, Body.Body, Placed.Placed}
 use Rattle.jvm_model.specs.{World.World, World.at, World.put, World.has, State.State, State.Turn, State.test_at, State.started, Step.step}
 use Rattle.jvm_model.specs.Access.{Access, Ran, done, write, spend, bind, run, read_of, write_of}

@@ -3,16 +3,13 @@ use Rattle.std.proofs.Common.{◌≡◌, ℕ, ◌+◌, true, false, cond, ℤ, L
 use Rattle.std.specs.Prelude.{codes}
 use Rattle.std.specs.Fmt.{signed_decimal}
 use Rattle.et_base.specs.Numbers.{add32}
-use Rattle.jvm_model.specs.declared.values.Value.{Value}
+use Rattle.jvm_model.specs.declared.{values.Value.Value, instr.Instr.Instr, outcome.Own.Own, outcome.Verdict.TheVariants.Passed}
 use Rattle.jvm_model.specs.declared.values.Value.TheVariants as value
 use Rattle.jvm_model.specs.declared.values.Location.TheVariants as place
-use Rattle.jvm_model.specs.declared.instr.Instr.{Instr}
 use Rattle.jvm_model.specs.declared.instr.Instr.TheVariants as form
 use Rattle.jvm_model.specs.declared.instr.Op.TheVariants as op
 use Rattle.jvm_model.specs.declared.library.Native.TheVariants as native
-use Rattle.jvm_model.specs.declared.outcome.{Own.Own, Verdict.TheVariants.Passed}
-use Rattle.jvm_model.specs.declared.state.{EntryKind.TheVariants.InMethod, Stage.TheVariants.Last}
-use Rattle.jvm_model.specs.declared.program.{Program.Program, Placed.Placed}
+use Rattle.jvm_model.specs.declared.{state.EntryKind.TheVariants.InMethod, state.Stage.TheVariants.Last, program.Program.Program, program.Placed.Placed}
 use Rattle.jvm_model.specs.Access.{Access, done, read, write, spend, bind}
 use Rattle.jvm_model.specs.Classes.{field_at, method_at, form_at, next_place, is_static, is_trivial}
 use Rattle.jvm_model.specs.{Descriptors.parameters, Entries.Entries, Entries.no_entries, Narrow.narrow, Narrow.narrowed, Natives.row_native}

@@ -4,15 +4,13 @@ use Rattle.std.specs.List.{range_with_len}
 use Rattle.outside.specs.Depot.{Files}
 use Rattle.class_write.specs.Spelling.{class_spelling}
 use Rattle.jvm_model.specs.declared.values.Value.TheVariants as value
-use Rattle.jvm_model.specs.declared.instr.Instr.{Instr}
+use Rattle.jvm_model.specs.declared.{instr.Instr.Instr, program.TestEntry.TestEntry}
 use Rattle.jvm_model.specs.declared.instr.Instr.TheVariants as form
 use Rattle.jvm_model.specs.declared.instr.Op.TheVariants as op
 use Rattle.jvm_model.specs.declared.program.{Program.Program, ClassRec.ClassRec, FieldRec.FieldRec, MethodRec.MethodRec, Body.Body, Placed.Placed}
-use Rattle.jvm_model.specs.declared.program.TestEntry.{TestEntry}
 use Rattle.jvm_model.specs.Library.{builtin_classes, builtin_fields, builtin_methods}
 use Rattle.suite_gen.specs.Generated.{suite_text, group_of, group_count, generated_class}
-use Rattle.suite_load.specs.declared.suite_text.{SuiteText.SuiteText, TestLine.TestLine}
-use Rattle.suite_load.specs.declared.loaded.Loaded.{Loaded}
+use Rattle.suite_load.specs.declared.{suite_text.SuiteText.SuiteText, suite_text.TestLine.TestLine, loaded.Loaded.Loaded}
 use Rattle.suite_load.specs.Loading.{sums_in, loaded_of}
 
 -- ---- the files

@@ -4,9 +4,8 @@ use Rattle.std.specs.List.{list_any, list_all}
 use Rattle.std.proofs.lemmas.Bool.{and_parts, or_left, or_right, eqb-true, not-true}
 use Rattle.std.proofs.Math.ListN.{get_or-map}
 use Rattle.et_base.proofs.Cases.{implied}
-use Rattle.jvm_model.specs.declared.values.{Value.Value, Value.TheVariants.Lit, Location.Location}
+use Rattle.jvm_model.specs.declared.{values.Value.Value, values.Value.TheVariants.Lit, values.Location.Location, instr.Instr.Instr}
 use Rattle.jvm_model.specs.declared.values.Location.TheVariants as place
-use Rattle.jvm_model.specs.declared.instr.Instr.{Instr}
 use Rattle.jvm_model.specs.declared.instr.Instr.TheVariants as form
 use Rattle.jvm_model.specs.declared.program.{Program.Program, ClassRec.ClassRec, FieldRec.FieldRec, MethodRec.MethodRec, Body.Body, Placed.Placed}
 use Rattle.jvm_model.specs.{World.World, World.at, World.same, Library.builtin_classes, Library.builtin_fields, Library.builtin_defs}

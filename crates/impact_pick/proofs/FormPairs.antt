@@ -2,8 +2,7 @@
 use Rattle.std.proofs.Common.{◌≡◌, ℕ, suc, ◌≤◌, pos, ◌-ℤ◌, Bool, true, false, eqb, leb, ◌&&◌, ◌||◌, Option, refl, arith, cond}
 use Rattle.std.proofs.lemmas.Bool.{leb-true, leb-false}
 use Rattle.code_decode.specs.declared.instructions.RawOp.{RawOp}
-use Rattle.jvm_model.specs.declared.values.Value.TheVariants.{Int, Long, Null}
-use Rattle.jvm_model.specs.declared.instr.Instr.{Instr}
+use Rattle.jvm_model.specs.declared.{values.Value.TheVariants.Int, values.Value.TheVariants.Long, values.Value.TheVariants.Null, instr.Instr.Instr}
 use Rattle.jvm_model.specs.declared.instr.Instr.TheVariants as form
 use Rattle.code_forms.specs.declared.references.Target.{Target}
 use Rattle.code_forms.specs.Operands.{operand, number_in}

@@ -8,8 +8,7 @@ use Rattle.class_reader.specs.ClassGrammar as grammar
 use Rattle.jvm_model.specs.declared.program.{Program.Program, ClassRec.ClassRec, TestEntry.TestEntry, Body.Body}
 use Rattle.jvm_model.specs.{Builtin.builtin_count, Classes.class_at, Classes.member, State.test_at, State.no_test, Suite.is_detected}
 use Rattle.jvm_model.specs.Linked.{Linked, IsDistinct, IsClass}
-use Rattle.class_link.specs.declared.fault.LinkFault.{LinkFault}
-use Rattle.class_link.specs.declared.lines.TestLines.{TestLines}
+use Rattle.class_link.specs.declared.{fault.LinkFault.LinkFault, lines.TestLines.TestLines}
 use Rattle.class_link.specs.{ClassNames.all_names, Bodies.linked_body}
 use Rattle.class_link.specs.Assembly.{mentions, given_classes, assembled, skeleton, bare_body}
 use Rattle.class_link.specs.Faults.{first_some, duplicate_fault, supertypes_fault, all_references_fault}

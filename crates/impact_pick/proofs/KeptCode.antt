@@ -7,8 +7,7 @@ use Rattle.class_pool.specs.declared.pool.Entry.TheVariants as entry
 use Rattle.class_pool.specs.Pool.{entry_of}
 use Rattle.code_decode.specs.declared.instructions.RawOp.{RawOp}
 use Rattle.class_reader.specs.declared.parts.{ClassParts.ClassParts, CodePart.CodePart, RawHandler.RawHandler}
-use Rattle.jvm_model.specs.declared.values.{Kind.Kind, Value.TheVariants.Lit, Value.TheVariants.Obj}
-use Rattle.jvm_model.specs.declared.instr.Instr.{Instr}
+use Rattle.jvm_model.specs.declared.{values.Kind.Kind, values.Value.TheVariants.Lit, values.Value.TheVariants.Obj, instr.Instr.Instr}
 use Rattle.jvm_model.specs.declared.instr.Instr.TheVariants as form
 use Rattle.jvm_model.specs.{Builtin.builtin_count, Linked.IsDistinct, Selection.named_class}
 use Rattle.jvm_model.specs.Lookup.{find_field, find_method, lacks_method}

@@ -5,10 +5,8 @@ use Rattle.std.proofs.lemmas.{Bool.cond_both, List.length_push}
 use Rattle.class_reader.specs.declared.parts.ClassParts.{ClassParts}
 use Rattle.jvm_model.specs.declared.program.TestEntry.{TestEntry}
 use Rattle.jvm_model.specs.Linked.{IsDistinct, test_method}
-use Rattle.class_link.specs.declared.fault.LinkFault.{LinkFault}
+use Rattle.class_link.specs.declared.{fault.LinkFault.LinkFault, lines.TestLine.TestLine, link_environment.LinkEnvironment.LinkEnvironment}
 use Rattle.class_link.specs.declared.fault.LinkFault.TheVariants as fault
-use Rattle.class_link.specs.declared.lines.TestLine.{TestLine}
-use Rattle.class_link.specs.declared.link_environment.LinkEnvironment.{LinkEnvironment}
 use Rattle.class_link.specs.{ClassNames.all_names, ClassNames.class_number, Assembly.skeleton, Link.setting, Link.tests_of}
 use Rattle.class_link.specs.Faults.{holds_tests, is_test_method, entry_with, test_in, test_entry}
 use Rattle.class_link.proofs.Blocks.{left_place, right_place}

@@ -9,8 +9,7 @@ use Rattle.class_pool.specs.declared.pool.Entry.{Entry}
 use Rattle.class_pool.specs.declared.pool.Entry.TheVariants as entry
 use Rattle.class_pool.specs.Pool.{entry_of, class_name_of}
 use Rattle.class_pool.proofs.EntryFacts.{NamesClass}
-use Rattle.code_decode.specs.declared.instructions.RawOp.{RawOp}
-use Rattle.code_decode.specs.declared.opcodes.{Shape.Shape, Named.Named}
+use Rattle.code_decode.specs.declared.{instructions.RawOp.RawOp, opcodes.Shape.Shape, opcodes.Named.Named}
 use Rattle.code_decode.specs.declared.opcodes.Shape.TheVariants as shape
 use Rattle.code_decode.specs.declared.opcodes.Named.TheVariants as named
 use Rattle.code_decode.specs.declared.judging.Fit.TheVariants as fit

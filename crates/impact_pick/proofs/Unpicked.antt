@@ -6,8 +6,7 @@ use Rattle.std.proofs.lemmas.Bool.{cases_Bool, cases_lt, and_parts, and_from, or
 use Rattle.std.proofs.{lemmas.Map.Keys.any_passes_from_place, Math.ListN.get_or-map}
 use Rattle.std.proofs.lemmas.Option.{slice_get-get_or}
 use Rattle.et_base.specs.Quotes.{name_of}
-use Rattle.jvm_model.specs.declared.outcome.{Cause.Cause, Outcome.Outcome, Verdict.Verdict}
-use Rattle.jvm_model.specs.declared.program.{ClassRec.ClassRec, Program.Program}
+use Rattle.jvm_model.specs.declared.{outcome.Cause.Cause, outcome.Outcome.Outcome, outcome.Verdict.Verdict, program.ClassRec.ClassRec, program.Program.Program}
 use Rattle.jvm_model.specs.{Builtin.builtin_count, Classes.class_at, Classes.no_class, State.test_at, State.no_test}
 use Rattle.jvm_model.specs.Linked.{Linked, IsGiven, IsTest}
 use Rattle.jvm_model.specs.Texts.{cause_text, message_text, verdict_text, out_line, outcome_lines}

@@ -1,7 +1,6 @@
 -- Tests that do in one program what they do in another (this project's).
 use Rattle.std.specs.Prelude.{◌≡◌, ◌⊎◌, ℕ, ◌<◌, length, true, false, Some}
-use Rattle.jvm_model.specs.declared.outcome.Outcome.{Outcome}
-use Rattle.jvm_model.specs.declared.program.{Program.Program, TestEntry.TestEntry}
+use Rattle.jvm_model.specs.declared.{outcome.Outcome.Outcome, program.Program.Program, program.TestEntry.TestEntry}
 use Rattle.jvm_model.specs.{Linked.Linked, State.test_at, Suite.seq, Suite.is_detected}
 use Rattle.order_law.specs.{Histories.IsTestNumber, Matched.Matched, Matched.PairedTest, Numbers.Numbers, Outcomes.PairedOutcome}
 use Rattle.order_law.specs.Reach.{is_settled, puts_out_somewhere}

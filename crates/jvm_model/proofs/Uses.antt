@@ -1,8 +1,6 @@
 -- A row that uses a class, by how the use went.
 use Rattle.std.proofs.Common.{◌≡◌, ℕ, List, Bool, true, false, ap, ◌∙◌}
-use Rattle.jvm_model.specs.declared.values.Touch.{Touch}
-use Rattle.jvm_model.specs.declared.outcome.Next.TheVariants.{Go, Fault}
-use Rattle.jvm_model.specs.declared.program.Program.{Program}
+use Rattle.jvm_model.specs.declared.{values.Touch.Touch, outcome.Next.TheVariants.Go, outcome.Next.TheVariants.Fault, program.Program.Program}
 use Rattle.jvm_model.specs.{World.World, Access.Access, Access.spend, Entries.Entries}
 use Rattle.jvm_model.specs.Rows.{Answer, answer, ready, begun, refused, begin, once, using}
 use Rattle.jvm_model.specs.View.{ended, counted, and_then, touched, IsSafe, IsRow, paid}

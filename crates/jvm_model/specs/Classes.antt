@@ -4,9 +4,8 @@ use Rattle.std.specs.{List.list_any, List.list_all, Str.bytes_eq}
 use Rattle.jvm_model.specs.declared.values.{Value.Value, Value.TheVariants.Int, Value.TheVariants.Long, Value.TheVariants.Null, Kind.Kind, Base.Base}
 use Rattle.jvm_model.specs.declared.values.Kind.TheVariants as kind
 use Rattle.jvm_model.specs.declared.values.Base.TheVariants as base
-use Rattle.jvm_model.specs.declared.values.Head.{Head}
+use Rattle.jvm_model.specs.declared.{values.Head.Head, instr.Instr.Instr}
 use Rattle.jvm_model.specs.declared.program.{Program.Program, ClassRec.ClassRec, FieldRec.FieldRec, MethodRec.MethodRec, Body.Body, Placed.Placed}
-use Rattle.jvm_model.specs.declared.instr.Instr.{Instr}
 use Rattle.jvm_model.specs.World.{Object}
 
 -- what stands at a number that a program lacks

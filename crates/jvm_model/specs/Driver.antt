@@ -4,8 +4,7 @@ use Rattle.jvm_model.specs.declared.values.Value.{Value}
 use Rattle.jvm_model.specs.declared.values.Value.TheVariants.{Int, Long, Null, Lit, Obj}
 use Rattle.jvm_model.specs.declared.values.Location.TheVariants as place
 use Rattle.jvm_model.specs.declared.outcome.Verdict.TheVariants.{Passed, Failed, Error}
-use Rattle.jvm_model.specs.declared.program.{Body.Body, Program.Program}
-use Rattle.jvm_model.specs.declared.state.Stage.{Stage}
+use Rattle.jvm_model.specs.declared.{program.Body.Body, program.Program.Program, state.Stage.Stage}
 use Rattle.jvm_model.specs.declared.state.Stage.TheVariants.{First, Made, Built, SetUp, Called, Last}
 use Rattle.std.specs.Str.{bytes_eq}
 use Rattle.jvm_model.specs.Access.{Access, done, read, make, spend, bind}

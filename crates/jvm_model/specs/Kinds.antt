@@ -1,9 +1,8 @@
 -- What objects are instances of (JVMS 6.5, instanceof and aastore). At run time an array implements no interface.
 use Rattle.std.specs.Prelude.{ℕ, ◌-◌, Bool, true, false, cond, ◌&&◌, ◌||◌, nat_eq, nat_lt}
-use Rattle.jvm_model.specs.declared.values.{Base.Base, Kind.Kind}
+use Rattle.jvm_model.specs.declared.{values.Base.Base, values.Kind.Kind, program.Program.Program}
 use Rattle.jvm_model.specs.declared.values.Base.TheVariants as base
 use Rattle.jvm_model.specs.declared.values.Kind.TheVariants as kind
-use Rattle.jvm_model.specs.declared.program.Program.{Program}
 use Rattle.jvm_model.specs.{Builtin.object_class, Classes.is_below, Classes.implements}
 
 -- the class of an object; an array is of class Object

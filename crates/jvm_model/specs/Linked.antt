@@ -1,11 +1,10 @@
 -- What a linked program is: each rule that loading keeps, by name.
 use Rattle.std.specs.Prelude.{◌≡◌, ◌⊎◌, ℕ, ℤ, pos, negsuc, suc, int_le, int_lt, ◌+◌, ◌<◌, ◌≤◌, ◌<ℤ◌, ◌≤ℤ◌, ◌+ℤ◌, ◌^◌, List, [], ◌∷◌, ◌++◌, length, take, get_or, All, Bool, true, false, ◌&&◌, ◌||◌, cond, nat_eq, nat_le, Option, Some, None, codes, IfSome, IsSome}
 use Rattle.std.specs.{List.list_all, List.list_any, Str.bytes_eq}
-use Rattle.jvm_model.specs.declared.values.{Value.Value, Base.Base, Kind.Kind}
+use Rattle.jvm_model.specs.declared.{values.Value.Value, values.Base.Base, values.Kind.Kind, instr.Instr.Instr}
 use Rattle.jvm_model.specs.declared.values.Value.TheVariants.{Int, Long, Null, Lit, Obj}
 use Rattle.jvm_model.specs.declared.values.Base.TheVariants as base
 use Rattle.jvm_model.specs.declared.values.Kind.TheVariants as kind
-use Rattle.jvm_model.specs.declared.instr.Instr.{Instr}
 use Rattle.jvm_model.specs.declared.instr.Instr.TheVariants as form
 use Rattle.jvm_model.specs.declared.program.{Program.Program, ClassRec.ClassRec, Body.Body, Placed.Placed, Handler.Handler, TestEntry.TestEntry}
 use Rattle.jvm_model.specs.Library.{builtin_classes, builtin_fields, builtin_methods}

@@ -1,7 +1,6 @@
 -- The built-in methods by group: each runs in the step that calls it.
-use Rattle.jvm_model.specs.declared.library.Native.{Native}
+use Rattle.jvm_model.specs.declared.{library.Native.Native, program.Program.Program}
 use Rattle.jvm_model.specs.declared.library.Native.TheVariants as native
-use Rattle.jvm_model.specs.declared.program.Program.{Program}
 use Rattle.jvm_model.specs.{Access.Access, Rows.Answer, Working.Working, NativesObject.native_object, NativesObject.native_throwable}
 use Rattle.jvm_model.specs.NativesString.{native_string, native_builder}
 use Rattle.jvm_model.specs.NativesOutside.{native_system, native_print, native_files, native_env}

@@ -1,12 +1,10 @@
 -- The built-in methods of Object and of the throwables.
 use Rattle.std.specs.Prelude.{ℕ, pos, List, [], ◌∷◌, length, ◌+◌, cond, nat_eq, codes}
 use Rattle.std.specs.Fmt.{signed_decimal}
-use Rattle.jvm_model.specs.declared.values.Value.{Value}
+use Rattle.jvm_model.specs.declared.{values.Value.Value, library.Native.Native, program.Program.Program}
 use Rattle.jvm_model.specs.declared.values.Value.TheVariants.{Int, Long, Null, Lit, Obj}
 use Rattle.jvm_model.specs.declared.values.Location.TheVariants as place
-use Rattle.jvm_model.specs.declared.library.Native.{Native}
 use Rattle.jvm_model.specs.declared.library.Native.TheVariants as native
-use Rattle.jvm_model.specs.declared.program.Program.{Program}
 use Rattle.jvm_model.specs.Access.{Access, read, write, spend}
 use Rattle.jvm_model.specs.{Builtin.message_field, Builtin.string_class, Kinds.class_of, RowsBranches.same_reference}
 use Rattle.jvm_model.specs.Rows.{Answer, none_here, popping, on_int, on_long, on_object, with_kind}

@@ -2,12 +2,10 @@
 use Rattle.std.specs.Prelude.{ℕ, pos, List, [], ◌∷◌, ◌++◌, length, ◌+◌, ◌*◌, ◌/◌, ◌%◌, ◌^◌, is_some, codes, Option, Some, None}
 use Rattle.std.specs.{Int.w32, Int.cast_signed, Fmt.signed_decimal}
 use Rattle.et_base.specs.{Numbers.add64, Quotes.utf8_of}
-use Rattle.jvm_model.specs.declared.values.Value.{Value}
+use Rattle.jvm_model.specs.declared.{values.Value.Value, library.Native.Native, program.Program.Program}
 use Rattle.jvm_model.specs.declared.values.Value.TheVariants.{Int, Long, Null, Lit, Obj}
 use Rattle.jvm_model.specs.declared.values.Location.TheVariants as place
-use Rattle.jvm_model.specs.declared.library.Native.{Native}
 use Rattle.jvm_model.specs.declared.library.Native.TheVariants as native
-use Rattle.jvm_model.specs.declared.program.Program.{Program}
 use Rattle.jvm_model.specs.{World.text_or_empty, Access.Access, Access.read, Access.write, Access.spend}
 use Rattle.jvm_model.specs.Rows.{Answer, none_here, popping, on_int, on_long, on_reference, on_text}
 use Rattle.jvm_model.specs.Working.{Working, operands, with_operands, answers, makes_text, answers_found, prints, char_of, boolean_text, truth}

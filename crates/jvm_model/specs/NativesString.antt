@@ -2,12 +2,10 @@
 use Rattle.std.specs.Prelude.{ℕ, ℤ, pos, negsuc, List, [], ◌∷◌, ◌++◌, length, get_or, take, drop, ◌+◌, ◌-◌, ◌*◌, false, ◌&&◌, cond, nat_eq, nat_lt, nat_le, codes}
 use Rattle.std.specs.{Int.w32, Int.int_wrap, Fmt.signed_decimal, Str.bytes_eq}
 use Rattle.et_base.specs.Numbers.{l2i}
-use Rattle.jvm_model.specs.declared.values.Value.{Value}
+use Rattle.jvm_model.specs.declared.{values.Value.Value, library.Native.Native, program.Program.Program}
 use Rattle.jvm_model.specs.declared.values.Value.TheVariants.{Int, Long, Null, Lit, Obj}
 use Rattle.jvm_model.specs.declared.values.Location.TheVariants as place
-use Rattle.jvm_model.specs.declared.library.Native.{Native}
 use Rattle.jvm_model.specs.declared.library.Native.TheVariants as native
-use Rattle.jvm_model.specs.declared.program.Program.{Program}
 use Rattle.jvm_model.specs.Access.{Access, read, write, spend}
 use Rattle.jvm_model.specs.{Builtin.string_class, Builtin.string_index_exception, Kinds.class_of}
 use Rattle.jvm_model.specs.Rows.{Answer, none_here, faults, popping, on_int, on_long, on_object, on_reference, on_text, with_kind}

@@ -1,9 +1,7 @@
 -- Raising a throwable: one step for each entry that is looked at (JVMS 2.10).
 use Rattle.std.specs.Prelude.{ℕ, List, [], ◌∷◌, Bool, true, cond, ◌&&◌, nat_le, nat_lt, Option, Some, None}
-use Rattle.jvm_model.specs.declared.values.Value.{Value}
+use Rattle.jvm_model.specs.declared.{values.Value.Value, outcome.Next.TheVariants.Raise, program.Body.Body, program.Handler.Handler, program.Program.Program}
 use Rattle.jvm_model.specs.declared.values.Location.TheVariants as place
-use Rattle.jvm_model.specs.declared.outcome.Next.TheVariants.{Raise}
-use Rattle.jvm_model.specs.declared.program.{Body.Body, Handler.Handler, Program.Program}
 use Rattle.jvm_model.specs.{Access.Access, Access.done, Access.read, Rows.Answer, Rows.answer, Rows.on_object, Rows.goes_to}
 use Rattle.jvm_model.specs.{Classes.method_at, Classes.is_below, Entries.Entries, Entries.popped_entry, Kinds.class_of}
 

@@ -1,7 +1,6 @@
 -- The states that the steps of a test come to, and what a step throws by itself.
 use Rattle.std.specs.Prelude.{◌≡◌, ℕ, nat_eq, Bool, false, cond, Option, Some, None}
-use Rattle.jvm_model.specs.declared.values.{Value.Value, Value.TheVariants.Obj}
-use Rattle.jvm_model.specs.declared.program.Program.{Program}
+use Rattle.jvm_model.specs.declared.{values.Value.Value, values.Value.TheVariants.Obj, program.Program.Program}
 use Rattle.jvm_model.specs.World.{World, size, object_at}
 use Rattle.jvm_model.specs.{Access.run, Builtin.stack_overflow_error, Kinds.class_of, Step.step, Step.turn}
 use Rattle.jvm_model.specs.State.{State, Turn, next, ended, stuck_turn, started}

@@ -4,13 +4,11 @@ use Rattle.jvm_model.specs.declared.values.{Value.Value, InitState.InitState}
 use Rattle.jvm_model.specs.declared.values.Value.TheVariants.{Int, Long, Null, Lit, Obj}
 use Rattle.jvm_model.specs.declared.values.InitState.TheVariants.{Idle, Running, Done, Erroneous}
 use Rattle.jvm_model.specs.declared.values.Location.TheVariants as place
-use Rattle.jvm_model.specs.declared.outcome.{Next.Next, Next.TheVariants.Go, Next.TheVariants.Fault}
-use Rattle.jvm_model.specs.declared.program.Program.{Program}
+use Rattle.jvm_model.specs.declared.{outcome.Next.Next, outcome.Next.TheVariants.Go, outcome.Next.TheVariants.Fault, program.Program.Program, values.Kind.Kind}
 use Rattle.jvm_model.specs.Access.{Access, done, read, write, bind}
 use Rattle.jvm_model.specs.Classes.{is_trivial, next_place, literal_at}
 use Rattle.jvm_model.specs.Entries.{Entries, with_stack, with_place, with_entry, class_entry, is_full}
 use Rattle.jvm_model.specs.Builtin.{null_pointer_exception, no_class_error, stack_overflow_error, stream_class, string_class}
-use Rattle.jvm_model.specs.declared.values.Kind.{Kind}
 use Rattle.jvm_model.specs.declared.values.Kind.TheVariants as kind
 
 -- How a row ends: how the step goes on, with the entries then, or there is no row.

@@ -4,11 +4,10 @@ use Rattle.std.specs.Ordering.{int_eq}
 use Rattle.std.specs.Int.{w32, w64, int_bit_and, int_bit_or, int_bit_xor}
 use Rattle.et_base.specs.Numbers.{add32, sub32, mul32, div32, rem32, neg32, shl32, shr32, ushr32, add64, sub64, mul64, div64, rem64, neg64, shl64, shr64, ushr64, i2l, l2i, i2b, i2c, i2s, lcmp}
 use Rattle.jvm_model.specs.declared.values.{Value.Value, Value.TheVariants.Int, Value.TheVariants.Long}
-use Rattle.jvm_model.specs.declared.instr.{Op.Op, Conv.Conv, Instr.Instr}
+use Rattle.jvm_model.specs.declared.{instr.Op.Op, instr.Conv.Conv, instr.Instr.Instr, program.Program.Program}
 use Rattle.jvm_model.specs.declared.instr.Op.TheVariants.{Add, Sub, Mul, Div, Rem, Shl, Shr, Ushr, And, Or, Xor}
 use Rattle.jvm_model.specs.declared.instr.Conv.TheVariants as conv
 use Rattle.jvm_model.specs.declared.instr.Instr.TheVariants as form
-use Rattle.jvm_model.specs.declared.program.Program.{Program}
 use Rattle.jvm_model.specs.{Access.Access, Builtin.arithmetic_exception, Entries.Entries, Entries.with_stack, RowsMoves.stored}
 use Rattle.jvm_model.specs.Rows.{Answer, none_here, faults, goes_on, popping, on_int, on_long}
 

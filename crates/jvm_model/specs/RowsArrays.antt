@@ -1,11 +1,10 @@
 -- Array loads and stores and arraylength (JVMS 6.5). The array's head is read first, for its length.
 use Rattle.std.specs.Prelude.{ℕ, ℤ, pos, negsuc, ◌∷◌, List, Bool, true, false, cond, nat_lt}
-use Rattle.jvm_model.specs.declared.values.{Value.Value, Base.Base, Kind.Kind, Head.Head}
+use Rattle.jvm_model.specs.declared.{values.Value.Value, values.Base.Base, values.Kind.Kind, values.Head.Head, instr.Cell.Cell, instr.Instr.Instr}
 use Rattle.jvm_model.specs.declared.values.Value.TheVariants.{Int, Long, Null, Lit, Obj}
 use Rattle.jvm_model.specs.declared.values.Base.TheVariants as base
 use Rattle.jvm_model.specs.declared.values.Kind.TheVariants as kind
 use Rattle.jvm_model.specs.declared.values.Location.TheVariants as place
-use Rattle.jvm_model.specs.declared.instr.{Cell.Cell, Instr.Instr}
 use Rattle.jvm_model.specs.declared.instr.Cell.TheVariants as cell
 use Rattle.jvm_model.specs.declared.instr.Instr.TheVariants as form
 use Rattle.jvm_model.specs.declared.program.Program.{Program}

@@ -1,12 +1,10 @@
 -- Branches and switches (JVMS 6.5): no touch, no cost besides 1.
 use Rattle.std.specs.Prelude.{ℕ, ℤ, List, [], ◌∷◌, length, Bool, true, false, not, ◌&&◌, cond, nat_eq, nat_lt, get_or, pos, ◌-ℤ◌, int_lt, int_le, unsigned_abs}
 use Rattle.std.specs.Ordering.{int_eq}
-use Rattle.jvm_model.specs.declared.values.Value.{Value}
+use Rattle.jvm_model.specs.declared.{values.Value.Value, instr.IfTest.IfTest, instr.Instr.Instr, program.Program.Program}
 use Rattle.jvm_model.specs.declared.values.Value.TheVariants.{Int, Long, Null, Lit, Obj}
-use Rattle.jvm_model.specs.declared.instr.{IfTest.IfTest, Instr.Instr}
 use Rattle.jvm_model.specs.declared.instr.IfTest.TheVariants as test
 use Rattle.jvm_model.specs.declared.instr.Instr.TheVariants as form
-use Rattle.jvm_model.specs.declared.program.Program.{Program}
 use Rattle.jvm_model.specs.{Access.Access, Entries.Entries}
 use Rattle.jvm_model.specs.Rows.{Answer, none_here, goes_on, goes_to, popping, on_int}
 

@@ -1,10 +1,7 @@
 -- The four invoke forms (JVMS 6.5).
 use Rattle.std.specs.Prelude.{ℕ, length, ◌+◌, cond, nat_le, slice_get, Option, Some, None}
-use Rattle.jvm_model.specs.declared.values.{Value.Value, Kind.Kind}
-use Rattle.jvm_model.specs.declared.instr.Instr.{Instr}
+use Rattle.jvm_model.specs.declared.{values.Value.Value, values.Kind.Kind, instr.Instr.Instr, outcome.Next.TheVariants.Enter, library.Native.Native}
 use Rattle.jvm_model.specs.declared.instr.Instr.TheVariants as form
-use Rattle.jvm_model.specs.declared.outcome.Next.TheVariants.{Enter}
-use Rattle.jvm_model.specs.declared.library.Native.{Native}
 use Rattle.jvm_model.specs.declared.program.{Body.Body, Program.Program}
 use Rattle.jvm_model.specs.{Access.Access, Access.done, Access.spend, Entries.Entries, Entries.is_full, Entries.called, Entries.frame_cost}
 use Rattle.jvm_model.specs.{Builtin.abstract_method_error, Builtin.stack_overflow_error, Classes.method_at, Descriptors.parameters, Kinds.class_of}

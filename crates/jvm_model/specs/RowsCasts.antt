@@ -1,10 +1,8 @@
 -- checkcast and instanceof (JVMS 6.5): the head of a nonnull object is read.
 use Rattle.std.specs.Prelude.{pos, ◌∷◌, List, cond}
-use Rattle.jvm_model.specs.declared.values.{Value.Value, Kind.Kind}
+use Rattle.jvm_model.specs.declared.{values.Value.Value, values.Kind.Kind, instr.Instr.Instr, program.Program.Program}
 use Rattle.jvm_model.specs.declared.values.Value.TheVariants.{Int, Long, Null, Lit, Obj}
-use Rattle.jvm_model.specs.declared.instr.Instr.{Instr}
 use Rattle.jvm_model.specs.declared.instr.Instr.TheVariants as form
-use Rattle.jvm_model.specs.declared.program.Program.{Program}
 use Rattle.jvm_model.specs.{Access.Access, Builtin.class_cast_exception, Entries.Entries, Entries.with_stack, Kinds.kind_fits}
 use Rattle.jvm_model.specs.Rows.{Answer, none_here, faults, goes_on, popping, with_kind}
 

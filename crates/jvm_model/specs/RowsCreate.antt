@@ -1,8 +1,7 @@
 -- new, newarray, anewarray and multianewarray (JVMS 6.5). Making an object writes its head and all its cells.
 use Rattle.std.specs.Prelude.{ℕ, zero, suc, ℤ, pos, negsuc, List, [], ◌∷◌, length, ◌+◌, ◌*◌, ◌-◌, ◌^◌, min, Bool, true, false, ◌||◌, cond}
-use Rattle.jvm_model.specs.declared.values.{Value.Value, Value.TheVariants.Obj, Kind.Kind, Head.Head}
+use Rattle.jvm_model.specs.declared.{values.Value.Value, values.Value.TheVariants.Obj, values.Kind.Kind, values.Head.Head, instr.Instr.Instr}
 use Rattle.jvm_model.specs.declared.values.Location.TheVariants as place
-use Rattle.jvm_model.specs.declared.instr.Instr.{Instr}
 use Rattle.jvm_model.specs.declared.instr.Instr.TheVariants as form
 use Rattle.jvm_model.specs.declared.program.Program.{Program}
 use Rattle.jvm_model.specs.Access.{Access, done, write, make, spend, bind}

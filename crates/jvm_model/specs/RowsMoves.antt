@@ -1,10 +1,8 @@
 -- Constants, loads, stores, moves of operands and monitors (JVMS 6.5): no touch, no cost besides 1.
 use Rattle.std.specs.Prelude.{ℕ, List, ◌∷◌, length, Bool, true, false, cond, nat_lt, set, slice_get, Option, Some, None}
-use Rattle.jvm_model.specs.declared.values.Value.{Value}
+use Rattle.jvm_model.specs.declared.{values.Value.Value, instr.Instr.Instr, program.Program.Program}
 use Rattle.jvm_model.specs.declared.values.Value.TheVariants.{Int, Long, Null, Lit, Obj}
-use Rattle.jvm_model.specs.declared.instr.Instr.{Instr}
 use Rattle.jvm_model.specs.declared.instr.Instr.TheVariants as form
-use Rattle.jvm_model.specs.declared.program.Program.{Program}
 use Rattle.jvm_model.specs.{Access.Access, Entries.Entries, Entries.with_stack}
 use Rattle.jvm_model.specs.Rows.{Answer, none_here, goes_on, popping, on_reference}
 

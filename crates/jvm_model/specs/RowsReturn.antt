@@ -1,9 +1,7 @@
 -- Returns (JVMS 6.5): the entry is popped, and a value, narrowed to the method's return type, goes to the frame below.
 use Rattle.std.specs.Prelude.{List, [], ◌∷◌, Some, None}
-use Rattle.jvm_model.specs.declared.values.Value.{Value}
-use Rattle.jvm_model.specs.declared.instr.Instr.{Instr}
+use Rattle.jvm_model.specs.declared.{values.Value.Value, instr.Instr.Instr, outcome.Next.TheVariants.Go, outcome.Next.TheVariants.Leave}
 use Rattle.jvm_model.specs.declared.instr.Instr.TheVariants as form
-use Rattle.jvm_model.specs.declared.outcome.Next.TheVariants.{Go, Leave}
 use Rattle.jvm_model.specs.declared.state.{EntryKind.EntryKind, EntryKind.TheVariants.Absent, EntryKind.TheVariants.InMethod, EntryKind.TheVariants.InClass}
 use Rattle.jvm_model.specs.declared.program.Program.{Program}
 use Rattle.jvm_model.specs.{Access.Access, Access.done, Classes.method_at, Descriptors.return_type, Narrow.narrowed, Entries.Entries, Entries.popped_entry}

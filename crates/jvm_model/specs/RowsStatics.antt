@@ -1,9 +1,8 @@
 -- getstatic and putstatic (JVMS 6.5): the declaring class is used, then the static is read or written.
 use Rattle.std.specs.Prelude.{ℕ, ◌∷◌}
 use Rattle.jvm_model.specs.declared.values.Location.TheVariants as place
-use Rattle.jvm_model.specs.declared.instr.Instr.{Instr}
+use Rattle.jvm_model.specs.declared.{instr.Instr.Instr, program.Program.Program}
 use Rattle.jvm_model.specs.declared.instr.Instr.TheVariants as form
-use Rattle.jvm_model.specs.declared.program.Program.{Program}
 use Rattle.jvm_model.specs.Access.{Access, read, write}
 use Rattle.jvm_model.specs.{Classes.field_at, Entries.Entries, Narrow.narrowed}
 use Rattle.jvm_model.specs.Rows.{Answer, none_here, goes_on, popping, using}

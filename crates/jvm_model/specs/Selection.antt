@@ -1,9 +1,8 @@
 -- Which method a call enters (JVMS 5.4.6 and 6.5; this project's reading of them is written here).
 use Rattle.std.specs.Prelude.{ℕ, List, [], ◌∷◌, Bool, not, ◌&&◌, cond, nat_eq, filter, flat_map, is_some, find, Option, Some, None}
 use Rattle.std.specs.{List.list_any, Str.bytes_eq}
-use Rattle.jvm_model.specs.declared.values.Kind.{Kind}
+use Rattle.jvm_model.specs.declared.{values.Kind.Kind, program.Program.Program}
 use Rattle.jvm_model.specs.declared.values.Kind.TheVariants as kind
-use Rattle.jvm_model.specs.declared.program.Program.{Program}
 use Rattle.jvm_model.specs.Builtin.{abstract_method_error, class_change_error, object_class}
 use Rattle.jvm_model.specs.Classes.{class_at, method_at, is_private, is_static, is_interface, upwards, own_interfaces, first_mentions, implements, member, init_name}
 

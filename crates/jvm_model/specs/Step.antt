@@ -1,9 +1,7 @@
 -- The step of the machine: one case for each row of the table of steps.
 use Rattle.std.specs.Prelude.{ℕ, List, Option, Some, None}
-use Rattle.jvm_model.specs.declared.values.{Value.Value, Touch.Touch}
-use Rattle.jvm_model.specs.declared.instr.Instr.{Instr}
+use Rattle.jvm_model.specs.declared.{values.Value.Value, values.Touch.Touch, instr.Instr.Instr, library.Native.Native}
 use Rattle.jvm_model.specs.declared.instr.Instr.TheVariants as form
-use Rattle.jvm_model.specs.declared.library.Native.{Native}
 use Rattle.jvm_model.specs.declared.outcome.Next.TheVariants.{Go, Fault, Raise, Enter, Leave, Over}
 use Rattle.jvm_model.specs.declared.state.{EntryKind.EntryKind, EntryKind.TheVariants.Absent, EntryKind.TheVariants.InMethod, EntryKind.TheVariants.InClass}
 use Rattle.jvm_model.specs.declared.program.Program.{Program}

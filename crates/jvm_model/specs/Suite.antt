@@ -1,8 +1,7 @@
 -- One test, and lists of tests on one heap.
 use Rattle.std.specs.Prelude.{ℕ, zero, suc, ◌+◌, ◌-◌, List, [], ◌∷◌, map, length, slice_get, Bool, true, false, cond, nat_le, min, Option, Some, None}
 use Rattle.std.specs.List.{range_with_len}
-use Rattle.jvm_model.specs.declared.values.{InitState.TheVariants.Idle, Touch.Touch}
-use Rattle.jvm_model.specs.declared.outcome.{Outcome.Outcome, Verdict.Verdict}
+use Rattle.jvm_model.specs.declared.{values.InitState.TheVariants.Idle, values.Touch.Touch, outcome.Outcome.Outcome, outcome.Verdict.Verdict}
 use Rattle.jvm_model.specs.declared.program.Program.{Program}
 use Rattle.jvm_model.specs.{World.World, Step.step}
 use Rattle.jvm_model.specs.Access.{Access, done, bind, run}

@@ -1,9 +1,8 @@
 -- The lines of a report on one test, and the texts of locations (this project's).
 use Rattle.std.specs.Prelude.{ℕ, List, [], ◌∷◌, ◌++◌, ◌+◌, ◌-◌, get_or, map, length, count_by, codes, decimal, Bool, true, false, cond, nat_lt, Option, Some, None}
 use Rattle.et_base.specs.Quotes.{quoted_units, quoted_bytes, name_of}
-use Rattle.jvm_model.specs.declared.values.Location.{Location}
+use Rattle.jvm_model.specs.declared.{values.Location.Location, outcome.Cause.Cause, outcome.Outcome.Outcome, outcome.Verdict.Verdict}
 use Rattle.jvm_model.specs.declared.values.Location.TheVariants as place
-use Rattle.jvm_model.specs.declared.outcome.{Cause.Cause, Outcome.Outcome, Verdict.Verdict}
 use Rattle.jvm_model.specs.declared.outcome.Verdict.TheVariants.{Passed, Failed, Error}
 use Rattle.jvm_model.specs.declared.program.{Names.Names, Program.Program}
 use Rattle.jvm_model.specs.Classes.{class_at, field_at}

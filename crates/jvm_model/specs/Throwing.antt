@@ -1,7 +1,6 @@
 -- A step that throws by itself.
 use Rattle.std.specs.Prelude.{ℕ}
-use Rattle.jvm_model.specs.declared.values.Value.TheVariants.{Obj}
-use Rattle.jvm_model.specs.declared.program.Program.{Program}
+use Rattle.jvm_model.specs.declared.{values.Value.TheVariants.Obj, program.Program.Program}
 use Rattle.jvm_model.specs.{Access.Access, Access.done, Access.make, Access.spend, Classes.blank, Classes.instance_head}
 use Rattle.jvm_model.specs.State.{State, Turn, next, raise}
 

@@ -1,11 +1,9 @@
 -- How code sees a program of accesses: units that are left count down, touches are added to a list, and each access asks
 -- that its location is there. The lemmas of proofs/Bridges say that this is the run of Access.
 use Rattle.std.specs.Prelude.{◌≡◌, ℕ, List, [], ◌∷◌, ◌++◌, length, map, ◌-◌, ◌<◌, Bool, true, false, not, nat_le, is_some, if◌then◌else◌}
-use Rattle.jvm_model.specs.declared.values.{Value.Value, Touch.Touch, Location.Location}
+use Rattle.jvm_model.specs.declared.{values.Value.Value, values.Touch.Touch, values.Location.Location, outcome.Next.Next, program.Program.Program}
 use Rattle.jvm_model.specs.declared.values.Location.TheVariants as place
-use Rattle.jvm_model.specs.declared.outcome.Next.{Next}
 use Rattle.jvm_model.specs.declared.outcome.Next.TheVariants.{Go, Fault, Raise, Enter, Leave, Over}
-use Rattle.jvm_model.specs.declared.program.Program.{Program}
 use Rattle.jvm_model.specs.World.{World, at, put, size, object_at, make_object}
 use Rattle.jvm_model.specs.Access.{Access, done, read, write, make, spend, read_of, write_of, made}
 use Rattle.jvm_model.specs.{Classes.method_at, Classes.member, Rows.Answer, Rows.answer, Rows.stuck_row}

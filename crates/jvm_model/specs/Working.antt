@@ -2,8 +2,7 @@
 use Rattle.std.specs.Prelude.{ℕ, ℤ, pos, negsuc, List, ◌∷◌, ◌++◌, length, ◌+◌, Bool, cond, codes, Option, Some, None}
 use Rattle.jvm_model.specs.declared.values.{Value.Value, Value.TheVariants.Int, Value.TheVariants.Null, Value.TheVariants.Obj}
 use Rattle.jvm_model.specs.declared.values.Location.TheVariants as place
-use Rattle.jvm_model.specs.declared.outcome.{Own.Own, Next.TheVariants.Go}
-use Rattle.jvm_model.specs.declared.program.Program.{Program}
+use Rattle.jvm_model.specs.declared.{outcome.Own.Own, outcome.Next.TheVariants.Go, program.Program.Program}
 use Rattle.jvm_model.specs.Access.{Access, done, write, make, spend}
 use Rattle.jvm_model.specs.{Builtin.string_class, Narrow.narrow_int, Rows.Answer, Rows.answer}
 use Rattle.jvm_model.specs.{Classes.blank, Classes.instance_head, Classes.next_place, Entries.Entries, Entries.with_stack, Entries.with_place}

@@ -1,9 +1,8 @@
 -- Rows that can be made over the opening world.
 use Rattle.std.proofs.Common.{◌≡◌, ◌∷◌, ◌<◌, ℕ, pos, List, length, true, arith}
 use Rattle.std.proofs.lemmas.List.{length-map}
-use Rattle.jvm_model.specs.declared.program.{Program.Program, FieldRec.FieldRec}
+use Rattle.jvm_model.specs.declared.{program.Program.Program, program.FieldRec.FieldRec, values.Kind.Kind, values.Value.Value, values.Value.TheVariants.Int}
 use Rattle.jvm_model.specs.declared.instr.Instr.TheVariants as form
-use Rattle.jvm_model.specs.declared.values.{Kind.Kind, Value.Value, Value.TheVariants.Int}
 use Rattle.jvm_model.specs.{World.World, Classes.field_at, Classes.is_trivial, Entries.Entries, Rows.begin, RowsCreate.row_create}
 use Rattle.jvm_model.specs.{RowsStatics.row_statics, RowsStatics.read_static, Suite.opening, View.IsSafe, View.IsRow}
 

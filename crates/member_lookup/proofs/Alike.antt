@@ -3,8 +3,7 @@ use Rattle.std.proofs.Common.{◌≡◌, ℕ, zero, suc, List, [], ◌∷◌, �
 use Rattle.std.specs.Prelude.{flat_map, find, is_some}
 use Rattle.std.specs.{List.list_any, Str.bytes_eq}
 use Rattle.std.proofs.Math.Path.{fun_ext}
-use Rattle.jvm_model.specs.declared.program.{Program.Program, MethodRec.MethodRec, TestEntry.TestEntry}
-use Rattle.jvm_model.specs.declared.library.Native.{Native}
+use Rattle.jvm_model.specs.declared.{program.Program.Program, program.MethodRec.MethodRec, program.TestEntry.TestEntry, library.Native.Native}
 use Rattle.jvm_model.specs.{Builtin.object_class, Driver.no_arguments, Driver.plain_method_in, Linked.test_method}
 use Rattle.jvm_model.specs.Classes.{class_at, method_at, is_private, is_static, member, class_bound, upwards_in, upwards, is_below, lineage_in, own_interfaces, first_mentions}
 use Rattle.jvm_model.specs.Lookup.{is_field, field_path_in, field_path, find_field, pedigree_in, superinterfaces, interface_methods, find_in_interfaces, one_or_first, find_declared, find_in_object, find_method}

@@ -2,8 +2,7 @@
 use Rattle.std.proofs.Common.{◌≡◌, ℕ, ℤ, Bool, true, false, cond, List, refl, subst, arith}
 use Rattle.jvm_model.specs.declared.values.{Value.Value, InitState.InitState}
 use Rattle.jvm_model.specs.declared.values.InitState.TheVariants.{Idle, Running, Done, Erroneous}
-use Rattle.jvm_model.specs.declared.values.Kind.{Kind}
-use Rattle.jvm_model.specs.declared.program.Program.{Program}
+use Rattle.jvm_model.specs.declared.{values.Kind.Kind, program.Program.Program}
 use Rattle.jvm_model.specs.Access.{Access, spend, bind}
 use Rattle.jvm_model.specs.Builtin.{null_pointer_exception, no_class_error, stack_overflow_error, stream_class, string_class}
 use Rattle.jvm_model.specs.{Classes.literal_at, Entries.Entries}

@@ -1,9 +1,7 @@
 -- The frame law for two programs.
 use Rattle.std.proofs.Common.{◌≡◌, ℕ, List, Bool, true, false, nat_le, refl, sym, ◌∙◌, ap, subst, inl, inr, arith, Some, None}
 use Rattle.std.proofs.lemmas.Bool.{cases_Bool}
-use Rattle.jvm_model.specs.declared.values.{Location.Location, Touch.Touch}
-use Rattle.jvm_model.specs.declared.outcome.Verdict.{Verdict}
-use Rattle.jvm_model.specs.declared.program.Program.{Program}
+use Rattle.jvm_model.specs.declared.{values.Location.Location, values.Touch.Touch, outcome.Verdict.Verdict, program.Program.Program}
 use Rattle.jvm_model.specs.World.{World, no_object, part, size, at}
 use Rattle.jvm_model.specs.{Access.Ran, Access.run, State.test_at}
 use Rattle.jvm_model.specs.Suite.{End, finished, stuck, out_of_steps, tree, Given, given_at, one_test}

@@ -2,10 +2,9 @@
 use Rattle.std.proofs.Common.{◌≡◌, ◌⊎◌, ℕ, zero, suc, ◌+◌, ◌-◌, ◌<◌, ◌≤◌, true, false, nat_le, List, [], ◌∷◌, length, get_or, map, slice_get, refl, sym, ◌∙◌, ap, subst, inl, inr, arith, Option, Some, None}
 use Rattle.std.specs.List.{range_with_len}
 use Rattle.std.proofs.lemmas.Bool.{cases_Bool, cases_order, cases_lt, eqb-true, eq-eqb}
-use Rattle.jvm_model.specs.declared.values.{Value.Value, Location.Location}
+use Rattle.jvm_model.specs.declared.{values.Value.Value, values.Location.Location, outcome.Outcome.Outcome}
 use Rattle.jvm_model.specs.declared.values.Value.TheVariants.{Int, Long, Null, Lit, Obj}
 use Rattle.jvm_model.specs.declared.values.Location.TheVariants as place
-use Rattle.jvm_model.specs.declared.outcome.Outcome.{Outcome}
 use Rattle.jvm_model.specs.declared.program.{Program.Program, FieldRec.FieldRec, TestEntry.TestEntry}
 use Rattle.jvm_model.specs.World.{Content, World, size, at}
 use Rattle.jvm_model.specs.{Access.Ran, Classes.no_field, State.test_at, Linked.Linked}

@@ -3,10 +3,8 @@ use Rattle.std.proofs.Common.{◌≡◌, ℕ, ℤ, ◌+◌, ◌-◌, true, false
 use Rattle.std.specs.Prelude.{codes}
 use Rattle.std.specs.Fmt.{signed_decimal}
 use Rattle.et_base.specs.{Numbers.add64, Quotes.utf8_of}
-use Rattle.jvm_model.specs.declared.values.{Value.Value, Value.TheVariants.Long}
+use Rattle.jvm_model.specs.declared.{values.Value.Value, values.Value.TheVariants.Long, outcome.Own.Own, library.Native.Native}
 use Rattle.jvm_model.specs.declared.values.Location.TheVariants as place
-use Rattle.jvm_model.specs.declared.outcome.Own.{Own}
-use Rattle.jvm_model.specs.declared.library.Native.{Native}
 use Rattle.jvm_model.specs.declared.library.Native.TheVariants as native
 use Rattle.jvm_model.specs.{Access.Access, Access.read, Builtin.string_class, Builtin.string_index_exception, Rows.Answer, Rows.faults}
 use Rattle.jvm_model.specs.Working.{Working, with_operands, answers, makes_text, answers_text, answers_found, prints, char_of, boolean_text}

@@ -1,10 +1,8 @@
 -- Rows with touches in pairs: statics, fields, new objects, arrays, casts, calls.
 use Rattle.std.proofs.Common.{◌≡◌, ℕ, ℤ, zero, suc, ◌+◌, Bool, true, false, cond, List, [], ◌∷◌, length, nat_lt, nat_le, slice_get, refl, ap, subst, arith, pos, negsuc, Option, Some, None}
 use Rattle.et_base.specs.Numbers.{l2i}
-use Rattle.jvm_model.specs.declared.values.{Value.Value, Value.TheVariants.Int, Kind.Kind, Head.Head}
-use Rattle.jvm_model.specs.declared.instr.{Cell.Cell, Instr.Instr}
-use Rattle.jvm_model.specs.declared.library.Native.{Native}
-use Rattle.jvm_model.specs.declared.program.Body.{Body}
+use Rattle.jvm_model.specs.declared.{values.Value.Value, values.Value.TheVariants.Int, values.Kind.Kind, values.Head.Head, instr.Cell.Cell, instr.Instr.Instr}
+use Rattle.jvm_model.specs.declared.{library.Native.Native, program.Body.Body}
 use Rattle.jvm_model.specs.{Access.Access, Classes.method_at, Classes.is_abstract, Descriptors.parameters, Entries.Entries, Entries.with_stack}
 use Rattle.jvm_model.specs.Builtin.{instantiation_error, negative_size_exception, array_index_exception, array_store_exception, class_cast_exception, abstract_method_error, stack_overflow_error}
 use Rattle.jvm_model.specs.{Kinds.element_kind, Kinds.kind_fits, Narrow.narrow, Rows.Answer, Rows.faults, RowsFields.row_fields, Selection.Selected}

@@ -1,8 +1,7 @@
 -- Rows without a touch in pairs: moves, arithmetic, branches, returns, throws.
 use Rattle.std.proofs.Common.{◌≡◌, ℕ, ℤ, Bool, true, false, List, [], ◌∷◌, nat_lt, refl, ap, subst, arith, pos, Option, Some, None}
 use Rattle.std.specs.Ordering.{int_eq}
-use Rattle.jvm_model.specs.declared.values.Value.{Value}
-use Rattle.jvm_model.specs.declared.instr.{Op.Op, Conv.Conv, Instr.Instr}
+use Rattle.jvm_model.specs.declared.{values.Value.Value, instr.Op.Op, instr.Conv.Conv, instr.Instr.Instr}
 use Rattle.jvm_model.specs.declared.instr.Conv.TheVariants as conv
 use Rattle.jvm_model.specs.declared.state.{EntryKind.EntryKind, EntryKind.TheVariants.Absent, EntryKind.TheVariants.InMethod, EntryKind.TheVariants.InClass}
 use Rattle.jvm_model.specs.{Access.Access, Builtin.arithmetic_exception, Descriptors.return_type, Narrow.narrow, Narrow.narrowed}

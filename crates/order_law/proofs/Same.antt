@@ -2,15 +2,13 @@
 use Rattle.std.proofs.Common.{◌≡◌, ℕ, suc, ◌<◌, Bool, true, false, List, [], ◌∷◌, length, slice_index_or, refl, sym, ◌∙◌, ap, subst, inl, inr, arith, nat_eq, Option, Some, None}
 use Rattle.std.specs.Prelude.{IfSome}
 use Rattle.std.proofs.lemmas.{Bool.eqb-true, Bool.eq-eqb, Bool.cases_lt, List.get_or_past}
-use Rattle.jvm_model.specs.declared.values.{Value.Value, Base.Base, Kind.Kind}
+use Rattle.jvm_model.specs.declared.{values.Value.Value, values.Base.Base, values.Kind.Kind, instr.Instr.Instr}
 use Rattle.jvm_model.specs.declared.values.Value.TheVariants.{Int, Long, Null, Lit, Obj}
 use Rattle.jvm_model.specs.declared.values.Base.TheVariants as base
 use Rattle.jvm_model.specs.declared.values.Kind.TheVariants as kind
-use Rattle.jvm_model.specs.declared.instr.Instr.{Instr}
 use Rattle.jvm_model.specs.declared.instr.Instr.TheVariants as form
-use Rattle.jvm_model.specs.declared.outcome.{Verdict.Verdict, Verdict.TheVariants.Failed, Verdict.TheVariants.Error}
+use Rattle.jvm_model.specs.declared.{outcome.Verdict.Verdict, outcome.Verdict.TheVariants.Failed, outcome.Verdict.TheVariants.Error, program.Handler.Handler}
 use Rattle.jvm_model.specs.declared.program.{Program.Program, ClassRec.ClassRec, FieldRec.FieldRec, MethodRec.MethodRec, Body.Body, Placed.Placed}
-use Rattle.jvm_model.specs.declared.program.Handler.{Handler}
 use Rattle.jvm_model.specs.Classes.{class_at, field_at, method_at, literal_at, no_field, no_method}
 use Rattle.jvm_model.specs.Linked.{Linked, IsForm, IsBody, opens}
 use Rattle.order_law.specs.Pairing.{OneToOne, PairedList, no_more, one_more, PairedOption, both_none, both_some, PairedBase, booleans, bytes, chars, shorts, int_bases, long_bases, class_bases, PairedKind, class_kinds, array_kinds}

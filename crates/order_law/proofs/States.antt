@@ -1,7 +1,6 @@
 -- States of two matched programs in pairs.
 use Rattle.std.proofs.Common.{◌≡◌, ℕ, ◌-◌, List, ◌∷◌, length, replicate, nat_le, Bool, true, refl, ap, subst, Option}
-use Rattle.jvm_model.specs.declared.values.{Value.Value, Value.TheVariants.Null}
-use Rattle.jvm_model.specs.declared.outcome.{Next.Next, Verdict.Verdict}
+use Rattle.jvm_model.specs.declared.{values.Value.Value, values.Value.TheVariants.Null, outcome.Next.Next, outcome.Verdict.Verdict}
 use Rattle.jvm_model.specs.declared.outcome.Next.TheVariants.{Go, Fault, Raise, Enter, Leave, Over}
 use Rattle.jvm_model.specs.declared.program.{Body.Body, Program.Program}
 use Rattle.jvm_model.specs.declared.state.{EntryKind.EntryKind, EntryKind.TheVariants.Absent, EntryKind.TheVariants.InMethod, EntryKind.TheVariants.InClass}

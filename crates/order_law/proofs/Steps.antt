@@ -2,12 +2,9 @@
 use Rattle.std.proofs.Common.{◌≡◌, ℕ, zero, suc, ◌+◌, Bool, true, false, not, cond, List, [], length, refl, ap, subst, arith, Option, Some, None}
 use Rattle.jvm_model.specs.declared.values.{Value.Value, InitState.InitState}
 use Rattle.jvm_model.specs.declared.values.InitState.TheVariants.{Idle, Running, Done, Erroneous}
-use Rattle.jvm_model.specs.declared.instr.Instr.{Instr}
-use Rattle.jvm_model.specs.declared.library.Native.{Native}
-use Rattle.jvm_model.specs.declared.outcome.Own.{Own}
+use Rattle.jvm_model.specs.declared.{instr.Instr.Instr, library.Native.Native, outcome.Own.Own}
 use Rattle.jvm_model.specs.declared.state.{EntryKind.EntryKind, EntryKind.TheVariants.Absent, EntryKind.TheVariants.InMethod, EntryKind.TheVariants.InClass}
-use Rattle.jvm_model.specs.declared.state.Stage.{Stage}
-use Rattle.jvm_model.specs.declared.program.Body.{Body}
+use Rattle.jvm_model.specs.declared.{state.Stage.Stage, program.Body.Body}
 use Rattle.std.specs.Str.{bytes_eq}
 use Rattle.jvm_model.specs.{Access.Access, Access.bind, Entries.Entries, Rows.Answer, Rows.Used, Working.Working, Raising.handled, Raising.row_raise}
 use Rattle.jvm_model.specs.Builtin.{error_class, initializer_error, no_class_error, stack_overflow_error, abstract_method_error, assertion_error}

@@ -3,12 +3,11 @@
 use Rattle.std.proofs.Common.{◌≡◌, ◌⊎◌, ℕ, zero, suc, ◌≤◌, List, [], ◌∷◌, ◌++◌, true, cond, nat_eq, get_or, refl, sym, ◌∙◌, ap, subst, inl, inr, arith, Option, Some, None}
 use Rattle.std.proofs.lemmas.Bool.{cases_Bool, eqb-true, eq-eqb, and_parts}
 use Rattle.std.proofs.lemmas.{List.append_assoc, Option.same_Some}
-use Rattle.jvm_model.specs.declared.values.{Value.Value, Location.Location, Touch.Touch}
+use Rattle.jvm_model.specs.declared.{values.Value.Value, values.Location.Location, values.Touch.Touch, program.Program.Program}
 use Rattle.jvm_model.specs.declared.values.Value.TheVariants.{Int, Long, Null, Lit, Obj}
 use Rattle.jvm_model.specs.declared.values.Location.TheVariants as place
 use Rattle.jvm_model.specs.World.{Object, World, Content, size, at, put, make_object, has, same, place_of, part, look, no_object}
 use Rattle.jvm_model.specs.Access.{Access, read_of, write_of, given, given_by, made, fields_made, elems_made, text_made, run}
-use Rattle.jvm_model.specs.declared.program.Program.{Program}
 use Rattle.jvm_model.specs.{State.test_at, Suite.tree, Suite.Given, Linked.Linked}
 use Rattle.jvm_model.proofs.Locations.{same_true, same_false, at_put_same, at_put_other, size_put, size_make, IsOf, is_of_cases, at_make_new, at_make_other, at_past}
 use Rattle.order_law.specs.Pairing.{Matching, OneToOne, PairedList, no_more, one_more, PairedValue, ints, longs, nulls, literals, objects, PairedLocation, statics, inits, heads, at_field, at_elem, texts, files, props, PairedContent, PairedCell, PairedObject, Paired, both_done, both_read, both_write, both_make, both_spend}

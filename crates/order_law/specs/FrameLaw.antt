@@ -1,7 +1,6 @@
 -- The frame law for two programs and a matching of their numbers.
 use Rattle.std.specs.Prelude.{◌≡◌, ◌⊎◌, ℕ, ◌+◌, ◌<◌, ◌≤◌, Bool, true, Some}
-use Rattle.jvm_model.specs.declared.values.Location.{Location}
-use Rattle.jvm_model.specs.declared.program.Program.{Program}
+use Rattle.jvm_model.specs.declared.{values.Location.Location, program.Program.Program}
 use Rattle.jvm_model.specs.World.{World, size, at}
 use Rattle.jvm_model.specs.{State.test_at, Suite.Given, Suite.one_test}
 use Rattle.order_law.specs.{Exposed.written, Frame.Agree, Matched.Matched, Matched.PairedTest, Outcomes.PairedOutcome}

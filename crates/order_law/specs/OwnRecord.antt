@@ -1,8 +1,7 @@
 -- The edges of a program's own record, computed from the run of the whole suite in order.
 use Rattle.std.specs.Prelude.{◌≡◌, ℕ, zero, suc, ◌-◌, List, [], ◌∷◌, ◌++◌, map, filter, flat_map, length, take, codes, Bool, true, not, ◌&&◌, cond, nat_lt, nat_le, Some}
 use Rattle.std.specs.List.{range_with_len}
-use Rattle.jvm_model.specs.declared.values.{Location.Location, Touch.Touch}
-use Rattle.jvm_model.specs.declared.program.Program.{Program}
+use Rattle.jvm_model.specs.declared.{values.Location.Location, values.Touch.Touch, program.Program.Program}
 use Rattle.jvm_model.specs.{World.size, World.same, Texts.maker, Texts.location_text, Linked.Linked}
 use Rattle.jvm_model.specs.Suite.{all_tests, Given, runs, is_detected}
 use Rattle.order_law.specs.declared.edges.{Edge.Edge, EdgeKind.EdgeKind, EdgeKind.TheVariants.Raw, EdgeKind.TheVariants.Waw, EdgeKind.TheVariants.War}

@@ -2,13 +2,10 @@
 use Rattle.std.specs.Prelude.{◌≡◌, ◌↔◌, ℕ, ◌+◌, ◌-◌, map, length, slice_get, Bool, true, false, not, ◌&&◌, ◌||◌, nat_eq, Option, Some, None}
 use Rattle.std.specs.List.{list_any, list_all}
 use Rattle.jvm_model.specs.declared.values.Base.TheVariants as base
-use Rattle.jvm_model.specs.declared.values.Kind.{Kind}
+use Rattle.jvm_model.specs.declared.{values.Kind.Kind, instr.Instr.Instr, outcome.Outcome.Outcome, program.Body.Body, program.Program.Program}
 use Rattle.jvm_model.specs.declared.values.Kind.TheVariants as kind
 use Rattle.jvm_model.specs.declared.values.Location.TheVariants as place
-use Rattle.jvm_model.specs.declared.instr.Instr.{Instr}
 use Rattle.jvm_model.specs.declared.instr.Instr.TheVariants as form
-use Rattle.jvm_model.specs.declared.outcome.Outcome.{Outcome}
-use Rattle.jvm_model.specs.declared.program.{Body.Body, Program.Program}
 use Rattle.jvm_model.specs.{World.at, World.same, Builtin.builtin_count, Builtin.out_field, Classes.class_at, State.test_at, Suite.all_tests, Suite.seq}
 use Rattle.jvm_model.specs.Linked.{IsGiven}
 use Rattle.order_law.specs.declared.records.{Reach.Reach, More.More, Record.Record, Prints.Prints}

@@ -7,10 +7,9 @@ use Rattle.et_base.specs.Names.{is_field_descriptor}
 use Rattle.et_base.proofs.Texts.{units_true, units_same}
 use Rattle.class_pool.specs.NamesGrammar.{IsElement}
 use Rattle.class_pool.proofs.NamesSpelled.{field_taken}
-use Rattle.jvm_model.specs.declared.values.Value.{Value}
+use Rattle.jvm_model.specs.declared.{values.Value.Value, program.ClassRec.ClassRec, program.Program.Program}
 use Rattle.jvm_model.specs.declared.values.Value.TheVariants as value
 use Rattle.jvm_model.specs.declared.values.Kind.TheVariants as kind
-use Rattle.jvm_model.specs.declared.program.{ClassRec.ClassRec, Program.Program}
 use Rattle.jvm_model.specs.{World.World, World.size, Library.builtin_defs, Library.builtin_classes, Rows.constant_kind}
 use Rattle.jvm_model.specs.Builtin.{object_class, string_class, stream_class}
 use Rattle.jvm_model.specs.Classes.{no_class, class_at, is_below, is_interface, member, upwards}

@@ -3,11 +3,10 @@
 use Rattle.std.proofs.Common.{◌≡◌, ℕ, zero, suc, ◌+◌, ◌<◌, List, [], ◌∷◌, ◌++◌, length, get_or, map, drop, replicate, Bool, true, false, not, ◌&&◌, ◌||◌, cond, nat_eq, nat_lt, Option, Some, None, refl, sym, ◌∙◌, ap, arith}
 use Rattle.std.specs.Prelude.{flat_map, slice_get, slice_index_or, unwrap_or}
 use Rattle.std.specs.{List.list_all, List.position_from, List.range_with_len, Str.bytes_eq}
-use Rattle.jvm_model.specs.declared.instr.{Cell.Cell, Instr.Instr}
+use Rattle.jvm_model.specs.declared.{instr.Cell.Cell, instr.Instr.Instr, values.Base.Base, values.Kind.Kind, values.Value.Value}
 use Rattle.jvm_model.specs.declared.instr.Cell.TheVariants as cell
 use Rattle.jvm_model.specs.declared.instr.Instr.TheVariants as form
 use Rattle.jvm_model.specs.declared.program.{Body.Body, Handler.Handler, MethodRec.MethodRec, Placed.Placed, Program.Program}
-use Rattle.jvm_model.specs.declared.values.{Base.Base, Kind.Kind, Value.Value}
 use Rattle.jvm_model.specs.declared.values.Base.TheVariants as base
 use Rattle.jvm_model.specs.declared.values.Kind.TheVariants as kind
 use Rattle.jvm_model.specs.declared.values.Value.TheVariants as value

@@ -5,9 +5,8 @@ use Rattle.std.proofs.lemmas.List.{get_or_past}
 use Rattle.std.proofs.Math.ListN.{get_or-map, length-map}
 use Rattle.jvm_model.specs.declared.values.{InitState.TheVariants.Idle, InitState.TheVariants.Running, Value.Value, Value.TheVariants.Null}
 use Rattle.jvm_model.specs.declared.values.Location.TheVariants as place
-use Rattle.jvm_model.specs.declared.outcome.Next.{Next}
+use Rattle.jvm_model.specs.declared.{outcome.Next.Next, instr.Instr.Instr}
 use Rattle.jvm_model.specs.declared.outcome.Next.TheVariants.{Go, Fault, Raise, Enter, Leave, Over}
-use Rattle.jvm_model.specs.declared.instr.Instr.{Instr}
 use Rattle.jvm_model.specs.declared.instr.Instr.TheVariants as form
 use Rattle.jvm_model.specs.declared.program.{Body.Body, ClassRec.ClassRec, FieldRec.FieldRec, Placed.Placed, Program.Program}
 use Rattle.jvm_model.specs.{World.World, World.at, World.put, Linked.IsMethod, Linked.NamesForm, Linked.NamesBody, Linked.NamesEntries}

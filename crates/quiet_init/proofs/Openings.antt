@@ -3,10 +3,9 @@ use Rattle.std.proofs.Common.{◌≡◌, ◌≢◌, ℕ, suc, ◌+◌, ◌<◌, 
 use Rattle.std.specs.{List.list_any, List.range_with_len, Str.bytes_eq}
 use Rattle.std.proofs.lemmas.Bool.{and_parts, or_cases, eqb-true}
 use Rattle.std.proofs.Math.ListN.{get_or-map}
-use Rattle.jvm_model.specs.declared.values.{Value.Value, InitState.TheVariants.Running}
+use Rattle.jvm_model.specs.declared.{values.Value.Value, values.InitState.TheVariants.Running, instr.Instr.Instr}
 use Rattle.jvm_model.specs.declared.values.Value.TheVariants as value
 use Rattle.jvm_model.specs.declared.values.Location.TheVariants as place
-use Rattle.jvm_model.specs.declared.instr.Instr.{Instr}
 use Rattle.jvm_model.specs.declared.instr.Instr.TheVariants as form
 use Rattle.jvm_model.specs.declared.program.{Body.Body, ClassRec.ClassRec, FieldRec.FieldRec, Placed.Placed, Program.Program}
 use Rattle.jvm_model.specs.{World.World, World.at, Narrow.narrowed, Step.row, Suite.opening}

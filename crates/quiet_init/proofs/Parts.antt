@@ -4,9 +4,8 @@ use Rattle.std.specs.Prelude.{flat_map}
 use Rattle.std.specs.List.{list_any, range_with_len}
 use Rattle.std.proofs.lemmas.{Bool.and_from, Bool.cases_lt, List.get_or_past}
 use Rattle.std.proofs.lemmas.List.FromFn.{get_or-map-range_with_len, length-map-range_with_len}
-use Rattle.jvm_model.specs.declared.program.{ClassRec.ClassRec, FieldRec.FieldRec, Program.Program}
+use Rattle.jvm_model.specs.declared.{program.ClassRec.ClassRec, program.FieldRec.FieldRec, program.Program.Program, values.Value.Value}
 use Rattle.jvm_model.specs.declared.values.Location.TheVariants as place
-use Rattle.jvm_model.specs.declared.values.Value.{Value}
 use Rattle.jvm_model.specs.World.{at}
 use Rattle.jvm_model.specs.Classes.{no_class, no_field, class_at, field_at, method_at, is_interface, is_default_method, default_interfaces, own_interfaces, first_mentions, lineage_in, class_bound, upwards_in, upwards, declares_start}
 use Rattle.quiet_init.specs.Quiet.{is_still_start, starts_still, is_quiet, left_by, quiet_class, quiet_field, quiet}

@@ -1,9 +1,7 @@
 -- There is room on the operands for what an instruction puts there (JVMS 4.7.3 and 4.10.1).
 use Rattle.std.proofs.Common.{◌≡◌, ℕ, ◌+◌, ◌≤◌, length, Some, sym, ◌∙◌, ap, subst, arith}
 use Rattle.std.proofs.lemmas.Option.{same_Some}
-use Rattle.jvm_model.specs.declared.state.EntryKind.{EntryKind}
-use Rattle.jvm_model.specs.declared.instr.Instr.{Instr}
-use Rattle.jvm_model.specs.declared.program.{Body.Body, Program.Program}
+use Rattle.jvm_model.specs.declared.{state.EntryKind.EntryKind, instr.Instr.Instr, program.Body.Body, program.Program.Program}
 use Rattle.jvm_model.specs.{World.World, Classes.method_at, Entries.Entries}
 use Rattle.type_frames.specs.Typing.{IsTyped}
 use Rattle.check_sound.specs.ReachLaw.{most_operands, puts}

@@ -7,10 +7,9 @@ use Rattle.jvm_model.specs.declared.values.Value.TheVariants as value
 use Rattle.jvm_model.specs.declared.values.Location.TheVariants as place
 use Rattle.jvm_model.specs.declared.outcome.Next.TheVariants.{Go}
 use Rattle.jvm_model.specs.declared.state.{EntryKind.EntryKind, EntryKind.TheVariants.Absent, EntryKind.TheVariants.InMethod, EntryKind.TheVariants.InClass}
-use Rattle.jvm_model.specs.declared.instr.{Op.Op, Conv.Conv, Instr.Instr}
+use Rattle.jvm_model.specs.declared.{instr.Op.Op, instr.Conv.Conv, instr.Instr.Instr, program.Placed.Placed, program.Program.Program}
 use Rattle.jvm_model.specs.declared.instr.Conv.TheVariants as conv
 use Rattle.jvm_model.specs.declared.instr.Instr.TheVariants as form
-use Rattle.jvm_model.specs.declared.program.{Placed.Placed, Program.Program}
 use Rattle.jvm_model.specs.{World.World, World.at, World.put, Classes.field_at, Classes.is_trivial, Classes.next_place}
 use Rattle.jvm_model.specs.Access.{Access, done, read, write, bind, read_of, Ran, run}
 use Rattle.jvm_model.specs.Entries.{Entry, Entries, with_stack, with_place, popped_entry}

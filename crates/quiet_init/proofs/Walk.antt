@@ -2,12 +2,10 @@
 use Rattle.std.proofs.Common.{◌≡◌, ◌≢◌, ℕ, suc, List, [], ◌∷◌, length, drop, true, false, ◌||◌, Option, Some, None, IfSome, refl, sym, ◌∙◌, ap, subst, arith}
 use Rattle.std.specs.List.{IsDistinct}
 use Rattle.std.proofs.lemmas.{Bool.and_parts, Option.same_Some}
-use Rattle.jvm_model.specs.declared.values.InitState.TheVariants.{Running}
+use Rattle.jvm_model.specs.declared.{values.InitState.TheVariants.Running, state.EntryKind.TheVariants.InMethod, state.EntryKind.TheVariants.InClass}
 use Rattle.jvm_model.specs.declared.values.Location.TheVariants as place
-use Rattle.jvm_model.specs.declared.state.EntryKind.TheVariants.{InMethod, InClass}
-use Rattle.jvm_model.specs.declared.instr.Instr.{Instr}
+use Rattle.jvm_model.specs.declared.{instr.Instr.Instr, program.Body.Body, program.Placed.Placed, program.Program.Program}
 use Rattle.jvm_model.specs.declared.instr.Instr.TheVariants as form
-use Rattle.jvm_model.specs.declared.program.{Body.Body, Placed.Placed, Program.Program}
 use Rattle.jvm_model.specs.{World.World, World.Object, World.at, World.size, Entries.Entries, Entries.entries_of, Entries.frame_of}
 use Rattle.jvm_model.specs.{Access.run, Suite.opening}
 use Rattle.jvm_model.specs.Classes.{class_at, field_at, method_at, is_trivial, form_at, next_place}

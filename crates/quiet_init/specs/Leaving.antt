@@ -1,9 +1,8 @@
 -- How what quiet initialisers leave is computed in one memory, instruction by instruction (JVMS 2.9 and 5.5).
 use Rattle.std.specs.Prelude.{◌≡◌, ◌≢◌, ℕ, List, [], ◌∷◌, length, get_or, map, None, Bool, true, false, cond, nat_lt, ◌&&◌}
 use Rattle.std.specs.List.{range_with_len}
-use Rattle.jvm_model.specs.declared.values.{InitState.TheVariants.Running, Value.Value, Value.TheVariants.Null}
+use Rattle.jvm_model.specs.declared.{values.InitState.TheVariants.Running, values.Value.Value, values.Value.TheVariants.Null, instr.Instr.Instr}
 use Rattle.jvm_model.specs.declared.values.Location.TheVariants as place
-use Rattle.jvm_model.specs.declared.instr.Instr.{Instr}
 use Rattle.jvm_model.specs.declared.instr.Instr.TheVariants as form
 use Rattle.jvm_model.specs.declared.program.{Body.Body, ClassRec.ClassRec, FieldRec.FieldRec, Placed.Placed, Program.Program}
 use Rattle.jvm_model.specs.{World.World, World.at, Access.run, Linked.IsField, Rows.stuck_row, Step.row, View.Exists}

@@ -2,9 +2,8 @@
 -- from constants, so what it leaves is known before any test runs.
 use Rattle.std.specs.Prelude.{ℕ, List, [], ◌∷◌, length, map, filter, Bool, true, false, not, ◌&&◌, ◌||◌, cond, nat_eq, Option, Some, None}
 use Rattle.std.specs.List.{list_all, range_with_len}
-use Rattle.jvm_model.specs.declared.values.InitState.TheVariants.{Running}
+use Rattle.jvm_model.specs.declared.{values.InitState.TheVariants.Running, instr.Instr.Instr}
 use Rattle.jvm_model.specs.declared.values.Location.TheVariants as place
-use Rattle.jvm_model.specs.declared.instr.Instr.{Instr}
 use Rattle.jvm_model.specs.declared.instr.Instr.TheVariants as form
 use Rattle.jvm_model.specs.declared.program.{Body.Body, ClassRec.ClassRec, FieldRec.FieldRec, Handler.Handler, Placed.Placed, Program.Program}
 use Rattle.jvm_model.specs.{World.World, World.at, World.put, Entries.Entries, Entries.entries_of, Entries.frame_of, Rows.Answer, Rows.answer, Rows.stuck_row}

@@ -1,7 +1,6 @@
 -- A step of the driver in both runs.
 use Rattle.std.proofs.Common.{◌≡◌, ℕ, Bool, true, false, cond, nat_eq, [], None, refl, sym, ap, subst, inl, inr, arith}
-use Rattle.jvm_model.specs.declared.program.Program.{Program}
-use Rattle.jvm_model.specs.declared.state.{Stage.Stage, Stage.TheVariants.Last}
+use Rattle.jvm_model.specs.declared.{program.Program.Program, state.Stage.Stage, state.Stage.TheVariants.Last}
 use Rattle.jvm_model.specs.{World.World, Classes.is_static, Classes.method_at, Entries.is_full, Linked.Linked, Rows.begin}
 use Rattle.jvm_model.specs.{Access.Access, Access.bind, Access.run, State.State, State.Turn, State.test_at}
 use Rattle.jvm_model.specs.Driver.{drives, once_driven, makes, drive_first, drive_at, drive}

@@ -1,7 +1,6 @@
 -- The instruction at the top in both runs.
 use Rattle.std.proofs.Common.{◌≡◌, ℕ, Bool, true, false, cond, Option, Some, None, refl, sym, ◌∙◌, ap, subst, arith, inl}
-use Rattle.jvm_model.specs.declared.instr.Instr.{Instr}
-use Rattle.jvm_model.specs.declared.program.Program.{Program}
+use Rattle.jvm_model.specs.declared.{instr.Instr.Instr, program.Program.Program}
 use Rattle.jvm_model.specs.{World.World, Builtin.instantiation_error, Classes.form_at, Entries.Entries, Linked.Linked}
 use Rattle.jvm_model.specs.{Access.Access, Access.bind, Access.run, RowsCreate.is_bare, RowsCreate.new_object, RowsCreate.row_create}
 use Rattle.jvm_model.specs.{RowsCalls.argument_count, RowsCalls.row_calls, RowsStatics.row_statics, State.State}

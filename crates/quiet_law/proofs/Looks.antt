@@ -5,9 +5,7 @@ use Rattle.std.proofs.lemmas.Bool.{eqb-true, eq-eqb}
 use Rattle.jvm_model.specs.declared.values.{Value.Value, InitState.InitState}
 use Rattle.jvm_model.specs.declared.values.InitState.TheVariants.{Idle, Running, Done, Erroneous}
 use Rattle.jvm_model.specs.declared.values.Location.TheVariants as place
-use Rattle.jvm_model.specs.declared.values.Touch.{Touch}
-use Rattle.jvm_model.specs.declared.outcome.Next.TheVariants.{Go}
-use Rattle.jvm_model.specs.declared.program.{Body.Body, ClassRec.ClassRec, Program.Program}
+use Rattle.jvm_model.specs.declared.{values.Touch.Touch, outcome.Next.TheVariants.Go, program.Body.Body, program.ClassRec.ClassRec, program.Program.Program}
 use Rattle.jvm_model.specs.declared.state.{EntryKind.EntryKind, EntryKind.TheVariants.InClass}
 use Rattle.jvm_model.specs.{World.World, World.at, Builtin.no_class_error, Builtin.stack_overflow_error, Linked.Linked, State.State, State.Turn}
 use Rattle.jvm_model.specs.Access.{Access, done, write, spend, bind, read_of, Ran, run}

@@ -1,7 +1,6 @@
 -- The rows that use no class are the same for the program without quiet initialisers.
 use Rattle.std.proofs.Common.{◌≡◌}
-use Rattle.jvm_model.specs.declared.instr.Instr.{Instr}
-use Rattle.jvm_model.specs.declared.program.Program.{Program}
+use Rattle.jvm_model.specs.declared.{instr.Instr.Instr, program.Program.Program}
 use Rattle.jvm_model.specs.{Entries.Entries, Linked.Linked}
 use Rattle.jvm_model.specs.Step.{Group, moves, arith, branches, fields, arrays, casts, returns, row_of}
 use Rattle.order_law.specs.{Numbers.same_numbers, Forms.PairedInstr}

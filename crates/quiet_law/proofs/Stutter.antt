@@ -2,9 +2,8 @@
 -- make a step.
 use Rattle.std.proofs.Common.{◌≡◌, ◌+◌, Bool, true, cond, nat_eq, Option, Some, None, refl, sym, ◌∙◌, ap, subst, inl, inr, arith}
 use Rattle.std.proofs.lemmas.Bool.{eq-eqb}
-use Rattle.jvm_model.specs.declared.values.{Value.Value, Value.TheVariants.Obj, Head.Head}
+use Rattle.jvm_model.specs.declared.{values.Value.Value, values.Value.TheVariants.Obj, values.Head.Head, program.Program.Program}
 use Rattle.jvm_model.specs.declared.values.Location.TheVariants as place
-use Rattle.jvm_model.specs.declared.program.Program.{Program}
 use Rattle.jvm_model.specs.declared.state.{EntryKind.EntryKind, EntryKind.TheVariants.Absent, EntryKind.TheVariants.InMethod, EntryKind.TheVariants.InClass}
 use Rattle.jvm_model.specs.{World.World, World.size, World.object_at, World.make_object, Access.Access, Access.spend, Access.Ran, Access.run}
 use Rattle.jvm_model.specs.{Builtin.stack_overflow_error, Classes.blank, Classes.instance_head, Entries.Entries, Entries.is_full, Kinds.class_of, Step.step}

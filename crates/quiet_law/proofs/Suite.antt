@@ -2,8 +2,7 @@
 use Rattle.std.proofs.Common.{◌≡◌, ℕ, zero, suc, ◌+◌, ◌-◌, ◌<◌, ◌≤◌, List, [], ◌∷◌, length, get_or, slice_get, true, Option, Some, None, refl, sym, ◌∙◌, ap, subst, arith}
 use Rattle.std.specs.List.{range_with_len}
 use Rattle.std.proofs.lemmas.Bool.{eq-eqb, leb-true, le-leb}
-use Rattle.jvm_model.specs.declared.outcome.Outcome.{Outcome}
-use Rattle.jvm_model.specs.declared.program.{Program.Program, TestEntry.TestEntry}
+use Rattle.jvm_model.specs.declared.{outcome.Outcome.Outcome, program.Program.Program, program.TestEntry.TestEntry}
 use Rattle.jvm_model.specs.{World.World, Access.Ran, Access.run, Linked.Linked}
 use Rattle.jvm_model.specs.{Reached.Reaches, Reached.begins, Reached.Overflows, State.State, State.no_test, State.started, State.test_at}
 use Rattle.jvm_model.specs.Suite.{End, opening, tree, Given, given_at, one_test, runs_on, runs, all_tests, outcome_in, given_by_test, seq, units_of, suite_limit, within_limit, is_detected, with_first}

@@ -1,9 +1,8 @@
 -- A whole test in both runs: it ends alike, and without quiet initialisers it costs no more.
 use Rattle.std.proofs.Common.{◌≡◌, ℕ, zero, suc, ◌+◌, ◌-◌, ◌<◌, ◌≤◌, length, ◌∷◌, ◌&&◌, ◌++◌, true, Option, None, refl, sym, ◌∙◌, ap, subst, inl, inr, arith}
 use Rattle.std.proofs.lemmas.Bool.{and_parts, and_from, cases_lt}
-use Rattle.jvm_model.specs.declared.values.{Value.Value, InitState.TheVariants.Running}
+use Rattle.jvm_model.specs.declared.{values.Value.Value, values.InitState.TheVariants.Running, program.Program.Program}
 use Rattle.jvm_model.specs.declared.values.Location.TheVariants as place
-use Rattle.jvm_model.specs.declared.program.Program.{Program}
 use Rattle.jvm_model.specs.declared.state.{EntryKind.EntryKind, EntryKind.TheVariants.Absent, EntryKind.TheVariants.InMethod, EntryKind.TheVariants.InClass}
 use Rattle.jvm_model.specs.{World.World, World.put, Access.Ran, Access.run, Entries.Entries, Entries.entries_of, Step.step}
 use Rattle.jvm_model.specs.{Reached.Reaches, Reached.steps, Reached.Overflows, State.State, State.Turn, State.next}

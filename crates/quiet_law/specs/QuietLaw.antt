@@ -1,8 +1,7 @@
 -- The law of quiet initialisers (this project's): taken out of the run, they change no test's verdict and output, and no test costs
 -- more.
 use Rattle.std.specs.Prelude.{◌≡◌, ℕ, ◌≤◌, true, Some}
-use Rattle.jvm_model.specs.declared.outcome.Outcome.{Outcome}
-use Rattle.jvm_model.specs.declared.program.Program.{Program}
+use Rattle.jvm_model.specs.declared.{outcome.Outcome.Outcome, program.Program.Program}
 use Rattle.jvm_model.specs.{World.World, Reached.Reaches, Reached.Overflows, State.State, Suite.seq, Suite.is_detected}
 use Rattle.order_law.specs.{Conflicts.down, Histories.IsTestNumber, Histories.after_history}
 use Rattle.type_frames.specs.Typing.{IsTyped}

@@ -5,14 +5,12 @@ use Rattle.std.proofs.lemmas.List.{take-append-drop, take_all, length-append, le
 use Rattle.std.proofs.{lemmas.List.Folds.fold-map, Math.ListN.get_or-map}
 use Rattle.std.proofs.lemmas.List.Sums.{fold-append, sum_by-set, sum_by-le-sum_by}
 use lib.Seq.{drop-cons, take-suc}
-use Rattle.jvm_model.specs.declared.outcome.Outcome.{Outcome}
-use Rattle.jvm_model.specs.declared.program.Program.{Program}
+use Rattle.jvm_model.specs.declared.{outcome.Outcome.Outcome, program.Program.Program}
 use Rattle.order_law.specs.{Conflicts.Member, Conflicts.Distinct, RecordForm.are_chains}
 use Rattle.order_law.specs.Plan as law
 use Rattle.order_law.proofs.Members.{snoc_member}
 use Rattle.order_law.proofs.Posts.{claims_more, posts_more, in_claims, in_posts, member_mid, reversed, of_cons, law_of_histories, forms_apart}
-use Rattle.run_core.specs.declared.events.{Event.Event, Event.TheVariants.Claim, Event.TheVariants.Post}
-use Rattle.run_core.specs.declared.tables.Row.{Row}
+use Rattle.run_core.specs.declared.{events.Event.Event, events.Event.TheVariants.Claim, events.Event.TheVariants.Post, tables.Row.Row}
 use Rattle.run_core.specs.Refusal.{HasNone}
 use Rattle.run_core.specs.Run.{Run, before_last, last_of, told, history_of, most_events, IsInRange}
 use Rattle.run_core.specs.Kept.{row, row_at, hand_of, in_hand, IsClaimer, IsDone, AreTables, list_or, last_list, owed, IsKept, IsSplit, claimed, posted, rows_after, hands_after, MayEnter}

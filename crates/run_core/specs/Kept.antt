@@ -1,11 +1,9 @@
 -- What a core keeps of its tables.
 use Rattle.std.specs.Prelude.{◌≡◌, ◌⊎◌, ℕ, suc, ◌+◌, ◌-◌, ◌^◌, ◌<◌, ◌≤◌, List, [], ◌∷◌, ◌++◌, length, get_or, take, drop, set, fold, reverse, cond, nat_eq, sum_by, true, Option, Some, None}
-use Rattle.jvm_model.specs.declared.outcome.Outcome.{Outcome}
-use Rattle.jvm_model.specs.declared.program.Program.{Program}
+use Rattle.jvm_model.specs.declared.{outcome.Outcome.Outcome, program.Program.Program}
 use Rattle.order_law.specs.{Conflicts.Member, RecordForm.are_chains}
 use Rattle.order_law.specs.Plan as law
-use Rattle.run_core.specs.declared.events.{Event.Event, Event.TheVariants.Claim, Event.TheVariants.Post}
-use Rattle.run_core.specs.declared.tables.{Open.Open, Row.Row}
+use Rattle.run_core.specs.declared.{events.Event.Event, events.Event.TheVariants.Claim, events.Event.TheVariants.Post, tables.Open.Open, tables.Row.Row}
 use Rattle.run_core.specs.Run.{before_last, last_of, history_of, most_events}
 
 abbrev pub row : ℕ → ℕ → ℕ → Row

@@ -1,7 +1,6 @@
 -- What contracts see of a core, and its events as a legal history.
 use Rattle.std.specs.Prelude.{◌≡◌, ◌⊎◌, ℕ, ◌+◌, ◌-◌, ◌<◌, ◌≤◌, List, [], ◌∷◌, ◌++◌, length, get_or, take, fold, sum_by}
-use Rattle.jvm_model.specs.declared.outcome.Outcome.{Outcome}
-use Rattle.jvm_model.specs.declared.program.Program.{Program}
+use Rattle.jvm_model.specs.declared.{outcome.Outcome.Outcome, program.Program.Program}
 use Rattle.order_law.specs.Plan as law
 use Rattle.run_core.specs.declared.events.{Event.Event, Event.TheVariants.Claim, Event.TheVariants.Post}
 

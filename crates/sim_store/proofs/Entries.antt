@@ -1,8 +1,7 @@
 -- Look-ups and changes of a map's entries, seen as names with their texts.
 use Rattle.std.proofs.Common.{◌≡◌, ℕ, Bool, cond, nat_eq, List, [], ◌∷◌, map, Option, None, Some, is_some, ◌||◌, refl, sym, ap, ◌∙◌, true, false, Bor, MatchOption, option_copied}
 use Rattle.std.specs.{Cmp.Lexicographic.pointwise, List.list_any, Map.lookup, Option.option_flatten, Str.bytes_eq}
-use Rattle.std.specs.declared.vec.Vec.{Vec}
-use Rattle.std.specs.declared.alloc.Global.{Global}
+use Rattle.std.specs.declared.{vec.Vec.Vec, alloc.Global.Global}
 use Rattle.indexmap.specs.IndexMap.{insert_entry}
 use Rattle.jvm_model.specs.World.{look, keep}
 use Rattle.sim_store.specs.Stored.{named}

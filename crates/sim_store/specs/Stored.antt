@@ -1,7 +1,6 @@
 -- What a store holds.
 use Rattle.std.specs.Prelude.{ℕ, List, Option}
-use Rattle.std.specs.declared.vec.Vec.{Vec}
-use Rattle.std.specs.declared.alloc.Global.{Global}
+use Rattle.std.specs.declared.{vec.Vec.Vec, alloc.Global.Global}
 
 -- a name, and the text at it if there is one
 abbrev pub Named : Type 0

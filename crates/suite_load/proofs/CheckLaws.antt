@@ -3,9 +3,8 @@ use Rattle.std.proofs.Common.{◌≡◌, ℕ, List, Option, Some, Ok, Err, refl,
 use Rattle.class_reader.specs.declared.parts.ClassParts.{ClassParts}
 use Rattle.jvm_model.specs.declared.program.Program.{Program}
 use Rattle.order_law.specs.declared.records.Prints.{Prints}
-use Rattle.class_link.specs.declared.fault.LinkFault.{LinkFault}
+use Rattle.class_link.specs.declared.{fault.LinkFault.LinkFault, lines.TestLines.TestLines}
 use Rattle.class_link.specs.declared.fault.LinkFault.TheVariants as linking
-use Rattle.class_link.specs.declared.lines.TestLines.{TestLines}
 use Rattle.class_link.specs.Link.{Links, LinksBy}
 use Rattle.type_frames.specs.declared.fault.CheckFault.{CheckFault}
 use Rattle.type_frames.specs.declared.fault.CheckFault.TheVariants as checking

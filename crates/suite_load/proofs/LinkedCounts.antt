@@ -4,9 +4,8 @@ use Rattle.std.proofs.lemmas.List.{length_push, length-map}
 use Rattle.class_reader.specs.declared.parts.ClassParts.{ClassParts}
 use Rattle.jvm_model.specs.Builtin.{builtin_count}
 use Rattle.jvm_model.specs.declared.program.{Program.Program, TestEntry.TestEntry}
-use Rattle.class_link.specs.declared.fault.LinkFault.{LinkFault}
+use Rattle.class_link.specs.declared.{fault.LinkFault.LinkFault, lines.TestLine.TestLine, lines.TestLines.TestLines}
 use Rattle.class_link.specs.declared.fault.LinkFault.TheVariants as linking
-use Rattle.class_link.specs.declared.lines.{TestLine.TestLine, TestLines.TestLines}
 use Rattle.class_link.specs.{Assembly.assembled, Bodies.linked_body}
 use Rattle.class_link.proofs.{Assembled.class_count, LinkLaw.bound}
 use Rattle.class_link.specs.Faults.{first_some, duplicate_fault, supertypes_fault, all_references_fault, test_entry}

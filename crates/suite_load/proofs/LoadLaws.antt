@@ -8,11 +8,8 @@ use Rattle.class_reader.specs.declared.parts.ClassParts.{ClassParts}
 use Rattle.jvm_model.specs.declared.program.{Names.Names, Program.Program}
 use Rattle.order_law.specs.declared.records.Prints.{Prints}
 use Rattle.dep_record.specs.Hashes.{prints_of}
-use Rattle.suite_load.specs.declared.print_sums.PrintSums.{PrintSums}
-use Rattle.suite_load.specs.declared.suite_text.SuiteText.{SuiteText}
-use Rattle.suite_load.specs.declared.load_fault.LoadFault.{LoadFault}
+use Rattle.suite_load.specs.declared.{print_sums.PrintSums.PrintSums, suite_text.SuiteText.SuiteText, load_fault.LoadFault.LoadFault, loaded.Loaded.Loaded}
 use Rattle.suite_load.specs.declared.load_fault.LoadFault.TheVariants as fault
-use Rattle.suite_load.specs.declared.loaded.Loaded.{Loaded}
 use Rattle.suite_load.specs.Loading.{◌>>=◌, suite_in, class_in, classes_in, read_in, bytes_of, sums_in, ReadGives, Loads, IsReadAmong, names_in}
 use Rattle.suite_load.specs.{LoadAnswers.says, LoadAnswers.IsProper, LoadAnswers.LoadAnswers, LoadAnswers.Checks, Sums.AreSums, Sums.AreMoreSums}
 

@@ -3,9 +3,7 @@ use Rattle.std.proofs.Common.{◌≡◌, List, Result, Ok, Err, refl, ap, ◌∙
 use Rattle.class_reader.specs.declared.parts.ClassParts.{ClassParts}
 use Rattle.class_link.proofs.LinkOnce.{links_once, links_by_once}
 use Rattle.order_law.specs.declared.records.Prints.{Prints}
-use Rattle.suite_load.specs.declared.suite_text.SuiteText.{SuiteText}
-use Rattle.suite_load.specs.declared.load_fault.LoadFault.{LoadFault}
-use Rattle.suite_load.specs.declared.loaded.Loaded.{Loaded}
+use Rattle.suite_load.specs.declared.{suite_text.SuiteText.SuiteText, load_fault.LoadFault.LoadFault, loaded.Loaded.Loaded}
 use Rattle.suite_load.specs.Loading.{read_in, sums_in, lines_of, checked_of, ReadGives, LoadsOnce}
 
 -- what the files that are read give

@@ -4,8 +4,7 @@ use Rattle.std.specs.Option.{unwrap_or}
 use Rattle.std.proofs.lemmas.{Grind.flat_map-append, List.append-nil}
 use Rattle.outside.specs.Depot.{Files, content}
 use Rattle.dep_record.specs.Hashes.{sized, suite_bytes}
-use Rattle.suite_load.specs.declared.print_sums.PrintSums.{PrintSums}
-use Rattle.suite_load.specs.declared.load_fault.LoadFault.{LoadFault}
+use Rattle.suite_load.specs.declared.{print_sums.PrintSums.PrintSums, load_fault.LoadFault.LoadFault}
 use Rattle.suite_load.specs.declared.load_fault.LoadFault.TheVariants as fault
 use Rattle.suite_load.specs.{Loading.within, Loading.file_of, Loading.bytes_of, Sums.AreSums, Sums.AreMoreSums}
 

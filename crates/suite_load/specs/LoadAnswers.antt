@@ -11,10 +11,8 @@ use Rattle.jvm_model.specs.declared.program.Program.{Program}
 use Rattle.order_law.specs.declared.records.Prints.{Prints}
 use Rattle.type_frames.specs.declared.fault.CheckFault.{CheckFault}
 use Rattle.type_frames.specs.declared.fault.CheckFault.TheVariants as checking
-use Rattle.suite_load.specs.declared.suite_text.SuiteText.{SuiteText}
-use Rattle.suite_load.specs.declared.load_fault.LoadFault.{LoadFault}
+use Rattle.suite_load.specs.declared.{suite_text.SuiteText.SuiteText, load_fault.LoadFault.LoadFault, loaded.Loaded.Loaded}
 use Rattle.suite_load.specs.declared.load_fault.LoadFault.TheVariants as fault
-use Rattle.suite_load.specs.declared.loaded.Loaded.{Loaded}
 use Rattle.suite_load.specs.Loading.{ReadGives, Loads, loaded_of}
 
 -- the fault that a definition knows of; a failing depot's and want of memory are free

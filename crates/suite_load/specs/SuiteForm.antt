@@ -6,9 +6,8 @@ use Rattle.dep_record.specs.Fields.{is_printable}
 use Rattle.suite_load.specs.declared.suite_text.{SuiteText.SuiteText, TestLine.TestLine, SuiteRefusal.SuiteRefusal, Why.Why}
 use Rattle.suite_load.specs.declared.suite_text.SuiteRefusal.TheVariants as refusals
 use Rattle.suite_load.specs.declared.suite_text.Why.TheVariants as why
-use Rattle.suite_load.specs.declared.suite_line.SuiteLine.{SuiteLine}
+use Rattle.suite_load.specs.declared.{suite_line.SuiteLine.SuiteLine, first_word.FirstWord.FirstWord}
 use Rattle.suite_load.specs.declared.suite_line.SuiteLine.TheVariants.{Header, Budget, Class, File, Test, End}
-use Rattle.suite_load.specs.declared.first_word.FirstWord.{FirstWord}
 use Rattle.suite_load.specs.declared.first_word.FirstWord.TheVariants as words
 use Rattle.suite_load.specs.LineForms.{Row, rows, cut, first_row, rest_of}
 use Rattle.suite_load.specs.NameForms.{is_depot_name, is_file_name, is_test_name}

@@ -1,9 +1,7 @@
 -- What the run of one test gives, from what the machine's steps gave.
 use Rattle.std.proofs.Common.{◌≡◌, ℕ, List, [], ◌-◌, Option, Some, None, IfSome, refl, sym, subst, ap, ◌∙◌}
 use Rattle.std.specs.Option.{option_map}
-use Rattle.jvm_model.specs.declared.outcome.{Outcome.Outcome, Verdict.Verdict}
-use Rattle.jvm_model.specs.declared.program.Program.{Program}
-use Rattle.jvm_model.specs.declared.values.Touch.{Touch}
+use Rattle.jvm_model.specs.declared.{outcome.Outcome.Outcome, outcome.Verdict.Verdict, program.Program.Program, values.Touch.Touch}
 use Rattle.jvm_model.specs.{State.State, State.started, Suite.one_test, Suite.tree, World.World}
 use Rattle.jvm_model.proofs.Bridges.{touched_is}
 use Rattle.type_frames.specs.TypedState.{TypedWorld}

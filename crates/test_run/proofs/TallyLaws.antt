@@ -3,8 +3,7 @@ use Rattle.std.proofs.Common.{◌≡◌, ℕ, ◌+◌, ◌^◌, ◌<◌, ◌≤�
 use Rattle.std.specs.List.{list_all}
 use Rattle.std.proofs.lemmas.List.{take_more, append-nil, append_assoc, map-append, length-take-le}
 use Rattle.std.proofs.{lemmas.List.Sums.sum_by_push, lemmas.List.Sums.count_by-le-length, lemmas.List.Folds.list_all-append, Math.Bool.and-true}
-use Rattle.jvm_model.specs.declared.outcome.Outcome.{Outcome}
-use Rattle.jvm_model.specs.declared.program.Names.{Names}
+use Rattle.jvm_model.specs.declared.{outcome.Outcome.Outcome, program.Names.Names}
 use Rattle.jvm_model.specs.Texts.{is_passed, is_failed, is_error, outcome_lines, test_lines}
 use Rattle.test_run.specs.declared.tallies.{Counts.Counts, Tally.Tally}
 use Rattle.test_run.specs.Tallies.{IsCount, IsFew, IsTally, counted_with, tally_with}

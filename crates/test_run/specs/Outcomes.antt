@@ -1,8 +1,6 @@
 -- What the run of one test gives, as code answers it.
 use Rattle.std.specs.Prelude.{ℕ, List, Option, Some, None}
-use Rattle.jvm_model.specs.declared.outcome.Outcome.{Outcome}
-use Rattle.jvm_model.specs.declared.program.Program.{Program}
-use Rattle.jvm_model.specs.declared.values.Touch.{Touch}
+use Rattle.jvm_model.specs.declared.{outcome.Outcome.Outcome, program.Program.Program, values.Touch.Touch}
 use Rattle.jvm_model.specs.{Access.run, Suite.Given, Suite.tree, World.World}
 use Rattle.vm_mem.specs.Trace.{Trace, next_test}
 

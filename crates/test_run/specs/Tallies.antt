@@ -1,8 +1,7 @@
 -- Reports on tests with their outcomes: the lines of the tests and how many ended with each verdict.
 use Rattle.std.specs.Prelude.{◌≡◌, ℕ, ◌+◌, ◌<◌, ◌++◌, ◌&&◌, cond, List, ◌∷◌, codes, decimal, count_by, map}
 use Rattle.std.specs.List.{list_all}
-use Rattle.jvm_model.specs.declared.outcome.Outcome.{Outcome}
-use Rattle.jvm_model.specs.declared.program.Names.{Names}
+use Rattle.jvm_model.specs.declared.{outcome.Outcome.Outcome, program.Names.Names}
 use Rattle.jvm_model.specs.Texts.{is_passed, is_failed, is_error, outcome_lines, test_lines}
 use Rattle.test_run.specs.declared.tallies.{Counts.Counts, Tally.Tally}
 

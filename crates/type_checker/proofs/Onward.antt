@@ -3,10 +3,9 @@ use Rattle.std.proofs.Common.{◌≡◌, ℕ, List, ◌∷◌, length, ◌<◌, 
 use Rattle.std.proofs.lemmas.{List.drop_more, Option.slice_get-get_or}
 use Rattle.jvm_model.specs.declared.program.{Program.Program, Placed.Placed}
 use Rattle.jvm_model.specs.declared.instr.Instr.TheVariants as form
-use Rattle.type_frames.specs.declared.fault.CheckFault.{CheckFault}
+use Rattle.type_frames.specs.declared.{fault.CheckFault.CheckFault, stack_effect.StackEffect.StackEffect}
 use Rattle.type_frames.specs.{Frames.Slots, Environment.Environment, Rules.opening, Rules.broken, StackEffect.sides}
 use Rattle.type_frames.specs.Typing.{incoming, taken_at, taken_by, passed, passed_on, breach_of, judged, fault_of, breach_at, code_fault, or_later}
-use Rattle.type_frames.specs.declared.stack_effect.StackEffect.{StackEffect}
 use Rattle.type_checker.specs.declared.judge.{Step.TheVariants.Faulty, Step.TheVariants.Onward, Turned.Turned}
 use Rattle.type_checker.specs.declared.judge.Turned.TheVariants as way
 use Rattle.type_checker.specs.Steps.{number_of, IsJudged, IsTurned, IsStep}

@@ -3,8 +3,7 @@ use Rattle.std.proofs.lemmas.List.{drop_all}
 use Rattle.std.proofs.Common.{◌≡◌, ◌≤◌, ◌<◌, drop, length, ℕ, zero, suc, List, [], ◌∷◌, ◌+◌, Option, Some, None, slice_get, refl, ap, sym, ◌∙◌, arith, subst, add-zero, true, is_some}
 use Rattle.jvm_model.specs.declared.program.{Program.Program, ClassRec.ClassRec, MethodRec.MethodRec, Body.Body, Placed.Placed}
 use Rattle.jvm_model.specs.{Classes.field_at, Classes.method_at, Linked.Linked}
-use Rattle.type_frames.specs.declared.vtype.Frame.{Frame}
-use Rattle.type_frames.specs.declared.fault.CheckFault.{CheckFault}
+use Rattle.type_frames.specs.declared.{vtype.Frame.Frame, fault.CheckFault.CheckFault}
 use Rattle.type_frames.specs.{Given.given_frames, Environment.Environment, Environment.environment_of}
 use Rattle.type_frames.specs.Typing.{IsTyped, IsTypedMethod, Breach, no_frame, rule, breach_at, fault_of, or_later, unsupported_field, unsupported_method, fields_fault, members_fault, code_fault, body_fault, method_fault, methods_fault, class_fault, classes_fault, check_fault, given_classes}
 

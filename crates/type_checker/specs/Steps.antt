@@ -1,13 +1,11 @@
 -- What the parts of the walk over a method answer.
 use Rattle.std.specs.Prelude.{ℕ, List, Option, Some, None, map, ◌≡◌}
 use Rattle.jvm_model.specs.declared.program.{Program.Program, Placed.Placed}
-use Rattle.type_frames.specs.declared.stack_effect.StackEffect.{StackEffect}
-use Rattle.type_frames.specs.declared.vtype.Frame.{Frame}
+use Rattle.type_frames.specs.declared.{stack_effect.StackEffect.StackEffect, vtype.Frame.Frame}
 use Rattle.type_frames.specs.{Given.given_frames, Frames.Slots, Environment.Environment, Rules.broken}
 use Rattle.type_frames.specs.Typing.{Breach, no_frame, rule, passed, passed_on, judged, fault_of}
-use Rattle.type_checker.specs.declared.judge.{Turned.Turned, Step.Step, Step.TheVariants.Faulty, Step.TheVariants.Onward}
+use Rattle.type_checker.specs.declared.{judge.Turned.Turned, judge.Step.Step, judge.Step.TheVariants.Faulty, judge.Step.TheVariants.Onward, rule.Rule.Rule}
 use Rattle.type_checker.specs.declared.judge.Turned.TheVariants as way
-use Rattle.type_checker.specs.declared.rule.Rule.{Rule}
 use Rattle.type_checker.specs.declared.rule.Rule.TheVariants as rules
 
 -- what the stack map of each method gives, in order

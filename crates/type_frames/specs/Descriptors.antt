@@ -2,10 +2,9 @@
 -- B 66, C 67, D 68, F 70, I 73, J 74, L 76, S 83, V 86, Z 90.
 use Rattle.std.specs.Prelude.{ℕ, List, [], ◌∷◌, ◌++◌, length, take, replicate, Bool, true, false, ◌||◌, nat_eq, ◌-◌}
 use Rattle.std.specs.List.{list_any}
-use Rattle.jvm_model.specs.declared.values.{Kind.Kind, Base.Base}
+use Rattle.jvm_model.specs.declared.{values.Kind.Kind, values.Base.Base, program.Program.Program}
 use Rattle.jvm_model.specs.declared.values.Kind.TheVariants as kind
 use Rattle.jvm_model.specs.declared.values.Base.TheVariants as base
-use Rattle.jvm_model.specs.declared.program.Program.{Program}
 use Rattle.jvm_model.specs.{Classes.class_at, Descriptors.parameters, Descriptors.return_type}
 use Rattle.type_frames.specs.declared.vtype.{VType.VType, VType.TheVariants.Top, VType.TheVariants.Int, VType.TheVariants.Long, VType.TheVariants.Object}
 

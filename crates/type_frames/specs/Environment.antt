@@ -1,7 +1,6 @@
 -- What the rules look at of a method (the environment of JVMS 4.10.1.1).
 use Rattle.std.specs.Prelude.{ℕ, List, [], ◌∷◌, ◌++◌, map, Bool, Option, Some, None, flat_map, is_some, slice_get}
-use Rattle.jvm_model.specs.declared.program.{Program.Program, MethodRec.MethodRec, Body.Body, Placed.Placed}
-use Rattle.jvm_model.specs.declared.instr.Instr.{Instr}
+use Rattle.jvm_model.specs.declared.{program.Program.Program, program.MethodRec.MethodRec, program.Body.Body, program.Placed.Placed, instr.Instr.Instr}
 use Rattle.jvm_model.specs.declared.instr.Instr.TheVariants as form
 use Rattle.type_frames.specs.declared.vtype.{VType.VType, Frame.Frame}
 use Rattle.type_frames.specs.{Frames.spread, Frames.index_of, Descriptors.types_of}

@@ -1,9 +1,8 @@
 -- What each instruction needs and leaves (JVMS 4.10.1.9): the table of the check.
 use Rattle.std.specs.Prelude.{ℕ, List, [], ◌∷◌, ◌++◌, length, reverse, replicate, Bool, true, false, not, ◌&&◌, ◌||◌, cond, nat_eq, ◌+◌, Option, Some, None, slice_index_or, flat_map}
 use Rattle.std.specs.{List.list_any, Str.bytes_eq}
-use Rattle.jvm_model.specs.declared.values.{Value.Value, Kind.Kind}
+use Rattle.jvm_model.specs.declared.{values.Value.Value, values.Kind.Kind, program.Program.Program, program.MethodRec.MethodRec, program.FieldRec.FieldRec}
 use Rattle.jvm_model.specs.declared.values.Value.TheVariants as value
-use Rattle.jvm_model.specs.declared.program.{Program.Program, MethodRec.MethodRec, FieldRec.FieldRec}
 use Rattle.jvm_model.specs.declared.instr.{Instr.Instr, Sort.Sort, Cell.Cell, Op.Op, Conv.Conv}
 use Rattle.jvm_model.specs.declared.instr.Instr.TheVariants as form
 use Rattle.jvm_model.specs.declared.instr.Sort.TheVariants as sort

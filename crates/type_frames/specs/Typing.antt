@@ -4,9 +4,7 @@ use Rattle.std.specs.Str.{bytes_eq}
 use Rattle.jvm_model.specs.declared.program.{Program.Program, ClassRec.ClassRec, FieldRec.FieldRec, MethodRec.MethodRec, Body.Body, Placed.Placed}
 use Rattle.jvm_model.specs.Classes.{field_at, method_at, is_private, is_interface, has_flag, clinit_name}
 use Rattle.jvm_model.specs.{Builtin.builtin_count, Linked.Linked}
-use Rattle.type_frames.specs.declared.vtype.Frame.{Frame}
-use Rattle.type_frames.specs.declared.stack_effect.StackEffect.{StackEffect}
-use Rattle.type_frames.specs.declared.fault.CheckFault.{CheckFault}
+use Rattle.type_frames.specs.declared.{vtype.Frame.Frame, stack_effect.StackEffect.StackEffect, fault.CheckFault.CheckFault}
 use Rattle.type_frames.specs.declared.fault.CheckFault.TheVariants.{Rule, NoFrame, Unsupported}
 use Rattle.type_frames.specs.{Frames.Slots, Frames.slots_of, Descriptors.has_float, Descriptors.is_float, Given.given_frames, StackEffect.sides}
 use Rattle.type_frames.specs.Environment.{Environment, environment_of, given_at, is_target}

@@ -1,8 +1,7 @@
 -- From the row of a form to its step.
 use Rattle.std.proofs.Common.{◌≡◌, ◌≢◌, ℕ, refl, sym, ap, ◌∙◌, subst}
-use Rattle.jvm_model.specs.declared.instr.Instr.{Instr}
+use Rattle.jvm_model.specs.declared.{instr.Instr.Instr, outcome.Next.Next}
 use Rattle.jvm_model.specs.declared.instr.Instr.TheVariants as form
-use Rattle.jvm_model.specs.declared.outcome.Next.{Next}
 use Rattle.jvm_model.specs.declared.outcome.Next.TheVariants.{Go, Fault, Raise, Enter, Leave, Over}
 use Rattle.jvm_model.specs.{Entries.Entries, Entries.with_place, Step.row, View.counted, View.ended, Rows.answer}
 use Rattle.vm_arith.specs.Pure.{GoesOn, GoesTo, GoesFrom, Ends, IsStep}

@@ -1,12 +1,9 @@
 -- What contracts say of the forms that touch nothing.
 use Rattle.std.specs.Prelude.{◌≡◌, ℕ, List, [], ◌∷◌, Bool, true, false, cond}
-use Rattle.jvm_model.specs.declared.values.Value.{Value}
+use Rattle.jvm_model.specs.declared.{values.Value.Value, instr.Instr.Instr, outcome.Next.Next, program.Program.Program}
 use Rattle.jvm_model.specs.declared.values.Value.TheVariants.{Int, Long, Null, Lit, Obj}
-use Rattle.jvm_model.specs.declared.instr.Instr.{Instr}
 use Rattle.jvm_model.specs.declared.instr.Instr.TheVariants as form
-use Rattle.jvm_model.specs.declared.outcome.Next.{Next}
 use Rattle.jvm_model.specs.declared.outcome.Next.TheVariants.{Go, Fault, Raise, Enter, Leave, Over}
-use Rattle.jvm_model.specs.declared.program.Program.{Program}
 use Rattle.jvm_model.specs.{World.World, Access.Access, Access.done, Classes.next_place, Classes.no_program, Entries.Entries, Entries.with_place}
 use Rattle.jvm_model.specs.Rows.{Answer, answer}
 use Rattle.jvm_model.specs.Step.{Group, moves, arith, branches, statics, fields, create, arrays, casts, calls, returns, throw, group_of, row}

@@ -1,10 +1,8 @@
 -- Calls touch nothing, and where there is a call there are its arguments.
 use Rattle.std.proofs.Common.{◌≡◌, ℕ, zero, suc, List, [], ◌∷◌, ◌<◌, ◌≤◌, length, Bool, true, false, cond, nat_le, slice_get, Option, Some, None, Result, IfOk, refl, sym, subst, arith}
 use Rattle.std.proofs.lemmas.{Result.IfOk-weaker, Bool.leb-true}
-use Rattle.jvm_model.specs.declared.values.{Value.Value, Touch.Touch, Kind.Kind}
-use Rattle.jvm_model.specs.declared.library.Native.{Native}
-use Rattle.jvm_model.specs.declared.program.{Body.Body, Program.Program}
-use Rattle.jvm_model.specs.declared.outcome.Next.{Next}
+use Rattle.jvm_model.specs.declared.{values.Value.Value, values.Touch.Touch, values.Kind.Kind, library.Native.Native}
+use Rattle.jvm_model.specs.declared.{program.Body.Body, program.Program.Program, outcome.Next.Next}
 use Rattle.jvm_model.specs.{World.World, Access.Access, Classes.method_at, Entries.Entries, Entries.is_full, Rows.Answer}
 use Rattle.jvm_model.specs.RowsCalls.{on_receiver, receiver, argument_count, call_special, calls, calls_selected, enters_body, enters_native}
 use Rattle.jvm_model.specs.{Selection.Selected, Selection.chosen, Selection.failing, View.touched, View.IsSafe, View.IsRow}

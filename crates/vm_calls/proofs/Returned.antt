@@ -1,12 +1,10 @@
 -- Returns touch nothing, and take the value on top.
 use Rattle.std.proofs.Common.{◌≡◌, ℕ, List, [], ◌∷◌, ◌<◌, length, get_or, drop, Option, Some, None, refl, sym, ◌∙◌, ap, subst, arith}
-use Rattle.jvm_model.specs.declared.values.{Value.Value, Touch.Touch}
+use Rattle.jvm_model.specs.declared.{values.Value.Value, values.Touch.Touch, instr.Sort.Sort}
 use Rattle.jvm_model.specs.declared.values.Value.TheVariants.{Int, Long, Null, Lit, Obj}
-use Rattle.jvm_model.specs.declared.instr.Sort.{Sort}
 use Rattle.jvm_model.specs.declared.instr.Instr.TheVariants as form
 use Rattle.jvm_model.specs.declared.state.{EntryKind.EntryKind, EntryKind.TheVariants.Absent, EntryKind.TheVariants.InMethod, EntryKind.TheVariants.InClass}
-use Rattle.jvm_model.specs.declared.outcome.Next.{Next}
-use Rattle.jvm_model.specs.declared.program.Program.{Program}
+use Rattle.jvm_model.specs.declared.{outcome.Next.Next, program.Program.Program}
 use Rattle.jvm_model.specs.{World.World, Access.Access, Classes.method_at, Descriptors.return_type, Narrow.narrow, Narrow.narrowed, Rows.Answer, Rows.popping}
 use Rattle.jvm_model.specs.{Entries.Entries, Entries.popped_entry, Entries.with_stack, RowsReturn.row_return, RowsReturn.hands_on, RowsReturn.handed_on}
 use Rattle.jvm_model.specs.View.{counted, counts_one, outcome, paid, touched, IsSafe, IsRow}

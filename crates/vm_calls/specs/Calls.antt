@@ -1,8 +1,6 @@
 -- The rows of calls and returns and parts of them, as contracts name them.
 use Rattle.std.specs.Prelude.{◌≡◌, ℕ, ◌+◌, List, Option}
-use Rattle.jvm_model.specs.declared.values.{Value.Value, Kind.Kind}
-use Rattle.jvm_model.specs.declared.state.EntryKind.TheVariants.{InMethod}
-use Rattle.jvm_model.specs.declared.instr.Instr.{Instr}
+use Rattle.jvm_model.specs.declared.{values.Value.Value, values.Kind.Kind, state.EntryKind.TheVariants.InMethod, instr.Instr.Instr}
 use Rattle.jvm_model.specs.{Entries.Entries, Entries.popped_entry, Kinds.class_of, Rows.with_kind, RowsReturn.row_return, RowsReturn.hands_on}
 use Rattle.jvm_model.specs.RowsCalls.{row_calls, calls, calls_selected, on_receiver, receiver, argument_count}
 use Rattle.jvm_model.specs.Selection.{Selected}

@@ -4,8 +4,7 @@ use Rattle.std.specs.Str.{bytes_eq}
 use Rattle.jvm_model.specs.declared.program.Program.{Program}
 use Rattle.jvm_model.specs.Classes.{class_at, method_at, is_private, init_name, own_interfaces}
 use Rattle.jvm_model.specs.Selection.{Selected, chosen, failing, is_like, declared_in, special_path, or_kept, select, select_virtual, select_interface}
-use Rattle.vm_calls.specs.declared.choice.{Choice.Choice, Choice.TheVariants.Chosen, Choice.TheVariants.Failing}
-use Rattle.vm_calls.specs.declared.selections.Known.{Known}
+use Rattle.vm_calls.specs.declared.{choice.Choice.Choice, choice.Choice.TheVariants.Chosen, choice.Choice.TheVariants.Failing, selections.Known.Known}
 
 -- the definition's answer
 abbrev pub selected_of : Choice → Selected

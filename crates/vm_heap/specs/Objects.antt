@@ -1,8 +1,7 @@
 -- The objects whose cells stand one after the other in a list.
 use Rattle.std.specs.Prelude.{◌≡◌, ℕ, ◌+◌, List, [], ◌∷◌, ◌++◌, length, take, drop, map}
 use Rattle.std.specs.List.{zip}
-use Rattle.jvm_model.specs.declared.program.Program.{Program}
-use Rattle.jvm_model.specs.declared.values.{Value.Value, Head.Head}
+use Rattle.jvm_model.specs.declared.{program.Program.Program, values.Value.Value, values.Head.Head}
 use Rattle.jvm_model.specs.{World.Object, Classes.fields_of, Classes.elems_of, View.keys}
 use Rattle.vm_heap.specs.Entries.{Entry}
 

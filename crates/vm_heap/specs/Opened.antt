@@ -1,7 +1,6 @@
 -- What a memory keeps of its opening.
 use Rattle.std.specs.Prelude.{◌≡◌, List, [], length, map, Some}
-use Rattle.jvm_model.specs.declared.program.Program.{Program}
-use Rattle.jvm_model.specs.declared.values.{Value.Value, InitState.InitState, InitState.TheVariants.Idle}
+use Rattle.jvm_model.specs.declared.{program.Program.Program, values.Value.Value, values.InitState.InitState, values.InitState.TheVariants.Idle}
 use Rattle.sim_store.specs.Stored.{Stored}
 
 -- the opening values of a program's statics, class states and files, and as many of each now

@@ -6,8 +6,7 @@ use Rattle.std.proofs.lemmas.List.{get_or_default, get_or-take, length-take-le, 
 use Rattle.std.proofs.lemmas.Slice.Eq.{bytes_eq-Decides}
 use Rattle.sim_store.specs.Stored.{Stored}
 use Rattle.jvm_model.specs.{Linked.IsDistinct, World.keep, Access.elems_made, Access.write_of}
-use Rattle.jvm_model.specs.declared.values.Value.{Value}
-use Rattle.jvm_model.specs.declared.program.Program.{Program}
+use Rattle.jvm_model.specs.declared.{values.Value.Value, program.Program.Program}
 use Rattle.jvm_model.specs.declared.values.Location.TheVariants as place
 use Rattle.vm_mem.specs.Noting.{noted_by}
 

@@ -1,8 +1,6 @@
 -- What contracts say of the row of a form over a memory.
 use Rattle.std.specs.Prelude.{◌≡◌, ◌≢◌, ℕ, List, Result, IfOk}
-use Rattle.jvm_model.specs.declared.outcome.{Next.Next, Next.TheVariants.Over}
-use Rattle.jvm_model.specs.declared.program.Program.{Program}
-use Rattle.jvm_model.specs.declared.values.Touch.{Touch}
+use Rattle.jvm_model.specs.declared.{outcome.Next.Next, outcome.Next.TheVariants.Over, program.Program.Program, values.Touch.Touch}
 use Rattle.jvm_model.specs.{World.World, Access.Access, Classes.next_place, Entries.Entries, Rows.Answer}
 use Rattle.jvm_model.specs.View.{IsSafe, IsRow, counted, paid, counts_one, outcome, touched}
 use Rattle.vm_mem.specs.Trace.{Trace}

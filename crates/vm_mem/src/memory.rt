@@ -5,8 +5,7 @@ ghost use denote.Follow.{follows_so};
 ghost use Rattle.jvm_model.specs.World.{World, at, put, size, make_object};
 ghost use Rattle.jvm_model.specs.Access.{read_of, write_of, made};
 ghost use Rattle.jvm_model.specs.{View.Exists, Classes.blank};
-ghost use Rattle.jvm_model.specs.declared.program.Program.{Program};
-ghost use Rattle.jvm_model.specs.declared.values.Touch.{Touch};
+ghost use Rattle.jvm_model.specs.declared.{program.Program.Program, values.Touch.Touch};
 ghost use Rattle.jvm_model.specs.declared.values.Location.TheVariants as place;
 ghost use Rattle.vm_mem.specs.{Trace.Trace, Trace.Extends, Trace.next_test, Stores.place_in, Stores.found_in, Stores.put_in};
 

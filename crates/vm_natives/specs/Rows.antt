@@ -1,10 +1,8 @@
 -- The rows of built-in methods and of their ends, as contracts name them.
 use Rattle.std.specs.Prelude.{ℕ, ℤ, pos, List, ◌∷◌, length, get_or, Option, Some, None}
 use Rattle.std.specs.Str.{bytes_eq}
-use Rattle.jvm_model.specs.declared.values.{Value.Value, Value.TheVariants.Int}
-use Rattle.jvm_model.specs.declared.library.Native.{Native}
+use Rattle.jvm_model.specs.declared.{values.Value.Value, values.Value.TheVariants.Int, library.Native.Native, outcome.Own.Own}
 use Rattle.jvm_model.specs.declared.library.Native.TheVariants as native
-use Rattle.jvm_model.specs.declared.outcome.Own.{Own}
 use Rattle.jvm_model.specs.{Entries.Entries, Access.write, Access.spend, Builtin.string_class, Builtin.string_index_exception, Natives.row_native}
 use Rattle.jvm_model.specs.declared.values.Location.TheVariants as place
 use Rattle.jvm_model.specs.Rows.{faults, on_object, on_text}

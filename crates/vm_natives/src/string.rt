@@ -1,9 +1,7 @@
 //! The methods of java.lang.String.
 
 ghost use Rattle.std.specs.Prelude.{◌≡◌, ◌≢◌};
-ghost use Rattle.jvm_model.specs.declared.library.Native.{Native};
-ghost use Rattle.jvm_model.specs.declared.outcome.Own.{Own};
-ghost use Rattle.jvm_model.specs.declared.values.Value.TheVariants.{Obj};
+ghost use Rattle.jvm_model.specs.declared.{library.Native.Native, outcome.Own.Own, values.Value.TheVariants.Obj};
 ghost use Rattle.jvm_model.specs.World.{World};
 ghost use Rattle.vm_frames.specs.Stack.{HasRoom};
 ghost use Rattle.vm_mem.specs.Refines.{IsReady, IsNext, Refines, Makes};

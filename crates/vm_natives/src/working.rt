@@ -1,8 +1,7 @@
 //! How the calls of built-in methods end.
 
 ghost use Rattle.std.specs.Prelude.{◌≡◌};
-ghost use Rattle.jvm_model.specs.declared.outcome.Own.{Own};
-ghost use Rattle.jvm_model.specs.declared.program.Program.{Program};
+ghost use Rattle.jvm_model.specs.declared.{outcome.Own.Own, program.Program.Program};
 ghost use Rattle.jvm_model.specs.Working as working;
 ghost use Rattle.jvm_model.specs.World.{World};
 ghost use Rattle.vm_frames.specs.Stack.{HasRoom};

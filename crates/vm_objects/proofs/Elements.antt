@@ -1,7 +1,6 @@
 -- How the elements of an outer array are filled, one after another.
 use Rattle.std.proofs.Common.{◌≡◌, ℕ, suc, List, [], ◌∷◌, ◌++◌, ◌-◌, ◌<◌, ◌≤◌, ◌+◌, ap, ◌∙◌, subst, arith}
-use Rattle.jvm_model.specs.declared.values.{Touch.Touch, Value.Value, Kind.Kind, Value.TheVariants.Obj}
-use Rattle.jvm_model.specs.declared.program.Program.{Program}
+use Rattle.jvm_model.specs.declared.{values.Touch.Touch, values.Value.Value, values.Kind.Kind, values.Value.TheVariants.Obj, program.Program.Program}
 use Rattle.jvm_model.specs.declared.values.Location.TheVariants as place
 use Rattle.jvm_model.specs.{World.World, World.put, Entries.Entries, Rows.goes_on}
 use Rattle.jvm_model.specs.Access.{Access, done, write, bind, write_of}

@@ -2,11 +2,9 @@
 use Rattle.std.proofs.Common.{◌≡◌, ◌<◌, ◌≤◌, ◌+◌, ◌-◌, ℕ, ℤ, zero, suc, pos, negsuc, List, [], ◌∷◌, Bool, true, false, Option, Some, Result, refl, sym, ap, ◌∙◌, subst, arith}
 use Rattle.std.specs.Prelude.{take, drop, length, slice_set}
 use Rattle.std.proofs.lemmas.{Result.IfOk-weaker, List.drop-set, List.take_all, List.length-drop}
-use Rattle.jvm_model.specs.declared.values.{Value.Value, Kind.Kind, Touch.Touch}
+use Rattle.jvm_model.specs.declared.{values.Value.Value, values.Kind.Kind, values.Touch.Touch, outcome.Next.Next, program.Program.Program}
 use Rattle.jvm_model.specs.declared.values.Value.TheVariants.{Int, Long, Null, Lit, Obj}
 use Rattle.jvm_model.specs.declared.instr.Instr.TheVariants as form
-use Rattle.jvm_model.specs.declared.outcome.Next.{Next}
-use Rattle.jvm_model.specs.declared.program.Program.{Program}
 use Rattle.jvm_model.specs.{World.World, Entries.Entries, Entries.with_stack}
 use Rattle.jvm_model.specs.RowsCreate.{row_create, sized, nested}
 use Rattle.jvm_model.specs.View.{IsSafe, IsRow, counted, paid, counts_one, touched}

@@ -1,9 +1,8 @@
 -- The rows of the groups of forms and of parts of them, as contracts name them. The row of getfield and putfield doesn't
 -- look at the class that the instruction names, nor that of an array load at the sort of cells.
 use Rattle.std.specs.Prelude.{ℕ, ℤ, pos, negsuc, cond, nat_lt, Option, Some, None}
-use Rattle.jvm_model.specs.declared.values.Value.{Value}
+use Rattle.jvm_model.specs.declared.{values.Value.Value, instr.Cell.Cell, instr.Instr.Instr}
 use Rattle.jvm_model.specs.declared.values.Location.TheVariants as place
-use Rattle.jvm_model.specs.declared.instr.{Cell.Cell, Instr.Instr}
 use Rattle.jvm_model.specs.{Access.read, Entries.Entries, RowsFields.row_fields, RowsArrays.row_arrays, RowsArrays.stored_in, RowsCasts.row_casts}
 use Rattle.jvm_model.specs.{RowsStatics.row_statics, RowsStatics.read_static, RowsStatics.write_static, RowsCreate.row_create, RowsCreate.new_object}
 use Rattle.vm_mem.specs.Refines.{Row}

@@ -1,7 +1,6 @@
 -- Arrays of arrays: their lengths, and what is left of their row.
 use Rattle.std.specs.Prelude.{ℕ, zero, suc, List, [], ◌∷◌, drop, Option, Some, None}
-use Rattle.jvm_model.specs.declared.values.{Value.Value, Kind.Kind}
-use Rattle.jvm_model.specs.declared.program.Program.{Program}
+use Rattle.jvm_model.specs.declared.{values.Value.Value, values.Kind.Kind, program.Program.Program}
 use Rattle.jvm_model.specs.{Access.Access, Builtin.negative_size_exception, Entries.Entries, Entries.with_stack, Rows.Answer, Rows.faults, RowsCreate.nested}
 use Rattle.vm_frames.specs.Slots.{IsInt}
 use Rattle.vm_mem.specs.Refines.{Row}

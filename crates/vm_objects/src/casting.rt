@@ -3,8 +3,7 @@
 
 ghost use Rattle.std.specs.Prelude.{◌≡◌, ◌<◌, ◌-◌, ◌∷◌, cond, pos, true, false};
 ghost use Rattle.jvm_model.specs.declared.instr.Instr.TheVariants as form;
-ghost use Rattle.jvm_model.specs.declared.outcome.Next.{Next};
-ghost use Rattle.jvm_model.specs.declared.values.Value.TheVariants.{Int};
+ghost use Rattle.jvm_model.specs.declared.{outcome.Next.Next, values.Value.TheVariants.Int};
 ghost use Rattle.jvm_model.specs.{Builtin.class_cast_exception, Entries.with_stack, Entries.with_place};
 ghost use Rattle.vm_frames.specs.Stack.{HasRoom};
 ghost use Rattle.vm_mem.specs.Refines.{IsReady, IsNext, Makes};

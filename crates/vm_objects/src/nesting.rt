@@ -2,8 +2,7 @@
 
 ghost use Rattle.std.specs.Prelude.{◌≡◌, ◌≤◌, ◌<◌, ℕ, List, IfOk, OnOk, IfSome, length, drop};
 ghost use Rattle.jvm_model.specs.declared.instr.Instr.TheVariants as form;
-ghost use Rattle.jvm_model.specs.declared.program.Program.{Program as Numbered};
-ghost use Rattle.jvm_model.specs.declared.values.{Kind.Kind as Sort, Touch.Touch};
+ghost use Rattle.jvm_model.specs.declared.{program.Program.Program as Numbered, values.Kind.Kind as Sort, values.Touch.Touch};
 ghost use Rattle.jvm_model.specs.Entries.{Entries, with_stack};
 ghost use Rattle.jvm_model.specs.RowsCreate as create;
 ghost use Rattle.jvm_model.specs.View.{IsSafe, Any, counted, ended, touched};

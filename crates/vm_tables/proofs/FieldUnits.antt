@@ -1,9 +1,8 @@
 -- The first units of fields' descriptors, and what values are narrowed to by them.
 use Rattle.std.proofs.Common.{◌≡◌, ℕ, ◌<◌, ◌≤◌, List, [], ◌∷◌, length, get_or, refl, ◌∙◌, ap, subst}
 use Rattle.std.proofs.lemmas.List.{get_or_past}
-use Rattle.jvm_model.specs.declared.values.Value.{Value}
+use Rattle.jvm_model.specs.declared.{values.Value.Value, program.Program.Program}
 use Rattle.jvm_model.specs.declared.values.Value.TheVariants.{Int, Long, Null, Lit, Obj}
-use Rattle.jvm_model.specs.declared.program.Program.{Program}
 use Rattle.jvm_model.specs.{Classes.field_at, Classes.no_field, Linked.first_or, Narrow.narrow, Narrow.narrowed}
 use Rattle.vm_tables.specs.FieldUnits.{AreUnits, field_unit}
 use Rattle.vm_tables.proofs.Started.{table_all}

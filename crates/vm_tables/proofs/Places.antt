@@ -3,8 +3,7 @@ use Rattle.std.proofs.Common.{inl, inr, ◌≡◌, ◌≢◌, ℕ, zero, suc, �
 use Rattle.std.proofs.{lemmas.List.Elements.All-get_or, Math.Seq.get_or-append_seam}
 use Rattle.std.proofs.lemmas.Bool.{eqb-true, eqb-false, cases_lt}
 use Rattle.std.proofs.lemmas.List.{get_or_default, take_more, length-take-le, get_or-take, get_or_append_left, get_or_past, drop_all, length_push}
-use Rattle.jvm_model.specs.declared.instr.Instr.{Instr}
-use Rattle.jvm_model.specs.declared.program.{Placed.Placed, Body.Body, MethodRec.MethodRec, Program.Program}
+use Rattle.jvm_model.specs.declared.{instr.Instr.Instr, program.Placed.Placed, program.Body.Body, program.MethodRec.MethodRec, program.Program.Program}
 use Rattle.jvm_model.specs.Classes.{layout, method_at, Found, found_in, found_of, form_at, next_place, place_after}
 use Rattle.jvm_model.specs.Linked.{Ascends, IsBody}
 use Rattle.vm_tables.specs.Numbers.{AreCells, AreNumbers, code_of, one_later, number_in, number_of, ArePlaces, AreNexts, AllNexts, after_or, next_of, no_placed, instruction, instruction_of, less_one}

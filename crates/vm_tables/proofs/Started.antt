@@ -6,8 +6,7 @@ use Rattle.jvm_model.specs.declared.program.Program.{Program}
 use Rattle.jvm_model.specs.Classes.{class_at, no_class, class_bound, own_interfaces, default_interfaces, is_interface, is_trivial}
 use Rattle.jvm_model.specs.Initialise.{Part as Before, parts_of, superclass_part}
 use Rattle.jvm_model.specs.{Classes.method_at, Classes.no_method, Descriptors.parameters, Descriptors.return_type}
-use Rattle.vm_tables.specs.declared.methods.MethodFacts.{MethodFacts}
-use Rattle.vm_tables.specs.declared.init_plan.Part.{Part}
+use Rattle.vm_tables.specs.declared.{methods.MethodFacts.MethodFacts, init_plan.Part.Part}
 use Rattle.vm_tables.specs.{Methods.AreFacts, Methods.facts_of, Methods.no_facts, Interfaces.AreDefaults}
 use Rattle.vm_tables.specs.Starts.{AreTrivial, AreParts, part_of, interface_part, is_started}
 

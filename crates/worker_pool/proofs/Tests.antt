@@ -2,9 +2,8 @@
 use Rattle.std.proofs.Common.{◌≡◌, ℕ, zero, suc, ◌+◌, ◌<◌, ◌≤◌, List, [], ◌∷◌, ◌++◌, length, get_or, reverse, All, Bool, true, false, cond, nat_eq, Option, Some, None, is_some, is_none, refl, sym, ◌∙◌, ap, subst, inl, inr, arith, length-append}
 use Rattle.std.proofs.lemmas.{Bool.eqb-true, List.get_or_read}
 use Rattle.std.proofs.lemmas.List.Sums.{sum_by-cons}
-use Rattle.jvm_model.specs.declared.program.Program.{Program}
+use Rattle.jvm_model.specs.declared.{program.Program.Program, outcome.Outcome.Outcome}
 use Rattle.jvm_model.specs.{State.test_at, World.World}
-use Rattle.jvm_model.specs.declared.outcome.Outcome.{Outcome}
 use Rattle.jvm_model.specs.Suite.{Given, opening, world_after, runs, last_in, outcome_in, last_outcome, first_over, first_over_on}
 use Rattle.jvm_model.proofs.FirstOver.{first_over_none}
 use Rattle.order_law.specs.{Conflicts.Member, Histories.IsTestNumber, RecordForm.are_chains, RecordForm.joined}

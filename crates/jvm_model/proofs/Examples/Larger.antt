@@ -1,11 +1,10 @@
 -- Larger suites that are run by computation.
 use Rattle.std.proofs.Common.{◌≡◌, [], ◌∷◌, ◌++◌, replicate, Some, refl, pos, negsuc, false}
 use Rattle.std.specs.Prelude.{codes, flat_map}
-use Rattle.jvm_model.specs.declared.values.Value.TheVariants.{Int, Null, Lit}
+use Rattle.jvm_model.specs.declared.{values.Value.TheVariants.Int, values.Value.TheVariants.Null, values.Value.TheVariants.Lit, instr.Op.TheVariants.Add}
 use Rattle.jvm_model.specs.declared.values.Kind.TheVariants as kind
 use Rattle.jvm_model.specs.declared.values.Location.TheVariants as place
 use Rattle.jvm_model.specs.declared.instr.Instr.TheVariants as form
-use Rattle.jvm_model.specs.declared.instr.Op.TheVariants.{Add}
 use Rattle.jvm_model.specs.declared.instr.Sort.TheVariants as sort
 use Rattle.jvm_model.specs.declared.instr.IfTest.TheVariants as if_test
 use Rattle.jvm_model.specs.declared.program.Program.{Program}

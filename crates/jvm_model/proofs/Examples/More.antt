@@ -1,18 +1,16 @@
 -- Branches, arrays, strings, calls and budgets by computation.
 use Rattle.std.proofs.Common.{zero, suc, map, ◌≡◌, ℕ, ◌+◌, ◌-◌, ◌^◌, List, [], ◌∷◌, ◌++◌, Option, Some, None, refl, pos, false}
 use Rattle.std.specs.Prelude.{codes}
-use Rattle.jvm_model.specs.declared.values.Value.TheVariants.{Int, Long, Null}
+use Rattle.jvm_model.specs.declared.{values.Value.TheVariants.Int, values.Value.TheVariants.Long, values.Value.TheVariants.Null, outcome.Outcome.Outcome}
 use Rattle.jvm_model.specs.declared.values.Base.TheVariants as base
 use Rattle.jvm_model.specs.declared.values.Location.TheVariants as place
-use Rattle.jvm_model.specs.declared.outcome.Outcome.{Outcome}
 use Rattle.jvm_model.specs.declared.instr.Cell.TheVariants as cell
 use Rattle.jvm_model.specs.declared.instr.Conv.TheVariants as conv
-use Rattle.jvm_model.specs.declared.instr.{Instr.Instr, Op.TheVariants.Add, Op.TheVariants.Div}
+use Rattle.jvm_model.specs.declared.{instr.Instr.Instr, instr.Op.TheVariants.Add, instr.Op.TheVariants.Div, program.Program.Program}
 use Rattle.jvm_model.specs.declared.values.Kind.TheVariants as kind
 use Rattle.jvm_model.specs.declared.instr.Instr.TheVariants as form
 use Rattle.jvm_model.specs.declared.instr.Sort.TheVariants as sort
 use Rattle.jvm_model.specs.declared.instr.IfTest.TheVariants as if_test
-use Rattle.jvm_model.specs.declared.program.Program.{Program}
 use Rattle.jvm_model.specs.Suite.{Given, opening, one_test, runs, all_tests, over_budget, suite_fault}
 use Rattle.jvm_model.specs.{Step.step, RowsCreate.nest_cost, World.World, Access.run, Step.step, Step.turn, Reached.thrown_itself}
 use Rattle.jvm_model.specs.State.{State, started, next, ended, stuck_turn}

@@ -6,9 +6,8 @@ use Rattle.jvm_model.specs.declared.values.{Value.TheVariants.Int, Value.TheVari
 use Rattle.jvm_model.specs.declared.values.Kind.TheVariants as kind
 use Rattle.jvm_model.specs.declared.values.InitState.TheVariants.{Idle, Running, Done}
 use Rattle.jvm_model.specs.declared.values.Location.TheVariants as place
-use Rattle.jvm_model.specs.declared.instr.{Instr.Instr, Op.TheVariants.Div}
+use Rattle.jvm_model.specs.declared.{instr.Instr.Instr, instr.Op.TheVariants.Div, program.Program.Program}
 use Rattle.jvm_model.specs.declared.instr.Instr.TheVariants as form
-use Rattle.jvm_model.specs.declared.program.Program.{Program}
 use Rattle.jvm_model.specs.{World.at, Access.run, State.started, Classes.literal_at, Descriptors.parameters, Descriptors.return_type}
 use Rattle.jvm_model.specs.Suite.{opening, whole, runs, all_tests}
 use Rattle.jvm_model.proofs.OnLiterals.{machine_on_literals}

@@ -2,8 +2,7 @@
 use Rattle.std.proofs.Common.{◌≡◌, ◌↔◌, ℕ, zero, suc, ◌<◌, List, [], ◌∷◌, ◌++◌, map, replicate, Bool, true, false, refl, sym, subst, inl, inr, arith, Some, None, nat_eq, cond}
 use Rattle.std.specs.Prelude.{codes}
 use Rattle.std.proofs.lemmas.Bool.{true≢false}
-use Rattle.jvm_model.specs.declared.outcome.Outcome.{Outcome}
-use Rattle.jvm_model.specs.declared.program.Program.{Program}
+use Rattle.jvm_model.specs.declared.{outcome.Outcome.Outcome, program.Program.Program}
 use Rattle.jvm_model.specs.{Suite.is_detected, Suite.all_tests, Linked.Linked}
 use Rattle.jvm_model.proofs.{Examples.Parts.passed, Examples.Parts.line, Examples.Suites.counter_suite, Examples.Suites.return_suite}
 use Rattle.jvm_model.proofs.Examples.Linked.{return_linked}

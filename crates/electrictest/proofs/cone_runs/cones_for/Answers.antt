@@ -1,8 +1,7 @@
 use Rattle.std.proofs.Common.{ℕ, refl}
 use Rattle.std.proofs.lemmas.Result.{IfOk-weaker, IfErr-weaker}
 use Rattle.order_law.specs.Conflicts.{Member}
-use Rattle.electrictest.specs.declared.reports.Report.{Report}
-use Rattle.electrictest.specs.declared.status.Status.{Status}
+use Rattle.electrictest.specs.declared.{reports.Report.Report, status.Status.Status}
 use Rattle.electrictest.specs.declared.words.Command.TheVariants as command
 use Rattle.electrictest.specs.{Causes.MayReport, Records.beginning, Selections.selected, Words.word_at}
 use Rattle.electrictest.specs.Commands.{ReportEnds, ReportsOver, RefusedOver}

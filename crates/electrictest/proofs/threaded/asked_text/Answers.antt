@@ -1,8 +1,7 @@
 use Rattle.std.proofs.Common.{◌≡◌, ◌∙◌, Ok, refl, rules, sym}
 use Rattle.std.proofs.lemmas.Result.{IfOk-weaker, IfErr-weaker}
 use Rattle.outside.specs.Depot.{OfHeld}
-use Rattle.electrictest.specs.declared.reports.Report.{Report}
-use Rattle.electrictest.specs.declared.status.Status.{Status}
+use Rattle.electrictest.specs.declared.{reports.Report.Report, status.Status.Status}
 use Rattle.electrictest.specs.declared.words.Command.TheVariants as command
 use Rattle.electrictest.specs.declared.status.Status.TheVariants as ends
 use Rattle.electrictest.specs.{Causes.MayReport, Commands.Reported, Commands.ReportEnds, Generated.Sums, GeneratedAnswers.Summed, Replies.Unreported}

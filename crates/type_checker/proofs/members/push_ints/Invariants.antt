@@ -1,6 +1,5 @@
 use Rattle.std.proofs.Common.{◌≡◌, ◌++◌, replicate}
-use Rattle.type_frames.specs.declared.vtype.VType.TheVariants.{Int}
-use Rattle.type_frames.specs.declared.stack_effect.OperandConstraint.TheVariants.{Fits}
+use Rattle.type_frames.specs.declared.{vtype.VType.TheVariants.Int, stack_effect.OperandConstraint.TheVariants.Fits}
 use Rattle.type_checker.proofs.members.push_ints.Given as goal
 
 abbrev pub invariant-loop-done : goal.invariant-loop-done
